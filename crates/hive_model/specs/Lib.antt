@@ -1,0 +1,8 @@
+pub mod Pieces
+pub mod Lists
+pub mod Places
+pub mod Boards
+pub mod Rules
+pub mod Games
+pub mod Spots
+pub mod Lines
