@@ -1,5 +1,5 @@
 -- The lines of a byte stream, as one list for the whole stream: nothing here knows in which pieces the bytes come.
-use Rattle.std.specs.Prelude.{◌≢◌, ℕ, ◌-◌, ◌==◌, nat_lt, if◌then◌else◌, List, [], ◌∷◌, length, map, take, slice_index}
+use Rattle.std.specs.Prelude.{ℕ, ◌-◌, ◌==◌, nat_lt, if◌then◌else◌, List, [], ◌∷◌, length, map, take, slice_index}
 use Rattle.hive_model.specs.Lists.{onto}
 
 -- a line is its text, or the mark that it is too long

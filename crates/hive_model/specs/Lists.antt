@@ -1,5 +1,5 @@
 -- Lists: what is on them, paths over them, and the order of what stands on them once.
-use Rattle.std.specs.Prelude.{◌≡◌, ℕ, suc, zero, Bool, not, List, [], ◌∷◌, ◌++◌, ◌⊎◌}
+use Rattle.std.specs.Prelude.{◌≡◌, ℕ, suc, zero, ◌+◌, Bool, not, List, [], ◌∷◌, ◌++◌, ◌⊎◌}
 use Rattle.std.specs.List.{filter, list_any}
 use Rattle.std.specs.declared.cmp.Ordering.{Ordering}
 use Rattle.std.specs.declared.cmp.Ordering.TheVariants.{Less}
@@ -14,14 +14,14 @@ abbrev pub IsPath : {X : Type 0} → (X → X → Type 0) → X → List X → X
 IsPath S a [] b = a ≡ b
 IsPath S a (x ∷ xs) b = S a x × IsPath S x xs b
 
--- what is one step from one of the front
-abbrev pub is_next : {X : Type 0} → (X → X → Bool) → List X → X → Bool
-is_next s front x = list_any (λ f. s f x) front
+-- what is one step from one of those in front
+abbrev pub is_met : {X : Type 0} → (X → X → Bool) → List X → X → Bool
+is_met s front x = list_any (λ f. s f x) front
 
 -- what is left where one list after another of next ones is taken, until a number of rounds is over: the ones taken
 abbrev pub flood : {X : Type 0} → (X → X → Bool) → ℕ → List X → List X → List X
 flood s zero front rest = []
-flood s (suc n) front rest = filter (is_next s front) rest ++ flood s n (filter (is_next s front) rest) (filter (λ x. not (is_next s front x)) rest)
+flood s (suc n) front rest = filter (is_met s front) rest ++ flood s n (filter (is_met s front) rest) (filter (λ x. not (is_met s front x)) rest)
 
 -- in order, each once
 abbrev pub Rises : {X : Type 0} → (X → X → Ordering) → List X → Type 0
@@ -32,3 +32,8 @@ Rises {X} R (x ∷ xs) = ((y : X) → IsOn xs y → R x y ≡ Less) × Rises R x
 abbrev pub onto : {X : Type 0} → X → List (List X) → List (List X)
 onto x [] = (x ∷ []) ∷ []
 onto x (p ∷ ps) = (x ∷ p) ∷ ps
+
+-- so many numbers, from the first on
+abbrev pub count_from : ℕ → ℕ → List ℕ
+count_from first zero = []
+count_from first (suc n) = first ∷ count_from (first + 1) n

@@ -1,0 +1,83 @@
+//! The two tests of a step from a place to a neighbour, over any board.
+#![tactic(auto)]
+
+ghost use Rattle.std.specs.Prelude.{◌≡◌, ◌↔◌, IsTrue, nat_lt, max, ◌&&◌, not};
+ghost use Rattle.hive_model.specs.Boards.{Stacks, height_at, is_occupied};
+ghost use Rattle.hive_model.specs.Places.{AreNeighbours, IsWithin, step, is_place};
+ghost use Rattle.hive_model.specs.Steps.{GroundStep, ClimbingStep, is_ground_step, is_blocked, ground_at, is_free, FreeStep};
+
+use hive_model::{Board, Dir, Place};
+
+fn is_occupied<B: Board>(board: &B, place: Place) -> bool
+    ensures { result ≡ is_occupied (B.stacks board.now) place }
+{
+    board.height(place) > 0
+}
+
+/// Whether both common neighbours are higher than the two places of the step.
+#[tactic(auto, using(hive_model::proofs::PlaceLemmas::wider))]
+fn is_blocked<B: Board>(board: &B, from: Place, dir: Dir) -> bool
+    requires { IsWithin 9500 from }
+    ensures { result ≡ is_blocked (B.stacks board.now) from dir }
+{
+    let higher = board.height(from).max(board.height(from.step(dir)));
+    let before = board.height(from.step(dir.before()));
+    let after = board.height(from.step(dir.after()));
+    higher < before && higher < after
+}
+
+#[tactic(auto, using(hive_model::proofs::PlaceLemmas::wider))]
+fn is_ground<B: Board>(board: &B, from: Place, dir: Dir) -> bool
+    requires { IsWithin 9500 from }
+    ensures { result ≡ ground_at (B.stacks board.now) from dir }
+{
+    let clear = board.height(from) == 0 && board.height(from.step(dir)) == 0;
+    let before = is_occupied(board, from.step(dir.before()));
+    let after = is_occupied(board, from.step(dir.after()));
+    clear && before != after
+}
+
+/// Whether the step between two neighbours is a ground step: both places are empty, and exactly one of their two common
+/// neighbours is occupied. The board is the one without the moving piece.
+#[tactic(auto, using(hive_model::proofs::PlaceLemmas::wider))]
+pub fn slide_ok<B: Board>(board: &B, from: Place, to: Place) -> bool
+    requires near { AreNeighbours from to }
+    requires within { IsWithin 9500 from }
+    ensures { IsTrue result ↔ GroundStep (B.stacks board.now) from to }
+{
+    ground_to(board, from, to)
+}
+
+#[tactic(auto, using(hive_model::proofs::PlaceLemmas::wider))]
+fn ground_to<B: Board>(board: &B, from: Place, to: Place) -> bool
+    requires { IsWithin 9500 from }
+    ensures { result ≡ is_ground_step (B.stacks board.now) from to }
+{
+    Dir::ALL.iter().any(
+        |d| -> bool
+            requires { IsWithin 9500 from }
+        { from.step(*d).is(to) && is_ground(board, from, *d) },
+    )
+}
+
+fn free_to<B: Board>(board: &B, from: Place, to: Place) -> bool
+    requires { IsWithin 9500 from }
+    ensures { result ≡ is_free (B.stacks board.now) from to }
+{
+    Dir::ALL.iter().any(
+        |d| -> bool
+            requires { IsWithin 9500 from }
+        { from.step(*d).is(to) && !is_blocked(board, from, *d) },
+    )
+}
+
+/// Whether the step between two neighbours is not blocked: not both of their common neighbours are higher than the greater of
+/// the heights of the two. The board is the one without the moving piece.
+#[tactic(auto, using(hive_model::proofs::PlaceLemmas::wider))]
+pub fn climb_ok<B: Board>(board: &B, from: Place, to: Place) -> bool
+    requires near { AreNeighbours from to }
+    requires within { IsWithin 9500 from }
+    ensures { IsTrue result ↔ FreeStep (B.stacks board.now) from to }
+{
+    free_to(board, from, to)
+}

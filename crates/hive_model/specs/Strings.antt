@@ -1,0 +1,63 @@
+-- Game strings: type, state, turn and moves, joined by semicolons.
+use Rattle.std.specs.Prelude.{◌≡◌, ℕ, ◌≤◌, nat_eq, List, [], ◌∷◌, ◌++◌, length, codes, decimal, ◌⊎◌, if◌then◌else◌}
+use Rattle.hive_model.specs.declared.pieces.Colour.{Colour}
+use Rattle.hive_model.specs.declared.pieces.Colour.TheVariants.{White, Black}
+use Rattle.hive_model.specs.declared.pieces.GameType.{GameType}
+use Rattle.hive_model.specs.declared.places.Move.{Move}
+use Rattle.hive_model.specs.Lists.{onto}
+use Rattle.hive_model.specs.Positions.{Position, opening}
+use Rattle.hive_model.specs.Legal.{state}
+use Rattle.hive_model.specs.Games.{after, replay, IsGame}
+use Rattle.hive_model.specs.Denotes.{Denotes, text}
+use Rattle.hive_model.specs.Fields.{type_bytes, state_bytes}
+
+-- what stands between the semicolons: at least one part
+unfoldable pub parts : List ℕ → List (List ℕ)
+parts [] = [] ∷ []
+parts (b ∷ bs) = if nat_eq b 59 then [] ∷ parts bs else onto b (parts bs)
+
+-- the parts with semicolons between them
+abbrev pub joined_on : List ℕ → List (List ℕ) → List ℕ
+joined_on p [] = p
+joined_on p (q ∷ qs) = p ++ 59 ∷ joined_on q qs
+
+-- the turn is written `White[n]` or `Black[n]`
+abbrev pub side_name : Colour → List ℕ
+side_name White = codes "White["
+side_name Black = codes "Black["
+
+abbrev pub turn_bytes : Colour → ℕ → List ℕ
+turn_bytes side n = side_name side ++ (decimal n ++ 93 ∷ [])
+
+-- the written moves, each on the board before it
+abbrev pub texts : Position → List Move → List (List ℕ)
+texts p [] = []
+texts p (m ∷ ms) = text p.board m ∷ texts (after p m) ms
+
+-- type, state, turn and moves, joined by semicolons
+abbrev pub string_from : GameType → Position → List (List ℕ) → List ℕ
+string_from t end rest = joined_on (type_bytes t) (state_bytes (state end) ∷ turn_bytes end.side end.turn ∷ rest)
+
+-- the written form of a game
+unfoldable pub string : GameType → List Move → List ℕ
+string t ms = string_from t (replay (opening t) ms) (texts (opening t) ms)
+
+-- the texts denote the moves, each on the board before it
+abbrev pub DenoteMoves : Position → List (List ℕ) → List Move → Type 0
+DenoteMoves p [] [] = Unit {0}
+DenoteMoves p [] (m ∷ ms) = ⊥
+DenoteMoves p (x ∷ xs) [] = ⊥
+DenoteMoves p (x ∷ xs) (m ∷ ms) = Denotes p.game_type p.board x m × DenoteMoves (after p m) xs ms
+
+-- the line has a type, a state, a turn and texts that denote the moves of a game of at most 5,000 moves, and the declared
+-- state and turn are those of the game
+pub record IsFull (line : List ℕ) (t : GameType) (ms : List Move) : Type 0 where
+  pub rest : List (List ℕ)
+  pub parts_are : parts line ≡ type_bytes t ∷ (state_bytes (state (replay (opening t) ms)) ∷ (turn_bytes (replay (opening t) ms).side (replay (opening t) ms).turn ∷ rest))
+  pub denote : DenoteMoves (opening t) rest ms
+  pub legal : IsGame t ms
+  pub few : length ms ≤ 5000
+
+-- the line is the game: a type alone is its opening
+abbrev pub IsGameLine : List ℕ → GameType → List Move → Type 0
+IsGameLine line t ms = ((line ≡ type_bytes t) × (ms ≡ [])) ⊎ IsFull line t ms
