@@ -19,7 +19,7 @@ pub struct CaseRow {
     pub ends: u8,
 }
 
-/// The rows of all 64 masks.
+/// The rows of all 64 masks, each proved against the meaning of arcs and ends.
 #[derive(Clone, Copy, Debug)]
 pub struct CaseTable {
     rows: [CaseRow; 64],
@@ -27,7 +27,7 @@ pub struct CaseTable {
 }
 
 impl CaseTable {
-    /// The table. Each of its rows is proved against the meaning of arcs and ends.
+    /// The table. The type keeps that each row is that of its mask, so there is no other table.
     pub fn new() -> CaseTable {
         // the arcs and the ends of each mask in turn
         macro_rules! rows {
