@@ -67,37 +67,72 @@ where
     Ok(())
 }
 
-fn source_of(
+/// A source over these bytes, read to the end of the answers.
+fn expect_source<R: Abort>(
+    rt: &R,
     alloc: Global,
-    bytes: &[u8],
     pieces: &[usize],
     fails: &[u64],
-) -> Result<MemSource, AllocError> {
-    let bytes = Vec::from_slice(alloc, bytes)?;
+    answers: &[ReadAnswer],
+) -> Result<(), AllocError> {
+    let bytes = Vec::from_slice(alloc, b"0123456789".as_slice())?;
     let pieces = Vec::from_slice(alloc, pieces)?;
-    Ok(MemSource::new(bytes, pieces, Vec::from_slice(alloc, fails)?))
+    let mut source = MemSource::new(bytes, pieces, Vec::from_slice(alloc, fails)?);
+    expect_reads(rt, alloc, &mut source, answers, b"0123456789".as_slice())
 }
 
-fn sink_of(alloc: Global, pieces: &[usize], fails: &[u64]) -> Result<MemSink, AllocError> {
+/// Writes ten bytes to a sink, and compares what it took until it failed.
+fn expect_sink<R: Abort>(
+    rt: &R,
+    alloc: Global,
+    pieces: &[usize],
+    fails: &[u64],
+    taken: &[u8],
+) -> Result<(), AllocError> {
     let pieces = Vec::from_slice(alloc, pieces)?;
-    Ok(MemSink::new(alloc, pieces, Vec::from_slice(alloc, fails)?))
+    let mut sink = MemSink::new(alloc, pieces, Vec::from_slice(alloc, fails)?);
+    let all = write_all(&mut sink, b"0123456789".as_slice());
+    assert_eq!(rt; all, taken.len() == 10);
+    assert_eq!(rt; sink.bytes(), taken);
+    Ok(())
+}
+
+/// A link that will say this, to which something was written before it was handed out.
+fn link_of(alloc: Global, text: &[u8]) -> Result<MemLink, AllocError> {
+    let bytes = Vec::from_slice(alloc, text)?;
+    let source = MemSource::new(bytes, Vec::new(alloc), Vec::new(alloc));
+    let mut sink = MemSink::new(alloc, Vec::new(alloc), Vec::new(alloc));
+    let _ = write_all(&mut sink, b"before".as_slice());
+    Ok(MemLink::new(source, sink))
+}
+
+/// A starter of two links, of which the second start fails.
+fn spawner_of(alloc: Global) -> Result<MemSpawner, Fail> {
+    let mut links = Vec::new(alloc);
+    links.push(link_of(alloc, b"first".as_slice())?)?;
+    links.push(link_of(alloc, b"second".as_slice())?)?;
+    Ok(MemSpawner::new(alloc, links, Vec::from_slice(alloc, &[2])?))
+}
+
+/// Starts with one word.
+fn start_once<R: Abort>(
+    rt: &R,
+    alloc: Global,
+    spawner: &mut MemSpawner,
+    says: Option<&[u8]>,
+) -> Result<(), Fail> {
+    let mut words = Vec::new(alloc);
+    words.push(String::from_str(alloc, "engine")?)?;
+    expect_start(rt, alloc, spawner, words.as_slice(), says)?;
+    Ok(())
 }
 
 #[test]
 fn sources(rt: HostRuntime) -> Result<(), Fail> {
-    let ten = b"0123456789".as_slice();
-    let mut all = source_of(rt.alloc(), ten, &[], &[])?;
     let whole = [ReadAnswer::Got(8), ReadAnswer::Got(2), ReadAnswer::End];
-    expect_reads(&rt, rt.alloc(), &mut all, &whole, ten)?;
-    let mut ones = source_of(rt.alloc(), b"abc", &[1], &[])?;
-    let single = [
-        ReadAnswer::Got(1),
-        ReadAnswer::Got(1),
-        ReadAnswer::Got(1),
-        ReadAnswer::End,
-    ];
-    expect_reads(&rt, rt.alloc(), &mut ones, &single, b"abc")?;
-    let mut failing = source_of(rt.alloc(), ten, &[7, 1, 0, 2], &[2, 5])?;
+    expect_source(&rt, rt.alloc(), &[], &[], &whole)?;
+    let sevens = [ReadAnswer::Got(7), ReadAnswer::Got(3), ReadAnswer::End];
+    expect_source(&rt, rt.alloc(), &[7], &[], &sevens)?;
     let broken = [
         ReadAnswer::Got(7),
         ReadAnswer::Failed,
@@ -106,29 +141,27 @@ fn sources(rt: HostRuntime) -> Result<(), Fail> {
         ReadAnswer::Failed,
         ReadAnswer::End,
     ];
-    expect_reads(&rt, rt.alloc(), &mut failing, &broken, ten)?;
-    let bytes = Vec::from_slice(rt.alloc(), ten)?;
-    let mut sure = SureSource::new(bytes, Vec::from_slice(rt.alloc(), &[7])?);
-    let sevens = [ReadAnswer::Got(7), ReadAnswer::Got(3), ReadAnswer::End];
-    expect_reads(&rt, rt.alloc(), &mut sure, &sevens, ten)?;
+    expect_source(&rt, rt.alloc(), &[7, 1, 0, 2], &[2, 5], &broken)?;
+    Ok(())
+}
+
+#[test]
+fn sure_ones(rt: HostRuntime) -> Result<(), Fail> {
+    let bytes = Vec::from_slice(rt.alloc(), b"abc".as_slice())?;
+    let mut source = SureSource::new(bytes, Vec::from_slice(rt.alloc(), &[1, 2])?);
+    let pieces = [ReadAnswer::Got(1), ReadAnswer::Got(2), ReadAnswer::End];
+    expect_reads(&rt, rt.alloc(), &mut source, &pieces, b"abc".as_slice())?;
+    assert!(rt; write_all(&mut SureSink::new(), b"abc".as_slice()));
     Ok(())
 }
 
 #[test]
 fn sinks(rt: HostRuntime) -> Result<(), Fail> {
     let ten = b"0123456789".as_slice();
-    for size in [1, 7, 20] {
-        let mut sink = sink_of(rt.alloc(), &[size], &[])?;
-        assert!(rt; write_all(&mut sink, ten));
-        assert_eq!(rt; sink.bytes(), ten);
-    }
-    let mut failing = sink_of(rt.alloc(), &[7], &[2])?;
-    assert!(rt; !write_all(&mut failing, ten));
-    assert_eq!(rt; failing.bytes(), b"0123456".as_slice());
-    assert_eq!(rt; failing.write(b"789".as_slice()), WriteAnswer::Took(3));
-    assert_eq!(rt; failing.bytes(), ten);
-    let mut sure = SureSink::new();
-    assert_eq!(rt; sure.write(ten), WriteAnswer::Took(10));
+    expect_sink(&rt, rt.alloc(), &[], &[], ten)?;
+    expect_sink(&rt, rt.alloc(), &[1], &[], ten)?;
+    expect_sink(&rt, rt.alloc(), &[7], &[2], b"0123456".as_slice())?;
+    expect_sink(&rt, rt.alloc(), &[3, 0], &[3], b"0123".as_slice())?;
     Ok(())
 }
 
@@ -136,42 +169,22 @@ fn sinks(rt: HostRuntime) -> Result<(), Fail> {
 fn clocks(rt: HostRuntime) -> Result<(), Fail> {
     let greatest = 4611686018427387903;
     let moments = Vec::from_slice(rt.alloc(), &[5, 3, 9, u64::MAX])?;
-    expect_readings(
-        &rt,
-        &mut MemClock::new(moments),
-        &[5, 5, 9, greatest, greatest],
-    );
+    let read = [5, 5, 9, greatest, greatest];
+    expect_readings(&rt, &mut MemClock::new(moments), &read);
     expect_readings(&rt, &mut MemClock::new(Vec::new(rt.alloc())), &[0, 0]);
     expect_readings(&rt, &mut StepClock::new(10, 250), &[10, 260, 510]);
-    expect_readings(
-        &rt,
-        &mut StepClock::new(7, u64::MAX),
-        &[7, greatest, greatest],
-    );
+    let held = [7, greatest, greatest];
+    expect_readings(&rt, &mut StepClock::new(7, u64::MAX), &held);
     Ok(())
 }
 
 #[test]
 fn starts(rt: HostRuntime) -> Result<(), Fail> {
-    let mut links = Vec::new(rt.alloc());
-    for text in [b"first".as_slice(), b"second".as_slice()] {
-        let source = source_of(rt.alloc(), text, &[], &[])?;
-        let mut sink = sink_of(rt.alloc(), &[], &[])?;
-        assert!(rt; write_all(&mut sink, b"before".as_slice()));
-        links.push(MemLink::new(source, sink))?;
-    }
-    let mut spawner = MemSpawner::new(rt.alloc(), links, Vec::from_slice(rt.alloc(), &[2])?);
-    let mut words = Vec::new(rt.alloc());
-    words.push(String::from_str(rt.alloc(), "engine")?)?;
-    for says in [
-        Some(b"first".as_slice()),
-        None,
-        Some(b"second".as_slice()),
-        None,
-    ] {
-        assert!(rt; !words.is_empty());
-        expect_start(&rt, rt.alloc(), &mut spawner, words.as_slice(), says)?;
-    }
+    let mut spawner = spawner_of(rt.alloc())?;
+    start_once(&rt, rt.alloc(), &mut spawner, Some(b"first".as_slice()))?;
+    start_once(&rt, rt.alloc(), &mut spawner, None)?;
+    start_once(&rt, rt.alloc(), &mut spawner, Some(b"second".as_slice()))?;
+    start_once(&rt, rt.alloc(), &mut spawner, None)?;
     assert_eq!(rt; spawner.closed().len(), 2);
     for link in spawner.closed() {
         assert_eq!(rt; link.sent(), b"told".as_slice());
