@@ -149,15 +149,15 @@ whole_gives_ahead old new bytes m r0 None e g =
     match_both new.finished (rw none tt) (rw (none, whole_ahead_untold new) refl)
 whole_gives_ahead old new bytes m r0 (Some left) e g =
     whole_given
-      new.finished
-      (whole_ahead_of old r0)
-      (whole_ahead_of new (Some left))
-      (whole_lines (pending old ++ (bytes ++ left)))
-      (whole_lines (pending new ++ left))
-      m
-      (ap (whole_ahead_of old) e ∙ (whole_ahead_told old (bytes ++ left) ∙ ap Some (left_open old.finished (whole_lines (pending old ++ (bytes ++ left))) g.went_on)))
-      (whole_ahead_told new left)
-      (whole_line_left new.finished (pending old) (pending new) bytes left m g.line)
+    new.finished
+    (whole_ahead_of old r0)
+    (whole_ahead_of new (Some left))
+    (whole_lines (pending old ++ (bytes ++ left)))
+    (whole_lines (pending new ++ left))
+    m
+    (ap (whole_ahead_of old) e ∙ (whole_ahead_told old (bytes ++ left) ∙ ap Some (left_open old.finished (whole_lines (pending old ++ (bytes ++ left))) g.went_on)))
+    (whole_ahead_told new left)
+    (whole_line_left new.finished (pending old) (pending new) bytes left m g.line)
 
 whole_holds_told : (old new : Reading) (bytes left : List ℕ) → Holds old bytes new → whole_left old (bytes ++ left) ≡ whole_left new left
 whole_holds_told old new bytes left h =
@@ -221,9 +221,9 @@ full_ahead old new r0 r1 (bytes, t, (h, full)) f room =
 pub long_ahead : (old new : Reading) (r0 r1 : Told) → (bytes : List ℕ) × Takes r0 r1 old.taken new.taken bytes × Feeds TooLong old bytes new r1 → LongAhead (ahead_of old r0)
 long_ahead old new r0 r1 fed = long_of (ahead_of new r1) (ahead_of old r0) (advances TooLong old new r0 r1 fed)
   where
-  long_of : (later now : ToldLines) → now ≡ option_map (λ ms. LongLine ∷ ms) later → LongAhead now
-  long_of None now e = rw e tt
-  long_of (Some ms) now e = rw e (ms, refl)
+    long_of : (later now : ToldLines) → now ≡ option_map (λ ms. LongLine ∷ ms) later → LongAhead now
+    long_of None now e = rw e tt
+    long_of (Some ms) now e = rw e (ms, refl)
 
 -- a reader that has finished is asked again
 pub whole_after_end : (r : Reading) (t : Told) → r.finished ≡ true → MatchBool r.finished (NoneAhead (whole_ahead_of r t)) (NoneAhead (whole_ahead_of r t) × NoneAhead (whole_ahead_of r t))

@@ -6,7 +6,7 @@ use Rattle.line_feed.proofs.reader.LineReader.read_on.Goals as goal
 
 pub returns-in-Ended-clause-fed : goal.returns-in-Ended-clause-fed
 returns-in-Ended-clause-fed g c =
-    feeds_ended _ _ _ _ _ (begins _ _ _ _ _ _ _ _ c.self.view_is c.self.invariant c.begin.ensures.part c.requires) c.in-Ended.ensures.read c.close_part.ensures.closed c.looked-self-inside.ensures (ap (λ (r : Reading). r.finished) c.self.view_is ∙ c.requires)
+    feeds_ended _ _ _ _ _ (begins _ _ _ _ _ _ _ _ c.self.view_is c.self.invariant c.begin.ensures.part c.requires) c.in-Ended.ensures.read c.pass_part.ensures.closed c.pass_part.ensures.passed (ap (λ (r : Reading). r.finished) c.self.view_is ∙ c.requires)
 
 pub returns-then-is_empty-clause-fed : goal.returns-then-is_empty-clause-fed
 returns-then-is_empty-clause-fed g c =
@@ -17,7 +17,7 @@ returns-then-is_empty-clause-fed g c =
 pub returns-else-is_empty-clause-fed : goal.returns-else-is_empty-clause-fed
 returns-else-is_empty-clause-fed g c =
     let some : length c.read_part.new.part.items ≢ 0 = search rules in
-    feeds_last _ _ _ _ (begins _ _ _ _ _ _ _ _ c.self.view_is c.self.invariant c.begin.ensures.part c.requires) c.in-End.ensures.read c.close_part-in-End.ensures.closed c.looked-self-inside-in-End.ensures (λ e. some (ap length e)) c.in-End.ensures.why
+    feeds_last _ _ _ _ (begins _ _ _ _ _ _ _ _ c.self.view_is c.self.invariant c.begin.ensures.part c.requires) c.in-End.ensures.read c.pass_part-in-End.ensures.closed c.pass_part-in-End.ensures.passed (λ e. some (ap length e)) c.in-End.ensures.why
 
 pub returns-in-Failed-clause-fed : goal.returns-in-Failed-clause-fed
 returns-in-Failed-clause-fed g c =
