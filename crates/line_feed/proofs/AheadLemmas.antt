@@ -120,7 +120,6 @@ advances End old new r0 r1 (bytes, t, g) = (ends_ahead old new bytes r0 r1 t.lef
 advances Failed old new r0 r1 (bytes, t, (h, below)) = holds_ahead old new r0 r1 bytes t.left h
 advances Full old new r0 r1 (bytes, t, (h, full)) = holds_ahead old new r0 r1 bytes t.left h
 
--- the same for whole lines
 match_true : (b : Bool) {P : Type 0} (Q : Type 0) → b ≡ true → P → MatchBool b P Q
 match_true true Q e p = p
 match_true false Q e p = absurd (cc)
@@ -168,6 +167,7 @@ whole_holds_ahead : (old new : Reading) (r0 r1 : Told) (bytes : List ℕ) → r0
 whole_holds_ahead old new r0 None bytes e h = sym (ap (whole_ahead_of old) e ∙ rw (whole_ahead_untold old, whole_ahead_untold new) refl)
 whole_holds_ahead old new r0 (Some left) bytes e h = sym (ap (whole_ahead_of old) e ∙ rw (whole_ahead_told old (bytes ++ left), whole_ahead_told new left) (ap Some (whole_holds_told old new bytes left h)))
 
+-- the same for whole lines: once the source has ended there was none
 pub whole_advances : (a : LineAnswer) (old new : Reading) (r0 r1 : Told) → (bytes : List ℕ) × Takes r0 r1 old.taken new.taken bytes × Feeds a old bytes new r1
     → MatchBool new.finished (NoneAhead (whole_ahead_of old r0)) (Advances a new.last (whole_ahead_of old r0) (whole_ahead_of new r1))
 whole_advances Line old new r0 r1 (bytes, t, g) = whole_gives_ahead old new bytes (Text new.last) r0 r1 t.left g

@@ -8,7 +8,9 @@ use Rattle.hive_model.specs.Lines.{Line as OneLine, lines, whole_lines}
 use Rattle.line_feed.specs.Feed.{Reading, pending, SplitsOff, IsLastLine, Gives, Holds, Ends, Takes, fresh, input_limit}
 use Rattle.line_feed.specs.SoFar.{Covers, Fed, WasRead}
 use Rattle.line_feed.proofs.AheadLemmas.{lines-nil}
+use Rattle.line_feed.proofs.Feeding.{never}
 
+-- a new reader has been fed nothing
 pub fed_begin : (r : Told) (reading : Reading) → reading ≡ fresh → Fed r r reading [] []
 fed_begin r reading e = rw e (record {
   left = in_front-nil r;
@@ -38,10 +40,15 @@ on_left r0 r1 r2 b1 b2 e f = e ∙ (ap (in_front b1) f ∙ in_front-in_front b1 
 on_count : (b1 b2 : List ℕ) (before now : ℕ) → before ≡ length b1 → now ≡ before + length b2 → now ≡ length (b1 ++ b2)
 on_count b1 b2 before now e f = rw (length-append b1 b2) (omega arith)
 
+covers_open : (finished : Bool) (bytes held : List ℕ) (given : List OneLine) (rest : Told) → finished ≡ false → SplitsOff [] bytes given held → Covers finished bytes held given rest
+covers_open true bytes held given rest e s = absurd (never e refl)
+covers_open false bytes held given rest e s = s
+
 -- a reader that has not finished
 splits_of : (finished : Bool) (bytes held : List ℕ) (given : List OneLine) (rest : Told) → Covers finished bytes held given rest → finished ≡ false → SplitsOff [] bytes given held
 splits_of finished bytes held given rest c e = subst (λ (f : Bool). Covers f bytes held given rest) e c
 
+-- a line was given
 pub fed_line : {r0 r1 r2 : Told} {old new : Reading} {bytes b1 : List ℕ} {given : List OneLine} {line : OneLine} → Fed r0 r1 old bytes given → Takes r1 r2 old.taken new.taken b1 → Gives old b1 line new r2 → Fed r0 r2 new (bytes ++ b1) (given ++ line ∷ [])
 fed_line {r0} {r1} {r2} {old} {new} {bytes} {b1} {given} {line} f t g = record {
   left = on_left r0 r1 r2 bytes b1 f.left t.left;
@@ -49,6 +56,17 @@ fed_line {r0} {r1} {r2} {old} {new} {bytes} {b1} {given} {line} f t g = record {
   covers = covers_line new.finished bytes b1 (pending old) (pending new) given line r2 (splits_of old.finished bytes (pending old) given r1 f.covers g.went_on) g.line;
   below = g.below;
 }
+
+-- where nothing was given, a reader goes on with what it holds
+pub fed_kept : {r0 r1 r2 : Told} {old new : Reading} {bytes b1 : List ℕ} {given : List OneLine} → Fed r0 r1 old bytes given → Takes r1 r2 old.taken new.taken b1 → Holds old b1 new → Fed r0 r2 new (bytes ++ b1) given
+fed_kept {r0} {r1} {r2} {old} {new} {bytes} {b1} {given} f t h =
+    let s : SplitsOff [] (bytes ++ b1) (given ++ []) (pending new) = splits_compose (splits_of old.finished bytes (pending old) given r1 f.covers h.went_on) h.split in
+    record {
+      left = on_left r0 r1 r2 bytes b1 f.left t.left;
+      counted = on_count bytes b1 old.taken new.taken f.counted t.counted;
+      covers = covers_open new.finished (bytes ++ b1) (pending new) given r2 h.goes_on (subst (λ g. SplitsOff [] (bytes ++ b1) g (pending new)) (append-nil given) s);
+      below = λ e. absurd (never h.goes_on e);
+    }
 
 some-same : {x y : List ℕ} → Some x ≡ Some y → x ≡ y
 some-same e = cc
