@@ -124,6 +124,14 @@ pub over_moves : (p : Position) → is_over p ≡ true → moves p ≡ []
 unfolding moves
 over_moves p e = ap (λ (t : Bool). if t then [] else or_pass (pairs p)) e
 
+not_empty : (ms : List Move) → or_pass ms ≡ [] → {P : Type 0} → P
+not_empty [] e = let wrong : ◌≡◌ {A = List Move} (Pass ∷ []) [] = e in absurd (cc)
+not_empty (m ∷ ms) e = let wrong : ◌≡◌ {A = List Move} (m ∷ ms) [] = e in absurd (cc)
+
+-- there is no move only where the game is over
+pub no_moves : (p : Position) → moves p ≡ [] → IsOver p
+no_moves p none = elim (is_over p) as (λ t. is_over p ≡ t → IsOver p) [ true ↦ λ e. over_from p e | false ↦ λ e. not_empty (pairs p) (sym (in_play_moves p e) ∙ none) ] refl
+
 or_pass_on : (ms : List Move) (m : Move) → IsOn (or_pass ms) m → IsOn ms m ⊎ ((m ≡ Pass) × (ms ≡ []))
 or_pass_on [] m on = elim on [ inl same ↦ inr (sym same, refl) | inr none ↦ absurd none ]
 or_pass_on (x ∷ ms) m on = inl on
