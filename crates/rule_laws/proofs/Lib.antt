@@ -1,0 +1,4 @@
+pub mod Touches
+pub mod Leaves
+pub mod Lands
+pub mod Openings
