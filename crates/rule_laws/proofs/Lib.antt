@@ -1,4 +1,5 @@
 pub mod Touches
 pub mod Leaves
 pub mod Lands
+pub mod Moves
 pub mod Openings

@@ -1,10 +1,17 @@
 //! Laws of positions and games: what a legal move leaves of a sound position, and what each game keeps.
 #![tactic(auto)]
 
-ghost use Rattle.rule_laws.specs.Soundness.{OpeningsAreSound};
+ghost use Rattle.rule_laws.specs.Soundness.{OpeningsAreSound, LegalMovesKeepSoundness};
 
 /// The opening of every game type is a sound position, and no piece stands on its board.
 pub fn openings_are_sound()
     ensures { OpeningsAreSound }
+{
+}
+
+/// A legal move of a sound position leaves a sound position, and each piece then stands at most one place further out than any
+/// piece stood before.
+pub fn legal_moves_keep_soundness()
+    ensures { LegalMovesKeepSoundness }
 {
 }

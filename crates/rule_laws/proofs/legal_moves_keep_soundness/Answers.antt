@@ -1,0 +1,5 @@
+use Rattle.rule_laws.proofs.Moves.{moves_keep}
+use Rattle.rule_laws.proofs.legal_moves_keep_soundness.Goals as goal
+
+pub returns : goal.returns
+returns c = moves_keep
