@@ -3,3 +3,4 @@ pub mod Leaves
 pub mod Lands
 pub mod Moves
 pub mod Openings
+pub mod Games
