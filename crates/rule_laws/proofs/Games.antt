@@ -12,32 +12,32 @@ use Rattle.hive_model.specs.Boards.{IsBoard, StandsWithin}
 use Rattle.hive_model.specs.Positions.{Position, IsSound, opening}
 use Rattle.hive_model.specs.Legal.{IsLegal, moves}
 use Rattle.hive_model.specs.Games.{after, replay, AreLegal}
+use Rattle.hive_model.proofs.MoveLaws.{moves_legal}
 use Rattle.rule_laws.specs.Soundness.{ListedMovesKeepSoundness, GamesAreSound, side_after, CountsPlies, GamesCountPlies}
 use Rattle.rule_laws.proofs.Moves.{moves_keep}
 use Rattle.rule_laws.proofs.Openings.{openings}
 
-module _ (listed_legal : (p : Position) → IsBoard p.board → (m : Move) → IsOn (moves p) m → IsLegal p m) where
-  listed_keep : ListedMovesKeepSoundness
-  listed_keep p n m sound w low on = moves_keep p n m sound w low (listed_legal p sound.board m on)
+pub listed_keep : ListedMovesKeepSoundness
+listed_keep p n m sound w low on = moves_keep p n m sound w low (moves_legal p sound.board m on)
 
-  replay_keeps : (p : Position) (ms : List Move) (n : ℕ) → IsSound p → StandsWithin n p.board → n + length ms ≤ 9000 → AreLegal p ms
-      → IsSound (replay p ms) × StandsWithin (n + length ms) (replay p ms).board
-  replay_keeps p [] n sound w low legal = let same : n ≡ n + 0 = omega arith in (sound, subst (λ k. StandsWithin k p.board) same w)
-  replay_keeps p (m ∷ ms) n sound w low legal =
-      let board : n < 9000 = omega (arith, low) in
-      let next = listed_keep p n m sound w board legal.0 in
-      let less : n + 1 + length ms ≤ 9000 = omega (arith, low) in
-      let rest = replay_keeps (after p m) ms (n + 1) next.0 next.1 less legal.1 in
-      let same : n + 1 + length ms ≡ n + suc (length ms) = omega arith in
-      (rest.0, subst (λ k. StandsWithin k (replay (after p m) ms).board) same rest.1)
+replay_keeps : (p : Position) (ms : List Move) (n : ℕ) → IsSound p → StandsWithin n p.board → n + length ms ≤ 9000 → AreLegal p ms
+    → IsSound (replay p ms) × StandsWithin (n + length ms) (replay p ms).board
+replay_keeps p [] n sound w low legal = let same : n ≡ n + 0 = omega arith in (sound, subst (λ k. StandsWithin k p.board) same w)
+replay_keeps p (m ∷ ms) n sound w low legal =
+    let board : n < 9000 = omega (arith, low) in
+    let next = listed_keep p n m sound w board legal.0 in
+    let less : n + 1 + length ms ≤ 9000 = omega (arith, low) in
+    let rest = replay_keeps (after p m) ms (n + 1) next.0 next.1 less legal.1 in
+    let same : n + 1 + length ms ≡ n + suc (length ms) = omega arith in
+    (rest.0, subst (λ k. StandsWithin k (replay (after p m) ms).board) same rest.1)
 
-  games_sound : GamesAreSound
-  games_sound t ms legal low =
-      let start = openings t in
-      let short : 0 + length ms ≤ 9000 = omega (arith, low) in
-      let r = replay_keeps (opening t) ms 0 start.0 start.1 short legal in
-      let same : 0 + length ms ≡ length ms = omega arith in
-      (r.0, subst (λ k. StandsWithin k (replay (opening t) ms).board) same r.1)
+pub games_sound : GamesAreSound
+games_sound t ms legal low =
+    let start = openings t in
+    let short : 0 + length ms ≤ 9000 = omega (arith, low) in
+    let r = replay_keeps (opening t) ms 0 start.0 start.1 short legal in
+    let same : 0 + length ms ≡ length ms = omega arith in
+    (r.0, subst (λ k. StandsWithin k (replay (opening t) ms).board) same r.1)
 
 -- Turns
 

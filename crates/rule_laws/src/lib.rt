@@ -1,7 +1,7 @@
 //! Laws of positions and games: what a legal move leaves of a sound position, and what each game keeps.
 #![tactic(auto)]
 
-ghost use Rattle.rule_laws.specs.Soundness.{OpeningsAreSound, LegalMovesKeepSoundness, GamesCountPlies};
+ghost use Rattle.rule_laws.specs.Soundness.{OpeningsAreSound, LegalMovesKeepSoundness, ListedMovesKeepSoundness, GamesAreSound, GamesCountPlies};
 
 /// The opening of every game type is a sound position, and no piece stands on its board.
 pub fn openings_are_sound()
@@ -9,10 +9,19 @@ pub fn openings_are_sound()
 {
 }
 
-/// A legal move of a sound position leaves a sound position, and each piece then stands at most one place further out than any
-/// piece stood before.
+/// A legal move of a sound position leaves a sound position: each piece stands once, in one hive, only beetles and mosquitoes above
+/// the ground, of each kind and colour the least numbers, and the moved piece rests on top. No piece then stands more than one
+/// place further out than any piece stood before. The same holds of each move on the list of legal moves.
 pub fn legal_moves_keep_soundness()
-    ensures { LegalMovesKeepSoundness }
+    ensures legal { LegalMovesKeepSoundness }
+    ensures listed { ListedMovesKeepSoundness }
+{
+}
+
+/// A game of at most 9,000 plies leads to a sound position, in which no coordinate of a piece is larger in size than the number of
+/// plies.
+pub fn games_are_sound()
+    ensures { GamesAreSound }
 {
 }
 
