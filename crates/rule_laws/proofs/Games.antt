@@ -1,19 +1,15 @@
 -- What each game keeps.
-use Rattle.std.proofs.Common.{◌≡◌, ℕ, suc, zero, ◌+◌, ◌/◌, ◌%◌, ◌≤◌, ◌<◌, Bool, true, false, List, [], ◌∷◌, length, refl, sym, ◌∙◌, ap, subst, arith, ◌⊎◌, inl, inr, if◌then◌else◌}
-use Rattle.std.specs.Prelude.{nat_eq}
+use Rattle.std.proofs.Common.{◌≡◌, ℕ, suc, ◌+◌, ◌/◌, ◌%◌, ◌≤◌, ◌<◌, List, [], ◌∷◌, length, refl, sym, ◌∙◌, ap, subst, arith, ◌⊎◌, inl, inr, if◌then◌else◌}
 use Rattle.std.proofs.lemmas.Bool.{ne_eqb, eq-eqb, cases_eq}
-use Rattle.hive_model.specs.declared.pieces.Colour.{Colour}
 use Rattle.hive_model.specs.declared.pieces.Colour.TheVariants.{White, Black}
 use Rattle.hive_model.specs.declared.pieces.GameType.{GameType}
 use Rattle.hive_model.specs.declared.places.Move.{Move}
-use Rattle.hive_model.specs.Lists.{IsOn}
 use Rattle.hive_model.specs.Pieces.{is_colour, other_side}
-use Rattle.hive_model.specs.Boards.{IsBoard, StandsWithin}
+use Rattle.hive_model.specs.Boards.{StandsWithin}
 use Rattle.hive_model.specs.Positions.{Position, IsSound, opening}
-use Rattle.hive_model.specs.Legal.{IsLegal, moves}
 use Rattle.hive_model.specs.Games.{after, replay, AreLegal}
 use Rattle.hive_model.proofs.MoveLaws.{moves_legal}
-use Rattle.rule_laws.specs.Soundness.{ListedMovesKeepSoundness, GamesAreSound, side_after, CountsPlies, GamesCountPlies}
+use Rattle.rule_laws.specs.Soundness.{ListedMovesKeepSoundness, GamesAreSound, side_after, GamesCountPlies}
 use Rattle.rule_laws.proofs.Moves.{moves_keep}
 use Rattle.rule_laws.proofs.Openings.{openings}
 

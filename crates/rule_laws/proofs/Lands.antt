@@ -1,9 +1,8 @@
 -- What a piece leaves when it lands on the board that it left.
-use Rattle.std.proofs.Common.{◌≡◌, ◌≢◌, ℕ, suc, zero, ◌+◌, ◌≤◌, ◌<◌, Bool, true, false, List, [], ◌∷◌, ◌++◌, length, ◌⊎◌, inl, inr, refl, sym, ◌∙◌, ap, subst, arith, cond, length-append}
-use Rattle.std.specs.Prelude.{Option, Some, None, slice_get, IsTrue, nat_lt, is_some}
+use Rattle.std.proofs.Common.{◌≡◌, ℕ, ◌+◌, ◌≤◌, ◌<◌, true, false, List, [], ◌∷◌, ◌++◌, length, ◌⊎◌, inl, inr, refl, sym, ◌∙◌, ap, subst, arith, cond, length-append}
+use Rattle.std.specs.Prelude.{Some, None, slice_get, IsTrue, nat_lt, is_some}
 use Rattle.std.proofs.lemmas.Bool.{lt-ltb, ltb-true, eq-eqb, cases_eq}
 use Rattle.std.proofs.lemmas.Int.{ints}
-use Rattle.hive_model.specs.declared.pieces.Kind.TheVariants.{Beetle, Mosquito}
 use Rattle.hive_model.specs.declared.places.Place.{Place}
 use Rattle.hive_model.specs.declared.places.Spot.{Spot}
 use Rattle.hive_model.specs.declared.places.Dir.{Dir}
@@ -20,7 +19,7 @@ use Rattle.hive_model.proofs.GetLemmas.{get_within}
 use Rattle.hive_model.proofs.Floods.{path_weaker}
 use Rattle.hive_model.proofs.BoardLemmas.{spot_of_stands, stands_spot_of, stack_at-put, put_stands, stands_put, stands_on_top}
 use Rattle.hive_model.proofs.LegalLaws.{opposite, back}
-use Rattle.hive_model.proofs.KeepLaws.{board_put, one_hive_put, still, taken, was_or_new}
+use Rattle.hive_model.proofs.KeepLaws.{board_put, one_hive_put, still, was_or_new}
 use Rattle.rule_laws.proofs.Touches.{Touched, Climbs}
 use Rattle.rule_laws.proofs.Leaves.{Leaves}
 
@@ -135,7 +134,7 @@ module _ (p : Position) (x : ℕ) (q : Place) (sound : IsSound p) (leaves : Leav
       ap (is_top_spot (put c x q)) spot ∙ eq-eqb (height_at c q + 1) (height_at (put c x q) q) (sym tall)
 
   pub landed : OfType p.game_type x → OneHive (put (without p.board x) x q) → (0 < height_at (without p.board x) q → Climbs (kind_of x))
-    → ((y : ℕ) → y < x → kind_of y ≡ kind_of x → colour_of y ≡ colour_of x → IsTrue (is_in_play p.board y)) → IsSound (after p (To x q))
+      → ((y : ℕ) → y < x → kind_of y ≡ kind_of x → colour_of y ≡ colour_of x → IsTrue (is_in_play p.board y)) → IsSound (after p (To x q))
   unfolding after
   landed of_type one climbs least = record {
     board = landed_board;

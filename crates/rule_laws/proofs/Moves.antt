@@ -1,7 +1,7 @@
 -- Each kind of legal move of a sound position leaves a sound position.
-use Rattle.std.proofs.Common.{◌≡◌, ◌≢◌, ℕ, suc, zero, ◌+◌, ◌-◌, ◌≤◌, ◌<◌, Bool, true, false, ◌&&◌, List, ◌⊎◌, inl, inr, refl, sym, ◌∙◌, ap, subst, arith, ℤ, pos, negsuc, ◌+ℤ◌}
+use Rattle.std.proofs.Common.{◌≡◌, ◌≢◌, ℕ, ◌+◌, ◌-◌, ◌≤◌, ◌<◌, true, false, ◌⊎◌, inl, inr, refl, sym, ◌∙◌, ap, subst, arith, pos, negsuc, ◌+ℤ◌}
 use Rattle.std.specs.Prelude.{Option, Some, None, IsTrue, is_some}
-use Rattle.std.proofs.lemmas.Bool.{lt-ltb, ltb-true, and_parts, and_from}
+use Rattle.std.proofs.lemmas.Bool.{lt-ltb, ltb-true}
 use Rattle.std.proofs.lemmas.Int.{ints}
 use Rattle.hive_model.specs.declared.pieces.Colour.{Colour}
 use Rattle.hive_model.specs.declared.pieces.Colour.TheVariants.{White, Black}
@@ -11,21 +11,20 @@ use Rattle.hive_model.specs.declared.places.Dir.{Dir}
 use Rattle.hive_model.specs.declared.places.Dir.TheVariants.{E, NE, NW, W, SW, SE}
 use Rattle.hive_model.specs.declared.places.Move.{Move}
 use Rattle.hive_model.specs.declared.places.Move.TheVariants.{Pass, To}
-use Rattle.hive_model.specs.Pieces.{kind_of, colour_of, is_colour, other_side, all_pieces, has_kind, OfType}
+use Rattle.hive_model.specs.Pieces.{kind_of, colour_of, other_side, has_kind, OfType}
 use Rattle.hive_model.specs.Places.{step, origin, IsWithin}
-use Rattle.hive_model.specs.Boards.{Stacks, height_at, is_occupied, top_at, spot_of, put, lift, without, without_at, is_in_play, StandsAt, IsBoard, StandsWithin}
+use Rattle.hive_model.specs.Boards.{Stacks, height_at, is_occupied, spot_of, put, lift, without, without_at, is_in_play, IsBoard, StandsWithin}
 use Rattle.hive_model.specs.Hive.{OneHive}
 use Rattle.hive_model.specs.Positions.{Position, IsSound}
 use Rattle.hive_model.specs.Placement.{HasColour, MayPlace, Placement, has_colour}
 use Rattle.hive_model.specs.Throws.{Throw}
-use Rattle.hive_model.specs.Legal.{Walk, LegalPair, IsLegal}
+use Rattle.hive_model.specs.Legal.{Walk}
 use Rattle.hive_model.specs.Games.{after}
 use Rattle.hive_model.proofs.PlaceLemmas.{is_other_place}
-use Rattle.hive_model.proofs.PieceLaws.{same_colour, from_same_colour, on_pieces, pieces_on}
+use Rattle.hive_model.proofs.PlacementLaws.{play_or_hand, has_colour_from, from_has_colour}
 use Rattle.hive_model.proofs.GetLemmas.{get_within}
 use Rattle.hive_model.proofs.BoardLemmas.{spot_of_stands}
 use Rattle.hive_model.proofs.LiftLemmas.{height_there}
-use Rattle.hive_model.proofs.RuleLaws.{any_has, has_any}
 use Rattle.rule_laws.specs.Soundness.{LegalMovesKeepSoundness}
 use Rattle.rule_laws.proofs.Touches.{Touched, Climbs, beside, moves_touch, ends_low}
 use Rattle.rule_laws.proofs.Leaves.{Leaves, leaves_hand, leaves_top, on_without}
@@ -60,8 +59,7 @@ unfolding after
 lands p n x q sound w low leaves small of_type on climbs least =
     let out = left_within n p.board (without p.board x) x leaves w in
     let near = lands_within n (without p.board x) q out on in
-    let board : n + 1 ≤ 9000 = omega (arith, low) in
-    (
+    let board : n + 1 ≤ 9000 = omega (arith, low) in (
       landed p x q sound leaves small (wider (n + 1) 9000 board q near) of_type (lands_one (without p.board x) x q leaves.one_hive on) climbs least,
       put_within n (without p.board x) x q out near,
     )
@@ -86,14 +84,8 @@ passes p n sound w = (
 
 has_or_not : (b : Stacks) (c : Colour) → HasColour b c ⊎ (¬ HasColour b c)
 has_or_not b c = elim (has_colour b c) as (λ t. has_colour b c ≡ t → HasColour b c ⊎ (¬ HasColour b c)) [
-  | true ↦ λ e.
-      let r = any_has (λ x. is_colour (colour_of x) c && is_in_play b x) all_pieces e in
-      let both = and_parts (is_colour (colour_of r.0) c) (is_in_play b r.0) r.2 in
-      inl (record { piece = r.0; is_piece = lt-ltb r.0 28 (pieces_on r.0 r.1); colour = same_colour _ _ both.0; in_play = both.1 })
-  | false ↦ λ e. inr (λ h.
-      let has = has_any (λ x. is_colour (colour_of x) c && is_in_play b x) all_pieces h.piece (on_pieces h.piece (ltb-true _ _ h.is_piece)) (and_from _ _ (from_same_colour _ _ h.colour) h.in_play) in
-      let wrong : false ≡ true = sym e ∙ has in
-      cc)
+  | true ↦ λ e. inl (has_colour_from b c e)
+  | false ↦ λ e. inr (λ h. let wrong : false ≡ true = sym e ∙ from_has_colour b c h in cc)
 ] refl
 
 one_or_other : (k c : Colour) → (k ≡ c) ⊎ (k ≡ other_side c)
@@ -122,10 +114,6 @@ may_place_lands b is c q h = elim (has_or_not b c) [
   ]
 ]
 
--- what is not in hand is in play
-play_or_hand : (b : Stacks) (y : ℕ) → (spot_of b y ≡ None → ⊥) → IsTrue (is_in_play b y)
-play_or_hand b y h = elim (spot_of b y) as (λ o. spot_of b y ≡ o → is_some o ≡ true) [ None ↦ λ e. absurd (h e) | Some s ↦ λ e. refl ] refl
-
 places : (p : Position) (n x : ℕ) (q : Place) → IsSound p → StandsWithin n p.board → n < 9000 → Placement p x q → Keeps p n (To x q)
 places p n x q sound w low h =
     let hand = h.next.in_hand in
@@ -134,7 +122,10 @@ places p n x q sound w low h =
     lands p n x q sound w low (leaves_hand p.board x sound.board sound.one_hive hand.off) (ltb-true _ _ h.is_piece) hand.of_type
     (subst (λ c. Lands c q) same (may_place_lands p.board sound.board p.side q h.place))
     (λ high. absurd (omega (arith, high, empty)))
-    (λ y less kind colour. play_or_hand p.board y (λ off. h.next.least y less kind colour (record { of_type = ap (has_kind p.game_type) kind ∙ hand.of_type; off = off })))
+    (λ y less kind colour. elim (play_or_hand (spot_of p.board y)) [
+      | inl play ↦ play
+      | inr off ↦ absurd (h.next.least y less kind colour (record { of_type = ap (has_kind p.game_type) kind ∙ hand.of_type; off = off }))
+    ])
 
 -- A move of a piece on top, by its own way or thrown
 
@@ -151,17 +142,13 @@ walks p n x q sound w low h =
     moves_top p n x q sound w low h.from h.stands h.on_top (leaves_top p.board x h.from sound.board sound.one_hive h.stands h.on_top h.not_cut)
     (moves_touch (kind_of x) (lift p.board x) h.from.place q h.moves) (ends_low (kind_of x) (lift p.board x) h.from.place q h.moves)
 
-off : (a x : ℤ) → x ≢ pos 0 → a +ℤ x ≡ a → ⊥
-off a x h e = h (omega (arith, ints))
-
--- neighbours are two places
-apart : (a b : Place) (d : Dir) → step a d ≡ b → a ≢ b
-apart a b E e f = off a.q (pos 1) (λ z. omega (arith, ints)) (ap (λ (z : Place). z.q) (e ∙ sym f))
-apart a b NE e f = off a.q (pos 1) (λ z. omega (arith, ints)) (ap (λ (z : Place). z.q) (e ∙ sym f))
-apart a b NW e f = off a.r (negsuc 0) (λ z. omega (arith, ints)) (ap (λ (z : Place). z.r) (e ∙ sym f))
-apart a b W e f = off a.q (negsuc 0) (λ z. omega (arith, ints)) (ap (λ (z : Place). z.q) (e ∙ sym f))
-apart a b SW e f = off a.q (negsuc 0) (λ z. omega (arith, ints)) (ap (λ (z : Place). z.q) (e ∙ sym f))
-apart a b SE e f = off a.r (pos 1) (λ z. omega (arith, ints)) (ap (λ (z : Place). z.r) (e ∙ sym f))
+step_moves : (p : Place) (d : Dir) → step p d ≢ p
+step_moves p E e = let x : p.q +ℤ pos 1 ≡ p.q = ap (λ (z : Place). z.q) e in omega (arith, ints, x)
+step_moves p NE e = let x : p.q +ℤ pos 1 ≡ p.q = ap (λ (z : Place). z.q) e in omega (arith, ints, x)
+step_moves p NW e = let x : p.r +ℤ negsuc 0 ≡ p.r = ap (λ (z : Place). z.r) e in omega (arith, ints, x)
+step_moves p W e = let x : p.q +ℤ negsuc 0 ≡ p.q = ap (λ (z : Place). z.q) e in omega (arith, ints, x)
+step_moves p SW e = let x : p.q +ℤ negsuc 0 ≡ p.q = ap (λ (z : Place). z.q) e in omega (arith, ints, x)
+step_moves p SE e = let x : p.r +ℤ pos 1 ≡ p.r = ap (λ (z : Place). z.r) e in omega (arith, ints, x)
 
 throws : (p : Position) (n x : ℕ) (q : Place) → IsSound p → StandsWithin n p.board → n < 9000 → Throw p x q → Keeps p n (To x q)
 throws p n x q sound w low h =
@@ -171,7 +158,7 @@ throws p n x q sound w low h =
     let alone : height_at p.board h.from.place ≡ 1 = thrown.alone in
     let top : h.from.level + 1 ≡ height_at p.board h.from.place = omega (arith, level, alone) in
     let there = height_there p.board sound.board x h.from.place h.from.level stands (sym top) in
-    let over = there h.over.place (is_other_place _ _ (apart h.over.place h.from.place thrown.beside.0 thrown.beside.1)) in
+    let over = there h.over.place (is_other_place _ _ (λ e. step_moves h.over.place thrown.beside.0 (thrown.beside.1 ∙ sym e))) in
     let thrower : height_at p.board h.over.place ≡ 1 = h.is_thrower.alone in
     let high : 0 < height_at (lift p.board x) h.over.place = omega (arith, over, thrower) in
     moves_top p n x q sound w low h.from thrown.stands top (leaves_top p.board x h.from sound.board sound.one_hive thrown.stands top thrown.not_cut)

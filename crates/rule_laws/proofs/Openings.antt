@@ -1,5 +1,5 @@
 -- The opening is sound.
-use Rattle.std.proofs.Common.{◌≡◌, ◌≢◌, ℕ, ◌<◌, true, false, List, [], refl}
+use Rattle.std.proofs.Common.{◌≡◌, ℕ, true, false, List, [], refl}
 use Rattle.std.specs.Prelude.{Option, Some, None}
 use Rattle.hive_model.specs.Boards.{IsBoard}
 use Rattle.rule_laws.specs.Soundness.{OpeningsAreSound}
