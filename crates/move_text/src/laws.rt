@@ -1,0 +1,12 @@
+//! The law of written moves.
+
+ghost use Rattle.hive_model.specs.declared.places.Move.{Move};
+ghost use Rattle.hive_model.specs.Positions.{Position, IsSound};
+ghost use Rattle.hive_model.specs.Legal.{IsLegal};
+ghost use Rattle.hive_model.specs.Denotes.{Denotes, text};
+
+/// In a sound position the written text of each legal move denotes that move.
+pub fn texts_denote()
+    ensures { (p : Position) (m : Move) → IsSound p → IsLegal p m → Denotes p.game_type p.board (text p.board m) m }
+{
+}
