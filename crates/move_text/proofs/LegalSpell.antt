@@ -1,4 +1,4 @@
--- The written text of each legal move denotes it.
+-- The written text of each legal move denotes it, and each legal move can be written.
 use Rattle.std.proofs.Common.{◌≡◌, ◌≢◌, ℕ, suc, zero, ◌+◌, ◌-◌, ◌≤◌, ◌<◌, Bool, true, false, not, ◌&&◌, List, [], ◌∷◌, length, take, ◌⊎◌, inl, inr, refl, sym, ◌∙◌, ap, subst, arith}
 use Rattle.std.specs.Prelude.{ℤ, pos, negsuc, ◌+ℤ◌, Option, Some, None, IsTrue, is_some, nat_lt}
 use Rattle.std.specs.List.{remove}
@@ -16,9 +16,10 @@ use Rattle.hive_model.specs.declared.places.Move.{Move}
 use Rattle.hive_model.specs.declared.places.Move.TheVariants.{Pass, To}
 use Rattle.hive_model.specs.Lists.{IsOn, IsPath}
 use Rattle.hive_model.specs.Pieces.{is_colour, colour_of, kind_of, other_side, all_pieces, OfType}
-use Rattle.hive_model.specs.Places.{step, steps, origin, dir_after, dir_before}
+use Rattle.hive_model.specs.Places.{step, steps, origin, dir_after, dir_before, IsWithin}
 use Rattle.hive_model.specs.Boards.{Stacks, stack_at, set_stack, height_at, is_occupied, top_at, spot_of, lift, lift_from, without, without_at, is_in_play, StandsAt, IsBoard}
 use Rattle.hive_model.specs.Steps.{GroundStep}
+use Rattle.hive_model.specs.Near.{near}
 use Rattle.hive_model.specs.Reach.{Hop, ReachBy, MovesAs}
 use Rattle.hive_model.specs.Positions.{Position, IsSound}
 use Rattle.hive_model.specs.Placement.{HasColour, Touches, MayPlace, Placement, has_colour}
@@ -27,12 +28,13 @@ use Rattle.hive_model.specs.Legal.{Walk, LegalPair, IsLegal}
 use Rattle.hive_model.specs.Denotes.{Denotes, text}
 use Rattle.hive_model.proofs.GetLemmas.{get_within}
 use Rattle.hive_model.proofs.BoardLemmas.{spot_of_stands, stands_spot_of}
-use Rattle.hive_model.proofs.NearLaws.{place_standing}
+use Rattle.hive_model.proofs.NearLaws.{place_standing, near_place, near_neighbour, near_within}
 use Rattle.hive_model.proofs.RuleLaws.{any_has, has_any, over_last, over_next}
 use Rattle.hive_model.proofs.LegalLaws.{opposite, back}
 use Rattle.hive_model.proofs.PieceLaws.{on_pieces, pieces_on, same_colour, from_same_colour}
+use Rattle.move_text.specs.Moves.{IsMoveWithin}
 use Rattle.move_text.proofs.WithoutLaws.{not_there, stack_there}
-use Rattle.move_text.proofs.SpellLaws.{HasReference, Here, There, text_denotes, first_denotes, pass_denotes}
+use Rattle.move_text.proofs.SpellLaws.{left_is_board, HasReference, Here, There, text_denotes, first_denotes, pass_denotes}
 
 -- A step away from an occupied place
 
@@ -176,29 +178,64 @@ placed b is c q h = go (has_colour b c) (has_colour b (other_side c)) refl refl
     go false true e f = inl (inr (h.on_others (no_colour b c e) (colour_from b (other_side c) f)))
     go false false e f = let mine = no_colour b c e in let theirs = no_colour b (other_side c) f in inr (bare b is c mine theirs, h.on_empty mine theirs)
 
--- The law
+-- How a legal pair ends
 
-placement_denotes : (p : Position) (x : ℕ) (q : Place) → IsBoard p.board → Placement p x q → Denotes p.game_type p.board (text p.board (To x q)) (To x q)
-placement_denotes p x q is h =
-    let small = ltb-true x 28 h.is_piece in
+-- A legal pair moves a piece of the type to an occupied place of the board without the piece, or to a place beside one; but for
+-- the first placement, which goes to the origin of an empty board.
+record Goes (p : Position) (x : ℕ) (q : Place) : Type 0 where
+  small : x < 28
+  of_type : OfType p.game_type x
+  ends : Touched (without p.board x) q ⊎ ((p.board ≡ []) × (q ≡ origin))
+
+placement_goes : (p : Position) (x : ℕ) (q : Place) → IsBoard p.board → Placement p x q → Goes p x q
+placement_goes p x q is h =
     let hand = h.next.in_hand in
     let gone = not_there p.board x hand.off in
-    elim (placed p.board is p.side q h.place) [
-      | inl touched ↦ text_denotes p.game_type p.board is x q small hand.of_type (referred p.board x q (subst (λ c. Touched c q) (sym gone) touched))
-      | inr first ↦ subst (λ b. Denotes p.game_type b (text b (To x q)) (To x q)) (sym first.0) (subst (λ z. Denotes p.game_type [] (text [] (To x z)) (To x z)) (sym first.1) (first_denotes p.game_type x small hand.of_type))
-    ]
+    record {
+      small = ltb-true x 28 h.is_piece;
+      of_type = hand.of_type;
+      ends = elim (placed p.board is p.side q h.place) [
+        | inl touched ↦ inl (subst (λ c. Touched c q) (sym gone) touched)
+        | inr first ↦ inr first
+      ];
+    }
 
--- a piece that stands on the board
-moved_denotes : (p : Position) (x : ℕ) (q : Place) (s : Spot) → IsSound p → spot_of p.board x ≡ Some s → Touched (without p.board x) q → Denotes p.game_type p.board (text p.board (To x q)) (To x q)
-moved_denotes p x q s sound stands touched =
-    let small = sound.board.pieces s.place s.level x (spot_of_stands p.board x s stands) in
-    text_denotes p.game_type p.board sound.board x q small (sound.of_type x (ap is_some stands)) (referred p.board x q touched)
+moved_goes : (p : Position) (x : ℕ) (q : Place) (s : Spot) → IsSound p → spot_of p.board x ≡ Some s → Touched (without p.board x) q → Goes p x q
+moved_goes p x q s sound stands touched = record {
+  small = sound.board.pieces s.place s.level x (spot_of_stands p.board x s stands);
+  of_type = sound.of_type x (ap is_some stands);
+  ends = inl touched;
+}
 
-pair_denotes : (p : Position) (x : ℕ) (q : Place) → IsSound p → LegalPair p x q → Denotes p.game_type p.board (text p.board (To x q)) (To x q)
-pair_denotes p x q sound (inl placement) = placement_denotes p x q sound.board placement
-pair_denotes p x q sound (inr (queen, inl walk)) = moved_denotes p x q walk.from sound walk.stands (walk_touches p x q walk)
-pair_denotes p x q sound (inr (queen, inr throw)) = moved_denotes p x q throw.from sound throw.throws.stands (throw_touches p x q sound.board throw)
+pair_goes : (p : Position) (x : ℕ) (q : Place) → IsSound p → LegalPair p x q → Goes p x q
+pair_goes p x q sound (inl placement) = placement_goes p x q sound.board placement
+pair_goes p x q sound (inr (queen, inl walk)) = moved_goes p x q walk.from sound walk.stands (walk_touches p x q walk)
+pair_goes p x q sound (inr (queen, inr throw)) = moved_goes p x q throw.from sound throw.throws.stands (throw_touches p x q sound.board throw)
+
+-- The laws
+
+goes_denotes : (p : Position) (x : ℕ) (q : Place) → IsBoard p.board → Goes p x q → Denotes p.game_type p.board (text p.board (To x q)) (To x q)
+goes_denotes p x q is g = elim (g.ends) [
+    | inl touched ↦ text_denotes p.game_type p.board is x q g.small g.of_type (referred p.board x q touched)
+    | inr first ↦
+        subst (λ b. Denotes p.game_type b (text b (To x q)) (To x q)) (sym first.0)
+          (subst (λ z. Denotes p.game_type [] (text [] (To x z)) (To x z)) (sym first.1) (first_denotes p.game_type x g.small g.of_type))
+  ]
+
+touched_within : (c : Stacks) (q : Place) → IsBoard c → Touched c q → IsWithin 9500 q
+touched_within c q is (inl here) = near_within c is q (near_place c q here)
+touched_within c q is (inr (d, there)) = near_within c is q (subst (IsOn (near c)) (back q d) (near_neighbour c (step q d) (opposite d) there))
+
+goes_within : (p : Position) (x : ℕ) (q : Place) → IsBoard p.board → Goes p x q → IsWithin 9500 q
+goes_within p x q is g = elim (g.ends) [
+    | inl touched ↦ touched_within (without p.board x) q (left_is_board p.board is x) touched
+    | inr first ↦ subst (IsWithin 9500) (sym first.1) (record { q_low = omega (arith, ints); q_high = omega (arith, ints); r_low = omega (arith, ints); r_high = omega (arith, ints) })
+  ]
 
 pub legal_denotes : (p : Position) (m : Move) → IsSound p → IsLegal p m → Denotes p.game_type p.board (text p.board m) m
 legal_denotes p Pass sound legal = pass_denotes p.game_type p.board
-legal_denotes p (To x q) sound legal = pair_denotes p x q sound legal.1
+legal_denotes p (To x q) sound legal = goes_denotes p x q sound.board (pair_goes p x q sound legal.1)
+
+pub legal_within : (p : Position) (m : Move) → IsSound p → IsLegal p m → IsMoveWithin m
+legal_within p Pass sound legal = tt
+legal_within p (To x q) sound legal = goes_within p x q sound.board (pair_goes p x q sound legal.1)

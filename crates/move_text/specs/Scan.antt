@@ -17,6 +17,7 @@ use Rattle.move_text.specs.declared.progress.Naming.TheVariants.{Empty, Side, Ki
 use Rattle.move_text.specs.declared.progress.Progress.{Progress}
 use Rattle.move_text.specs.declared.progress.Progress.TheVariants.{AtP, AtPa, AtPas, AtPass, First, Second, Marked}
 
+-- the byte of a colour, a kind and a stroke
 abbrev pub colour_at : ℕ → Option Colour
 colour_at b = if nat_eq b 119 then Some White else if nat_eq b 98 then Some Black else None
 
@@ -38,17 +39,27 @@ abbrev pub sided : Option Colour → Option Naming
 sided None = None
 sided (Some c) = Some (Side c)
 
+-- the one piece of a kind that has no numbers; else the number is still to come
+abbrev pub with_kind : Colour → Kind → Naming
+with_kind c k = if nat_eq (most_of k) 0 then Named (piece_of c k 0) else Kinded c k
+
 abbrev pub kinded : Colour → Option Kind → Option Naming
 kinded c None = None
-kinded c (Some k) = if nat_eq (most_of k) 0 then Some (Named (piece_of c k 0)) else Some (Kinded c k)
+kinded c (Some k) = Some (with_kind c k)
 
+-- the byte is the digit of one of the kind's numbers
 abbrev pub is_number : Kind → ℕ → Bool
 is_number k b = nat_lt 48 b && nat_le (b - 48) (most_of k)
 
+-- the piece of this kind with the number of a digit
+abbrev pub with_number : Colour → Kind → ℕ → Option Naming
+with_number c k b = if is_number k b then Some (Named (piece_of c k (b - 48))) else None
+
+-- what is read of a name with one byte more
 abbrev pub naming_with : Naming → ℕ → Option Naming
 naming_with Empty b = sided (colour_at b)
 naming_with (Side c) b = kinded c (kind_at b)
-naming_with (Kinded c k) b = if is_number k b then Some (Named (piece_of c k (b - 48))) else None
+naming_with (Kinded c k) b = with_number c k b
 naming_with (Named x) b = None
 
 -- where the byte is no part of the first name
@@ -82,6 +93,7 @@ abbrev pub on_second : Option Naming → ℕ → Option Stroke → Naming → �
 on_second (Some n) x s old b = Some (Second x s n)
 on_second None x s old b = after_second x s old b
 
+-- what is read of a move text with one byte more
 abbrev pub progress_with : Progress → ℕ → Option Progress
 progress_with AtP b = if nat_eq b 97 then Some AtPa else None
 progress_with AtPa b = if nat_eq b 115 then Some AtPas else None

@@ -1,12 +1,12 @@
-//! How far a move text was read.
+//! Reading a move text byte by byte.
 
 ghost use Rattle.std.specs.Prelude.{◌≡◌, ◌≤◌, length};
-ghost use Rattle.hive_model.specs.Pieces.{most_of};
-ghost use Rattle.move_text.specs.Scan.{colour_at, kind_at, stroke_at, naming_with, after_first, after_second, front_mark, end_first, end_second, progress_with, end_of, scan};
+ghost use Rattle.move_text.specs.Scan.{colour_at, kind_at, stroke_at, naming_with, with_kind, with_number, after_first, after_second, front_mark, end_first, end_second, progress_with, end_of, scan};
 
 use hive_model::{Colour, Form, Kind, Mark, Piece, Stroke};
 
-/// The part of a piece's name that was read.
+/// The part of a piece's name that was read: nothing, a colour, a colour and a kind whose number is still to come, or the whole
+/// name.
 #[derive(Clone, Copy, Debug, PartialEq, Eq)]
 pub enum Naming {
     Empty,
@@ -18,12 +18,16 @@ pub enum Naming {
 /// The part of a move text that was read.
 #[derive(Clone, Copy, Debug, PartialEq, Eq)]
 pub enum Progress {
+    /// `p`, and then what was read of `pass`.
     AtP,
     AtPa,
     AtPas,
     AtPass,
+    /// A part of the moving piece's name.
     First(Naming),
+    /// The moving piece, the space, a stroke where there was one, and a part of the reference's name.
     Second(Piece, Option<Stroke>, Naming),
+    /// The moving piece, the space, the reference and the stroke behind it: nothing may follow.
     Marked(Piece, Piece, Stroke),
 }
 
@@ -64,17 +68,8 @@ fn stroke_at(byte: u8) -> Option<Stroke>
     }
 }
 
-fn most_of(kind: Kind) -> u8
-    ensures { result ≡ most_of kind }
-{
-    match kind {
-        Kind::Queen | Kind::Mosquito | Kind::Ladybug | Kind::Pillbug => 0,
-        Kind::Spider | Kind::Beetle => 2,
-        Kind::Grasshopper | Kind::Ant => 3,
-    }
-}
-
 impl Naming {
+    /// With one byte more, where some piece's name begins so.
     fn with_byte(&self, byte: u8) -> Option<Naming>
         ensures { result ≡ naming_with self.now byte }
     {
@@ -84,34 +79,40 @@ impl Naming {
                 None => None,
             },
             Naming::Side(colour) => match kind_at(byte) {
-                Some(kind) => {
-                    if most_of(kind) == 0 {
-                        match Piece::new(colour, kind, 0) {
-                            Some(piece) => Some(Naming::Named(piece)),
-                            None => unreachable!(),
-                        }
-                    } else {
-                        Some(Naming::Kinded(colour, kind))
-                    }
-                }
+                Some(kind) => Some(with_kind(colour, kind)),
                 None => None,
             },
-            Naming::Kinded(colour, kind) => {
-                if b'0' < byte && byte - b'0' <= most_of(kind) {
-                    match Piece::new(colour, kind, byte - b'0') {
-                        Some(piece) => Some(Naming::Named(piece)),
-                        None => unreachable!(),
-                    }
-                } else {
-                    None
-                }
-            }
+            Naming::Kinded(colour, kind) => with_number(colour, kind, byte),
             Naming::Named(_) => None,
         }
     }
 }
 
+/// The one piece of a kind that has no numbers; else the number is still to come.
+fn with_kind(colour: Colour, kind: Kind) -> Naming
+    ensures { result ≡ with_kind colour kind }
+{
+    match Piece::new(colour, kind, 0) {
+        Some(piece) => Naming::Named(piece),
+        None => Naming::Kinded(colour, kind),
+    }
+}
+
+/// The piece of this kind with the number of a digit.
+fn with_number(colour: Colour, kind: Kind, byte: u8) -> Option<Naming>
+    ensures { result ≡ with_number colour kind byte }
+{
+    if byte <= b'0' {
+        return None;
+    }
+    match Piece::new(colour, kind, byte - b'0') {
+        Some(piece) => Some(Naming::Named(piece)),
+        None => None,
+    }
+}
+
 impl Progress {
+    /// With one byte more, where some move text begins so.
     fn with_byte(&self, byte: u8) -> Option<Progress>
         ensures { result ≡ progress_with self.now byte }
     {
@@ -192,6 +193,7 @@ fn end_second(piece: Piece, stroke: Option<Stroke>, naming: Naming) -> Option<Fo
     }
 }
 
+/// A byte that does not go on the first name: the `p` of `pass`, or the space behind a whole name.
 fn after_first(naming: &Naming, byte: u8) -> Option<Progress>
     ensures { result ≡ after_first naming.now byte }
 {
@@ -214,6 +216,7 @@ fn after_first(naming: &Naming, byte: u8) -> Option<Progress>
     }
 }
 
+/// A byte that does not go on the reference's name: a stroke before or behind it, where there was none.
 fn after_second(piece: Piece, stroke: Option<Stroke>, naming: &Naming, byte: u8) -> Option<Progress>
     ensures { result ≡ after_second piece stroke naming.now byte }
 {
@@ -233,7 +236,8 @@ fn after_second(piece: Piece, stroke: Option<Stroke>, naming: &Naming, byte: u8)
     }
 }
 
-/// The form of the text, or the offset of the first byte that cannot stand there.
+/// The form of the text; or the offset of the first byte with which no move text goes on so, or of the end where the text is only
+/// the beginning of a move text.
 #[tactic(auto, unfolding(crate::specs::Scan::scan))]
 pub fn read_form(text: &[u8]) -> Result<Form, u32>
     requires { length text.now ≤ 65536 }
