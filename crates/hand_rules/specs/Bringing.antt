@@ -20,6 +20,10 @@ pub record MayBring (t : GameType) (b : Stacks) (c : Colour) (turn : ℕ) (x : �
   pub no_first_queen : turn ≡ 1 → kind_of x ≢ Queen
   pub queen_by_fourth : 4 ≤ turn → spot_of b (queen_of c) ≡ None → kind_of x ≡ Queen
 
+-- the side may bring some piece into play
+abbrev pub CanBring : GameType → Stacks → Colour → ℕ → Type 0
+CanBring t b c turn = (x : ℕ) × MayBring t b c turn x
+
 -- the position in which this side is to move on this board, and no piece rests
 abbrev pub position_of : GameType → Stacks → Colour → ℕ → Position
 position_of t b c turn = record { game_type = t; board = b; side = c; turn = turn; rest = None }

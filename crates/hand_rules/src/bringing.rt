@@ -9,7 +9,7 @@ ghost use Rattle.hive_model.specs.Pieces.{queen_of};
 ghost use Rattle.hive_model.specs.Placement.{IsLeastInHand};
 ghost use Rattle.hive_model.specs.Legal.{move_cmp};
 ghost use Rattle.hive_model.specs.Stack.{without_level};
-ghost use Rattle.hand_rules.specs.Bringing.{MayBring, IsPlacementMove, last_level, position_of};
+ghost use Rattle.hand_rules.specs.Bringing.{MayBring, CanBring, IsPlacementMove, last_level, position_of};
 
 use crate::hands::next_of;
 use crate::open_places::placement_places;
@@ -37,7 +37,13 @@ fn queen_of(colour: Colour) -> Piece
 
 /// Whether the side may bring this piece into play in its turn of this number. The piece is the side's and the next of its kind.
 /// On its first turn a side brings no queen; on its fourth or a later turn, while its queen is in hand, nothing else.
-pub fn may_bring<B: Board>(game_type: GameType, board: &B, colour: Colour, turn: u32, piece: Piece) -> bool
+pub fn may_bring<B: Board>(
+    game_type: GameType,
+    board: &B,
+    colour: Colour,
+    turn: u32,
+    piece: Piece,
+) -> bool
     ensures { IsTrue result ↔ MayBring game_type (B.stacks board.now) colour turn piece }
 {
     let is_queen = matches!(piece.kind(), Kind::Queen);
@@ -50,6 +56,18 @@ pub fn may_bring<B: Board>(game_type: GameType, board: &B, colour: Colour, turn:
     is_next(game_type, board, piece)
 }
 
+/// Whether the side may bring any piece into play in its turn of this number.
+fn can_bring<B: Board>(game_type: GameType, board: &B, colour: Colour, turn: u32) -> bool
+    ensures { IsTrue result ↔ CanBring game_type (B.stacks board.now) colour turn }
+{
+    for x in 0..28u8 {
+        if may_bring(game_type, board, colour, turn, Piece::at(x)) {
+            return true;
+        }
+    }
+    false
+}
+
 /// Puts the piece's move to each of the places at the end of the last level.
 fn push_each(piece: Piece, places: &[Place], out: &mut MoveStack)
     requires level { 1 ≤ length out.old.lists }
@@ -59,13 +77,22 @@ fn push_each(piece: Piece, places: &[Place], out: &mut MoveStack)
     ensures others { without_level out.new ≡ without_level out.old }
 {
     for place in places {
-        out.push(Move::To { piece, place: *place });
+        out.push(Move::To {
+            piece,
+            place: *place,
+        });
     }
 }
 
 /// Puts all placements of the side in its turn of this number on the last level: by piece, then by q and r of the place, each
 /// once. `colour` is the side to move, and `turn` counts from 1.
-pub fn placements<B: Board>(game_type: GameType, board: &B, colour: Colour, turn: u32, out: &mut MoveStack)
+pub fn placements<B: Board>(
+    game_type: GameType,
+    board: &B,
+    colour: Colour,
+    turn: u32,
+    out: &mut MoveStack,
+)
     requires level { 1 ≤ length out.old.lists }
     requires empty { last_level out.old ≡ [] }
     ensures listed { (m : Move) → IsOn (last_level out.new) m ↔ IsPlacementMove (position_of game_type (B.stacks board.now) colour turn) m }
@@ -73,6 +100,9 @@ pub fn placements<B: Board>(game_type: GameType, board: &B, colour: Colour, turn
     ensures levels { length out.new.lists ≡ length out.old.lists }
     ensures others { without_level out.new ≡ without_level out.old }
 {
+    if !can_bring(game_type, board, colour, turn) {
+        return;
+    }
     let mut places = PlaceList::new();
     placement_places(board, colour, &mut places);
     for x in 0..28u8 {

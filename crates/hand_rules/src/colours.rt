@@ -73,7 +73,7 @@ fn may_stand<B: Board>(board: &B, colour: Colour, place: Place) -> bool
     } else if has_colour(board, colour.other()) {
         is_beside(board, place)
     } else {
-        place.is(Place { q: 0, r: 0 })
+        place.is(ORIGIN)
     }
 }
 

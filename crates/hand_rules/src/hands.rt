@@ -59,7 +59,12 @@ fn count_of(kind: Kind) -> u8
 }
 
 /// The side's next piece of this kind: of those in hand the one with the least number. `None` where none of the kind is in hand.
-pub fn next_of<B: Board>(game_type: GameType, board: &B, colour: Colour, kind: Kind) -> Option<Piece>
+pub fn next_of<B: Board>(
+    game_type: GameType,
+    board: &B,
+    colour: Colour,
+    kind: Kind,
+) -> Option<Piece>
     ensures kind { IfSome result (λ x. kind_of x ≡ kind) }
     ensures colour { IfSome result (λ x. colour_of x ≡ colour) }
     ensures least { IfSome result (λ x. IsLeastInHand game_type (B.stacks board.now) x) }

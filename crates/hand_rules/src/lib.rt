@@ -10,3 +10,6 @@ pub use bringing::{may_bring, placements};
 pub use colours::may_place;
 pub use hands::{in_hand, next_of};
 pub use open_places::placement_places;
+
+#[cfg(test)]
+mod tests;
