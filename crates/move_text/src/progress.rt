@@ -117,27 +117,9 @@ impl Progress {
         ensures { result ≡ progress_with self.now byte }
     {
         match self {
-            Progress::AtP => {
-                if byte == b'a' {
-                    Some(Progress::AtPa)
-                } else {
-                    None
-                }
-            }
-            Progress::AtPa => {
-                if byte == b's' {
-                    Some(Progress::AtPas)
-                } else {
-                    None
-                }
-            }
-            Progress::AtPas => {
-                if byte == b's' {
-                    Some(Progress::AtPass)
-                } else {
-                    None
-                }
-            }
+            Progress::AtP => (byte == b'a').then_some(Progress::AtPa),
+            Progress::AtPa => (byte == b's').then_some(Progress::AtPas),
+            Progress::AtPas => (byte == b's').then_some(Progress::AtPass),
             Progress::First(naming) => match naming.with_byte(byte) {
                 Some(next) => Some(Progress::First(next)),
                 None => after_first(naming, byte),
@@ -198,20 +180,12 @@ fn after_first(naming: &Naming, byte: u8) -> Option<Progress>
     ensures { result ≡ after_first naming.now byte }
 {
     match *naming {
-        Naming::Empty => {
-            if byte == b'p' {
-                Some(Progress::AtP)
-            } else {
-                None
-            }
-        }
-        Naming::Named(piece) => {
-            if byte == b' ' {
-                Some(Progress::Second(piece, None, Naming::Empty))
-            } else {
-                None
-            }
-        }
+        Naming::Empty => (byte == b'p').then_some(Progress::AtP),
+        Naming::Named(piece) => (byte == b' ').then_some(Progress::Second(
+            piece,
+            None,
+            Naming::Empty,
+        )),
         _ => None,
     }
 }
