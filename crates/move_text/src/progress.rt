@@ -74,14 +74,8 @@ impl Naming {
         ensures { result ≡ naming_with self.now byte }
     {
         match *self {
-            Naming::Empty => match colour_at(byte) {
-                Some(colour) => Some(Naming::Side(colour)),
-                None => None,
-            },
-            Naming::Side(colour) => match kind_at(byte) {
-                Some(kind) => Some(with_kind(colour, kind)),
-                None => None,
-            },
+            Naming::Empty => colour_at(byte).map(|colour| Naming::Side(colour)),
+            Naming::Side(colour) => kind_at(byte).map(|kind| with_kind(colour, kind)),
             Naming::Kinded(colour, kind) => with_number(colour, kind, byte),
             Naming::Named(_) => None,
         }
@@ -105,10 +99,7 @@ fn with_number(colour: Colour, kind: Kind, byte: u8) -> Option<Naming>
     if byte <= b'0' {
         return None;
     }
-    match Piece::new(colour, kind, byte - b'0') {
-        Some(piece) => Some(Naming::Named(piece)),
-        None => None,
-    }
+    Piece::new(colour, kind, byte - b'0').map(|piece| Naming::Named(piece))
 }
 
 impl Progress {
@@ -198,14 +189,14 @@ fn after_second(piece: Piece, stroke: Option<Stroke>, naming: &Naming, byte: u8)
         return None;
     }
     match *naming {
-        Naming::Empty => match stroke_at(byte) {
-            Some(stroke) => Some(Progress::Second(piece, Some(stroke), Naming::Empty)),
-            None => None,
-        },
-        Naming::Named(reference) => match stroke_at(byte) {
-            Some(stroke) => Some(Progress::Marked(piece, reference, stroke)),
-            None => None,
-        },
+        Naming::Empty => stroke_at(byte).map(|stroke| Progress::Second(
+            piece,
+            Some(stroke),
+            Naming::Empty,
+        )),
+        Naming::Named(reference) => stroke_at(byte).map(|stroke| Progress::Marked(
+            piece, reference, stroke,
+        )),
         _ => None,
     }
 }
