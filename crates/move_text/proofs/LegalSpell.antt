@@ -34,13 +34,9 @@ use Rattle.hive_model.proofs.LegalLaws.{opposite, back}
 use Rattle.hive_model.proofs.PieceLaws.{on_pieces, pieces_on, same_colour, from_same_colour}
 use Rattle.move_text.specs.Moves.{IsMoveWithin}
 use Rattle.move_text.proofs.WithoutLaws.{not_there, stack_there}
-use Rattle.move_text.proofs.SpellLaws.{left_is_board, HasReference, Here, There, text_denotes, first_denotes, pass_denotes}
+use Rattle.move_text.proofs.SpellLaws.{left_is_board, Touched, text_denotes, first_denotes, pass_denotes}
 
 -- A step away from an occupied place
-
--- the place or one of its neighbours is occupied
-abbrev Touched : Stacks → Place → Type 0
-Touched c q = IsTrue (is_occupied c q) ⊎ ((d : Dir) × IsTrue (is_occupied c (step q d)))
 
 beside : (c : Stacks) (p q : Place) (d : Dir) → step p d ≡ q → IsTrue (is_occupied c p) → Touched c q
 beside c p q d leads h = inr (opposite d, subst (λ z. IsTrue (is_occupied c z)) (sym (ap (λ z. step z (opposite d)) (sym leads) ∙ back p d)) h)
@@ -105,10 +101,6 @@ lifted_is b x s e top =
     let last : suc s.level ≡ length (stack_at b s.place) = omega (arith, top) in
     ap (lift_from b) e ∙ ap (set_stack b s.place) (sym (remove_last (stack_at b s.place) s.level last)) ∙ sym (ap (without_at b) e)
 
-referred : (b : Stacks) (x : ℕ) (q : Place) → Touched (without b x) q → HasReference b x q
-referred b x q (inl h) = Here h
-referred b x q (inr h) = There h.0 h.1
-
 -- Walks and throws
 
 walk_touches : (p : Position) (x : ℕ) (q : Place) → Walk p x q → Touched (without p.board x) q
@@ -116,16 +108,16 @@ walk_touches p x q w =
     let lifted = moves_touch (kind_of x) (lift p.board x) w.from.place q w.moves in
     subst (λ c. Touched c q) (lifted_is p.board x w.from w.stands w.on_top) lifted
 
-off_q : (a x : ℤ) → x ≢ pos 0 → a +ℤ x ≡ a → ⊥
-off_q a x h e = h (omega (arith, ints))
+moves_off : (a x : ℤ) → x ≢ pos 0 → a +ℤ x ≡ a → ⊥
+moves_off a x h e = h (omega (arith, ints))
 
 apart : (a b : Place) (d : Dir) → step a d ≡ b → a ≡ b → ⊥
-apart a b E e f = off_q a.q (pos 1) (λ z. omega (arith, ints)) (ap (λ (z : Place). z.q) (e ∙ sym f))
-apart a b NE e f = off_q a.q (pos 1) (λ z. omega (arith, ints)) (ap (λ (z : Place). z.q) (e ∙ sym f))
-apart a b NW e f = off_q a.r (negsuc 0) (λ z. omega (arith, ints)) (ap (λ (z : Place). z.r) (e ∙ sym f))
-apart a b W e f = off_q a.q (negsuc 0) (λ z. omega (arith, ints)) (ap (λ (z : Place). z.q) (e ∙ sym f))
-apart a b SW e f = off_q a.q (negsuc 0) (λ z. omega (arith, ints)) (ap (λ (z : Place). z.q) (e ∙ sym f))
-apart a b SE e f = off_q a.r (pos 1) (λ z. omega (arith, ints)) (ap (λ (z : Place). z.r) (e ∙ sym f))
+apart a b E e f = moves_off a.q (pos 1) (λ z. omega (arith, ints)) (ap (λ (z : Place). z.q) (e ∙ sym f))
+apart a b NE e f = moves_off a.q (pos 1) (λ z. omega (arith, ints)) (ap (λ (z : Place). z.q) (e ∙ sym f))
+apart a b NW e f = moves_off a.r (negsuc 0) (λ z. omega (arith, ints)) (ap (λ (z : Place). z.r) (e ∙ sym f))
+apart a b W e f = moves_off a.q (negsuc 0) (λ z. omega (arith, ints)) (ap (λ (z : Place). z.q) (e ∙ sym f))
+apart a b SW e f = moves_off a.q (negsuc 0) (λ z. omega (arith, ints)) (ap (λ (z : Place). z.q) (e ∙ sym f))
+apart a b SE e f = moves_off a.r (pos 1) (λ z. omega (arith, ints)) (ap (λ (z : Place). z.r) (e ∙ sym f))
 
 throw_touches : (p : Position) (x : ℕ) (q : Place) → IsBoard p.board → Throw p x q → Touched (without p.board x) q
 throw_touches p x q is h =
@@ -157,9 +149,9 @@ no_colour : (b : Stacks) (c : Colour) → has_colour b c ≡ false → ¬ HasCol
 no_colour b c none h = let wrong : true ≡ false = sym (from_colour b c h) ∙ none in cc
 
 -- a board with no piece of either colour is empty
-bare : (b : Stacks) → IsBoard b → (c : Colour) → (¬ HasColour b c) → (¬ HasColour b (other_side c)) → b ≡ []
-bare [] is c e f = refl
-bare ((p, xs) ∷ es) is c e f =
+no_pieces : (b : Stacks) → IsBoard b → (c : Colour) → (¬ HasColour b c) → (¬ HasColour b (other_side c)) → b ≡ []
+no_pieces [] is c e f = refl
+no_pieces ((p, xs) ∷ es) is c e f =
     let z = place_standing ((p, xs) ∷ es) is.stacks p (inl refl) in
     let there : is_in_play ((p, xs) ∷ es) z.0 ≡ true = ap is_some (stands_spot_of ((p, xs) ∷ es) is z.0 p 0 z.1) in
     absurd (which (colour_of z.0) c z.0 refl (lt-ltb z.0 28 (is.pieces p 0 z.0 z.1)) there e f)
@@ -176,7 +168,7 @@ placed b is c q h = go (has_colour b c) (has_colour b (other_side c)) refl refl
     go : (s t : Bool) → has_colour b c ≡ s → has_colour b (other_side c) ≡ t → Touched b q ⊎ ((b ≡ []) × (q ≡ origin))
     go true t e f = let own = (h.on_own (colour_from b c e)).0 in inl (inr (own.dir, top_occupied b (step q own.dir) own.other own.stands))
     go false true e f = inl (inr (h.on_others (no_colour b c e) (colour_from b (other_side c) f)))
-    go false false e f = let mine = no_colour b c e in let theirs = no_colour b (other_side c) f in inr (bare b is c mine theirs, h.on_empty mine theirs)
+    go false false e f = let mine = no_colour b c e in let theirs = no_colour b (other_side c) f in inr (no_pieces b is c mine theirs, h.on_empty mine theirs)
 
 -- How a legal pair ends
 
@@ -216,7 +208,7 @@ pair_goes p x q sound (inr (queen, inr throw)) = moved_goes p x q throw.from sou
 
 goes_denotes : (p : Position) (x : ℕ) (q : Place) → IsBoard p.board → Goes p x q → Denotes p.game_type p.board (text p.board (To x q)) (To x q)
 goes_denotes p x q is g = elim (g.ends) [
-  | inl touched ↦ text_denotes p.game_type p.board is x q g.small g.of_type (referred p.board x q touched)
+  | inl touched ↦ text_denotes p.game_type p.board is x q g.small g.of_type touched
   | inr first ↦
       subst (λ b. Denotes p.game_type b (text b (To x q)) (To x q)) (sym first.0)
       (subst (λ z. Denotes p.game_type [] (text [] (To x z)) (To x z)) (sym first.1) (first_denotes p.game_type x g.small g.of_type))
