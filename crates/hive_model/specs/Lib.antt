@@ -18,3 +18,5 @@ pub mod Fields
 pub mod Strings
 pub mod Lines
 pub mod Stack
+pub mod Courses
+pub mod Laws
