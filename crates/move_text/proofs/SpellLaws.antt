@@ -54,7 +54,7 @@ leads q p (inr (inr (inr (inr (inr (inl e)))))) = ap (λ (s : Candidate). place_
 leads q p (inr (inr (inr (inr (inr (inr (inl e))))))) = ap (λ (s : Candidate). place_by s.place s.mark) (sym e) ∙ same_ints _ _ q.q q.r (omega (arith, ints)) (omega (arith, ints))
 leads q p (inr (inr (inr (inr (inr (inr (inr wrong))))))) = absurd wrong
 
-pub left_is_board : (b : Stacks) → IsBoard b → (x : ℕ) → IsBoard (without b x)
+left_is_board : (b : Stacks) → IsBoard b → (x : ℕ) → IsBoard (without b x)
 left_is_board b is x = elim (spot_of b x) as (λ o. spot_of b x ≡ o → IsBoard (without b x)) [
   | None ↦ λ e. subst IsBoard (sym (not_there b x e)) is
   | Some s ↦ λ e. without_is_board b is x s.place s.level (spot_of_stands b x s e)
