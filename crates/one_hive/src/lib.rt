@@ -1,0 +1,9 @@
+//! Whether a board is one hive, and which of its places hold it together.
+#![tactic(auto)]
+
+mod hives;
+mod met;
+mod steps;
+
+pub use hives::{is_one, walk_is_cut};
+pub use steps::Steps;
