@@ -18,3 +18,4 @@ pub mod Fields
 pub mod Strings
 pub mod Lines
 pub mod Stack
+pub mod Courses

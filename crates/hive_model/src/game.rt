@@ -1,0 +1,101 @@
+//! A game under way, however its board is kept.
+
+ghost use Rattle.std.specs.Prelude.{◌≡◌, ◌↔◌, ℕ, ◌+◌, ◌-◌, ◌^◌, ◌<◌, ◌≤◌, [], length, min, slice_get, Some, IfOk, OnOk, OnErr, IsTrue};
+ghost use Rattle.hive_model.specs.Lists.{IsOn};
+ghost use Rattle.hive_model.specs.Positions.{IsSound};
+ghost use Rattle.hive_model.specs.Legal.{moves};
+ghost use Rattle.hive_model.specs.Legal as rules;
+ghost use Rattle.hive_model.specs.Games.{IsGame};
+ghost use Rattle.hive_model.specs.Courses.{Course, position, with_move, without_last, is_listed};
+ghost use Rattle.hive_model.specs.Stack.{with_level};
+
+use crate::boards::Board;
+use crate::move_stack::MoveStack;
+use crate::pieces::{Colour, GameType};
+use crate::places::{Move, State};
+use std::alloc::{AllocError, Global};
+
+/// A game under way. Contracts see its course: its type, the legal moves made so far, and for how many more plies it has room.
+/// Its position is the replay of the moves, and as a `Board` it is the board of that position. Beside its course stands the
+/// count that `played` answers, which only `play` raises.
+pub trait Game: Board + Sized {
+    ghost course: { Self → Course };
+
+    /// How often `play` was called; it stands still at the greatest u64.
+    ghost played: { Self → ℕ };
+
+    /// A game of this type in which no ply was played.
+    fn opening(alloc: Global, game_type: GameType) -> Result<Self, AllocError>
+        ensures kind { IfOk result (λ g. (course g).game_type ≡ game_type) }
+        ensures empty { IfOk result (λ g. (course g).made ≡ []) }
+        ensures unplayed { IfOk result (λ g. played g ≡ 0) };
+
+    /// Makes room for at least this many more plies. Nothing else changes, and nothing at all after want of memory.
+    fn reserve(&mut self, plies: u32) -> Result<(), AllocError>
+        requires { length (course self.old).made + plies ≤ 5064 }
+        ensures room { OnOk result (plies ≤ (course self.new).spare) }
+        ensures same { course self.new ≡ record { game_type = (course self.old).game_type; made = (course self.old).made; spare = (course self.new).spare } }
+        ensures err { OnErr result (course self.new ≡ course self.old) }
+        ensures count { played self.new ≡ played self.old };
+
+    fn game_type(&self) -> GameType
+        ensures { result ≡ (course self.now).game_type };
+
+    /// The number of plies played, at most 5,064.
+    fn plies(&self) -> u32
+        ensures plies { result ≡ length (course self.now).made }
+        ensures few { result ≤ 5064 };
+
+    /// The move of a ply, counted from 0.
+    fn move_at(&self, i: u32) -> Move
+        requires { i < length (course self.now).made }
+        ensures { slice_get (course self.now).made i ≡ Some result };
+
+    /// Whether the game goes on, and how it ended. The moves are a game, and its position is sound.
+    fn state(&self) -> State
+        ensures state { result ≡ rules.state (position (course self.now)) }
+        ensures game { IsGame (course self.now).game_type (course self.now).made }
+        ensures sound { IsSound (position (course self.now)) };
+
+    /// The side to move.
+    fn side(&self) -> Colour
+        ensures { result ≡ (position (course self.now)).side };
+
+    /// The turn number, from 1 on; it rises after black.
+    fn turn(&self) -> u32
+        ensures { result ≡ (position (course self.now)).turn };
+
+    /// Begins a level and fills it with the legal moves, in order. The game is as before.
+    fn list(&mut self, out: &mut MoveStack)
+        requires { 1 ≤ out.old.free }
+        ensures listed { out.new ≡ with_level out.old (moves (position (course self.old))) }
+        ensures same { course self.new ≡ course self.old }
+        ensures count { played self.new ≡ played self.old };
+
+    /// Whether the move is legal. The game is as before.
+    fn is_legal(&mut self, m: Move) -> bool
+        ensures legal { IsTrue result ↔ IsOn (moves (position (course self.old))) m }
+        ensures test { result ≡ is_listed (position (course self.old)) m }
+        ensures same { course self.new ≡ course self.old }
+        ensures count { played self.new ≡ played self.old };
+
+    /// Makes a legal move.
+    fn play(&mut self, m: Move)
+        requires legal { IsOn (moves (position (course self.old))) m }
+        requires room { 1 ≤ (course self.old).spare }
+        ensures moved { course self.new ≡ with_move (course self.old) m }
+        ensures count { played self.new ≡ min (played self.old + 1) (2 ^ 64 - 1) };
+
+    /// Takes the last move back.
+    fn undo(&mut self)
+        requires { 1 ≤ length (course self.old).made }
+        ensures back { course self.new ≡ without_last (course self.old) }
+        ensures count { played self.new ≡ played self.old };
+
+    /// How often `play` was called.
+    fn played(&self) -> u64
+        ensures { result ≡ played self.now };
+
+    /// As a board a game is the board of its position.
+    ghost on_board: { (g : Self) → Self.Board.stacks g ≡ (position (course g)).board };
+}
