@@ -1,14 +1,16 @@
 //! One hive and separating places.
 
-ghost use Rattle.std.specs.Prelude.{◌≡◌, ◌↔◌, ◌+◌, IsTrue, MatchOption};
+ghost use Rattle.std.specs.Prelude.{◌≡◌, ◌↔◌, ◌+◌, [], None, Some, IsTrue, MatchOption};
 ghost use Rattle.hive_model.specs.declared.places.Place.{Place};
-ghost use Rattle.hive_model.specs.Boards.{Stacks, is_occupied};
+ghost use Rattle.hive_model.specs.Boards.{Stacks, IsBoard, is_occupied, spot_of};
 ghost use Rattle.hive_model.specs.Hive.{OneHive, OneHiveOn, IsSeparating};
-ghost use Rattle.one_hive.specs.Walks.{others};
+ghost use Rattle.hive_model.specs.Lists.{IsOn, Rises};
+ghost use Rattle.hive_model.specs.Places.{place_cmp};
+ghost use Rattle.one_hive.specs.Walks.{others, ground_of};
 
 use crate::met::{ground_place, has_met_all, walk_from};
 use crate::steps::Steps;
-use hive_model::{Board, Piece, Place};
+use hive_model::{Board, Piece, Place, PlaceList, add_place};
 use std::sync::ledger::Ledger;
 
 /// An occupied place other than the one that is left out, if there is one.
@@ -55,4 +57,36 @@ pub fn walk_is_cut<B: Board, L: Ledger>(board: &B, place: Place, steps: &mut Ste
 {
     steps.tick();
     !is_one_without(board, Some(place))
+}
+
+/// Adds the place on which the piece stands on the ground, if it is a separating place.
+fn add_separating<B: Board>(board: &B, piece: Piece, out: &mut PlaceList)
+    requires board { IsBoard (B.stacks board.now) }
+    requires order { Rises place_cmp out.old.items }
+    requires places { (p : Place) → IsOn out.old.items p → IsSeparating (B.stacks board.now) p }
+    ensures order { Rises place_cmp out.new.items }
+    ensures places { (p : Place) → IsOn out.new.items p → IsSeparating (B.stacks board.now) p }
+    ensures kept { (p : Place) → IsOn out.old.items p → IsOn out.new.items p }
+    ensures new { (p : Place) → ground_of None (spot_of (B.stacks board.now) piece) ≡ Some p → IsSeparating (B.stacks board.now) p → IsOn out.new.items p }
+{
+    let Some(place) = ground_place(board, None, piece) else {
+        return;
+    };
+    if is_one_without(board, Some(place)) {
+        return;
+    }
+    add_place(out, place);
+}
+
+/// Every separating place of the board, in order, each once: the occupied places without whose pieces the board is not one
+/// hive. For each occupied place one walk goes once over each other place.
+pub fn separating_places<B: Board>(board: &B, out: &mut PlaceList)
+    requires { out.old.items ≡ [] }
+    ensures places { (p : Place) → IsOn out.new.items p ↔ IsSeparating (B.stacks board.now) p }
+    ensures order { Rises place_cmp out.new.items }
+{
+    let _spot = board.spot(Piece::at(0));
+    for x in 0..28u8 {
+        add_separating(board, Piece::at(x), out);
+    }
 }

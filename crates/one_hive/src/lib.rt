@@ -5,5 +5,5 @@ mod hives;
 mod met;
 mod steps;
 
-pub use hives::{is_one, walk_is_cut};
+pub use hives::{is_one, separating_places, walk_is_cut};
 pub use steps::Steps;
