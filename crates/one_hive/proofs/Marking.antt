@@ -1,18 +1,17 @@
 -- Marks by the top piece: what they say of a list of places, and that there is room for one more where a mark is free.
-use Rattle.std.proofs.Common.{◌≡◌, ◌≢◌, ℕ, suc, zero, ◌+◌, ◌-◌, ◌≤◌, ◌<◌, Bool, true, false, not, ◌&&◌, List, [], ◌∷◌, ◌++◌, length, ◌⊎◌, inl, inr, refl, sym, ◌∙◌, ap, subst, arith, slice_set, if◌then◌else◌}
+use Rattle.std.proofs.Common.{◌≡◌, ◌≢◌, ℕ, suc, zero, ◌+◌, ◌-◌, ◌≤◌, ◌<◌, Bool, true, false, not, ◌&&◌, List, [], ◌∷◌, ◌++◌, length, inl, inr, refl, sym, ◌∙◌, ap, subst, arith, slice_set, if◌then◌else◌}
 use Rattle.std.specs.Prelude.{Option, Some, None, slice_get, IsTrue, nat_eq, nat_lt}
 use Rattle.std.specs.List.{list_all}
-use Rattle.std.proofs.lemmas.Bool.{lt-ltb, ltb-true, eqb-true, eq-eqb, and_parts, and_from, not-true, cases_eq}
+use Rattle.std.proofs.lemmas.Bool.{lt-ltb, ltb-true, eqb-true, and_parts, and_from, not-true, cases_eq}
 use Rattle.hive_model.specs.declared.places.Place.{Place}
 use Rattle.hive_model.specs.declared.places.Spot.{Spot}
 use Rattle.hive_model.specs.Lists.{IsOn}
-use Rattle.hive_model.specs.Places.{is_place}
 use Rattle.hive_model.specs.Boards.{Stacks, stack_at, height_at, is_occupied, top_at, top_of, spot_of, StandsAt, IsBoard}
 use Rattle.hive_model.proofs.Floods.{on_append, append_left, append_right}
 use Rattle.hive_model.proofs.GetLemmas.{get_within, get_exists, get-set_same, get-set_other}
 use Rattle.hive_model.proofs.BoardLemmas.{spot_of_stands, stands_spot_of}
 use Rattle.hive_model.proofs.NearLaws.{occupied_on, place_standing}
-use Rattle.one_hive.specs.Walks.{is_left_out, others, ground_of, marks_set, AreMarked, Meets}
+use Rattle.one_hive.specs.Walks.{is_left_out, others, ground_of, marks_set, AreMarked}
 
 -- Counting marks
 

@@ -1,6 +1,6 @@
 -- Walks over a set of places, and what a walk over a board meets.
-use Rattle.std.proofs.Common.{◌≡◌, ◌≢◌, ℕ, suc, zero, ◌+◌, ◌-◌, ◌≤◌, ◌<◌, Bool, true, false, not, ◌&&◌, List, [], ◌∷◌, ◌++◌, length, take, ◌⊎◌, inl, inr, refl, sym, ◌∙◌, ap, subst, arith, get_or, append_assoc, length-append}
-use Rattle.std.specs.Prelude.{Option, Some, None, slice_get, IsTrue}
+use Rattle.std.proofs.Common.{◌≡◌, ℕ, suc, zero, ◌+◌, ◌≤◌, ◌<◌, Bool, List, [], ◌∷◌, ◌++◌, length, take, ◌⊎◌, inl, inr, refl, sym, ◌∙◌, ap, subst, arith, get_or, append_assoc, length-append}
+use Rattle.std.specs.Prelude.{IsTrue}
 use Rattle.std.proofs.lemmas.List.{take-append-le}
 use Rattle.hive_model.specs.declared.places.Place.{Place}
 use Rattle.hive_model.specs.declared.places.Dir.{Dir}
@@ -88,28 +88,28 @@ module _ (o : Place → Bool) (from : Place) (old now new : List Place) where
   pub spread_more : (all : List Dir) (i : ℕ) (dir e : Dir) → i < length all → dir ≡ get_or all i e → Spreads o from (take i all) old now → Meets o (step from dir) now new → Spreads o from (take (i + 1) all) old new
   spread_more all i dir e low is s m = elim m [
     | inl (same, known) ↦ record {
-        added = s.added;
-        extends = same ∙ s.extends;
-        came = s.came;
-        has = λ d on there. subst (λ zs. IsOn zs (step from d)) (sym same) (elim (on_take_next all i e d low on) [
-          | inl before ↦ s.has d before there
-          | inr this ↦ let here : dir ≡ d = is ∙ sym this in
-              subst (λ f. IsOn now (step from f)) here (known (subst (λ f. IsTrue (o (step from f))) (sym here) there))
-        ]);
-      }
+      added = s.added;
+      extends = same ∙ s.extends;
+      came = s.came;
+      has = λ d on there. subst (λ zs. IsOn zs (step from d)) (sym same) (elim (on_take_next all i e d low on) [
+        | inl before ↦ s.has d before there
+        | inr this ↦ let here : dir ≡ d = is ∙ sym this in
+            subst (λ f. IsOn now (step from f)) here (known (subst (λ f. IsTrue (o (step from f))) (sym here) there))
+      ]);
+    }
     | inr (longer, there) ↦ record {
-        added = s.added ++ step from dir ∷ [];
-        extends = longer ∙ ap (λ zs. zs ++ step from dir ∷ []) s.extends ∙ append_assoc old s.added (step from dir ∷ []);
-        came = λ p on. elim (on_append s.added (step from dir ∷ []) p on) [
-          | inl before ↦ s.came p before
-          | inr last ↦ elim last [ inl same ↦ ((dir, same), subst (λ z. IsTrue (o z)) same there) | inr none ↦ absurd none ]
-        ];
-        has = λ d on here. elim (on_take_next all i e d low on) [
-          | inl before ↦ on_old (step from dir ∷ []) longer (step from d) (s.has d before here)
-          | inr this ↦ let same : dir ≡ d = is ∙ sym this in
-              subst (λ zs. IsOn zs (step from d)) (sym longer) (append_right now (step from dir ∷ []) (step from d) (inl (ap (step from) same)))
-        ];
-      }
+      added = s.added ++ step from dir ∷ [];
+      extends = longer ∙ ap (λ zs. zs ++ step from dir ∷ []) s.extends ∙ append_assoc old s.added (step from dir ∷ []);
+      came = λ p on. elim (on_append s.added (step from dir ∷ []) p on) [
+        | inl before ↦ s.came p before
+        | inr last ↦ elim last [ inl same ↦ ((dir, same), subst (λ z. IsTrue (o z)) same there) | inr none ↦ absurd none ]
+      ];
+      has = λ d on here. elim (on_take_next all i e d low on) [
+        | inl before ↦ on_old (step from dir ∷ []) longer (step from d) (s.has d before here)
+        | inr this ↦ let same : dir ≡ d = is ∙ sym this in
+            subst (λ zs. IsOn zs (step from d)) (sym longer) (append_right now (step from dir ∷ []) (step from d) (inl (ap (step from) same)))
+      ];
+    }
   ]
 
 -- One place after another

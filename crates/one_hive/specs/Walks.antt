@@ -4,7 +4,7 @@ use Rattle.hive_model.specs.declared.places.Place.{Place}
 use Rattle.hive_model.specs.declared.places.Spot.{Spot}
 use Rattle.hive_model.specs.declared.places.Dir.{Dir}
 use Rattle.hive_model.specs.Lists.{IsOn, IsPath}
-use Rattle.hive_model.specs.Places.{is_place, step, AreNeighbours}
+use Rattle.hive_model.specs.Places.{is_place, step}
 use Rattle.hive_model.specs.Boards.{Stacks, top_at, is_occupied}
 use Rattle.hive_model.specs.Hive.{StepOn}
 

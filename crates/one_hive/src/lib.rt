@@ -7,3 +7,6 @@ mod steps;
 
 pub use hives::{is_one, separating_places, walk_is_cut};
 pub use steps::Steps;
+
+#[cfg(test)]
+mod tests;

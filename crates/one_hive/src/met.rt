@@ -27,7 +27,11 @@ fn is_left_out(left_out: Option<Place>, place: Place) -> bool
 }
 
 /// The place on which the piece stands on the ground, but for the one that is left out.
-pub(crate) fn ground_place<B: Board>(board: &B, left_out: Option<Place>, piece: Piece) -> Option<Place>
+pub(crate) fn ground_place<B: Board>(
+    board: &B,
+    left_out: Option<Place>,
+    piece: Piece,
+) -> Option<Place>
     ensures { result ≡ ground_of left_out (spot_of (B.stacks board.now) piece) }
 {
     match board.spot(piece) {

@@ -1,9 +1,7 @@
-use Rattle.std.proofs.Common.{◌≡◌, ◌∙◌, sym, ap, subst, Some, None, inl, inr, false, true}
-use Rattle.std.specs.Prelude.{IsTrue}
-use Rattle.hive_model.specs.declared.places.Place.{Place}
+use Rattle.std.proofs.Common.{◌≡◌, ◌∙◌, sym, subst, Some, None, inl, inr, false, true}
 use Rattle.hive_model.specs.Lists.{IsOn, Rises}
 use Rattle.hive_model.specs.Places.{place_cmp}
-use Rattle.hive_model.specs.Boards.{spot_of, is_occupied}
+use Rattle.hive_model.specs.Boards.{is_occupied}
 use Rattle.hive_model.specs.Hive.{IsSeparating, OneHiveOn, except}
 use Rattle.hive_model.proofs.NearLaws.{rises_with, on_with_place}
 use Rattle.one_hive.proofs.Marking.{ground_other}

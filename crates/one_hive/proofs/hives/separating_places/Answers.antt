@@ -9,5 +9,5 @@ returns-clause-places g c = λ p. (
       let r = other_ground (g.B.Board.stacks c.args.board.now) c.spot-spot.ensures.board None p cuts.0 in
       let small = r.1 in
       let low : r.0 < c.loop-x.x = omega (arith, small, c.loop-x-test.false) in
-      c.loop-x.invariant.all r.0 low p r.2 cuts
+      c.loop-x.invariant.all r.0 low p r.2 cuts,
 )

@@ -1,8 +1,6 @@
-use Rattle.std.proofs.Common.{◌≡◌, ◌+◌, ◌≤◌, ◌<◌, ◌∙◌, ◌++◌, ◌∷◌, sym, ap, subst, arith, refl, length, inl, inr, not, get_or}
+use Rattle.std.proofs.Common.{◌≡◌, ◌≤◌, ◌<◌, sym, ap, subst, arith, refl, length, not, get_or}
 use Rattle.std.specs.Prelude.{IsTrue}
 use Rattle.std.proofs.lemmas.Bool.{and_parts}
-use Rattle.hive_model.specs.declared.places.Place.{Place}
-use Rattle.hive_model.specs.Lists.{IsOn}
 use Rattle.hive_model.specs.Places.{IsWithin, origin}
 use Rattle.hive_model.specs.Boards.{is_occupied}
 use Rattle.hive_model.proofs.PlaceLemmas.{wider_on_board}
