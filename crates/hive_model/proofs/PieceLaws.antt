@@ -62,6 +62,10 @@ on_count : (n first x : ℕ) → IsOn (count_from first n) x → x < first + n
 on_count zero first x on = absurd on
 on_count (suc n) first x on = elim on [ inl same ↦ omega (arith, same) | inr later ↦ let r = on_count n (first + 1) x later in omega (arith, r) ]
 
+pub count_low : (n first x : ℕ) → IsOn (count_from first n) x → first ≤ x
+count_low zero first x on = absurd on
+count_low (suc n) first x on = elim on [ inl same ↦ omega (arith, same) | inr later ↦ let r = count_low n (first + 1) x later in omega (arith, r) ]
+
 pub on_pieces : (x : ℕ) → x < 28 → IsOn all_pieces x
 on_pieces x h = let low : 0 ≤ x = omega arith in let high : x < 0 + 28 = omega (arith, h) in count_on 28 0 x low high
 

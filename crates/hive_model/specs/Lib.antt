@@ -19,3 +19,4 @@ pub mod Strings
 pub mod Lines
 pub mod Stack
 pub mod Courses
+pub mod Laws

@@ -1,0 +1,97 @@
+//! Laws of the definitions, as contracts of functions that do nothing.
+//!
+//! Each rule is defined twice: as a relation in the rule's own words, and as a test that computes and that makes the list of
+//! legal moves. A law says that the two agree, so that a contract which cites a test says the rule.
+
+ghost use Rattle.hive_model.specs.Laws.{NeighboursAreTested, OneHiveIsTested, SeparatingIsTested, CutIsTested, GroundStepIsTested, ClimbingStepIsTested, FreeStepIsTested, ReachIsTested, CopiesAreTested, MovesAsIsTested};
+ghost use Rattle.hive_model.specs.Laws.{InHandIsTested, LeastInHandIsTested, NextIsLeast, MayPlaceIsTested, PlacementIsTested, ThrowerIsTested, ThrowOverIsTested, ThrowIsTested, WalkIsTested, SurroundedIsTested, OverIsTested};
+ghost use Rattle.hive_model.specs.Laws.{LegalPairIsTested, LegalPairIsNear, MovesAreLegal, MovesRise, PassIsAlone, OverHasNoMoves, MovesHavePieces, PutKeepsBoards, LiftKeepsBoards, FloodsFindWays, PlacesAreSettled, MovesAreSettled};
+
+/// The tests of neighbours, of one hive, and of the places that hold it together: a separating place, without whose pieces the
+/// board is not one hive, and a cut place, which is one of height 1.
+pub fn hives_are_tested()
+    ensures neighbours { NeighboursAreTested }
+    ensures one_hive { OneHiveIsTested }
+    ensures separating { SeparatingIsTested }
+    ensures cut { CutIsTested }
+{}
+
+/// The tests of a step to a neighbour: a ground step between empty places, a climbing step, and a step that no gate of two
+/// higher neighbours blocks.
+pub fn steps_are_tested()
+    ensures on_ground { GroundStepIsTested }
+    ensures climbing { ClimbingStepIsTested }
+    ensures free { FreeStepIsTested }
+{}
+
+/// The test of where a bug of each kind moves to.
+pub fn reach_is_tested()
+    ensures { ReachIsTested }
+{}
+
+/// The tests of what a mosquito copies, and of where a bug of any kind moves to.
+pub fn copies_are_tested()
+    ensures copies { CopiesAreTested }
+    ensures moves { MovesAsIsTested }
+{}
+
+/// The tests of placements: which pieces are in hand, which is next of its kind, where a side may place, and which piece may
+/// be placed where.
+pub fn placements_are_tested()
+    ensures in_hand { InHandIsTested }
+    ensures least { LeastInHandIsTested }
+    ensures next { NextIsLeast }
+    ensures place { MayPlaceIsTested }
+    ensures placement { PlacementIsTested }
+{}
+
+/// The tests of throws: who is a thrower, what it throws where, and whether the side to move throws a piece to a place.
+pub fn throws_are_tested()
+    ensures thrower { ThrowerIsTested }
+    ensures over { ThrowOverIsTested }
+    ensures throw { ThrowIsTested }
+{}
+
+/// The test of a move of an own piece by its kind's rule.
+pub fn walks_are_tested()
+    ensures { WalkIsTested }
+{}
+
+/// The tests of the end of a game: a surrounded queen.
+pub fn ends_are_tested()
+    ensures surrounded { SurroundedIsTested }
+    ensures over { OverIsTested }
+{}
+
+/// The test of a legal pair of a piece and a place, and where such a pair ends: on a near place.
+pub fn legal_pairs_are_near()
+    ensures tested { LegalPairIsTested }
+    ensures near { LegalPairIsNear }
+{}
+
+/// The list of legal moves has the legal moves and no other, in order and each once. It is the pass alone where no piece can
+/// move, and empty where the game is over.
+pub fn moves_are_legal()
+    ensures legal { MovesAreLegal }
+    ensures order { MovesRise }
+    ensures pass { PassIsAlone }
+    ensures over { OverHasNoMoves }
+    ensures pieces { MovesHavePieces }
+{}
+
+/// A piece that is put or lifted leaves a board: each piece stands once, and no stack is empty.
+pub fn boards_are_kept()
+    ensures put { PutKeepsBoards }
+    ensures lift { LiftKeepsBoards }
+{}
+
+/// The bounded search over a list of places finds a place exactly where a way over the list leads to it.
+pub fn floods_find_ways()
+    ensures { FloodsFindWays }
+{}
+
+/// Two lists of places or of moves, in strict order and with the same members, are equal.
+pub fn members_settle_lists()
+    ensures places { PlacesAreSettled }
+    ensures moves { MovesAreSettled }
+{}

@@ -1,0 +1,230 @@
+-- What an answer does to the lines to come.
+use Rattle.std.proofs.Common.{◌≡◌, ◌≢◌, ◌<◌, ◌≤◌, ℕ, ◌+◌, Bool, true, false, List, [], ◌∷◌, ◌++◌, length, refl, ap, sym, ◌∙◌, arith, append_assoc, None, Some, if◌then◌else◌, ◌↔◌, inl, inr}
+use Rattle.std.specs.Bool.{MatchBool}
+use Rattle.std.specs.Option.{option_map}
+use Rattle.std.proofs.lemmas.List.{append-nil}
+use Rattle.std.proofs.lemmas.Bool.{cases_lt}
+use Rattle.io_edge.specs.Outside.{Told, in_front, IsAtEnd}
+use Rattle.hive_model.specs.Lines.{Line as OneLine, Text, TooLong as LongLine, line_parts, lines, whole_parts, whole_lines}
+use Rattle.line_feed.specs.Feed.{Reading, fresh, pending, SplitsOff, IsLastLine, Gives, Holds, Ends, Feeds, Takes, lf_after, input_limit}
+use Rattle.line_feed.specs.Ahead.{ToldLines, ahead_of, whole_ahead_of, lines_left, whole_left, NoneAhead, LongAhead, Advances}
+use Rattle.line_feed.specs.declared.answers.LineAnswer.{LineAnswer}
+use Rattle.line_feed.specs.declared.answers.LineAnswer.TheVariants.{Line, TooLong, End, Failed, Full}
+use Rattle.line_feed.proofs.PartLemmas.{text_fits, long_passes, lines_long}
+
+pub lines-nil : lines [] ≡ []
+unfolding lines line_parts
+lines-nil = refl
+
+pub whole_lines-nil : whole_lines [] ≡ []
+unfolding whole_lines whole_parts
+whole_lines-nil = refl
+
+-- at the start all lines of the stream are to come
+pub ahead_begin : (r : Reading) (t : Told) → r ≡ fresh → ahead_of r t ≡ option_map lines t
+unfolding ahead_of
+ahead_begin r None e = refl
+ahead_begin r (Some bytes) e = rw e refl
+
+pub whole_ahead_begin : (r : Reading) (t : Told) → r ≡ fresh → whole_ahead_of r t ≡ option_map whole_lines t
+unfolding whole_ahead_of
+whole_ahead_begin r None e = refl
+whole_ahead_begin r (Some bytes) e = rw e refl
+
+-- the lines to come of a reader whose source tells its bytes
+pub ahead_told : (r : Reading) (bytes : List ℕ) → ahead_of r (Some bytes) ≡ Some (lines_left r bytes)
+unfolding ahead_of
+ahead_told r bytes = refl
+
+pub whole_ahead_told : (r : Reading) (bytes : List ℕ) → whole_ahead_of r (Some bytes) ≡ Some (whole_left r bytes)
+unfolding whole_ahead_of
+whole_ahead_told r bytes = refl
+
+ahead_untold : (r : Reading) → ahead_of r None ≡ None
+unfolding ahead_of
+ahead_untold r = refl
+
+whole_ahead_untold : (r : Reading) → whole_ahead_of r None ≡ None
+unfolding whole_ahead_of
+whole_ahead_untold r = refl
+
+-- the lines of a reader that goes on, and of one that has finished
+left_open : (b : Bool) (xs : List OneLine) → b ≡ false → (if b then [] else xs) ≡ xs
+left_open false xs e = refl
+left_open true xs e = absurd (cc)
+
+left_over : (b : Bool) (xs : List OneLine) → b ≡ true → (if b then [] else xs) ≡ []
+left_over true xs e = refl
+left_over false xs e = absurd (cc)
+
+-- a line is given
+line_left : (finished : Bool) (po pn bytes left : List ℕ) (m : OneLine) → MatchBool finished (IsLastLine po bytes m pn × IsAtEnd (Some left)) (SplitsOff po bytes (m ∷ []) pn)
+    → lines (po ++ (bytes ++ left)) ≡ m ∷ (if finished then [] else lines (pn ++ left))
+line_left true po pn bytes left m (last, at_end) = rw (at_end, append-nil bytes) last.line
+line_left false po pn bytes left m s = ap lines (sym (append_assoc po bytes left)) ∙ s.all left
+
+gives_told : (old new : Reading) (bytes left : List ℕ) (m : OneLine) → Gives old bytes m new (Some left) → lines_left old (bytes ++ left) ≡ m ∷ lines_left new left
+gives_told old new bytes left m g = left_open old.finished (lines (pending old ++ (bytes ++ left))) g.went_on ∙ line_left new.finished (pending old) (pending new) bytes left m g.line
+
+gives_ahead : (old new : Reading) (bytes : List ℕ) (m : OneLine) (r0 r1 : Told) → r0 ≡ in_front bytes r1 → Gives old bytes m new r1 → ahead_of old r0 ≡ option_map (λ ms. m ∷ ms) (ahead_of new r1)
+gives_ahead old new bytes m r0 None e g = ap (ahead_of old) e ∙ rw (ahead_untold old, ahead_untold new) refl
+gives_ahead old new bytes m r0 (Some left) e g = ap (ahead_of old) e ∙ rw (ahead_told old (bytes ++ left), ahead_told new left) (ap Some (gives_told old new bytes left m g))
+
+-- nothing was given
+holds_told : (old new : Reading) (bytes left : List ℕ) → Holds old bytes new → lines_left old (bytes ++ left) ≡ lines_left new left
+holds_told old new bytes left h =
+    left_open old.finished (lines (pending old ++ (bytes ++ left))) h.went_on
+    ∙ (ap lines (sym (append_assoc (pending old) bytes left)) ∙ (h.split.all left ∙ sym (left_open new.finished (lines (pending new ++ left)) h.goes_on)))
+
+holds_ahead : (old new : Reading) (r0 r1 : Told) (bytes : List ℕ) → r0 ≡ in_front bytes r1 → Holds old bytes new → ahead_of new r1 ≡ ahead_of old r0
+holds_ahead old new r0 None bytes e h = sym (ap (ahead_of old) e ∙ rw (ahead_untold old, ahead_untold new) refl)
+holds_ahead old new r0 (Some left) bytes e h = sym (ap (ahead_of old) e ∙ rw (ahead_told old (bytes ++ left), ahead_told new left) (ap Some (holds_told old new bytes left h)))
+
+-- the source has ended
+append-nils : (xs ys : List ℕ) → xs ++ ys ≡ [] → (xs ≡ []) × (ys ≡ [])
+append-nils [] ys e = (refl, e)
+append-nils (x ∷ xs) ys e = cc
+
+none_when : (b : Bool) (xs : List OneLine) → (b ≡ false → xs ≡ []) → (if b then [] else xs) ≡ []
+none_when true xs f = refl
+none_when false xs f = f refl
+
+ends_told : (old : Reading) (bytes left : List ℕ) → pending old ++ bytes ≡ [] → (old.finished ≡ false → left ≡ []) → lines_left old (bytes ++ left) ≡ []
+ends_told old bytes left e f = none_when old.finished (lines (pending old ++ (bytes ++ left))) (λ b. let n = append-nils (pending old) bytes e in rw (f b, n.0, n.1) lines-nil)
+
+whole_ends_told : (old : Reading) (bytes left : List ℕ) → pending old ++ bytes ≡ [] → (old.finished ≡ false → left ≡ []) → whole_left old (bytes ++ left) ≡ []
+whole_ends_told old bytes left e f = none_when old.finished (whole_lines (pending old ++ (bytes ++ left))) (λ b. let n = append-nils (pending old) bytes e in rw (f b, n.0, n.1) whole_lines-nil)
+
+ends_ahead : (old new : Reading) (bytes : List ℕ) (r0 r1 : Told) → r0 ≡ in_front bytes r1 → Ends old bytes new r1 → NoneAhead (ahead_of old r0)
+ends_ahead old new bytes r0 None e g = rw (e, ahead_untold old) tt
+ends_ahead old new bytes r0 (Some left) e g = rw (e, ahead_told old (bytes ++ left)) (ends_told old bytes left g.nothing g.at_end)
+
+whole_ends_ahead : (old new : Reading) (bytes : List ℕ) (r0 r1 : Told) → r0 ≡ in_front bytes r1 → Ends old bytes new r1 → NoneAhead (whole_ahead_of old r0)
+whole_ends_ahead old new bytes r0 None e g = rw (e, whole_ahead_untold old) tt
+whole_ends_ahead old new bytes r0 (Some left) e g = rw (e, whole_ahead_told old (bytes ++ left)) (whole_ends_told old bytes left g.nothing g.at_end)
+
+-- a reader that has finished has no line to come
+pub none_after_end : (r : Reading) (t : Told) → r.finished ≡ true → NoneAhead (ahead_of r t)
+none_after_end r None e = rw (ahead_untold r) tt
+none_after_end r (Some bytes) e = rw (ahead_told r bytes) (left_over r.finished (lines (pending r ++ bytes)) e)
+
+pub no_whole_after_end : (r : Reading) (t : Told) → r.finished ≡ true → NoneAhead (whole_ahead_of r t)
+no_whole_after_end r None e = rw (whole_ahead_untold r) tt
+no_whole_after_end r (Some bytes) e = rw (whole_ahead_told r bytes) (left_over r.finished (whole_lines (pending r ++ bytes)) e)
+
+-- what an answer does to the lines to come follows from the bytes that were read
+pub advances : (a : LineAnswer) (old new : Reading) (r0 r1 : Told) → (bytes : List ℕ) × Takes r0 r1 old.taken new.taken bytes × Feeds a old bytes new r1 → Advances a new.last (ahead_of old r0) (ahead_of new r1)
+advances Line old new r0 r1 (bytes, t, g) = gives_ahead old new bytes (Text new.last) r0 r1 t.left g
+advances TooLong old new r0 r1 (bytes, t, g) = gives_ahead old new bytes LongLine r0 r1 t.left g
+advances End old new r0 r1 (bytes, t, g) = (ends_ahead old new bytes r0 r1 t.left g, none_after_end new r1 g.finished)
+advances Failed old new r0 r1 (bytes, t, (h, below)) = holds_ahead old new r0 r1 bytes t.left h
+advances Full old new r0 r1 (bytes, t, (h, full)) = holds_ahead old new r0 r1 bytes t.left h
+
+match_true : (b : Bool) {P : Type 0} (Q : Type 0) → b ≡ true → P → MatchBool b P Q
+match_true true Q e p = p
+match_true false Q e p = absurd (cc)
+
+match_false : (b : Bool) (P : Type 0) {Q : Type 0} → b ≡ false → Q → MatchBool b P Q
+match_false true P e q = absurd (cc)
+match_false false P e q = q
+
+match_both : (b : Bool) {P Q : Type 0} → P → Q → MatchBool b P Q
+match_both true p q = p
+match_both false p q = q
+
+whole_line_left : (finished : Bool) (po pn bytes left : List ℕ) (m : OneLine) → MatchBool finished (IsLastLine po bytes m pn × IsAtEnd (Some left)) (SplitsOff po bytes (m ∷ []) pn)
+    → MatchBool finished (whole_lines (po ++ (bytes ++ left)) ≡ []) (whole_lines (po ++ (bytes ++ left)) ≡ m ∷ whole_lines (pn ++ left))
+whole_line_left true po pn bytes left m (last, at_end) = rw (at_end, append-nil bytes) last.no_whole
+whole_line_left false po pn bytes left m s = ap whole_lines (sym (append_assoc po bytes left)) ∙ s.whole left
+
+whole_given : (b : Bool) (old new : ToldLines) (w ws : List OneLine) (m : OneLine) → old ≡ Some w → new ≡ Some (if b then [] else ws) → MatchBool b (w ≡ []) (w ≡ m ∷ ws) → MatchBool b (NoneAhead old) (old ≡ option_map (λ ms. m ∷ ms) new)
+whole_given true old new w ws m e f h = rw e h
+whole_given false old new w ws m e f h = rw (e, f) (ap Some h)
+
+whole_gives_ahead : (old new : Reading) (bytes : List ℕ) (m : OneLine) (r0 r1 : Told) → r0 ≡ in_front bytes r1 → Gives old bytes m new r1
+    → MatchBool new.finished (NoneAhead (whole_ahead_of old r0)) (whole_ahead_of old r0 ≡ option_map (λ ms. m ∷ ms) (whole_ahead_of new r1))
+whole_gives_ahead old new bytes m r0 None e g =
+    let none : whole_ahead_of old r0 ≡ None = ap (whole_ahead_of old) e ∙ whole_ahead_untold old in
+    match_both new.finished (rw none tt) (rw (none, whole_ahead_untold new) refl)
+whole_gives_ahead old new bytes m r0 (Some left) e g =
+    whole_given
+    new.finished
+    (whole_ahead_of old r0)
+    (whole_ahead_of new (Some left))
+    (whole_lines (pending old ++ (bytes ++ left)))
+    (whole_lines (pending new ++ left))
+    m
+    (ap (whole_ahead_of old) e ∙ (whole_ahead_told old (bytes ++ left) ∙ ap Some (left_open old.finished (whole_lines (pending old ++ (bytes ++ left))) g.went_on)))
+    (whole_ahead_told new left)
+    (whole_line_left new.finished (pending old) (pending new) bytes left m g.line)
+
+whole_holds_told : (old new : Reading) (bytes left : List ℕ) → Holds old bytes new → whole_left old (bytes ++ left) ≡ whole_left new left
+whole_holds_told old new bytes left h =
+    left_open old.finished (whole_lines (pending old ++ (bytes ++ left))) h.went_on
+    ∙ (ap whole_lines (sym (append_assoc (pending old) bytes left)) ∙ (h.split.whole left ∙ sym (left_open new.finished (whole_lines (pending new ++ left)) h.goes_on)))
+
+whole_holds_ahead : (old new : Reading) (r0 r1 : Told) (bytes : List ℕ) → r0 ≡ in_front bytes r1 → Holds old bytes new → whole_ahead_of new r1 ≡ whole_ahead_of old r0
+whole_holds_ahead old new r0 None bytes e h = sym (ap (whole_ahead_of old) e ∙ rw (whole_ahead_untold old, whole_ahead_untold new) refl)
+whole_holds_ahead old new r0 (Some left) bytes e h = sym (ap (whole_ahead_of old) e ∙ rw (whole_ahead_told old (bytes ++ left), whole_ahead_told new left) (ap Some (whole_holds_told old new bytes left h)))
+
+-- the same for whole lines: once the source has ended there was none
+pub whole_advances : (a : LineAnswer) (old new : Reading) (r0 r1 : Told) → (bytes : List ℕ) × Takes r0 r1 old.taken new.taken bytes × Feeds a old bytes new r1
+    → MatchBool new.finished (NoneAhead (whole_ahead_of old r0)) (Advances a new.last (whole_ahead_of old r0) (whole_ahead_of new r1))
+whole_advances Line old new r0 r1 (bytes, t, g) = whole_gives_ahead old new bytes (Text new.last) r0 r1 t.left g
+whole_advances TooLong old new r0 r1 (bytes, t, g) = whole_gives_ahead old new bytes LongLine r0 r1 t.left g
+whole_advances End old new r0 r1 (bytes, t, g) = match_true new.finished _ g.finished (whole_ends_ahead old new bytes r0 r1 t.left g)
+whole_advances Failed old new r0 r1 (bytes, t, (h, below)) = match_false new.finished _ h.goes_on (whole_holds_ahead old new r0 r1 bytes t.left h)
+whole_advances Full old new r0 r1 (bytes, t, (h, full)) = match_false new.finished _ h.goes_on (whole_holds_ahead old new r0 r1 bytes t.left h)
+
+-- a line that is given fits
+pub line_fits : (a : LineAnswer) (old new : Reading) (r0 r1 : Told) → (bytes : List ℕ) × Takes r0 r1 old.taken new.taken bytes × Feeds a old bytes new r1 → a ≡ Line → length new.last ≤ 65536
+line_fits Line old new r0 r1 (bytes, t, g) e = let (part, p) = g.passes in let (short, less) = text_fits part new.last p.line in omega arith
+line_fits TooLong old new r0 r1 fed e = absurd (cc)
+line_fits End old new r0 r1 fed e = absurd (cc)
+line_fits Failed old new r0 r1 fed e = absurd (cc)
+line_fits Full old new r0 r1 fed e = absurd (cc)
+
+-- what passes in a call tells whether a line was too long
+pub long_counts : (a : LineAnswer) (old new : Reading) (r0 r1 : Told) → (bytes : List ℕ) × Takes r0 r1 old.taken new.taken bytes × Feeds a old bytes new r1
+    → (a ≡ TooLong) ↔ (old.passed + 65536 + length (lf_after new.finished) < new.passed)
+long_counts Line old new r0 r1 (bytes, t, g) = let (part, p) = g.passes in let (short, less) = text_fits part new.last p.line in let c = p.counted in (λ e. absurd (cc), λ h. absurd (omega arith))
+long_counts TooLong old new r0 r1 (bytes, t, g) = let (part, p) = g.passes in let long = long_passes part p.line in let c = p.counted in (λ e. omega arith, λ h. refl)
+long_counts End old new r0 r1 (bytes, t, g) = let s = g.same in (λ e. absurd (cc), λ h. absurd (omega arith))
+long_counts Failed old new r0 r1 (bytes, t, (h, below)) = let s = h.same in (λ e. absurd (cc), λ k. absurd (omega arith))
+long_counts Full old new r0 r1 (bytes, t, (h, full)) = let s = h.same in (λ e. absurd (cc), λ k. absurd (omega arith))
+
+lf_after-length : (b : Bool) → length (lf_after b) ≤ 1
+lf_after-length true = omega arith
+lf_after-length false = omega arith
+
+-- unless the line is too long, a call passes at most 65,537 bytes
+pub passes_little : (a : LineAnswer) (old new : Reading) → (a ≡ TooLong) ↔ (old.passed + 65536 + length (lf_after new.finished) < new.passed) → a ≢ TooLong → new.passed ≤ old.passed + 65537
+passes_little a old new (to, of) other =
+    let one = lf_after-length new.finished in
+    elim (cases_lt (old.passed + 65536 + length (lf_after new.finished)) new.passed) [ inl more ↦ absurd (other (of more)) | inr less ↦ omega arith ]
+
+long_at : (r : Reading) (t : Told) → r.finished ≡ false → whole_lines (pending r) ≡ [] → 65536 < length (pending r) → LongAhead (ahead_of r t)
+long_at r None go none long = rw (ahead_untold r) tt
+long_at r (Some left) go none long =
+    let (more, e) = lines_long (pending r) left none long in
+    rw (ahead_told r left, left_open r.finished (lines (pending r ++ left)) go) (more, e)
+
+-- a reader that was far below its limit is full only in a line that is too long
+pub full_ahead : (old new : Reading) (r0 r1 : Told) → (bytes : List ℕ) × Takes r0 r1 old.taken new.taken bytes × Feeds Full old bytes new r1 → (new.passed + 65536 < new.taken → 65536 < length (pending new)) → old.passed + 65536 < input_limit
+    → LongAhead (ahead_of old r0)
+full_ahead old new r0 r1 (bytes, t, (h, full)) f room =
+    let same = h.same in
+    let long : 65536 < length (pending new) = f (omega arith) in
+    rw (← holds_ahead old new r0 r1 bytes t.left h) (long_at new r1 h.goes_on h.no_whole long)
+
+-- the next line is too long where a reader has passed over one
+pub long_ahead : (old new : Reading) (r0 r1 : Told) → (bytes : List ℕ) × Takes r0 r1 old.taken new.taken bytes × Feeds TooLong old bytes new r1 → LongAhead (ahead_of old r0)
+long_ahead old new r0 r1 fed = long_of (ahead_of new r1) (ahead_of old r0) (advances TooLong old new r0 r1 fed)
+  where
+    long_of : (later now : ToldLines) → now ≡ option_map (λ ms. LongLine ∷ ms) later → LongAhead now
+    long_of None now e = rw e tt
+    long_of (Some ms) now e = rw e (ms, refl)
+
+-- a reader that has finished is asked again
+pub whole_after_end : (r : Reading) (t : Told) → r.finished ≡ true → MatchBool r.finished (NoneAhead (whole_ahead_of r t)) (NoneAhead (whole_ahead_of r t) × NoneAhead (whole_ahead_of r t))
+whole_after_end r t e = let n = no_whole_after_end r t e in match_both r.finished n (n, n)

@@ -1,0 +1,48 @@
+-- The lines to come, as a function of a reader and of the bytes that its source tells.
+use Rattle.std.specs.Prelude.{◌≡◌, ℕ, List, [], ◌∷◌, ◌++◌, if◌then◌else◌, None, Some}
+use Rattle.std.specs.Option.{option_map}
+use Rattle.std.specs.declared.option.Option.{Option}
+use Rattle.io_edge.specs.Outside.{Told}
+use Rattle.hive_model.specs.Lines.{Line as OneLine, Text, TooLong as LongLine, lines, whole_lines}
+use Rattle.line_feed.specs.Feed.{Reading, pending}
+use Rattle.line_feed.specs.declared.answers.LineAnswer.{LineAnswer}
+use Rattle.line_feed.specs.declared.answers.LineAnswer.TheVariants.{Line, TooLong, End, Failed, Full}
+
+-- lines where they are told, and none where they are not
+abbrev pub ToldLines : Type 0
+ToldLines = Option (List OneLine)
+
+-- the lines that a reader still gives where just these bytes come: none once it has met the end
+abbrev pub lines_left : Reading → List ℕ → List OneLine
+lines_left r bytes = if r.finished then [] else lines (pending r ++ bytes)
+
+-- those of them that end in LF
+abbrev pub whole_left : Reading → List ℕ → List OneLine
+whole_left r bytes = if r.finished then [] else whole_lines (pending r ++ bytes)
+
+-- the lines to come
+unfoldable pub ahead_of : Reading → Told → ToldLines
+ahead_of r rest = option_map (lines_left r) rest
+
+-- the lines to come that end in LF
+unfoldable pub whole_ahead_of : Reading → Told → ToldLines
+whole_ahead_of r rest = option_map (whole_left r) rest
+
+-- no line is to come, where that is told
+abbrev pub NoneAhead : ToldLines → Type 0
+NoneAhead None = Unit {0}
+NoneAhead (Some left) = left ≡ []
+
+-- the next line to come is too long, where that is told
+abbrev pub LongAhead : ToldLines → Type 0
+LongAhead None = Unit {0}
+LongAhead (Some left) = (more : List OneLine) × (left ≡ LongLine ∷ more)
+
+-- what an answer does to the lines to come: a line that is given or passed over was the first of them,
+-- at the end there is none, and a failure or a full reader leaves them
+abbrev pub Advances : LineAnswer → List ℕ → ToldLines → ToldLines → Type 0
+Advances Line last old new = old ≡ option_map (λ left. Text last ∷ left) new
+Advances TooLong last old new = old ≡ option_map (λ left. LongLine ∷ left) new
+Advances End last old new = NoneAhead old × NoneAhead new
+Advances Failed last old new = new ≡ old
+Advances Full last old new = new ≡ old

@@ -1,0 +1,4 @@
+pub mod Scan
+pub mod Faults
+pub mod Moves
+pub mod Readers

@@ -1,0 +1,45 @@
+-- What the fields of a line hold, as functions that compute.
+use Rattle.std.specs.Prelude.{◌≡◌, ℕ, ◌+◌, ◌*◌, ◌-◌, Bool, true, false, ◌&&◌, nat_le, nat_lt, nat_eq, List, [], ◌∷◌, codes, Option, Some, None, if◌then◌else◌}
+use Rattle.std.specs.Str.{bytes_eq}
+use Rattle.hive_model.specs.declared.pieces.GameType.{GameType}
+use Rattle.hive_model.specs.declared.places.State.{State}
+use Rattle.hive_model.specs.declared.places.State.TheVariants.{NotStarted, InProgress, Draw, WhiteWins, BlackWins}
+
+abbrev pub game_type_of : Bool → Bool → Bool → GameType
+game_type_of m l p = record { mosquito = m; ladybug = l; pillbug = p }
+
+unfoldable pub type_at : List ℕ → Option GameType
+type_at text =
+    if bytes_eq text (codes "Base") then Some (game_type_of false false false) else
+    if bytes_eq text (codes "Base+M") then Some (game_type_of true false false) else
+    if bytes_eq text (codes "Base+L") then Some (game_type_of false true false) else
+    if bytes_eq text (codes "Base+P") then Some (game_type_of false false true) else
+    if bytes_eq text (codes "Base+ML") then Some (game_type_of true true false) else
+    if bytes_eq text (codes "Base+MP") then Some (game_type_of true false true) else
+    if bytes_eq text (codes "Base+LP") then Some (game_type_of false true true) else
+    if bytes_eq text (codes "Base+MLP") then Some (game_type_of true true true) else None
+
+unfoldable pub state_at : List ℕ → Option State
+state_at text =
+    if bytes_eq text (codes "NotStarted") then Some NotStarted else
+    if bytes_eq text (codes "InProgress") then Some InProgress else
+    if bytes_eq text (codes "Draw") then Some Draw else
+    if bytes_eq text (codes "WhiteWins") then Some WhiteWins else
+    if bytes_eq text (codes "BlackWins") then Some BlackWins else None
+
+-- the number of two digits that is at most a bound
+abbrev pub is_digit : ℕ → Bool
+is_digit b = nat_le 48 b && nat_lt b 58
+
+abbrev pub part_at : ℕ → ℕ → ℕ → Option ℕ
+part_at most a b = if is_digit a && (is_digit b && nat_le ((a - 48) * 10 + (b - 48)) most) then Some ((a - 48) * 10 + (b - 48)) else None
+
+abbrev pub budget_of : Option ℕ → Option ℕ → Option ℕ → Option ℕ
+budget_of None m s = None
+budget_of (Some h) None s = None
+budget_of (Some h) (Some m) None = None
+budget_of (Some h) (Some m) (Some s) = Some (((h * 60 + m) * 60 + s) * 1000)
+
+abbrev pub time_at : List ℕ → Option ℕ
+time_at (a ∷ b ∷ c ∷ d ∷ e ∷ f ∷ g ∷ h ∷ []) = if nat_eq c 58 && nat_eq f 58 then budget_of (part_at 99 a b) (part_at 59 d e) (part_at 59 g h) else None
+time_at _ = None

@@ -1,0 +1,139 @@
+-- Reading a move text byte by byte: how far one came.
+use Rattle.std.specs.Prelude.{ℕ, ◌+◌, ◌-◌, Bool, ◌&&◌, nat_eq, nat_lt, nat_le, List, [], ◌∷◌, Option, Some, None, option_map, Result, Ok, Err, if◌then◌else◌}
+use Rattle.std.specs.Option.{ok_or}
+use Rattle.hive_model.specs.declared.pieces.Colour.{Colour}
+use Rattle.hive_model.specs.declared.pieces.Colour.TheVariants.{White, Black}
+use Rattle.hive_model.specs.declared.pieces.Kind.{Kind}
+use Rattle.hive_model.specs.declared.pieces.Kind.TheVariants.{Queen, Spider, Beetle, Grasshopper, Ant, Mosquito, Ladybug, Pillbug}
+use Rattle.hive_model.specs.Pieces.{piece_of, most_of}
+use Rattle.hive_model.specs.declared.forms.Stroke.{Stroke}
+use Rattle.hive_model.specs.declared.forms.Stroke.TheVariants.{Dash, Slash, Backslash}
+use Rattle.hive_model.specs.declared.forms.Mark.{Mark}
+use Rattle.hive_model.specs.declared.forms.Mark.TheVariants.{On, Before, After}
+use Rattle.hive_model.specs.declared.forms.Form.{Form}
+use Rattle.hive_model.specs.declared.forms.Form.TheVariants.{Passes, Alone, Beside}
+use Rattle.move_text.specs.declared.progress.Naming.{Naming}
+use Rattle.move_text.specs.declared.progress.Naming.TheVariants.{Empty, Side, Kinded, Named}
+use Rattle.move_text.specs.declared.progress.Progress.{Progress}
+use Rattle.move_text.specs.declared.progress.Progress.TheVariants.{AtP, AtPa, AtPas, AtPass, First, Second, Marked}
+
+-- the byte of a colour, a kind and a stroke
+abbrev pub colour_at : ℕ → Option Colour
+colour_at b = if nat_eq b 119 then Some White else if nat_eq b 98 then Some Black else None
+
+abbrev pub kind_at : ℕ → Option Kind
+kind_at b =
+    if nat_eq b 81 then Some Queen else
+    if nat_eq b 83 then Some Spider else
+    if nat_eq b 66 then Some Beetle else
+    if nat_eq b 71 then Some Grasshopper else
+    if nat_eq b 65 then Some Ant else
+    if nat_eq b 77 then Some Mosquito else
+    if nat_eq b 76 then Some Ladybug else
+    if nat_eq b 80 then Some Pillbug else None
+
+abbrev pub stroke_at : ℕ → Option Stroke
+stroke_at b = if nat_eq b 45 then Some Dash else if nat_eq b 47 then Some Slash else if nat_eq b 92 then Some Backslash else None
+
+abbrev pub sided : Option Colour → Option Naming
+sided None = None
+sided (Some c) = Some (Side c)
+
+-- the one piece of a kind that has no numbers; else the number is still to come
+abbrev pub with_kind : Colour → Kind → Naming
+with_kind c k = if nat_eq (most_of k) 0 then Named (piece_of c k 0) else Kinded c k
+
+abbrev pub kinded : Colour → Option Kind → Option Naming
+kinded c None = None
+kinded c (Some k) = Some (with_kind c k)
+
+-- the byte is the digit of one of the kind's numbers
+abbrev pub is_number : Kind → ℕ → Bool
+is_number k b = nat_lt 48 b && nat_le (b - 48) (most_of k)
+
+-- the piece of this kind with the number of a digit
+abbrev pub with_number : Colour → Kind → ℕ → Option Naming
+with_number c k b = if is_number k b then Some (Named (piece_of c k (b - 48))) else None
+
+-- what is read of a name with one byte more
+abbrev pub naming_with : Naming → ℕ → Option Naming
+naming_with Empty b = sided (colour_at b)
+naming_with (Side c) b = kinded c (kind_at b)
+naming_with (Kinded c k) b = with_number c k b
+naming_with (Named x) b = None
+
+-- where the byte is no part of the first name
+abbrev pub after_first : Naming → ℕ → Option Progress
+after_first Empty b = if nat_eq b 112 then Some AtP else None
+after_first (Side c) b = None
+after_first (Kinded c k) b = None
+after_first (Named x) b = if nat_eq b 32 then Some (Second x None Empty) else None
+
+abbrev pub on_first : Option Naming → Naming → ℕ → Option Progress
+on_first (Some n) old b = Some (First n)
+on_first None old b = after_first old b
+
+abbrev pub before_second : ℕ → Option Stroke → Option Progress
+before_second x None = None
+before_second x (Some s) = Some (Second x (Some s) Empty)
+
+abbrev pub behind_second : ℕ → ℕ → Option Stroke → Option Progress
+behind_second x y None = None
+behind_second x y (Some s) = Some (Marked x y s)
+
+-- where the byte is no part of the reference's name
+abbrev pub after_second : ℕ → Option Stroke → Naming → ℕ → Option Progress
+after_second x (Some s) n b = None
+after_second x None Empty b = before_second x (stroke_at b)
+after_second x None (Side c) b = None
+after_second x None (Kinded c k) b = None
+after_second x None (Named y) b = behind_second x y (stroke_at b)
+
+abbrev pub on_second : Option Naming → ℕ → Option Stroke → Naming → ℕ → Option Progress
+on_second (Some n) x s old b = Some (Second x s n)
+on_second None x s old b = after_second x s old b
+
+-- what is read of a move text with one byte more
+abbrev pub progress_with : Progress → ℕ → Option Progress
+progress_with AtP b = if nat_eq b 97 then Some AtPa else None
+progress_with AtPa b = if nat_eq b 115 then Some AtPas else None
+progress_with AtPas b = if nat_eq b 115 then Some AtPass else None
+progress_with AtPass b = None
+progress_with (First n) b = on_first (naming_with n b) n b
+progress_with (Second x s n) b = on_second (naming_with n b) x s n b
+progress_with (Marked x y s) b = None
+
+abbrev pub end_first : Naming → Option Form
+end_first Empty = None
+end_first (Side c) = None
+end_first (Kinded c k) = None
+end_first (Named x) = Some (Alone x)
+
+abbrev pub front_mark : Option Stroke → Mark
+front_mark None = On
+front_mark (Some s) = Before s
+
+abbrev pub end_second : ℕ → Option Stroke → Naming → Option Form
+end_second x s Empty = None
+end_second x s (Side c) = None
+end_second x s (Kinded c k) = None
+end_second x s (Named y) = Some (Beside x (front_mark s) y)
+
+-- the form, where the text may end here
+abbrev pub end_of : Progress → Option Form
+end_of AtP = None
+end_of AtPa = None
+end_of AtPas = None
+end_of AtPass = Some Passes
+end_of (First n) = end_first n
+end_of (Second x s n) = end_second x s n
+end_of (Marked x y s) = Some (Beside x (After s) y)
+
+abbrev pub go_on : {X : Type 0} → Option X → ℕ → (X → Result Form ℕ) → Result Form ℕ
+go_on None offset f = Err offset
+go_on (Some s) offset f = f s
+
+-- the form of the bytes, or the offset of the first that cannot stand there
+unfoldable pub scan : Progress → List ℕ → ℕ → Result Form ℕ
+scan s [] offset = ok_or (end_of s) offset
+scan s (b ∷ bs) offset = go_on (progress_with s b) offset (λ next. scan next bs (offset + 1))

@@ -1,0 +1,14 @@
+//! Move texts both ways, and the fields of lines.
+#![tactic(auto)]
+
+mod faults;
+mod fields;
+mod laws;
+mod moves;
+mod progress;
+mod spelling;
+
+pub use faults::MoveFault;
+pub use fields::{read_number, read_state, read_time, read_type, state_text, time_text, type_text};
+pub use laws::texts_denote;
+pub use moves::{read_move, write_move};

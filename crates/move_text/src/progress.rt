@@ -1,0 +1,256 @@
+//! Reading a move text byte by byte.
+
+ghost use Rattle.std.specs.Prelude.{◌≡◌, ◌≤◌, length};
+ghost use Rattle.move_text.specs.Scan.{colour_at, kind_at, stroke_at, naming_with, with_kind, with_number, after_first, after_second, front_mark, end_first, end_second, progress_with, end_of, scan};
+
+use hive_model::{Colour, Form, Kind, Mark, Piece, Stroke};
+
+/// The part of a piece's name that was read: nothing, a colour, a colour and a kind whose number is still to come, or the whole
+/// name.
+#[derive(Clone, Copy, Debug, PartialEq, Eq)]
+pub enum Naming {
+    Empty,
+    Side(Colour),
+    Kinded(Colour, Kind),
+    Named(Piece),
+}
+
+/// The part of a move text that was read.
+#[derive(Clone, Copy, Debug, PartialEq, Eq)]
+pub enum Progress {
+    /// `p`, and then what was read of `pass`.
+    AtP,
+    AtPa,
+    AtPas,
+    AtPass,
+    /// A part of the moving piece's name.
+    First(Naming),
+    /// The moving piece, the space, a stroke where there was one, and a part of the reference's name.
+    Second(Piece, Option<Stroke>, Naming),
+    /// The moving piece, the space, the reference and the stroke behind it: nothing may follow.
+    Marked(Piece, Piece, Stroke),
+}
+
+fn colour_at(byte: u8) -> Option<Colour>
+    ensures { result ≡ colour_at byte }
+{
+    match byte {
+        b'w' => Some(Colour::White),
+        b'b' => Some(Colour::Black),
+        _ => None,
+    }
+}
+
+fn kind_at(byte: u8) -> Option<Kind>
+    ensures { result ≡ kind_at byte }
+{
+    match byte {
+        b'Q' => Some(Kind::Queen),
+        b'S' => Some(Kind::Spider),
+        b'B' => Some(Kind::Beetle),
+        b'G' => Some(Kind::Grasshopper),
+        b'A' => Some(Kind::Ant),
+        b'M' => Some(Kind::Mosquito),
+        b'L' => Some(Kind::Ladybug),
+        b'P' => Some(Kind::Pillbug),
+        _ => None,
+    }
+}
+
+fn stroke_at(byte: u8) -> Option<Stroke>
+    ensures { result ≡ stroke_at byte }
+{
+    match byte {
+        b'-' => Some(Stroke::Dash),
+        b'/' => Some(Stroke::Slash),
+        b'\\' => Some(Stroke::Backslash),
+        _ => None,
+    }
+}
+
+impl Naming {
+    /// With one byte more, where some piece's name begins so.
+    fn with_byte(&self, byte: u8) -> Option<Naming>
+        ensures { result ≡ naming_with self.now byte }
+    {
+        match *self {
+            Naming::Empty => match colour_at(byte) {
+                Some(colour) => Some(Naming::Side(colour)),
+                None => None,
+            },
+            Naming::Side(colour) => match kind_at(byte) {
+                Some(kind) => Some(with_kind(colour, kind)),
+                None => None,
+            },
+            Naming::Kinded(colour, kind) => with_number(colour, kind, byte),
+            Naming::Named(_) => None,
+        }
+    }
+}
+
+/// The one piece of a kind that has no numbers; else the number is still to come.
+fn with_kind(colour: Colour, kind: Kind) -> Naming
+    ensures { result ≡ with_kind colour kind }
+{
+    match Piece::new(colour, kind, 0) {
+        Some(piece) => Naming::Named(piece),
+        None => Naming::Kinded(colour, kind),
+    }
+}
+
+/// The piece of this kind with the number of a digit.
+fn with_number(colour: Colour, kind: Kind, byte: u8) -> Option<Naming>
+    ensures { result ≡ with_number colour kind byte }
+{
+    if byte <= b'0' {
+        return None;
+    }
+    match Piece::new(colour, kind, byte - b'0') {
+        Some(piece) => Some(Naming::Named(piece)),
+        None => None,
+    }
+}
+
+impl Progress {
+    /// With one byte more, where some move text begins so.
+    fn with_byte(&self, byte: u8) -> Option<Progress>
+        ensures { result ≡ progress_with self.now byte }
+    {
+        match self {
+            Progress::AtP => {
+                if byte == b'a' {
+                    Some(Progress::AtPa)
+                } else {
+                    None
+                }
+            }
+            Progress::AtPa => {
+                if byte == b's' {
+                    Some(Progress::AtPas)
+                } else {
+                    None
+                }
+            }
+            Progress::AtPas => {
+                if byte == b's' {
+                    Some(Progress::AtPass)
+                } else {
+                    None
+                }
+            }
+            Progress::First(naming) => match naming.with_byte(byte) {
+                Some(next) => Some(Progress::First(next)),
+                None => after_first(naming, byte),
+            },
+            Progress::Second(piece, stroke, naming) => match naming.with_byte(byte) {
+                Some(next) => Some(Progress::Second(*piece, *stroke, next)),
+                None => after_second(*piece, *stroke, naming, byte),
+            },
+            Progress::AtPass | Progress::Marked(..) => None,
+        }
+    }
+
+    /// The form, where the text may end here.
+    fn end(self) -> Option<Form>
+        ensures { result ≡ end_of self }
+    {
+        match self {
+            Progress::AtPass => Some(Form::Passes),
+            Progress::First(naming) => end_first(naming),
+            Progress::Second(piece, stroke, naming) => end_second(piece, stroke, naming),
+            Progress::Marked(piece, reference, stroke) => {
+                Some(Form::Beside(piece, Mark::After(stroke), reference))
+            }
+            _ => None,
+        }
+    }
+}
+
+fn end_first(naming: Naming) -> Option<Form>
+    ensures { result ≡ end_first naming }
+{
+    match naming {
+        Naming::Named(piece) => Some(Form::Alone(piece)),
+        _ => None,
+    }
+}
+
+fn front_mark(stroke: Option<Stroke>) -> Mark
+    ensures { result ≡ front_mark stroke }
+{
+    match stroke {
+        Some(stroke) => Mark::Before(stroke),
+        None => Mark::On,
+    }
+}
+
+fn end_second(piece: Piece, stroke: Option<Stroke>, naming: Naming) -> Option<Form>
+    ensures { result ≡ end_second piece stroke naming }
+{
+    match naming {
+        Naming::Named(reference) => Some(Form::Beside(piece, front_mark(stroke), reference)),
+        _ => None,
+    }
+}
+
+/// A byte that does not go on the first name: the `p` of `pass`, or the space behind a whole name.
+fn after_first(naming: &Naming, byte: u8) -> Option<Progress>
+    ensures { result ≡ after_first naming.now byte }
+{
+    match *naming {
+        Naming::Empty => {
+            if byte == b'p' {
+                Some(Progress::AtP)
+            } else {
+                None
+            }
+        }
+        Naming::Named(piece) => {
+            if byte == b' ' {
+                Some(Progress::Second(piece, None, Naming::Empty))
+            } else {
+                None
+            }
+        }
+        _ => None,
+    }
+}
+
+/// A byte that does not go on the reference's name: a stroke before or behind it, where there was none.
+fn after_second(piece: Piece, stroke: Option<Stroke>, naming: &Naming, byte: u8) -> Option<Progress>
+    ensures { result ≡ after_second piece stroke naming.now byte }
+{
+    if let Some(_) = stroke {
+        return None;
+    }
+    match *naming {
+        Naming::Empty => match stroke_at(byte) {
+            Some(stroke) => Some(Progress::Second(piece, Some(stroke), Naming::Empty)),
+            None => None,
+        },
+        Naming::Named(reference) => match stroke_at(byte) {
+            Some(stroke) => Some(Progress::Marked(piece, reference, stroke)),
+            None => None,
+        },
+        _ => None,
+    }
+}
+
+/// The form of the text; or the offset of the first byte with which no move text goes on so, or of the end where the text is only
+/// the beginning of a move text.
+#[tactic(auto, unfolding(crate::specs::Scan::scan))]
+pub fn read_form(text: &[u8]) -> Result<Form, u32>
+    requires { length text.now ≤ 65536 }
+    ensures { result ≡ scan (Progress.First Naming.Empty) text.now 0 }
+{
+    let mut progress = Progress::First(Naming::Empty);
+    let mut offset: u32 = 0;
+    for byte in text {
+        match progress.with_byte(*byte) {
+            Some(next) => progress = next,
+            None => return Err(offset),
+        }
+        offset += 1;
+    }
+    progress.end().ok_or(offset)
+}

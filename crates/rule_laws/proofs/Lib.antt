@@ -1,0 +1,6 @@
+pub mod Touches
+pub mod Leaves
+pub mod Lands
+pub mod Moves
+pub mod Openings
+pub mod Games
