@@ -1,6 +1,6 @@
 -- The written text of each legal move denotes it, and each legal move can be written.
 use Rattle.std.proofs.Common.{◌≡◌, ◌≢◌, ℕ, suc, zero, ◌+◌, ◌-◌, ◌≤◌, ◌<◌, Bool, true, false, not, ◌&&◌, List, [], ◌∷◌, length, take, ◌⊎◌, inl, inr, refl, sym, ◌∙◌, ap, subst, arith}
-use Rattle.std.specs.Prelude.{ℤ, pos, negsuc, ◌+ℤ◌, Option, Some, None, IsTrue, is_some, nat_lt}
+use Rattle.std.specs.Prelude.{ℤ, pos, negsuc, ◌+ℤ◌, Some, IsTrue, is_some, nat_lt}
 use Rattle.std.specs.List.{remove}
 use Rattle.std.proofs.lemmas.Bool.{lt-ltb, ltb-true, and_parts}
 use Rattle.std.proofs.lemmas.Int.{ints}
@@ -17,12 +17,12 @@ use Rattle.hive_model.specs.declared.places.Move.TheVariants.{Pass, To}
 use Rattle.hive_model.specs.Lists.{IsOn, IsPath}
 use Rattle.hive_model.specs.Pieces.{is_colour, colour_of, kind_of, other_side, all_pieces, OfType}
 use Rattle.hive_model.specs.Places.{step, steps, origin, dir_after, dir_before, IsWithin}
-use Rattle.hive_model.specs.Boards.{Stacks, stack_at, set_stack, height_at, is_occupied, top_at, spot_of, lift, lift_from, without, without_at, is_in_play, StandsAt, IsBoard}
+use Rattle.hive_model.specs.Boards.{Stacks, stack_at, set_stack, height_at, is_occupied, top_at, spot_of, lift, lift_from, without, without_at, is_in_play, IsBoard}
 use Rattle.hive_model.specs.Steps.{GroundStep}
 use Rattle.hive_model.specs.Near.{near}
 use Rattle.hive_model.specs.Reach.{Hop, ReachBy, MovesAs}
 use Rattle.hive_model.specs.Positions.{Position, IsSound}
-use Rattle.hive_model.specs.Placement.{HasColour, Touches, MayPlace, Placement, has_colour}
+use Rattle.hive_model.specs.Placement.{HasColour, MayPlace, Placement, has_colour}
 use Rattle.hive_model.specs.Throws.{Throw}
 use Rattle.hive_model.specs.Legal.{Walk, LegalPair, IsLegal}
 use Rattle.hive_model.specs.Denotes.{Denotes, text}
@@ -151,7 +151,7 @@ colour_from b c h =
 from_colour : (b : Stacks) (c : Colour) → HasColour b c → has_colour b c ≡ true
 from_colour b c h =
     has_any (λ y. is_colour (colour_of y) c && is_in_play b y) all_pieces h.piece (on_pieces h.piece (ltb-true h.piece 28 h.is_piece))
-      (ap (λ t. t && is_in_play b h.piece) (from_same_colour (colour_of h.piece) c h.colour) ∙ h.in_play)
+    (ap (λ t. t && is_in_play b h.piece) (from_same_colour (colour_of h.piece) c h.colour) ∙ h.in_play)
 
 no_colour : (b : Stacks) (c : Colour) → has_colour b c ≡ false → ¬ HasColour b c
 no_colour b c none h = let wrong : true ≡ false = sym (from_colour b c h) ∙ none in cc
@@ -216,11 +216,11 @@ pair_goes p x q sound (inr (queen, inr throw)) = moved_goes p x q throw.from sou
 
 goes_denotes : (p : Position) (x : ℕ) (q : Place) → IsBoard p.board → Goes p x q → Denotes p.game_type p.board (text p.board (To x q)) (To x q)
 goes_denotes p x q is g = elim (g.ends) [
-    | inl touched ↦ text_denotes p.game_type p.board is x q g.small g.of_type (referred p.board x q touched)
-    | inr first ↦
-        subst (λ b. Denotes p.game_type b (text b (To x q)) (To x q)) (sym first.0)
-          (subst (λ z. Denotes p.game_type [] (text [] (To x z)) (To x z)) (sym first.1) (first_denotes p.game_type x g.small g.of_type))
-  ]
+  | inl touched ↦ text_denotes p.game_type p.board is x q g.small g.of_type (referred p.board x q touched)
+  | inr first ↦
+      subst (λ b. Denotes p.game_type b (text b (To x q)) (To x q)) (sym first.0)
+      (subst (λ z. Denotes p.game_type [] (text [] (To x z)) (To x z)) (sym first.1) (first_denotes p.game_type x g.small g.of_type))
+]
 
 touched_within : (c : Stacks) (q : Place) → IsBoard c → Touched c q → IsWithin 9500 q
 touched_within c q is (inl here) = near_within c is q (near_place c q here)
@@ -228,9 +228,9 @@ touched_within c q is (inr (d, there)) = near_within c is q (subst (IsOn (near c
 
 goes_within : (p : Position) (x : ℕ) (q : Place) → IsBoard p.board → Goes p x q → IsWithin 9500 q
 goes_within p x q is g = elim (g.ends) [
-    | inl touched ↦ touched_within (without p.board x) q (left_is_board p.board is x) touched
-    | inr first ↦ subst (IsWithin 9500) (sym first.1) (record { q_low = omega (arith, ints); q_high = omega (arith, ints); r_low = omega (arith, ints); r_high = omega (arith, ints) })
-  ]
+  | inl touched ↦ touched_within (without p.board x) q (left_is_board p.board is x) touched
+  | inr first ↦ subst (IsWithin 9500) (sym first.1) (record { q_low = omega (arith, ints); q_high = omega (arith, ints); r_low = omega (arith, ints); r_high = omega (arith, ints) })
+]
 
 pub legal_denotes : (p : Position) (m : Move) → IsSound p → IsLegal p m → Denotes p.game_type p.board (text p.board m) m
 legal_denotes p Pass sound legal = pass_denotes p.game_type p.board

@@ -1,16 +1,13 @@
 -- What is read is what the text denotes, and each fault stands exactly where no earlier one does.
-use Rattle.std.proofs.Common.{◌≡◌, ◌≢◌, ℕ, suc, zero, ◌+◌, ◌<◌, Bool, true, false, List, [], ◌∷◌, length, Result, Ok, Err, refl, sym, ◌∙◌, ap, subst, arith, ◌⊎◌, inl, inr}
-use Rattle.std.specs.Prelude.{Option, Some, None, is_some, codes, IfOk, IfErr, not, if◌then◌else◌}
-use Rattle.std.specs.List.{list_any}
+use Rattle.std.proofs.Common.{◌≡◌, ◌≢◌, ℕ, Bool, true, false, List, [], ◌∷◌, length, Result, Ok, Err, refl, sym, ◌∙◌, ap, subst, ◌⊎◌, inl, inr}
+use Rattle.std.specs.Prelude.{Option, Some, None, is_some, IfOk, IfErr, not, if◌then◌else◌}
 use Rattle.hive_model.specs.declared.pieces.GameType.{GameType}
 use Rattle.hive_model.specs.declared.places.Place.{Place}
-use Rattle.hive_model.specs.declared.places.Spot.{Spot}
 use Rattle.hive_model.specs.declared.places.Move.{Move}
 use Rattle.hive_model.specs.declared.places.Move.TheVariants.{Pass, To}
-use Rattle.hive_model.specs.Lists.{IsOn}
 use Rattle.hive_model.specs.Pieces.{kind_of, has_kind, all_pieces, OfType}
-use Rattle.hive_model.specs.Places.{origin, is_place}
-use Rattle.hive_model.specs.Boards.{Stacks, spot_of, places_of, IsBoard, is_in_play, without, place_in}
+use Rattle.hive_model.specs.Places.{origin}
+use Rattle.hive_model.specs.Boards.{Stacks, IsBoard, is_in_play, without, place_in}
 use Rattle.hive_model.proofs.BoardLemmas.{stands_spot_of}
 use Rattle.hive_model.proofs.NearLaws.{place_standing}
 use Rattle.hive_model.proofs.RuleLaws.{has_any}
@@ -22,10 +19,9 @@ use Rattle.move_text.specs.declared.faults.MoveFault.{MoveFault}
 use Rattle.move_text.specs.declared.faults.MoveFault.TheVariants.{NotAMove, NoSuchPiece, NotInPlay}
 use Rattle.move_text.specs.declared.progress.Naming.TheVariants.{Empty}
 use Rattle.move_text.specs.declared.progress.Progress.TheVariants.{First}
-use Rattle.hive_model.specs.Texts.{form_text, IsForm, IsNoText}
 use Rattle.move_text.specs.Scan.{scan}
-use Rattle.hive_model.specs.Denotes.{place_by, DenotesAlone, DenotesBeside, Denotes}
-use Rattle.move_text.specs.Faults.{mover, IsOfNoPiece, IsAloneAmong, IsBesideNone, Refuses}
+use Rattle.hive_model.specs.Denotes.{place_by, Denotes}
+use Rattle.move_text.specs.Faults.{mover, Refuses}
 use Rattle.move_text.specs.Moves.{is_empty_board, moved_beside, judge, judged, move_of}
 use Rattle.move_text.proofs.FormLaws.{form_read, read_form, no_text, text_no}
 
@@ -78,22 +74,22 @@ beside_ok t b len x mark y m h = go (has_kind t (kind_of x)) (place_in (without 
     go false o e f k = absurd (cc)
 
 alone_err : (t : GameType) (b : Stacks) (len x : ℕ) (fault : MoveFault) → judge t b len (Alone x) ≡ Err fault
-  → ((has_kind t (kind_of x) ≡ false) × (NoSuchPiece ≡ fault)) ⊎ (OfType t x × (b ≢ []) × (NotAMove len ≡ fault))
+    → ((has_kind t (kind_of x) ≡ false) × (NoSuchPiece ≡ fault)) ⊎ (OfType t x × (b ≢ []) × (NotAMove len ≡ fault))
 alone_err t b len x fault h = go (has_kind t (kind_of x)) (is_empty_board b) refl refl h
   where
     go : (u v : Bool) → has_kind t (kind_of x) ≡ u → is_empty_board b ≡ v → (if u then (if v then Ok (To x origin) else Err (NotAMove len)) else Err NoSuchPiece) ≡ Err fault
-      → ((has_kind t (kind_of x) ≡ false) × (NoSuchPiece ≡ fault)) ⊎ (OfType t x × (b ≢ []) × (NotAMove len ≡ fault))
+        → ((has_kind t (kind_of x) ≡ false) × (NoSuchPiece ≡ fault)) ⊎ (OfType t x × (b ≢ []) × (NotAMove len ≡ fault))
     go true true e f k = absurd (cc)
     go true false e f k = let same : NotAMove len ≡ fault = cc in inr (e, bare_false b f, same)
     go false true e f k = let same : NoSuchPiece ≡ fault = cc in inl (e, same)
     go false false e f k = let same : NoSuchPiece ≡ fault = cc in inl (e, same)
 
 beside_err : (t : GameType) (b : Stacks) (len x : ℕ) (mark : Mark) (y : ℕ) (fault : MoveFault) → judge t b len (Beside x mark y) ≡ Err fault
-  → ((has_kind t (kind_of x) ≡ false) × (NoSuchPiece ≡ fault)) ⊎ (OfType t x × (place_in (without b x) y ≡ None) × (NotInPlay y ≡ fault))
+    → ((has_kind t (kind_of x) ≡ false) × (NoSuchPiece ≡ fault)) ⊎ (OfType t x × (place_in (without b x) y ≡ None) × (NotInPlay y ≡ fault))
 beside_err t b len x mark y fault h = go (has_kind t (kind_of x)) (place_in (without b x) y) refl refl h
   where
     go : (u : Bool) (o : Option Place) → has_kind t (kind_of x) ≡ u → place_in (without b x) y ≡ o → (if u then moved_beside x mark y o else Err NoSuchPiece) ≡ Err fault
-      → ((has_kind t (kind_of x) ≡ false) × (NoSuchPiece ≡ fault)) ⊎ (OfType t x × (place_in (without b x) y ≡ None) × (NotInPlay y ≡ fault))
+        → ((has_kind t (kind_of x) ≡ false) × (NoSuchPiece ≡ fault)) ⊎ (OfType t x × (place_in (without b x) y ≡ None) × (NotInPlay y ≡ fault))
     go true None e f k = let same : NotInPlay y ≡ fault = cc in inr (e, f, same)
     go true (Some p) e f k = absurd (cc)
     go false o e f k = let same : NoSuchPiece ≡ fault = cc in inl (e, same)

@@ -1,18 +1,14 @@
 -- What was read of a move text: its bytes, and that some move text begins with them.
-use Rattle.std.proofs.Common.{◌≡◌, ℕ, suc, zero, ◌+◌, ◌-◌, ◌≤◌, ◌<◌, Bool, true, false, List, [], ◌∷◌, ◌++◌, length, take, drop, Option, Some, None, Result, Ok, Err, refl, sym, ◌∙◌, ap, subst, arith, add-one, append_assoc, ◌⊎◌, inl, inr, cond, lit<}
+use Rattle.std.proofs.Common.{◌≡◌, ℕ, ◌+◌, ◌-◌, ◌≤◌, ◌<◌, Bool, true, false, List, [], ◌∷◌, ◌++◌, Option, Some, None, refl, sym, ◌∙◌, ap, subst, arith, append_assoc, ◌⊎◌, inl, inr, lit<}
 use Rattle.std.specs.Prelude.{nat_eq, nat_lt, nat_le, codes, ◌&&◌, if◌then◌else◌}
-use Rattle.std.specs.List.{list_all}
 use Rattle.std.proofs.lemmas.Bool.{eqb-true, ltb-true, leb-true, eqb-false}
 use Rattle.hive_model.specs.declared.pieces.Colour.{Colour}
 use Rattle.hive_model.specs.declared.pieces.Colour.TheVariants.{White, Black}
 use Rattle.hive_model.specs.declared.pieces.Kind.{Kind}
 use Rattle.hive_model.specs.declared.pieces.Kind.TheVariants.{Queen, Spider, Beetle, Grasshopper, Ant, Mosquito, Ladybug, Pillbug}
-use Rattle.hive_model.specs.Pieces.{piece_of, most_of, IsNumber, all_pieces}
-use Rattle.hive_model.proofs.RuleLaws.{all_at}
-use Rattle.hive_model.proofs.PieceLaws.{on_pieces}
+use Rattle.hive_model.specs.Pieces.{piece_of, most_of, IsNumber}
 use Rattle.hive_model.specs.declared.forms.Stroke.{Stroke}
 use Rattle.hive_model.specs.declared.forms.Stroke.TheVariants.{Dash, Slash, Backslash}
-use Rattle.hive_model.specs.declared.forms.Mark.{Mark}
 use Rattle.hive_model.specs.declared.forms.Mark.TheVariants.{On, Before, After}
 use Rattle.hive_model.specs.declared.forms.Form.{Form}
 use Rattle.hive_model.specs.declared.forms.Form.TheVariants.{Passes, Alone, Beside}
@@ -20,10 +16,10 @@ use Rattle.move_text.specs.declared.progress.Naming.{Naming}
 use Rattle.move_text.specs.declared.progress.Naming.TheVariants.{Empty, Side, Kinded, Named}
 use Rattle.move_text.specs.declared.progress.Progress.{Progress}
 use Rattle.move_text.specs.declared.progress.Progress.TheVariants.{AtP, AtPa, AtPas, AtPass, First, Second, Marked}
-use Rattle.hive_model.specs.Texts.{colour_code, kind_code, number_code, name_of, piece_text, stroke_code, destination, form_text, IsForm, Begins, IsNoText}
-use Rattle.move_text.specs.Scan.{colour_at, kind_at, stroke_at, sided, kinded, is_number, naming_with, after_first, on_first, before_second, behind_second, after_second, on_second, progress_with, end_first, front_mark, end_second, end_of, scan}
+use Rattle.hive_model.specs.Texts.{colour_code, kind_code, number_code, piece_text, stroke_code, form_text, IsForm, Begins}
+use Rattle.move_text.specs.Scan.{colour_at, kind_at, stroke_at, sided, kinded, naming_with, after_first, on_first, before_second, behind_second, after_second, on_second, progress_with, end_of}
 use Rattle.move_text.proofs.Names.{text_of_piece, piece_within}
-use Rattle.move_text.proofs.Runs.{then_run, run, run_append, run_on, run_stuck, run_scan, EndsAs, scan_ok, StopsAt, scan_err}
+use Rattle.move_text.proofs.Runs.{then_run, run}
 
 -- What was read
 
@@ -89,14 +85,35 @@ stroke_is b s h =
 
 kind_is : (b : ℕ) (k : Kind) → kind_at b ≡ Some k → b ≡ kind_code k
 kind_is b k h =
-    elim (taken b 81 Queen _ k h) [ inl r ↦ r.0 ∙ ap kind_code r.1 | inr h2 ↦
-    elim (taken b 83 Spider _ k h2) [ inl r ↦ r.0 ∙ ap kind_code r.1 | inr h3 ↦
-    elim (taken b 66 Beetle _ k h3) [ inl r ↦ r.0 ∙ ap kind_code r.1 | inr h4 ↦
-    elim (taken b 71 Grasshopper _ k h4) [ inl r ↦ r.0 ∙ ap kind_code r.1 | inr h5 ↦
-    elim (taken b 65 Ant _ k h5) [ inl r ↦ r.0 ∙ ap kind_code r.1 | inr h6 ↦
-    elim (taken b 77 Mosquito _ k h6) [ inl r ↦ r.0 ∙ ap kind_code r.1 | inr h7 ↦
-    elim (taken b 76 Ladybug _ k h7) [ inl r ↦ r.0 ∙ ap kind_code r.1 | inr h8 ↦
-    elim (taken b 80 Pillbug None k h8) [ inl r ↦ r.0 ∙ ap kind_code r.1 | inr h9 ↦ absurd (cc) ] ] ] ] ] ] ] ]
+    elim (taken b 81 Queen _ k h) [
+      | inl r ↦ r.0 ∙ ap kind_code r.1
+      | inr h2 ↦
+          elim (taken b 83 Spider _ k h2) [
+            | inl r ↦ r.0 ∙ ap kind_code r.1
+            | inr h3 ↦
+                elim (taken b 66 Beetle _ k h3) [
+                  | inl r ↦ r.0 ∙ ap kind_code r.1
+                  | inr h4 ↦
+                      elim (taken b 71 Grasshopper _ k h4) [
+                        | inl r ↦ r.0 ∙ ap kind_code r.1
+                        | inr h5 ↦
+                            elim (taken b 65 Ant _ k h5) [
+                              | inl r ↦ r.0 ∙ ap kind_code r.1
+                              | inr h6 ↦
+                                  elim (taken b 77 Mosquito _ k h6) [
+                                    | inl r ↦ r.0 ∙ ap kind_code r.1
+                                    | inr h7 ↦
+                                        elim (taken b 76 Ladybug _ k h7) [
+                                          | inl r ↦ r.0 ∙ ap kind_code r.1
+                                          | inr h8 ↦
+                                              elim (taken b 80 Pillbug None k h8) [ inl r ↦ r.0 ∙ ap kind_code r.1 | inr h9 ↦ absurd (cc) ]
+                                        ]
+                                  ]
+                            ]
+                      ]
+                ]
+          ]
+    ]
 
 record Names (n : Naming) (b : ℕ) (next : Naming) : Type 0 where
   is : IsNaming next
