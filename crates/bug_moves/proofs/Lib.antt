@@ -1,0 +1,5 @@
+pub mod AtHive
+pub mod Gaining
+pub mod HopLaws
+pub mod AntLaws
+pub mod WayLaws
