@@ -43,12 +43,12 @@ worklist_with p found work new_found new_work h new f w = record {
     | inr old ↦ append_left work (p ∷ []) q (h.has_found q old)
   ]);
   many =
-    let one = length_with p found new in
-    let two = length-append work (p ∷ []) in
-    let three = ap length f in
-    let four = ap length w in
-    let five = h.many in
-    omega (arith, one, two, three, four, five);
+      let one = length_with p found new in
+      let two = length-append work (p ∷ []) in
+      let three = ap length f in
+      let four = ap length w in
+      let five = h.many in
+      omega (arith, one, two, three, four, five);
 }
 
 pub room_to_push : (p : Place) (found work : List Place) (n : ℕ) → IsWorklist found work → (¬ IsOn found p) → length (with_place p found) ≤ n → length work < n

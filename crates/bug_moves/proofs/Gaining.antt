@@ -52,8 +52,8 @@ gains_toward b S p d to xs ys h near leads is here = gains_place b (Toward S p d
 
 pub gains_no_step : (b : Stacks) (S : Place → Place → Type 0) (p : Place) (d : Dir) (to : Place) (xs : List Place) → IsAround b xs → to ≡ step p d → (S p to → IsOn xs to) → Gains b (Toward S p d) xs xs
 gains_no_step b S p d to xs h leads there = gains_nothing b (Toward S p d) xs h (λ q (same, is).
-  let e : to ≡ q = leads ∙ same in
-  subst (IsOn xs) e (there (subst (S p) (sym e) is)))
+    let e : to ≡ q = leads ∙ same in
+    subst (IsOn xs) e (there (subst (S p) (sym e) is)))
 
 -- Each direction in turn
 
@@ -90,10 +90,10 @@ gains_all b P S n xs ys all there back h = record {
   list = h.list;
   kept = h.kept;
   gained = λ q is.
-    let (d, toward) = back q is in
-    let (k, low, same) = index_of d in
-    let within : k < n = omega (arith, low, all) in
-    h.gained q (k, within, subst (λ (e : Dir). P e q) (sym same) toward);
+      let (d, toward) = back q is in
+      let (k, low, same) = index_of d in
+      let within : k < n = omega (arith, low, all) in
+      h.gained q (k, within, subst (λ (e : Dir). P e q) (sym same) toward);
   only = λ q on. elim (h.only q on) [ inl old ↦ inl old | inr (k, low, is) ↦ inr (there (dir_at k) q is) ];
 }
 

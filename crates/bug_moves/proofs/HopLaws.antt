@@ -1,5 +1,5 @@
 -- Rows of pieces that a grasshopper hops over.
-use Rattle.std.proofs.Common.{◌≡◌, ℕ, suc, zero, ◌+◌, ◌≤◌, ◌<◌, true, false, List, ◌⊎◌, inl, inr, refl, sym, ◌∙◌, ap, subst, arith, ℤ, pos, negsuc, ◌+ℤ◌, ◌≤ℤ◌}
+use Rattle.std.proofs.Common.{◌≡◌, ◌≢◌, ℕ, suc, zero, ◌+◌, ◌≤◌, ◌<◌, true, false, List, ◌⊎◌, inl, inr, refl, sym, ◌∙◌, ap, subst, arith, ℤ, pos, negsuc, ◌+ℤ◌, ◌≤ℤ◌}
 use Rattle.std.specs.Prelude.{IsTrue, nat_lt}
 use Rattle.std.proofs.lemmas.Bool.{cases_eq, lt-ltb, ltb-true}
 use Rattle.std.proofs.lemmas.Int.{ints}
@@ -132,13 +132,34 @@ gains_hop b p d n place xs ys h some row is free made =
 
 pub gains_no_hop : (b : Stacks) (p : Place) (d : Dir) (n : ℕ) (place : Place) (xs : List Place) → IsAround b xs → n ≤ 0 → place ≡ steps (suc n) p d → is_occupied b place ≡ false → Gains b (HopAlong b p d) xs xs
 gains_no_hop b p d n place xs h none is free = gains_nothing b (HopAlong b p d) xs h (λ q hop.
-  let enough = hop.far_enough in
-  let first : 0 < suc n = omega arith in
-  let low : suc n < hop.far = omega (arith, none, enough) in
-  absurd (let wrong : false ≡ true = sym free ∙ ap (is_occupied b) is ∙ hop.over (suc n) first low in cc))
+    let enough = hop.far_enough in
+    let first : 0 < suc n = omega arith in
+    let low : suc n < hop.far = omega (arith, none, enough) in
+    absurd (let wrong : false ≡ true = sym free ∙ ap (is_occupied b) is ∙ hop.over (suc n) first low in cc))
 
 pub hop_along : (b : Stacks) (p : Place) (d : Dir) (q : Place) → HopAlong b p d q → Hop b p q
 hop_along b p d q h = record { dir = d; far = h.far; far_enough = h.far_enough; leads = h.leads; empty = h.empty; over = h.over }
 
 pub along_hop : (b : Stacks) (p q : Place) → Hop b p q → (d : Dir) × HopAlong b p d q
 along_hop b p q h = (h.dir, record { far = h.far; far_enough = h.far_enough; leads = h.leads; empty = h.empty; over = h.over })
+
+away_up : (a x : ℤ) (n : ℕ) → a ≡ x +ℤ pos n → x ≡ a → n ≤ 0
+away_up a x n e f = omega (arith, ints, e, f)
+
+away_down : (a x : ℤ) (n : ℕ) → a +ℤ pos n ≡ x → x ≡ a → n ≤ 0
+away_down a x n e f = omega (arith, ints, e, f)
+
+-- so many steps in one direction lead away
+steps_move : (n : ℕ) (p : Place) (d : Dir) → p ≡ steps n p d → n ≤ 0
+steps_move n p E e = away_up (steps n p E).q p.q n (q_up n p E refl) (ap (λ (z : Place). z.q) e)
+steps_move n p NE e = away_up (steps n p NE).q p.q n (q_up n p NE refl) (ap (λ (z : Place). z.q) e)
+steps_move n p NW e = away_down (steps n p NW).r p.r n (r_down n p NW refl) (ap (λ (z : Place). z.r) e)
+steps_move n p W e = away_down (steps n p W).q p.q n (q_down n p W refl) (ap (λ (z : Place). z.q) e)
+steps_move n p SW e = away_down (steps n p SW).q p.q n (q_down n p SW refl) (ap (λ (z : Place). z.q) e)
+steps_move n p SE e = away_up (steps n p SE).r p.r n (r_up n p SE refl) (ap (λ (z : Place). z.r) e)
+
+pub hop_moves : (b : Stacks) (p q : Place) → Hop b p q → p ≢ q
+hop_moves b p q h e =
+    let none = steps_move h.far p h.dir (e ∙ sym h.leads) in
+    let enough = h.far_enough in
+    omega (arith, none, enough)

@@ -3,3 +3,4 @@ pub mod Gaining
 pub mod HopLaws
 pub mod AntLaws
 pub mod WayLaws
+pub mod KindLaws

@@ -62,16 +62,19 @@ pub at_up : (b : Stacks) (s : Place) (d : Dir) (x q : Place) → x ≡ step s d 
 at_up b s d x q e (_, along) = subst (λ (z : Place). StepAlong b s z q) (sym e) along
 
 pub over_from_up : (b : Stacks) (s : Place) (d : Dir) (q : Place) → UpToward b s d q → OverTwoAway b s q
-over_from_up b s d q ((first_on, up), (e, ((second_on, along), (empty, apart, down)))) = (apart, record {
-  first = step s d;
-  second = step (step s d) e;
-  up = up;
-  along = along;
-  down = down;
-  first_occupied = first_on;
-  second_occupied = second_on;
-  empty = empty;
-})
+over_from_up b s d q ((first_on, up), (e, ((second_on, along), (empty, apart, down)))) = (
+  apart,
+  record {
+    first = step s d;
+    second = step (step s d) e;
+    up = up;
+    along = along;
+    down = down;
+    first_occupied = first_on;
+    second_occupied = second_on;
+    empty = empty;
+  },
+)
 
 pub up_from_over : (b : Stacks) (s q : Place) → OverTwoAway b s q → (d : Dir) × UpToward b s d q
 up_from_over b s q (apart, h) =

@@ -9,7 +9,14 @@ use gates::slide_ok;
 use hive_model::{Board, Dir, Place, PlaceList, add_place};
 
 /// Adds the end of a third step in a direction, unless it goes back to where the spider was.
-fn add_third<B: Board>(board: &B, start: Place, first: Place, second: Place, dir: Dir, out: &mut PlaceList)
+fn add_third<B: Board>(
+    board: &B,
+    start: Place,
+    first: Place,
+    second: Place,
+    dir: Dir,
+    out: &mut PlaceList,
+)
     requires within { IsWithin 9500 second }
     requires list { IsAround (B.stacks board.now) out.old.items }
     ensures { Gains (B.stacks board.now) (ThirdToward (B.stacks board.now) start first second dir) out.old.items out.new.items }

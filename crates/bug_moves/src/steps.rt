@@ -61,9 +61,9 @@ fn add_beetle_step<B: Board>(board: &B, from: Place, dir: Dir, out: &mut PlaceLi
     requires list { IsAround (B.stacks board.now) out.old.items }
     ensures { Gains (B.stacks board.now) (Toward (BeetleStep (B.stacks board.now)) from dir) out.old.items out.new.items }
 {
-    let to = from.step(dir);
-    if may_creep(board, from, to) {
-        add_place(out, to);
+    let place = from.step(dir);
+    if may_creep(board, from, place) {
+        add_place(out, place);
     }
 }
 

@@ -8,12 +8,12 @@ use Rattle.bug_moves.proofs.steps.add_beetle_step.Goals as goal
 pub add_place-requires : goal.add_place-requires
 add_place-requires g c =
     let b = g.B.Board.stacks c.args.board.now in
-    let near : IsAtHive b c.step-to.result = elim (c.may_creep.ensures.0 c.if-may_creep.true) [ inl ground ↦ ground_at_hive b c.args.from c.step-to.result ground | inr climb ↦ climb_at_hive b c.args.from c.step-to.result climb ] in
-    record { room = room_for b c.step-to.result c.args.out.now.items c.requires.list near }
+    let near : IsAtHive b c.step-place.result = elim (c.may_creep.ensures.0 c.if-may_creep.true) [ inl ground ↦ ground_at_hive b c.args.from c.step-place.result ground | inr climb ↦ climb_at_hive b c.args.from c.step-place.result climb ] in
+    record { room = room_for b c.step-place.result c.args.out.now.items c.requires.list near }
 
 pub returns-then-may_creep : goal.returns-then-may_creep
 returns-then-may_creep g c =
     let b = g.B.Board.stacks c.args.board.now in
-    let near : IsAtHive b c.step-to.result = elim (c.may_creep.ensures.0 c.if-may_creep.true) [ inl ground ↦ ground_at_hive b c.args.from c.step-to.result ground | inr climb ↦ climb_at_hive b c.args.from c.step-to.result climb ] in
-    gains_toward b (BeetleStep b) c.args.from c.args.dir c.step-to.result c.args.out.now.items c.add_place.new.list.items c.requires.list near
-    c.step-to.ensures c.add_place.ensures (c.may_creep.ensures.0 c.if-may_creep.true)
+    let near : IsAtHive b c.step-place.result = elim (c.may_creep.ensures.0 c.if-may_creep.true) [ inl ground ↦ ground_at_hive b c.args.from c.step-place.result ground | inr climb ↦ climb_at_hive b c.args.from c.step-place.result climb ] in
+    gains_toward b (BeetleStep b) c.args.from c.args.dir c.step-place.result c.args.out.now.items c.add_place.new.list.items c.requires.list near
+    c.step-place.ensures c.add_place.ensures (c.may_creep.ensures.0 c.if-may_creep.true)
