@@ -2,7 +2,6 @@
 use Rattle.std.proofs.Common.{◌≡◌, ◌≢◌, ℕ, suc, zero, ◌+◌, ◌≤◌, ◌<◌, Bool, true, false, List, [], ◌∷◌, ◌++◌, length, ◌⊎◌, inl, inr, refl, sym, ◌∙◌, ap, subst, arith, length-append}
 use Rattle.std.specs.Prelude.{Some, slice_get}
 use Rattle.std.proofs.lemmas.Bool.{cases_eq}
-use Rattle.std.specs.declared.cmp.Ordering.{Ordering}
 use Rattle.std.specs.declared.cmp.Ordering.TheVariants.{Less, Equal, Greater}
 use Rattle.hive_model.specs.declared.places.Place.{Place}
 use Rattle.hive_model.specs.Lists.{IsOn, IsPath}
@@ -14,7 +13,7 @@ use Rattle.hive_model.proofs.PlaceLemmas.{exact_places, cases_place}
 use Rattle.hive_model.proofs.Floods.{on_append, append_left, append_right}
 use Rattle.hive_model.proofs.NearLaws.{with_place_on, on_with_place}
 use Rattle.hive_model.proofs.GetLemmas.{get_within, get_exists, get_in_front}
-use Rattle.bug_moves.specs.Adding.{IsAround, Gains}
+use Rattle.bug_moves.specs.Adding.{Gains}
 use Rattle.bug_moves.proofs.AtHive.{at_hive_within}
 use Rattle.bug_moves.specs.Walks.{StepAway, AntWay, IsWorklist, Begins, IsExpanded}
 

@@ -6,7 +6,7 @@ use Rattle.hive_model.specs.declared.places.Place.{Place}
 use Rattle.hive_model.specs.declared.places.Dir.{Dir}
 use Rattle.hive_model.specs.declared.places.Dir.TheVariants.{E, NE, NW, W, SW, SE}
 use Rattle.hive_model.specs.Lists.{IsOn}
-use Rattle.hive_model.specs.Places.{step, dir_before, dir_after, AreNeighbours, IsWithin}
+use Rattle.hive_model.specs.Places.{step, dir_before, dir_after, IsWithin}
 use Rattle.hive_model.specs.Boards.{Stacks, is_occupied, IsBoard}
 use Rattle.hive_model.specs.Near.{near}
 use Rattle.hive_model.specs.Steps.{GroundStep, ClimbingStep, FreeStep}

@@ -5,7 +5,7 @@ use Rattle.hive_model.specs.declared.pieces.Kind.TheVariants.{Queen, Beetle, Gra
 use Rattle.hive_model.specs.declared.places.Place.{Place}
 use Rattle.hive_model.specs.Lists.{IsOn}
 use Rattle.hive_model.specs.Boards.{Stacks}
-use Rattle.hive_model.specs.Reach.{Reach, ReachBy, Hop, ThreeSteps}
+use Rattle.hive_model.specs.Reach.{Reach, Hop, ThreeSteps}
 use Rattle.hive_model.specs.Steps.{GroundStep}
 use Rattle.bug_moves.specs.Adding.{Gains}
 use Rattle.bug_moves.specs.Ways.{BeetleStep, OverTwoAway}

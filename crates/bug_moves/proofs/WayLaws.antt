@@ -1,11 +1,11 @@
 -- The ways of spiders and ladybugs, step by step, are their ways as a whole.
-use Rattle.std.proofs.Common.{◌≡◌, ◌≢◌, refl, sym, ◌∙◌, ap, subst}
+use Rattle.std.proofs.Common.{◌≡◌, ◌≢◌, sym, subst}
 use Rattle.hive_model.specs.declared.places.Place.{Place}
 use Rattle.hive_model.specs.declared.places.Dir.{Dir}
 use Rattle.hive_model.specs.Places.{step}
 use Rattle.hive_model.specs.Boards.{Stacks}
 use Rattle.hive_model.specs.Steps.{GroundStep}
-use Rattle.hive_model.specs.Reach.{ThreeSteps, OverTwo}
+use Rattle.hive_model.specs.Reach.{ThreeSteps}
 use Rattle.bug_moves.specs.Ways.{ThirdStep, SecondToward, SecondStep, FirstToward, OnTop, StepDown, AlongToward, StepAlong, UpToward, OverTwoAway}
 use Rattle.bug_moves.proofs.AtHive.{ground_moves}
 

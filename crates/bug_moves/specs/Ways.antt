@@ -1,8 +1,7 @@
 -- The ways of the bugs, step by step.
-use Rattle.std.specs.Prelude.{◌≡◌, ◌≢◌, ℕ, ◌≤◌, ◌<◌, IsTrue, ◌⊎◌, List}
+use Rattle.std.specs.Prelude.{◌≡◌, ◌≢◌, ℕ, ◌≤◌, ◌<◌, IsTrue, ◌⊎◌}
 use Rattle.hive_model.specs.declared.places.Place.{Place}
 use Rattle.hive_model.specs.declared.places.Dir.{Dir}
-use Rattle.hive_model.specs.Lists.{IsPath}
 use Rattle.hive_model.specs.Places.{step, steps}
 use Rattle.hive_model.specs.Boards.{Stacks, height_at, is_occupied}
 use Rattle.hive_model.specs.Steps.{GroundStep, ClimbingStep}

@@ -1,7 +1,7 @@
 use Rattle.std.proofs.Common.{arith, sym, ◌∙◌}
 use Rattle.bug_moves.proofs.Gaining.{room_for}
-use Rattle.bug_moves.proofs.HopLaws.{few_over, more_over, next_over, occupied_within, row_at_hive, gains_hop, gains_no_hop}
-use Rattle.std.specs.Prelude.{◌≡◌, IsTrue}
+use Rattle.bug_moves.proofs.HopLaws.{few_over, more_over, next_over, row_at_hive, gains_hop, gains_no_hop}
+use Rattle.std.specs.Prelude.{IsTrue}
 use Rattle.hive_model.specs.Boards.{is_occupied}
 use Rattle.hive_model.specs.Places.{steps}
 use Rattle.std.proofs.Common.{suc, ap}
