@@ -1,16 +1,16 @@
 -- What was written for the lines given so far, and how the run ends.
-use Rattle.std.proofs.Common.{◌≡◌, ◌<◌, ◌≤◌, ◌-◌, ℕ, List, [], ◌∷◌, ◌++◌, length, take, refl, ap, sym, ◌∙◌, append_assoc, arith, None, Some, inl, inr, subst}
+use Rattle.std.proofs.Common.{◌≡◌, ◌<◌, ◌-◌, ℕ, List, [], ◌∷◌, ◌++◌, length, take, refl, ap, sym, ◌∙◌, append_assoc, arith, None, Some, inl, inr, subst}
 use Rattle.std.proofs.lemmas.List.{append-nil}
 use Rattle.std.proofs.Math.Seq.{take-append_seam}
 use Rattle.io_edge.specs.Outside.{Told, behind}
 use Rattle.io_edge.proofs.Told.{behind-behind}
 use Rattle.hive_model.specs.Lines.{Line, lines, whole_lines}
-use Rattle.line_feed.specs.Feed.{Ends, Gives, Holds, Takes, input_limit, settled, fresh as new_reading}
+use Rattle.line_feed.specs.Feed.{Holds, Takes, input_limit, settled, fresh as new_reading}
 use Rattle.line_feed.specs.SoFar.{Fed}
 use Rattle.line_feed.proofs.FedLemmas.{fed_begin, fed_end, fed_held, fed_line, fed_prefix}
-use Rattle.uhp_session.specs.Answers.{State, fresh, next, reply}
-use Rattle.hive_cli.specs.Output.{HasExit, greeting, joined, output, replies, texts}
-use Rattle.hive_cli.specs.Rounds.{Round, Rounds, Standing}
+use Rattle.uhp_session.specs.Answers.{fresh}
+use Rattle.hive_cli.specs.Output.{HasExit, greeting, joined, replies, texts}
+use Rattle.hive_cli.specs.Rounds.{Rounds, Standing}
 use Rattle.hive_cli.specs.Session.{SessionRun, Sides, WroteAll, WroteFront, WroteTexts, WroteWhole}
 use Rattle.hive_cli.specs.declared.status.Status.{Status}
 use Rattle.hive_cli.specs.declared.status.Status.TheVariants.{Done, Refused, Usage, ReadFault, WriteFault, SpawnFault, BadInput, Memory, InputFull}

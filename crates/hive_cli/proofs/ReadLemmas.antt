@@ -1,13 +1,12 @@
 -- What was read of the input, and the lines that it gave.
-use Rattle.std.proofs.Common.{◌≡◌, ◌≤◌, ◌<◌, ℕ, ◌+◌, Bool, true, false, List, [], ◌∷◌, ◌++◌, length, refl, ap, sym, ◌∙◌, append_assoc, None, Some, subst}
-use Rattle.std.proofs.lemmas.List.{append-nil}
+use Rattle.std.proofs.Common.{◌≡◌, ◌≤◌, ℕ, Bool, true, false, List, [], ◌∷◌, ◌++◌, refl, ap, sym, ◌∙◌, None, Some, subst}
 use Rattle.io_edge.specs.Outside.{Told, in_front, IsAtEnd}
 use Rattle.io_edge.proofs.Told.{in_front-nil}
 use Rattle.hive_model.specs.Lines.{Line, lines}
 use Rattle.line_feed.specs.Feed.{Reading, Ends, Takes, pending, input_limit}
 use Rattle.line_feed.specs.SoFar.{Covers, Fed, WasRead}
 use Rattle.line_feed.proofs.FedLemmas.{fed_end, fed_prefix, fed_within}
-use Rattle.hive_cli.specs.Session.{AreRead, IsAllRead, WereRead}
+use Rattle.hive_cli.specs.Session.{IsAllRead, WereRead}
 
 some_same : {x y : List ℕ} → Some x ≡ Some y → x ≡ y
 some_same e = cc

@@ -1,5 +1,5 @@
 -- What the run of a session does, by the status with which it ends.
-use Rattle.std.specs.Prelude.{◌≡◌, ◌⊎◌, ℕ, ◌<◌, List, [], ◌∷◌, ◌++◌, length, take, None, Some}
+use Rattle.std.specs.Prelude.{◌≡◌, ◌⊎◌, ℕ, ◌<◌, List, [], ◌∷◌, ◌++◌, length, take, Some}
 use Rattle.io_edge.specs.Outside.{Told, behind}
 use Rattle.hive_model.specs.Lines.{Line, lines, whole_lines}
 use Rattle.line_feed.specs.Feed.{input_limit}

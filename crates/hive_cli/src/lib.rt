@@ -10,3 +10,6 @@ mod words;
 pub use laws::sessions_are_done;
 pub use start::run;
 pub use status::{Outcome, Status};
+
+#[cfg(test)]
+mod tests;

@@ -65,7 +65,15 @@ fn serve_line<R: Threads + Sync, S: Source, K: Sink, C: Clock, G: Game + Drop>(
     ensures timed { timed.new ≡ timed.old }
 {
     match reader.next_line(input) {
-        LineAnswer::Line => answer(rt, alloc, LineIn::Text(reader.line()), output, session, clock, timed),
+        LineAnswer::Line => answer(
+            rt,
+            alloc,
+            LineIn::Text(reader.line()),
+            output,
+            session,
+            clock,
+            timed,
+        ),
         LineAnswer::TooLong => answer(rt, alloc, LineIn::TooLong, output, session, clock, timed),
         LineAnswer::End => Some(Status::Done),
         LineAnswer::Failed => Some(Status::ReadFault),
@@ -99,7 +107,16 @@ pub(crate) fn uhp<R: Threads + Sync, S: Source, K: Sink, C: Clock, G: Game + Dro
     }
     let mut session: Session<G> = Session::new();
     'lines: loop {
-        if let Some(status) = serve_line(rt, alloc, &mut reader, input, output, &mut session, clock, timed) {
+        if let Some(status) = serve_line(
+            rt,
+            alloc,
+            &mut reader,
+            input,
+            output,
+            &mut session,
+            clock,
+            timed,
+        ) {
             return status;
         }
     }
