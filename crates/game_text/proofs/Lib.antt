@@ -5,3 +5,5 @@ pub mod ListedLaws
 pub mod ReadLaws
 pub mod FieldReads
 pub mod OrderLaws
+pub mod LineLaws
+pub mod WriteLaws
