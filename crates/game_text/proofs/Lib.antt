@@ -7,3 +7,4 @@ pub mod FieldReads
 pub mod OrderLaws
 pub mod LineLaws
 pub mod WriteLaws
+pub mod Rows

@@ -16,3 +16,6 @@ pub use parsed::Parsed;
 pub use reading::read_game;
 pub use texts::MoveTexts;
 pub use writing::write_game;
+
+#[cfg(test)]
+mod tests;

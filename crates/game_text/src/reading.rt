@@ -187,6 +187,16 @@ fn read_state_on<G: Game + Drop>(alloc: Global, game_type: GameType, text: &[u8]
     }
 }
 
+/// The game in which no ply was played.
+fn opening_of(alloc: Global, game_type: GameType) -> Parsed
+    ensures { result ≡ record { game_type = game_type; moves = [] } }
+{
+    Parsed {
+        game_type,
+        moves: MoveList::new(alloc),
+    }
+}
+
 /// The game of the line, or its first fault.
 fn game_of<G: Game + Drop>(alloc: Global, text: &[u8]) -> Result<Parsed, GameFault>
     requires { length text.now ≤ 65536 }
@@ -197,10 +207,7 @@ fn game_of<G: Game + Drop>(alloc: Global, text: &[u8]) -> Result<Parsed, GameFau
         return Err(GameFault::Malformed { part: 1 });
     };
     match more {
-        None => Ok(Parsed {
-            game_type,
-            moves: MoveList::new(alloc),
-        }),
+        None => Ok(opening_of(alloc, game_type)),
         Some(rest) => read_state_on::<G>(alloc, game_type, rest),
     }
 }
