@@ -1,0 +1,3 @@
+pub mod Hands
+pub mod Open
+pub mod Bringing

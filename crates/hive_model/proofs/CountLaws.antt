@@ -1,5 +1,5 @@
 -- How many places there are: on a board, and next to it.
-use Rattle.std.proofs.Common.{◌≡◌, ◌↔◌, ℕ, suc, ◌*◌, ◌≤◌, ◌<◌, true, false, List, [], ◌∷◌, ◌++◌, length, length-append, ◌⊎◌, inl, inr, refl, sym, ◌∙◌, ap, subst, arith}
+use Rattle.std.proofs.Common.{◌≡◌, ◌↔◌, ℕ, ◌*◌, ◌≤◌, ◌<◌, true, false, List, [], ◌∷◌, ◌++◌, length, length-append, ◌⊎◌, inl, inr, refl, sym, ◌∙◌, ap, subst, arith}
 use Rattle.std.specs.Prelude.{Option, slice_get, unwrap_or, map, IsTrue}
 use Rattle.std.specs.List.{flat_map}
 use Rattle.std.proofs.lemmas.Bool.{and_parts}
@@ -19,8 +19,9 @@ use Rattle.hive_model.proofs.PlaceLemmas.{places_total, same_place, is_place_its
 use Rattle.hive_model.proofs.Floods.{on_append, append_left, append_right}
 use Rattle.hive_model.proofs.Orders.{not_on_rising}
 use Rattle.hive_model.proofs.RuleLaws.{any_has, has_any, on_map, on_flat_map, dir_on}
-use Rattle.hive_model.proofs.NearLaws.{occupied_on, place_standing, rises_in_order, near_is}
+use Rattle.hive_model.proofs.NearLaws.{map_has, occupied_on, place_standing, rises_in_order, near_is}
 use Rattle.hive_model.proofs.PieceLaws.{on_pieces}
+use Rattle.hive_model.proofs.SpotLemmas.{length_map}
 
 -- the test of a place on a list
 pub listed : (ps : List Place) (q : Place) → IsTrue (on_list ps q) ↔ IsOn ps q
@@ -98,10 +99,6 @@ ground_stands b is p on =
     let r = place_standing b is.stacks p on in
     subst (λ (x : ℕ). StandsAt b x p 0) (sym (ap (λ (o : Option ℕ). unwrap_or o 0) r.1)) r.1
 
-map_has : {X Y : Type 0} (f : X → Y) (xs : List X) (y : Y) → IsOn (map f xs) y → (x : X) × IsOn xs x × (f x ≡ y)
-map_has f [] y on = absurd on
-map_has f (x ∷ xs) y on = elim on [ inl same ↦ (x, inl refl, same) | inr later ↦ let r = map_has f xs y later in (r.0, inr r.1, r.2) ]
-
 grounds_distinct : (b : Stacks) → IsBoard b → (ps : List Place) → ((p : Place) → IsOn ps p → IsOn (places_of b) p) → AreDistinct ps → AreDistinct (map (ground b) ps)
 grounds_distinct b is [] sub h = tt
 grounds_distinct b is (p ∷ ps) sub h = (
@@ -112,10 +109,6 @@ grounds_distinct b is (p ∷ ps) sub h = (
       h.0 (subst (IsOn ps) (is.once (ground b p) r.0 p 0 0 there here).0 r.1),
   grounds_distinct b is ps (λ q on. sub q (inr on)) h.1,
 )
-
-length_map : {X Y : Type 0} (f : X → Y) (xs : List X) → length (map f xs) ≡ length xs
-length_map f [] = refl
-length_map f (x ∷ xs) = ap suc (length_map f xs)
 
 -- a board has at most 28 occupied places
 pub places_few : (b : Stacks) → IsBoard b → length (places_of b) ≤ 28

@@ -81,7 +81,13 @@ LeastInHandIsTested = (t : GameType) (b : Stacks) (x : ℕ) → x < 28 → IsTru
 
 -- the next piece of a kind and colour is the least of them in hand
 abbrev pub NextIsLeast : Type 0
-NextIsLeast = (t : GameType) (b : Stacks) (c : Colour) (k : Kind) (x : ℕ) → x < 28 → kind_of x ≡ k → colour_of x ≡ c → (next_of t b c k ≡ Some x) ↔ IsLeastInHand t b x
+NextIsLeast = (t : GameType) (b : Stacks) (c : Colour) (k : Kind) (x : ℕ)
+    → (next_of t b c k ≡ Some x) ↔ ((x < 28) × (kind_of x ≡ k) × (colour_of x ≡ c) × IsLeastInHand t b x)
+
+-- there is no next one exactly where none of them is in hand
+abbrev pub NextMayBeNone : Type 0
+NextMayBeNone = (t : GameType) (b : Stacks) (c : Colour) (k : Kind)
+    → (next_of t b c k ≡ None) ↔ ((x : ℕ) → x < 28 → kind_of x ≡ k → colour_of x ≡ c → ¬ IsInHand t b x)
 
 -- where a side may place
 abbrev pub MayPlaceIsTested : Type 0

@@ -4,7 +4,7 @@
 //! legal moves. A law says that the two agree, so that a contract which cites a test says the rule.
 
 ghost use Rattle.hive_model.specs.Laws.{NeighboursAreTested, OneHiveIsTested, SeparatingIsTested, CutIsTested, GroundStepIsTested, ClimbingStepIsTested, FreeStepIsTested, ReachIsTested, CopiesAreTested, MovesAsIsTested};
-ghost use Rattle.hive_model.specs.Laws.{InHandIsTested, LeastInHandIsTested, NextIsLeast, MayPlaceIsTested, PlacementIsTested, ThrowerIsTested, ThrowOverIsTested, ThrowIsTested, WalkIsTested, SurroundedIsTested, OverIsTested};
+ghost use Rattle.hive_model.specs.Laws.{InHandIsTested, LeastInHandIsTested, NextIsLeast, NextMayBeNone, MayPlaceIsTested, PlacementIsTested, ThrowerIsTested, ThrowOverIsTested, ThrowIsTested, WalkIsTested, SurroundedIsTested, OverIsTested};
 ghost use Rattle.hive_model.specs.Laws.{LegalPairIsTested, LegalPairIsNear, MovesAreLegal, MovesRise, PassIsAlone, OverHasNoMoves, MovesHavePieces, PutKeepsBoards, LiftKeepsBoards, FloodsFindWays, PlacesAreSettled, MovesAreSettled};
 
 /// The tests of neighbours, of one hive, and of the places that hold it together: a separating place, without whose pieces the
@@ -41,6 +41,7 @@ pub fn placements_are_tested()
     ensures in_hand { InHandIsTested }
     ensures least { LeastInHandIsTested }
     ensures next { NextIsLeast }
+    ensures no_next { NextMayBeNone }
     ensures place { MayPlaceIsTested }
     ensures placement { PlacementIsTested }
 {}

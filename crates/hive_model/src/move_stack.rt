@@ -27,7 +27,7 @@ impl Model for MoveStack {
 }
 
 impl MoveStack {
-    /// Room for this many levels.
+    /// Room for this many levels, from 1 to 66, of 5,488 moves each: 28 pieces times 196 places. All memory is taken here.
     pub fn new(alloc: Global, levels: u32) -> Result<MoveStack, AllocError>
         requires few { levels ≤ 66 }
         requires some { 1 ≤ levels }
@@ -40,12 +40,14 @@ impl MoveStack {
         Ok(MoveStack { lists, used: 0 })
     }
 
+    /// For how many more levels there is room.
     pub fn free_levels(&self) -> u32
         ensures { result ≡ self.now.free }
     {
         (self.lists.len() - self.used) as u32
     }
 
+    /// How many levels there are.
     pub fn levels(&self) -> u32
         ensures { result ≡ length self.now.lists }
     {
@@ -72,6 +74,7 @@ impl MoveStack {
         let _ = list.push(m);
     }
 
+    /// The number of moves of a level, counted from 0.
     pub fn level_len(&self, level: u32) -> u32
         requires { level < length self.now.lists }
         ensures { result ≡ length (level_of self.now level) }
@@ -79,6 +82,7 @@ impl MoveStack {
         self.lists[level as usize].len() as u32
     }
 
+    /// A move of a level, both counted from 0.
     pub fn get(&self, level: u32, i: u32) -> Move
         requires level { level < length self.now.lists }
         requires place { i < length (level_of self.now level) }
@@ -87,7 +91,7 @@ impl MoveStack {
         self.lists[level as usize][i as usize]
     }
 
-    /// Takes the last level away.
+    /// Takes the last level away, with its moves.
     pub fn drop_level(&mut self)
         requires { 1 ≤ length self.old.lists }
         ensures { self.new ≡ without_level self.old }

@@ -28,10 +28,12 @@ pub record CountsCall (failed : Type 0) (before now : Calls) : Type 0 where
   pub faults : failed → now.faults ≡ one_more before.faults
   pub same : ¬ failed → now.faults ≡ before.faults
 
--- the greatest size of the piece of a call: call n has the n-th size, each later call the last one, and 0 counts as 1
+-- the greatest size of the piece of a call: call n has the n-th size, each later call the last one,
+-- and 0 counts as 1
 abbrev pub greatest_size : List ℕ → ℕ → ℕ
 greatest_size sizes call = max (slice_index sizes (min call (length sizes) - 1)) 1
 
--- how many of so many bytes are the piece of a call: all of them up to the greatest size, and where no sizes are given just all
+-- how many of so many bytes are the piece of a call: all of them up to the greatest size, and where
+-- no sizes are given just all
 abbrev pub piece_of : List ℕ → ℕ → ℕ → ℕ
 piece_of sizes call bytes = if length sizes == 0 then bytes else min (greatest_size sizes call) bytes

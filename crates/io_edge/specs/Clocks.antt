@@ -18,7 +18,8 @@ pub record ClockState : Type 0 where
   pub last : ℕ
   pub readings : ℕ
 
--- the reading after one: the first of the list, cut to the greatest reading, yet never an earlier one; where the list is at its end, the same again
+-- the reading after one: the first of the list, cut to the greatest reading, yet never an earlier
+-- one; where the list is at its end, the same again
 abbrev pub reading_after : ℕ → List ℕ → ℕ
 reading_after last [] = last
 reading_after last (moment ∷ later) = max (min moment last_moment) last

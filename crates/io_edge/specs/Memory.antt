@@ -34,7 +34,8 @@ pub record LinkState : Type 0 where
   pub source : SourceState
   pub sink : SinkState
 
--- what comes of the bytes left, in the call of this number and in a buffer of this length: the call's piece, or the end where none is left
+-- what comes of the bytes left, in the call of this number and in a buffer of this length: the
+-- call's piece, or the end where none is left
 abbrev pub Gives : ReadAnswer → List ℕ → List ℕ → ℕ → ℕ → Type 0
 Gives (Got n) left sizes call room = n ≡ piece_of sizes call (min (length left) room)
 Gives End left sizes call room = left ≡ []
@@ -54,7 +55,8 @@ pub record ReadsInMemory (answer : ReadAnswer) (room : ℕ) (before now : Source
   pub counted : CountsCall (answer ≡ ReadFailed) before.calls now.calls
   pub sizes : now.sizes ≡ before.sizes
 
--- a write whose number is on the list takes nothing; a failure of another number is want of memory, of which nothing is said
+-- a write whose number is on the list takes nothing; a failure of another number is want of memory,
+-- of which nothing is said
 abbrev pub AnswersWrite : WriteAnswer → SinkState → ℕ → Type 0
 AnswersWrite (Took n) sink bytes =
     (next_fails sink.calls ≡ false) × (n ≡ piece_of sink.sizes (next_number sink.calls) bytes)

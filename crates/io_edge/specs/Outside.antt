@@ -16,7 +16,7 @@ pub record Aside : Type 0 where
   pub bytes : Told
   pub faults : ℕ
 
--- the count rose in a call, or stands at its greatest value
+-- the count rose in a call, or stands at its greatest value, that of a u64
 abbrev pub Rose : ℕ → ℕ → Type 0
 Rose before now = (before < now) ⊎ (now ≡ 2 ^ 64 - 1)
 
@@ -71,7 +71,7 @@ Collects before None written = ⊤
 Collects None (Some all) written = ⊥
 Collects (Some lists) (Some all) written = (bytes : List ℕ) × (written ≡ Some bytes) × (all ≡ lists ++ bytes ∷ [])
 
--- a count one greater, held at its greatest value
+-- a count one greater: a count is a u64, and stands still at its greatest value
 abbrev pub one_more : ℕ → ℕ
 one_more count = min (count + 1) (2 ^ 64 - 1)
 

@@ -4,7 +4,8 @@ use Rattle.io_edge.specs.Outside.{ToldLists}
 use Rattle.io_edge.specs.Calls.{Calls, next_fails}
 use Rattle.io_edge.specs.Memory.{LinkState}
 
--- the links to come, the closed links in the order of closing, whether a closed link was lost for want of memory, the calls of start, and how many closed links had failed
+-- the links to come, the closed links in the order of closing, whether a closed link was lost for
+-- want of memory, the calls of start, and how many closed links had failed
 pub record SpawnerState : Type 0 where
   pub coming : List LinkState
   pub closed : List LinkState

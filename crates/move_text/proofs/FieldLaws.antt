@@ -1,5 +1,5 @@
 -- The fields of lines are read exactly.
-use Rattle.std.proofs.Common.{◌≡◌, ℕ, suc, zero, ◌+◌, ◌*◌, ◌-◌, ◌/◌, ◌%◌, ◌^◌, ◌≤◌, ◌<◌, Bool, true, false, List, [], ◌∷◌, ◌++◌, Result, Ok, Err, refl, sym, ◌∙◌, ap, subst, arith, ◌⊎◌, inl, inr}
+use Rattle.std.proofs.Common.{◌≡◌, ℕ, ◌+◌, ◌*◌, ◌-◌, ◌/◌, ◌%◌, ◌^◌, ◌≤◌, ◌<◌, Bool, true, false, List, [], ◌∷◌, ◌++◌, Result, Ok, Err, refl, sym, ◌∙◌, ap, subst, arith, ◌⊎◌, inl, inr}
 use Rattle.std.specs.Prelude.{Option, Some, None, IfSome, codes, decimal, not, ◌&&◌, nat_eq, nat_le, nat_lt, if◌then◌else◌}
 use Rattle.std.specs.Str.{bytes_eq, IsUtf8, IsAscii}
 use Rattle.std.specs.Str.Parse.{ParsesUnsigned}
@@ -10,8 +10,8 @@ use Rattle.std.proofs.lemmas.Bool.{eqb-true, leb-true, ltb-true}
 use Rattle.hive_model.specs.declared.pieces.GameType.{GameType}
 use Rattle.hive_model.specs.declared.places.State.{State}
 use Rattle.hive_model.specs.declared.places.State.TheVariants.{NotStarted, InProgress, Draw, WhiteWins, BlackWins}
-use Rattle.hive_model.specs.Fields.{IsNumberText, type_bytes, state_bytes, two_digits, clock_bytes, IsTimeText}
-use Rattle.move_text.specs.Readers.{game_type_of, type_at, state_at, is_digit, part_at, budget_of, time_at}
+use Rattle.hive_model.specs.Fields.{IsNumberText, type_bytes, state_bytes, two_digits, IsTimeText}
+use Rattle.move_text.specs.Readers.{game_type_of, type_at, state_at, two_digit_number, budget_of, time_at}
 
 -- Numbers
 
@@ -48,14 +48,35 @@ text_taken {X} text word x o y = go (bytes_eq text word) refl
 pub type_found : (text : List ℕ) (t : GameType) → type_at text ≡ Some t → text ≡ type_bytes t
 unfolding type_at
 type_found text t h =
-    elim (text_taken text (codes "Base") (game_type_of false false false) _ t h) [ inl r ↦ r.0 ∙ ap type_bytes r.1 | inr h2 ↦
-    elim (text_taken text (codes "Base+M") (game_type_of true false false) _ t h2) [ inl r ↦ r.0 ∙ ap type_bytes r.1 | inr h3 ↦
-    elim (text_taken text (codes "Base+L") (game_type_of false true false) _ t h3) [ inl r ↦ r.0 ∙ ap type_bytes r.1 | inr h4 ↦
-    elim (text_taken text (codes "Base+P") (game_type_of false false true) _ t h4) [ inl r ↦ r.0 ∙ ap type_bytes r.1 | inr h5 ↦
-    elim (text_taken text (codes "Base+ML") (game_type_of true true false) _ t h5) [ inl r ↦ r.0 ∙ ap type_bytes r.1 | inr h6 ↦
-    elim (text_taken text (codes "Base+MP") (game_type_of true false true) _ t h6) [ inl r ↦ r.0 ∙ ap type_bytes r.1 | inr h7 ↦
-    elim (text_taken text (codes "Base+LP") (game_type_of false true true) _ t h7) [ inl r ↦ r.0 ∙ ap type_bytes r.1 | inr h8 ↦
-    elim (text_taken text (codes "Base+MLP") (game_type_of true true true) None t h8) [ inl r ↦ r.0 ∙ ap type_bytes r.1 | inr h9 ↦ absurd (cc) ] ] ] ] ] ] ] ]
+    elim (text_taken text (codes "Base") (game_type_of false false false) _ t h) [
+      | inl r ↦ r.0 ∙ ap type_bytes r.1
+      | inr h2 ↦
+          elim (text_taken text (codes "Base+M") (game_type_of true false false) _ t h2) [
+            | inl r ↦ r.0 ∙ ap type_bytes r.1
+            | inr h3 ↦
+                elim (text_taken text (codes "Base+L") (game_type_of false true false) _ t h3) [
+                  | inl r ↦ r.0 ∙ ap type_bytes r.1
+                  | inr h4 ↦
+                      elim (text_taken text (codes "Base+P") (game_type_of false false true) _ t h4) [
+                        | inl r ↦ r.0 ∙ ap type_bytes r.1
+                        | inr h5 ↦
+                            elim (text_taken text (codes "Base+ML") (game_type_of true true false) _ t h5) [
+                              | inl r ↦ r.0 ∙ ap type_bytes r.1
+                              | inr h6 ↦
+                                  elim (text_taken text (codes "Base+MP") (game_type_of true false true) _ t h6) [
+                                    | inl r ↦ r.0 ∙ ap type_bytes r.1
+                                    | inr h7 ↦
+                                        elim (text_taken text (codes "Base+LP") (game_type_of false true true) _ t h7) [
+                                          | inl r ↦ r.0 ∙ ap type_bytes r.1
+                                          | inr h8 ↦
+                                              elim (text_taken text (codes "Base+MLP") (game_type_of true true true) None t h8) [ inl r ↦ r.0 ∙ ap type_bytes r.1 | inr h9 ↦ absurd (cc) ]
+                                        ]
+                                  ]
+                            ]
+                      ]
+                ]
+          ]
+    ]
 
 type_again : (m l p : Bool) → type_at (type_bytes (game_type_of m l p)) ≡ Some (game_type_of m l p)
 unfolding type_at
@@ -78,11 +99,23 @@ if_type_found text (Some t) e = type_found text t (sym e)
 pub state_found : (text : List ℕ) (s : State) → state_at text ≡ Some s → text ≡ state_bytes s
 unfolding state_at
 state_found text s h =
-    elim (text_taken text (codes "NotStarted") NotStarted _ s h) [ inl r ↦ r.0 ∙ ap state_bytes r.1 | inr h2 ↦
-    elim (text_taken text (codes "InProgress") InProgress _ s h2) [ inl r ↦ r.0 ∙ ap state_bytes r.1 | inr h3 ↦
-    elim (text_taken text (codes "Draw") Draw _ s h3) [ inl r ↦ r.0 ∙ ap state_bytes r.1 | inr h4 ↦
-    elim (text_taken text (codes "WhiteWins") WhiteWins _ s h4) [ inl r ↦ r.0 ∙ ap state_bytes r.1 | inr h5 ↦
-    elim (text_taken text (codes "BlackWins") BlackWins None s h5) [ inl r ↦ r.0 ∙ ap state_bytes r.1 | inr h6 ↦ absurd (cc) ] ] ] ] ]
+    elim (text_taken text (codes "NotStarted") NotStarted _ s h) [
+      | inl r ↦ r.0 ∙ ap state_bytes r.1
+      | inr h2 ↦
+          elim (text_taken text (codes "InProgress") InProgress _ s h2) [
+            | inl r ↦ r.0 ∙ ap state_bytes r.1
+            | inr h3 ↦
+                elim (text_taken text (codes "Draw") Draw _ s h3) [
+                  | inl r ↦ r.0 ∙ ap state_bytes r.1
+                  | inr h4 ↦
+                      elim (text_taken text (codes "WhiteWins") WhiteWins _ s h4) [
+                        | inl r ↦ r.0 ∙ ap state_bytes r.1
+                        | inr h5 ↦
+                            elim (text_taken text (codes "BlackWins") BlackWins None s h5) [ inl r ↦ r.0 ∙ ap state_bytes r.1 | inr h6 ↦ absurd (cc) ]
+                      ]
+                ]
+          ]
+    ]
 
 state_again : (s : State) → state_at (state_bytes s) ≡ Some s
 unfolding state_at
@@ -105,11 +138,11 @@ record IsPart (most a b n : ℕ) : Type 0 where
   fits : n ≤ most
   text : a ∷ (b ∷ []) ≡ two_digits n
 
-part_found : (most a b n : ℕ) → part_at most a b ≡ Some n → IsPart most a b n
+part_found : (most a b n : ℕ) → two_digit_number most a b ≡ Some n → IsPart most a b n
 part_found most a b n h = go (nat_le 48 a) (nat_lt a 58) (nat_le 48 b) (nat_lt b 58) (nat_le ((a - 48) * 10 + (b - 48)) most) refl refl refl refl refl h
   where
     go : (p q r s t : Bool) → nat_le 48 a ≡ p → nat_lt a 58 ≡ q → nat_le 48 b ≡ r → nat_lt b 58 ≡ s → nat_le ((a - 48) * 10 + (b - 48)) most ≡ t
-      → (if p && q && (r && s && t) then Some ((a - 48) * 10 + (b - 48)) else None) ≡ Some n → IsPart most a b n
+        → (if p && q && (r && s && t) then Some ((a - 48) * 10 + (b - 48)) else None) ≡ Some n → IsPart most a b n
     go true true true true true e f g i j k =
         let same : (a - 48) * 10 + (b - 48) ≡ n = cc in
         let a1 = leb-true 48 a e in
@@ -135,11 +168,11 @@ both_true true b h = (refl, h)
 both_true false b h = absurd (cc)
 
 pub time_found : (text : List ℕ) (n : ℕ) → time_at text ≡ Some n → IsTimeText text n
-time_found (a ∷ b ∷ c ∷ d ∷ e ∷ f ∷ g ∷ h ∷ []) n eq = let split = cond_some (nat_eq c 58 && nat_eq f 58) (budget_of (part_at 99 a b) (part_at 59 d e) (part_at 59 g h)) n eq in
+time_found (a ∷ b ∷ c ∷ d ∷ e ∷ f ∷ g ∷ h ∷ []) n eq = let split = cond_some (nat_eq c 58 && nat_eq f 58) (budget_of (two_digit_number 99 a b) (two_digit_number 59 d e) (two_digit_number 59 g h)) n eq in
     let colons = both_true (nat_eq c 58) (nat_eq f 58) split.0 in
-    go (part_at 99 a b) (part_at 59 d e) (part_at 59 g h) refl refl refl (eqb-true c 58 colons.0) (eqb-true f 58 colons.1) split.1
+    go (two_digit_number 99 a b) (two_digit_number 59 d e) (two_digit_number 59 g h) refl refl refl (eqb-true c 58 colons.0) (eqb-true f 58 colons.1) split.1
   where
-    go : (x y z : Option ℕ) → part_at 99 a b ≡ x → part_at 59 d e ≡ y → part_at 59 g h ≡ z → c ≡ 58 → f ≡ 58 → budget_of x y z ≡ Some n → IsTimeText (a ∷ b ∷ c ∷ d ∷ e ∷ f ∷ g ∷ h ∷ []) n
+    go : (x y z : Option ℕ) → two_digit_number 99 a b ≡ x → two_digit_number 59 d e ≡ y → two_digit_number 59 g h ≡ z → c ≡ 58 → f ≡ 58 → budget_of x y z ≡ Some n → IsTimeText (a ∷ b ∷ c ∷ d ∷ e ∷ f ∷ g ∷ h ∷ []) n
     go (Some x) (Some y) (Some z) p q r i j k =
         let hours = part_found 99 a b x p in
         let minutes = part_found 59 d e y q in
@@ -153,7 +186,7 @@ time_found (a ∷ b ∷ c ∷ d ∷ e ∷ f ∷ g ∷ h ∷ []) n eq = let split
           minutes_fit = minutes.fits;
           seconds_fit = seconds.fits;
           text_is = (λ t. a ∷ (b ∷ (i t ∷ (d ∷ (e ∷ (j t ∷ (g ∷ (h ∷ [])))))))) ∙ ap (λ (t : List ℕ). t ++ 58 ∷ (d ∷ (e ∷ (58 ∷ (g ∷ (h ∷ [])))))) hours.text
-            ∙ ap (λ (t : List ℕ). two_digits x ++ 58 ∷ (t ++ 58 ∷ (g ∷ (h ∷ [])))) minutes.text ∙ ap (λ (t : List ℕ). two_digits x ++ 58 ∷ (two_digits y ++ 58 ∷ t)) seconds.text;
+              ∙ ap (λ (t : List ℕ). two_digits x ++ 58 ∷ (t ++ 58 ∷ (g ∷ (h ∷ [])))) minutes.text ∙ ap (λ (t : List ℕ). two_digits x ++ 58 ∷ (two_digits y ++ 58 ∷ t)) seconds.text;
           budget_is = sym same;
         }
     go None y z p q r i j k = absurd (cc)

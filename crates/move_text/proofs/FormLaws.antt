@@ -1,13 +1,9 @@
 -- The form of a text is read, and a text of no form is refused at its offset.
-use Rattle.std.proofs.Common.{◌≡◌, ℕ, suc, zero, ◌+◌, ◌-◌, ◌≤◌, ◌<◌, Bool, true, false, List, [], ◌∷◌, ◌++◌, length, take, drop, Option, Some, None, Result, Ok, Err, refl, sym, ◌∙◌, ap, subst, arith, add-one, append_assoc, ◌⊎◌, inl, inr, cond, lit<}
-use Rattle.std.specs.Prelude.{nat_eq, nat_lt, nat_le, codes, ◌&&◌, if◌then◌else◌}
+use Rattle.std.proofs.Common.{◌≡◌, ℕ, suc, zero, ◌+◌, ◌≤◌, ◌<◌, Bool, true, false, List, [], ◌∷◌, ◌++◌, take, Option, Some, None, Result, Ok, Err, refl, sym, ◌∙◌, ap, subst, arith, append_assoc}
+use Rattle.std.specs.Prelude.{nat_eq}
 use Rattle.std.specs.List.{list_all}
-use Rattle.std.proofs.lemmas.Bool.{eqb-true, ltb-true, leb-true, eqb-false}
-use Rattle.hive_model.specs.declared.pieces.Colour.{Colour}
-use Rattle.hive_model.specs.declared.pieces.Colour.TheVariants.{White, Black}
-use Rattle.hive_model.specs.declared.pieces.Kind.{Kind}
-use Rattle.hive_model.specs.declared.pieces.Kind.TheVariants.{Queen, Spider, Beetle, Grasshopper, Ant, Mosquito, Ladybug, Pillbug}
-use Rattle.hive_model.specs.Pieces.{piece_of, most_of, IsNumber, all_pieces}
+use Rattle.std.proofs.lemmas.Bool.{eqb-true}
+use Rattle.hive_model.specs.Pieces.{all_pieces}
 use Rattle.hive_model.proofs.RuleLaws.{all_at}
 use Rattle.hive_model.proofs.PieceLaws.{on_pieces}
 use Rattle.hive_model.specs.declared.forms.Stroke.{Stroke}
@@ -18,13 +14,11 @@ use Rattle.hive_model.specs.declared.forms.Form.{Form}
 use Rattle.hive_model.specs.declared.forms.Form.TheVariants.{Passes, Alone, Beside}
 use Rattle.move_text.specs.declared.progress.Naming.{Naming}
 use Rattle.move_text.specs.declared.progress.Naming.TheVariants.{Empty, Side, Kinded, Named}
-use Rattle.move_text.specs.declared.progress.Progress.{Progress}
-use Rattle.move_text.specs.declared.progress.Progress.TheVariants.{AtP, AtPa, AtPas, AtPass, First, Second, Marked}
-use Rattle.hive_model.specs.Texts.{colour_code, kind_code, number_code, name_of, piece_text, stroke_code, destination, form_text, IsForm, Begins, IsNoText}
-use Rattle.move_text.specs.Scan.{colour_at, kind_at, stroke_at, sided, kinded, is_number, naming_with, after_first, on_first, before_second, behind_second, after_second, on_second, progress_with, end_first, front_mark, end_second, end_of, scan}
-use Rattle.move_text.proofs.Names.{text_of_piece, piece_within}
-use Rattle.move_text.proofs.Runs.{then_run, run, run_append, run_on, run_stuck, run_scan, EndsAs, scan_ok, StopsAt, scan_err}
-use Rattle.move_text.proofs.ProgressLaws.{spelled, run_spelled, ends_form, completed}
+use Rattle.move_text.specs.declared.progress.Progress.TheVariants.{AtPass, First, Second, Marked}
+use Rattle.hive_model.specs.Texts.{piece_text, stroke_code, destination, form_text, IsForm, Begins, IsNoText}
+use Rattle.move_text.specs.Scan.{naming_with, on_first, on_second, scan}
+use Rattle.move_text.proofs.Runs.{then_run, run, run_on, run_stuck, run_scan, EndsAs, scan_ok, scan_err}
+use Rattle.move_text.proofs.ProgressLaws.{run_spelled, ends_form, completed}
 
 -- Each text of a form is read
 
@@ -61,7 +55,7 @@ first_run n [] m h = let same : n ≡ m = cc in ap (λ n. Some (First n)) same
 first_run n (b ∷ bs) m h = go (λ next k. first_run next bs m k) (naming_with n b) refl h
   where
     go : ((next : Naming) → name_run next bs ≡ Some m → run (First next) bs ≡ Some (First m)) → (o : Option Naming) → naming_with n b ≡ o
-      → then_name o (λ next. name_run next bs) ≡ Some m → then_run (on_first (naming_with n b) n b) (λ next. run next bs) ≡ Some (First m)
+        → then_name o (λ next. name_run next bs) ≡ Some m → then_run (on_first (naming_with n b) n b) (λ next. run next bs) ≡ Some (First m)
     go more None e k = absurd (cc)
     go more (Some next) e k = ap (λ o. then_run (on_first o n b) (λ next. run next bs)) e ∙ more next k
 
@@ -70,7 +64,7 @@ second_run x s n [] m h = let same : n ≡ m = cc in ap (λ n. Some (Second x s 
 second_run x s n (b ∷ bs) m h = go (λ next k. second_run x s next bs m k) (naming_with n b) refl h
   where
     go : ((next : Naming) → name_run next bs ≡ Some m → run (Second x s next) bs ≡ Some (Second x s m)) → (o : Option Naming) → naming_with n b ≡ o
-      → then_name o (λ next. name_run next bs) ≡ Some m → then_run (on_second (naming_with n b) x s n b) (λ next. run next bs) ≡ Some (Second x s m)
+        → then_name o (λ next. name_run next bs) ≡ Some m → then_run (on_second (naming_with n b) x s n b) (λ next. run next bs) ≡ Some (Second x s m)
     go more None e k = absurd (cc)
     go more (Some next) e k = ap (λ o. then_run (on_second o x s n b) (λ next. run next bs)) e ∙ more next k
 
@@ -122,12 +116,12 @@ no_text t k h =
       within = stop.within;
       begins = subst Begins r.text (completed stop.last r.is);
       stops = λ less b.
-        let go = form_run b.form b.is in
-        let one : e.0 + 1 ≡ suc e.0 = omega arith in
-        let stuck = run_stuck (First Empty) (take (suc e.0) t) b.rest (stop.stuck less) in
-        let reached = ap (run (First Empty)) (ap (λ n. take n t ++ b.rest) (sym one) ∙ sym b.text) ∙ go.reached in
-        let wrong : None ≡ Some go.last = sym stuck ∙ reached in
-        absurd (cc);
+          let go = form_run b.form b.is in
+          let one : e.0 + 1 ≡ suc e.0 = omega arith in
+          let stuck = run_stuck (First Empty) (take (suc e.0) t) b.rest (stop.stuck less) in
+          let reached = ap (run (First Empty)) (ap (λ n. take n t ++ b.rest) (sym one) ∙ sym b.text) ∙ go.reached in
+          let wrong : None ≡ Some go.last = sym stuck ∙ reached in
+          absurd (cc);
     })
 
 front_of_take : (n k : ℕ) (t : List ℕ) → n ≤ k → (rest : List ℕ) × (take k t ≡ take n t ++ rest)

@@ -1,18 +1,14 @@
 -- What was read of a move text: its bytes, and that some move text begins with them.
-use Rattle.std.proofs.Common.{◌≡◌, ℕ, suc, zero, ◌+◌, ◌-◌, ◌≤◌, ◌<◌, Bool, true, false, List, [], ◌∷◌, ◌++◌, length, take, drop, Option, Some, None, Result, Ok, Err, refl, sym, ◌∙◌, ap, subst, arith, add-one, append_assoc, ◌⊎◌, inl, inr, cond, lit<}
+use Rattle.std.proofs.Common.{◌≡◌, ℕ, ◌+◌, ◌-◌, ◌≤◌, ◌<◌, Bool, true, false, List, [], ◌∷◌, ◌++◌, Option, Some, None, refl, sym, ◌∙◌, ap, subst, arith, append_assoc, ◌⊎◌, inl, inr, lit<}
 use Rattle.std.specs.Prelude.{nat_eq, nat_lt, nat_le, codes, ◌&&◌, if◌then◌else◌}
-use Rattle.std.specs.List.{list_all}
 use Rattle.std.proofs.lemmas.Bool.{eqb-true, ltb-true, leb-true, eqb-false}
 use Rattle.hive_model.specs.declared.pieces.Colour.{Colour}
 use Rattle.hive_model.specs.declared.pieces.Colour.TheVariants.{White, Black}
 use Rattle.hive_model.specs.declared.pieces.Kind.{Kind}
 use Rattle.hive_model.specs.declared.pieces.Kind.TheVariants.{Queen, Spider, Beetle, Grasshopper, Ant, Mosquito, Ladybug, Pillbug}
-use Rattle.hive_model.specs.Pieces.{piece_of, most_of, IsNumber, all_pieces}
-use Rattle.hive_model.proofs.RuleLaws.{all_at}
-use Rattle.hive_model.proofs.PieceLaws.{on_pieces}
+use Rattle.hive_model.specs.Pieces.{piece_of, most_of, IsNumber}
 use Rattle.hive_model.specs.declared.forms.Stroke.{Stroke}
 use Rattle.hive_model.specs.declared.forms.Stroke.TheVariants.{Dash, Slash, Backslash}
-use Rattle.hive_model.specs.declared.forms.Mark.{Mark}
 use Rattle.hive_model.specs.declared.forms.Mark.TheVariants.{On, Before, After}
 use Rattle.hive_model.specs.declared.forms.Form.{Form}
 use Rattle.hive_model.specs.declared.forms.Form.TheVariants.{Passes, Alone, Beside}
@@ -20,10 +16,10 @@ use Rattle.move_text.specs.declared.progress.Naming.{Naming}
 use Rattle.move_text.specs.declared.progress.Naming.TheVariants.{Empty, Side, Kinded, Named}
 use Rattle.move_text.specs.declared.progress.Progress.{Progress}
 use Rattle.move_text.specs.declared.progress.Progress.TheVariants.{AtP, AtPa, AtPas, AtPass, First, Second, Marked}
-use Rattle.hive_model.specs.Texts.{colour_code, kind_code, number_code, name_of, piece_text, stroke_code, destination, form_text, IsForm, Begins, IsNoText}
-use Rattle.move_text.specs.Scan.{colour_at, kind_at, stroke_at, sided, kinded, is_number, naming_with, after_first, on_first, before_second, behind_second, after_second, on_second, progress_with, end_first, front_mark, end_second, end_of, scan}
+use Rattle.hive_model.specs.Texts.{colour_code, kind_code, number_code, piece_text, stroke_code, form_text, IsForm, Begins}
+use Rattle.move_text.specs.Scan.{colour_at, kind_at, stroke_at, sided, kinded, naming_with, after_first, on_first, before_second, behind_second, after_second, on_second, progress_with, end_of}
 use Rattle.move_text.proofs.Names.{text_of_piece, piece_within}
-use Rattle.move_text.proofs.Runs.{then_run, run, run_append, run_on, run_stuck, run_scan, EndsAs, scan_ok, StopsAt, scan_err}
+use Rattle.move_text.proofs.Runs.{then_run, run}
 
 -- What was read
 
@@ -89,53 +85,74 @@ stroke_is b s h =
 
 kind_is : (b : ℕ) (k : Kind) → kind_at b ≡ Some k → b ≡ kind_code k
 kind_is b k h =
-    elim (taken b 81 Queen _ k h) [ inl r ↦ r.0 ∙ ap kind_code r.1 | inr h2 ↦
-    elim (taken b 83 Spider _ k h2) [ inl r ↦ r.0 ∙ ap kind_code r.1 | inr h3 ↦
-    elim (taken b 66 Beetle _ k h3) [ inl r ↦ r.0 ∙ ap kind_code r.1 | inr h4 ↦
-    elim (taken b 71 Grasshopper _ k h4) [ inl r ↦ r.0 ∙ ap kind_code r.1 | inr h5 ↦
-    elim (taken b 65 Ant _ k h5) [ inl r ↦ r.0 ∙ ap kind_code r.1 | inr h6 ↦
-    elim (taken b 77 Mosquito _ k h6) [ inl r ↦ r.0 ∙ ap kind_code r.1 | inr h7 ↦
-    elim (taken b 76 Ladybug _ k h7) [ inl r ↦ r.0 ∙ ap kind_code r.1 | inr h8 ↦
-    elim (taken b 80 Pillbug None k h8) [ inl r ↦ r.0 ∙ ap kind_code r.1 | inr h9 ↦ absurd (cc) ] ] ] ] ] ] ] ]
+    elim (taken b 81 Queen _ k h) [
+      | inl r ↦ r.0 ∙ ap kind_code r.1
+      | inr h2 ↦
+          elim (taken b 83 Spider _ k h2) [
+            | inl r ↦ r.0 ∙ ap kind_code r.1
+            | inr h3 ↦
+                elim (taken b 66 Beetle _ k h3) [
+                  | inl r ↦ r.0 ∙ ap kind_code r.1
+                  | inr h4 ↦
+                      elim (taken b 71 Grasshopper _ k h4) [
+                        | inl r ↦ r.0 ∙ ap kind_code r.1
+                        | inr h5 ↦
+                            elim (taken b 65 Ant _ k h5) [
+                              | inl r ↦ r.0 ∙ ap kind_code r.1
+                              | inr h6 ↦
+                                  elim (taken b 77 Mosquito _ k h6) [
+                                    | inl r ↦ r.0 ∙ ap kind_code r.1
+                                    | inr h7 ↦
+                                        elim (taken b 76 Ladybug _ k h7) [
+                                          | inl r ↦ r.0 ∙ ap kind_code r.1
+                                          | inr h8 ↦
+                                              elim (taken b 80 Pillbug None k h8) [ inl r ↦ r.0 ∙ ap kind_code r.1 | inr h9 ↦ absurd (cc) ]
+                                        ]
+                                  ]
+                            ]
+                      ]
+                ]
+          ]
+    ]
 
-record Names (n : Naming) (b : ℕ) (next : Naming) : Type 0 where
+record NameGrows (n : Naming) (b : ℕ) (next : Naming) : Type 0 where
   is : IsNaming next
   text : naming_text next ≡ naming_text n ++ b ∷ []
 
-name_grows : (n : Naming) (b : ℕ) (next : Naming) → IsNaming n → naming_with n b ≡ Some next → Names n b next
+name_grows : (n : Naming) (b : ℕ) (next : Naming) → IsNaming n → naming_with n b ≡ Some next → NameGrows n b next
 name_grows Empty b next is h = go (colour_at b) refl h
   where
-    go : (o : Option Colour) → colour_at b ≡ o → sided o ≡ Some next → Names Empty b next
+    go : (o : Option Colour) → colour_at b ≡ o → sided o ≡ Some next → NameGrows Empty b next
     go None e k = absurd (cc)
     go (Some c) e k = let same : Side c ≡ next = cc in
-        subst (Names Empty b) same (record { is = tt; text = ap (λ n. n ∷ []) (sym (colour_is b c e)) })
+        subst (NameGrows Empty b) same (record { is = tt; text = ap (λ n. n ∷ []) (sym (colour_is b c e)) })
 name_grows (Side c) b next is h = go (kind_at b) refl h
   where
-    one : (k : Kind) → kind_at b ≡ Some k → (t : Bool) → nat_eq (most_of k) 0 ≡ t → Some (if t then Named (piece_of c k 0) else Kinded c k) ≡ Some next → Names (Side c) b next
+    one : (k : Kind) → kind_at b ≡ Some k → (t : Bool) → nat_eq (most_of k) 0 ≡ t → Some (if t then Named (piece_of c k 0) else Kinded c k) ≡ Some next → NameGrows (Side c) b next
     one k e true f j = let same : Named (piece_of c k 0) ≡ next = cc in
         let none : most_of k ≡ 0 = eqb-true (most_of k) 0 f in
         let number : IsNumber k 0 = (omega arith, λ _. none) in
-        subst (Names (Side c) b) same (record {
+        subst (NameGrows (Side c) b) same (record {
           is = piece_within c k 0 number;
           text = text_of_piece c k 0 number ∙ ap (λ n. colour_code c ∷ (n ∷ [])) (sym (kind_is b k e));
         })
     one k e false f j = let same : Kinded c k ≡ next = cc in
         let some = eqb-false (most_of k) 0 f in
         let more : 0 < most_of k = omega (arith, some) in
-        subst (Names (Side c) b) same (record { is = more; text = ap (λ n. colour_code c ∷ (n ∷ [])) (sym (kind_is b k e)) })
+        subst (NameGrows (Side c) b) same (record { is = more; text = ap (λ n. colour_code c ∷ (n ∷ [])) (sym (kind_is b k e)) })
 
-    go : (o : Option Kind) → kind_at b ≡ o → kinded c o ≡ Some next → Names (Side c) b next
+    go : (o : Option Kind) → kind_at b ≡ o → kinded c o ≡ Some next → NameGrows (Side c) b next
     go None e k = absurd (cc)
     go (Some k) e j = one k e (nat_eq (most_of k) 0) refl j
 name_grows (Kinded c k) b next is h = go (nat_lt 48 b) (nat_le (b - 48) (most_of k)) refl refl h
   where
-    go : (t u : Bool) → nat_lt 48 b ≡ t → nat_le (b - 48) (most_of k) ≡ u → (if t && u then Some (Named (piece_of c k (b - 48))) else None) ≡ Some next → Names (Kinded c k) b next
+    go : (t u : Bool) → nat_lt 48 b ≡ t → nat_le (b - 48) (most_of k) ≡ u → (if t && u then Some (Named (piece_of c k (b - 48))) else None) ≡ Some next → NameGrows (Kinded c k) b next
     go true true e f j = let same : Named (piece_of c k (b - 48)) ≡ next = cc in
         let low : 48 < b = ltb-true 48 b e in
         let high : b - 48 ≤ most_of k = leb-true (b - 48) (most_of k) f in
         let number : IsNumber k (b - 48) = (high, λ z. absurd (omega (arith, z, low))) in
         let digit : number_code (b - 48) ≡ b ∷ [] = digit_is b low in
-        subst (Names (Kinded c k) b) same (record {
+        subst (NameGrows (Kinded c k) b) same (record {
           is = piece_within c k (b - 48) number;
           text = text_of_piece c k (b - 48) number ∙ ap (λ ds. colour_code c ∷ (kind_code k ∷ ds)) digit;
         })

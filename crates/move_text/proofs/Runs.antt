@@ -1,5 +1,5 @@
 -- Reading byte by byte: where it ends, and where it stops. Nothing here speaks of a certain state.
-use Rattle.std.proofs.Common.{◌≡◌, ℕ, suc, zero, ◌+◌, ◌≤◌, ◌<◌, List, [], ◌∷◌, ◌++◌, length, take, Option, Some, None, Result, Ok, Err, refl, sym, ◌∙◌, ap, arith, add-one}
+use Rattle.std.proofs.Common.{◌≡◌, ℕ, suc, zero, ◌+◌, ◌≤◌, ◌<◌, List, [], ◌∷◌, ◌++◌, length, take, Option, Some, None, Ok, Err, refl, sym, ◌∙◌, ap, arith}
 use Rattle.std.specs.Option.{ok_or}
 use Rattle.hive_model.specs.declared.forms.Form.{Form}
 use Rattle.move_text.specs.declared.progress.Progress.{Progress}
@@ -18,7 +18,7 @@ run_append s [] ys = refl
 run_append s (x ∷ xs) ys = go (λ t. run_append t xs ys) (progress_with s x)
   where
     go : ((t : Progress) → run t (xs ++ ys) ≡ then_run (run t xs) (λ next. run next ys)) → (o : Option Progress)
-      → then_run o (λ next. run next (xs ++ ys)) ≡ then_run (then_run o (λ next. run next xs)) (λ next. run next ys)
+        → then_run o (λ next. run next (xs ++ ys)) ≡ then_run (then_run o (λ next. run next xs)) (λ next. run next ys)
     go more None = refl
     go more (Some t) = more t
 
@@ -34,7 +34,7 @@ run_scan s e [] offset f r h = let same : s ≡ e = cc in ap (λ o. ok_or o offs
 run_scan s e (b ∷ bs) offset f r h = go (λ t k. run_scan t e bs (offset + 1) f k h) (progress_with s b) r
   where
     go : ((t : Progress) → run t bs ≡ Some e → scan t bs (offset + 1) ≡ Ok f) → (o : Option Progress)
-      → then_run o (λ next. run next bs) ≡ Some e → go_on o offset (λ next. scan next bs (offset + 1)) ≡ Ok f
+        → then_run o (λ next. run next bs) ≡ Some e → go_on o offset (λ next. scan next bs (offset + 1)) ≡ Ok f
     go more None k = absurd (cc)
     go more (Some t) k = more t k
 
@@ -57,7 +57,7 @@ scan_ok s [] offset f h = record { last = s; reached = refl; ends = some_of_ok (
 scan_ok s (b ∷ bs) offset f h = go (λ t k. scan_ok t bs (offset + 1) f k) (progress_with s b) refl h
   where
     go : ((t : Progress) → scan t bs (offset + 1) ≡ Ok f → EndsAs t bs f) → (o : Option Progress)
-      → progress_with s b ≡ o → go_on o offset (λ next. scan next bs (offset + 1)) ≡ Ok f → EndsAs s (b ∷ bs) f
+        → progress_with s b ≡ o → go_on o offset (λ next. scan next bs (offset + 1)) ≡ Ok f → EndsAs s (b ∷ bs) f
     go more None e k = absurd (cc)
     go more (Some t) e k = let rest = more t k in
         record { last = rest.last; reached = ap (λ o. then_run o (λ next. run next bs)) e ∙ rest.reached; ends = rest.ends }
@@ -82,25 +82,31 @@ scan_err s [] offset k h =
 scan_err s (b ∷ bs) offset k h = go (λ t j. scan_err t bs (offset + 1) k j) (progress_with s b) refl h
   where
     go : ((t : Progress) → scan t bs (offset + 1) ≡ Err k → (n : ℕ) × (k ≡ offset + 1 + n) × StopsAt t bs n) → (o : Option Progress)
-      → progress_with s b ≡ o → go_on o offset (λ next. scan next bs (offset + 1)) ≡ Err k → (n : ℕ) × (k ≡ offset + n) × StopsAt s (b ∷ bs) n
+        → progress_with s b ≡ o → go_on o offset (λ next. scan next bs (offset + 1)) ≡ Err k → (n : ℕ) × (k ≡ offset + n) × StopsAt s (b ∷ bs) n
     go more None e j =
         let here : offset ≡ k = cc in
-        let same : k ≡ offset + 0 = omega (arith, here) in
-        (0, same, record {
-          within = omega arith;
-          last = s;
-          reached = refl;
-          stuck = λ _. ap (λ o. then_run o (λ next. run next (take 0 bs))) e;
-          unfinished = λ wrong. absurd (omega (arith, wrong));
-        })
+        let same : k ≡ offset + 0 = omega (arith, here) in (
+          0,
+          same,
+          record {
+            within = omega arith;
+            last = s;
+            reached = refl;
+            stuck = λ _. ap (λ o. then_run o (λ next. run next (take 0 bs))) e;
+            unfinished = λ wrong. absurd (omega (arith, wrong));
+          },
+        )
     go more (Some t) e j =
         let rest = more t j in
         let stop = rest.2 in
-        let same : k ≡ offset + suc rest.0 = omega (arith, rest.1) in
-        (suc rest.0, same, record {
-          within = omega (arith, stop.within);
-          last = stop.last;
-          reached = ap (λ o. then_run o (λ next. run next (take rest.0 bs))) e ∙ stop.reached;
-          stuck = λ less. ap (λ o. then_run o (λ next. run next (take (suc rest.0) bs))) e ∙ stop.stuck (omega (arith, less));
-          unfinished = λ all. stop.unfinished (omega (arith, all));
-        })
+        let same : k ≡ offset + suc rest.0 = omega (arith, rest.1) in (
+          suc rest.0,
+          same,
+          record {
+            within = omega (arith, stop.within);
+            last = stop.last;
+            reached = ap (λ o. then_run o (λ next. run next (take rest.0 bs))) e ∙ stop.reached;
+            stuck = λ less. ap (λ o. then_run o (λ next. run next (take (suc rest.0) bs))) e ∙ stop.stuck (omega (arith, less));
+            unfinished = λ all. stop.unfinished (omega (arith, all));
+          },
+        )

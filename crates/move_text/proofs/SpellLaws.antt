@@ -1,6 +1,6 @@
 -- The written text denotes the move.
-use Rattle.std.proofs.Common.{◌≡◌, ◌≢◌, ℕ, ◌<◌, ◌-◌, Bool, true, false, List, [], ◌∷◌, refl, sym, ◌∙◌, ap, subst, arith, ◌⊎◌, inl, inr}
-use Rattle.std.specs.Prelude.{Option, Some, None, option_map, IsTrue, nat_lt, ℤ, ◌+ℤ◌, pos, negsuc}
+use Rattle.std.proofs.Common.{◌≡◌, ℕ, ◌<◌, ◌-◌, List, [], ◌∷◌, refl, sym, ◌∙◌, ap, subst, arith, ◌⊎◌, inl, inr}
+use Rattle.std.specs.Prelude.{Option, Some, None, option_map, IsTrue, ℤ}
 use Rattle.std.proofs.lemmas.Int.{ints}
 use Rattle.std.proofs.lemmas.Bool.{ltb-true}
 use Rattle.hive_model.specs.declared.pieces.GameType.{GameType}
@@ -8,20 +8,17 @@ use Rattle.hive_model.specs.declared.places.Place.{Place}
 use Rattle.hive_model.specs.declared.places.Spot.{Spot}
 use Rattle.hive_model.specs.declared.places.Dir.{Dir}
 use Rattle.hive_model.specs.declared.places.Dir.TheVariants.{E, NE, NW, W, SW, SE}
-use Rattle.hive_model.specs.declared.places.Move.{Move}
 use Rattle.hive_model.specs.declared.places.Move.TheVariants.{Pass, To}
 use Rattle.hive_model.specs.Lists.{IsOn}
-use Rattle.hive_model.specs.Places.{step, origin, AreNeighbours}
-use Rattle.hive_model.specs.Boards.{Stacks, stack_at, height_at, is_occupied, top_at, spot_of, IsBoard, without, place_in}
+use Rattle.hive_model.specs.Places.{step, origin}
+use Rattle.hive_model.specs.Boards.{Stacks, stack_at, height_at, is_occupied, top_at, spot_of, IsBoard, without}
 use Rattle.hive_model.proofs.BoardLemmas.{spot_of_stands, stands_spot_of}
 use Rattle.hive_model.proofs.GetLemmas.{get_exists}
 use Rattle.hive_model.specs.declared.forms.Stroke.TheVariants.{Dash, Slash, Backslash}
-use Rattle.hive_model.specs.declared.forms.Mark.{Mark}
 use Rattle.hive_model.specs.declared.forms.Mark.TheVariants.{On, Before, After}
-use Rattle.hive_model.specs.declared.forms.Form.{Form}
-use Rattle.hive_model.specs.declared.forms.Form.TheVariants.{Passes, Alone, Beside}
+use Rattle.hive_model.specs.declared.forms.Form.TheVariants.{Beside}
 use Rattle.hive_model.specs.Texts.{form_text}
-use Rattle.hive_model.specs.Denotes.{place_by, DenotesAlone, DenotesBeside, Denotes, Candidate, candidates, by_top, first_named, form_of, text}
+use Rattle.hive_model.specs.Denotes.{place_by, Denotes, Candidate, candidates, by_top, first_named, text}
 use Rattle.hive_model.specs.Pieces.{OfType}
 use Rattle.move_text.proofs.WithoutLaws.{not_there, without_is_board}
 
@@ -57,11 +54,11 @@ leads q p (inr (inr (inr (inr (inr (inl e)))))) = ap (λ (s : Candidate). place_
 leads q p (inr (inr (inr (inr (inr (inr (inl e))))))) = ap (λ (s : Candidate). place_by s.place s.mark) (sym e) ∙ same_ints _ _ q.q q.r (omega (arith, ints)) (omega (arith, ints))
 leads q p (inr (inr (inr (inr (inr (inr (inr wrong))))))) = absurd wrong
 
-pub left_is_board : (b : Stacks) → IsBoard b → (x : ℕ) → IsBoard (without b x)
+left_is_board : (b : Stacks) → IsBoard b → (x : ℕ) → IsBoard (without b x)
 left_is_board b is x = elim (spot_of b x) as (λ o. spot_of b x ≡ o → IsBoard (without b x)) [
-    | None ↦ λ e. subst IsBoard (sym (not_there b x e)) is
-    | Some s ↦ λ e. without_is_board b is x s.place s.level (spot_of_stands b x s e)
-  ] refl
+  | None ↦ λ e. subst IsBoard (sym (not_there b x e)) is
+  | Some s ↦ λ e. without_is_board b is x s.place s.level (spot_of_stands b x s e)
+] refl
 
 beside_denotes : (t : GameType) (b : Stacks) → IsBoard b → (x : ℕ) (q : Place) → x < 28 → OfType t x → Found (without b x) x (candidates q) → Denotes t b (text b (To x q)) (To x q)
 beside_denotes t b is x q small of_type f =
@@ -80,10 +77,9 @@ beside_denotes t b is x q small of_type f =
       goes = ap (To x) (sym (leads q f.at f.on));
     }))
 
--- the place, or a neighbour, is occupied on the board without the piece
-pub data HasReference (b : Stacks) (x : ℕ) (q : Place) : Type 0 where
-  Here : IsTrue (is_occupied (without b x) q) → HasReference b x q
-  There : (d : Dir) → IsTrue (is_occupied (without b x) (step q d)) → HasReference b x q
+-- the place or one of its neighbours is occupied
+abbrev pub Touched : Stacks → Place → Type 0
+Touched c q = IsTrue (is_occupied c q) ⊎ ((d : Dir) × IsTrue (is_occupied c (step q d)))
 
 top_of : (c : Stacks) (q : Place) → IsTrue (is_occupied c q) → (y : ℕ) × (top_at c q ≡ Some y)
 top_of c q h = let some = ltb-true 0 (height_at c q) h in get_exists (stack_at c q) (height_at c q - 1) (omega (arith, some))
@@ -99,9 +95,9 @@ found_there c x q NE h = found_at c x q (record { mark = Before Slash; place = s
 found_there c x q NW h = found_at c x q (record { mark = After Backslash; place = step q NW }) (inr (inr (inr (inr (inr (inl refl)))))) h
 found_there c x q SE h = found_at c x q (record { mark = Before Backslash; place = step q SE }) (inr (inr (inr (inr (inr (inr (inl refl))))))) h
 
-pub text_denotes : (t : GameType) (b : Stacks) → IsBoard b → (x : ℕ) (q : Place) → x < 28 → OfType t x → HasReference b x q → Denotes t b (text b (To x q)) (To x q)
-text_denotes t b is x q small of_type (Here h) = beside_denotes t b is x q small of_type (found_at (without b x) x q (record { mark = On; place = q }) (inl refl) h)
-text_denotes t b is x q small of_type (There d h) = beside_denotes t b is x q small of_type (found_there (without b x) x q d h)
+pub text_denotes : (t : GameType) (b : Stacks) → IsBoard b → (x : ℕ) (q : Place) → x < 28 → OfType t x → Touched (without b x) q → Denotes t b (text b (To x q)) (To x q)
+text_denotes t b is x q small of_type (inl h) = beside_denotes t b is x q small of_type (found_at (without b x) x q (record { mark = On; place = q }) (inl refl) h)
+text_denotes t b is x q small of_type (inr (d, h)) = beside_denotes t b is x q small of_type (found_there (without b x) x q d h)
 
 pub first_denotes : (t : GameType) (x : ℕ) → x < 28 → OfType t x → Denotes t [] (text [] (To x origin)) (To x origin)
 first_denotes t x small of_type = inr (inl (record { piece = x; is_piece = small; of_type = of_type; text_is = refl; empty = refl; goes = refl }))

@@ -1,17 +1,17 @@
 -- The board without a piece, wherever it stands.
-use Rattle.std.proofs.Common.{◌≡◌, ◌≢◌, ℕ, suc, zero, ◌+◌, ◌-◌, ◌≤◌, ◌<◌, Bool, true, false, cond, List, [], ◌∷◌, ◌++◌, length, take, drop, refl, sym, ◌∙◌, ap, subst, arith, ◌⊎◌, inl, inr}
-use Rattle.std.specs.Prelude.{Option, Some, None, option_map, slice_get, IsTrue, nat_eq, nat_lt, nat_le, ◌&&◌, if◌then◌else◌}
+use Rattle.std.proofs.Common.{◌≡◌, ◌≢◌, ℕ, suc, zero, ◌+◌, ◌-◌, ◌≤◌, ◌<◌, true, false, List, [], ◌∷◌, ◌++◌, length, take, drop, refl, sym, ◌∙◌, ap, subst, arith, ◌⊎◌, inl, inr}
+use Rattle.std.specs.Prelude.{Option, Some, None, option_map, slice_get, IsTrue, nat_eq, nat_lt, if◌then◌else◌}
 use Rattle.std.specs.List.{remove}
 use Rattle.std.specs.FinMap.Entries.{is_sorted}
-use Rattle.std.proofs.lemmas.Bool.{ne_eqb, cond-true, cond-false, lt-ltb, ltb-true, le-leb, leb-true, leb-false, ltb-false, eqb-true, eqb-false}
+use Rattle.std.proofs.lemmas.Bool.{ne_eqb, cond-true, cond-false, ltb-true, ltb-false, eqb-true, eqb-false}
 use Rattle.std.proofs.Common.{eq-eqb}
 use Rattle.hive_model.specs.declared.places.Place.{Place}
 use Rattle.hive_model.specs.declared.places.Spot.{Spot}
 use Rattle.hive_model.specs.Places.{place_cmp, is_place, IsWithin}
-use Rattle.hive_model.specs.Boards.{Stacks, stack_found, stack_at, height_at, is_occupied, top_at, spot_of, under_spot, under_of, set_stack, StandsAt, IsBoard, without, without_at, place_in}
-use Rattle.hive_model.proofs.PlaceLemmas.{is_place_itself, same_place, cases_place, is_other_place}
-use Rattle.hive_model.proofs.GetLemmas.{same_options, get_exists, get_within, get-take}
-use Rattle.hive_model.proofs.BoardLemmas.{spot_of_stands, stands_spot_of, stack_at-set_stack, sorted-set_stack, stacks-set_stack, spot_within}
+use Rattle.hive_model.specs.Boards.{Stacks, stack_found, stack_at, height_at, top_at, spot_of, under_spot, under_of, set_stack, StandsAt, IsBoard, without, without_at, place_in}
+use Rattle.hive_model.proofs.PlaceLemmas.{is_place_itself, cases_place, is_other_place}
+use Rattle.hive_model.proofs.GetLemmas.{get_within}
+use Rattle.hive_model.proofs.BoardLemmas.{stands_occupied, occupied_stands, spot_of_stands, stands_spot_of, stack_at-set_stack, sorted-set_stack, stacks-set_stack, spot_within}
 
 get_remove_low : {X : Type 0} (xs : List X) (i j : ℕ) → j < i → slice_get (remove xs i) j ≡ slice_get xs j
 get_remove_low xs zero j h = absurd (omega (arith, h))
@@ -35,13 +35,6 @@ length_remove [] i h = absurd (omega (arith, h))
 length_remove (x ∷ []) zero h = refl
 length_remove (x ∷ y ∷ ys) zero h = let all : length ys + 1 + 1 ≡ suc (suc (length ys)) = omega arith in let one : suc (length ys) + 1 ≡ suc (suc (length ys)) = omega arith in one
 length_remove (x ∷ xs) (suc i) h = let less : i < length xs = omega (arith, h) in let r = length_remove xs i less in omega (arith, r)
-
-occupied_first : (xs : List ℕ) → nat_lt 0 (length xs) ≡ true → (x : ℕ) × (slice_get xs 0 ≡ Some x)
-occupied_first [] h = absurd (let wrong = ltb-true 0 0 h in omega (arith, wrong))
-occupied_first (x ∷ xs) h = (x, refl)
-
-first_occupied : (xs : List ℕ) (i x : ℕ) → slice_get xs i ≡ Some x → nat_lt 0 (length xs) ≡ true
-first_occupied xs i x h = let w = get_within xs i x h in let some : 0 < length xs = omega (arith, w) in lt-ltb 0 (length xs) some
 
 module _ (b : Stacks) (is : IsBoard b) (x : ℕ) (p : Place) (level : ℕ) (stands : StandsAt b x p level) where
   without_is : without b x ≡ set_stack b p (remove (stack_at b p) level)
@@ -119,9 +112,9 @@ module _ (b : Stacks) (is : IsBoard b) (x : ℕ) (p : Place) (level : ℕ) (stan
         let same = is.once y q r one.0 two.0 one.1 two.1 in
         (same.0, was_once q r j k one.0 two.0 one.2 two.2 same.0 same.1);
     within = λ q h.
-        let first = occupied_first (stack_at (without b x) q) h in
+        let first = occupied_stands (without b x) q h in
         let old = without_stands first.0 q 0 first.1 in
-        is.within q (first_occupied (stack_at b q) old.0 first.0 old.1);
+        is.within q (stands_occupied b first.0 q old.0 old.1);
   }
 
   place_gone : place_in (without b x) x ≡ None
@@ -150,16 +143,16 @@ not_there b x e = ap (without_at b) e
 -- a piece's place on the board without another
 pub place_in-without : (b : Stacks) → IsBoard b → (x y : ℕ) → place_in (without b x) y ≡ (if nat_eq y x then None else place_in b y)
 place_in-without b is x y = elim (spot_of b x) as (λ o. spot_of b x ≡ o → place_in (without b x) y ≡ (if nat_eq y x then None else place_in b y)) [
-    | None ↦ λ e. elim (nat_eq y x) as (λ t. nat_eq y x ≡ t → place_in (without b x) y ≡ (if t then None else place_in b y)) [
-      | true ↦ λ f. ap (λ c. place_in c y) (not_there b x e) ∙ ap (place_in b) (eqb-true y x f) ∙ ap (option_map (λ (s : Spot). s.place)) e
-      | false ↦ λ f. ap (λ c. place_in c y) (not_there b x e)
-    ] refl
-    | Some s ↦ λ e. let stands = spot_of_stands b x s e in
-        elim (nat_eq y x) as (λ t. nat_eq y x ≡ t → place_in (without b x) y ≡ (if t then None else place_in b y)) [
-          | true ↦ λ f. ap (place_in (without b x)) (eqb-true y x f) ∙ place_gone b is x s.place s.level stands
-          | false ↦ λ f. place_kept b is x s.place s.level stands y (eqb-false y x f)
-        ] refl
+  | None ↦ λ e. elim (nat_eq y x) as (λ t. nat_eq y x ≡ t → place_in (without b x) y ≡ (if t then None else place_in b y)) [
+    | true ↦ λ f. ap (λ c. place_in c y) (not_there b x e) ∙ ap (place_in b) (eqb-true y x f) ∙ ap (option_map (λ (s : Spot). s.place)) e
+    | false ↦ λ f. ap (λ c. place_in c y) (not_there b x e)
   ] refl
+  | Some s ↦ λ e. let stands = spot_of_stands b x s e in
+      elim (nat_eq y x) as (λ t. nat_eq y x ≡ t → place_in (without b x) y ≡ (if t then None else place_in b y)) [
+        | true ↦ λ f. ap (place_in (without b x)) (eqb-true y x f) ∙ place_gone b is x s.place s.level stands
+        | false ↦ λ f. place_kept b is x s.place s.level stands y (eqb-false y x f)
+      ] refl
+] refl
 
 pub gone_there : (b : Stacks) → IsBoard b → (x y : ℕ) → y ≡ x → None ≡ place_in (without b x) y
 gone_there b is x y e = sym (place_in-without b is x y ∙ ap (λ t. if t then None else place_in b y) (ap (λ z. nat_eq z x) e ∙ eq-eqb x x refl))
@@ -218,7 +211,7 @@ module _ (b : Stacks) (is : IsBoard b) (x : ℕ) (p : Place) (level : ℕ) (stan
         let here : stack_at (without b x) q ≡ remove (stack_at b p) level = ap (stack_at (without b x)) e ∙ stack_here b is x p level stands in
         let low = get_within (stack_at b p) level x stands in
         let apart : suc level ≢ length (stack_at b p) = (λ f. let at : length (stack_at b p) - 1 ≡ level = omega (arith, f) in
-            other (ap (top_at b) e ∙ ap (slice_get (stack_at b p)) at ∙ stands)) in
+        other (ap (top_at b) e ∙ ap (slice_get (stack_at b p)) at ∙ stands)) in
         let more : suc level < length (stack_at b p) = omega (arith, low, apart) in
         ap (λ xs. slice_get xs (length xs - 1)) here ∙ last_of_removed (stack_at b p) level x stands more ∙ ap (top_at b) (sym e)
   ]
@@ -234,9 +227,9 @@ module _ (b : Stacks) (is : IsBoard b) (x : ℕ) (p : Place) (level : ℕ) (stan
 
 pub top_at-without : (b : Stacks) → IsBoard b → (x : ℕ) (q : Place) → top_at (without b x) q ≡ top_left b x (top_at b q)
 top_at-without b is x q = elim (spot_of b x) as (λ o. spot_of b x ≡ o → top_at (without b x) q ≡ top_left b x (top_at b q)) [
-    | None ↦ λ e. ap (λ c. top_at c q) (not_there b x e) ∙ absent e (top_at b q) refl
-    | Some s ↦ λ e. let stands = spot_of_stands b x s e in present s stands (top_at b q) refl
-  ] refl
+  | None ↦ λ e. ap (λ c. top_at c q) (not_there b x e) ∙ absent e (top_at b q) refl
+  | Some s ↦ λ e. let stands = spot_of_stands b x s e in present s stands (top_at b q) refl
+] refl
   where
     absent : spot_of b x ≡ None → (o : Option ℕ) → top_at b q ≡ o → top_at b q ≡ top_left b x o
     absent none None f = f

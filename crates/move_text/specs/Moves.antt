@@ -1,17 +1,18 @@
 -- What is read, as functions that compute, and which moves can be written.
-use Rattle.std.specs.Prelude.{◌≡◌, ℕ, List, length, Option, Some, None, Result, Ok, Err, not, if◌then◌else◌, Bool}
+use Rattle.std.specs.Prelude.{ℕ, List, length, Option, Some, None, Result, Ok, Err, not, if◌then◌else◌, Bool}
 use Rattle.std.specs.List.{list_any}
 use Rattle.hive_model.specs.declared.pieces.GameType.{GameType}
 use Rattle.hive_model.specs.declared.places.Place.{Place}
+use Rattle.hive_model.specs.declared.places.Dir.{Dir}
 use Rattle.hive_model.specs.declared.places.Move.{Move}
 use Rattle.hive_model.specs.declared.places.Move.TheVariants.{Pass, To}
 use Rattle.hive_model.specs.declared.forms.Mark.{Mark}
 use Rattle.hive_model.specs.declared.forms.Form.{Form}
 use Rattle.hive_model.specs.declared.forms.Form.TheVariants.{Passes, Alone, Beside}
 use Rattle.hive_model.specs.Pieces.{kind_of, has_kind, all_pieces}
-use Rattle.hive_model.specs.Places.{origin, IsWithin}
+use Rattle.hive_model.specs.Places.{step, origin, IsWithin}
 use Rattle.hive_model.specs.Boards.{Stacks, without, place_in, is_in_play}
-use Rattle.hive_model.specs.Denotes.{place_by}
+use Rattle.hive_model.specs.Denotes.{place_by, Candidate}
 use Rattle.move_text.specs.declared.faults.MoveFault.{MoveFault}
 use Rattle.move_text.specs.declared.faults.MoveFault.TheVariants.{NotAMove, NoSuchPiece, NotInPlay}
 use Rattle.move_text.specs.declared.progress.Naming.TheVariants.{Empty}
@@ -22,21 +23,32 @@ use Rattle.move_text.specs.Scan.{scan}
 abbrev pub is_empty_board : Stacks → Bool
 is_empty_board b = not (list_any (is_in_play b) all_pieces)
 
+-- the move beside or on a reference, where that is in play
 abbrev pub moved_beside : ℕ → Mark → ℕ → Option Place → Result Move MoveFault
 moved_beside x mark y None = Err (NotInPlay y)
 moved_beside x mark y (Some p) = Ok (To x (place_by p mark))
 
+-- The move of a form. First the moving piece is to be of the game type; then a piece alone wants an empty board, and a reference
+-- is to be on the board without the moving piece.
 abbrev pub judge : GameType → Stacks → ℕ → Form → Result Move MoveFault
 judge t b len Passes = Ok Pass
-judge t b len (Alone x) = if has_kind t (kind_of x) then (if is_empty_board b then Ok (To x origin) else Err (NotAMove len)) else Err NoSuchPiece
-judge t b len (Beside x mark y) = if has_kind t (kind_of x) then moved_beside x mark y (place_in (without b x) y) else Err NoSuchPiece
+judge t b len (Alone x) =
+    if has_kind t (kind_of x) then (if is_empty_board b then Ok (To x origin) else Err (NotAMove len)) else Err NoSuchPiece
+judge t b len (Beside x mark y) =
+    if has_kind t (kind_of x) then moved_beside x mark y (place_in (without b x) y) else Err NoSuchPiece
 
+-- the same of what was read, the form or the offset where it fails
 abbrev pub judged : GameType → Stacks → ℕ → Result Form ℕ → Result Move MoveFault
 judged t b len (Err offset) = Err (NotAMove offset)
 judged t b len (Ok f) = judge t b len f
 
+-- the move of a text
 abbrev pub move_of : GameType → Stacks → List ℕ → Result Move MoveFault
 move_of t b text = judged t b (length text) (scan (First Empty) text 0)
+
+-- how a place is named by a reference in a direction from it
+abbrev pub named_beside : Place → Mark × Dir → Candidate
+named_beside q m = record { mark = m.0; place = step q m.1 }
 
 -- the destination has coordinates of at most 9,500
 abbrev pub IsMoveWithin : Move → Type 0

@@ -1,5 +1,5 @@
 -- What the fields of a line hold, as functions that compute.
-use Rattle.std.specs.Prelude.{◌≡◌, ℕ, ◌+◌, ◌*◌, ◌-◌, Bool, true, false, ◌&&◌, nat_le, nat_lt, nat_eq, List, [], ◌∷◌, codes, Option, Some, None, if◌then◌else◌}
+use Rattle.std.specs.Prelude.{ℕ, ◌+◌, ◌*◌, ◌-◌, Bool, true, false, ◌&&◌, nat_le, nat_lt, nat_eq, List, [], ◌∷◌, codes, Option, Some, None, if◌then◌else◌}
 use Rattle.std.specs.Str.{bytes_eq}
 use Rattle.hive_model.specs.declared.pieces.GameType.{GameType}
 use Rattle.hive_model.specs.declared.places.State.{State}
@@ -31,8 +31,9 @@ state_at text =
 abbrev pub is_digit : ℕ → Bool
 is_digit b = nat_le 48 b && nat_lt b 58
 
-abbrev pub part_at : ℕ → ℕ → ℕ → Option ℕ
-part_at most a b = if is_digit a && (is_digit b && nat_le ((a - 48) * 10 + (b - 48)) most) then Some ((a - 48) * 10 + (b - 48)) else None
+abbrev pub two_digit_number : ℕ → ℕ → ℕ → Option ℕ
+two_digit_number most a b =
+    if is_digit a && (is_digit b && nat_le ((a - 48) * 10 + (b - 48)) most) then Some ((a - 48) * 10 + (b - 48)) else None
 
 abbrev pub budget_of : Option ℕ → Option ℕ → Option ℕ → Option ℕ
 budget_of None m s = None
@@ -41,5 +42,7 @@ budget_of (Some h) (Some m) None = None
 budget_of (Some h) (Some m) (Some s) = Some (((h * 60 + m) * 60 + s) * 1000)
 
 abbrev pub time_at : List ℕ → Option ℕ
-time_at (a ∷ b ∷ c ∷ d ∷ e ∷ f ∷ g ∷ h ∷ []) = if nat_eq c 58 && nat_eq f 58 then budget_of (part_at 99 a b) (part_at 59 d e) (part_at 59 g h) else None
+time_at (a ∷ b ∷ c ∷ d ∷ e ∷ f ∷ g ∷ h ∷ []) =
+    if nat_eq c 58 && nat_eq f 58 then budget_of (two_digit_number 99 a b) (two_digit_number 59 d e) (two_digit_number 59 g h)
+    else None
 time_at _ = None

@@ -5,14 +5,15 @@ ghost use Rattle.arrayvec.specs.ArrayString.{array_string_len};
 ghost use Rattle.hive_model.specs.declared.pieces.GameType.{GameType as AnyType};
 ghost use Rattle.hive_model.specs.declared.places.State.{State as AnyState};
 ghost use Rattle.hive_model.specs.Fields.{IsNumberText, IsTimeText, type_bytes, state_bytes, two_digits};
-ghost use Rattle.move_text.specs.Readers.{type_at, state_at, part_at, time_at};
+ghost use Rattle.move_text.specs.Readers.{type_at, state_at, two_digit_number, time_at};
 
 use arrayvec::ArrayString;
 use hive_model::{GameType, State};
 use itoa::Buffer;
 use std::str;
 
-/// The number that the text spells, with no leading zero, if it is in this range.
+/// The number that the text spells in decimal digits, if it is from `least` to `most`. A sign is refused, and so is a leading zero
+/// but for `0` itself.
 pub fn read_number(text: &[u8], least: u64, most: u64) -> Option<u64>
     ensures found { IfSome result (λ n. IsNumberText text.now least most n) }
     ensures only { (n : ℕ) → IsNumberText text.now least most n → result ≡ Some n }
@@ -71,7 +72,8 @@ fn type_at(text: &[u8]) -> Option<GameType>
     }
 }
 
-/// The game type that the text names.
+/// The game type that the text names: `Base`, or `Base+` and letters of `MLP` in this order, which stand for the mosquito, the
+/// ladybug and the pillbug.
 pub fn read_type(text: &[u8]) -> Option<GameType>
     ensures found { IfSome result (λ t. text.now ≡ type_bytes t) }
     ensures only { (t : AnyType) → text.now ≡ type_bytes t → result ≡ Some t }
@@ -95,6 +97,7 @@ fn type_name(game_type: GameType) -> &'static str
     }
 }
 
+/// The name of the game type, as `read_type` reads it.
 pub fn type_text(game_type: GameType) -> ArrayString<16>
     ensures { result.bytes ≡ type_bytes game_type }
 {
@@ -122,7 +125,7 @@ fn state_at(text: &[u8]) -> Option<State>
     }
 }
 
-/// The state that the text names.
+/// The state that the text names: `NotStarted`, `InProgress`, `Draw`, `WhiteWins` or `BlackWins`.
 pub fn read_state(text: &[u8]) -> Option<State>
     ensures found { IfSome result (λ s. text.now ≡ state_bytes s) }
     ensures only { (s : AnyState) → text.now ≡ state_bytes s → result ≡ Some s }
@@ -143,6 +146,7 @@ fn state_name(state: State) -> &'static str
     }
 }
 
+/// The name of the state, as `read_state` reads it.
 pub fn state_text(state: State) -> ArrayString<16>
     ensures { result.bytes ≡ state_bytes state }
 {
@@ -151,32 +155,33 @@ pub fn state_text(state: State) -> ArrayString<16>
     text
 }
 
-/// The number of two digits, if it is at most this.
-fn part_at(most: u64, a: u8, b: u8) -> Option<u64>
+/// The number of two digits, if it is at most `most`.
+fn two_digit_number(most: u64, tens: u8, units: u8) -> Option<u64>
     requires { most ≤ 99 }
-    ensures value { result ≡ part_at most a b }
+    ensures value { result ≡ two_digit_number most tens units }
     ensures small { IfSome result (λ n. n ≤ most) }
 {
-    if a < b'0' || b'9' < a || b < b'0' || b'9' < b {
+    if tens < b'0' || b'9' < tens || units < b'0' || b'9' < units {
         return None;
     }
-    let number = (a - b'0') as u64 * 10 + (b - b'0') as u64;
+    let number = (tens - b'0') as u64 * 10 + (units - b'0') as u64;
     if number <= most { Some(number) } else { None }
 }
 
+/// The milliseconds of a time, by its eight bytes.
 fn time_at(text: &[u8]) -> Option<u64>
     ensures { result ≡ time_at text.now }
 {
     let [a, b, b':', c, d, b':', e, f] = text else {
         return None;
     };
-    let hours = part_at(99, *a, *b)?;
-    let minutes = part_at(59, *c, *d)?;
-    let seconds = part_at(59, *e, *f)?;
+    let hours = two_digit_number(99, *a, *b)?;
+    let minutes = two_digit_number(59, *c, *d)?;
+    let seconds = two_digit_number(59, *e, *f)?;
     Some(((hours * 60 + minutes) * 60 + seconds) * 1000)
 }
 
-/// The milliseconds of `hh:mm:ss`.
+/// The milliseconds of a time `hh:mm:ss`, of two digits each, with at most 59 minutes and 59 seconds.
 pub fn read_time(text: &[u8]) -> Option<u64>
     ensures found { IfSome result (λ n. IsTimeText text.now n) }
     ensures only { (n : ℕ) → IsTimeText text.now n → result ≡ Some n }
@@ -195,7 +200,7 @@ fn push_digit(text: &mut ArrayString<8>, digit: u64)
     text.push_str(buffer.format(digit));
 }
 
-fn push_two(text: &mut ArrayString<8>, number: u64)
+fn push_two_digits(text: &mut ArrayString<8>, number: u64)
     requires room { array_string_len text.old ≤ 6 }
     requires small { number < 100 }
     ensures bytes { text.new.bytes ≡ text.old.bytes ++ two_digits number }
@@ -205,7 +210,7 @@ fn push_two(text: &mut ArrayString<8>, number: u64)
     push_digit(text, number % 10);
 }
 
-/// `hh:mm:ss` of whole seconds, given in milliseconds.
+/// The time `hh:mm:ss` of a number of milliseconds, which is a multiple of 1,000 and at most 99 hours, 59 minutes and 59 seconds.
 pub fn time_text(budget: u64) -> ArrayString<8>
     requires whole { budget % 1000 ≡ 0 }
     requires most { budget ≤ 359999000 }
@@ -213,10 +218,10 @@ pub fn time_text(budget: u64) -> ArrayString<8>
 {
     let seconds = budget / 1000;
     let mut text = ArrayString::new();
-    push_two(&mut text, seconds / 3600);
+    push_two_digits(&mut text, seconds / 3600);
     text.push_str(":");
-    push_two(&mut text, seconds / 60 % 60);
+    push_two_digits(&mut text, seconds / 60 % 60);
     text.push_str(":");
-    push_two(&mut text, seconds % 60);
+    push_two_digits(&mut text, seconds % 60);
     text
 }

@@ -10,5 +10,4 @@ ghost use Rattle.move_text.specs.Moves.{IsMoveWithin};
 pub fn texts_denote()
     ensures denote { (p : Position) (m : Move) → IsSound p → IsLegal p m → Denotes p.game_type p.board (text p.board m) m }
     ensures within { (p : Position) (m : Move) → IsSound p → IsLegal p m → IsMoveWithin m }
-{
-}
+{}

@@ -12,13 +12,13 @@ ghost use Rattle.move_text.specs.declared.faults.MoveFault.{MoveFault as AnyFaul
 ghost use Rattle.move_text.specs.Faults.{Refuses};
 ghost use Rattle.move_text.specs.Moves.{judge, move_of, IsMoveWithin};
 
-use arrayvec::ArrayString;
-use hive_model::{Board, Dir, Form, GameType, Kind, Mark, Move, Piece, Place, Stroke};
-
 use crate::faults::MoveFault;
 use crate::progress::read_form;
 use crate::spelling::form_string;
+use arrayvec::ArrayString;
+use hive_model::{Board, Dir, Form, GameType, Kind, Mark, Move, Piece, Place, Stroke};
 
+/// Whether the game type has pieces of this kind.
 fn has_kind(game_type: GameType, kind: Kind) -> bool
     ensures { result ≡ has_kind game_type kind }
 {
@@ -77,6 +77,7 @@ fn place_by(place: Place, mark: Mark) -> Place
     }
 }
 
+/// The move of a form on this board, or its fault.
 fn judge<B: Board>(game_type: GameType, board: &B, len: u32, form: Form) -> Result<Move, MoveFault>
     ensures { result ≡ judge game_type (B.stacks board.now) len form }
 {
@@ -109,6 +110,7 @@ fn judge<B: Board>(game_type: GameType, board: &B, len: u32, form: Form) -> Resu
     }
 }
 
+/// The form of the text is read, and then judged.
 fn move_of<B: Board>(game_type: GameType, board: &B, text: &[u8]) -> Result<Move, MoveFault>
     requires { length text.now ≤ 65536 }
     ensures { result ≡ move_of game_type (B.stacks board.now) text.now }
@@ -119,7 +121,15 @@ fn move_of<B: Board>(game_type: GameType, board: &B, text: &[u8]) -> Result<Move
     }
 }
 
-/// The move that the text denotes on this board. Whether it is legal is not judged.
+/// The move that the text denotes on this board: `pass`; or a piece alone, which goes to (0,0) of an empty board; or a piece, one
+/// space and a destination, which names a reference R on the board without the moving piece: `R-` is E of R, `-R` W, `R/` NE,
+/// `/R` SW, `\R` NW, `R\` SE, and `R` alone is its own place, on top. Whether the move is legal is not judged. The text has at most
+/// 65,536 bytes.
+///
+/// # Errors
+///
+/// A text that is no move text, a moving piece that is not of the game type, a piece alone on a board that is not empty, and a
+/// reference that is not on the board without the moving piece, in this order.
 pub fn read_move<B: Board>(game_type: GameType, board: &B, text: &[u8]) -> Result<Move, MoveFault>
     requires length { length text.now ≤ 65536 }
     requires sound { IsBoard (B.stacks board.now) }
@@ -148,6 +158,17 @@ fn top_without<B: Board>(board: &B, piece: Piece, place: Place) -> Option<Piece>
     }
 }
 
+/// The marks of a place next to a reference, each with the direction from the place to the reference, in the order in which
+/// references are sought.
+const BESIDE: [(Mark, Dir); 6] = [
+    (Mark::After(Stroke::Dash), Dir::W),
+    (Mark::Before(Stroke::Dash), Dir::E),
+    (Mark::After(Stroke::Slash), Dir::SW),
+    (Mark::Before(Stroke::Slash), Dir::NE),
+    (Mark::After(Stroke::Backslash), Dir::NW),
+    (Mark::Before(Stroke::Backslash), Dir::SE),
+];
+
 /// The form of a placement, a walk or a throw in the one spelling.
 #[tactic(auto, using(hive_model::proofs::PlaceLemmas::wider))]
 fn form_to<B: Board>(board: &B, piece: Piece, place: Place) -> Form
@@ -158,28 +179,18 @@ fn form_to<B: Board>(board: &B, piece: Piece, place: Place) -> Form
     if let Some(reference) = top_without(board, piece, place) {
         return Form::Beside(piece, Mark::On, reference);
     }
-    if let Some(reference) = top_without(board, piece, place.step(Dir::W)) {
-        return Form::Beside(piece, Mark::After(Stroke::Dash), reference);
-    }
-    if let Some(reference) = top_without(board, piece, place.step(Dir::E)) {
-        return Form::Beside(piece, Mark::Before(Stroke::Dash), reference);
-    }
-    if let Some(reference) = top_without(board, piece, place.step(Dir::SW)) {
-        return Form::Beside(piece, Mark::After(Stroke::Slash), reference);
-    }
-    if let Some(reference) = top_without(board, piece, place.step(Dir::NE)) {
-        return Form::Beside(piece, Mark::Before(Stroke::Slash), reference);
-    }
-    if let Some(reference) = top_without(board, piece, place.step(Dir::NW)) {
-        return Form::Beside(piece, Mark::After(Stroke::Backslash), reference);
-    }
-    if let Some(reference) = top_without(board, piece, place.step(Dir::SE)) {
-        return Form::Beside(piece, Mark::Before(Stroke::Backslash), reference);
+    for (mark, dir) in BESIDE {
+        if let Some(reference) = top_without(board, piece, place.step(dir)) {
+            return Form::Beside(piece, mark, reference);
+        }
     }
     Form::Alone(piece)
 }
 
-/// The one spelling of a move of this board.
+/// The one spelling of a move. A destination that is occupied, on the board without the moving piece, is written as its top
+/// piece. An empty one refers to the top piece of its first occupied neighbour in the order W, E, SW, NE, NW, SE. Where it has
+/// none, the piece is written alone. The coordinates of the destination are at most 9,500, as those of every legal move are. The
+/// text has at most 8 bytes.
 pub fn write_move<B: Board>(board: &B, m: Move) -> ArrayString<16>
     requires sound { IsBoard (B.stacks board.now) }
     requires within { IsMoveWithin m }

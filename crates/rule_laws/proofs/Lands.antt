@@ -1,7 +1,7 @@
 -- What a piece leaves when it lands on the board that it left.
-use Rattle.std.proofs.Common.{◌≡◌, ℕ, ◌+◌, ◌≤◌, ◌<◌, true, false, List, [], ◌∷◌, ◌++◌, length, ◌⊎◌, inl, inr, refl, sym, ◌∙◌, ap, subst, arith, cond, length-append}
-use Rattle.std.specs.Prelude.{Some, None, slice_get, IsTrue, nat_lt, is_some}
-use Rattle.std.proofs.lemmas.Bool.{lt-ltb, ltb-true, eq-eqb, cases_eq}
+use Rattle.std.proofs.Common.{◌≡◌, ℕ, ◌+◌, ◌≤◌, ◌<◌, true, false, [], ◌∷◌, ◌++◌, length, ◌⊎◌, inl, inr, refl, sym, ◌∙◌, ap, subst, arith, cond, length-append}
+use Rattle.std.specs.Prelude.{Some, None, IsTrue, is_some}
+use Rattle.std.proofs.lemmas.Bool.{eq-eqb, cases_eq}
 use Rattle.std.proofs.lemmas.Int.{ints}
 use Rattle.hive_model.specs.declared.places.Place.{Place}
 use Rattle.hive_model.specs.declared.places.Spot.{Spot}
@@ -15,9 +15,8 @@ use Rattle.hive_model.specs.Hive.{StepOn, OneHive}
 use Rattle.hive_model.specs.Positions.{Position, IsSound}
 use Rattle.hive_model.specs.Games.{after}
 use Rattle.hive_model.proofs.PlaceLemmas.{is_place_itself}
-use Rattle.hive_model.proofs.GetLemmas.{get_within}
 use Rattle.hive_model.proofs.Floods.{path_weaker}
-use Rattle.hive_model.proofs.BoardLemmas.{spot_of_stands, stands_spot_of, stack_at-put, put_stands, stands_put, stands_on_top}
+use Rattle.hive_model.proofs.BoardLemmas.{stands_occupied, occupied_stands, spot_of_stands, stands_spot_of, stack_at-put, put_stands, stands_put, stands_on_top}
 use Rattle.hive_model.proofs.LegalLaws.{opposite, back}
 use Rattle.hive_model.proofs.KeepLaws.{board_put, one_hive_put, still, was_or_new}
 use Rattle.rule_laws.proofs.Touches.{Touched, Climbs}
@@ -51,17 +50,6 @@ put_within n c x q w near p h = elim (was_or_new c x q p h) [
   | inl old ↦ let low : n ≤ n + 1 = omega arith in wider n (n + 1) low p (w p old)
   | inr new ↦ subst (IsWithin (n + 1)) (sym new) near
 ]
-
-first_of : (xs : List ℕ) → nat_lt 0 (length xs) ≡ true → (y : ℕ) × (slice_get xs 0 ≡ Some y)
-first_of [] h = absurd (let wrong = ltb-true 0 0 h in omega (arith, wrong))
-first_of (y ∷ xs) h = (y, refl)
-
-pub stands_occupied : (b : Stacks) (x : ℕ) (p : Place) (i : ℕ) → StandsAt b x p i → IsTrue (is_occupied b p)
-stands_occupied b x p i h = let w = get_within (stack_at b p) i x h in let some : 0 < height_at b p = omega (arith, w) in lt-ltb 0 _ some
-
--- on an occupied place a piece stands on the ground
-pub occupied_stands : (b : Stacks) (p : Place) → IsTrue (is_occupied b p) → (y : ℕ) × StandsAt b y p 0
-occupied_stands b p h = first_of (stack_at b p) h
 
 pub left_within : (n : ℕ) (b c : Stacks) (x : ℕ) → Leaves b c x → StandsWithin n b → StandsWithin n c
 left_within n b c x leaves w p h = let y = occupied_stands c p h in w p (stands_occupied b y.0 p 0 (leaves.stood y.0 p 0 y.1))

@@ -1,5 +1,5 @@
 -- Each kind of legal move of a sound position leaves a sound position.
-use Rattle.std.proofs.Common.{◌≡◌, ◌≢◌, ℕ, ◌+◌, ◌-◌, ◌≤◌, ◌<◌, true, false, ◌⊎◌, inl, inr, refl, sym, ◌∙◌, ap, subst, arith, pos, negsuc, ◌+ℤ◌}
+use Rattle.std.proofs.Common.{◌≡◌, ℕ, ◌+◌, ◌-◌, ◌≤◌, ◌<◌, true, false, ◌⊎◌, inl, inr, refl, sym, ◌∙◌, ap, subst, arith}
 use Rattle.std.specs.Prelude.{Option, Some, None, IsTrue, is_some}
 use Rattle.std.proofs.lemmas.Bool.{lt-ltb, ltb-true}
 use Rattle.std.proofs.lemmas.Int.{ints}
@@ -7,8 +7,6 @@ use Rattle.hive_model.specs.declared.pieces.Colour.{Colour}
 use Rattle.hive_model.specs.declared.pieces.Colour.TheVariants.{White, Black}
 use Rattle.hive_model.specs.declared.places.Place.{Place}
 use Rattle.hive_model.specs.declared.places.Spot.{Spot}
-use Rattle.hive_model.specs.declared.places.Dir.{Dir}
-use Rattle.hive_model.specs.declared.places.Dir.TheVariants.{E, NE, NW, W, SW, SE}
 use Rattle.hive_model.specs.declared.places.Move.{Move}
 use Rattle.hive_model.specs.declared.places.Move.TheVariants.{Pass, To}
 use Rattle.hive_model.specs.Pieces.{kind_of, colour_of, other_side, has_kind, OfType}
@@ -20,15 +18,16 @@ use Rattle.hive_model.specs.Placement.{HasColour, MayPlace, Placement, has_colou
 use Rattle.hive_model.specs.Throws.{Throw}
 use Rattle.hive_model.specs.Legal.{Walk}
 use Rattle.hive_model.specs.Games.{after}
+use Rattle.hive_model.proofs.ReachLaws.{step_moves}
 use Rattle.hive_model.proofs.PlaceLemmas.{is_other_place}
 use Rattle.hive_model.proofs.PlacementLaws.{play_or_hand, has_colour_from, from_has_colour}
 use Rattle.hive_model.proofs.GetLemmas.{get_within}
-use Rattle.hive_model.proofs.BoardLemmas.{spot_of_stands}
+use Rattle.hive_model.proofs.BoardLemmas.{stands_occupied, occupied_stands, spot_of_stands}
 use Rattle.hive_model.proofs.LiftLemmas.{height_there}
 use Rattle.rule_laws.specs.Soundness.{LegalMovesKeepSoundness}
 use Rattle.rule_laws.proofs.Touches.{Touched, Climbs, beside, moves_touch, ends_low}
 use Rattle.rule_laws.proofs.Leaves.{Leaves, leaves_hand, leaves_top, on_without}
-use Rattle.rule_laws.proofs.Lands.{wider, touched_within, put_within, left_within, stands_occupied, occupied_stands, stands_play, one_hive_touched, one_hive_first, landed}
+use Rattle.rule_laws.proofs.Lands.{wider, touched_within, put_within, left_within, stands_play, one_hive_touched, one_hive_first, landed}
 
 -- the position after the move is sound, and its pieces are one place further out at most
 abbrev Keeps : Position → ℕ → Move → Type 0
@@ -141,14 +140,6 @@ walks : (p : Position) (n x : ℕ) (q : Place) → IsSound p → StandsWithin n 
 walks p n x q sound w low h =
     moves_top p n x q sound w low h.from h.stands h.on_top (leaves_top p.board x h.from sound.board sound.one_hive h.stands h.on_top h.not_cut)
     (moves_touch (kind_of x) (lift p.board x) h.from.place q h.moves) (ends_low (kind_of x) (lift p.board x) h.from.place q h.moves)
-
-step_moves : (p : Place) (d : Dir) → step p d ≢ p
-step_moves p E e = let x : p.q +ℤ pos 1 ≡ p.q = ap (λ (z : Place). z.q) e in omega (arith, ints, x)
-step_moves p NE e = let x : p.q +ℤ pos 1 ≡ p.q = ap (λ (z : Place). z.q) e in omega (arith, ints, x)
-step_moves p NW e = let x : p.r +ℤ negsuc 0 ≡ p.r = ap (λ (z : Place). z.r) e in omega (arith, ints, x)
-step_moves p W e = let x : p.q +ℤ negsuc 0 ≡ p.q = ap (λ (z : Place). z.q) e in omega (arith, ints, x)
-step_moves p SW e = let x : p.q +ℤ negsuc 0 ≡ p.q = ap (λ (z : Place). z.q) e in omega (arith, ints, x)
-step_moves p SE e = let x : p.r +ℤ pos 1 ≡ p.r = ap (λ (z : Place). z.r) e in omega (arith, ints, x)
 
 throws : (p : Position) (n x : ℕ) (q : Place) → IsSound p → StandsWithin n p.board → n < 9000 → Throw p x q → Keeps p n (To x q)
 throws p n x q sound w low h =

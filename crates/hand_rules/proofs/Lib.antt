@@ -1,0 +1,4 @@
+pub mod KindLaws
+pub mod OpenLaws
+pub mod LevelLaws
+pub mod BringLaws

@@ -1,0 +1,114 @@
+//! The pieces that a side may bring into play, and its placements.
+
+ghost use Rattle.std.specs.Prelude.{◌≡◌, ◌↔◌, ◌+◌, ◌≤◌, [], ◌++◌, map, length, IsTrue};
+ghost use Rattle.hive_model.specs.declared.places.Place.{Place};
+ghost use Rattle.hive_model.specs.declared.places.Move.{Move};
+ghost use Rattle.hive_model.specs.declared.places.Move.TheVariants.{To};
+ghost use Rattle.hive_model.specs.Lists.{IsOn, Rises};
+ghost use Rattle.hive_model.specs.Pieces.{queen_of};
+ghost use Rattle.hive_model.specs.Placement.{IsLeastInHand};
+ghost use Rattle.hive_model.specs.Legal.{move_cmp};
+ghost use Rattle.hive_model.specs.Stack.{without_level};
+ghost use Rattle.hand_rules.specs.Bringing.{MayBring, CanBring, IsPlacementMove, last_level, position_of};
+
+use crate::hands::next_of;
+use crate::open_places::placement_places;
+use hive_model::{Board, Colour, GameType, Kind, Move, MoveStack, Piece, Place, PlaceList};
+
+/// Whether the piece is in hand, and none of its kind and colour with a smaller number is.
+fn is_next<B: Board>(game_type: GameType, board: &B, piece: Piece) -> bool
+    ensures { IsTrue result ↔ IsLeastInHand game_type (B.stacks board.now) piece }
+{
+    match next_of(game_type, board, piece.colour(), piece.kind()) {
+        Some(next) => next.index() == piece.index(),
+        None => false,
+    }
+}
+
+/// The queen of a side.
+fn queen_of(colour: Colour) -> Piece
+    ensures { result ≡ queen_of colour }
+{
+    match colour {
+        Colour::White => Piece::at(0),
+        Colour::Black => Piece::at(14),
+    }
+}
+
+/// Whether the side may bring this piece into play in its turn of this number. The piece is the side's and the next of its kind.
+/// On its first turn a side brings no queen; on its fourth or a later turn, while its queen is in hand, nothing else.
+pub fn may_bring<B: Board>(
+    game_type: GameType,
+    board: &B,
+    colour: Colour,
+    turn: u32,
+    piece: Piece,
+) -> bool
+    ensures { IsTrue result ↔ MayBring game_type (B.stacks board.now) colour turn piece }
+{
+    let is_queen = matches!(piece.kind(), Kind::Queen);
+    if !piece.colour().is(colour) || is_queen && turn == 1 {
+        return false;
+    }
+    if !is_queen && turn >= 4 && board.spot(queen_of(colour)).is_none() {
+        return false;
+    }
+    is_next(game_type, board, piece)
+}
+
+/// Whether the side may bring any piece into play in its turn of this number.
+fn can_bring<B: Board>(game_type: GameType, board: &B, colour: Colour, turn: u32) -> bool
+    ensures { IsTrue result ↔ CanBring game_type (B.stacks board.now) colour turn }
+{
+    for x in 0..28u8 {
+        if may_bring(game_type, board, colour, turn, Piece::at(x)) {
+            return true;
+        }
+    }
+    false
+}
+
+/// Puts the piece's move to each of the places at the end of the last level.
+fn push_each(piece: Piece, places: &[Place], out: &mut MoveStack)
+    requires level { 1 ≤ length out.old.lists }
+    requires room { length (last_level out.old) + length places.now ≤ 5488 }
+    ensures added { last_level out.new ≡ last_level out.old ++ map (λ q. To piece q) places.now }
+    ensures levels { length out.new.lists ≡ length out.old.lists }
+    ensures others { without_level out.new ≡ without_level out.old }
+{
+    for place in places {
+        out.push(Move::To {
+            piece,
+            place: *place,
+        });
+    }
+}
+
+/// Puts all placements of the side in its turn of this number on the last level: by piece, then by q and r of the place, each
+/// once. `colour` is the side to move, and `turn` counts from 1.
+pub fn placements<B: Board>(
+    game_type: GameType,
+    board: &B,
+    colour: Colour,
+    turn: u32,
+    out: &mut MoveStack,
+)
+    requires level { 1 ≤ length out.old.lists }
+    requires empty { last_level out.old ≡ [] }
+    ensures listed { (m : Move) → IsOn (last_level out.new) m ↔ IsPlacementMove (position_of game_type (B.stacks board.now) colour turn) m }
+    ensures order { Rises move_cmp (last_level out.new) }
+    ensures levels { length out.new.lists ≡ length out.old.lists }
+    ensures others { without_level out.new ≡ without_level out.old }
+{
+    if !can_bring(game_type, board, colour, turn) {
+        return;
+    }
+    let mut places = PlaceList::new();
+    placement_places(board, colour, &mut places);
+    for x in 0..28u8 {
+        let piece = Piece::at(x);
+        if may_bring(game_type, board, colour, turn, piece) {
+            push_each(piece, places.as_slice(), out);
+        }
+    }
+}

@@ -1,0 +1,82 @@
+//! Pieces in hand.
+
+ghost use Rattle.std.specs.Prelude.{◌≡◌, ◌↔◌, ◌≤◌, IsTrue, IfSome, IsNone};
+ghost use Rattle.hive_model.specs.Pieces.{has_kind, kind_of, colour_of};
+ghost use Rattle.hive_model.specs.Placement.{IsInHand, IsLeastInHand};
+ghost use Rattle.hand_rules.specs.Hands.{HasNoneInHand, count_of, first_piece};
+
+use hive_model::{Board, Colour, GameType, Kind, Piece};
+
+/// Whether the game type has pieces of this kind.
+fn has_kind(game_type: GameType, kind: Kind) -> bool
+    ensures { result ≡ has_kind game_type kind }
+{
+    match kind {
+        Kind::Mosquito => game_type.mosquito,
+        Kind::Ladybug => game_type.ladybug,
+        Kind::Pillbug => game_type.pillbug,
+        _ => true,
+    }
+}
+
+/// Whether the piece is in hand: of the game type and on no place.
+pub fn in_hand<B: Board>(game_type: GameType, board: &B, piece: Piece) -> bool
+    ensures { IsTrue result ↔ IsInHand game_type (B.stacks board.now) piece }
+{
+    has_kind(game_type, piece.kind()) && board.spot(piece).is_none()
+}
+
+/// The index of the side's first piece of the kind.
+fn first_piece(colour: Colour, kind: Kind) -> u8
+    ensures { result ≡ first_piece colour kind }
+{
+    let side = match colour {
+        Colour::White => 0,
+        Colour::Black => 14,
+    };
+    let first = match kind {
+        Kind::Queen => 0,
+        Kind::Spider => 1,
+        Kind::Beetle => 3,
+        Kind::Grasshopper => 5,
+        Kind::Ant => 8,
+        Kind::Mosquito => 11,
+        Kind::Ladybug => 12,
+        Kind::Pillbug => 13,
+    };
+    side + first
+}
+
+/// How many pieces of the kind a side has.
+fn count_of(kind: Kind) -> u8
+    ensures { result ≡ count_of kind }
+{
+    match kind {
+        Kind::Queen | Kind::Mosquito | Kind::Ladybug | Kind::Pillbug => 1,
+        Kind::Spider | Kind::Beetle => 2,
+        Kind::Grasshopper | Kind::Ant => 3,
+    }
+}
+
+/// The side's next piece of this kind: of those in hand the one with the least number. `None` where none of the kind is in hand.
+pub fn next_of<B: Board>(
+    game_type: GameType,
+    board: &B,
+    colour: Colour,
+    kind: Kind,
+) -> Option<Piece>
+    ensures kind { IfSome result (λ x. kind_of x ≡ kind) }
+    ensures colour { IfSome result (λ x. colour_of x ≡ colour) }
+    ensures least { IfSome result (λ x. IsLeastInHand game_type (B.stacks board.now) x) }
+    ensures none { IsNone result ↔ HasNoneInHand game_type (B.stacks board.now) colour kind }
+{
+    let first = first_piece(colour, kind);
+    let end = first + count_of(kind);
+    for x in first..end {
+        let piece = Piece::at(x);
+        if in_hand(game_type, board, piece) {
+            return Some(piece);
+        }
+    }
+    None
+}
