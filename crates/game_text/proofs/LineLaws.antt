@@ -29,6 +29,7 @@ use Rattle.game_text.specs.declared.parsed.Parsed.{Parsed}
 use Rattle.game_text.specs.declared.turns.Turn.{Turn}
 use Rattle.game_text.specs.Turns.{IsTurn, turn_at}
 use Rattle.game_text.specs.Reading.{moves_of, Fails, Agrees, first_empty, is_state, is_turn_of, confirmed, at_moves, at_turn, after_state, at_state, after_type, at_type, game_at, game_of}
+use Rattle.game_text.specs.Refusals.{HasParts}
 use Rattle.game_text.proofs.PartLaws.{parts-joined, type_part}
 use Rattle.game_text.proofs.TurnLaws.{turn_found, turn_again}
 use Rattle.game_text.proofs.FieldReads.{first}
@@ -36,7 +37,7 @@ use Rattle.game_text.proofs.OrderLaws.{moves_found, moves_again, denoted_size}
 
 -- A line of one part
 
-no_parts : (line : List ℕ) → parts line ≡ [] → ⊥
+pub no_parts : (line : List ℕ) → parts line ≡ [] → ⊥
 unfolding parts
 no_parts [] e = cc
 no_parts (b ∷ bs) e = go (nat_eq b 59) (parts bs) e
@@ -77,12 +78,6 @@ pub is_turn_itself : (u : Turn) (p : Position) → u.side ≡ p.side → u.numbe
 is_turn_itself u p e f = ap (λ c. is_colour c p.side && nat_eq u.number p.turn) e ∙ ap (λ t. t && nat_eq u.number p.turn) (from_same_colour p.side p.side refl) ∙ eq-eqb u.number p.turn f
 
 -- What was read is the line's game
-
--- the parts of a line, as the fields that they were read as
-pub record HasParts (line : List ℕ) (t : GameType) (s : State) (u : Turn) (rest : List (List ℕ)) : Type 0 where
-  pub parts_are : parts line ≡ type_bytes t ∷ (state_bytes s ∷ (turn_bytes u.side u.number ∷ rest))
-  pub low : 1 ≤ u.number
-  pub high : u.number ≤ 999999999
 
 confirmed_found : (line : List ℕ) (t : GameType) (s : State) (u : Turn) (rest : List (List ℕ)) (g : Parsed) → HasParts line t s u rest → length rest ≤ 5000
     → (r : Result (List Move) GameFault) → moves_of (opening t) rest 1 ≡ r → confirmed t s u r ≡ Ok g → IsGameLine line g.game_type g.moves

@@ -1,6 +1,6 @@
 //! Reading a line as a game.
 
-ghost use Rattle.std.specs.Prelude.{◌≡◌, ◌<◌, ◌≤◌, ◌+◌, ◌∷◌, [], List, length, None, Some, Ok, Err, IfOk, IfErr};
+ghost use Rattle.std.specs.Prelude.{◌≡◌, ◌<◌, ◌≤◌, ◌+◌, ◌∷◌, [], ◌⊎◌, List, length, None, Some, Ok, Err, IfOk, IfErr};
 ghost use Rattle.hive_model.specs.Boards.{IsBoard};
 ghost use Rattle.hive_model.specs.Positions.{opening};
 ghost use Rattle.hive_model.specs.Courses.{position};
@@ -8,6 +8,7 @@ ghost use Rattle.hive_model.specs.Games.{IsGame};
 ghost use Rattle.hive_model.specs.Strings.{parts, IsGameLine};
 ghost use Rattle.hive_model.specs.declared.pieces.GameType.{GameType as AnyType};
 ghost use Rattle.hive_model.specs.declared.places.Move.{Move as AnyMove};
+ghost use Rattle.game_text.specs.Refusals.{IsRefused};
 ghost use Rattle.game_text.specs.Reading.{moves_of, confirmed, at_moves, after_state, after_type, game_of, Fails, Agrees, Plays, IsMoveFault, first_empty};
 
 use crate::faults::GameFault;
@@ -224,6 +225,7 @@ pub fn read_game<G: Game + Drop>(alloc: Global, text: &[u8]) -> Result<Parsed, G
     requires { length text.now ≤ 65536 }
     ensures game { IfOk result (λ g. IsGameLine text.now g.game_type g.moves) }
     ensures only { (t : AnyType) (ms : List AnyMove) → IsGameLine text.now t ms → IfErr result (λ fault. fault ≡ GameFault.Memory) }
+    ensures refused { IfErr result (λ fault. (fault ≡ GameFault.Memory) ⊎ IsRefused text.now fault) }
     ensures value { IfOk result (λ g. game_of text.now ≡ Ok g) }
     ensures err { IfErr result (λ fault. Fails fault (game_of text.now)) }
 {

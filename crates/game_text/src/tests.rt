@@ -3,7 +3,7 @@
 ghost use Rattle.std.specs.Prelude.{◌≡◌};
 
 use crate::turns::{Turn, read_turn};
-use crate::{GameFault, MoveTexts, lines_are_one_game, strings_are_games};
+use crate::{GameFault, MoveTexts, lines_are_one_game, lines_are_read, strings_are_games};
 use hive_model::{Board, Colour, GameType, Move, Piece, Place, ReplyText, State};
 use move_text::MoveFault;
 use stack_board::PlainBoard;
@@ -60,11 +60,12 @@ fn writes_kept_texts(rt: HostRuntime) -> Result<(), Fail> {
     assert_eq!(rt; out.items(), b"Base+M;InProgress;Black[1];wS1".as_slice());
     strings_are_games();
     lines_are_one_game();
+    lines_are_read();
     Ok(())
 }
 
 #[test]
-fn tells_each_fault(rt: HostRuntime) {
+fn tells_each_fault(rt: HostRuntime) -> Result<(), Fail> {
     let fault = MoveFault::NoSuchPiece;
     for (fault, wanted) in [
         (GameFault::Malformed { part: 3 }, "part 3 is absent or not of its form"),
@@ -78,6 +79,7 @@ fn tells_each_fault(rt: HostRuntime) {
         (GameFault::OtherTurn, "the declared turn is not that of the game"),
         (GameFault::Memory, "out of memory"),
     ] {
-        assert_eq!(rt; format!("{fault}"), wanted);
+        assert_eq!(rt; format!(in rt.alloc(); "{fault}")?.as_str(), wanted);
     }
+    Ok(())
 }
