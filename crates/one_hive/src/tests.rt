@@ -1,0 +1,75 @@
+//! Lines, rings and hives apart.
+
+ghost use Rattle.std.specs.Prelude.{◌≡◌, ◌<◌};
+ghost use Rattle.hive_model.specs.Places.{IsWithin};
+
+use crate::{Steps, is_one, separating_places, walk_is_cut};
+use hive_model::{Board, Piece, Place, PlaceList};
+use stack_board::PlainBoard;
+use std::alloc::{AllocError, Global};
+use std::marker::Brand;
+use std::sync::ledger::{Blank, Ledger};
+use std::test::Fail;
+
+/// The board on which the first pieces stand on these places, in turn.
+fn board_of(alloc: Global, places: &[(i32, i32)]) -> Result<PlainBoard, AllocError> {
+    let mut board = PlainBoard::new(alloc)?;
+    for (x, (q, r)) in places.iter().enumerate() {
+        if x < 28 && -9 <= *q && *q <= 9 && -9 <= *r && *r <= 9 {
+            let piece = Piece::at(x as u8);
+            if board.spot(piece).is_none() {
+                board.put(piece, Place { q: *q, r: *r });
+            }
+        }
+    }
+    Ok(board)
+}
+
+fn is_cut_by<L: Ledger>(board: &PlainBoard, place: Place, blank: Blank) -> bool
+    requires name { blank.name ≡ L.name }
+    requires parts { blank.parts ≡ L.parts }
+    requires some { 0 < L.parts }
+{
+    let mut steps = Steps::<L>::new(blank);
+    board.height(place) > 0 && walk_is_cut(board, place, &mut steps)
+}
+
+fn is_cut(board: &PlainBoard, place: Place) -> bool {
+    is_cut_by::<Brand>(board, place, Blank::new(1))
+}
+
+#[test]
+fn middle_of_a_line(rt: HostRuntime) -> Result<(), Fail> {
+    let board = board_of(rt.alloc(), &[(0, 0), (1, 0), (2, 0), (1, 0)])?;
+    assert!(rt; is_one(&board));
+    assert!(rt; is_cut(&board, Place { q: 1, r: 0 }));
+    assert!(rt; !is_cut(&board, Place { q: 2, r: 0 }));
+    let mut places = PlaceList::new();
+    separating_places(&board, &mut places);
+    assert_eq!(rt; places.as_slice(), [Place { q: 1, r: 0 }].as_slice());
+    Ok(())
+}
+
+#[test]
+fn ring(rt: HostRuntime) -> Result<(), Fail> {
+    let board = board_of(
+        rt.alloc(),
+        &[(1, 0), (1, -1), (0, -1), (-1, 0), (-1, 1), (0, 1)],
+    )?;
+    assert!(rt; is_one(&board));
+    assert!(rt; !is_cut(&board, Place { q: 1, r: 0 }));
+    let mut places = PlaceList::new();
+    separating_places(&board, &mut places);
+    assert!(rt; places.is_empty());
+    Ok(())
+}
+
+#[test]
+fn two_hives(rt: HostRuntime) -> Result<(), Fail> {
+    assert!(rt; is_one(&PlainBoard::new(rt.alloc())?));
+    let board = board_of(rt.alloc(), &[(0, 0), (2, 0), (2, 1)])?;
+    assert!(rt; !is_one(&board));
+    assert!(rt; !is_cut(&board, Place { q: 0, r: 0 }));
+    assert!(rt; is_cut(&board, Place { q: 2, r: 1 }));
+    Ok(())
+}
