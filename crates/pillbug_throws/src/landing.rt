@@ -1,0 +1,145 @@
+//! Where a piece may be thrown.
+
+ghost use Rattle.std.specs.Prelude.{◌≡◌, ◌↔◌, ℕ, ◌<◌, ◌≤◌, ◌+◌, ◌&&◌, [], length, nat_eq, not, Some, IsTrue};
+ghost use Rattle.arrayvec.specs.ArrayVec.{array_vec_len};
+ghost use Rattle.hive_model.specs.declared.places.Place.{Place};
+ghost use Rattle.hive_model.specs.declared.places.Spot.{Spot};
+ghost use Rattle.hive_model.specs.Boards.{Stacks, height_at, is_occupied, spot_of};
+ghost use Rattle.hive_model.specs.Hive.{are_neighbours};
+ghost use Rattle.hive_model.specs.Lists.{IsOn, Rises};
+ghost use Rattle.hive_model.specs.Places.{IsWithin, is_place, place_cmp, step, dirs, AreNeighbours};
+ghost use Rattle.hive_model.specs.Positions.{is_piece};
+ghost use Rattle.hive_model.specs.Steps.{FreeStep};
+ghost use Rattle.hive_model.specs.Throws.{IsThrower};
+ghost use Rattle.pillbug_throws.specs.Throwing.{IsLoose, ComesDown, ThrowsTo};
+
+use crate::throwers::rests;
+use gates::climb_ok;
+use hive_model::{Board, Cuts, Dir, Lifted, Piece, Place, PlaceList, add_place};
+
+/// Whether a direction leads from one place to the other.
+#[tactic(auto, using(hive_model::proofs::PlaceLemmas::wider))]
+fn are_neighbours(place: Place, other: Place) -> bool
+    requires { IsWithin 9500 place }
+    ensures { result ≡ are_neighbours place other }
+{
+    Dir::ALL.iter().any(
+        |d| -> bool
+            requires { IsWithin 9500 place }
+        { place.step(*d).is(other) },
+    )
+}
+
+/// Whether the piece is alone on its place, does not rest, and stands beside the thrower.
+fn is_at_hand<B: Board>(
+    board: &B,
+    over: Place,
+    piece: Piece,
+    from: Place,
+    rest: Option<Piece>,
+) -> bool
+    requires { IsWithin 9500 over }
+    ensures { result ≡ (nat_eq (height_at (B.stacks board.now) from) 1 && (not (is_piece piece rest) && are_neighbours over from)) }
+{
+    board.height(from) == 1 && !rests(piece, rest) && are_neighbours(over, from)
+}
+
+/// Whether the piece can be lifted from its place over the thrower's: it is alone there, does not rest, stands beside the
+/// thrower, and on no cut place.
+fn is_loose<B: Board, C: Cuts>(
+    board: &B,
+    cuts: &C,
+    over: Place,
+    piece: Piece,
+    from: Place,
+    rest: Option<Piece>,
+) -> bool
+    requires occupied { IsTrue (is_occupied (B.stacks board.now) from) }
+    requires within { IsWithin 9500 over }
+    requires cuts { C.board cuts.now ≡ B.stacks board.now }
+    ensures { IsTrue result ↔ IsLoose (B.stacks board.now) rest over piece from }
+{
+    if !is_at_hand(board, over, piece, from, rest) {
+        return false;
+    }
+    !cuts.is_cut(from)
+}
+
+/// Whether the place is empty, and not the one that the piece was lifted from.
+fn is_open<B: Board>(board: &B, from: Place, to: Place) -> bool
+    ensures { result ≡ (nat_eq (height_at (B.stacks board.now) to) 0 && not (is_place from to)) }
+{
+    board.height(to) == 0 && !from.is(to)
+}
+
+/// Whether a piece that was lifted from a place may come down from the thrower on this neighbour of it.
+fn comes_down<B: Board, L: Board>(
+    board: &B,
+    lifted: &L,
+    over: Place,
+    from: Place,
+    to: Place,
+) -> bool
+    requires near { AreNeighbours over to }
+    requires within { IsWithin 9500 over }
+    ensures { IsTrue result ↔ ComesDown (B.stacks board.now) (L.stacks lifted.now) over from to }
+{
+    if !is_open(board, from, to) {
+        return false;
+    }
+    climb_ok(lifted, over, to)
+}
+
+/// Adds the neighbours of the thrower on which a piece that was lifted from a place may come down.
+fn add_places<B: Board, L: Board>(
+    board: &B,
+    lifted: &L,
+    over: Place,
+    from: Place,
+    out: &mut PlaceList,
+)
+    requires within { IsWithin 9500 over }
+    requires empty { out.old.items ≡ [] }
+    ensures places { (q : Place) → IsOn out.new.items q ↔ ComesDown (B.stacks board.now) (L.stacks lifted.now) over from q }
+    ensures order { Rises place_cmp out.new.items }
+{
+    for dir in Dir::ALL {
+        let to = over.step(dir);
+        if comes_down(board, lifted, over, from, to) {
+            add_place(out, to);
+        }
+    }
+}
+
+/// All places to which the thrower may throw the piece, of either colour, in order, each once. The piece is alone on a
+/// neighbour of the thrower's place that is no cut place, and does not rest. It comes down on another neighbour, which is
+/// empty. On the board without it, neither its step up onto the thrower nor its step down is blocked by two higher common
+/// neighbours.
+pub fn throws<B: Board, C: Cuts>(
+    board: &B,
+    cuts: &C,
+    thrower: Piece,
+    thrown: Piece,
+    rest: Option<Piece>,
+    out: &mut PlaceList,
+)
+    requires may { (t : Spot) × IsThrower (B.stacks board.now) rest thrower t }
+    requires cuts { C.board cuts.now ≡ B.stacks board.now }
+    requires empty { out.old.items ≡ [] }
+    ensures places { (q : Place) → IsOn out.new.items q ↔ ThrowsTo (B.stacks board.now) rest thrower thrown q }
+    ensures order { Rises place_cmp out.new.items }
+{
+    let Some(over) = board.spot(thrower) else {
+        return;
+    };
+    let Some(from) = board.spot(thrown) else {
+        return;
+    };
+    if !is_loose(board, cuts, over.place, thrown, from.place, rest) {
+        return;
+    }
+    let lifted = Lifted::new(board, thrown);
+    if climb_ok(&lifted, from.place, over.place) {
+        add_places(board, &lifted, over.place, from.place, out);
+    }
+}
