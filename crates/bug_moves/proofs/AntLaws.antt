@@ -65,10 +65,10 @@ path_further S a (p ∷ ps) b c path s = (path.0, path_further S p ps b c path.1
 pub way_further : (b : Stacks) (s p q : Place) → AntWay b s p → StepAway b s p q → AntWay b s q
 way_further b s p q (_, (way, path)) (apart, g) = (apart, (way ++ q ∷ [], path_further (GroundStep b) s way p q path g))
 
-some_same : (x y : Place) → Some x ≡ Some y → x ≡ y
+pub some_same : (x y : Place) → Some x ≡ Some y → x ≡ y
 some_same x y e = cc
 
-got_on : (xs : List Place) (k : ℕ) (x : Place) → slice_get xs k ≡ Some x → IsOn xs x
+pub got_on : (xs : List Place) (k : ℕ) (x : Place) → slice_get xs k ≡ Some x → IsOn xs x
 got_on [] k x e = absurd (cc)
 got_on (y ∷ ys) zero x e = inl (some_same y x e)
 got_on (y ∷ ys) (suc k) x e = inr (got_on ys k x e)
@@ -110,7 +110,7 @@ expanded_next b s place found work found' work' n list h at gains begins = recor
   ];
 }
 
-place_of : (xs : List Place) (x : Place) → IsOn xs x → (k : ℕ) × (k < length xs) × (slice_get xs k ≡ Some x)
+pub place_of : (xs : List Place) (x : Place) → IsOn xs x → (k : ℕ) × (k < length xs) × (slice_get xs k ≡ Some x)
 place_of [] x on = absurd on
 place_of (y ∷ ys) x on = elim on [
   | inl same ↦ let low : 0 < length (y ∷ ys) = omega arith in (0, low, ap Some same)

@@ -57,9 +57,6 @@ gains_no_step b S p d to xs h leads there = gains_nothing b (Toward S p d) xs h 
 
 -- Each direction in turn
 
-pub gains_none : (b : Stacks) (P : Dir → Place → Type 0) (xs : List Place) → IsAround b xs → Gains b (InFirst 0 P) xs xs
-gains_none b P xs h = gains_nothing b (InFirst 0 P) xs h (λ q (k, low, is). absurd (omega (arith, low)))
-
 pub gains_next : (b : Stacks) (P : Dir → Place → Type 0) (n : ℕ) (xs ys zs : List Place) → Gains b (InFirst n P) xs ys → Gains b (P (dir_at n)) ys zs → Gains b (InFirst (n + 1) P) xs zs
 gains_next b P n xs ys zs one two = record {
   list = two.list;

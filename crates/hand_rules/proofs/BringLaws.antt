@@ -13,20 +13,21 @@ use Rattle.hive_model.specs.Lists.{IsOn, Rises}
 use Rattle.hive_model.specs.Places.{place_cmp}
 use Rattle.hive_model.specs.Boards.{Stacks}
 use Rattle.hive_model.specs.Legal.{move_cmp}
+use Rattle.hive_model.specs.Positions.{Position}
 use Rattle.hive_model.specs.Placement.{MayPlace, Placement}
 use Rattle.std.proofs.lemmas.Bool.{cases_eq, ltb-true}
 use Rattle.hive_model.proofs.Floods.{on_append, append_left, append_right}
 use Rattle.hive_model.proofs.RuleLaws.{on_map}
 use Rattle.hand_rules.specs.Bringing.{MayBring, IsPlacementMove, position_of}
 
-module _ (t : GameType) (b : Stacks) (c : Colour) (turn : ℕ) (x : ℕ) (q : Place) where
-  pub bring_from : Placement (position_of t b c turn) x q → MayBring t b c turn x × MayPlace b c q
+module _ (p : Position) (x : ℕ) (q : Place) where
+  pub bring_from : Placement p x q → MayBring p.game_type p.board p.side p.turn x × MayPlace p.board p.side q
   bring_from h = (
     record { is_piece = h.is_piece; own = h.own; next = h.next; no_first_queen = h.no_first_queen; queen_by_fourth = h.queen_by_fourth },
     h.place,
   )
 
-  pub from_bring : MayBring t b c turn x → MayPlace b c q → Placement (position_of t b c turn) x q
+  pub from_bring : MayBring p.game_type p.board p.side p.turn x → MayPlace p.board p.side q → Placement p x q
   from_bring h place = record { is_piece = h.is_piece; own = h.own; next = h.next; place = place; no_first_queen = h.no_first_queen; queen_by_fourth = h.queen_by_fourth }
 
 -- Order
@@ -117,16 +118,16 @@ module _ (t : GameType) (b : Stacks) (c : Colour) (turn : ℕ) (x : ℕ) (xs : L
 
 pub brought_places : (t : GameType) (b : Stacks) (c : Colour) (turn x : ℕ) (m : Move) → IsBrought t b c turn x m → IsPlacementMove (position_of t b c turn) m
 brought_places t b c turn x Pass h = h
-brought_places t b c turn x (To y q) h = from_bring t b c turn y q h.1 h.2
+brought_places t b c turn x (To y q) h = from_bring (position_of t b c turn) y q h.1 h.2
 
 pub places_brought : (t : GameType) (b : Stacks) (c : Colour) (turn x : ℕ) → 28 ≤ x → (m : Move) → IsPlacementMove (position_of t b c turn) m → IsBrought t b c turn x m
 places_brought t b c turn x last Pass h = h
 places_brought t b c turn x last (To y q) h =
-    let r = bring_from t b c turn y q h in
+    let r = bring_from (position_of t b c turn) y q h in
     let small = ltb-true y 28 h.is_piece in
     (omega (arith, small, last), r.0, r.1)
 
 -- where no piece may be brought there is no placement
 pub none_to_bring : (t : GameType) (b : Stacks) (c : Colour) (turn : ℕ) → ((x : ℕ) → ¬ MayBring t b c turn x) → (m : Move) → ¬ IsPlacementMove (position_of t b c turn) m
 none_to_bring t b c turn none Pass h = h
-none_to_bring t b c turn none (To x q) h = none x (bring_from t b c turn x q h).0
+none_to_bring t b c turn none (To x q) h = none x (bring_from (position_of t b c turn) x q h).0

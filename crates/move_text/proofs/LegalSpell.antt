@@ -1,8 +1,8 @@
 -- The written text of each legal move denotes it, and each legal move can be written.
-use Rattle.std.proofs.Common.{◌≡◌, ◌≢◌, ℕ, suc, zero, ◌+◌, ◌-◌, ◌≤◌, ◌<◌, Bool, true, false, not, ◌&&◌, List, [], ◌∷◌, length, take, ◌⊎◌, inl, inr, refl, sym, ◌∙◌, ap, subst, arith}
+use Rattle.std.proofs.Common.{◌≡◌, ◌≢◌, ℕ, suc, zero, ◌+◌, ◌≤◌, ◌<◌, Bool, true, false, not, List, [], ◌∷◌, length, take, ◌⊎◌, inl, inr, refl, sym, ◌∙◌, ap, subst, arith}
 use Rattle.std.specs.Prelude.{ℤ, pos, negsuc, ◌+ℤ◌, Some, IsTrue, is_some, nat_lt}
 use Rattle.std.specs.List.{remove}
-use Rattle.std.proofs.lemmas.Bool.{lt-ltb, ltb-true, and_parts}
+use Rattle.std.proofs.lemmas.Bool.{lt-ltb, ltb-true}
 use Rattle.std.proofs.lemmas.Int.{ints}
 use Rattle.hive_model.specs.declared.pieces.Colour.{Colour}
 use Rattle.hive_model.specs.declared.pieces.Colour.TheVariants.{White, Black}
@@ -14,33 +14,27 @@ use Rattle.hive_model.specs.declared.places.Dir.{Dir}
 use Rattle.hive_model.specs.declared.places.Dir.TheVariants.{E, NE, NW, W, SW, SE}
 use Rattle.hive_model.specs.declared.places.Move.{Move}
 use Rattle.hive_model.specs.declared.places.Move.TheVariants.{Pass, To}
-use Rattle.hive_model.specs.Lists.{IsOn, IsPath}
-use Rattle.hive_model.specs.Pieces.{is_colour, colour_of, kind_of, other_side, all_pieces, OfType}
-use Rattle.hive_model.specs.Places.{step, steps, origin, dir_after, dir_before, IsWithin}
-use Rattle.hive_model.specs.Boards.{Stacks, stack_at, set_stack, height_at, is_occupied, top_at, spot_of, lift, lift_from, without, without_at, is_in_play, IsBoard}
+use Rattle.hive_model.specs.Lists.{IsPath}
+use Rattle.hive_model.specs.Pieces.{colour_of, kind_of, other_side, OfType}
+use Rattle.hive_model.specs.Places.{step, steps, origin, dir_after, dir_before}
+use Rattle.hive_model.specs.Boards.{Stacks, stack_at, set_stack, height_at, is_occupied, spot_of, lift, lift_from, without, without_at, is_in_play, IsBoard}
 use Rattle.hive_model.specs.Steps.{GroundStep}
-use Rattle.hive_model.specs.Near.{near}
 use Rattle.hive_model.specs.Reach.{Hop, ReachBy, MovesAs}
 use Rattle.hive_model.specs.Positions.{Position, IsSound}
 use Rattle.hive_model.specs.Placement.{HasColour, MayPlace, Placement, has_colour}
 use Rattle.hive_model.specs.Throws.{Throw}
 use Rattle.hive_model.specs.Legal.{Walk, LegalPair, IsLegal}
 use Rattle.hive_model.specs.Denotes.{Denotes, text}
-use Rattle.hive_model.proofs.GetLemmas.{get_within}
-use Rattle.hive_model.proofs.BoardLemmas.{spot_of_stands, stands_spot_of}
-use Rattle.hive_model.proofs.NearLaws.{place_standing, near_place, near_neighbour, near_within}
-use Rattle.hive_model.proofs.RuleLaws.{any_has, has_any, over_last, over_next}
-use Rattle.hive_model.proofs.LegalLaws.{opposite, back}
-use Rattle.hive_model.proofs.PieceLaws.{on_pieces, pieces_on, same_colour, from_same_colour}
+use Rattle.hive_model.proofs.BoardLemmas.{stands_occupied, spot_of_stands, stands_spot_of}
+use Rattle.hive_model.proofs.NearLaws.{place_standing, near_within}
+use Rattle.hive_model.proofs.RuleLaws.{over_last, over_next}
+use Rattle.hive_model.proofs.LegalLaws.{opposite, back, near_legal, from_legal_pair}
+use Rattle.hive_model.proofs.PlacementLaws.{has_colour_from, from_has_colour}
 use Rattle.move_text.specs.Moves.{IsMoveWithin}
 use Rattle.move_text.proofs.WithoutLaws.{not_there, stack_there}
-use Rattle.move_text.proofs.SpellLaws.{left_is_board, HasReference, Here, There, text_denotes, first_denotes, pass_denotes}
+use Rattle.move_text.proofs.SpellLaws.{Touched, text_denotes, first_denotes, pass_denotes}
 
 -- A step away from an occupied place
-
--- the place or one of its neighbours is occupied
-abbrev Touched : Stacks → Place → Type 0
-Touched c q = IsTrue (is_occupied c q) ⊎ ((d : Dir) × IsTrue (is_occupied c (step q d)))
 
 beside : (c : Stacks) (p q : Place) (d : Dir) → step p d ≡ q → IsTrue (is_occupied c p) → Touched c q
 beside c p q d leads h = inr (opposite d, subst (λ z. IsTrue (is_occupied c z)) (sym (ap (λ z. step z (opposite d)) (sym leads) ∙ back p d)) h)
@@ -105,10 +99,6 @@ lifted_is b x s e top =
     let last : suc s.level ≡ length (stack_at b s.place) = omega (arith, top) in
     ap (lift_from b) e ∙ ap (set_stack b s.place) (sym (remove_last (stack_at b s.place) s.level last)) ∙ sym (ap (without_at b) e)
 
-referred : (b : Stacks) (x : ℕ) (q : Place) → Touched (without b x) q → HasReference b x q
-referred b x q (inl h) = Here h
-referred b x q (inr h) = There h.0 h.1
-
 -- Walks and throws
 
 walk_touches : (p : Position) (x : ℕ) (q : Place) → Walk p x q → Touched (without p.board x) q
@@ -116,16 +106,16 @@ walk_touches p x q w =
     let lifted = moves_touch (kind_of x) (lift p.board x) w.from.place q w.moves in
     subst (λ c. Touched c q) (lifted_is p.board x w.from w.stands w.on_top) lifted
 
-off_q : (a x : ℤ) → x ≢ pos 0 → a +ℤ x ≡ a → ⊥
-off_q a x h e = h (omega (arith, ints))
+moves_off : (a x : ℤ) → x ≢ pos 0 → a +ℤ x ≡ a → ⊥
+moves_off a x h e = h (omega (arith, ints))
 
 apart : (a b : Place) (d : Dir) → step a d ≡ b → a ≡ b → ⊥
-apart a b E e f = off_q a.q (pos 1) (λ z. omega (arith, ints)) (ap (λ (z : Place). z.q) (e ∙ sym f))
-apart a b NE e f = off_q a.q (pos 1) (λ z. omega (arith, ints)) (ap (λ (z : Place). z.q) (e ∙ sym f))
-apart a b NW e f = off_q a.r (negsuc 0) (λ z. omega (arith, ints)) (ap (λ (z : Place). z.r) (e ∙ sym f))
-apart a b W e f = off_q a.q (negsuc 0) (λ z. omega (arith, ints)) (ap (λ (z : Place). z.q) (e ∙ sym f))
-apart a b SW e f = off_q a.q (negsuc 0) (λ z. omega (arith, ints)) (ap (λ (z : Place). z.q) (e ∙ sym f))
-apart a b SE e f = off_q a.r (pos 1) (λ z. omega (arith, ints)) (ap (λ (z : Place). z.r) (e ∙ sym f))
+apart a b E e f = moves_off a.q (pos 1) (λ z. omega (arith, ints)) (ap (λ (z : Place). z.q) (e ∙ sym f))
+apart a b NE e f = moves_off a.q (pos 1) (λ z. omega (arith, ints)) (ap (λ (z : Place). z.q) (e ∙ sym f))
+apart a b NW e f = moves_off a.r (negsuc 0) (λ z. omega (arith, ints)) (ap (λ (z : Place). z.r) (e ∙ sym f))
+apart a b W e f = moves_off a.q (negsuc 0) (λ z. omega (arith, ints)) (ap (λ (z : Place). z.q) (e ∙ sym f))
+apart a b SW e f = moves_off a.q (negsuc 0) (λ z. omega (arith, ints)) (ap (λ (z : Place). z.q) (e ∙ sym f))
+apart a b SE e f = moves_off a.r (pos 1) (λ z. omega (arith, ints)) (ap (λ (z : Place). z.r) (e ∙ sym f))
 
 throw_touches : (p : Position) (x : ℕ) (q : Place) → IsBoard p.board → Throw p x q → Touched (without p.board x) q
 throw_touches p x q is h =
@@ -139,27 +129,13 @@ throw_touches p x q is h =
 
 -- Placements
 
-top_occupied : (c : Stacks) (q : Place) (x : ℕ) → top_at c q ≡ Some x → IsTrue (is_occupied c q)
-top_occupied c q x e = let low = get_within (stack_at c q) (length (stack_at c q) - 1) x e in let some : 0 < height_at c q = omega (arith, low) in lt-ltb 0 _ some
-
-colour_from : (b : Stacks) (c : Colour) → has_colour b c ≡ true → HasColour b c
-colour_from b c h =
-    let r = any_has (λ y. is_colour (colour_of y) c && is_in_play b y) all_pieces h in
-    let both = and_parts (is_colour (colour_of r.0) c) (is_in_play b r.0) r.2 in
-    record { piece = r.0; is_piece = lt-ltb r.0 28 (pieces_on r.0 r.1); colour = same_colour (colour_of r.0) c both.0; in_play = both.1 }
-
-from_colour : (b : Stacks) (c : Colour) → HasColour b c → has_colour b c ≡ true
-from_colour b c h =
-    has_any (λ y. is_colour (colour_of y) c && is_in_play b y) all_pieces h.piece (on_pieces h.piece (ltb-true h.piece 28 h.is_piece))
-    (ap (λ t. t && is_in_play b h.piece) (from_same_colour (colour_of h.piece) c h.colour) ∙ h.in_play)
-
 no_colour : (b : Stacks) (c : Colour) → has_colour b c ≡ false → ¬ HasColour b c
-no_colour b c none h = let wrong : true ≡ false = sym (from_colour b c h) ∙ none in cc
+no_colour b c none h = let wrong : true ≡ false = sym (from_has_colour b c h) ∙ none in cc
 
 -- a board with no piece of either colour is empty
-bare : (b : Stacks) → IsBoard b → (c : Colour) → (¬ HasColour b c) → (¬ HasColour b (other_side c)) → b ≡ []
-bare [] is c e f = refl
-bare ((p, xs) ∷ es) is c e f =
+no_pieces : (b : Stacks) → IsBoard b → (c : Colour) → (¬ HasColour b c) → (¬ HasColour b (other_side c)) → b ≡ []
+no_pieces [] is c e f = refl
+no_pieces ((p, xs) ∷ es) is c e f =
     let z = place_standing ((p, xs) ∷ es) is.stacks p (inl refl) in
     let there : is_in_play ((p, xs) ∷ es) z.0 ≡ true = ap is_some (stands_spot_of ((p, xs) ∷ es) is z.0 p 0 z.1) in
     absurd (which (colour_of z.0) c z.0 refl (lt-ltb z.0 28 (is.pieces p 0 z.0 z.1)) there e f)
@@ -174,9 +150,9 @@ placed : (b : Stacks) → IsBoard b → (c : Colour) (q : Place) → MayPlace b 
 placed b is c q h = go (has_colour b c) (has_colour b (other_side c)) refl refl
   where
     go : (s t : Bool) → has_colour b c ≡ s → has_colour b (other_side c) ≡ t → Touched b q ⊎ ((b ≡ []) × (q ≡ origin))
-    go true t e f = let own = (h.on_own (colour_from b c e)).0 in inl (inr (own.dir, top_occupied b (step q own.dir) own.other own.stands))
-    go false true e f = inl (inr (h.on_others (no_colour b c e) (colour_from b (other_side c) f)))
-    go false false e f = let mine = no_colour b c e in let theirs = no_colour b (other_side c) f in inr (bare b is c mine theirs, h.on_empty mine theirs)
+    go true t e f = let own = (h.on_own (has_colour_from b c e)).0 in inl (inr (own.dir, stands_occupied b own.other (step q own.dir) _ own.stands))
+    go false true e f = inl (inr (h.on_others (no_colour b c e) (has_colour_from b (other_side c) f)))
+    go false false e f = let mine = no_colour b c e in let theirs = no_colour b (other_side c) f in inr (no_pieces b is c mine theirs, h.on_empty mine theirs)
 
 -- How a legal pair ends
 
@@ -216,20 +192,10 @@ pair_goes p x q sound (inr (queen, inr throw)) = moved_goes p x q throw.from sou
 
 goes_denotes : (p : Position) (x : ℕ) (q : Place) → IsBoard p.board → Goes p x q → Denotes p.game_type p.board (text p.board (To x q)) (To x q)
 goes_denotes p x q is g = elim (g.ends) [
-  | inl touched ↦ text_denotes p.game_type p.board is x q g.small g.of_type (referred p.board x q touched)
+  | inl touched ↦ text_denotes p.game_type p.board is x q g.small g.of_type touched
   | inr first ↦
       subst (λ b. Denotes p.game_type b (text b (To x q)) (To x q)) (sym first.0)
       (subst (λ z. Denotes p.game_type [] (text [] (To x z)) (To x z)) (sym first.1) (first_denotes p.game_type x g.small g.of_type))
-]
-
-touched_within : (c : Stacks) (q : Place) → IsBoard c → Touched c q → IsWithin 9500 q
-touched_within c q is (inl here) = near_within c is q (near_place c q here)
-touched_within c q is (inr (d, there)) = near_within c is q (subst (IsOn (near c)) (back q d) (near_neighbour c (step q d) (opposite d) there))
-
-goes_within : (p : Position) (x : ℕ) (q : Place) → IsBoard p.board → Goes p x q → IsWithin 9500 q
-goes_within p x q is g = elim (g.ends) [
-  | inl touched ↦ touched_within (without p.board x) q (left_is_board p.board is x) touched
-  | inr first ↦ subst (IsWithin 9500) (sym first.1) (record { q_low = omega (arith, ints); q_high = omega (arith, ints); r_low = omega (arith, ints); r_high = omega (arith, ints) })
 ]
 
 pub legal_denotes : (p : Position) (m : Move) → IsSound p → IsLegal p m → Denotes p.game_type p.board (text p.board m) m
@@ -238,4 +204,5 @@ legal_denotes p (To x q) sound legal = goes_denotes p x q sound.board (pair_goes
 
 pub legal_within : (p : Position) (m : Move) → IsSound p → IsLegal p m → IsMoveWithin m
 legal_within p Pass sound legal = tt
-legal_within p (To x q) sound legal = goes_within p x q sound.board (pair_goes p x q sound legal.1)
+legal_within p (To x q) sound legal =
+    near_within p.board sound.board q (near_legal p x q sound.board (from_legal_pair p sound.board x q legal.1))

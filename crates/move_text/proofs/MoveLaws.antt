@@ -25,11 +25,11 @@ use Rattle.move_text.specs.Faults.{mover, Refuses}
 use Rattle.move_text.specs.Moves.{is_empty_board, moved_beside, judge, judged, move_of}
 use Rattle.move_text.proofs.FormLaws.{form_read, read_form, no_text, text_no}
 
--- A board is empty where no piece is on it
+-- A board is empty where no piece is in play
 
-pub bare_empty : (b : Stacks) → IsBoard b → is_empty_board b ≡ true → b ≡ []
-bare_empty [] is h = refl
-bare_empty ((p, xs) ∷ es) is h =
+pub empty_from : (b : Stacks) → IsBoard b → is_empty_board b ≡ true → b ≡ []
+empty_from [] is h = refl
+empty_from ((p, xs) ∷ es) is h =
     let z = place_standing ((p, xs) ∷ es) is.stacks p (inl refl) in
     let small = is.pieces p 0 z.0 z.1 in
     let there = ap is_some (stands_spot_of ((p, xs) ∷ es) is z.0 p 0 z.1) in
@@ -37,11 +37,11 @@ bare_empty ((p, xs) ∷ es) is h =
     let wrong : false ≡ true = ap not (sym any) ∙ h in
     absurd (cc)
 
-pub empty_bare : (b : Stacks) → b ≡ [] → is_empty_board b ≡ true
-empty_bare b e = ap is_empty_board e
+pub from_empty : (b : Stacks) → b ≡ [] → is_empty_board b ≡ true
+from_empty b e = ap is_empty_board e
 
-bare_false : (b : Stacks) → is_empty_board b ≡ false → b ≢ []
-bare_false b h e = let wrong : true ≡ false = sym (empty_bare b e) ∙ h in absurd (cc)
+some_from : (b : Stacks) → is_empty_board b ≡ false → b ≢ []
+some_from b h e = let wrong : true ≡ false = sym (from_empty b e) ∙ h in absurd (cc)
 
 -- Forms, judged
 
@@ -54,7 +54,7 @@ alone_ok : (t : GameType) (b : Stacks) (len x : ℕ) (m : Move) → IsBoard b �
 alone_ok t b len x m is h = go (has_kind t (kind_of x)) (is_empty_board b) refl refl h
   where
     go : (u v : Bool) → has_kind t (kind_of x) ≡ u → is_empty_board b ≡ v → (if u then (if v then Ok (To x origin) else Err (NotAMove len)) else Err NoSuchPiece) ≡ Ok m → AloneOk t b x m
-    go true true e f k = let same : To x origin ≡ m = cc in record { of_type = e; empty = bare_empty b is f; goes = sym same }
+    go true true e f k = let same : To x origin ≡ m = cc in record { of_type = e; empty = empty_from b is f; goes = sym same }
     go true false e f k = absurd (cc)
     go false true e f k = absurd (cc)
     go false false e f k = absurd (cc)
@@ -80,7 +80,7 @@ alone_err t b len x fault h = go (has_kind t (kind_of x)) (is_empty_board b) ref
     go : (u v : Bool) → has_kind t (kind_of x) ≡ u → is_empty_board b ≡ v → (if u then (if v then Ok (To x origin) else Err (NotAMove len)) else Err NoSuchPiece) ≡ Err fault
         → ((has_kind t (kind_of x) ≡ false) × (NoSuchPiece ≡ fault)) ⊎ (OfType t x × (b ≢ []) × (NotAMove len ≡ fault))
     go true true e f k = absurd (cc)
-    go true false e f k = let same : NotAMove len ≡ fault = cc in inr (e, bare_false b f, same)
+    go true false e f k = let same : NotAMove len ≡ fault = cc in inr (e, some_from b f, same)
     go false true e f k = let same : NoSuchPiece ≡ fault = cc in inl (e, same)
     go false false e f k = let same : NoSuchPiece ≡ fault = cc in inl (e, same)
 
@@ -116,7 +116,7 @@ of_denotes t b text m (inl (e, goes)) = ap (judged t b (length text)) (read_form
 of_denotes t b text m (inr (inl d)) =
     ap (judged t b (length text)) (read_form text (Alone d.piece) d.is_piece d.text_is)
     ∙ ap (λ c. if c then (if is_empty_board b then Ok (To d.piece origin) else Err (NotAMove (length text))) else Err NoSuchPiece) d.of_type
-    ∙ ap (λ c. if c then Ok (To d.piece origin) else Err (NotAMove (length text))) (empty_bare b d.empty)
+    ∙ ap (λ c. if c then Ok (To d.piece origin) else Err (NotAMove (length text))) (from_empty b d.empty)
     ∙ ap (λ m. Ok m) (sym d.goes)
 of_denotes t b text m (inr (inr d)) =
     ap (judged t b (length text)) (read_form text (Beside d.piece d.mark d.reference) (d.is_piece, d.is_reference) d.text_is)
@@ -150,11 +150,11 @@ no_piece t b len (Alone z) x moves e = let same : z ≡ x = cc in
 no_piece t b len (Beside z mark y) x moves e = let same : z ≡ x = cc in
     ap (λ c. if c then moved_beside z mark y (place_in (without b z) y) else Err NoSuchPiece) (ap (λ y. has_kind t (kind_of y)) same ∙ e)
 
-not_bare : (b : Stacks) → IsBoard b → b ≢ [] → is_empty_board b ≡ false
-not_bare b is h = go (is_empty_board b) refl
+from_some : (b : Stacks) → IsBoard b → b ≢ [] → is_empty_board b ≡ false
+from_some b is h = go (is_empty_board b) refl
   where
     go : (t : Bool) → is_empty_board b ≡ t → t ≡ false
-    go true e = absurd (h (bare_empty b is e))
+    go true e = absurd (h (empty_from b is e))
     go false e = refl
 
 pub of_refuses : (t : GameType) (b : Stacks) (text : List ℕ) (fault : MoveFault) → IsBoard b → Refuses t b text fault → move_of t b text ≡ Err fault
@@ -162,7 +162,7 @@ of_refuses t b text (NotAMove k) is (inl d) = ap (judged t b (length text)) (tex
 of_refuses t b text (NotAMove k) is (inr (d, len)) =
     ap (judged t b (length text)) (read_form text (Alone d.piece) d.is_piece d.text_is)
     ∙ ap (λ c. if c then (if is_empty_board b then Ok (To d.piece origin) else Err (NotAMove (length text))) else Err NoSuchPiece) d.of_type
-    ∙ ap (λ c. if c then Ok (To d.piece origin) else Err (NotAMove (length text))) (not_bare b is d.not_empty)
+    ∙ ap (λ c. if c then Ok (To d.piece origin) else Err (NotAMove (length text))) (from_some b is d.not_empty)
     ∙ ap (λ n. Err (NotAMove n)) (sym len)
 of_refuses t b text NoSuchPiece is d = ap (judged t b (length text)) (read_form text d.form d.is d.text_is) ∙ no_piece t b (length text) d.form d.piece d.moves d.not_of_type
 of_refuses t b text (NotInPlay y) is d =

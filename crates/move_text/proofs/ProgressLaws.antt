@@ -115,44 +115,44 @@ kind_is b k h =
           ]
     ]
 
-record Names (n : Naming) (b : ℕ) (next : Naming) : Type 0 where
+record NameGrows (n : Naming) (b : ℕ) (next : Naming) : Type 0 where
   is : IsNaming next
   text : naming_text next ≡ naming_text n ++ b ∷ []
 
-name_grows : (n : Naming) (b : ℕ) (next : Naming) → IsNaming n → naming_with n b ≡ Some next → Names n b next
+name_grows : (n : Naming) (b : ℕ) (next : Naming) → IsNaming n → naming_with n b ≡ Some next → NameGrows n b next
 name_grows Empty b next is h = go (colour_at b) refl h
   where
-    go : (o : Option Colour) → colour_at b ≡ o → sided o ≡ Some next → Names Empty b next
+    go : (o : Option Colour) → colour_at b ≡ o → sided o ≡ Some next → NameGrows Empty b next
     go None e k = absurd (cc)
     go (Some c) e k = let same : Side c ≡ next = cc in
-        subst (Names Empty b) same (record { is = tt; text = ap (λ n. n ∷ []) (sym (colour_is b c e)) })
+        subst (NameGrows Empty b) same (record { is = tt; text = ap (λ n. n ∷ []) (sym (colour_is b c e)) })
 name_grows (Side c) b next is h = go (kind_at b) refl h
   where
-    one : (k : Kind) → kind_at b ≡ Some k → (t : Bool) → nat_eq (most_of k) 0 ≡ t → Some (if t then Named (piece_of c k 0) else Kinded c k) ≡ Some next → Names (Side c) b next
+    one : (k : Kind) → kind_at b ≡ Some k → (t : Bool) → nat_eq (most_of k) 0 ≡ t → Some (if t then Named (piece_of c k 0) else Kinded c k) ≡ Some next → NameGrows (Side c) b next
     one k e true f j = let same : Named (piece_of c k 0) ≡ next = cc in
         let none : most_of k ≡ 0 = eqb-true (most_of k) 0 f in
         let number : IsNumber k 0 = (omega arith, λ _. none) in
-        subst (Names (Side c) b) same (record {
+        subst (NameGrows (Side c) b) same (record {
           is = piece_within c k 0 number;
           text = text_of_piece c k 0 number ∙ ap (λ n. colour_code c ∷ (n ∷ [])) (sym (kind_is b k e));
         })
     one k e false f j = let same : Kinded c k ≡ next = cc in
         let some = eqb-false (most_of k) 0 f in
         let more : 0 < most_of k = omega (arith, some) in
-        subst (Names (Side c) b) same (record { is = more; text = ap (λ n. colour_code c ∷ (n ∷ [])) (sym (kind_is b k e)) })
+        subst (NameGrows (Side c) b) same (record { is = more; text = ap (λ n. colour_code c ∷ (n ∷ [])) (sym (kind_is b k e)) })
 
-    go : (o : Option Kind) → kind_at b ≡ o → kinded c o ≡ Some next → Names (Side c) b next
+    go : (o : Option Kind) → kind_at b ≡ o → kinded c o ≡ Some next → NameGrows (Side c) b next
     go None e k = absurd (cc)
     go (Some k) e j = one k e (nat_eq (most_of k) 0) refl j
 name_grows (Kinded c k) b next is h = go (nat_lt 48 b) (nat_le (b - 48) (most_of k)) refl refl h
   where
-    go : (t u : Bool) → nat_lt 48 b ≡ t → nat_le (b - 48) (most_of k) ≡ u → (if t && u then Some (Named (piece_of c k (b - 48))) else None) ≡ Some next → Names (Kinded c k) b next
+    go : (t u : Bool) → nat_lt 48 b ≡ t → nat_le (b - 48) (most_of k) ≡ u → (if t && u then Some (Named (piece_of c k (b - 48))) else None) ≡ Some next → NameGrows (Kinded c k) b next
     go true true e f j = let same : Named (piece_of c k (b - 48)) ≡ next = cc in
         let low : 48 < b = ltb-true 48 b e in
         let high : b - 48 ≤ most_of k = leb-true (b - 48) (most_of k) f in
         let number : IsNumber k (b - 48) = (high, λ z. absurd (omega (arith, z, low))) in
         let digit : number_code (b - 48) ≡ b ∷ [] = digit_is b low in
-        subst (Names (Kinded c k) b) same (record {
+        subst (NameGrows (Kinded c k) b) same (record {
           is = piece_within c k (b - 48) number;
           text = text_of_piece c k (b - 48) number ∙ ap (λ ds. colour_code c ∷ (kind_code k ∷ ds)) digit;
         })

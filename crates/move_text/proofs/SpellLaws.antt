@@ -54,7 +54,7 @@ leads q p (inr (inr (inr (inr (inr (inl e)))))) = ap (λ (s : Candidate). place_
 leads q p (inr (inr (inr (inr (inr (inr (inl e))))))) = ap (λ (s : Candidate). place_by s.place s.mark) (sym e) ∙ same_ints _ _ q.q q.r (omega (arith, ints)) (omega (arith, ints))
 leads q p (inr (inr (inr (inr (inr (inr (inr wrong))))))) = absurd wrong
 
-pub left_is_board : (b : Stacks) → IsBoard b → (x : ℕ) → IsBoard (without b x)
+left_is_board : (b : Stacks) → IsBoard b → (x : ℕ) → IsBoard (without b x)
 left_is_board b is x = elim (spot_of b x) as (λ o. spot_of b x ≡ o → IsBoard (without b x)) [
   | None ↦ λ e. subst IsBoard (sym (not_there b x e)) is
   | Some s ↦ λ e. without_is_board b is x s.place s.level (spot_of_stands b x s e)
@@ -77,10 +77,9 @@ beside_denotes t b is x q small of_type f =
       goes = ap (To x) (sym (leads q f.at f.on));
     }))
 
--- the place, or a neighbour, is occupied on the board without the piece
-pub data HasReference (b : Stacks) (x : ℕ) (q : Place) : Type 0 where
-  Here : IsTrue (is_occupied (without b x) q) → HasReference b x q
-  There : (d : Dir) → IsTrue (is_occupied (without b x) (step q d)) → HasReference b x q
+-- the place or one of its neighbours is occupied
+abbrev pub Touched : Stacks → Place → Type 0
+Touched c q = IsTrue (is_occupied c q) ⊎ ((d : Dir) × IsTrue (is_occupied c (step q d)))
 
 top_of : (c : Stacks) (q : Place) → IsTrue (is_occupied c q) → (y : ℕ) × (top_at c q ≡ Some y)
 top_of c q h = let some = ltb-true 0 (height_at c q) h in get_exists (stack_at c q) (height_at c q - 1) (omega (arith, some))
@@ -96,9 +95,9 @@ found_there c x q NE h = found_at c x q (record { mark = Before Slash; place = s
 found_there c x q NW h = found_at c x q (record { mark = After Backslash; place = step q NW }) (inr (inr (inr (inr (inr (inl refl)))))) h
 found_there c x q SE h = found_at c x q (record { mark = Before Backslash; place = step q SE }) (inr (inr (inr (inr (inr (inr (inl refl))))))) h
 
-pub text_denotes : (t : GameType) (b : Stacks) → IsBoard b → (x : ℕ) (q : Place) → x < 28 → OfType t x → HasReference b x q → Denotes t b (text b (To x q)) (To x q)
-text_denotes t b is x q small of_type (Here h) = beside_denotes t b is x q small of_type (found_at (without b x) x q (record { mark = On; place = q }) (inl refl) h)
-text_denotes t b is x q small of_type (There d h) = beside_denotes t b is x q small of_type (found_there (without b x) x q d h)
+pub text_denotes : (t : GameType) (b : Stacks) → IsBoard b → (x : ℕ) (q : Place) → x < 28 → OfType t x → Touched (without b x) q → Denotes t b (text b (To x q)) (To x q)
+text_denotes t b is x q small of_type (inl h) = beside_denotes t b is x q small of_type (found_at (without b x) x q (record { mark = On; place = q }) (inl refl) h)
+text_denotes t b is x q small of_type (inr (d, h)) = beside_denotes t b is x q small of_type (found_there (without b x) x q d h)
 
 pub first_denotes : (t : GameType) (x : ℕ) → x < 28 → OfType t x → Denotes t [] (text [] (To x origin)) (To x origin)
 first_denotes t x small of_type = inr (inl (record { piece = x; is_piece = small; of_type = of_type; text_is = refl; empty = refl; goes = refl }))

@@ -3,7 +3,7 @@ use Rattle.std.proofs.Common.{◌≡◌, ◌≢◌, ℕ, suc, zero, ◌+◌, ◌
 use Rattle.std.specs.Prelude.{Option, Some, None, option_map, slice_get, IsTrue, nat_eq, nat_lt, if◌then◌else◌}
 use Rattle.std.specs.List.{remove}
 use Rattle.std.specs.FinMap.Entries.{is_sorted}
-use Rattle.std.proofs.lemmas.Bool.{ne_eqb, cond-true, cond-false, lt-ltb, ltb-true, ltb-false, eqb-true, eqb-false}
+use Rattle.std.proofs.lemmas.Bool.{ne_eqb, cond-true, cond-false, ltb-true, ltb-false, eqb-true, eqb-false}
 use Rattle.std.proofs.Common.{eq-eqb}
 use Rattle.hive_model.specs.declared.places.Place.{Place}
 use Rattle.hive_model.specs.declared.places.Spot.{Spot}
@@ -11,7 +11,7 @@ use Rattle.hive_model.specs.Places.{place_cmp, is_place, IsWithin}
 use Rattle.hive_model.specs.Boards.{Stacks, stack_found, stack_at, height_at, top_at, spot_of, under_spot, under_of, set_stack, StandsAt, IsBoard, without, without_at, place_in}
 use Rattle.hive_model.proofs.PlaceLemmas.{is_place_itself, cases_place, is_other_place}
 use Rattle.hive_model.proofs.GetLemmas.{get_within}
-use Rattle.hive_model.proofs.BoardLemmas.{spot_of_stands, stands_spot_of, stack_at-set_stack, sorted-set_stack, stacks-set_stack, spot_within}
+use Rattle.hive_model.proofs.BoardLemmas.{stands_occupied, occupied_stands, spot_of_stands, stands_spot_of, stack_at-set_stack, sorted-set_stack, stacks-set_stack, spot_within}
 
 get_remove_low : {X : Type 0} (xs : List X) (i j : ℕ) → j < i → slice_get (remove xs i) j ≡ slice_get xs j
 get_remove_low xs zero j h = absurd (omega (arith, h))
@@ -35,13 +35,6 @@ length_remove [] i h = absurd (omega (arith, h))
 length_remove (x ∷ []) zero h = refl
 length_remove (x ∷ y ∷ ys) zero h = let all : length ys + 1 + 1 ≡ suc (suc (length ys)) = omega arith in let one : suc (length ys) + 1 ≡ suc (suc (length ys)) = omega arith in one
 length_remove (x ∷ xs) (suc i) h = let less : i < length xs = omega (arith, h) in let r = length_remove xs i less in omega (arith, r)
-
-occupied_first : (xs : List ℕ) → nat_lt 0 (length xs) ≡ true → (x : ℕ) × (slice_get xs 0 ≡ Some x)
-occupied_first [] h = absurd (let wrong = ltb-true 0 0 h in omega (arith, wrong))
-occupied_first (x ∷ xs) h = (x, refl)
-
-first_occupied : (xs : List ℕ) (i x : ℕ) → slice_get xs i ≡ Some x → nat_lt 0 (length xs) ≡ true
-first_occupied xs i x h = let w = get_within xs i x h in let some : 0 < length xs = omega (arith, w) in lt-ltb 0 (length xs) some
 
 module _ (b : Stacks) (is : IsBoard b) (x : ℕ) (p : Place) (level : ℕ) (stands : StandsAt b x p level) where
   without_is : without b x ≡ set_stack b p (remove (stack_at b p) level)
@@ -119,9 +112,9 @@ module _ (b : Stacks) (is : IsBoard b) (x : ℕ) (p : Place) (level : ℕ) (stan
         let same = is.once y q r one.0 two.0 one.1 two.1 in
         (same.0, was_once q r j k one.0 two.0 one.2 two.2 same.0 same.1);
     within = λ q h.
-        let first = occupied_first (stack_at (without b x) q) h in
+        let first = occupied_stands (without b x) q h in
         let old = without_stands first.0 q 0 first.1 in
-        is.within q (first_occupied (stack_at b q) old.0 first.0 old.1);
+        is.within q (stands_occupied b first.0 q old.0 old.1);
   }
 
   place_gone : place_in (without b x) x ≡ None

@@ -3,15 +3,16 @@ use Rattle.std.specs.Prelude.{ℕ, List, length, Option, Some, None, Result, Ok,
 use Rattle.std.specs.List.{list_any}
 use Rattle.hive_model.specs.declared.pieces.GameType.{GameType}
 use Rattle.hive_model.specs.declared.places.Place.{Place}
+use Rattle.hive_model.specs.declared.places.Dir.{Dir}
 use Rattle.hive_model.specs.declared.places.Move.{Move}
 use Rattle.hive_model.specs.declared.places.Move.TheVariants.{Pass, To}
 use Rattle.hive_model.specs.declared.forms.Mark.{Mark}
 use Rattle.hive_model.specs.declared.forms.Form.{Form}
 use Rattle.hive_model.specs.declared.forms.Form.TheVariants.{Passes, Alone, Beside}
 use Rattle.hive_model.specs.Pieces.{kind_of, has_kind, all_pieces}
-use Rattle.hive_model.specs.Places.{origin, IsWithin}
+use Rattle.hive_model.specs.Places.{step, origin, IsWithin}
 use Rattle.hive_model.specs.Boards.{Stacks, without, place_in, is_in_play}
-use Rattle.hive_model.specs.Denotes.{place_by}
+use Rattle.hive_model.specs.Denotes.{place_by, Candidate}
 use Rattle.move_text.specs.declared.faults.MoveFault.{MoveFault}
 use Rattle.move_text.specs.declared.faults.MoveFault.TheVariants.{NotAMove, NoSuchPiece, NotInPlay}
 use Rattle.move_text.specs.declared.progress.Naming.TheVariants.{Empty}
@@ -44,6 +45,10 @@ judged t b len (Ok f) = judge t b len f
 -- the move of a text
 abbrev pub move_of : GameType → Stacks → List ℕ → Result Move MoveFault
 move_of t b text = judged t b (length text) (scan (First Empty) text 0)
+
+-- how a place is named by a reference in a direction from it
+abbrev pub named_beside : Place → Mark × Dir → Candidate
+named_beside q m = record { mark = m.0; place = step q m.1 }
 
 -- the destination has coordinates of at most 9,500
 abbrev pub IsMoveWithin : Move → Type 0

@@ -158,6 +158,17 @@ fn top_without<B: Board>(board: &B, piece: Piece, place: Place) -> Option<Piece>
     }
 }
 
+/// The marks of a place next to a reference, each with the direction from the place to the reference, in the order in which
+/// references are sought.
+const BESIDE: [(Mark, Dir); 6] = [
+    (Mark::After(Stroke::Dash), Dir::W),
+    (Mark::Before(Stroke::Dash), Dir::E),
+    (Mark::After(Stroke::Slash), Dir::SW),
+    (Mark::Before(Stroke::Slash), Dir::NE),
+    (Mark::After(Stroke::Backslash), Dir::NW),
+    (Mark::Before(Stroke::Backslash), Dir::SE),
+];
+
 /// The form of a placement, a walk or a throw in the one spelling.
 #[tactic(auto, using(hive_model::proofs::PlaceLemmas::wider))]
 fn form_to<B: Board>(board: &B, piece: Piece, place: Place) -> Form
@@ -168,23 +179,10 @@ fn form_to<B: Board>(board: &B, piece: Piece, place: Place) -> Form
     if let Some(reference) = top_without(board, piece, place) {
         return Form::Beside(piece, Mark::On, reference);
     }
-    if let Some(reference) = top_without(board, piece, place.step(Dir::W)) {
-        return Form::Beside(piece, Mark::After(Stroke::Dash), reference);
-    }
-    if let Some(reference) = top_without(board, piece, place.step(Dir::E)) {
-        return Form::Beside(piece, Mark::Before(Stroke::Dash), reference);
-    }
-    if let Some(reference) = top_without(board, piece, place.step(Dir::SW)) {
-        return Form::Beside(piece, Mark::After(Stroke::Slash), reference);
-    }
-    if let Some(reference) = top_without(board, piece, place.step(Dir::NE)) {
-        return Form::Beside(piece, Mark::Before(Stroke::Slash), reference);
-    }
-    if let Some(reference) = top_without(board, piece, place.step(Dir::NW)) {
-        return Form::Beside(piece, Mark::After(Stroke::Backslash), reference);
-    }
-    if let Some(reference) = top_without(board, piece, place.step(Dir::SE)) {
-        return Form::Beside(piece, Mark::Before(Stroke::Backslash), reference);
+    for (mark, dir) in BESIDE {
+        if let Some(reference) = top_without(board, piece, place.step(dir)) {
+            return Form::Beside(piece, mark, reference);
+        }
     }
     Form::Alone(piece)
 }

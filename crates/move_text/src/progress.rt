@@ -74,14 +74,8 @@ impl Naming {
         ensures { result ≡ naming_with self.now byte }
     {
         match *self {
-            Naming::Empty => match colour_at(byte) {
-                Some(colour) => Some(Naming::Side(colour)),
-                None => None,
-            },
-            Naming::Side(colour) => match kind_at(byte) {
-                Some(kind) => Some(with_kind(colour, kind)),
-                None => None,
-            },
+            Naming::Empty => colour_at(byte).map(|colour| Naming::Side(colour)),
+            Naming::Side(colour) => kind_at(byte).map(|kind| with_kind(colour, kind)),
             Naming::Kinded(colour, kind) => with_number(colour, kind, byte),
             Naming::Named(_) => None,
         }
@@ -105,10 +99,7 @@ fn with_number(colour: Colour, kind: Kind, byte: u8) -> Option<Naming>
     if byte <= b'0' {
         return None;
     }
-    match Piece::new(colour, kind, byte - b'0') {
-        Some(piece) => Some(Naming::Named(piece)),
-        None => None,
-    }
+    Piece::new(colour, kind, byte - b'0').map(|piece| Naming::Named(piece))
 }
 
 impl Progress {
@@ -117,27 +108,9 @@ impl Progress {
         ensures { result ≡ progress_with self.now byte }
     {
         match self {
-            Progress::AtP => {
-                if byte == b'a' {
-                    Some(Progress::AtPa)
-                } else {
-                    None
-                }
-            }
-            Progress::AtPa => {
-                if byte == b's' {
-                    Some(Progress::AtPas)
-                } else {
-                    None
-                }
-            }
-            Progress::AtPas => {
-                if byte == b's' {
-                    Some(Progress::AtPass)
-                } else {
-                    None
-                }
-            }
+            Progress::AtP => (byte == b'a').then_some(Progress::AtPa),
+            Progress::AtPa => (byte == b's').then_some(Progress::AtPas),
+            Progress::AtPas => (byte == b's').then_some(Progress::AtPass),
             Progress::First(naming) => match naming.with_byte(byte) {
                 Some(next) => Some(Progress::First(next)),
                 None => after_first(naming, byte),
@@ -198,20 +171,12 @@ fn after_first(naming: &Naming, byte: u8) -> Option<Progress>
     ensures { result ≡ after_first naming.now byte }
 {
     match *naming {
-        Naming::Empty => {
-            if byte == b'p' {
-                Some(Progress::AtP)
-            } else {
-                None
-            }
-        }
-        Naming::Named(piece) => {
-            if byte == b' ' {
-                Some(Progress::Second(piece, None, Naming::Empty))
-            } else {
-                None
-            }
-        }
+        Naming::Empty => (byte == b'p').then_some(Progress::AtP),
+        Naming::Named(piece) => (byte == b' ').then_some(Progress::Second(
+            piece,
+            None,
+            Naming::Empty,
+        )),
         _ => None,
     }
 }
@@ -224,14 +189,14 @@ fn after_second(piece: Piece, stroke: Option<Stroke>, naming: &Naming, byte: u8)
         return None;
     }
     match *naming {
-        Naming::Empty => match stroke_at(byte) {
-            Some(stroke) => Some(Progress::Second(piece, Some(stroke), Naming::Empty)),
-            None => None,
-        },
-        Naming::Named(reference) => match stroke_at(byte) {
-            Some(stroke) => Some(Progress::Marked(piece, reference, stroke)),
-            None => None,
-        },
+        Naming::Empty => stroke_at(byte).map(|stroke| Progress::Second(
+            piece,
+            Some(stroke),
+            Naming::Empty,
+        )),
+        Naming::Named(reference) => stroke_at(byte).map(|stroke| Progress::Marked(
+            piece, reference, stroke,
+        )),
         _ => None,
     }
 }

@@ -1,7 +1,5 @@
-use Rattle.std.proofs.Common.{◌≡◌, ◌<◌, ◌≤◌, ◌∙◌, sym, subst, arith, length, true, false}
-use Rattle.std.specs.Prelude.{nat_lt}
+use Rattle.std.proofs.Common.{◌<◌, ◌∙◌, sym, subst, arith, length}
 use Rattle.std.proofs.lemmas.Bool.{ltb-true, ltb-false}
-use Rattle.hive_model.specs.Spots.{HasSpot}
 use Rattle.stack_board.specs.Highest.{IsHighest}
 use Rattle.stack_board.proofs.Tops.{read_spot, read_away, higher_same, higher_first, higher_old, higher_new}
 use Rattle.stack_board.proofs.higher.Goals as goal

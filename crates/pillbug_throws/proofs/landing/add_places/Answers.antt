@@ -2,7 +2,6 @@ use Rattle.std.proofs.Common.{◌≡◌, ◌+◌, ◌≤◌, ◌<◌, ◌∙◌,
 use Rattle.arrayvec.specs.ArrayVec.{ArrayVec}
 use Rattle.hive_model.specs.declared.places.Place.{Place}
 use Rattle.hive_model.specs.Places.{dirs}
-use Rattle.hive_model.specs.Near.{with_place}
 use Rattle.pillbug_throws.specs.Throwing.{ComesDown}
 use Rattle.pillbug_throws.proofs.ThrowParts.{AreDown, none_down, down_not, down_more, all_down, longer_by_one}
 use Rattle.pillbug_throws.proofs.landing.add_places.Goals as goal

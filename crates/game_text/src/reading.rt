@@ -1,0 +1,204 @@
+//! Reading a line as a game.
+
+ghost use Rattle.std.specs.Prelude.{◌≡◌, ◌<◌, ◌≤◌, ◌+◌, ◌∷◌, [], List, length, None, Some, Ok, Err, IfOk, IfErr};
+ghost use Rattle.hive_model.specs.Boards.{IsBoard};
+ghost use Rattle.hive_model.specs.Positions.{opening};
+ghost use Rattle.hive_model.specs.Courses.{position};
+ghost use Rattle.hive_model.specs.Games.{IsGame};
+ghost use Rattle.hive_model.specs.Strings.{parts};
+ghost use Rattle.game_text.specs.Reading.{moves_of, confirmed, at_moves, after_state, after_type, game_of, Fails, Agrees, Plays, IsMoveFault, first_empty};
+
+use crate::faults::GameFault;
+use crate::parsed::Parsed;
+use crate::parts::{count_parts, cut, empty_part};
+use crate::turns::{Turn, read_turn};
+use hive_model::{Game, GameType, Move, MoveList, State};
+use move_text::{read_move, read_state, read_type};
+use std::alloc::Global;
+
+/// The legal move that the part denotes.
+fn one_move<G: Game>(game: &mut G, number: u32, part: &[u8]) -> Result<Move, GameFault>
+    requires length { length part.now ≤ 65536 }
+    requires sound { IsBoard (position (G.course game.old)).board }
+    ensures ok { IfOk result (λ m. Plays (position (G.course game.old)) part.now m) }
+    ensures err { IfErr result (λ fault. IsMoveFault (position (G.course game.old)) part.now number fault) }
+    ensures same { G.course game.new ≡ G.course game.old }
+{
+    match read_move(game.game_type(), game, part) {
+        Ok(m) => {
+            if game.is_legal(m.again()) {
+                Ok(m)
+            } else {
+                Err(GameFault::IllegalMove { number })
+            }
+        }
+        Err(fault) => Err(GameFault::BadMove { number, fault }),
+    }
+}
+
+/// Plays the moves that the parts of the text denote, each on the board before it, and lists them.
+fn play_moves<G: Game>(alloc: Global, game: &mut G, text: &[u8]) -> Result<MoveList, GameFault>
+    requires length { length text.now ≤ 65536 }
+    requires fresh { (G.course game.old).made ≡ [] }
+    requires few { length (parts text.now) ≤ 5000 }
+    requires room { length (parts text.now) ≤ (G.course game.old).spare }
+    ensures moves { Agrees result (moves_of (opening (G.course game.old).game_type) (parts text.now) 1) }
+    ensures made { IfOk result (λ ms. ms ≡ (G.course game.new).made) }
+    ensures kind { (G.course game.new).game_type ≡ (G.course game.old).game_type }
+{
+    let mut moves = MoveList::new(alloc);
+    let mut rest = text;
+    let mut number: u32 = 1;
+    'parts: loop {
+        let (part, more) = cut(rest);
+        let m = match one_move(game, number, part) {
+            Ok(m) => m,
+            Err(fault) => return Err(fault),
+        };
+        game.play(m.again());
+        if moves.push(m).is_err() {
+            return Err(GameFault::Memory);
+        }
+        match more {
+            None => return Ok(moves),
+            Some(next) => rest = next,
+        }
+        number += 1;
+    }
+}
+
+/// What the second and third parts of a line declare.
+#[derive(Clone, Copy)]
+pub struct Declared {
+    pub game_type: GameType,
+    pub state: State,
+    pub turn: Turn,
+}
+
+/// The game, if its state and turn are the declared ones.
+fn confirm<G: Game>(game: &G, declared: Declared, moves: MoveList) -> Result<Parsed, GameFault>
+    requires kind { (G.course game.now).game_type ≡ declared.game_type }
+    requires made { (G.course game.now).made ≡ moves }
+    ensures { result ≡ confirmed declared.game_type declared.state declared.turn (Ok moves) }
+{
+    if game.state() != declared.state {
+        return Err(GameFault::OtherState);
+    }
+    if game.side() != declared.turn.side {
+        return Err(GameFault::OtherTurn);
+    }
+    if game.turn() as u64 != declared.turn.number {
+        return Err(GameFault::OtherTurn);
+    }
+    Ok(Parsed {
+        game_type: declared.game_type,
+        moves,
+    })
+}
+
+/// A line without moves.
+fn confirm_opening<G: Game + Drop>(alloc: Global, declared: Declared) -> Result<Parsed, GameFault>
+    ensures { Agrees result (at_moves declared.game_type declared.state declared.turn [] None) }
+{
+    match G::opening(alloc, declared.game_type) {
+        Ok(game) => confirm(&game, declared, MoveList::new(alloc)),
+        Err(_) => Err(GameFault::Memory),
+    }
+}
+
+/// The game with room for so many plies, in which none was played.
+fn opening_for<G: Game + Drop>(alloc: Global, game_type: GameType, plies: u32) -> Result<G, GameFault>
+    requires { plies ≤ 5000 }
+    ensures kind { IfOk result (λ g. (G.course g).game_type ≡ game_type) }
+    ensures fresh { IfOk result (λ g. (G.course g).made ≡ []) }
+    ensures room { IfOk result (λ g. plies ≤ (G.course g).spare) }
+    ensures err { IfErr result (λ fault. fault ≡ GameFault.Memory) }
+{
+    let Ok(mut game) = G::opening(alloc, game_type) else {
+        return Err(GameFault::Memory);
+    };
+    if game.reserve(plies).is_err() {
+        return Err(GameFault::Memory);
+    }
+    Ok(game)
+}
+
+/// A line whose parts from the fourth on are those of the text.
+fn read_moves<G: Game + Drop>(alloc: Global, declared: Declared, text: &[u8]) -> Result<Parsed, GameFault>
+    requires { length text.now ≤ 65536 }
+    ensures { Agrees result (at_moves declared.game_type declared.state declared.turn (parts text.now) (first_empty (parts text.now) 4)) }
+{
+    if let Some(part) = empty_part(text) {
+        return Err(GameFault::Malformed { part });
+    }
+    let count = count_parts(text);
+    if 5000 < count {
+        return Err(GameFault::TooLong);
+    }
+    let mut game = match opening_for::<G>(alloc, declared.game_type, count) {
+        Ok(game) => game,
+        Err(fault) => return Err(fault),
+    };
+    match play_moves(alloc, &mut game, text) {
+        Ok(moves) => confirm(&game, declared, moves),
+        Err(fault) => Err(fault),
+    }
+}
+
+/// A line whose parts from the third on are those of the text.
+fn read_turn_on<G: Game + Drop>(
+    alloc: Global,
+    game_type: GameType,
+    state: State,
+    text: &[u8],
+) -> Result<Parsed, GameFault>
+    requires { length text.now ≤ 65536 }
+    ensures { Agrees result (after_state game_type state (parts text.now)) }
+{
+    let (part, more) = cut(text);
+    let Some(turn) = read_turn(part) else {
+        return Err(GameFault::Malformed { part: 3 });
+    };
+    let declared = Declared {
+        game_type,
+        state,
+        turn,
+    };
+    match more {
+        None => confirm_opening::<G>(alloc, declared),
+        Some(rest) => read_moves::<G>(alloc, declared, rest),
+    }
+}
+
+/// A line whose parts from the second on are those of the text.
+fn read_state_on<G: Game + Drop>(alloc: Global, game_type: GameType, text: &[u8]) -> Result<Parsed, GameFault>
+    requires { length text.now ≤ 65536 }
+    ensures { Agrees result (after_type game_type (parts text.now)) }
+{
+    let (part, more) = cut(text);
+    let Some(state) = read_state(part) else {
+        return Err(GameFault::Malformed { part: 2 });
+    };
+    match more {
+        None => Err(GameFault::Malformed { part: 3 }),
+        Some(rest) => read_turn_on::<G>(alloc, game_type, state, rest),
+    }
+}
+
+/// The game of the line, or its first fault.
+fn game_of<G: Game + Drop>(alloc: Global, text: &[u8]) -> Result<Parsed, GameFault>
+    requires { length text.now ≤ 65536 }
+    ensures { Agrees result (game_of text.now) }
+{
+    let (part, more) = cut(text);
+    let Some(game_type) = read_type(part) else {
+        return Err(GameFault::Malformed { part: 1 });
+    };
+    match more {
+        None => Ok(Parsed {
+            game_type,
+            moves: MoveList::new(alloc),
+        }),
+        Some(rest) => read_state_on::<G>(alloc, game_type, rest),
+    }
+}

@@ -1,0 +1,101 @@
+#!/usr/bin/env python3
+"""Talks to the built program like a viewer does: a line at a time, waiting for each `ok`.
+
+Usage: viewer.py PROGRAM. Ends with status 0 where every answer is as expected, byte for byte.
+"""
+import subprocess
+import sys
+
+
+class Engine:
+    def __init__(self, program):
+        self.process = subprocess.Popen([program, "uhp"], stdin=subprocess.PIPE, stdout=subprocess.PIPE)
+
+    def reply(self):
+        """The lines up to `ok`."""
+        lines = []
+        while True:
+            line = self.process.stdout.readline()
+            if not line:
+                raise SystemExit("the program ended before it wrote ok")
+            line = line.decode("ascii").rstrip("\n")
+            if line == "ok":
+                return lines
+            lines.append(line)
+
+    def ask(self, line):
+        self.process.stdin.write(line.encode("ascii") + b"\n")
+        self.process.stdin.flush()
+        return self.reply()
+
+    def end(self):
+        self.process.stdin.close()
+        return self.process.wait(timeout=60)
+
+
+def expect(what, found, wanted):
+    if found != wanted:
+        raise SystemExit(f"{what}:\n  found  {found}\n  wanted {wanted}")
+
+
+def short_game(program):
+    """A short game, undo, options and refusals."""
+    six = ["-wS1", "/wS1", "\\wS1", "wS1\\", "wS1/", "wS1-"]
+    seconds = ";".join(f"{piece} {place}" for piece in ["bS1", "bB1", "bG1", "bA1"] for place in six)
+    engine = Engine(program)
+    expect("greeting", engine.reply(), ["id HiveReferee 1.0", "Mosquito;Ladybug;Pillbug"])
+    for line, wanted in [
+        ("validmoves", ["err 3 no game"]),
+        ("undo", ["err 3 no game"]),
+        ("newgame", ["Base;NotStarted;White[1]"]),
+        ("validmoves", ["wS1;wB1;wG1;wA1"]),
+        ("play wS1", ["Base;InProgress;Black[1];wS1"]),
+        ("validmoves", [seconds]),
+        ("play wS1", ["invalidmove 1 unreadable"]),
+        ("play bS1 wA1-", ["invalidmove 2 not in play wA1"]),
+        ("play bQ wS1-", ["invalidmove 3 not legal"]),
+        ("pass", ["invalidmove 3 not legal"]),
+        ("play bS1 wS1-", ["Base;InProgress;White[2];wS1;bS1 wS1-"]),
+        ("undo 3", ["err 7 undo beyond start"]),
+        ("undo 2", ["Base;NotStarted;White[1]"]),
+        ("newgame Base+MLP", ["Base+MLP;NotStarted;White[1]"]),
+        ("validmoves", ["wS1;wB1;wG1;wA1;wM;wL;wP"]),
+        ("newgame Base+PM", ["err 4 malformed part 1"]),
+        ("options", ["Table;int;65536;65536;1;1048576", "Workers;int;1;1;1;16"]),
+        ("options set Workers 2", ["Workers;int;2;1;1;16"]),
+        ("options set Workers 17", ["err 9 value out of range"]),
+        ("options get Hash", ["err 9 no such option"]),
+        ("help", ["err 1 unknown command"]),
+        ("bestmove depth 65", ["err 2 wrong arguments"]),
+        ("a" * 65537, ["err 10 line too long"]),
+        ("validmoves", ["wS1;wB1;wG1;wA1;wM;wL;wP"]),
+    ]:
+        expect(line[:60], engine.ask(line), wanted)
+    expect("status", engine.end(), 0)
+
+
+def greatest_game(program):
+    """A game of 5,000 plies, played move by move, and what is refused after it."""
+    moves = ["wA1", "bA1 wA1-", "wQ -wA1", "bQ bA1-"] + ["wQ \\wA1", "bQ bA1/", "wQ -wA1", "bQ bA1-"] * 1249
+    engine = Engine(program)
+    engine.reply()
+    expect("newgame", engine.ask("newgame"), ["Base;NotStarted;White[1]"])
+    for ply, move in enumerate(moves, 1):
+        side = "White" if ply % 2 == 0 else "Black"
+        wanted = f"Base;InProgress;{side}[{ply // 2 + 1}];" + ";".join(moves[:ply])
+        expect(f"ply {ply}", engine.ask("play " + move), [wanted])
+    whole = "Base;InProgress;White[2501];" + ";".join(moves)
+    expect("length", len(whole), 40024)
+    expect("one ply more", engine.ask("play wQ \\wA1"), ["err 11 too many plies"])
+    expect("a pass more", engine.ask("pass"), ["err 11 too many plies"])
+    expect("undo", engine.ask("undo"), ["Base;InProgress;Black[2500];" + ";".join(moves[:4999])])
+    expect("read again", engine.ask("newgame " + whole), [whole])
+    expect("one move too many", engine.ask("newgame " + whole + ";wQ \\wA1"), ["err 11 too many plies"])
+    expect("still there", engine.ask("undo 4999"), ["Base;InProgress;Black[1];wA1"])
+    expect("status", engine.end(), 0)
+
+
+if __name__ == "__main__":
+    short_game(sys.argv[1])
+    greatest_game(sys.argv[1])
+    print("viewer: every answer is as expected")
