@@ -1,16 +1,15 @@
 -- A line is refused with a fault exactly where the rule's words of that fault hold.
-use Rattle.std.proofs.Common.{◌≡◌, ◌≢◌, ℕ, suc, ◌+◌, ◌/◌, ◌≤◌, ◌<◌, Bool, true, false, List, [], ◌∷◌, ◌++◌, length, Result, Ok, Err, refl, sym, ◌∙◌, ap, subst, arith, ◌⊎◌, inl, inr}
+use Rattle.std.proofs.Common.{◌≡◌, ◌≢◌, ℕ, suc, ◌+◌, ◌≤◌, Bool, true, false, List, [], ◌∷◌, ◌++◌, length, Result, Ok, Err, refl, sym, ◌∙◌, ap, subst, arith, ◌⊎◌, inl, inr}
 use Rattle.std.specs.Prelude.{Option, Some, None, IfErr, nat_lt, if◌then◌else◌}
 use Rattle.std.proofs.lemmas.Bool.{ltb-true, ltb-false, lt-ltb}
 use Rattle.hive_model.specs.declared.pieces.GameType.{GameType}
 use Rattle.hive_model.specs.declared.places.State.{State}
 use Rattle.hive_model.specs.declared.places.Move.{Move}
-use Rattle.hive_model.specs.Lists.{IsOn}
 use Rattle.hive_model.specs.Positions.{Position, opening}
 use Rattle.hive_model.specs.Legal.{state}
 use Rattle.hive_model.specs.Games.{replay}
 use Rattle.hive_model.specs.Fields.{type_bytes, state_bytes}
-use Rattle.hive_model.specs.Strings.{parts, turn_bytes, DenoteMoves}
+use Rattle.hive_model.specs.Strings.{parts}
 use Rattle.move_text.specs.Readers.{type_at, state_at}
 use Rattle.move_text.proofs.FieldLaws.{type_found, type_only, state_found, state_only}
 use Rattle.rule_laws.proofs.Games.{games_sound}
@@ -21,11 +20,11 @@ use Rattle.game_text.specs.declared.parsed.Parsed.{Parsed}
 use Rattle.game_text.specs.declared.turns.Turn.{Turn}
 use Rattle.game_text.specs.Turns.{IsTurn, turn_at}
 use Rattle.game_text.specs.Reading.{moves_of, Agrees, first_empty, is_state, is_turn_of, confirmed, at_moves, at_turn, after_state, at_state, after_type, at_type, game_at, game_of}
-use Rattle.game_text.specs.Refusals.{HasParts, AreNotEmpty, HasForm, IsMalformed, IsReadUpTo, IsReadWhole, IsRefused}
+use Rattle.game_text.specs.Refusals.{HasParts, AreNotEmpty, HasForm, IsMalformed, IsReadWhole, IsRefused}
 use Rattle.game_text.proofs.TurnLaws.{turn_found, turn_again}
 use Rattle.game_text.proofs.FieldReads.{first}
 use Rattle.game_text.proofs.OrderLaws.{moves_found, moves_again, denoted_size}
-use Rattle.game_text.proofs.StopLaws.{StopsAt, Stops, moves_stop, bad_again, illegal_again}
+use Rattle.game_text.proofs.StopLaws.{Stops, moves_stop, bad_again, illegal_again}
 use Rattle.game_text.proofs.LineLaws.{no_parts, same_state, is_state_itself, same_turn, is_turn_itself, head_read, few_read}
 
 -- Empty texts
@@ -72,20 +71,37 @@ empty_again ((b ∷ bs) ∷ xs) behind n h =
 
 stopped : (line : List ℕ) (t : GameType) (s : State) (u : Turn) (texts : List (List ℕ)) (fault : GameFault) → HasForm line t s u texts → length texts ≤ 5000 → Stops (opening t) texts 1 fault → IsRefused line fault
 stopped line t s u texts (BadMove k f) form few w = record {
-  game_type = t; made = w.made; text = w.text;
+  game_type = t;
+  made = w.made;
+  text = w.text;
   read = record {
-    declared = s; turn = u; front = w.at.front; behind = w.at.behind;
-    form = subst (HasForm line t s u) w.at.split form; few = subst (λ (z : List (List ℕ)). length z ≤ 5000) w.at.split few;
-    counted = w.at.counted; denote = w.at.denote; legal = w.at.legal;
+    declared = s;
+    turn = u;
+    front = w.at.front;
+    behind = w.at.behind;
+    form = subst (HasForm line t s u) w.at.split form;
+    few = subst (λ (z : List (List ℕ)). length z ≤ 5000) w.at.split few;
+    counted = w.at.counted;
+    denote = w.at.denote;
+    legal = w.at.legal;
   };
   refuses = w.refuses;
 }
 stopped line t s u texts (IllegalMove k) form few w = record {
-  game_type = t; made = w.made; text = w.text; move = w.move;
+  game_type = t;
+  made = w.made;
+  text = w.text;
+  move = w.move;
   read = record {
-    declared = s; turn = u; front = w.at.front; behind = w.at.behind;
-    form = subst (HasForm line t s u) w.at.split form; few = subst (λ (z : List (List ℕ)). length z ≤ 5000) w.at.split few;
-    counted = w.at.counted; denote = w.at.denote; legal = w.at.legal;
+    declared = s;
+    turn = u;
+    front = w.at.front;
+    behind = w.at.behind;
+    form = subst (HasForm line t s u) w.at.split form;
+    few = subst (λ (z : List (List ℕ)). length z ≤ 5000) w.at.split few;
+    counted = w.at.counted;
+    denote = w.at.denote;
+    legal = w.at.legal;
   };
   denotes = w.denotes;
   illegal = w.illegal;
@@ -281,11 +297,11 @@ refused_again line (IllegalMove n) h =
 refused_again line OtherState h =
     whole_again line h.game_type h.declared h.turn h.made h.read
     ∙ ap (λ (b : Bool). if b then (if is_turn_of h.turn (replay (opening h.game_type) h.made) then Ok (record { game_type = h.game_type; moves = h.made }) else Err OtherTurn) else Err OtherState)
-        (not_state h.declared (state (replay (opening h.game_type) h.made)) h.other)
+    (not_state h.declared (state (replay (opening h.game_type) h.made)) h.other)
 refused_again line OtherTurn h =
     whole_again line h.game_type h.declared h.turn h.made h.read
     ∙ ap (λ (b : Bool). if b then (if is_turn_of h.turn (replay (opening h.game_type) h.made) then Ok (record { game_type = h.game_type; moves = h.made }) else Err OtherTurn) else Err OtherState)
-        (ap (λ (z : State). is_state z (state (replay (opening h.game_type) h.made))) h.same ∙ is_state_itself (state (replay (opening h.game_type) h.made)))
+    (ap (λ (z : State). is_state z (state (replay (opening h.game_type) h.made))) h.same ∙ is_state_itself (state (replay (opening h.game_type) h.made)))
     ∙ ap (λ (b : Bool). if b then Ok (record { game_type = h.game_type; moves = h.made }) else Err OtherTurn) (not_turn_of h.turn (replay (opening h.game_type) h.made) h.other)
 refused_again line Memory h = absurd h
 

@@ -1,5 +1,5 @@
 -- Where the reading of moves stops, and with which fault.
-use Rattle.std.proofs.Common.{◌≡◌, ℕ, zero, suc, ◌+◌, ◌≤◌, ◌<◌, Bool, true, false, List, [], ◌∷◌, ◌++◌, length, Result, Ok, Err, refl, sym, ◌∙◌, ap, subst, arith}
+use Rattle.std.proofs.Common.{◌≡◌, ℕ, suc, ◌+◌, ◌≤◌, ◌<◌, Bool, true, false, List, [], ◌∷◌, ◌++◌, length, Result, Ok, Err, refl, sym, ◌∙◌, ap, subst, arith}
 use Rattle.hive_model.specs.declared.places.Move.{Move}
 use Rattle.hive_model.specs.Lists.{IsOn}
 use Rattle.hive_model.specs.Boards.{StandsWithin, IsBoard}
@@ -74,8 +74,8 @@ moves_stop p [] n k fault is within low h = absurd (cc)
 moves_stop p (x ∷ xs) n k fault is within low h = go (move_of p.game_type p.board x) refl h (λ m sound next ok e. moves_stop (after p m) xs (n + 1) (k + 1) fault sound next ok e)
   where
     go : (r : Result Move MoveFault) → move_of p.game_type p.board x ≡ r
-      → on_move r n (λ m. if_legal (is_listed p m) n (prefixed (m ∷ []) (moves_of (after p m) xs (n + 1)))) ≡ Err fault
-      → ((m : Move) → IsSound (after p m) → StandsWithin (k + 1) (after p m).board → k + 1 + length xs ≤ 9000 → moves_of (after p m) xs (n + 1) ≡ Err fault → Stops (after p m) xs (n + 1) fault) → Stops p (x ∷ xs) n fault
+        → on_move r n (λ m. if_legal (is_listed p m) n (prefixed (m ∷ []) (moves_of (after p m) xs (n + 1)))) ≡ Err fault
+        → ((m : Move) → IsSound (after p m) → StandsWithin (k + 1) (after p m).board → k + 1 + length xs ≤ 9000 → moves_of (after p m) xs (n + 1) ≡ Err fault → Stops (after p m) xs (n + 1) fault) → Stops p (x ∷ xs) n fault
     go (Err f) e j more =
         let same : ◌≡◌ {A = GameFault} (BadMove n f) fault = cc in
         subst (Stops p (x ∷ xs) n) same (record { made = []; text = x; at = stops_here p x xs n; refuses = refuses_of p.game_type p.board x f e })

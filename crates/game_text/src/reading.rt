@@ -110,7 +110,11 @@ fn confirm_opening<G: Game + Drop>(alloc: Global, declared: Declared) -> Result<
 }
 
 /// The game with room for so many plies, in which none was played.
-fn opening_for<G: Game + Drop>(alloc: Global, game_type: GameType, plies: u32) -> Result<G, GameFault>
+fn opening_for<G: Game + Drop>(
+    alloc: Global,
+    game_type: GameType,
+    plies: u32,
+) -> Result<G, GameFault>
     requires { plies ≤ 5000 }
     ensures kind { IfOk result (λ g. (G.course g).game_type ≡ game_type) }
     ensures fresh { IfOk result (λ g. (G.course g).made ≡ []) }
@@ -127,7 +131,11 @@ fn opening_for<G: Game + Drop>(alloc: Global, game_type: GameType, plies: u32) -
 }
 
 /// A line whose parts from the fourth on are those of the text.
-fn read_moves<G: Game + Drop>(alloc: Global, declared: Declared, text: &[u8]) -> Result<Parsed, GameFault>
+fn read_moves<G: Game + Drop>(
+    alloc: Global,
+    declared: Declared,
+    text: &[u8],
+) -> Result<Parsed, GameFault>
     requires { length text.now ≤ 65536 }
     ensures { Agrees result (at_moves declared.game_type declared.state declared.turn (parts text.now) (first_empty (parts text.now) 4)) }
 {
@@ -174,7 +182,11 @@ fn read_turn_on<G: Game + Drop>(
 }
 
 /// A line whose parts from the second on are those of the text.
-fn read_state_on<G: Game + Drop>(alloc: Global, game_type: GameType, text: &[u8]) -> Result<Parsed, GameFault>
+fn read_state_on<G: Game + Drop>(
+    alloc: Global,
+    game_type: GameType,
+    text: &[u8],
+) -> Result<Parsed, GameFault>
     requires { length text.now ≤ 65536 }
     ensures { Agrees result (after_type game_type (parts text.now)) }
 {

@@ -1,6 +1,6 @@
 //! The turn of a line, the string of kept moves, and the words of each fault.
 
-ghost use Rattle.std.specs.Prelude.{◌≡◌};
+ghost use Rattle.std.specs.Prelude.{◌≡◌, pos};
 
 use crate::turns::{Turn, read_turn};
 use crate::{GameFault, MoveTexts, lines_are_one_game, lines_are_read, strings_are_games};
@@ -20,7 +20,7 @@ fn turn(side: Colour, number: u64) -> Option<Turn> {
 }
 
 fn spider_to_origin() -> Move
-    ensures { result ≡ Move.To 1 record { q = 0; r = 0 } }
+    ensures { result ≡ Move.To 1 record { q = pos 0; r = pos 0 } }
 {
     Move::To {
         piece: Piece::at(1),
@@ -68,15 +68,24 @@ fn writes_kept_texts(rt: HostRuntime) -> Result<(), Fail> {
 fn tells_each_fault(rt: HostRuntime) -> Result<(), Fail> {
     let fault = MoveFault::NoSuchPiece;
     for (fault, wanted) in [
-        (GameFault::Malformed { part: 3 }, "part 3 is absent or not of its form"),
+        (
+            GameFault::Malformed { part: 3 },
+            "part 3 is absent or not of its form",
+        ),
         (GameFault::TooLong, "more than 5000 moves"),
         (
             GameFault::BadMove { number: 2, fault },
             "move 2: the game type does not have the moving piece",
         ),
         (GameFault::IllegalMove { number: 4 }, "move 4 is not legal"),
-        (GameFault::OtherState, "the declared state is not that of the game"),
-        (GameFault::OtherTurn, "the declared turn is not that of the game"),
+        (
+            GameFault::OtherState,
+            "the declared state is not that of the game",
+        ),
+        (
+            GameFault::OtherTurn,
+            "the declared turn is not that of the game",
+        ),
         (GameFault::Memory, "out of memory"),
     ] {
         assert_eq!(rt; format!(in rt.alloc(); "{fault}")?.as_str(), wanted);
