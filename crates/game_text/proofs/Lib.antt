@@ -1,0 +1,5 @@
+pub mod PartLaws
+pub mod TurnLaws
+pub mod GameLaws
+pub mod ListedLaws
+pub mod ReadLaws

@@ -1,0 +1,130 @@
+-- The game of a line, or the first fault in the order of the faults, as a function that computes.
+use Rattle.std.specs.Prelude.{◌≡◌, ℕ, ◌+◌, Bool, true, false, ◌&&◌, nat_eq, nat_lt, List, [], ◌∷◌, ◌++◌, length, Option, Some, None, Result, Ok, Err, if◌then◌else◌}
+use Rattle.std.specs.Str.{bytes_eq}
+use Rattle.hive_model.specs.declared.pieces.GameType.{GameType}
+use Rattle.hive_model.specs.declared.places.State.{State}
+use Rattle.hive_model.specs.declared.places.Move.{Move}
+use Rattle.hive_model.specs.Pieces.{is_colour}
+use Rattle.hive_model.specs.Positions.{Position, opening}
+use Rattle.hive_model.specs.Lists.{IsOn}
+use Rattle.hive_model.specs.Legal.{state, moves}
+use Rattle.hive_model.specs.Games.{after, replay}
+use Rattle.hive_model.specs.Courses.{is_listed}
+use Rattle.hive_model.specs.Fields.{state_bytes}
+use Rattle.hive_model.specs.Strings.{parts}
+use Rattle.move_text.specs.declared.faults.MoveFault.{MoveFault}
+use Rattle.move_text.specs.Moves.{move_of}
+use Rattle.move_text.specs.Readers.{type_at, state_at}
+use Rattle.game_text.specs.declared.faults.GameFault.{GameFault}
+use Rattle.game_text.specs.declared.faults.GameFault.TheVariants.{Malformed, TooLong, BadMove, IllegalMove, OtherState, OtherTurn, Memory}
+use Rattle.game_text.specs.declared.parsed.Parsed.{Parsed}
+use Rattle.game_text.specs.declared.turns.Turn.{Turn}
+use Rattle.game_text.specs.Turns.{turn_at}
+
+-- The moves, from the one with this number on
+
+-- the moves in front, and then those that were read
+abbrev pub prefixed : List Move → Result (List Move) GameFault → Result (List Move) GameFault
+prefixed front (Ok ms) = Ok (front ++ ms)
+prefixed front (Err fault) = Err fault
+
+abbrev pub if_legal : Bool → ℕ → Result (List Move) GameFault → Result (List Move) GameFault
+if_legal true n rest = rest
+if_legal false n rest = Err (IllegalMove n)
+
+abbrev pub on_move : Result Move MoveFault → ℕ → (Move → Result (List Move) GameFault) → Result (List Move) GameFault
+on_move (Err fault) n f = Err (BadMove n fault)
+on_move (Ok m) n f = f m
+
+-- the moves that the texts denote, each on the board before it, or the fault of the first that is refused
+unfoldable pub moves_of : Position → List (List ℕ) → ℕ → Result (List Move) GameFault
+moves_of p [] n = Ok []
+moves_of p (x ∷ xs) n = on_move (move_of p.game_type p.board x) n (λ m. if_legal (is_listed p m) n (prefixed (m ∷ []) (moves_of (after p m) xs (n + 1))))
+
+-- The line
+
+-- the number of the first empty part, where the first has this number
+abbrev pub first_empty : List (List ℕ) → ℕ → Option ℕ
+first_empty [] k = None
+first_empty ([] ∷ xs) k = Some k
+first_empty ((b ∷ bs) ∷ xs) k = first_empty xs (k + 1)
+
+-- states have different names
+abbrev pub is_state : State → State → Bool
+is_state s u = bytes_eq (state_bytes s) (state_bytes u)
+
+abbrev pub is_turn_of : Turn → Position → Bool
+is_turn_of u end = is_colour u.side end.side && nat_eq u.number end.turn
+
+-- the declared state and turn are those of the position that the moves lead to
+abbrev pub confirmed : GameType → State → Turn → Result (List Move) GameFault → Result Parsed GameFault
+confirmed t s u (Err fault) = Err fault
+confirmed t s u (Ok ms) =
+    if is_state s (state (replay (opening t) ms)) then
+      (if is_turn_of u (replay (opening t) ms) then Ok (record { game_type = t; moves = ms }) else Err OtherTurn)
+    else Err OtherState
+
+abbrev pub at_moves : GameType → State → Turn → List (List ℕ) → Option ℕ → Result Parsed GameFault
+at_moves t s u rest (Some k) = Err (Malformed k)
+at_moves t s u rest None = if nat_lt 5000 (length rest) then Err TooLong else confirmed t s u (moves_of (opening t) rest 1)
+
+abbrev pub at_turn : GameType → State → Option Turn → List (List ℕ) → Result Parsed GameFault
+at_turn t s None rest = Err (Malformed 3)
+at_turn t s (Some u) rest = at_moves t s u rest (first_empty rest 4)
+
+abbrev pub after_state : GameType → State → List (List ℕ) → Result Parsed GameFault
+after_state t s [] = Err (Malformed 3)
+after_state t s (x ∷ rest) = at_turn t s (turn_at x) rest
+
+abbrev pub at_state : GameType → Option State → List (List ℕ) → Result Parsed GameFault
+at_state t None rest = Err (Malformed 2)
+at_state t (Some s) rest = after_state t s rest
+
+-- a type alone is its opening
+abbrev pub after_type : GameType → List (List ℕ) → Result Parsed GameFault
+after_type t [] = Ok (record { game_type = t; moves = [] })
+after_type t (x ∷ rest) = at_state t (state_at x) rest
+
+abbrev pub at_type : Option GameType → List (List ℕ) → Result Parsed GameFault
+at_type None rest = Err (Malformed 1)
+at_type (Some t) rest = after_type t rest
+
+abbrev pub game_at : List (List ℕ) → Result Parsed GameFault
+game_at [] = Err (Malformed 1)
+game_at (x ∷ rest) = at_type (type_at x) rest
+
+-- the game of a line, or the first fault
+unfoldable pub game_of : List ℕ → Result Parsed GameFault
+game_of line = game_at (parts line)
+
+-- What a reader answers
+
+-- the fault is that of the function, unless memory is wanting
+abbrev pub Fails : {X : Type 0} → GameFault → Result X GameFault → Type 0
+Fails Memory read = Unit {0}
+Fails (Malformed k) read = read ≡ Err (Malformed k)
+Fails TooLong read = read ≡ Err TooLong
+Fails (BadMove n fault) read = read ≡ Err (BadMove n fault)
+Fails (IllegalMove n) read = read ≡ Err (IllegalMove n)
+Fails OtherState read = read ≡ Err OtherState
+Fails OtherTurn read = read ≡ Err OtherTurn
+
+-- the answer is that of the function, unless memory is wanting
+abbrev pub Agrees : {X : Type 0} → Result X GameFault → Result X GameFault → Type 0
+Agrees (Ok g) read = read ≡ Ok g
+Agrees (Err fault) read = Fails fault read
+
+-- the text denotes the move, and it is legal
+pub record Plays (p : Position) (x : List ℕ) (m : Move) : Type 0 where
+  pub denoted : move_of p.game_type p.board x ≡ Ok m
+  pub legal : IsOn (moves p) m
+
+-- the text is refused on the board of the position, or the move that it denotes is not legal
+abbrev pub IsMoveFault : Position → List ℕ → ℕ → GameFault → Type 0
+IsMoveFault p x n (BadMove k fault) = (k ≡ n) × (move_of p.game_type p.board x ≡ Err fault)
+IsMoveFault p x n (IllegalMove k) = (k ≡ n) × ((m : Move) × (move_of p.game_type p.board x ≡ Ok m) × (is_listed p m ≡ false))
+IsMoveFault p x n Memory = ⊥
+IsMoveFault p x n (Malformed k) = ⊥
+IsMoveFault p x n TooLong = ⊥
+IsMoveFault p x n OtherState = ⊥
+IsMoveFault p x n OtherTurn = ⊥

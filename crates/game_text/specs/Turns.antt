@@ -1,0 +1,50 @@
+-- What a part declares as the turn, as a function that computes.
+use Rattle.std.specs.Prelude.{◌≡◌, ℕ, ◌≤◌, ◌&&◌, nat_eq, nat_le, List, [], ◌∷◌, codes, decimal, Option, Some, None, option_map, if◌then◌else◌}
+use Rattle.std.specs.Str.{bytes_eq}
+use Rattle.std.specs.Str.Parse.{digits_value}
+use Rattle.hive_model.specs.declared.pieces.Colour.{Colour}
+use Rattle.hive_model.specs.declared.pieces.Colour.TheVariants.{White, Black}
+use Rattle.hive_model.specs.Strings.{turn_bytes}
+use Rattle.game_text.specs.declared.turns.Turn.{Turn}
+
+-- the part declares this turn: `White[n]` or `Black[n]`, with a number of 1 to 9 digits that is not 0
+pub record IsTurn (text : List ℕ) (u : Turn) : Type 0 where
+  pub text_is : text ≡ turn_bytes u.side u.number
+  pub low : 1 ≤ u.number
+  pub high : u.number ≤ 999999999
+
+-- a number with no leading zero, in this range
+abbrev pub number_at : List ℕ → ℕ → ℕ → Option ℕ
+number_at text least most = if bytes_eq (decimal (digits_value 10 text)) text && (nat_le least (digits_value 10 text) && nat_le (digits_value 10 text) most) then Some (digits_value 10 text) else None
+
+-- what stands behind a word
+abbrev pub behind_word : List ℕ → List ℕ → Option (List ℕ)
+behind_word [] xs = Some xs
+behind_word (p ∷ ps) [] = None
+behind_word (p ∷ ps) (x ∷ xs) = if nat_eq x p then behind_word ps xs else None
+
+-- what stands before a bracket that closes the text
+abbrev pub before_close : List ℕ → Option (List ℕ)
+before_close [] = None
+before_close (x ∷ []) = if nat_eq x 93 then Some [] else None
+before_close (x ∷ y ∷ ys) = option_map (λ (r : List ℕ). x ∷ r) (before_close (y ∷ ys))
+
+abbrev pub turn_number : Colour → Option ℕ → Option Turn
+turn_number c None = None
+turn_number c (Some n) = Some (record { side = c; number = n })
+
+abbrev pub turn_digits : Colour → Option (List ℕ) → Option Turn
+turn_digits c None = None
+turn_digits c (Some digits) = turn_number c (number_at digits 1 999999999)
+
+abbrev pub turn_of : Colour → Option (List ℕ) → Option Turn
+turn_of c None = None
+turn_of c (Some text) = turn_digits c (before_close text)
+
+abbrev pub or_turn : Option Turn → Option Turn → Option Turn
+or_turn None other = other
+or_turn (Some t) other = Some t
+
+-- the turn that the part declares, if it declares one
+unfoldable pub turn_at : List ℕ → Option Turn
+turn_at text = or_turn (turn_of White (behind_word (codes "White[") text)) (turn_of Black (behind_word (codes "Black[") text))

@@ -1,0 +1,59 @@
+//! The parts of a line, which stand between its semicolons.
+
+ghost use Rattle.std.specs.Prelude.{◌≡◌, ◌<◌, ◌≤◌, ◌∷◌, [], length, MatchOption, IfSome};
+ghost use Rattle.hive_model.specs.Strings.{parts};
+ghost use Rattle.game_text.specs.Reading.{first_empty};
+
+/// The first part, and what stands behind its semicolon, if it has one.
+pub fn cut(text: &[u8]) -> (&[u8], Option<&[u8]>)
+    ensures parts { MatchOption result.1 (parts text.now ≡ result.0.now ∷ []) (λ r. parts text.now ≡ result.0.now ∷ parts r.now) }
+    ensures part { length result.0.now ≤ length text.now }
+    ensures less { IfSome result.1 (λ r. length r.now < length text.now) }
+{
+    for (i, byte) in text.iter().enumerate() {
+        if *byte == b';' {
+            let (part, rest) = text.split_at(i);
+            let (_, rest) = rest.split_at(1);
+            return (part, Some(rest));
+        }
+    }
+    (text, None)
+}
+
+/// The number of the first part that is empty, where the first part of the text is part 4 of the line.
+pub fn empty_part(text: &[u8]) -> Option<u32>
+    requires { length text.now ≤ 65536 }
+    ensures { result ≡ first_empty (parts text.now) 4 }
+{
+    let mut rest = text;
+    let mut number: u32 = 4;
+    'parts: loop {
+        let (part, more) = cut(rest);
+        if part.is_empty() {
+            return Some(number);
+        }
+        match more {
+            None => return None,
+            Some(next) => rest = next,
+        }
+        number += 1;
+    }
+}
+
+/// The number of parts.
+pub fn count_parts(text: &[u8]) -> u32
+    requires { length text.now ≤ 65536 }
+    ensures count { result ≡ length (parts text.now) }
+    ensures some { 1 ≤ result }
+{
+    let mut rest = text;
+    let mut count: u32 = 1;
+    'parts: loop {
+        let (_, more) = cut(rest);
+        match more {
+            None => return count,
+            Some(next) => rest = next,
+        }
+        count += 1;
+    }
+}
