@@ -3,3 +3,5 @@ pub mod TurnLaws
 pub mod GameLaws
 pub mod ListedLaws
 pub mod ReadLaws
+pub mod FieldReads
+pub mod OrderLaws

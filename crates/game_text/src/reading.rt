@@ -66,3 +66,139 @@ fn play_moves<G: Game>(alloc: Global, game: &mut G, text: &[u8]) -> Result<MoveL
         number += 1;
     }
 }
+
+/// What the second and third parts of a line declare.
+#[derive(Clone, Copy)]
+pub struct Declared {
+    pub game_type: GameType,
+    pub state: State,
+    pub turn: Turn,
+}
+
+/// The game, if its state and turn are the declared ones.
+fn confirm<G: Game>(game: &G, declared: Declared, moves: MoveList) -> Result<Parsed, GameFault>
+    requires kind { (G.course game.now).game_type ≡ declared.game_type }
+    requires made { (G.course game.now).made ≡ moves }
+    ensures { result ≡ confirmed declared.game_type declared.state declared.turn (Ok moves) }
+{
+    if game.state() != declared.state {
+        return Err(GameFault::OtherState);
+    }
+    if game.side() != declared.turn.side {
+        return Err(GameFault::OtherTurn);
+    }
+    if game.turn() as u64 != declared.turn.number {
+        return Err(GameFault::OtherTurn);
+    }
+    Ok(Parsed {
+        game_type: declared.game_type,
+        moves,
+    })
+}
+
+/// A line without moves.
+fn confirm_opening<G: Game + Drop>(alloc: Global, declared: Declared) -> Result<Parsed, GameFault>
+    ensures { Agrees result (at_moves declared.game_type declared.state declared.turn [] None) }
+{
+    match G::opening(alloc, declared.game_type) {
+        Ok(game) => confirm(&game, declared, MoveList::new(alloc)),
+        Err(_) => Err(GameFault::Memory),
+    }
+}
+
+/// The game with room for so many plies, in which none was played.
+fn opening_for<G: Game + Drop>(alloc: Global, game_type: GameType, plies: u32) -> Result<G, GameFault>
+    requires { plies ≤ 5000 }
+    ensures kind { IfOk result (λ g. (G.course g).game_type ≡ game_type) }
+    ensures fresh { IfOk result (λ g. (G.course g).made ≡ []) }
+    ensures room { IfOk result (λ g. plies ≤ (G.course g).spare) }
+    ensures err { IfErr result (λ fault. fault ≡ GameFault.Memory) }
+{
+    let Ok(mut game) = G::opening(alloc, game_type) else {
+        return Err(GameFault::Memory);
+    };
+    if game.reserve(plies).is_err() {
+        return Err(GameFault::Memory);
+    }
+    Ok(game)
+}
+
+/// A line whose parts from the fourth on are those of the text.
+fn read_moves<G: Game + Drop>(alloc: Global, declared: Declared, text: &[u8]) -> Result<Parsed, GameFault>
+    requires { length text.now ≤ 65536 }
+    ensures { Agrees result (at_moves declared.game_type declared.state declared.turn (parts text.now) (first_empty (parts text.now) 4)) }
+{
+    if let Some(part) = empty_part(text) {
+        return Err(GameFault::Malformed { part });
+    }
+    let count = count_parts(text);
+    if 5000 < count {
+        return Err(GameFault::TooLong);
+    }
+    let mut game = match opening_for::<G>(alloc, declared.game_type, count) {
+        Ok(game) => game,
+        Err(fault) => return Err(fault),
+    };
+    match play_moves(alloc, &mut game, text) {
+        Ok(moves) => confirm(&game, declared, moves),
+        Err(fault) => Err(fault),
+    }
+}
+
+/// A line whose parts from the third on are those of the text.
+fn read_turn_on<G: Game + Drop>(
+    alloc: Global,
+    game_type: GameType,
+    state: State,
+    text: &[u8],
+) -> Result<Parsed, GameFault>
+    requires { length text.now ≤ 65536 }
+    ensures { Agrees result (after_state game_type state (parts text.now)) }
+{
+    let (part, more) = cut(text);
+    let Some(turn) = read_turn(part) else {
+        return Err(GameFault::Malformed { part: 3 });
+    };
+    let declared = Declared {
+        game_type,
+        state,
+        turn,
+    };
+    match more {
+        None => confirm_opening::<G>(alloc, declared),
+        Some(rest) => read_moves::<G>(alloc, declared, rest),
+    }
+}
+
+/// A line whose parts from the second on are those of the text.
+fn read_state_on<G: Game + Drop>(alloc: Global, game_type: GameType, text: &[u8]) -> Result<Parsed, GameFault>
+    requires { length text.now ≤ 65536 }
+    ensures { Agrees result (after_type game_type (parts text.now)) }
+{
+    let (part, more) = cut(text);
+    let Some(state) = read_state(part) else {
+        return Err(GameFault::Malformed { part: 2 });
+    };
+    match more {
+        None => Err(GameFault::Malformed { part: 3 }),
+        Some(rest) => read_turn_on::<G>(alloc, game_type, state, rest),
+    }
+}
+
+/// The game of the line, or its first fault.
+fn game_of<G: Game + Drop>(alloc: Global, text: &[u8]) -> Result<Parsed, GameFault>
+    requires { length text.now ≤ 65536 }
+    ensures { Agrees result (game_of text.now) }
+{
+    let (part, more) = cut(text);
+    let Some(game_type) = read_type(part) else {
+        return Err(GameFault::Malformed { part: 1 });
+    };
+    match more {
+        None => Ok(Parsed {
+            game_type,
+            moves: MoveList::new(alloc),
+        }),
+        Some(rest) => read_state_on::<G>(alloc, game_type, rest),
+    }
+}

@@ -9,7 +9,7 @@ use Rattle.hive_model.specs.Lists.{IsOn}
 use Rattle.hive_model.specs.Boards.{Stacks, stack_at, height_at, is_occupied, top_at, top_of, spot_of, StandsAt, IsBoard}
 use Rattle.hive_model.proofs.Floods.{on_append, append_left, append_right}
 use Rattle.hive_model.proofs.GetLemmas.{get_within, get_exists, get-set_same, get-set_other}
-use Rattle.hive_model.proofs.BoardLemmas.{spot_of_stands, stands_spot_of}
+use Rattle.hive_model.proofs.BoardLemmas.{stands_occupied, spot_of_stands, stands_spot_of}
 use Rattle.hive_model.proofs.NearLaws.{occupied_on, place_standing}
 use Rattle.one_hive.specs.Walks.{is_left_out, others, ground_of, marks_set, AreMarked}
 
@@ -127,10 +127,8 @@ ground_is left (Some t) p h =
 pub ground_other : (b : Stacks) (left : Option Place) (x : ℕ) (p : Place) → ground_of left (spot_of b x) ≡ Some p → IsTrue (others b left p)
 ground_other b left x p h =
     let r = ground_is left (spot_of b x) p h in
-    let stands : StandsAt b x p r.0.level = subst (λ q. StandsAt b x q r.0.level) r.4 (spot_of_stands b x r.0 r.1) in
-    let w = get_within (stack_at b p) r.0.level x stands in
-    let some : 0 < height_at b p = omega (arith, w) in
-    and_from (not (is_left_out left p)) (is_occupied b p) (ap not r.3) (lt-ltb 0 (height_at b p) some)
+    let there : IsTrue (is_occupied b p) = subst (λ q. IsTrue (is_occupied b q)) r.4 (stands_occupied b x r.0.place r.0.level (spot_of_stands b x r.0 r.1)) in
+    and_from (not (is_left_out left p)) (is_occupied b p) (ap not r.3) there
 
 -- each of the others is the ground place of a piece
 pub other_ground : (b : Stacks) → IsBoard b → (left : Option Place) (p : Place) → IsTrue (others b left p) → (x : ℕ) × (x < 28) × (ground_of left (spot_of b x) ≡ Some p)

@@ -20,16 +20,13 @@ use Rattle.hive_model.proofs.RuleLaws.{dir_on, neighbours_from, from_neighbours}
 use Rattle.hive_model.proofs.NearLaws.{on_with_place, with_place_on, rises_with}
 use Rattle.hive_model.proofs.LegalLaws.{opposite, back}
 use Rattle.hive_model.proofs.GetLemmas.{get_within}
-use Rattle.hive_model.proofs.BoardLemmas.{spot_of_stands}
+use Rattle.hive_model.proofs.BoardLemmas.{stands_occupied, spot_of_stands}
 use Rattle.pillbug_throws.specs.Throwing.{IsLoose, ComesDown, ThrowsTo}
 
 -- Where a piece stands
 
 pub spot_occupied : (b : Stacks) (x : ℕ) (a : Spot) → spot_of b x ≡ Some a → IsTrue (is_occupied b a.place)
-spot_occupied b x a h =
-    let w = get_within (stack_at b a.place) a.level x (spot_of_stands b x a h) in
-    let some : 0 < height_at b a.place = omega (arith, w) in
-    lt-ltb 0 (height_at b a.place) some
+spot_occupied b x a h = stands_occupied b x a.place a.level (spot_of_stands b x a h)
 
 -- a piece that is alone on its place is on top of it
 pub alone_on_top : (b : Stacks) (x : ℕ) (a : Spot) → spot_of b x ≡ Some a → height_at b a.place ≡ 1 → IsTrue (is_on_top b x)

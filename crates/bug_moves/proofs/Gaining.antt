@@ -1,0 +1,105 @@
+-- A list of places gains one place, or what each direction gives.
+use Rattle.std.proofs.Common.{◌≡◌, ◌↔◌, ℕ, ◌+◌, ◌≤◌, ◌<◌, List, [], length, inl, inr, refl, sym, ◌∙◌, subst, arith}
+use Rattle.std.proofs.lemmas.Bool.{cases_eq}
+use Rattle.hive_model.specs.declared.places.Place.{Place}
+use Rattle.hive_model.specs.declared.places.Dir.{Dir}
+use Rattle.hive_model.specs.declared.places.Dir.TheVariants.{E, NE, NW, W, SW, SE}
+use Rattle.hive_model.specs.Lists.{IsOn}
+use Rattle.hive_model.specs.Places.{step}
+use Rattle.hive_model.specs.Boards.{Stacks}
+use Rattle.hive_model.specs.Near.{with_place}
+use Rattle.hive_model.proofs.NearLaws.{rises_with, with_place_on, on_with_place}
+use Rattle.hive_model.proofs.CountLaws.{touched_few}
+use Rattle.bug_moves.specs.Adding.{IsAtHive, IsAround, Gains, dir_at, InFirst}
+use Rattle.bug_moves.specs.Ways.{Toward}
+
+-- One place
+
+pub around_with : (b : Stacks) (p : Place) (xs : List Place) → IsAround b xs → IsAtHive b p → IsAround b (with_place p xs)
+around_with b p xs h near = record {
+  sound = h.sound;
+  in_order = rises_with p xs h.in_order;
+  near = λ q on. elim (with_place_on p q xs on) [ inl same ↦ subst (IsAtHive b) (sym same) near | inr old ↦ h.near q old ];
+}
+
+-- there is room for one more place at the hive
+pub room_for : (b : Stacks) (p : Place) (xs : List Place) → IsAround b xs → IsAtHive b p → length (with_place p xs) ≤ 196
+room_for b p xs h near = let all = around_with b p xs h near in touched_few b h.sound (with_place p xs) all.in_order all.near
+
+pub gains_nothing : (b : Stacks) (P : Place → Type 0) (xs : List Place) → IsAround b xs → ((q : Place) → P q → IsOn xs q) → Gains b P xs xs
+gains_nothing b P xs h there = record { list = h; kept = λ q on. on; gained = there; only = λ q on. inl on }
+
+pub gains_place : (b : Stacks) (P : Place → Type 0) (p : Place) (xs ys : List Place) → IsAround b xs → IsAtHive b p → ys ≡ with_place p xs → P p → ((q : Place) → P q → p ≡ q) → Gains b P xs ys
+gains_place b P p xs ys h near is here alone = subst (λ zs. Gains b P xs zs) (sym is) (record {
+  list = around_with b p xs h near;
+  kept = λ q on. on_with_place p q xs (inr on);
+  gained = λ q is. on_with_place p q xs (inl (sym (alone q is)));
+  only = λ q on. elim (with_place_on p q xs on) [ inl same ↦ inr (subst P (sym same) here) | inr old ↦ inl old ];
+})
+
+pub gains_same : (b : Stacks) (P S : Place → Type 0) (xs ys : List Place) → ((q : Place) → P q → S q) → ((q : Place) → S q → P q) → Gains b S xs ys → Gains b P xs ys
+gains_same b P S xs ys there back h = record {
+  list = h.list;
+  kept = h.kept;
+  gained = λ q is. h.gained q (there q is);
+  only = λ q on. elim (h.only q on) [ inl old ↦ inl old | inr is ↦ inr (back q is) ];
+}
+
+-- A step in one direction
+
+pub gains_toward : (b : Stacks) (S : Place → Place → Type 0) (p : Place) (d : Dir) (to : Place) (xs ys : List Place) → IsAround b xs → IsAtHive b to → to ≡ step p d → ys ≡ with_place to xs → S p to → Gains b (Toward S p d) xs ys
+gains_toward b S p d to xs ys h near leads is here = gains_place b (Toward S p d) to xs ys h near is (sym leads, here) (λ q (same, _). leads ∙ same)
+
+pub gains_no_step : (b : Stacks) (S : Place → Place → Type 0) (p : Place) (d : Dir) (to : Place) (xs : List Place) → IsAround b xs → to ≡ step p d → (S p to → IsOn xs to) → Gains b (Toward S p d) xs xs
+gains_no_step b S p d to xs h leads there = gains_nothing b (Toward S p d) xs h (λ q (same, is).
+    let e : to ≡ q = leads ∙ same in
+    subst (IsOn xs) e (there (subst (S p) (sym e) is)))
+
+-- Each direction in turn
+
+pub gains_next : (b : Stacks) (P : Dir → Place → Type 0) (n : ℕ) (xs ys zs : List Place) → Gains b (InFirst n P) xs ys → Gains b (P (dir_at n)) ys zs → Gains b (InFirst (n + 1) P) xs zs
+gains_next b P n xs ys zs one two = record {
+  list = two.list;
+  kept = λ q on. two.kept q (one.kept q on);
+  gained = λ q (k, low, is). elim (cases_eq k n) [
+    | inl same ↦ two.gained q (subst (λ (m : ℕ). P (dir_at m) q) same is)
+    | inr other ↦ let less : k < n = omega (arith, low, other) in two.kept q (one.gained q (k, less, is))
+  ];
+  only = λ q on. elim (two.only q on) [
+    | inl before ↦ elim (one.only q before) [
+      | inl old ↦ inl old
+      | inr found ↦ let low : found.0 < n = found.1 in let more : found.0 < n + 1 = omega (arith, low) in inr (found.0, more, found.2)
+    ]
+    | inr now ↦ let last : n < n + 1 = omega arith in inr (n, last, now)
+  ];
+}
+
+index_of : (d : Dir) → (k : ℕ) × (k < 6) × (dir_at k ≡ d)
+index_of E = let low : 0 < 6 = omega arith in (0, low, refl)
+index_of NE = let low : 1 < 6 = omega arith in (1, low, refl)
+index_of NW = let low : 2 < 6 = omega arith in (2, low, refl)
+index_of W = let low : 3 < 6 = omega arith in (3, low, refl)
+index_of SW = let low : 4 < 6 = omega arith in (4, low, refl)
+index_of SE = let low : 5 < 6 = omega arith in (5, low, refl)
+
+pub gains_all : (b : Stacks) (P : Dir → Place → Type 0) (S : Place → Type 0) (n : ℕ) (xs ys : List Place) → 6 ≤ n → ((d : Dir) (q : Place) → P d q → S q) → ((q : Place) → S q → (d : Dir) × P d q) → Gains b (InFirst n P) xs ys → Gains b S xs ys
+gains_all b P S n xs ys all there back h = record {
+  list = h.list;
+  kept = h.kept;
+  gained = λ q is.
+      let (d, toward) = back q is in
+      let (k, low, same) = index_of d in
+      let within : k < n = omega (arith, low, all) in
+      h.gained q (k, within, subst (λ (e : Dir). P e q) (sym same) toward);
+  only = λ q on. elim (h.only q on) [ inl old ↦ inl old | inr (k, low, is) ↦ inr (there (dir_at k) q is) ];
+}
+
+pub gains_ways : (b : Stacks) (S : Place → Place → Type 0) (p : Place) (n : ℕ) (xs ys : List Place) → 6 ≤ n → ((q : Place) → S p q → (d : Dir) × (step p d ≡ q)) → Gains b (InFirst n (Toward S p)) xs ys → Gains b (S p) xs ys
+gains_ways b S p n xs ys all leads h = gains_all b (Toward S p) (S p) n xs ys all (λ d q (_, is). is) (λ q is. let (d, same) = leads q is in (d, (same, is))) h
+
+-- a list that was empty has what it gained
+pub gained_exactly : (b : Stacks) (S : Place → Type 0) (xs ys : List Place) → xs ≡ [] → Gains b S xs ys → (q : Place) → IsOn ys q ↔ S q
+gained_exactly b S xs ys none h q = (
+  λ on. elim (h.only q on) [ inl old ↦ absurd (subst (λ zs. IsOn zs q) none old) | inr is ↦ is ],
+  λ is. h.gained q is,
+)

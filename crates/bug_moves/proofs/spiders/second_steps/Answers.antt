@@ -1,0 +1,13 @@
+use Rattle.bug_moves.proofs.Gaining.{gains_next, gains_all}
+use Rattle.bug_moves.specs.Ways.{SecondStep, SecondToward}
+use Rattle.bug_moves.proofs.spiders.second_steps.Goals as goal
+
+pub loop-dir-preserved : goal.loop-dir-preserved
+loop-dir-preserved g c =
+    let b = g.B.Board.stacks c.args.board.now in
+    gains_next b (SecondToward b c.args.start c.args.first) c.loop-dir.dir-index c.args.out.now.items c.loop-dir.out.items c.add_second.new.out.items c.loop-dir.invariant c.add_second.ensures
+
+pub returns : goal.returns
+returns g c =
+    let b = g.B.Board.stacks c.args.board.now in
+    gains_all b (SecondToward b c.args.start c.args.first) (SecondStep b c.args.start c.args.first) c.loop-dir.dir-index c.args.out.now.items c.loop-dir.out.items c.loop-dir-test.false (λ d q h. (d, h)) (λ q h. h) c.loop-dir.invariant

@@ -1,0 +1,158 @@
+//! Where each bug goes, over any board.
+//!
+//! The board is always the one from which the moving piece was lifted.
+#![tactic(auto)]
+
+mod ants;
+mod hops;
+mod ladybugs;
+mod spiders;
+mod steps;
+
+ghost use Rattle.std.specs.Prelude.{◌≡◌, ◌≢◌, ◌<◌, ◌↔◌, []};
+ghost use Rattle.hive_model.specs.declared.pieces.Kind.{Kind};
+ghost use Rattle.hive_model.specs.declared.pieces.Kind.TheVariants.{Mosquito};
+ghost use Rattle.hive_model.specs.Lists.{IsOn, Rises};
+ghost use Rattle.hive_model.specs.Places.{IsWithin, place_cmp};
+ghost use Rattle.hive_model.specs.Reach.{Reach};
+
+use hive_model::{Board, Kind, Piece, Place, PlaceList};
+
+/// The places that a bug of this kind reaches from a place, by q and then by r.
+///
+/// Queen and pillbug make one step on the ground, a beetle one step on the ground or over the hive, a grasshopper hops over a
+/// row of pieces, an ant goes round the hive as far as it likes, a spider makes three steps round it without turning back, and
+/// a ladybug goes up onto the hive, along on it and down again. What a mosquito does depends on its neighbours, so it has no
+/// way here.
+pub fn reach<B: Board>(kind: Kind, board: &B, from: Place, out: &mut PlaceList)
+    requires kind { kind ≢ Mosquito }
+    requires empty { out.old.items ≡ [] }
+    requires within { IsWithin 9500 from }
+    ensures places { (q : _) → IsOn out.new.items q ↔ Reach kind (B.stacks board.now) from q }
+    ensures order { Rises place_cmp out.new.items }
+{
+    // each board that answers where a piece stands is sound
+    let _spot = board.spot(Piece::at(0));
+    match kind {
+        Kind::Queen | Kind::Pillbug => steps::ground_steps(board, from, out),
+        Kind::Beetle => steps::beetle_steps(board, from, out),
+        Kind::Grasshopper => hops::hops(board, from, out),
+        Kind::Ant => ants::ant_ways(board, from, out),
+        Kind::Spider => spiders::spider_ways(board, from, out),
+        Kind::Ladybug => ladybugs::ladybug_ways(board, from, out),
+        Kind::Mosquito => {}
+    }
+}
+
+#[cfg(test)]
+mod tests {
+    use crate::reach;
+    use hive_model::{Board, Kind, Piece, Place, PlaceList};
+    use stack_board::PlainBoard;
+    use std::test::Fail;
+
+    /// Puts a piece, unless it stands there already.
+    fn stand(board: &mut PlainBoard, index: u8, place: Place)
+        requires piece { index < 28 }
+        requires within { IsWithin 9000 place }
+    {
+        let piece = Piece::at(index);
+        if board.spot(piece).is_none() {
+            board.put(piece, place);
+        }
+    }
+
+    fn finds(board: &PlainBoard, kind: Kind, from: Place, wanted: &[Place]) -> bool
+        requires kind { kind ≢ Mosquito }
+        requires within { IsWithin 9500 from }
+    {
+        let mut out = PlaceList::new();
+        reach(kind, board, from, &mut out);
+        out.as_slice() == wanted
+    }
+
+    #[test]
+    fn beside_two_pieces(rt: HostRuntime) -> Result<(), Fail> {
+        let mut board = PlainBoard::new(rt.alloc())?;
+        stand(&mut board, 1, Place { q: 0, r: 0 });
+        stand(&mut board, 15, Place { q: 1, r: 0 });
+        let from = Place { q: -1, r: 0 };
+        let steps = [Place { q: -1, r: 1 }, Place { q: 0, r: -1 }];
+        assert!(rt; finds(&board, Kind::Queen, from, &steps));
+        assert!(rt; finds(&board, Kind::Pillbug, from, &steps));
+        let creeps = [
+            Place { q: -1, r: 1 },
+            Place { q: 0, r: -1 },
+            Place { q: 0, r: 0 },
+        ];
+        assert!(rt; finds(&board, Kind::Beetle, from, &creeps));
+        assert!(rt; finds(&board, Kind::Grasshopper, from, &[Place { q: 2, r: 0 }]));
+        Ok(())
+    }
+
+    #[test]
+    fn round_two_pieces(rt: HostRuntime) -> Result<(), Fail> {
+        let mut board = PlainBoard::new(rt.alloc())?;
+        stand(&mut board, 1, Place { q: 0, r: 0 });
+        stand(&mut board, 15, Place { q: 1, r: 0 });
+        let from = Place { q: -1, r: 0 };
+        let spiders = [Place { q: 1, r: 1 }, Place { q: 2, r: -1 }];
+        assert!(rt; finds(&board, Kind::Spider, from, &spiders));
+        let ants = [
+            Place { q: -1, r: 1 },
+            Place { q: 0, r: -1 },
+            Place { q: 0, r: 1 },
+            Place { q: 1, r: -1 },
+            Place { q: 1, r: 1 },
+            Place { q: 2, r: -1 },
+            Place { q: 2, r: 0 },
+        ];
+        assert!(rt; finds(&board, Kind::Ant, from, &ants));
+        let ladybugs = [
+            Place { q: 0, r: 1 },
+            Place { q: 1, r: -1 },
+            Place { q: 1, r: 1 },
+            Place { q: 2, r: -1 },
+            Place { q: 2, r: 0 },
+        ];
+        assert!(rt; finds(&board, Kind::Ladybug, from, &ladybugs));
+        Ok(())
+    }
+
+    #[test]
+    fn in_and_round_a_ring(rt: HostRuntime) -> Result<(), Fail> {
+        let mut board = PlainBoard::new(rt.alloc())?;
+        let ring = [
+            Place { q: -1, r: 0 },
+            Place { q: -1, r: 1 },
+            Place { q: 0, r: -1 },
+            Place { q: 0, r: 1 },
+            Place { q: 1, r: -1 },
+            Place { q: 1, r: 0 },
+        ];
+        stand(&mut board, 0, ring[0]);
+        stand(&mut board, 1, ring[1]);
+        stand(&mut board, 2, ring[2]);
+        stand(&mut board, 3, ring[3]);
+        stand(&mut board, 14, ring[4]);
+        stand(&mut board, 15, ring[5]);
+        let middle = Place { q: 0, r: 0 };
+        assert!(rt; finds(&board, Kind::Ant, middle, &[]));
+        assert!(rt; finds(&board, Kind::Beetle, middle, &ring));
+        let outside = [
+            Place { q: -2, r: 0 },
+            Place { q: -2, r: 1 },
+            Place { q: -2, r: 2 },
+            Place { q: -1, r: -1 },
+            Place { q: -1, r: 2 },
+            Place { q: 0, r: -2 },
+            Place { q: 0, r: 2 },
+            Place { q: 1, r: -2 },
+            Place { q: 1, r: 1 },
+            Place { q: 2, r: -2 },
+            Place { q: 2, r: -1 },
+        ];
+        assert!(rt; finds(&board, Kind::Ant, Place { q: 2, r: 0 }, &outside));
+        Ok(())
+    }
+}

@@ -1,0 +1,35 @@
+-- What the readers of fields answer is what the functions compute.
+use Rattle.std.proofs.Common.{◌≡◌, ℕ, List, [], ◌∷◌, Result, Ok, Err, refl, sym, ◌∙◌, ap, subst}
+use Rattle.std.specs.Prelude.{Option, Some, None, IfSome}
+use Rattle.hive_model.specs.declared.pieces.GameType.{GameType}
+use Rattle.hive_model.specs.declared.places.State.{State}
+use Rattle.hive_model.specs.Fields.{type_bytes, state_bytes}
+use Rattle.hive_model.specs.Strings.{parts}
+use Rattle.move_text.specs.Readers.{type_at, state_at}
+use Rattle.move_text.proofs.FieldLaws.{type_found, type_only, state_found, state_only}
+use Rattle.game_text.specs.declared.faults.GameFault.{GameFault}
+use Rattle.game_text.specs.declared.parsed.Parsed.{Parsed}
+use Rattle.game_text.specs.Reading.{at_state, after_type, at_type, game_at, game_of}
+
+pub type_read : (text : List ℕ) (o : Option GameType) → IfSome o (λ t. text ≡ type_bytes t) → ((t : GameType) → text ≡ type_bytes t → o ≡ Some t) → type_at text ≡ o
+type_read text (Some t) found only = type_only text t found
+type_read text None found only = go (type_at text) refl
+  where
+    go : (r : Option GameType) → type_at text ≡ r → type_at text ≡ None
+    go None e = e
+    go (Some t) e = let wrong = only t (type_found text t e) in absurd (cc)
+
+pub state_read : (text : List ℕ) (o : Option State) → IfSome o (λ s. text ≡ state_bytes s) → ((s : State) → text ≡ state_bytes s → o ≡ Some s) → state_at text ≡ o
+state_read text (Some s) found only = state_only text s found
+state_read text None found only = go (state_at text) refl
+  where
+    go : (r : Option State) → state_at text ≡ r → state_at text ≡ None
+    go None e = e
+    go (Some s) e = let wrong = only s (state_found text s e) in absurd (cc)
+
+pub second : (t : GameType) (ps : List (List ℕ)) (x : List ℕ) (rest : List (List ℕ)) (o : Option State) → ps ≡ x ∷ rest → state_at x ≡ o → after_type t ps ≡ at_state t o rest
+second t ps x rest o split e = ap (after_type t) split ∙ ap (λ r. at_state t r rest) e
+
+pub first : (line : List ℕ) (x : List ℕ) (rest : List (List ℕ)) (o : Option GameType) → parts line ≡ x ∷ rest → type_at x ≡ o → game_of line ≡ at_type o rest
+unfolding game_of
+first line x rest o split e = ap game_at split ∙ ap (λ r. at_type r rest) e

@@ -1,0 +1,23 @@
+use Rattle.std.proofs.Common.{rules, ◌≡◌, ◌∷◌, ◌∙◌, [], ap, Ok, sym, subst, Bor, List, ℕ}
+use Rattle.hive_model.specs.declared.places.Move.{Move}
+use Rattle.hive_model.specs.Strings.{parts}
+use Rattle.game_text.specs.Reading.{Agrees}
+use Rattle.game_text.proofs.ReadLaws.{match_none, match_some, match_split}
+use Rattle.game_text.proofs.FieldReads.{type_read, first}
+use Rattle.game_text.proofs.reading.game_of.Goals as goal
+
+pub returns-in_default : goal.returns-in_default
+returns-in_default g c =
+    let split = match_split c.cut.result.1 (parts c.args.text.now) c.cut.result.0.now (λ (r : Bor (List ℕ)). parts r.now) c.cut.ensures.parts in
+    first c.args.text.now _ split.0 _ split.1 (type_read _ _ c.read_type.ensures.found c.read_type.ensures.only ∙ c.in_default.is)
+
+pub returns-in-None : goal.returns-in-None
+returns-in-None g c =
+    let split = match_none c.cut.result.1 (parts c.args.text.now ≡ c.cut.result.0.now ∷ []) (λ (r : Bor (List ℕ)). parts c.args.text.now ≡ c.cut.result.0.now ∷ parts r.now) c.in-None.is c.cut.ensures.parts in
+    first c.args.text.now _ [] _ split (type_read _ _ c.read_type.ensures.found c.read_type.ensures.only ∙ c.in-Some.is)
+    ∙ ap (λ (ms : List Move). Ok (record { game_type = c.in-Some.game_type; moves = ms })) (sym c.new.ensures)
+
+pub returns-in-Some-more : goal.returns-in-Some-more
+returns-in-Some-more g c =
+    let split = match_some c.cut.result.1 _ (λ (r : Bor (List ℕ)). parts c.args.text.now ≡ c.cut.result.0.now ∷ parts r.now) c.in-Some-more.rest c.in-Some-more.is c.cut.ensures.parts in
+    subst (Agrees c.read_state_on.result) (sym (first c.args.text.now _ (parts c.in-Some-more.rest.now) _ split (type_read _ _ c.read_type.ensures.found c.read_type.ensures.only ∙ c.in-Some.is))) c.read_state_on.ensures

@@ -1,0 +1,4 @@
+pub mod WordLemmas
+pub mod ReadLemmas
+pub mod ReplyLemmas
+pub mod Progress

@@ -1,0 +1,16 @@
+-- What follows from the clauses of a run.
+use Rattle.std.specs.Prelude.{◌≡◌, ◌⊎◌, ℕ, ◌<◌, List, length, Some}
+use Rattle.io_edge.specs.Outside.{HasCause, Rose}
+use Rattle.line_feed.specs.Feed.{input_limit}
+use Rattle.hive_cli.specs.Session.{SessionRun, Sides}
+use Rattle.hive_cli.specs.declared.status.Status.{Status}
+use Rattle.hive_cli.specs.declared.status.Status.TheVariants.{Done, ReadFault, WriteFault, Memory}
+
+-- Where neither the source's count of faults nor the sink's rose, the session of an input below the limit is done, unless
+-- memory is wanting.
+abbrev pub SessionsAreDone : Type 0
+SessionsAreDone =
+    (status : Status) → (before : Sides) → (after : Sides) → SessionRun status before after
+    → (reads_before : ℕ) → (reads_after : ℕ) → HasCause (status ≡ ReadFault) reads_before reads_after → ¬ Rose reads_before reads_after
+    → (writes_before : ℕ) → (writes_after : ℕ) → HasCause (status ≡ WriteFault) writes_before writes_after → ¬ Rose writes_before writes_after
+    → (input : List ℕ) → before.rest ≡ Some input → length input < input_limit → (status ≡ Done) ⊎ (status ≡ Memory)

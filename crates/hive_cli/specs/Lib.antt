@@ -1,0 +1,6 @@
+pub mod Words
+pub mod Statuses
+pub mod Output
+pub mod Session
+pub mod Rounds
+pub mod Laws

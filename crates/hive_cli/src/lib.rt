@@ -1,0 +1,15 @@
+//! The program over any source, sink, clock and starter of programs: what the words of its command line ask for.
+#![tactic(auto)]
+
+mod laws;
+mod sessions;
+mod start;
+mod status;
+mod words;
+
+pub use laws::sessions_are_done;
+pub use start::run;
+pub use status::{Outcome, Status};
+
+#[cfg(test)]
+mod tests;

@@ -1,0 +1,54 @@
+//! The run: what the words of the command line ask for.
+ghost use Rattle.std.specs.Prelude.{◌≡◌, ◌↔◌, []};
+ghost use Rattle.io_edge.specs.Outside.{HasCause};
+ghost use Rattle.hive_cli.specs.Words.{AreUhpWords};
+ghost use Rattle.hive_cli.specs.Session.{SessionRun};
+
+use crate::sessions::uhp;
+use crate::status::{Outcome, Status};
+use crate::words::are_uhp_words;
+use hive_model::{Game, TimedList};
+use io_edge::{Clock, Sink, Source, Spawner};
+use std::alloc::Global;
+use std::thread::Threads;
+
+/// Does what the words of the command line ask for; the program's name is left out of them.
+///
+/// No word, or the word `uhp`, asks for a session of the Universal Hive Protocol: the greeting is written, and then the reply
+/// to each line of the input before the next line is read, until a line ends the run or the input ends. It is `Done` then.
+/// The first read or write that fails ends it with `ReadFault` or `WriteFault`, an input of 1,099,511,627,776 bytes or more
+/// with `InputFull`, and want of memory with `Memory`; what was written until then stays.
+///
+/// Every other list of words is `Usage`, and nothing is read or written.
+pub fn run<R: Threads + Sync, S: Source, K: Sink, C: Clock, P: Spawner, G: Game + Drop>(
+    rt: &R,
+    alloc: Global,
+    words: &[String],
+    input: &mut S,
+    output: &mut K,
+    clock: &mut C,
+    spawner: &mut P,
+) -> Outcome
+    ensures usage { (result.status ≡ Status.Usage) ↔ (¬ AreUhpWords words.now) }
+    ensures unread { result.status ≡ Status.Usage → input.new ≡ input.old }
+    ensures unwritten { result.status ≡ Status.Usage → output.new ≡ output.old }
+    ensures session { AreUhpWords words.now → SessionRun result.status
+        (record { rest = S.rest input.old; written = K.written output.old })
+        (record { rest = S.rest input.new; written = K.written output.new }) }
+    ensures reads { HasCause (result.status ≡ Status.ReadFault) (S.read_faults input.old) (S.read_faults input.new) }
+    ensures writes { HasCause (result.status ≡ Status.WriteFault) (K.write_faults output.old) (K.write_faults output.new) }
+    ensures starts { HasCause (result.status ≡ Status.SpawnFault) (P.start_faults spawner.old) (P.start_faults spawner.new) }
+    ensures clock { clock.new ≡ clock.old }
+    ensures spawner { spawner.new ≡ spawner.old }
+    ensures timed { result.timed ≡ [] }
+{
+    let mut timed = TimedList::new(alloc);
+    if !are_uhp_words(words) {
+        return Outcome {
+            status: Status::Usage,
+            timed,
+        };
+    }
+    let status = uhp::<R, S, K, C, G>(rt, alloc, input, output, clock, &mut timed);
+    Outcome { status, timed }
+}

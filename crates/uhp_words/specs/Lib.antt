@@ -1,0 +1,6 @@
+pub mod Spaces
+pub mod Spans
+pub mod Verbs
+pub mod Numbers
+pub mod Grammar
+pub mod Reading
