@@ -7,7 +7,7 @@ use Rattle.std.proofs.lemmas.Bool.{leb-true, le-leb, lt-ltb}
 use Rattle.std.proofs.lemmas.Slice.Eq.{bytes_eq-Decides}
 use Rattle.std.proofs.lemmas.Fmt.{decimal_is_IsNumeral}
 use Rattle.hive_model.specs.Fields.{IsNumberText, IsTimeText}
-use Rattle.move_text.specs.Readers.{part_at, budget_of, time_at}
+use Rattle.move_text.specs.Readers.{two_digit_number, budget_of, time_at}
 use Rattle.move_text.proofs.FieldLaws.{time_found}
 use Rattle.uhp_words.specs.Numbers.{number_at}
 
@@ -35,7 +35,7 @@ number_again text least most n fits h =
     ∙ ap (λ t. if t && nat_le n most then Some n else None) (le-leb least n h.low)
     ∙ ap (λ t. if t then Some n else None) (le-leb n most h.high)
 
-part_again : (most n : ℕ) → most ≤ 99 → n ≤ most → part_at most (48 + n / 10) (48 + n % 10) ≡ Some n
+part_again : (most n : ℕ) → most ≤ 99 → n ≤ most → two_digit_number most (48 + n / 10) (48 + n % 10) ≡ Some n
 part_again most n small fits =
     let a1 : nat_le 48 (48 + n / 10) ≡ true = le-leb _ _ (omega arith) in
     let a2 : nat_lt (48 + n / 10) 58 ≡ true = lt-ltb _ _ (omega arith) in
