@@ -1,16 +1,14 @@
 -- Steps lead to places at the hive, and away from where they begin.
-use Rattle.std.proofs.Common.{◌≡◌, ◌≢◌, Bool, true, false, not, ◌⊎◌, inl, inr, refl, sym, ◌∙◌, ap, subst, arith, pos, negsuc, ◌+ℤ◌}
+use Rattle.std.proofs.Common.{◌≡◌, ◌≢◌, Bool, true, false, not, ◌⊎◌, inl, inr, refl, sym, ◌∙◌, subst}
 use Rattle.std.specs.Prelude.{IsTrue}
-use Rattle.std.proofs.lemmas.Int.{ints}
 use Rattle.hive_model.specs.declared.places.Place.{Place}
-use Rattle.hive_model.specs.declared.places.Dir.{Dir}
-use Rattle.hive_model.specs.declared.places.Dir.TheVariants.{E, NE, NW, W, SW, SE}
 use Rattle.hive_model.specs.Lists.{IsOn}
 use Rattle.hive_model.specs.Places.{step, dir_before, dir_after, IsWithin}
 use Rattle.hive_model.specs.Boards.{Stacks, is_occupied, IsBoard}
 use Rattle.hive_model.specs.Near.{near}
 use Rattle.hive_model.specs.Steps.{GroundStep, ClimbingStep, FreeStep}
 use Rattle.hive_model.proofs.NearLaws.{near_place, near_neighbour, near_within}
+use Rattle.hive_model.proofs.ReachLaws.{step_moves}
 use Rattle.hive_model.proofs.RuleLaws.{over_last, over_next}
 use Rattle.bug_moves.specs.Adding.{IsAtHive}
 
@@ -35,14 +33,6 @@ at_hive_within b is q (p, taken, close) = near_within b is q (elim close [
 ])
 
 -- a step leads to another place
-step_moves : (p : Place) (d : Dir) → step p d ≢ p
-step_moves p E e = let x : p.q +ℤ pos 1 ≡ p.q = ap (λ (z : Place). z.q) e in omega (arith, ints, x)
-step_moves p NE e = let x : p.q +ℤ pos 1 ≡ p.q = ap (λ (z : Place). z.q) e in omega (arith, ints, x)
-step_moves p NW e = let x : p.r +ℤ negsuc 0 ≡ p.r = ap (λ (z : Place). z.r) e in omega (arith, ints, x)
-step_moves p W e = let x : p.q +ℤ negsuc 0 ≡ p.q = ap (λ (z : Place). z.q) e in omega (arith, ints, x)
-step_moves p SW e = let x : p.q +ℤ negsuc 0 ≡ p.q = ap (λ (z : Place). z.q) e in omega (arith, ints, x)
-step_moves p SE e = let x : p.r +ℤ pos 1 ≡ p.r = ap (λ (z : Place). z.r) e in omega (arith, ints, x)
-
 pub ground_moves : (b : Stacks) (p q : Place) → GroundStep b p q → p ≢ q
 ground_moves b p q g same = step_moves p g.dir (g.leads ∙ sym same)
 

@@ -1,7 +1,7 @@
 -- Rows of pieces that a grasshopper hops over.
 use Rattle.std.proofs.Common.{◌≡◌, ◌≢◌, ℕ, suc, zero, ◌+◌, ◌≤◌, ◌<◌, true, false, List, ◌⊎◌, inl, inr, refl, sym, ◌∙◌, ap, subst, arith, ℤ, pos, negsuc, ◌+ℤ◌, ◌≤ℤ◌}
 use Rattle.std.specs.Prelude.{IsTrue}
-use Rattle.std.proofs.lemmas.Bool.{cases_eq, lt-ltb, ltb-true}
+use Rattle.std.proofs.lemmas.Bool.{cases_eq, ltb-true}
 use Rattle.std.proofs.lemmas.Int.{ints}
 use Rattle.hive_model.specs.declared.places.Place.{Place}
 use Rattle.hive_model.specs.declared.places.Dir.{Dir}
@@ -10,18 +10,10 @@ use Rattle.hive_model.specs.Places.{step, steps, east, south, IsWithin}
 use Rattle.hive_model.specs.Boards.{Stacks, height_at, is_occupied, IsBoard}
 use Rattle.hive_model.specs.Near.{with_place}
 use Rattle.hive_model.specs.Reach.{Hop}
+use Rattle.hive_model.proofs.CopyLaws.{not_occupied}
 use Rattle.bug_moves.specs.Adding.{IsAtHive, IsAround, Gains}
 use Rattle.bug_moves.specs.Ways.{HopAlong}
 use Rattle.bug_moves.proofs.Gaining.{gains_place, gains_nothing}
-
-pub not_occupied : (b : Stacks) (q : Place) → is_occupied b q ≡ false → height_at b q ≡ 0
-not_occupied b q e = elim (cases_eq (height_at b q) 0) [
-  | inl none ↦ none
-  | inr more ↦
-      let some : 0 < height_at b q = omega (arith, more) in
-      let wrong : true ≡ false = sym (lt-ltb 0 (height_at b q) some) ∙ e in
-      absurd (cc)
-]
 
 pub occupied_not : (b : Stacks) (q : Place) → height_at b q ≡ 0 → is_occupied b q ≡ true → ⊥
 occupied_not b q none e = let some = ltb-true 0 (height_at b q) e in omega (arith, none, some)

@@ -10,6 +10,7 @@ ghost use Rattle.bug_moves.specs.Ways.{Toward, BeetleStep};
 use gates::{climb_ok, slide_ok};
 use hive_model::{Board, Dir, Place, PlaceList, add_place};
 
+/// Whether a piece stands on the place.
 pub fn is_occupied<B: Board>(board: &B, place: Place) -> bool
     ensures { result ≡ is_occupied (B.stacks board.now) place }
 {

@@ -5,3 +5,6 @@ pub mod ListedLaws
 pub mod ReadLaws
 pub mod FieldReads
 pub mod OrderLaws
+pub mod LineLaws
+pub mod WriteLaws
+pub mod Rows

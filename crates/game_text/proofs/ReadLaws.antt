@@ -43,7 +43,7 @@ refused_made p t b x fault k e f is d = (refl, sym (move_here p t b x e f) ∙ o
 
 -- One move more
 
-replay_more : (p : Position) (ms : List Move) (m : Move) → replay p (ms ++ m ∷ []) ≡ after (replay p ms) m
+pub replay_more : (p : Position) (ms : List Move) (m : Move) → replay p (ms ++ m ∷ []) ≡ after (replay p ms) m
 replay_more p [] m = refl
 replay_more p (k ∷ ms) m = replay_more (after p k) ms m
 

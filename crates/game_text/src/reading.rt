@@ -5,7 +5,9 @@ ghost use Rattle.hive_model.specs.Boards.{IsBoard};
 ghost use Rattle.hive_model.specs.Positions.{opening};
 ghost use Rattle.hive_model.specs.Courses.{position};
 ghost use Rattle.hive_model.specs.Games.{IsGame};
-ghost use Rattle.hive_model.specs.Strings.{parts};
+ghost use Rattle.hive_model.specs.Strings.{parts, IsGameLine};
+ghost use Rattle.hive_model.specs.declared.pieces.GameType.{GameType as AnyType};
+ghost use Rattle.hive_model.specs.declared.places.Move.{Move as AnyMove};
 ghost use Rattle.game_text.specs.Reading.{moves_of, confirmed, at_moves, after_state, after_type, game_of, Fails, Agrees, Plays, IsMoveFault, first_empty};
 
 use crate::faults::GameFault;
@@ -185,6 +187,16 @@ fn read_state_on<G: Game + Drop>(alloc: Global, game_type: GameType, text: &[u8]
     }
 }
 
+/// The game in which no ply was played.
+fn opening_of(alloc: Global, game_type: GameType) -> Parsed
+    ensures { result ≡ record { game_type = game_type; moves = [] } }
+{
+    Parsed {
+        game_type,
+        moves: MoveList::new(alloc),
+    }
+}
+
 /// The game of the line, or its first fault.
 fn game_of<G: Game + Drop>(alloc: Global, text: &[u8]) -> Result<Parsed, GameFault>
     requires { length text.now ≤ 65536 }
@@ -195,10 +207,25 @@ fn game_of<G: Game + Drop>(alloc: Global, text: &[u8]) -> Result<Parsed, GameFau
         return Err(GameFault::Malformed { part: 1 });
     };
     match more {
-        None => Ok(Parsed {
-            game_type,
-            moves: MoveList::new(alloc),
-        }),
+        None => Ok(opening_of(alloc, game_type)),
         Some(rest) => read_state_on::<G>(alloc, game_type, rest),
     }
+}
+
+/// The game that the line is: a game type alone, which is its opening; or game type, state, turn and moves, joined by semicolons,
+/// where each move is legal and denoted by its part on the board before it, there are at most 5,000, and the state and the turn are
+/// those after the moves. The line has at most 65,536 bytes. The moves are played on a game of the kind G that is made for it.
+///
+/// # Errors
+///
+/// A part that is absent or not of its form, more than 5,000 moves, the first move that cannot be read or is not legal, and a state
+/// or a turn that is not that of the game: the first of these, in this order. And want of memory.
+pub fn read_game<G: Game + Drop>(alloc: Global, text: &[u8]) -> Result<Parsed, GameFault>
+    requires { length text.now ≤ 65536 }
+    ensures game { IfOk result (λ g. IsGameLine text.now g.game_type g.moves) }
+    ensures only { (t : AnyType) (ms : List AnyMove) → IsGameLine text.now t ms → IfErr result (λ fault. fault ≡ GameFault.Memory) }
+    ensures value { IfOk result (λ g. game_of text.now ≡ Ok g) }
+    ensures err { IfErr result (λ fault. Fails fault (game_of text.now)) }
+{
+    game_of::<G>(alloc, text)
 }

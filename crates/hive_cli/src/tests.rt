@@ -4,7 +4,6 @@ mod no_game;
 mod turns;
 
 use crate::{Status, run};
-use hive_model::Game;
 use io_edge::{MemSink, MemSource, MemSpawner, Sink, Source, StepClock};
 use no_game::NoGame;
 use std::alloc::{AllocError, Global};

@@ -56,6 +56,7 @@ fn touches_kind<B: Board>(board: &B, from: Place, kind: Kind) -> bool
     )
 }
 
+/// The place at an index of a list.
 fn place_at(places: &PlaceList, index: usize) -> Place
     requires { index < length places.now.items }
     ensures { slice_get places.now.items index ≡ Some result }

@@ -2,7 +2,7 @@ use Rattle.std.proofs.Common.{sym, ◌∙◌}
 use Rattle.hive_model.proofs.PlaceLemmas.{false_place}
 use Rattle.bug_moves.proofs.AtHive.{climb_at_hive}
 use Rattle.bug_moves.proofs.Gaining.{room_for, gains_toward}
-use Rattle.bug_moves.proofs.HopLaws.{not_occupied}
+use Rattle.hive_model.proofs.CopyLaws.{not_occupied}
 use Rattle.bug_moves.specs.Ways.{StepDown}
 use Rattle.bug_moves.proofs.ladybugs.add_down.Goals as goal
 

@@ -1,5 +1,5 @@
 use Rattle.std.proofs.Common.{rules, ◌≡◌, ◌∷◌, ◌∙◌, [], ap, Ok, sym, subst, Bor, List, ℕ}
-use Rattle.hive_model.specs.declared.places.Move.{Move}
+use Rattle.game_text.specs.declared.parsed.Parsed.{Parsed}
 use Rattle.hive_model.specs.Strings.{parts}
 use Rattle.game_text.specs.Reading.{Agrees}
 use Rattle.game_text.proofs.ReadLaws.{match_none, match_some, match_split}
@@ -15,7 +15,7 @@ pub returns-in-None : goal.returns-in-None
 returns-in-None g c =
     let split = match_none c.cut.result.1 (parts c.args.text.now ≡ c.cut.result.0.now ∷ []) (λ (r : Bor (List ℕ)). parts c.args.text.now ≡ c.cut.result.0.now ∷ parts r.now) c.in-None.is c.cut.ensures.parts in
     first c.args.text.now _ [] _ split (type_read _ _ c.read_type.ensures.found c.read_type.ensures.only ∙ c.in-Some.is)
-    ∙ ap (λ (ms : List Move). Ok (record { game_type = c.in-Some.game_type; moves = ms })) (sym c.new.ensures)
+    ∙ ap (λ (g : Parsed). Ok g) (sym c.opening_of.ensures)
 
 pub returns-in-Some-more : goal.returns-in-Some-more
 returns-in-Some-more g c =

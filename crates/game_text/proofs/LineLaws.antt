@@ -1,0 +1,218 @@
+-- A line is read as a game exactly where it is that game.
+use Rattle.std.proofs.Common.{◌≡◌, ◌≢◌, ℕ, ◌+◌, ◌/◌, ◌≤◌, ◌<◌, Bool, true, false, List, [], ◌∷◌, ◌++◌, length, Result, Ok, Err, refl, sym, ◌∙◌, ap, subst, arith, ◌⊎◌, inl, inr}
+use Rattle.std.specs.Prelude.{Option, Some, None, nat_eq, nat_lt, IfOk, IfErr, ◌&&◌, codes, if◌then◌else◌}
+use Rattle.std.specs.Str.{bytes_eq}
+use Rattle.std.proofs.lemmas.Bool.{and_parts, eqb-true, eq-eqb, ltb-false, le-ltb}
+use Rattle.std.proofs.lemmas.Slice.Eq.{bytes_eq-Decides}
+use Rattle.hive_model.specs.declared.pieces.Colour.{Colour}
+use Rattle.hive_model.specs.declared.pieces.Colour.TheVariants.{White, Black}
+use Rattle.hive_model.specs.declared.pieces.GameType.{GameType}
+use Rattle.hive_model.specs.declared.places.State.{State}
+use Rattle.hive_model.specs.declared.places.Move.{Move}
+use Rattle.hive_model.specs.Pieces.{is_colour}
+use Rattle.hive_model.specs.Lists.{onto}
+use Rattle.hive_model.specs.Boards.{Stacks}
+use Rattle.hive_model.specs.Positions.{Position, opening}
+use Rattle.hive_model.specs.Legal.{state}
+use Rattle.hive_model.specs.Games.{after, replay}
+use Rattle.hive_model.specs.Denotes.{Denotes}
+use Rattle.hive_model.specs.Fields.{type_bytes, state_bytes}
+use Rattle.hive_model.specs.Strings.{parts, turn_bytes, DenoteMoves, IsFull, IsGameLine}
+use Rattle.move_text.specs.Readers.{type_at, state_at}
+use Rattle.move_text.proofs.FieldLaws.{type_found, type_only, state_found, state_only}
+use Rattle.hive_model.proofs.PieceLaws.{same_colour, from_same_colour}
+use Rattle.rule_laws.proofs.Games.{games_count}
+use Rattle.rule_laws.proofs.Openings.{openings}
+use Rattle.game_text.specs.declared.faults.GameFault.{GameFault}
+use Rattle.game_text.specs.declared.faults.GameFault.TheVariants.{Malformed, TooLong, BadMove, IllegalMove, OtherState, OtherTurn, Memory}
+use Rattle.game_text.specs.declared.parsed.Parsed.{Parsed}
+use Rattle.game_text.specs.declared.turns.Turn.{Turn}
+use Rattle.game_text.specs.Turns.{IsTurn, turn_at}
+use Rattle.game_text.specs.Reading.{moves_of, Fails, Agrees, first_empty, is_state, is_turn_of, confirmed, at_moves, at_turn, after_state, at_state, after_type, at_type, game_at, game_of}
+use Rattle.game_text.proofs.PartLaws.{parts-joined, type_part}
+use Rattle.game_text.proofs.TurnLaws.{turn_found, turn_again}
+use Rattle.game_text.proofs.FieldReads.{first}
+use Rattle.game_text.proofs.OrderLaws.{moves_found, moves_again, denoted_size}
+
+-- A line of one part
+
+no_parts : (line : List ℕ) → parts line ≡ [] → ⊥
+unfolding parts
+no_parts [] e = cc
+no_parts (b ∷ bs) e = go (nat_eq b 59) (parts bs) e
+  where
+    go : (t : Bool) (ps : List (List ℕ)) → (if t then [] ∷ ps else onto b ps) ≡ [] → ⊥
+    go true ps k = cc
+    go false [] k = cc
+    go false (p ∷ ps) k = cc
+
+pub whole : (line x : List ℕ) → parts line ≡ x ∷ [] → line ≡ x
+unfolding parts
+whole [] x e = cc
+whole (b ∷ bs) x e = go (nat_eq b 59) (parts bs) refl e (λ p f. whole bs p f) (λ f. no_parts bs f)
+  where
+    go : (t : Bool) (ps : List (List ℕ)) → parts bs ≡ ps → (if t then [] ∷ ps else onto b ps) ≡ x ∷ [] → ((p : List ℕ) → parts bs ≡ p ∷ [] → bs ≡ p) → (parts bs ≡ [] → ⊥) → b ∷ bs ≡ x
+    go true [] f k more none = absurd (none f)
+    go true (p ∷ ps) f k more none = absurd (cc)
+    go false [] f k more none = absurd (none f)
+    go false (p ∷ []) f k more none = let same : b ∷ p ≡ x = cc in ap (λ (r : List ℕ). b ∷ r) (more p f) ∙ same
+    go false (p ∷ q ∷ qs) f k more none = absurd (cc)
+
+-- Comparisons
+
+pub same_state : (s u : State) → is_state s u ≡ true → s ≡ u
+same_state s u h =
+    let e = (bytes_eq-Decides (state_bytes s) (state_bytes u)).0 h in
+    let f = state_only (state_bytes s) s refl in
+    let g = state_only (state_bytes s) u e in
+    let same : Some s ≡ Some u = sym f ∙ g in cc
+
+pub is_state_itself : (s : State) → is_state s s ≡ true
+is_state_itself s = (bytes_eq-Decides (state_bytes s) (state_bytes s)).1 refl
+
+pub same_turn : (u : Turn) (p : Position) → is_turn_of u p ≡ true → (u.side ≡ p.side) × (u.number ≡ p.turn)
+same_turn u p h = let both = and_parts (is_colour u.side p.side) (nat_eq u.number p.turn) h in (same_colour u.side p.side both.0, eqb-true u.number p.turn both.1)
+
+pub is_turn_itself : (u : Turn) (p : Position) → u.side ≡ p.side → u.number ≡ p.turn → is_turn_of u p ≡ true
+is_turn_itself u p e f = ap (λ c. is_colour c p.side && nat_eq u.number p.turn) e ∙ ap (λ t. t && nat_eq u.number p.turn) (from_same_colour p.side p.side refl) ∙ eq-eqb u.number p.turn f
+
+-- What was read is the line's game
+
+-- the parts of a line, as the fields that they were read as
+pub record HasParts (line : List ℕ) (t : GameType) (s : State) (u : Turn) (rest : List (List ℕ)) : Type 0 where
+  pub parts_are : parts line ≡ type_bytes t ∷ (state_bytes s ∷ (turn_bytes u.side u.number ∷ rest))
+  pub low : 1 ≤ u.number
+  pub high : u.number ≤ 999999999
+
+confirmed_found : (line : List ℕ) (t : GameType) (s : State) (u : Turn) (rest : List (List ℕ)) (g : Parsed) → HasParts line t s u rest → length rest ≤ 5000
+    → (r : Result (List Move) GameFault) → moves_of (opening t) rest 1 ≡ r → confirmed t s u r ≡ Ok g → IsGameLine line g.game_type g.moves
+confirmed_found line t s u rest g head few (Err fault) e k = absurd (cc)
+confirmed_found line t s u rest g head few (Ok ms) e k = states (is_state s (state (replay (opening t) ms))) refl (is_turn_of u (replay (opening t) ms)) refl k
+  where
+    states : (a : Bool) → is_state s (state (replay (opening t) ms)) ≡ a → (b : Bool) → is_turn_of u (replay (opening t) ms) ≡ b
+        → (if a then (if b then Ok (record { game_type = t; moves = ms }) else Err OtherTurn) else Err OtherState) ≡ Ok g → IsGameLine line g.game_type g.moves
+    states true e1 true f1 k1 =
+        let same : ◌≡◌ {A = Parsed} (record { game_type = t; moves = ms }) g = cc in
+        let start = openings t in
+        let low : 0 + length rest ≤ 9000 = omega (arith, few) in
+        let r = moves_found (opening t) rest 1 0 ms start.0 start.1 low e in
+        let size = r.size in
+        let stated = same_state s (state (replay (opening t) ms)) e1 in
+        let turned = same_turn u (replay (opening t) ms) f1 in
+        subst (λ z. IsGameLine line z.game_type z.moves) same (inr (record {
+          rest = rest;
+          parts_are = head.parts_are ∙ (λ i. type_bytes t ∷ (state_bytes (stated i) ∷ (turn_bytes (turned.0 i) (turned.1 i) ∷ rest)));
+          denote = r.denote;
+          legal = r.legal;
+          few = omega (arith, size, few);
+        }))
+    states true e1 false f1 k1 = absurd (cc)
+    states false e1 b f1 k1 = absurd (cc)
+
+pub game_found : (line : List ℕ) (g : Parsed) → game_of line ≡ Ok g → IsGameLine line g.game_type g.moves
+unfolding game_of
+game_found line g h = go (parts line) refl h
+  where
+    few : (t : GameType) (s : State) (u : Turn) (rest : List (List ℕ)) → HasParts line t s u rest → (b : Bool) → nat_lt 5000 (length rest) ≡ b
+        → (if b then Err TooLong else confirmed t s u (moves_of (opening t) rest 1)) ≡ Ok g → IsGameLine line g.game_type g.moves
+    few t s u rest head true e k = absurd (cc)
+    few t s u rest head false e k = let most = ltb-false 5000 (length rest) e in confirmed_found line t s u rest g head (omega (arith, most)) (moves_of (opening t) rest 1) refl k
+
+    empty : (t : GameType) (s : State) (u : Turn) (rest : List (List ℕ)) → HasParts line t s u rest → (o : Option ℕ) → at_moves t s u rest o ≡ Ok g → IsGameLine line g.game_type g.moves
+    empty t s u rest head (Some k) e = absurd (cc)
+    empty t s u rest head None e = few t s u rest head (nat_lt 5000 (length rest)) refl e
+
+    turn : (t : GameType) (s : State) (z : List ℕ) (rest : List (List ℕ)) → parts line ≡ type_bytes t ∷ (state_bytes s ∷ (z ∷ rest)) → (o : Option Turn) → turn_at z ≡ o → at_turn t s o rest ≡ Ok g → IsGameLine line g.game_type g.moves
+    turn t s z rest split None e k = absurd (cc)
+    turn t s z rest split (Some u) e k =
+        let is = turn_found z u e in
+        empty t s u rest (record { parts_are = split ∙ ap (λ (x : List ℕ). type_bytes t ∷ (state_bytes s ∷ (x ∷ rest))) is.text_is; low = is.low; high = is.high }) (first_empty rest 4) k
+
+    third : (t : GameType) (s : State) (rest : List (List ℕ)) → parts line ≡ type_bytes t ∷ (state_bytes s ∷ rest) → after_state t s rest ≡ Ok g → IsGameLine line g.game_type g.moves
+    third t s [] split k = absurd (cc)
+    third t s (z ∷ rest) split k = turn t s z rest split (turn_at z) refl k
+
+    stated : (t : GameType) (y : List ℕ) (rest : List (List ℕ)) → parts line ≡ type_bytes t ∷ (y ∷ rest) → (o : Option State) → state_at y ≡ o → at_state t o rest ≡ Ok g → IsGameLine line g.game_type g.moves
+    stated t y rest split None e k = absurd (cc)
+    stated t y rest split (Some s) e k = third t s rest (split ∙ ap (λ (x : List ℕ). type_bytes t ∷ (x ∷ rest)) (state_found y s e)) k
+
+    second : (t : GameType) (rest : List (List ℕ)) → parts line ≡ type_bytes t ∷ rest → after_type t rest ≡ Ok g → IsGameLine line g.game_type g.moves
+    second t [] split k =
+        let same : ◌≡◌ {A = Parsed} (record { game_type = t; moves = [] }) g = cc in
+        subst (λ z. IsGameLine line z.game_type z.moves) same (inl (whole line (type_bytes t) split, refl))
+    second t (y ∷ rest) split k = stated t y rest split (state_at y) refl k
+
+    typed : (x : List ℕ) (rest : List (List ℕ)) → parts line ≡ x ∷ rest → (o : Option GameType) → type_at x ≡ o → at_type o rest ≡ Ok g → IsGameLine line g.game_type g.moves
+    typed x rest split None e k = absurd (cc)
+    typed x rest split (Some t) e k = second t rest (split ∙ ap (λ (z : List ℕ). z ∷ rest) (type_found x t e)) k
+
+    go : (ps : List (List ℕ)) → parts line ≡ ps → game_at ps ≡ Ok g → IsGameLine line g.game_type g.moves
+    go [] split k = absurd (cc)
+    go (x ∷ rest) split k = typed x rest split (type_at x) refl k
+
+-- The line's game is read
+
+denotes_some : (t : GameType) (b : Stacks) (m : Move) → Denotes t b [] m → ⊥
+denotes_some t b m (inl h) = let e = h.0 in cc
+denotes_some t b m (inr (inl d)) = let e = d.text_is in cc
+denotes_some t b m (inr (inr d)) = let e = d.text_is in cc
+
+none_empty : (p : Position) (xs : List (List ℕ)) (ms : List Move) (k : ℕ) → DenoteMoves p xs ms → first_empty xs k ≡ None
+none_empty p [] ms k d = refl
+none_empty p (x ∷ xs) [] k d = absurd d
+none_empty p ([] ∷ xs) (m ∷ ms) k d = absurd (denotes_some p.game_type p.board m d.0)
+none_empty p ((b ∷ bs) ∷ xs) (m ∷ ms) k d = none_empty (after p m) xs ms (k + 1) d.1
+
+pub head_read : (line : List ℕ) (t : GameType) (s : State) (u : Turn) (rest : List (List ℕ)) → HasParts line t s u rest → game_of line ≡ at_moves t s u rest (first_empty rest 4)
+head_read line t s u rest h =
+    first line (type_bytes t) (state_bytes s ∷ (turn_bytes u.side u.number ∷ rest)) (Some t) h.parts_are (type_only (type_bytes t) t refl)
+    ∙ ap (λ o. at_state t o (turn_bytes u.side u.number ∷ rest)) (state_only (state_bytes s) s refl)
+    ∙ ap (λ o. at_turn t s o rest) (turn_again u.side u.number h.low h.high)
+
+pub few_read : (t : GameType) (s : State) (u : Turn) (rest : List (List ℕ)) → first_empty rest 4 ≡ None → length rest ≤ 5000 → at_moves t s u rest (first_empty rest 4) ≡ confirmed t s u (moves_of (opening t) rest 1)
+few_read t s u rest none few =
+    ap (at_moves t s u rest) none ∙ ap (λ (b : Bool). if b then Err TooLong else confirmed t s u (moves_of (opening t) rest 1)) (le-ltb 5000 (length rest) few)
+
+pub game_again : (line : List ℕ) (t : GameType) (ms : List Move) → IsGameLine line t ms → game_of line ≡ Ok (record { game_type = t; moves = ms })
+game_again line t ms (inl h) =
+    first line (type_bytes t) [] (Some t) (ap parts h.0 ∙ parts-joined (type_bytes t) [] (type_part t) tt) (type_only (type_bytes t) t refl)
+    ∙ ap (λ (ns : List Move). Ok (record { game_type = t; moves = ns })) (sym h.1)
+game_again line t ms (inr f) =
+    let turn = (games_count t ms).turn in
+    let few = f.few in
+    let size = denoted_size (opening t) f.rest ms f.denote in
+    let short : length f.rest ≤ 5000 = omega (arith, size, few) in
+    let low : 1 ≤ (replay (opening t) ms).turn = omega (arith, turn) in
+    let high : (replay (opening t) ms).turn ≤ 999999999 = omega (arith, turn, few) in
+    head_read line t (state (replay (opening t) ms)) (record { side = (replay (opening t) ms).side; number = (replay (opening t) ms).turn }) f.rest (record { parts_are = f.parts_are; low = low; high = high })
+    ∙ few_read t (state (replay (opening t) ms)) (record { side = (replay (opening t) ms).side; number = (replay (opening t) ms).turn }) f.rest (none_empty (opening t) f.rest ms 4 f.denote) short
+    ∙ ap (confirmed t (state (replay (opening t) ms)) (record { side = (replay (opening t) ms).side; number = (replay (opening t) ms).turn })) (moves_again (opening t) f.rest 1 ms f.denote f.legal)
+    ∙ ap (λ (b : Bool). if b then (if is_turn_of (record { side = (replay (opening t) ms).side; number = (replay (opening t) ms).turn }) (replay (opening t) ms) then Ok (record { game_type = t; moves = ms }) else Err OtherTurn) else Err OtherState) (is_state_itself (state (replay (opening t) ms)))
+    ∙ ap (λ (b : Bool). if b then Ok (record { game_type = t; moves = ms }) else Err OtherTurn) (is_turn_itself (record { side = (replay (opening t) ms).side; number = (replay (opening t) ms).turn }) (replay (opening t) ms) refl refl)
+
+-- For the call
+
+pub agrees_line : (line : List ℕ) (r : Result Parsed GameFault) → Agrees r (game_of line) → IfOk r (λ g. IsGameLine line g.game_type g.moves)
+agrees_line line (Ok g) h = game_found line g h
+agrees_line line (Err fault) h = tt
+
+pub agrees_ok : (line : List ℕ) (r : Result Parsed GameFault) → Agrees r (game_of line) → IfOk r (λ g. game_of line ≡ Ok g)
+agrees_ok line (Ok g) h = h
+agrees_ok line (Err fault) h = tt
+
+pub agrees_err : (line : List ℕ) (r : Result Parsed GameFault) → Agrees r (game_of line) → IfErr r (λ fault. Fails fault (game_of line))
+agrees_err line (Ok g) h = tt
+agrees_err line (Err fault) h = h
+
+fails_not : (fault : GameFault) (g : Parsed) (read : Result Parsed GameFault) → Fails fault read → read ≡ Ok g → fault ≡ Memory
+fails_not Memory g read h e = refl
+fails_not (Malformed k) g read h e = let wrong = sym h ∙ e in absurd (cc)
+fails_not TooLong g read h e = let wrong = sym h ∙ e in absurd (cc)
+fails_not (BadMove n fault) g read h e = let wrong = sym h ∙ e in absurd (cc)
+fails_not (IllegalMove n) g read h e = let wrong = sym h ∙ e in absurd (cc)
+fails_not OtherState g read h e = let wrong = sym h ∙ e in absurd (cc)
+fails_not OtherTurn g read h e = let wrong = sym h ∙ e in absurd (cc)
+
+pub agrees_only : (line : List ℕ) (r : Result Parsed GameFault) → Agrees r (game_of line) → (t : GameType) (ms : List Move) → IsGameLine line t ms → IfErr r (λ fault. fault ≡ Memory)
+agrees_only line (Ok g) h t ms is = tt
+agrees_only line (Err fault) h t ms is = fails_not fault (record { game_type = t; moves = ms }) (game_of line) h (game_again line t ms is)

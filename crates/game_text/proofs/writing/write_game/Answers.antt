@@ -1,0 +1,7 @@
+use Rattle.std.proofs.Common.{rules, ◌≡◌, ◌++◌, ◌∙◌, ap, sym}
+use Rattle.hive_model.specs.Strings.{string}
+use Rattle.game_text.proofs.writing.write_game.Goals as goal
+
+pub returns-clause-written : goal.returns-clause-written
+unfolding string
+returns-clause-written g c = search rules

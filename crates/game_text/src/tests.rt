@@ -1,0 +1,83 @@
+//! The turn of a line, the string of kept moves, and the words of each fault.
+
+ghost use Rattle.std.specs.Prelude.{◌≡◌};
+
+use crate::turns::{Turn, read_turn};
+use crate::{GameFault, MoveTexts, lines_are_one_game, strings_are_games};
+use hive_model::{Board, Colour, GameType, Move, Piece, Place, ReplyText, State};
+use move_text::MoveFault;
+use stack_board::PlainBoard;
+use std::test::Fail;
+
+const WITH_MOSQUITO: GameType = GameType {
+    mosquito: true,
+    ladybug: false,
+    pillbug: false,
+};
+
+fn turn(side: Colour, number: u64) -> Option<Turn> {
+    Some(Turn { side, number })
+}
+
+fn spider_to_origin() -> Move
+    ensures { result ≡ Move.To 1 record { q = 0; r = 0 } }
+{
+    Move::To {
+        piece: Piece::at(1),
+        place: Place { q: 0, r: 0 },
+    }
+}
+
+#[test]
+fn reads_turns(rt: HostRuntime) {
+    for (text, wanted) in [
+        ("White[1]", turn(Colour::White, 1)),
+        ("Black[12]", turn(Colour::Black, 12)),
+        ("White[999999999]", turn(Colour::White, 999_999_999)),
+        ("White[1000000000]", None),
+        ("White[0]", None),
+        ("White[01]", None),
+        ("White[]", None),
+        ("White1", None),
+        ("white[1]", None),
+        ("Black[1] ", None),
+    ] {
+        assert_eq!(rt; read_turn(text.as_bytes()), wanted, "at {text}");
+    }
+}
+
+#[test]
+fn writes_kept_texts(rt: HostRuntime) -> Result<(), Fail> {
+    let board = PlainBoard::new(rt.alloc())?;
+    let mut texts = MoveTexts::new(rt.alloc());
+    let mut out = ReplyText::new(rt.alloc());
+    let _spot = board.spot(Piece::at(1));
+    texts.push(&board, spider_to_origin())?;
+    texts.push(&board, Move::Pass)?;
+    assert_eq!(rt; texts.len(), 2);
+    texts.pop();
+    texts.write(WITH_MOSQUITO, State::InProgress, Colour::Black, 1, &mut out)?;
+    assert_eq!(rt; out.items(), b"Base+M;InProgress;Black[1];wS1".as_slice());
+    strings_are_games();
+    lines_are_one_game();
+    Ok(())
+}
+
+#[test]
+fn tells_each_fault(rt: HostRuntime) {
+    let fault = MoveFault::NoSuchPiece;
+    for (fault, wanted) in [
+        (GameFault::Malformed { part: 3 }, "part 3 is absent or not of its form"),
+        (GameFault::TooLong, "more than 5000 moves"),
+        (
+            GameFault::BadMove { number: 2, fault },
+            "move 2: the game type does not have the moving piece",
+        ),
+        (GameFault::IllegalMove { number: 4 }, "move 4 is not legal"),
+        (GameFault::OtherState, "the declared state is not that of the game"),
+        (GameFault::OtherTurn, "the declared turn is not that of the game"),
+        (GameFault::Memory, "out of memory"),
+    ] {
+        assert_eq!(rt; format!("{fault}"), wanted);
+    }
+}
