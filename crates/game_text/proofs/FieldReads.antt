@@ -1,5 +1,5 @@
 -- What the readers of fields answer is what the functions compute.
-use Rattle.std.proofs.Common.{◌≡◌, ℕ, List, [], ◌∷◌, Result, Ok, Err, refl, sym, ◌∙◌, ap, subst}
+use Rattle.std.proofs.Common.{◌≡◌, ℕ, List, ◌∷◌, refl, ◌∙◌, ap}
 use Rattle.std.specs.Prelude.{Option, Some, None, IfSome}
 use Rattle.hive_model.specs.declared.pieces.GameType.{GameType}
 use Rattle.hive_model.specs.declared.places.State.{State}
@@ -7,8 +7,6 @@ use Rattle.hive_model.specs.Fields.{type_bytes, state_bytes}
 use Rattle.hive_model.specs.Strings.{parts}
 use Rattle.move_text.specs.Readers.{type_at, state_at}
 use Rattle.move_text.proofs.FieldLaws.{type_found, type_only, state_found, state_only}
-use Rattle.game_text.specs.declared.faults.GameFault.{GameFault}
-use Rattle.game_text.specs.declared.parsed.Parsed.{Parsed}
 use Rattle.game_text.specs.Reading.{at_state, after_type, at_type, game_at, game_of}
 
 pub type_read : (text : List ℕ) (o : Option GameType) → IfSome o (λ t. text ≡ type_bytes t) → ((t : GameType) → text ≡ type_bytes t → o ≡ Some t) → type_at text ≡ o

@@ -1,6 +1,6 @@
 -- The string of a game is a line that is this game and no other.
-use Rattle.std.proofs.Common.{◌≡◌, ℕ, ◌≤◌, ◌<◌, ◌^◌, Bool, true, false, List, [], ◌∷◌, ◌++◌, length, Result, Ok, Err, refl, sym, ◌∙◌, ap, subst, arith, lit<, ◌+◌, ◌⊎◌, inl, inr}
-use Rattle.std.specs.Prelude.{Option, Some, None}
+use Rattle.std.proofs.Common.{◌≡◌, ℕ, ◌≤◌, ◌<◌, ◌^◌, List, [], ◌∷◌, length, Result, Ok, refl, sym, ◌∙◌, ap, subst, arith, lit<, ◌+◌, inl, inr}
+use Rattle.std.specs.Prelude.{Some}
 use Rattle.hive_model.specs.declared.pieces.GameType.{GameType}
 use Rattle.hive_model.specs.declared.places.Move.{Move}
 use Rattle.hive_model.specs.Boards.{Stacks}
@@ -8,16 +8,12 @@ use Rattle.hive_model.specs.Games.{after, replay}
 use Rattle.hive_model.specs.Legal.{state}
 use Rattle.hive_model.specs.Positions.{Position, opening}
 use Rattle.move_text.specs.declared.faults.MoveFault.{MoveFault}
-use Rattle.hive_model.specs.declared.forms.Form.{Form}
-use Rattle.hive_model.specs.declared.forms.Form.TheVariants.{Passes, Alone, Beside}
-use Rattle.hive_model.specs.Texts.{form_text, IsForm}
+use Rattle.hive_model.specs.declared.forms.Form.TheVariants.{Alone, Beside}
 use Rattle.hive_model.specs.Denotes.{Denotes, text}
-use Rattle.move_text.specs.Moves.{move_of}
 use Rattle.hive_model.specs.Fields.{type_bytes, state_bytes}
-use Rattle.move_text.specs.Readers.{type_at}
 use Rattle.move_text.proofs.FieldLaws.{type_only}
 use Rattle.move_text.proofs.MoveLaws.{of_denotes}
-use Rattle.hive_model.specs.Strings.{parts, joined_on, turn_bytes, texts, string_from, string, DenoteMoves, IsFull, IsGameLine}
+use Rattle.hive_model.specs.Strings.{parts, turn_bytes, texts, string, DenoteMoves, IsFull}
 use Rattle.hive_model.specs.Boards.{StandsWithin}
 use Rattle.hive_model.specs.Games.{AreLegal}
 use Rattle.hive_model.specs.Positions.{IsSound}
@@ -65,12 +61,12 @@ strings t ms legal few =
     let large : 5000 < 2 ^ 64 = lit< tt in
     let small : (replay (opening t) ms).turn < 2 ^ 64 = omega (arith, turn, few, large) in
     inr (record {
-  rest = texts (opening t) ms;
-  parts_are = parts-joined (type_bytes t) (state_bytes (state (replay (opening t) ms)) ∷ (turn_bytes (replay (opening t) ms).side (replay (opening t) ms).turn ∷ texts (opening t) ms))
-      (type_part t) (state_part (state (replay (opening t) ms)), (turn_part (replay (opening t) ms).side (replay (opening t) ms).turn small, texts_parts (opening t) ms spell));
-  denote = texts_denote (opening t) ms spell;
-  legal = legal;
-  few = few;
+      rest = texts (opening t) ms;
+      parts_are = parts-joined (type_bytes t) (state_bytes (state (replay (opening t) ms)) ∷ (turn_bytes (replay (opening t) ms).side (replay (opening t) ms).turn ∷ texts (opening t) ms))
+          (type_part t) (state_part (state (replay (opening t) ms)), (turn_part (replay (opening t) ms).side (replay (opening t) ms).turn small, texts_parts (opening t) ms spell));
+      denote = texts_denote (opening t) ms spell;
+      legal = legal;
+      few = few;
     })
 
 -- A text denotes one move

@@ -6,5 +6,7 @@ pub mod ReadLaws
 pub mod FieldReads
 pub mod OrderLaws
 pub mod LineLaws
+pub mod StopLaws
+pub mod RefusalLaws
 pub mod WriteLaws
 pub mod Rows

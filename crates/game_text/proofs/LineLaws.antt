@@ -1,11 +1,8 @@
 -- A line is read as a game exactly where it is that game.
-use Rattle.std.proofs.Common.{◌≡◌, ◌≢◌, ℕ, ◌+◌, ◌/◌, ◌≤◌, ◌<◌, Bool, true, false, List, [], ◌∷◌, ◌++◌, length, Result, Ok, Err, refl, sym, ◌∙◌, ap, subst, arith, ◌⊎◌, inl, inr}
-use Rattle.std.specs.Prelude.{Option, Some, None, nat_eq, nat_lt, IfOk, IfErr, ◌&&◌, codes, if◌then◌else◌}
-use Rattle.std.specs.Str.{bytes_eq}
+use Rattle.std.proofs.Common.{◌≡◌, ℕ, ◌+◌, ◌≤◌, Bool, true, false, List, [], ◌∷◌, length, Result, Ok, Err, refl, sym, ◌∙◌, ap, subst, arith, inl, inr}
+use Rattle.std.specs.Prelude.{Option, Some, None, nat_eq, nat_lt, IfOk, IfErr, ◌&&◌, if◌then◌else◌}
 use Rattle.std.proofs.lemmas.Bool.{and_parts, eqb-true, eq-eqb, ltb-false, le-ltb}
 use Rattle.std.proofs.lemmas.Slice.Eq.{bytes_eq-Decides}
-use Rattle.hive_model.specs.declared.pieces.Colour.{Colour}
-use Rattle.hive_model.specs.declared.pieces.Colour.TheVariants.{White, Black}
 use Rattle.hive_model.specs.declared.pieces.GameType.{GameType}
 use Rattle.hive_model.specs.declared.places.State.{State}
 use Rattle.hive_model.specs.declared.places.Move.{Move}
@@ -17,7 +14,7 @@ use Rattle.hive_model.specs.Legal.{state}
 use Rattle.hive_model.specs.Games.{after, replay}
 use Rattle.hive_model.specs.Denotes.{Denotes}
 use Rattle.hive_model.specs.Fields.{type_bytes, state_bytes}
-use Rattle.hive_model.specs.Strings.{parts, turn_bytes, DenoteMoves, IsFull, IsGameLine}
+use Rattle.hive_model.specs.Strings.{parts, turn_bytes, DenoteMoves, IsGameLine}
 use Rattle.move_text.specs.Readers.{type_at, state_at}
 use Rattle.move_text.proofs.FieldLaws.{type_found, type_only, state_found, state_only}
 use Rattle.hive_model.proofs.PieceLaws.{same_colour, from_same_colour}
@@ -27,8 +24,9 @@ use Rattle.game_text.specs.declared.faults.GameFault.{GameFault}
 use Rattle.game_text.specs.declared.faults.GameFault.TheVariants.{Malformed, TooLong, BadMove, IllegalMove, OtherState, OtherTurn, Memory}
 use Rattle.game_text.specs.declared.parsed.Parsed.{Parsed}
 use Rattle.game_text.specs.declared.turns.Turn.{Turn}
-use Rattle.game_text.specs.Turns.{IsTurn, turn_at}
+use Rattle.game_text.specs.Turns.{turn_at}
 use Rattle.game_text.specs.Reading.{moves_of, Fails, Agrees, first_empty, is_state, is_turn_of, confirmed, at_moves, at_turn, after_state, at_state, after_type, at_type, game_at, game_of}
+use Rattle.game_text.specs.Refusals.{HasParts}
 use Rattle.game_text.proofs.PartLaws.{parts-joined, type_part}
 use Rattle.game_text.proofs.TurnLaws.{turn_found, turn_again}
 use Rattle.game_text.proofs.FieldReads.{first}
@@ -36,7 +34,7 @@ use Rattle.game_text.proofs.OrderLaws.{moves_found, moves_again, denoted_size}
 
 -- A line of one part
 
-no_parts : (line : List ℕ) → parts line ≡ [] → ⊥
+pub no_parts : (line : List ℕ) → parts line ≡ [] → ⊥
 unfolding parts
 no_parts [] e = cc
 no_parts (b ∷ bs) e = go (nat_eq b 59) (parts bs) e
@@ -77,12 +75,6 @@ pub is_turn_itself : (u : Turn) (p : Position) → u.side ≡ p.side → u.numbe
 is_turn_itself u p e f = ap (λ c. is_colour c p.side && nat_eq u.number p.turn) e ∙ ap (λ t. t && nat_eq u.number p.turn) (from_same_colour p.side p.side refl) ∙ eq-eqb u.number p.turn f
 
 -- What was read is the line's game
-
--- the parts of a line, as the fields that they were read as
-pub record HasParts (line : List ℕ) (t : GameType) (s : State) (u : Turn) (rest : List (List ℕ)) : Type 0 where
-  pub parts_are : parts line ≡ type_bytes t ∷ (state_bytes s ∷ (turn_bytes u.side u.number ∷ rest))
-  pub low : 1 ≤ u.number
-  pub high : u.number ≤ 999999999
 
 confirmed_found : (line : List ℕ) (t : GameType) (s : State) (u : Turn) (rest : List (List ℕ)) (g : Parsed) → HasParts line t s u rest → length rest ≤ 5000
     → (r : Result (List Move) GameFault) → moves_of (opening t) rest 1 ≡ r → confirmed t s u r ≡ Ok g → IsGameLine line g.game_type g.moves

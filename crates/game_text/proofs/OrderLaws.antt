@@ -1,5 +1,5 @@
 -- The moves are read exactly where the texts denote legal moves.
-use Rattle.std.proofs.Common.{◌≡◌, ℕ, ◌+◌, ◌≤◌, ◌<◌, suc, Bool, true, false, List, [], ◌∷◌, ◌++◌, length, Result, Ok, Err, refl, sym, ◌∙◌, ap, subst, arith}
+use Rattle.std.proofs.Common.{◌≡◌, ℕ, ◌+◌, ◌≤◌, ◌<◌, Bool, true, false, List, [], ◌∷◌, length, Result, Ok, Err, refl, ◌∙◌, ap, subst, arith}
 use Rattle.hive_model.specs.declared.places.Move.{Move}
 use Rattle.hive_model.specs.Lists.{IsOn}
 use Rattle.hive_model.specs.Boards.{StandsWithin}
@@ -28,8 +28,8 @@ moves_found p [] n k ms is within low h = let same : [] ≡ ms = cc in subst (Re
 moves_found p (x ∷ xs) n k ms is within low h = go (move_of p.game_type p.board x) refl h (λ m sound next ok rest e. moves_found (after p m) xs (n + 1) (k + 1) rest sound next ok e)
   where
     go : (r : Result Move MoveFault) → move_of p.game_type p.board x ≡ r
-      → on_move r n (λ m. if_legal (is_listed p m) n (prefixed (m ∷ []) (moves_of (after p m) xs (n + 1)))) ≡ Ok ms
-      → ((m : Move) → IsSound (after p m) → StandsWithin (k + 1) (after p m).board → k + 1 + length xs ≤ 9000 → (rest : List Move) → moves_of (after p m) xs (n + 1) ≡ Ok rest → Reads (after p m) xs rest) → Reads p (x ∷ xs) ms
+        → on_move r n (λ m. if_legal (is_listed p m) n (prefixed (m ∷ []) (moves_of (after p m) xs (n + 1)))) ≡ Ok ms
+        → ((m : Move) → IsSound (after p m) → StandsWithin (k + 1) (after p m).board → k + 1 + length xs ≤ 9000 → (rest : List Move) → moves_of (after p m) xs (n + 1) ≡ Ok rest → Reads (after p m) xs rest) → Reads p (x ∷ xs) ms
     go (Err fault) e j more = absurd (cc)
     go (Ok m) e j more = legal (is_listed p m) refl j
       where

@@ -1,8 +1,8 @@
 -- Parts, joined and taken apart.
-use Rattle.std.proofs.Common.{◌≡◌, ◌≢◌, ℕ, suc, zero, ◌+◌, ◌-◌, ◌*◌, ◌/◌, ◌%◌, ◌^◌, ◌≤◌, ◌<◌, Bool, true, false, List, [], ◌∷◌, ◌++◌, length, take, drop, get_or, refl, sym, ◌∙◌, ap, subst, arith, ◌⊎◌, inl, inr}
-use Rattle.std.specs.Prelude.{Option, Some, None, nat_eq, nat_le, nat_lt, ◌&&◌, not, codes, decimal, if◌then◌else◌}
+use Rattle.std.proofs.Common.{◌≡◌, ◌≢◌, ℕ, suc, zero, ◌+◌, ◌%◌, ◌^◌, ◌≤◌, ◌<◌, Bool, true, false, List, [], ◌∷◌, ◌++◌, length, take, drop, get_or, refl, sym, ◌∙◌, ap, subst, arith}
+use Rattle.std.specs.Prelude.{nat_eq, ◌&&◌, not, codes, decimal, if◌then◌else◌}
 use Rattle.std.specs.List.{list_all}
-use Rattle.std.proofs.lemmas.Bool.{ne_eqb, leb-true, eqb-true}
+use Rattle.std.proofs.lemmas.Bool.{ne_eqb}
 use Rattle.std.proofs.lemmas.Fmt.{decimal_by_steps}
 use Rattle.hive_model.specs.declared.pieces.Colour.{Colour}
 use Rattle.hive_model.specs.declared.pieces.Colour.TheVariants.{White, Black}
@@ -20,7 +20,7 @@ use Rattle.hive_model.specs.declared.forms.Form.{Form}
 use Rattle.hive_model.specs.declared.forms.Form.TheVariants.{Passes, Alone, Beside}
 use Rattle.hive_model.specs.Texts.{piece_text, stroke_code, destination, form_text, IsForm}
 use Rattle.hive_model.specs.Fields.{added, type_bytes, state_bytes}
-use Rattle.hive_model.specs.Strings.{parts, joined_on, side_name, turn_bytes}
+use Rattle.hive_model.specs.Strings.{parts, joined_on, turn_bytes}
 use Rattle.hive_model.specs.Lists.{onto}
 
 -- without a semicolon

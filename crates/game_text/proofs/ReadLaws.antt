@@ -1,5 +1,5 @@
 -- Reading the moves one after the other.
-use Rattle.std.proofs.Common.{◌≡◌, ℕ, ◌+◌, ◌-◌, ◌≤◌, Bool, true, false, List, [], ◌∷◌, ◌++◌, length, Result, Ok, Err, refl, sym, ◌∙◌, ap, subst, arith, append_assoc}
+use Rattle.std.proofs.Common.{◌≡◌, ℕ, ◌+◌, ◌≤◌, Bool, false, List, [], ◌∷◌, ◌++◌, length, Result, Ok, Err, refl, sym, ◌∙◌, ap, subst, arith, append_assoc}
 use Rattle.std.specs.Prelude.{Option, Some, None, MatchOption}
 use Rattle.hive_model.specs.declared.pieces.GameType.{GameType}
 use Rattle.hive_model.specs.declared.places.Move.{Move}
@@ -92,7 +92,7 @@ begins c front ps none fresh few room =
     same (Err fault) = refl
 
 pub goes_on : (c d e : Course) (t : GameType) (front front2 : List Move) (x : List ℕ) (ps rest : List (List ℕ)) (n n2 : ℕ) (m k : Move) (read : Result (List Move) GameFault)
-  → ps ≡ x ∷ rest → d ≡ c → e ≡ with_move d k → k ≡ m → front2 ≡ front ++ m ∷ [] → n2 ≡ n + 1 → Plays (position c) x m → IsUnderWay c t front ps n read → IsUnderWay e t front2 rest n2 read
+    → ps ≡ x ∷ rest → d ≡ c → e ≡ with_move d k → k ≡ m → front2 ≡ front ++ m ∷ [] → n2 ≡ n + 1 → Plays (position c) x m → IsUnderWay c t front ps n read → IsUnderWay e t front2 rest n2 read
 goes_on c d e t front front2 x ps rest n n2 m k read split same next one longer more plays h =
     let course : e ≡ with_move c m = next ∙ ap (λ z. with_move z k) same ∙ ap (with_move c) one in
     let place : position (with_move c m) ≡ after (position c) m = replay_more (opening c.game_type) c.made m in
@@ -103,8 +103,8 @@ goes_on c d e t front front2 x ps rest n n2 m k read split same next one longer 
     let room = h.room in
     subst (λ z. IsUnderWay z t front2 rest n2 read) (sym course) (record {
       rest = ap (λ f. prefixed f (moves_of (position (with_move c m)) rest n2)) longer ∙ ap (λ z. prefixed (front ++ m ∷ []) (moves_of z rest n2)) place
-        ∙ ap (λ j. prefixed (front ++ m ∷ []) (moves_of (after (position c) m) rest j)) more
-        ∙ sym (step_ok front (position c) x rest n m plays) ∙ ap (λ z. prefixed front (moves_of (position c) z n)) (sym split) ∙ h.rest;
+          ∙ ap (λ j. prefixed (front ++ m ∷ []) (moves_of (after (position c) m) rest j)) more
+          ∙ sym (step_ok front (position c) x rest n m plays) ∙ ap (λ z. prefixed front (moves_of (position c) z n)) (sym split) ∙ h.rest;
       kind = h.kind;
       made = ap (λ ms. ms ++ m ∷ []) h.made ∙ sym longer;
       legal = legal_more (opening c.game_type) c.made m h.legal plays.legal;
@@ -148,7 +148,7 @@ fails_made OtherState read e = e
 fails_made OtherTurn read e = e
 
 pub fails_here : (c : Course) (t : GameType) (front : List Move) (x : List ℕ) (ps rest : List (List ℕ)) (n : ℕ) (fault : GameFault) (read : Result (List Move) GameFault)
-  → ps ≡ x ∷ rest → IsMoveFault (position c) x n fault → IsUnderWay c t front ps n read → Fails fault read
+    → ps ≡ x ∷ rest → IsMoveFault (position c) x n fault → IsUnderWay c t front ps n read → Fails fault read
 fails_here c t front x ps rest n fault read split h way =
     fails_made fault read (sym way.rest ∙ ap (prefixed front) (ap (λ z. moves_of (position c) z n) split ∙ fault_is (position c) x rest n fault h))
 

@@ -1,5 +1,5 @@
 -- Numbers and turns are read exactly.
-use Rattle.std.proofs.Common.{◌≡◌, ℕ, suc, zero, ◌+◌, ◌^◌, ◌≤◌, ◌<◌, Bool, true, false, List, [], ◌∷◌, ◌++◌, refl, sym, ◌∙◌, ap, subst, arith, lit<, lit≤}
+use Rattle.std.proofs.Common.{◌≡◌, ℕ, ◌^◌, ◌≤◌, ◌<◌, Bool, true, false, List, [], ◌∷◌, ◌++◌, refl, sym, ◌∙◌, ap, subst, arith, lit<}
 use Rattle.std.specs.Prelude.{Option, Some, None, IfSome, option_map, ◌&&◌, nat_eq, nat_le, codes, decimal, if◌then◌else◌}
 use Rattle.std.specs.Str.{bytes_eq}
 use Rattle.std.specs.Str.Parse.{digits_value}
@@ -17,7 +17,7 @@ pub number_found : (text : List ℕ) (least most n : ℕ) → number_at text lea
 number_found text least most n h = go (bytes_eq (decimal (digits_value 10 text)) text) (nat_le least (digits_value 10 text)) (nat_le (digits_value 10 text) most) refl refl refl h
   where
     go : (s t u : Bool) → bytes_eq (decimal (digits_value 10 text)) text ≡ s → nat_le least (digits_value 10 text) ≡ t → nat_le (digits_value 10 text) most ≡ u
-      → (if s && (t && u) then Some (digits_value 10 text) else None) ≡ Some n → IsNumberText text least most n
+        → (if s && (t && u) then Some (digits_value 10 text) else None) ≡ Some n → IsNumberText text least most n
     go true true true e f g k = let same : digits_value 10 text ≡ n = cc in
         subst (IsNumberText text least most) same (record { digits = sym ((bytes_eq-Decides _ _).0 e); low = leb-true _ _ f; high = leb-true _ _ g })
     go true true false e f g k = absurd (cc)

@@ -1,11 +1,10 @@
 -- The moves of a game, played again and written one after the other.
-use Rattle.std.proofs.Common.{◌≡◌, ℕ, zero, suc, ◌+◌, ◌-◌, ◌≤◌, ◌<◌, List, [], ◌∷◌, ◌++◌, length, take, drop, refl, sym, ◌∙◌, ap, subst, arith, append_assoc}
-use Rattle.std.specs.Prelude.{Option, Some, None, slice_get, map}
-use Rattle.hive_model.specs.declared.pieces.GameType.{GameType}
+use Rattle.std.proofs.Common.{◌≡◌, ℕ, zero, suc, ◌+◌, ◌≤◌, ◌<◌, List, [], ◌∷◌, ◌++◌, length, take, drop, refl, sym, ◌∙◌, ap, subst, arith, append_assoc}
+use Rattle.std.specs.Prelude.{Some, slice_get, map}
 use Rattle.hive_model.specs.declared.places.Move.{Move}
 use Rattle.hive_model.specs.Lists.{IsOn}
 use Rattle.hive_model.specs.Positions.{Position, IsSound, opening}
-use Rattle.hive_model.specs.Legal.{IsLegal, moves}
+use Rattle.hive_model.specs.Legal.{moves}
 use Rattle.hive_model.specs.Games.{after, replay, AreLegal, IsGame}
 use Rattle.hive_model.specs.Denotes.{text}
 use Rattle.hive_model.specs.Courses.{Course, position, with_move}
@@ -165,8 +164,8 @@ copy_on g c d i j done done2 m h at less next up more =
       legal = h.legal;
       few = h.few;
       written = (λ k. more k ++ texts (place k) (drop (up k) g.made))
-        ∙ append_assoc done (text (position c).board m ∷ []) (texts (after (position c) m) (drop (i + 1) g.made))
-        ∙ ap (λ ms. done ++ texts (position c) ms) (sym (dropped_next g.made i m at)) ∙ h.written;
+          ∙ append_assoc done (text (position c).board m ∷ []) (texts (after (position c) m) (drop (i + 1) g.made))
+          ∙ ap (λ ms. done ++ texts (position c) ms) (sym (dropped_next g.made i m at)) ∙ h.written;
     })
 
 pub copy_ends : (g c : Course) (i : ℕ) (done : List (List ℕ)) → IsCopying g c i done → length g.made ≤ i → done ≡ texts (opening g.game_type) g.made

@@ -1,9 +1,13 @@
 -- The laws of game strings.
-use Rattle.std.specs.Prelude.{◌≡◌, ℕ, ◌≤◌, List, length}
+use Rattle.std.specs.Prelude.{◌≡◌, ℕ, ◌≤◌, List, length, Ok, Err, ◌↔◌}
 use Rattle.hive_model.specs.declared.pieces.GameType.{GameType}
 use Rattle.hive_model.specs.declared.places.Move.{Move}
 use Rattle.hive_model.specs.Games.{IsGame}
 use Rattle.hive_model.specs.Strings.{string, IsGameLine}
+use Rattle.game_text.specs.declared.faults.GameFault.{GameFault}
+use Rattle.game_text.specs.declared.parsed.Parsed.{Parsed}
+use Rattle.game_text.specs.Reading.{game_of}
+use Rattle.game_text.specs.Refusals.{IsRefused}
 
 -- the string of a game of at most 5,000 moves is a line that is this game
 abbrev pub StringsAreGames : Type 0
@@ -12,3 +16,11 @@ StringsAreGames = (t : GameType) (ms : List Move) → IsGame t ms → length ms 
 -- a line is at most one game
 abbrev pub IsOneGame : Type 0
 IsOneGame = (line : List ℕ) (t u : GameType) (ms ns : List Move) → IsGameLine line t ms → IsGameLine line u ns → (t ≡ u) × (ms ≡ ns)
+
+-- the function that reads a line answers a game exactly where the line is that game
+abbrev pub GamesAreRead : Type 0
+GamesAreRead = (line : List ℕ) (g : Parsed) → (game_of line ≡ Ok g) ↔ IsGameLine line g.game_type g.moves
+
+-- and a fault exactly where the line is refused with that fault
+abbrev pub FaultsAreRead : Type 0
+FaultsAreRead = (line : List ℕ) (fault : GameFault) → (game_of line ≡ Err fault) ↔ IsRefused line fault

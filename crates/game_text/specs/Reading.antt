@@ -61,7 +61,7 @@ abbrev pub confirmed : GameType → State → Turn → Result (List Move) GameFa
 confirmed t s u (Err fault) = Err fault
 confirmed t s u (Ok ms) =
     if is_state s (state (replay (opening t) ms)) then
-      (if is_turn_of u (replay (opening t) ms) then Ok (record { game_type = t; moves = ms }) else Err OtherTurn)
+    (if is_turn_of u (replay (opening t) ms) then Ok (record { game_type = t; moves = ms }) else Err OtherTurn)
     else Err OtherState
 
 abbrev pub at_moves : GameType → State → Turn → List (List ℕ) → Option ℕ → Result Parsed GameFault

@@ -11,7 +11,7 @@ mod turns;
 mod writing;
 
 pub use faults::GameFault;
-pub use laws::{strings_are_games, lines_are_one_game};
+pub use laws::{lines_are_one_game, lines_are_read, strings_are_games};
 pub use parsed::Parsed;
 pub use reading::read_game;
 pub use texts::MoveTexts;

@@ -1,6 +1,6 @@
 //! Reading a line as a game.
 
-ghost use Rattle.std.specs.Prelude.{◌≡◌, ◌<◌, ◌≤◌, ◌+◌, ◌∷◌, [], List, length, None, Some, Ok, Err, IfOk, IfErr};
+ghost use Rattle.std.specs.Prelude.{◌≡◌, ◌<◌, ◌≤◌, ◌+◌, ◌∷◌, [], ◌⊎◌, List, length, None, Some, Ok, Err, IfOk, IfErr};
 ghost use Rattle.hive_model.specs.Boards.{IsBoard};
 ghost use Rattle.hive_model.specs.Positions.{opening};
 ghost use Rattle.hive_model.specs.Courses.{position};
@@ -8,6 +8,7 @@ ghost use Rattle.hive_model.specs.Games.{IsGame};
 ghost use Rattle.hive_model.specs.Strings.{parts, IsGameLine};
 ghost use Rattle.hive_model.specs.declared.pieces.GameType.{GameType as AnyType};
 ghost use Rattle.hive_model.specs.declared.places.Move.{Move as AnyMove};
+ghost use Rattle.game_text.specs.Refusals.{IsRefused};
 ghost use Rattle.game_text.specs.Reading.{moves_of, confirmed, at_moves, after_state, after_type, game_of, Fails, Agrees, Plays, IsMoveFault, first_empty};
 
 use crate::faults::GameFault;
@@ -109,7 +110,11 @@ fn confirm_opening<G: Game + Drop>(alloc: Global, declared: Declared) -> Result<
 }
 
 /// The game with room for so many plies, in which none was played.
-fn opening_for<G: Game + Drop>(alloc: Global, game_type: GameType, plies: u32) -> Result<G, GameFault>
+fn opening_for<G: Game + Drop>(
+    alloc: Global,
+    game_type: GameType,
+    plies: u32,
+) -> Result<G, GameFault>
     requires { plies ≤ 5000 }
     ensures kind { IfOk result (λ g. (G.course g).game_type ≡ game_type) }
     ensures fresh { IfOk result (λ g. (G.course g).made ≡ []) }
@@ -126,7 +131,11 @@ fn opening_for<G: Game + Drop>(alloc: Global, game_type: GameType, plies: u32) -
 }
 
 /// A line whose parts from the fourth on are those of the text.
-fn read_moves<G: Game + Drop>(alloc: Global, declared: Declared, text: &[u8]) -> Result<Parsed, GameFault>
+fn read_moves<G: Game + Drop>(
+    alloc: Global,
+    declared: Declared,
+    text: &[u8],
+) -> Result<Parsed, GameFault>
     requires { length text.now ≤ 65536 }
     ensures { Agrees result (at_moves declared.game_type declared.state declared.turn (parts text.now) (first_empty (parts text.now) 4)) }
 {
@@ -173,7 +182,11 @@ fn read_turn_on<G: Game + Drop>(
 }
 
 /// A line whose parts from the second on are those of the text.
-fn read_state_on<G: Game + Drop>(alloc: Global, game_type: GameType, text: &[u8]) -> Result<Parsed, GameFault>
+fn read_state_on<G: Game + Drop>(
+    alloc: Global,
+    game_type: GameType,
+    text: &[u8],
+) -> Result<Parsed, GameFault>
     requires { length text.now ≤ 65536 }
     ensures { Agrees result (after_type game_type (parts text.now)) }
 {
@@ -224,6 +237,7 @@ pub fn read_game<G: Game + Drop>(alloc: Global, text: &[u8]) -> Result<Parsed, G
     requires { length text.now ≤ 65536 }
     ensures game { IfOk result (λ g. IsGameLine text.now g.game_type g.moves) }
     ensures only { (t : AnyType) (ms : List AnyMove) → IsGameLine text.now t ms → IfErr result (λ fault. fault ≡ GameFault.Memory) }
+    ensures refused { IfErr result (λ fault. (fault ≡ GameFault.Memory) ⊎ IsRefused text.now fault) }
     ensures value { IfOk result (λ g. game_of text.now ≡ Ok g) }
     ensures err { IfErr result (λ fault. Fails fault (game_of text.now)) }
 {

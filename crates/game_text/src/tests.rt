@@ -1,9 +1,9 @@
 //! The turn of a line, the string of kept moves, and the words of each fault.
 
-ghost use Rattle.std.specs.Prelude.{◌≡◌};
+ghost use Rattle.std.specs.Prelude.{◌≡◌, pos};
 
 use crate::turns::{Turn, read_turn};
-use crate::{GameFault, MoveTexts, lines_are_one_game, strings_are_games};
+use crate::{GameFault, MoveTexts, lines_are_one_game, lines_are_read, strings_are_games};
 use hive_model::{Board, Colour, GameType, Move, Piece, Place, ReplyText, State};
 use move_text::MoveFault;
 use stack_board::PlainBoard;
@@ -20,7 +20,7 @@ fn turn(side: Colour, number: u64) -> Option<Turn> {
 }
 
 fn spider_to_origin() -> Move
-    ensures { result ≡ Move.To 1 record { q = 0; r = 0 } }
+    ensures { result ≡ Move.To 1 record { q = pos 0; r = pos 0 } }
 {
     Move::To {
         piece: Piece::at(1),
@@ -60,24 +60,35 @@ fn writes_kept_texts(rt: HostRuntime) -> Result<(), Fail> {
     assert_eq!(rt; out.items(), b"Base+M;InProgress;Black[1];wS1".as_slice());
     strings_are_games();
     lines_are_one_game();
+    lines_are_read();
     Ok(())
 }
 
 #[test]
-fn tells_each_fault(rt: HostRuntime) {
+fn tells_each_fault(rt: HostRuntime) -> Result<(), Fail> {
     let fault = MoveFault::NoSuchPiece;
     for (fault, wanted) in [
-        (GameFault::Malformed { part: 3 }, "part 3 is absent or not of its form"),
+        (
+            GameFault::Malformed { part: 3 },
+            "part 3 is absent or not of its form",
+        ),
         (GameFault::TooLong, "more than 5000 moves"),
         (
             GameFault::BadMove { number: 2, fault },
             "move 2: the game type does not have the moving piece",
         ),
         (GameFault::IllegalMove { number: 4 }, "move 4 is not legal"),
-        (GameFault::OtherState, "the declared state is not that of the game"),
-        (GameFault::OtherTurn, "the declared turn is not that of the game"),
+        (
+            GameFault::OtherState,
+            "the declared state is not that of the game",
+        ),
+        (
+            GameFault::OtherTurn,
+            "the declared turn is not that of the game",
+        ),
         (GameFault::Memory, "out of memory"),
     ] {
-        assert_eq!(rt; format!("{fault}"), wanted);
+        assert_eq!(rt; format!(in rt.alloc(); "{fault}")?.as_str(), wanted);
     }
+    Ok(())
 }

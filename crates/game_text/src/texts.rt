@@ -84,7 +84,13 @@ impl MoveTexts {
     }
 
     /// The string of a game.
-    fn joined(&self, game_type: GameType, state: State, side: Colour, turn: u32) -> Result<ReplyText, AllocError>
+    fn joined(
+        &self,
+        game_type: GameType,
+        state: State,
+        side: Colour,
+        turn: u32,
+    ) -> Result<ReplyText, AllocError>
         ensures { IfOk result (λ r. r ≡ joined_on (type_bytes game_type) (state_bytes state ∷ (turn_bytes side turn ∷ self.now))) }
     {
         let mut text = head(self.alloc, game_type, state, side, turn)?;

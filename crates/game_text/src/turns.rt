@@ -20,7 +20,9 @@ fn white_turn(text: &[u8]) -> Option<u64>
     ensures only { (n : ℕ) (digits : List ℕ) → text.now ≡ codes "White[" ++ (digits ++ 93 ∷ []) → IsNumberText digits 1 999999999 n → result ≡ Some n }
 {
     match text {
-        [b'W', b'h', b'i', b't', b'e', b'[', digits @ .., b']'] => read_number(digits, 1, 999999999),
+        [b'W', b'h', b'i', b't', b'e', b'[', digits @ .., b']'] => read_number(
+            digits, 1, 999999999,
+        ),
         _ => None,
     }
 }
@@ -31,7 +33,9 @@ fn black_turn(text: &[u8]) -> Option<u64>
     ensures only { (n : ℕ) (digits : List ℕ) → text.now ≡ codes "Black[" ++ (digits ++ 93 ∷ []) → IsNumberText digits 1 999999999 n → result ≡ Some n }
 {
     match text {
-        [b'B', b'l', b'a', b'c', b'k', b'[', digits @ .., b']'] => read_number(digits, 1, 999999999),
+        [b'B', b'l', b'a', b'c', b'k', b'[', digits @ .., b']'] => read_number(
+            digits, 1, 999999999,
+        ),
         _ => None,
     }
 }

@@ -29,7 +29,11 @@ pub fn texts_of<G: Game + Drop>(alloc: Global, game: &G) -> Result<MoveTexts, Al
 /// Appends the game's string: its type, its state, its turn and its moves, joined by semicolons, each move in its one spelling on the
 /// board before it. The moves are played once again, on a game of the same kind that is made for it. After want of memory nothing
 /// was appended.
-pub fn write_game<G: Game + Drop>(alloc: Global, game: &G, out: &mut ReplyText) -> Result<(), AllocError>
+pub fn write_game<G: Game + Drop>(
+    alloc: Global,
+    game: &G,
+    out: &mut ReplyText,
+) -> Result<(), AllocError>
     ensures written { OnOk result (out.new ≡ out.old ++ string (G.course game.now).game_type (G.course game.now).made) }
     ensures refused { OnErr result (out.new ≡ out.old) }
 {

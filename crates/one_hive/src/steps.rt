@@ -5,7 +5,7 @@ ghost use Rattle.std.specs.Prelude.{◌≡◌, ◌+◌, ◌<◌};
 use std::marker::Model;
 use std::sync::ledger::{Blank, Book, Ledger, Share};
 
-/// How many walks were made, seen as a number. It takes no bytes, and nothing but `walk_is_cut` raises it.
+/// How often `walk_is_cut` was called, seen as a number. It takes no bytes, and nothing else raises it.
 #[derive(Drop)]
 pub struct Steps<L: Ledger> {
     book: Book<L>,

@@ -1,4 +1,4 @@
-use Rattle.std.proofs.Common.{rules, [], Ok}
+use Rattle.std.proofs.Common.{rules}
 use Rattle.game_text.specs.Reading.{moves_of}
 use Rattle.game_text.proofs.reading.confirm_opening.Goals as goal
 

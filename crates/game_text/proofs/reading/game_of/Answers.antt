@@ -1,4 +1,4 @@
-use Rattle.std.proofs.Common.{rules, ◌≡◌, ◌∷◌, ◌∙◌, [], ap, Ok, sym, subst, Bor, List, ℕ}
+use Rattle.std.proofs.Common.{◌≡◌, ◌∷◌, ◌∙◌, [], ap, Ok, sym, subst, Bor, List, ℕ}
 use Rattle.game_text.specs.declared.parsed.Parsed.{Parsed}
 use Rattle.hive_model.specs.Strings.{parts}
 use Rattle.game_text.specs.Reading.{Agrees}

@@ -1,4 +1,4 @@
-use Rattle.std.proofs.Common.{rules, ◌≡◌, ◌≤◌, ◌<◌, refl, arith, [], ◌∷◌, ◌++◌, ◌+◌, length, Bor, List, ℕ}
+use Rattle.std.proofs.Common.{rules, ◌≡◌, ◌<◌, refl, arith, [], ◌∷◌, ◌++◌, ◌+◌, length, Bor, List, ℕ}
 use Rattle.hive_model.specs.Strings.{parts}
 use Rattle.game_text.proofs.ReadLaws.{goes_on, ends, sound_here, fails_here, match_none, match_some, match_split}
 use Rattle.game_text.proofs.reading.play_moves.Goals as goal
@@ -16,8 +16,8 @@ returns-in-None-clause-moves g c =
     let split = match_none c.cut.result.1 (parts c.parts.rest.now ≡ c.cut.result.0.now ∷ []) (λ (r : Bor (List ℕ)). parts c.parts.rest.now ≡ c.cut.result.0.now ∷ parts r.now) c.in-None.is c.cut.ensures.parts in
     let pushed : c.push.new.self ≡ c.parts.moves ++ c.in-Ok.m ∷ [] = search rules in
     ends (g.G.Game.course c.play.new.self) _ c.push.new.self (c.parts.number + 1) _
-        (goes_on (g.G.Game.course c.parts.game) (g.G.Game.course c.one_move.new.game) (g.G.Game.course c.play.new.self) _ c.parts.moves c.push.new.self c.cut.result.0.now (parts c.parts.rest.now) []
-          c.parts.number (c.parts.number + 1) c.in-Ok.m c.again.result _ split c.in-Ok.ensures.same c.play.ensures.moved c.again.ensures pushed refl c.in-Ok.ensures.ok c.parts.invariant.way)
+    (goes_on (g.G.Game.course c.parts.game) (g.G.Game.course c.one_move.new.game) (g.G.Game.course c.play.new.self) _ c.parts.moves c.push.new.self c.cut.result.0.now (parts c.parts.rest.now) []
+    c.parts.number (c.parts.number + 1) c.in-Ok.m c.again.result _ split c.in-Ok.ensures.same c.play.ensures.moved c.again.ensures pushed refl c.in-Ok.ensures.ok c.parts.invariant.way)
 
 pub parts-preserved : goal.parts-preserved
 parts-preserved g c =

@@ -1,4 +1,4 @@
-use Rattle.std.proofs.Common.{◌≡◌, ◌≤◌, ◌+◌, length}
+use Rattle.std.proofs.Common.{◌≤◌, ◌+◌, length}
 use Rattle.hive_model.specs.Positions.{opening}
 use Rattle.hive_model.specs.Strings.{parts}
 use Rattle.game_text.specs.Reading.{moves_of}

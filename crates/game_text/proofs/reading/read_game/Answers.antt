@@ -1,4 +1,5 @@
 use Rattle.game_text.proofs.LineLaws.{agrees_line, agrees_only, agrees_ok, agrees_err}
+use Rattle.game_text.proofs.RefusalLaws.{agrees_refused}
 use Rattle.game_text.proofs.reading.read_game.Goals as goal
 
 pub returns-clause-game : goal.returns-clause-game
@@ -12,3 +13,6 @@ returns-clause-value g c = agrees_ok c.args.text.now c.game_of.result c.game_of.
 
 pub returns-clause-err : goal.returns-clause-err
 returns-clause-err g c = agrees_err c.args.text.now c.game_of.result c.game_of.ensures
+
+pub returns-clause-refused : goal.returns-clause-refused
+returns-clause-refused g c = agrees_refused c.args.text.now c.game_of.result c.game_of.ensures

@@ -1,7 +1,5 @@
-use Rattle.std.proofs.Common.{rules, ◌≡◌, ◌+◌, ◌<◌, length, ◌∷◌, ◌++◌, ◌∙◌, [], sym, ap, refl, subst}
+use Rattle.std.proofs.Common.{rules, ◌≡◌, ◌+◌, ◌<◌, length, ◌∷◌, ◌++◌, ◌∙◌, [], sym, refl, subst}
 use Rattle.hive_model.specs.Boards.{IsBoard}
-use Rattle.hive_model.specs.Lists.{IsOn}
-use Rattle.hive_model.specs.Legal.{moves}
 use Rattle.hive_model.specs.Denotes.{text}
 use Rattle.hive_model.specs.Courses.{position}
 use Rattle.move_text.specs.Moves.{IsMoveWithin}
@@ -28,4 +26,4 @@ loop-i-preserved g c =
     let pushed : c.push.new.self ≡ c.loop-i.texts ++ text (g.G.Board.stacks c.loop-i.copy) c.again.result ∷ [] = search rules in
     let more : c.push.new.self ≡ c.loop-i.texts ++ text (position (g.G.Game.course c.loop-i.copy)).board c.move_at-m.result ∷ [] = pushed ∙ (λ j. c.loop-i.texts ++ text (board j) (c.again.ensures j) ∷ []) in
     copy_on (g.G.Game.course c.args.game.now) (g.G.Game.course c.loop-i.copy) (g.G.Game.course c.play.new.self) c.loop-i.i (c.loop-i.i + 1) c.loop-i.texts c.push.new.self c.move_at-m.result c.loop-i.invariant c.move_at-m.ensures
-      less c.play.ensures.moved refl more
+    less c.play.ensures.moved refl more

@@ -1,4 +1,4 @@
-use Rattle.std.proofs.Common.{rules, ◌≡◌, ◌++◌, ◌∙◌, ap, sym}
+use Rattle.std.proofs.Common.{rules}
 use Rattle.hive_model.specs.Strings.{string}
 use Rattle.game_text.proofs.writing.write_game.Goals as goal
 

@@ -1,4 +1,4 @@
-use Rattle.std.proofs.Common.{rules, refl, ◌≡◌, ◌∷◌, ◌++◌, ◌∙◌, sym, ap}
+use Rattle.std.proofs.Common.{rules, refl, ◌≡◌, ◌∷◌, ◌++◌}
 use Rattle.std.specs.Prelude.{map, slice_get, Some}
 use Rattle.hive_model.specs.Fields.{type_bytes, state_bytes}
 use Rattle.hive_model.specs.Strings.{turn_bytes}
@@ -20,4 +20,4 @@ returns c =
     let start : c.in_ok-text.text ≡ (type_bytes c.args.game_type ++ 59 ∷ state_bytes c.args.state) ++ 59 ∷ turn_bytes c.args.side c.args.turn = search rules in
     let seen : map (λ t. t.bytes) c.deref-part-items.result.now ≡ c.args.self.now = search rules in
     parts_end (λ t. t.bytes) c.deref-part-items.result.now c.loop-part.part-index (type_bytes c.args.game_type) (state_bytes c.args.state) (turn_bytes c.args.side c.args.turn) c.loop-part.text c.in_ok-text.text c.args.self.now
-      c.loop-part-test.false c.loop-part.invariant start seen
+    c.loop-part-test.false c.loop-part.invariant start seen

@@ -1,0 +1,147 @@
+-- When a line is no game: each fault in the rule's own words, exactly where no earlier one stands.
+use Rattle.std.specs.Prelude.{◌≡◌, ◌≢◌, ℕ, ◌+◌, ◌≤◌, ◌<◌, List, [], ◌∷◌, ◌++◌, length, ◌⊎◌}
+use Rattle.hive_model.specs.declared.pieces.GameType.{GameType}
+use Rattle.hive_model.specs.declared.places.State.{State}
+use Rattle.hive_model.specs.declared.places.Move.{Move}
+use Rattle.hive_model.specs.Lists.{IsOn}
+use Rattle.hive_model.specs.Positions.{opening}
+use Rattle.hive_model.specs.Legal.{state, moves}
+use Rattle.hive_model.specs.Games.{replay, IsGame}
+use Rattle.hive_model.specs.Denotes.{Denotes}
+use Rattle.hive_model.specs.Fields.{type_bytes, state_bytes}
+use Rattle.hive_model.specs.Strings.{parts, turn_bytes, DenoteMoves}
+use Rattle.move_text.specs.declared.faults.MoveFault.{MoveFault}
+use Rattle.move_text.specs.Faults.{Refuses}
+use Rattle.game_text.specs.declared.faults.GameFault.{GameFault}
+use Rattle.game_text.specs.declared.faults.GameFault.TheVariants.{Malformed, TooLong, BadMove, IllegalMove, OtherState, OtherTurn, Memory}
+use Rattle.game_text.specs.declared.turns.Turn.{Turn}
+use Rattle.game_text.specs.Turns.{IsTurn}
+
+-- the first part is no type
+pub record IsNoType (line : List ℕ) : Type 0 where
+  pub part : List ℕ
+  pub rest : List (List ℕ)
+  pub parts_are : parts line ≡ part ∷ rest
+  pub none : (t : GameType) → part ≢ type_bytes t
+
+-- the first part is a type, and the second no state
+pub record IsNoState (line : List ℕ) : Type 0 where
+  pub game_type : GameType
+  pub part : List ℕ
+  pub rest : List (List ℕ)
+  pub parts_are : parts line ≡ type_bytes game_type ∷ (part ∷ rest)
+  pub none : (s : State) → part ≢ state_bytes s
+
+-- the first parts are a type and a state, and the third is absent or no turn
+pub record IsNoTurn (line : List ℕ) : Type 0 where
+  pub game_type : GameType
+  pub declared : State
+  pub rest : List (List ℕ)
+  pub parts_are : parts line ≡ type_bytes game_type ∷ (state_bytes declared ∷ rest)
+  pub none : (part : List ℕ) (texts : List (List ℕ)) → rest ≡ part ∷ texts → (u : Turn) → ¬ IsTurn part u
+
+-- the parts are a type, a state, a turn, and further texts
+pub record HasParts (line : List ℕ) (t : GameType) (s : State) (u : Turn) (texts : List (List ℕ)) : Type 0 where
+  pub parts_are : parts line ≡ type_bytes t ∷ (state_bytes s ∷ (turn_bytes u.side u.number ∷ texts))
+  pub low : 1 ≤ u.number
+  pub high : u.number ≤ 999999999
+
+-- none of the texts is empty
+abbrev pub AreNotEmpty : List (List ℕ) → Type 0
+AreNotEmpty texts = (text : List ℕ) → IsOn texts text → text ≢ []
+
+-- the first parts are a type, a state and a turn, and from the fourth on this is the first that is empty
+pub record IsEmptyMove (line : List ℕ) (number : ℕ) : Type 0 where
+  pub game_type : GameType
+  pub declared : State
+  pub turn : Turn
+  pub front : List (List ℕ)
+  pub behind : List (List ℕ)
+  pub parts_are : HasParts line game_type declared turn (front ++ [] ∷ behind)
+  pub before : AreNotEmpty front
+  pub counted : number ≡ 4 + length front
+
+-- this is the first part that is absent or not of its form
+abbrev pub IsMalformed : List ℕ → ℕ → Type 0
+IsMalformed line number = ((number ≡ 1) × IsNoType line) ⊎ (((number ≡ 2) × IsNoState line) ⊎ (((number ≡ 3) × IsNoTurn line) ⊎ IsEmptyMove line number))
+
+-- the parts are a type, a state, a turn, and texts of which none is empty
+pub record HasForm (line : List ℕ) (t : GameType) (s : State) (u : Turn) (texts : List (List ℕ)) : Type 0 where
+  pub parts_are : HasParts line t s u texts
+  pub none_empty : AreNotEmpty texts
+
+-- the line has its form, and more than 5,000 moves
+pub record IsTooLong (line : List ℕ) : Type 0 where
+  pub game_type : GameType
+  pub declared : State
+  pub turn : Turn
+  pub texts : List (List ℕ)
+  pub form : HasForm line game_type declared turn texts
+  pub long : 5000 < length texts
+
+-- the line has its form and at most 5,000 moves, of which those before this one are a game, and this is the text of the next
+pub record IsReadUpTo (line : List ℕ) (number : ℕ) (t : GameType) (ms : List Move) (text : List ℕ) : Type 0 where
+  pub declared : State
+  pub turn : Turn
+  pub front : List (List ℕ)
+  pub behind : List (List ℕ)
+  pub form : HasForm line t declared turn (front ++ text ∷ behind)
+  pub few : length (front ++ text ∷ behind) ≤ 5000
+  pub counted : number ≡ 1 + length front
+  pub denote : DenoteMoves (opening t) front ms
+  pub legal : IsGame t ms
+
+-- the first move that is refused is none on its board
+pub record IsBadMove (line : List ℕ) (number : ℕ) (fault : MoveFault) : Type 0 where
+  pub game_type : GameType
+  pub made : List Move
+  pub text : List ℕ
+  pub read : IsReadUpTo line number game_type made text
+  pub refuses : Refuses (replay (opening game_type) made).game_type (replay (opening game_type) made).board text fault
+
+-- the first move that is refused is not legal
+pub record IsIllegalMove (line : List ℕ) (number : ℕ) : Type 0 where
+  pub game_type : GameType
+  pub made : List Move
+  pub text : List ℕ
+  pub move : Move
+  pub read : IsReadUpTo line number game_type made text
+  pub denotes : Denotes (replay (opening game_type) made).game_type (replay (opening game_type) made).board text move
+  pub illegal : ¬ IsOn (moves (replay (opening game_type) made)) move
+
+-- the line has its form and at most 5,000 moves, which are a game
+pub record IsReadWhole (line : List ℕ) (t : GameType) (s : State) (u : Turn) (ms : List Move) : Type 0 where
+  pub texts : List (List ℕ)
+  pub form : HasForm line t s u texts
+  pub few : length texts ≤ 5000
+  pub denote : DenoteMoves (opening t) texts ms
+  pub legal : IsGame t ms
+
+-- the declared state is not that of the game
+pub record IsOtherState (line : List ℕ) : Type 0 where
+  pub game_type : GameType
+  pub declared : State
+  pub turn : Turn
+  pub made : List Move
+  pub read : IsReadWhole line game_type declared turn made
+  pub other : declared ≢ state (replay (opening game_type) made)
+
+-- the declared state is that of the game, and the declared turn is not
+pub record IsOtherTurn (line : List ℕ) : Type 0 where
+  pub game_type : GameType
+  pub declared : State
+  pub turn : Turn
+  pub made : List Move
+  pub read : IsReadWhole line game_type declared turn made
+  pub same : declared ≡ state (replay (opening game_type) made)
+  pub other : ¬ ((turn.side ≡ (replay (opening game_type) made).side) × (turn.number ≡ (replay (opening game_type) made).turn))
+
+-- the line is refused with this fault; want of memory is none of the line
+abbrev pub IsRefused : List ℕ → GameFault → Type 0
+IsRefused line (Malformed k) = IsMalformed line k
+IsRefused line TooLong = IsTooLong line
+IsRefused line (BadMove n fault) = IsBadMove line n fault
+IsRefused line (IllegalMove n) = IsIllegalMove line n
+IsRefused line OtherState = IsOtherState line
+IsRefused line OtherTurn = IsOtherTurn line
+IsRefused line Memory = ⊥

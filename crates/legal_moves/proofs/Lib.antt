@@ -1,0 +1,5 @@
+pub mod MergeLaws
+pub mod Walking
+pub mod Throwing
+pub mod Pairing
+pub mod Listed

@@ -1,0 +1,8 @@
+use Rattle.legal_moves.specs.Going.{position_of}
+use Rattle.legal_moves.proofs.Throwing.{both_throw}
+use Rattle.legal_moves.proofs.throws.add_all_throws.Goals as goal
+
+pub returns-clause-added : goal.returns-clause-added
+returns-clause-added g c =
+    let b = g.B.Board.stacks c.args.board.now in
+    both_throw (position_of b c.args.turn.now) c.args.piece c.pillbug_of.result c.mosquito_of.result c.args.out.now.items c.add_throws.new.out.items c.add_throws-2.new.out.items c.pillbug_of.ensures c.mosquito_of.ensures c.add_throws.ensures.added c.add_throws-2.ensures.added

@@ -1,0 +1,12 @@
+//! The legal moves of a position, over any board that knows its cut places.
+#![tactic(auto)]
+
+mod listing;
+mod merging;
+mod pairs;
+mod throws;
+mod turns;
+mod walks;
+
+pub use listing::list;
+pub use pairs::is_legal_move;

@@ -1,0 +1,116 @@
+//! The list of legal moves.
+
+ghost use Rattle.std.specs.Prelude.{◌≡◌, ◌↔◌, ◌+◌, ◌≤◌, [], ◌++◌, map, length};
+ghost use Rattle.hive_model.specs.declared.places.Place.{Place};
+ghost use Rattle.hive_model.specs.declared.places.Move.{Move};
+ghost use Rattle.hive_model.specs.declared.places.Move.TheVariants.{To};
+ghost use Rattle.hive_model.specs.Lists.{IsOn, Rises};
+ghost use Rattle.hive_model.specs.Places.{place_cmp};
+ghost use Rattle.hive_model.specs.Boards.{IsBoard};
+ghost use Rattle.hive_model.specs.Placement.{MayPlace};
+ghost use Rattle.hive_model.specs.Legal.{is_over, moves, move_cmp};
+ghost use Rattle.hive_model.specs.Stack.{with_level, without_level};
+ghost use Rattle.hand_rules.specs.Bringing.{last_level};
+ghost use Rattle.legal_moves.specs.Going.{position_at, position_of};
+ghost use Rattle.legal_moves.specs.Listing.{IsPairBelow, GainsPairs};
+
+use crate::throws::moved_places;
+use crate::turns::Turn;
+use hand_rules::{may_bring, placement_places};
+use hive_model::{Board, Colour, Cuts, GameType, Move, MoveStack, Piece, Place, PlaceList};
+
+/// Puts the piece's move to each of the places at the end of the last level.
+fn push_each(piece: Piece, places: &[Place], out: &mut MoveStack)
+    requires level { 1 ≤ length out.old.lists }
+    requires room { length (last_level out.old) + length places.now ≤ 5488 }
+    ensures added { last_level out.new ≡ last_level out.old ++ map (λ q. To piece q) places.now }
+    ensures levels { length out.new.lists ≡ length out.old.lists }
+    ensures others { without_level out.new ≡ without_level out.old }
+{
+    for place in places {
+        out.push(Move::To {
+            piece,
+            place: *place,
+        });
+    }
+}
+
+/// Puts the legal moves of the piece at the end of the last level. `open_places` are the places where the side may place.
+fn push_piece<B: Board, C: Cuts>(
+    board: &B,
+    cuts: &C,
+    turn: &Turn,
+    open_places: &PlaceList,
+    piece: Piece,
+    out: &mut MoveStack,
+)
+    requires board { IsBoard (B.stacks board.now) }
+    requires cuts { C.board cuts.now ≡ B.stacks board.now }
+    requires places { (q : Place) → IsOn open_places.now.items q ↔ MayPlace (B.stacks board.now) turn.now.side q }
+    requires order { Rises place_cmp open_places.now.items }
+    requires level { 1 ≤ length out.old.lists }
+    requires room { length (last_level out.old) + 196 ≤ 5488 }
+    ensures { GainsPairs (position_of (B.stacks board.now) turn.now) piece out.old out.new }
+{
+    if may_bring(turn.game_type, board, turn.side, turn.number, piece) {
+        push_each(piece, open_places.as_slice(), out);
+        return;
+    }
+    let mut places = PlaceList::new();
+    moved_places(board, cuts, turn, piece, &mut places);
+    push_each(piece, places.as_slice(), out);
+}
+
+/// Puts all legal moves of pieces on the last level, which holds none yet: by piece, then by q and r of the place, each once.
+fn push_pairs<B: Board, C: Cuts>(board: &B, cuts: &C, turn: &Turn, out: &mut MoveStack)
+    requires board { IsBoard (B.stacks board.now) }
+    requires cuts { C.board cuts.now ≡ B.stacks board.now }
+    requires level { 1 ≤ length out.old.lists }
+    requires empty { last_level out.old ≡ [] }
+    ensures listed { (m : Move) → IsOn (last_level out.new) m ↔ IsPairBelow (position_of (B.stacks board.now) turn.now) 28 m }
+    ensures order { Rises move_cmp (last_level out.new) }
+    ensures levels { length out.new.lists ≡ length out.old.lists }
+    ensures others { without_level out.new ≡ without_level out.old }
+{
+    let mut open_places = PlaceList::new();
+    placement_places(board, turn.side, &mut open_places);
+    for x in 0..28u8 {
+        push_piece(board, cuts, turn, &open_places, Piece::at(x), out);
+    }
+}
+
+/// Begins a level and fills it with the legal moves of the side to move in its turn of this number, where this piece rests, if
+/// any: by piece, then by q and r of the place, each once; the pass alone where no piece can move; none where the game is
+/// over, as `over` says.
+pub fn list<B: Board, C: Cuts>(
+    board: &B,
+    cuts: &C,
+    game_type: GameType,
+    side: Colour,
+    turn: u32,
+    rest: Option<Piece>,
+    over: bool,
+    out: &mut MoveStack,
+)
+    requires level { 1 ≤ out.old.free }
+    requires cuts { C.board cuts.now ≡ B.stacks board.now }
+    requires over { over ≡ is_over (position_at game_type (B.stacks board.now) side turn rest) }
+    ensures { out.new ≡ with_level out.old (moves (position_at game_type (B.stacks board.now) side turn rest)) }
+{
+    out.begin_level();
+    if over {
+        return;
+    }
+    // each board that answers where a piece stands is sound
+    let _spot = board.spot(Piece::at(0));
+    let turn = Turn {
+        game_type,
+        side,
+        number: turn,
+        rest,
+    };
+    push_pairs(board, cuts, &turn, out);
+    if out.level_len(out.levels() - 1) == 0 {
+        out.push(Move::Pass);
+    }
+}

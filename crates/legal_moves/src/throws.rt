@@ -1,0 +1,79 @@
+//! Where a piece is thrown, and where a piece of the board goes at all.
+
+ghost use Rattle.std.specs.Prelude.{◌≡◌, ◌↔◌, ◌⊎◌, [], IsTrue};
+ghost use Rattle.hive_model.specs.declared.places.Place.{Place};
+ghost use Rattle.hive_model.specs.Lists.{IsOn, Rises};
+ghost use Rattle.hive_model.specs.Pieces.{queen_of};
+ghost use Rattle.hive_model.specs.Places.{place_cmp};
+ghost use Rattle.hive_model.specs.Boards.{IsBoard, is_in_play};
+ghost use Rattle.hive_model.specs.Legal.{Walk};
+ghost use Rattle.hive_model.specs.Throws.{Throw};
+ghost use Rattle.legal_moves.specs.Going.{ThrownBy, AreGoals, IsMoved, position_of};
+
+use crate::merging::add_all;
+use crate::turns::{Turn, again, is_in_play, mosquito_of, pillbug_of, queen_of};
+use crate::walks::walks;
+use hive_model::{Board, Cuts, Piece, PlaceList};
+use pillbug_throws::{may_throw, throws};
+
+/// Adds where the one piece throws the other.
+fn add_throws<B: Board, C: Cuts>(
+    board: &B,
+    cuts: &C,
+    turn: &Turn,
+    thrower: Piece,
+    piece: Piece,
+    out: &mut PlaceList,
+)
+    requires board { IsBoard (B.stacks board.now) }
+    requires cuts { C.board cuts.now ≡ B.stacks board.now }
+    requires list { AreGoals (B.stacks board.now) piece out.old.items }
+    ensures list { AreGoals (B.stacks board.now) piece out.new.items }
+    ensures added { (q : Place) → IsOn out.new.items q ↔ (IsOn out.old.items q ⊎ ThrownBy (B.stacks board.now) turn.now.rest thrower piece q) }
+{
+    if !may_throw(board, thrower, again(&turn.rest)) {
+        return;
+    }
+    let mut places = PlaceList::new();
+    throws(board, cuts, thrower, piece, again(&turn.rest), &mut places);
+    add_all(places.as_slice(), out);
+}
+
+/// Adds where a thrower of the side to move throws the piece: its pillbug, and its mosquito.
+fn add_all_throws<B: Board, C: Cuts>(
+    board: &B,
+    cuts: &C,
+    turn: &Turn,
+    piece: Piece,
+    out: &mut PlaceList,
+)
+    requires board { IsBoard (B.stacks board.now) }
+    requires cuts { C.board cuts.now ≡ B.stacks board.now }
+    requires list { AreGoals (B.stacks board.now) piece out.old.items }
+    ensures list { AreGoals (B.stacks board.now) piece out.new.items }
+    ensures added { (q : Place) → IsOn out.new.items q ↔ (IsOn out.old.items q ⊎ Throw (position_of (B.stacks board.now) turn.now) piece q) }
+{
+    add_throws(board, cuts, turn, pillbug_of(turn.side), piece, out);
+    add_throws(board, cuts, turn, mosquito_of(turn.side), piece, out);
+}
+
+/// Lists where a piece of the board goes by its own rule or is thrown, once the queen of the side to move is in play.
+pub fn moved_places<B: Board, C: Cuts>(
+    board: &B,
+    cuts: &C,
+    turn: &Turn,
+    piece: Piece,
+    out: &mut PlaceList,
+)
+    requires board { IsBoard (B.stacks board.now) }
+    requires cuts { C.board cuts.now ≡ B.stacks board.now }
+    requires empty { out.old.items ≡ [] }
+    ensures places { (q : Place) → IsOn out.new.items q ↔ IsMoved (position_of (B.stacks board.now) turn.now) piece q }
+    ensures order { Rises place_cmp out.new.items }
+{
+    if !is_in_play(board, queen_of(turn.side)) {
+        return;
+    }
+    walks(board, cuts, turn, piece, out);
+    add_all_throws(board, cuts, turn, piece, out);
+}

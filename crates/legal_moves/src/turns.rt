@@ -1,0 +1,73 @@
+//! Whose turn it is.
+
+ghost use Rattle.std.specs.Prelude.{◌≡◌};
+ghost use Rattle.hive_model.specs.declared.pieces.Kind.TheVariants.{Queen, Mosquito, Pillbug};
+ghost use Rattle.hive_model.specs.Pieces.{piece_of, queen_of};
+ghost use Rattle.hive_model.specs.Boards.{is_in_play};
+ghost use Rattle.hive_model.specs.Positions.{is_piece};
+
+use hive_model::{Board, Colour, GameType, Piece};
+
+/// The side to move, in a game of this type, the number of its turn from 1 on, and the piece that rests: the one that was
+/// placed, moved or thrown on the last ply.
+#[derive(Drop)]
+pub struct Turn {
+    pub game_type: GameType,
+    pub side: Colour,
+    pub number: u32,
+    pub rest: Option<Piece>,
+}
+
+/// The same once more.
+pub fn again(rest: &Option<Piece>) -> Option<Piece>
+    ensures { result ≡ rest.now }
+{
+    *rest
+}
+
+/// Whether this is the piece that rests.
+pub fn rests(piece: Piece, rest: &Option<Piece>) -> bool
+    ensures { result ≡ is_piece piece rest.now }
+{
+    match rest {
+        Some(other) => piece.index() == other.index(),
+        None => false,
+    }
+}
+
+/// Whether the piece is on the board.
+pub fn is_in_play<B: Board>(board: &B, piece: Piece) -> bool
+    ensures { result ≡ is_in_play (B.stacks board.now) piece }
+{
+    board.spot(piece).is_some()
+}
+
+/// The queen of a side.
+pub fn queen_of(side: Colour) -> Piece
+    ensures { result ≡ queen_of side }
+{
+    match side {
+        Colour::White => Piece::at(0),
+        Colour::Black => Piece::at(14),
+    }
+}
+
+/// The mosquito of a side.
+pub fn mosquito_of(side: Colour) -> Piece
+    ensures { result ≡ piece_of side Mosquito 0 }
+{
+    match side {
+        Colour::White => Piece::at(11),
+        Colour::Black => Piece::at(25),
+    }
+}
+
+/// The pillbug of a side.
+pub fn pillbug_of(side: Colour) -> Piece
+    ensures { result ≡ piece_of side Pillbug 0 }
+{
+    match side {
+        Colour::White => Piece::at(13),
+        Colour::Black => Piece::at(27),
+    }
+}

@@ -1,0 +1,61 @@
+//! Where a piece of the side to move goes by its kind's rule.
+
+ghost use Rattle.std.specs.Prelude.{◌≡◌, ◌↔◌, [], IsTrue};
+ghost use Rattle.hive_model.specs.declared.places.Place.{Place};
+ghost use Rattle.hive_model.specs.Lists.{IsOn, Rises};
+ghost use Rattle.hive_model.specs.Places.{place_cmp};
+ghost use Rattle.hive_model.specs.Boards.{IsBoard, is_on_top};
+ghost use Rattle.hive_model.specs.Legal.{Walk};
+ghost use Rattle.legal_moves.specs.Going.{MayWalk, Goes, position_of};
+
+use crate::turns::{Turn, rests};
+use bug_moves::reach;
+use hive_model::{Board, Cuts, Kind, Lifted, Piece, PlaceList};
+use mosquito_moves::mosquito_reach;
+
+/// Whether the piece may leave its place: it is on top, it does not rest, and its place is no cut place.
+fn may_walk<B: Board, C: Cuts>(board: &B, cuts: &C, piece: Piece, rest: &Option<Piece>) -> bool
+    requires board { IsBoard (B.stacks board.now) }
+    requires cuts { C.board cuts.now ≡ B.stacks board.now }
+    ensures { IsTrue result ↔ MayWalk (B.stacks board.now) rest.now piece }
+{
+    let Some(spot) = board.spot(piece) else {
+        return false;
+    };
+    let height = board.height(spot.place);
+    if rests(piece, rest) || height - spot.level != 1 {
+        return false;
+    }
+    !cuts.is_cut(spot.place)
+}
+
+/// Lists where the piece, which is on top, moves to by its kind's rule.
+fn go<B: Board>(board: &B, piece: Piece, out: &mut PlaceList)
+    requires board { IsBoard (B.stacks board.now) }
+    requires top { IsTrue (is_on_top (B.stacks board.now) piece) }
+    requires empty { out.old.items ≡ [] }
+    ensures places { (q : Place) → IsOn out.new.items q ↔ Goes (B.stacks board.now) piece q }
+    ensures order { Rises place_cmp out.new.items }
+{
+    let Some(spot) = board.spot(piece) else {
+        return;
+    };
+    let lifted = Lifted::new(board, piece);
+    match piece.kind() {
+        Kind::Mosquito => mosquito_reach(&lifted, spot.place, out),
+        kind => reach(kind, &lifted, spot.place, out),
+    }
+}
+
+/// Lists where the piece moves to by its kind's rule, if it is one of the side to move that may leave its place.
+pub fn walks<B: Board, C: Cuts>(board: &B, cuts: &C, turn: &Turn, piece: Piece, out: &mut PlaceList)
+    requires board { IsBoard (B.stacks board.now) }
+    requires cuts { C.board cuts.now ≡ B.stacks board.now }
+    requires empty { out.old.items ≡ [] }
+    ensures places { (q : Place) → IsOn out.new.items q ↔ Walk (position_of (B.stacks board.now) turn.now) piece q }
+    ensures order { Rises place_cmp out.new.items }
+{
+    if piece.colour().is(turn.side) && may_walk(board, cuts, piece, &turn.rest) {
+        go(board, piece, out);
+    }
+}

@@ -1,0 +1,4 @@
+pub mod BackLaws
+pub mod PlyLaws
+pub mod HereLaws
+pub mod StepLaws

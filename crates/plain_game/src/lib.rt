@@ -1,0 +1,11 @@
+//! A game on a board by spots.
+#![tactic(auto)]
+
+mod game;
+mod known_cuts;
+mod listing;
+mod making;
+mod results;
+mod turns;
+
+pub use game::PlainGame;
