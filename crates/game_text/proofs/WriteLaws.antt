@@ -32,7 +32,7 @@ joined_behind p (q ∷ qs) = ap (λ (r : List ℕ). p ++ 59 ∷ r) (joined_behin
 
 -- Lists of moves, cut in two
 
-taken_next : (ms : List Move) (i : ℕ) (m : Move) → slice_get ms i ≡ Some m → take (i + 1) ms ≡ take i ms ++ m ∷ []
+pub taken_next : (ms : List Move) (i : ℕ) (m : Move) → slice_get ms i ≡ Some m → take (i + 1) ms ≡ take i ms ++ m ∷ []
 taken_next [] i m e = absurd (cc)
 taken_next (k ∷ ms) zero m e = let same : k ≡ m = cc in ap (λ (r : List Move). k ∷ r) (none ms) ∙ ap (λ n. n ∷ []) same
   where
@@ -60,18 +60,18 @@ dropped_all [] (suc i) all = refl
 dropped_all (k ∷ ms) zero all = absurd (omega (arith, all))
 dropped_all (k ∷ ms) (suc i) all = dropped_all ms i (omega (arith, all))
 
-legal_next : (p : Position) (ms : List Move) (i : ℕ) (m : Move) → AreLegal p ms → slice_get ms i ≡ Some m → IsOn (moves (replay p (take i ms))) m
+pub legal_next : (p : Position) (ms : List Move) (i : ℕ) (m : Move) → AreLegal p ms → slice_get ms i ≡ Some m → IsOn (moves (replay p (take i ms))) m
 legal_next p [] i m legal e = absurd (cc)
 legal_next p (k ∷ ms) zero m legal e = let same : k ≡ m = cc in subst (IsOn (moves p)) same legal.0
 legal_next p (k ∷ ms) (suc i) m legal e = legal_next (after p k) ms i m legal.1 e
 
-legal_part : (p : Position) (ms : List Move) (i : ℕ) → AreLegal p ms → AreLegal p (take i ms)
+pub legal_part : (p : Position) (ms : List Move) (i : ℕ) → AreLegal p ms → AreLegal p (take i ms)
 legal_part p [] zero legal = tt
 legal_part p [] (suc i) legal = tt
 legal_part p (k ∷ ms) zero legal = tt
 legal_part p (k ∷ ms) (suc i) legal = (legal.0, legal_part (after p k) ms i legal.1)
 
-taken_size : (ms : List Move) (i : ℕ) → length (take i ms) ≤ length ms
+pub taken_size : (ms : List Move) (i : ℕ) → length (take i ms) ≤ length ms
 taken_size [] zero = omega arith
 taken_size [] (suc i) = omega arith
 taken_size (k ∷ ms) zero = omega arith

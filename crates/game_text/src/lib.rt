@@ -15,7 +15,7 @@ pub use laws::{lines_are_one_game, lines_are_read, strings_are_games};
 pub use parsed::Parsed;
 pub use reading::read_game;
 pub use texts::MoveTexts;
-pub use writing::write_game;
+pub use writing::{texts_of, write_game};
 
 #[cfg(test)]
 mod tests;

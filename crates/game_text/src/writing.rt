@@ -10,7 +10,7 @@ use hive_model::{Game, ReplyText};
 use std::alloc::{AllocError, Global};
 
 /// The written texts of the game's moves. They are played again on a game of the same kind that is made for it.
-fn texts_of<G: Game + Drop>(alloc: Global, game: &G) -> Result<MoveTexts, AllocError>
+pub fn texts_of<G: Game + Drop>(alloc: Global, game: &G) -> Result<MoveTexts, AllocError>
     requires { IsGame (G.course game.now).game_type (G.course game.now).made }
     ensures { IfOk result (λ r. r ≡ texts (opening (G.course game.now).game_type) (G.course game.now).made) }
 {

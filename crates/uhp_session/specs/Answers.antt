@@ -1,13 +1,36 @@
--- What a session answers to a line, and what it is afterwards.
-use Rattle.std.specs.Prelude.{ℕ, ◌≤◌, List, length, codes, Some, None}
-use Rattle.std.specs.declared.option.Option.{Option}
+-- What a session answers to a line, and what it is afterwards: the table of answers and refusals.
+use Rattle.std.specs.Prelude.{ℕ, ◌-◌, ◌≤◌, nat_lt, nat_le, List, [], ◌∷◌, ◌++◌, length, map, take, codes, decimal, Option, Some, None, Result, Ok, Err, if◌then◌else◌}
+use Rattle.std.specs.Str.{bytes_eq}
 use Rattle.hive_model.specs.declared.pieces.GameType.{GameType}
 use Rattle.hive_model.specs.declared.places.Move.{Move}
+use Rattle.hive_model.specs.Positions.{Position, opening}
+use Rattle.hive_model.specs.Legal.{moves, is_over}
+use Rattle.hive_model.specs.Games.{replay}
+use Rattle.hive_model.specs.Courses.{is_listed}
+use Rattle.hive_model.specs.Texts.{piece_text}
+use Rattle.hive_model.specs.Denotes.{text}
+use Rattle.hive_model.specs.Strings.{string, joined_on}
 use Rattle.hive_model.specs.Lines.{Line, Text as TextLine, TooLong as LongLine}
+use Rattle.move_text.specs.declared.faults.MoveFault.{MoveFault}
+use Rattle.move_text.specs.declared.faults.MoveFault.TheVariants.{NotAMove, NoSuchPiece, NotInPlay}
+use Rattle.move_text.specs.Moves.{move_of}
+use Rattle.game_text.specs.declared.faults.GameFault.{GameFault}
+use Rattle.game_text.specs.declared.faults.GameFault.TheVariants.{Malformed, TooLong as TooManyPlies, BadMove, IllegalMove, OtherState, OtherTurn, Memory}
+use Rattle.game_text.specs.declared.parsed.Parsed.{Parsed}
+use Rattle.game_text.specs.Reading.{game_of}
+use Rattle.uhp_words.specs.declared.command.Command.{Command}
+use Rattle.uhp_words.specs.declared.command.Command.TheVariants.{Info, NewGame, Play, Pass, ValidMoves, BestDepth, BestTime, Undo, Options, OptionGet, OptionSet, Exit}
+use Rattle.uhp_words.specs.declared.command.CommandFault.{CommandFault}
+use Rattle.uhp_words.specs.declared.command.CommandFault.TheVariants.{Unknown, Arguments}
+use Rattle.uhp_words.specs.Reading.{command_of}
+use Rattle.uhp_words.specs.Spans.{bytes_at}
+use Rattle.uhp_words.specs.Numbers.{number_at}
 use Rattle.uhp_session.specs.declared.lines.LineIn.{LineIn}
 use Rattle.uhp_session.specs.declared.lines.LineIn.TheVariants.{Text, TooLong}
 use Rattle.uhp_session.specs.declared.lines.Reply.{Reply}
-use Rattle.uhp_session.specs.declared.lines.Reply.TheVariants.{Text as ReplyText, Exit}
+use Rattle.uhp_session.specs.declared.lines.Reply.TheVariants.{Text as ReplyText, Exit as ReplyExit}
+
+-- Sessions
 
 -- a game that was begun: its type and its moves
 pub record Begun : Type 0 where
@@ -24,23 +47,187 @@ pub record State : Type 0 where
 abbrev pub fresh : State
 fresh = record { game = None; table = 65536; workers = 1 }
 
+-- the position that the game has reached
+abbrev pub reached : Begun → Position
+reached g = replay (opening g.game_type) g.made
+
+abbrev pub with_game : State → Begun → State
+with_game s g = record { game = Some g; table = s.table; workers = s.workers }
+
+-- the lines of a reply but for the last, which is `ok`, and the session afterwards; or the session is left, with no reply
+pub data Answer : Type 0 where
+  Says : (lines : List (List ℕ)) → (after : State) → Answer
+  Leaves : Answer
+
+-- one line, and nothing changes: so is every refusal
+abbrev pub refuse : State → List ℕ → Answer
+refuse s line = Says (line ∷ []) s
+
+-- the game is now this one, and its written form is answered
+abbrev pub go_on : State → Begun → Answer
+go_on s g = Says (string g.game_type g.made ∷ []) (with_game s g)
+
+-- in a session with a game
+abbrev pub in_game : State → Option Begun → (Begun → Answer) → Answer
+in_game s None f = refuse s (codes "err 3 no game")
+in_game s (Some g) f = f g
+
+-- in a session with a game that is not over
+abbrev pub while_on : State → (Begun → Answer) → Answer
+while_on s f = in_game s s.game (λ g. if is_over (reached g) then refuse s (codes "err 8 game over") else f g)
+
+-- A new game
+
+-- no text means the base game
+abbrev pub or_base : List ℕ → List ℕ
+or_base [] = codes "Base"
+or_base (b ∷ bs) = b ∷ bs
+
+-- why a text is no game. (Want of memory is no fault of the text.)
+abbrev pub game_fault : GameFault → List ℕ
+game_fault (Malformed part) = codes "err 4 malformed part " ++ decimal part
+game_fault TooManyPlies = codes "err 11 too many plies"
+game_fault (BadMove number fault) = codes "err 6 illegal move " ++ decimal number
+game_fault (IllegalMove number) = codes "err 6 illegal move " ++ decimal number
+game_fault OtherState = codes "err 5 other state"
+game_fault OtherTurn = codes "err 5 other turn"
+game_fault Memory = []
+
+abbrev pub begin : State → Result Parsed GameFault → Answer
+begin s (Ok g) = go_on s (record { game_type = g.game_type; made = g.moves })
+begin s (Err fault) = refuse s (game_fault fault)
+
+-- A move
+
+abbrev pub move_fault : MoveFault → List ℕ
+move_fault (NotAMove at) = codes "invalidmove 1 unreadable"
+move_fault NoSuchPiece = codes "invalidmove 1 unreadable"
+move_fault (NotInPlay piece) = codes "invalidmove 2 not in play " ++ piece_text piece
+
+abbrev pub make : State → Begun → Result Move MoveFault → Answer
+make s g (Err fault) = refuse s (move_fault fault)
+make s g (Ok m) =
+    if is_listed (reached g) m then go_on s (record { game_type = g.game_type; made = g.made ++ m ∷ [] })
+    else refuse s (codes "invalidmove 3 not legal")
+
+-- the most plies of a game
+abbrev pub most_plies : ℕ
+most_plies = 5000
+
+abbrev pub play : State → List ℕ → Begun → Answer
+play s words g =
+    if is_over (reached g) then refuse s (codes "invalidmove 4 game over") else
+    if nat_le most_plies (length g.made) then refuse s (codes "err 11 too many plies") else
+    make s g (move_of g.game_type (reached g).board words)
+
+-- Lists of moves, and undo
+
+-- texts with semicolons between them
+abbrev pub joined : List (List ℕ) → List ℕ
+joined [] = []
+joined (t ∷ ts) = joined_on t ts
+
+-- the legal moves, written
+abbrev pub list : State → Begun → Answer
+list s g = Says (joined (map (text (reached g).board) (moves (reached g))) ∷ []) s
+
+-- the game without its last moves
+abbrev pub undo : State → ℕ → Begun → Answer
+undo s plies g =
+    if nat_lt (length g.made) plies then refuse s (codes "err 7 undo beyond start")
+    else go_on s (record { game_type = g.game_type; made = take (length g.made - plies) g.made })
+
+-- Options
+
+-- name, kind, value, default, least and greatest
+abbrev pub table_line : ℕ → List ℕ
+table_line value = codes "Table;int;" ++ (decimal value ++ codes ";65536;1;1048576")
+
+abbrev pub workers_line : ℕ → List ℕ
+workers_line value = codes "Workers;int;" ++ (decimal value ++ codes ";1;1;16")
+
+abbrev pub get : State → List ℕ → Answer
+get s name =
+    if bytes_eq name (codes "Table") then Says (table_line s.table ∷ []) s else
+    if bytes_eq name (codes "Workers") then Says (workers_line s.workers ∷ []) s else
+    refuse s (codes "err 9 no such option")
+
+abbrev pub set_table : State → Option ℕ → Answer
+set_table s None = refuse s (codes "err 9 value out of range")
+set_table s (Some value) = Says (table_line value ∷ []) (record { game = s.game; table = value; workers = s.workers })
+
+abbrev pub set_workers : State → Option ℕ → Answer
+set_workers s None = refuse s (codes "err 9 value out of range")
+set_workers s (Some value) = Says (workers_line value ∷ []) (record { game = s.game; table = s.table; workers = value })
+
+abbrev pub set : State → List ℕ → List ℕ → Answer
+set s name value =
+    if bytes_eq name (codes "Table") then set_table s (number_at value 1 1048576) else
+    if bytes_eq name (codes "Workers") then set_workers s (number_at value 1 16) else
+    refuse s (codes "err 9 no such option")
+
+-- The table
+
+-- the answer to a command; the parts that it names are those of the line
+abbrev pub command_answer : State → List ℕ → Command → Answer
+command_answer s line Info = Says (codes "id HiveReferee 1.0" ∷ (codes "Mosquito;Ladybug;Pillbug" ∷ [])) s
+command_answer s line (NewGame part) = begin s (game_of (or_base (bytes_at line part)))
+command_answer s line (Play part) = in_game s s.game (play s (bytes_at line part))
+command_answer s line Pass = in_game s s.game (play s (codes "pass"))
+command_answer s line ValidMoves = while_on s (list s)
+command_answer s line (BestDepth depth) = while_on s (λ g. refuse s (codes "err 20 not built"))
+command_answer s line (BestTime budget) = while_on s (λ g. refuse s (codes "err 20 not built"))
+command_answer s line (Undo plies) = in_game s s.game (undo s plies)
+command_answer s line Options = Says (table_line s.table ∷ (workers_line s.workers ∷ [])) s
+command_answer s line (OptionGet name) = get s (bytes_at line name)
+command_answer s line (OptionSet name value) = set s (bytes_at line name) (bytes_at line value)
+command_answer s line Exit = Leaves
+
+abbrev pub words_answer : State → List ℕ → Result Command CommandFault → Answer
+words_answer s line (Ok command) = command_answer s line command
+words_answer s line (Err Unknown) = refuse s (codes "err 1 unknown command")
+words_answer s line (Err Arguments) = refuse s (codes "err 2 wrong arguments")
+
+-- the answer of a session to a line
+abbrev pub answer : State → Line → Answer
+answer s (TextLine bytes) = words_answer s bytes (command_of bytes)
+answer s LongLine = refuse s (codes "err 10 line too long")
+
+-- Replies
+
+-- lines, each ended by LF
+abbrev pub ended : List (List ℕ) → List ℕ
+ended [] = []
+ended (line ∷ lines) = line ++ 10 ∷ ended lines
+
+-- the lines of the answer, and then `ok`; or none, where the session is left
+abbrev pub reply_of : Answer → Option (List ℕ)
+reply_of (Says lines after) = Some (ended (lines ++ codes "ok" ∷ []))
+reply_of Leaves = None
+
+abbrev pub after_of : State → Answer → State
+after_of s (Says lines after) = after
+after_of s Leaves = s
+
 -- the reply to a line, or none where the run ends
 unfoldable pub reply : State → Line → Option (List ℕ)
-reply s line = Some (codes "err 1 unknown command\nok\n")
+reply s line = reply_of (answer s line)
 
 -- the session after a line
 unfoldable pub next : State → Line → State
-next s line = s
+next s line = after_of s (answer s line)
+
+-- A line that is handed to a session, and the reply
 
 -- the line as a line of the stream
 abbrev pub line_in : LineIn → Line
 line_in (Text bytes) = TextLine bytes.now
 line_in TooLong = LongLine
 
--- a reply's text, or none where the run ends
+-- a reply's text, or none where the session is left
 abbrev pub text_of : Reply → Option (List ℕ)
 text_of (ReplyText text) = Some text
-text_of Exit = None
+text_of ReplyExit = None
 
 -- a line that is handed on has at most 65,536 bytes
 abbrev pub IsShort : Line → Type 0

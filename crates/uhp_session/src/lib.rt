@@ -1,7 +1,12 @@
 //! A session: the answers to the lines of an input.
 #![tactic(auto)]
 
+mod current;
 mod lines;
+mod lists;
+mod options;
+mod refusals;
+mod says;
 mod session;
 
 pub use lines::{LineIn, Reply};

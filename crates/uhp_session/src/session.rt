@@ -1,30 +1,48 @@
 //! A session over any game.
 
-ghost use Rattle.std.specs.Prelude.{◌≡◌, IfOk, OnOk, OnErr};
-ghost use Rattle.uhp_session.specs.Answers.{fresh, reply, next, line_in, text_of, IsShort};
+ghost use Rattle.std.specs.Prelude.{◌≡◌, ◌≤◌, [], ◌∷◌, length, codes, IfOk, OnOk, OnErr};
+ghost use Rattle.game_text.specs.Reading.{game_of};
+ghost use Rattle.uhp_words.specs.Grammar.{AreWithin};
+ghost use Rattle.uhp_words.specs.Reading.{command_of};
+ghost use Rattle.uhp_session.specs.Answers.{fresh, reply, next, line_in, text_of, IsShort, reply_of, after_of, refuse, words_answer, command_answer, get, set, go_on, with_game, or_base, begin, in_game, play, while_on, list, undo};
 
+use crate::current::Current;
 use crate::lines::{LineIn, Reply};
-use hive_model::{Game, ReplyText, TimedList};
+use crate::lists::joined_moves;
+use crate::options::{number_in, tell_options, tell_table, tell_workers};
+use crate::refusals::{refuse_game, refuse_move};
+use crate::says::{close, say};
+use game_text::read_game;
+use hive_model::{Game, MoveStack, TimedList};
 use io_edge::Clock;
 use std::alloc::{AllocError, Global};
 use std::marker::Model;
 use std::thread::Threads;
+use uhp_words::{Command, CommandFault, part, read_command};
 
 /// A session, seen as no game or a type and a list of moves, and its option values.
 #[derive(Drop)]
 pub struct Session<G: Game> {
-    game: Option<G>,
+    game: Option<Current<G>>,
     table: u32,
     workers: u32,
 }
 
 impl<G: Game> Model for Session<G> {
-    ghost use Rattle.std.specs.Option.{option_map};
     ghost use Rattle.uhp_session.specs.Answers.{State};
 
     ghost Value = { State };
 
-    ghost view = { λ s. record { game = option_map (λ g. record { game_type = (G.course g).game_type; made = (G.course g).made }) s.game; table = s.table; workers = s.workers } };
+    ghost view = { λ s. record { game = s.game; table = s.table; workers = s.workers } };
+}
+
+/// The text of a new game: no text stands for the base game.
+fn or_base(text: &[u8]) -> &[u8]
+    requires { length text.now ≤ 65536 }
+    ensures value { result.now ≡ or_base text.now }
+    ensures short { length result.now ≤ 65536 }
+{
+    if text.is_empty() { b"Base" } else { text }
 }
 
 impl<G: Game + Drop> Session<G> {
@@ -56,8 +74,185 @@ impl<G: Game + Drop> Session<G> {
         ensures clock { clock.new ≡ clock.old }
         ensures timed { timed.new ≡ timed.old }
     {
-        let mut text = ReplyText::new(alloc);
-        text.push_all(b"err 1 unknown command\nok\n")?;
-        Ok(Reply::Text(text))
+        match line {
+            LineIn::Text(bytes) => self.answer(alloc, bytes),
+            LineIn::TooLong => say(alloc, b"err 10 line too long"),
+        }
+    }
+
+    /// Answers a line that is not too long.
+    fn answer(&mut self, alloc: Global, line: &[u8]) -> Result<Reply, AllocError>
+        requires { length line.now ≤ 65536 }
+        ensures reply { IfOk result (λ r. text_of r ≡ reply_of (words_answer self.old line.now (command_of line.now))) }
+        ensures next { OnOk result (self.new ≡ after_of self.old (words_answer self.old line.now (command_of line.now))) }
+        ensures err { OnErr result (self.new ≡ self.old) }
+    {
+        match read_command(line) {
+            Ok(command) => self.perform(alloc, line, command),
+            Err(CommandFault::Unknown) => say(alloc, b"err 1 unknown command"),
+            Err(CommandFault::Arguments) => say(alloc, b"err 2 wrong arguments"),
+        }
+    }
+
+    /// Answers a command, which names parts of its line.
+    #[tactic(auto, using(crate::proofs::ReplyLaws::get_keeps, crate::proofs::ReplyLaws::list_keeps, crate::proofs::ReplyLaws::best_keeps))]
+    fn perform(&mut self, alloc: Global, line: &[u8], command: Command) -> Result<Reply, AllocError>
+        requires short { length line.now ≤ 65536 }
+        requires within { AreWithin line.now command }
+        ensures reply { IfOk result (λ r. text_of r ≡ reply_of (command_answer self.old line.now command)) }
+        ensures next { OnOk result (self.new ≡ after_of self.old (command_answer self.old line.now command)) }
+        ensures err { OnErr result (self.new ≡ self.old) }
+    {
+        match command {
+            Command::Info => say(alloc, b"id HiveReferee 1.0\nMosquito;Ladybug;Pillbug"),
+            Command::NewGame { text } => self.begin(alloc, part(line, text)),
+            Command::Play { text } => self.play(alloc, part(line, text)),
+            Command::Pass => self.play(alloc, b"pass"),
+            Command::ValidMoves => self.list(alloc),
+            Command::BestDepth { .. } | Command::BestTime { .. } => self.best(alloc),
+            Command::Undo { plies } => self.undo(alloc, plies),
+            Command::Options => tell_options(alloc, self.table, self.workers),
+            Command::OptionGet { name } => self.tell_option(alloc, part(line, name)),
+            Command::OptionSet { name, value } => self.set_option(
+                alloc,
+                part(line, name),
+                part(line, value),
+            ),
+            Command::Exit => Ok(Reply::Exit),
+        }
+    }
+
+    /// The line of the option of this name.
+    fn tell_option(&self, alloc: Global, name: &[u8]) -> Result<Reply, AllocError>
+        ensures { IfOk result (λ r. text_of r ≡ reply_of (get self.now name.now)) }
+    {
+        if name == b"Table".as_slice() {
+            tell_table(alloc, self.table)
+        } else if name == b"Workers".as_slice() {
+            tell_workers(alloc, self.workers)
+        } else {
+            say(alloc, b"err 9 no such option")
+        }
+    }
+
+    /// Gives the option of this name this value.
+    fn set_option(&mut self, alloc: Global, name: &[u8], value: &[u8]) -> Result<Reply, AllocError>
+        ensures reply { IfOk result (λ r. text_of r ≡ reply_of (set self.old name.now value.now)) }
+        ensures next { OnOk result (self.new ≡ after_of self.old (set self.old name.now value.now)) }
+        ensures err { OnErr result (self.new ≡ self.old) }
+    {
+        if name == b"Table".as_slice() {
+            let Some(entries) = number_in(value, 1, 1_048_576) else {
+                return say(alloc, b"err 9 value out of range");
+            };
+            let reply = tell_table(alloc, entries as u32)?;
+            self.table = entries as u32;
+            return Ok(reply);
+        }
+        if name == b"Workers".as_slice() {
+            let Some(workers) = number_in(value, 1, 16) else {
+                return say(alloc, b"err 9 value out of range");
+            };
+            let reply = tell_workers(alloc, workers as u32)?;
+            self.workers = workers as u32;
+            return Ok(reply);
+        }
+        say(alloc, b"err 9 no such option")
+    }
+
+    /// The game is now this one, and its string is told.
+    fn go_on(&mut self, alloc: Global, game: Current<G>) -> Result<Reply, AllocError>
+        ensures reply { IfOk result (λ r. text_of r ≡ reply_of (go_on self.old game)) }
+        ensures next { OnOk result (self.new ≡ after_of self.old (go_on self.old game)) }
+        ensures err { OnErr result (self.new ≡ self.old) }
+    {
+        let reply = game.tell(alloc)?;
+        self.game = Some(game);
+        Ok(reply)
+    }
+
+    /// Begins the game of a text.
+    fn begin(&mut self, alloc: Global, text: &[u8]) -> Result<Reply, AllocError>
+        requires { length text.now ≤ 65536 }
+        ensures reply { IfOk result (λ r. text_of r ≡ reply_of (begin self.old (game_of (or_base text.now)))) }
+        ensures next { OnOk result (self.new ≡ after_of self.old (begin self.old (game_of (or_base text.now)))) }
+        ensures err { OnErr result (self.new ≡ self.old) }
+    {
+        match read_game::<G>(alloc, or_base(text)) {
+            Ok(parsed) => {
+                let game = Current::begin(alloc, parsed.game_type, parsed.moves.items())?;
+                self.go_on(alloc, game)
+            }
+            Err(fault) => refuse_game(alloc, fault),
+        }
+    }
+
+    /// Plays the move of a text.
+    fn play(&mut self, alloc: Global, words: &[u8]) -> Result<Reply, AllocError>
+        requires { length words.now ≤ 65536 }
+        ensures reply { IfOk result (λ r. text_of r ≡ reply_of (in_game self.old self.old.game (play self.old words.now))) }
+        ensures next { OnOk result (self.new ≡ after_of self.old (in_game self.old self.old.game (play self.old words.now))) }
+        ensures err { OnErr result (self.new ≡ self.old) }
+    {
+        let Some(game) = &mut self.game else {
+            return say(alloc, b"err 3 no game");
+        };
+        if game.is_over() {
+            return say(alloc, b"invalidmove 4 game over");
+        }
+        if game.plies() >= 5000 {
+            return say(alloc, b"err 11 too many plies");
+        }
+        let m = match game.read(words) {
+            Ok(m) => m,
+            Err(fault) => return refuse_move(alloc, fault),
+        };
+        if !game.is_legal(m.again()) {
+            return say(alloc, b"invalidmove 3 not legal");
+        }
+        game.advance(alloc, m)
+    }
+
+    /// The legal moves.
+    fn list(&mut self, alloc: Global) -> Result<Reply, AllocError>
+        ensures reply { IfOk result (λ r. text_of r ≡ reply_of (while_on self.old (list self.old))) }
+        ensures same { self.new ≡ self.old }
+    {
+        let Some(game) = &mut self.game else {
+            return say(alloc, b"err 3 no game");
+        };
+        if game.is_over() {
+            return say(alloc, b"err 8 game over");
+        }
+        game.tell_moves(alloc)
+    }
+
+    /// No search is built yet.
+    fn best(&self, alloc: Global) -> Result<Reply, AllocError>
+        ensures { IfOk result (λ r. text_of r ≡ reply_of (while_on self.now (λ g. refuse self.now (codes "err 20 not built")))) }
+    {
+        let Some(game) = &self.game else {
+            return say(alloc, b"err 3 no game");
+        };
+        if game.is_over() {
+            return say(alloc, b"err 8 game over");
+        }
+        say(alloc, b"err 20 not built")
+    }
+
+    /// Takes the last plies back, so many.
+    fn undo(&mut self, alloc: Global, plies: u32) -> Result<Reply, AllocError>
+        ensures reply { IfOk result (λ r. text_of r ≡ reply_of (in_game self.old self.old.game (undo self.old plies))) }
+        ensures next { OnOk result (self.new ≡ after_of self.old (in_game self.old self.old.game (undo self.old plies))) }
+        ensures err { OnErr result (self.new ≡ self.old) }
+    {
+        let Some(game) = &self.game else {
+            return say(alloc, b"err 3 no game");
+        };
+        if game.plies() < plies {
+            return say(alloc, b"err 7 undo beyond start");
+        }
+        let earlier = game.earlier(alloc, plies)?;
+        self.go_on(alloc, earlier)
     }
 }

@@ -1,0 +1,85 @@
+-- The written texts of a game, one move on and one move back; what is read on its board; and its positions.
+use Rattle.std.proofs.Common.{◌≡◌, ℕ, zero, suc, ◌-◌, List, [], ◌∷◌, ◌++◌, length, take, Result, Ok, Err, refl, sym, ◌∙◌, ap, subst, arith}
+use Rattle.hive_model.specs.declared.pieces.GameType.{GameType}
+use Rattle.hive_model.specs.declared.places.Move.{Move}
+use Rattle.hive_model.specs.Lists.{IsOn}
+use Rattle.hive_model.specs.Boards.{Stacks, IsBoard}
+use Rattle.hive_model.specs.Positions.{Position, IsSound, opening}
+use Rattle.hive_model.specs.Legal.{moves}
+use Rattle.hive_model.specs.Games.{after, replay}
+use Rattle.hive_model.specs.Denotes.{Denotes, text}
+use Rattle.hive_model.specs.Courses.{Course, position, with_move, without_last}
+use Rattle.hive_model.specs.Strings.{texts}
+use Rattle.hive_model.proofs.MoveLaws.{moves_legal}
+use Rattle.move_text.specs.declared.faults.MoveFault.{MoveFault}
+use Rattle.move_text.specs.Faults.{Refuses}
+use Rattle.move_text.specs.Moves.{move_of, IsMoveWithin}
+use Rattle.move_text.proofs.MoveLaws.{denotes_of, refuses_of}
+use Rattle.move_text.proofs.LegalSpell.{legal_within}
+use Rattle.uhp_session.specs.Answers.{Begun, reached}
+
+-- The position of a course that has the game's type and moves
+
+pub same_place : (c : Course) (g : Begun) → c.game_type ≡ g.game_type → c.made ≡ g.made → position c ≡ reached g
+same_place c g kind made = λ j. replay (opening (kind j)) (made j)
+
+pub kept_within : (c : Course) (g : Begun) (m : Move) → c.game_type ≡ g.game_type → c.made ≡ g.made → IsSound (position c) → IsOn (moves (reached g)) m → IsMoveWithin m
+kept_within c g m kind made sound on =
+    let here : IsOn (moves (position c)) m = subst (λ p. IsOn (moves p) m) (sym (same_place c g kind made)) on in
+    legal_within (position c) m sound (moves_legal (position c) sound.board m here)
+
+-- Texts
+
+texts_more : (p : Position) (ms : List Move) (m : Move) → texts p (ms ++ m ∷ []) ≡ texts p ms ++ text (replay p ms).board m ∷ []
+texts_more p [] m = refl
+texts_more p (k ∷ ms) m = ap (λ (r : List (List ℕ)). text p.board k ∷ r) (texts_more (after p k) ms m)
+
+texts_size : (p : Position) (ms : List Move) → length (texts p ms) ≡ length ms
+texts_size p [] = refl
+texts_size p (k ∷ ms) = ap suc (texts_size (after p k) ms)
+
+texts_part : (p : Position) (ms : List Move) (n : ℕ) → texts p (take n ms) ≡ take n (texts p ms)
+texts_part p [] zero = refl
+texts_part p [] (suc n) = refl
+texts_part p (k ∷ ms) zero = refl
+texts_part p (k ∷ ms) (suc n) = ap (λ (r : List (List ℕ)). text p.board k ∷ r) (texts_part (after p k) ms n)
+
+-- a move is made, and its text on the board before it is kept
+pub written_more : (c d e : Course) (old new : List (List ℕ)) (b : Stacks) (m k : Move) → d.game_type ≡ c.game_type → d.made ≡ c.made → e ≡ with_move d m
+    → old ≡ texts (opening c.game_type) c.made → b ≡ (position d).board → k ≡ m → new ≡ old ++ text b k ∷ [] → new ≡ texts (opening e.game_type) e.made
+written_more c d e old new b m k kind made moved before board same pushed =
+    let board2 : b ≡ (position c).board = board ∙ (λ i. (replay (opening (kind i)) (made i)).board) in
+    let kind2 : e.game_type ≡ c.game_type = ap (λ (z : Course). z.game_type) moved ∙ kind in
+    let made2 : e.made ≡ c.made ++ m ∷ [] = ap (λ (z : Course). z.made) moved ∙ ap (λ (r : List Move). r ++ m ∷ []) made in
+    pushed ∙ (λ i. before i ++ text (board2 i) (same i) ∷ []) ∙ sym (texts_more (opening c.game_type) c.made m)
+    ∙ sym (λ i. texts (opening (kind2 i)) (made2 i))
+
+-- the last move is taken back, and its text is dropped
+pub written_less : (c e : Course) (old new : List (List ℕ)) → e ≡ without_last c → old ≡ texts (opening c.game_type) c.made → new ≡ take (length old - 1) old
+    → new ≡ texts (opening e.game_type) e.made
+written_less c e old new back before popped =
+    let whole = texts (opening c.game_type) c.made in
+    popped ∙ (λ i. take (length (before i) - 1) (before i)) ∙ ap (λ n. take (n - 1) whole) (texts_size (opening c.game_type) c.made)
+    ∙ sym (texts_part (opening c.game_type) c.made (length c.made - 1))
+    ∙ sym (λ i. texts (opening (back i).game_type) (back i).made)
+
+-- a move was made and taken back
+pub taken_back : (ms : List Move) (m : Move) → take (length (ms ++ m ∷ []) - 1) (ms ++ m ∷ []) ≡ ms
+taken_back [] m = refl
+taken_back (k ∷ ms) m =
+    let long : length (k ∷ (ms ++ m ∷ [])) - 1 ≡ suc (length (ms ++ m ∷ []) - 1) = longer ms in
+    ap (λ n. take n (k ∷ (ms ++ m ∷ []))) long ∙ ap (λ (r : List Move). k ∷ r) (taken_back ms m)
+  where
+    longer : (ms : List Move) → length (k ∷ (ms ++ m ∷ [])) - 1 ≡ suc (length (ms ++ m ∷ []) - 1)
+    longer [] = refl
+    longer (x ∷ xs) = omega arith
+
+-- What is read
+
+pub reads_as : (t u : GameType) (b d : Stacks) (words : List ℕ) (r : Result Move MoveFault) → t ≡ u → b ≡ d → IsBoard b → ((m : Move) → Denotes t b words m → r ≡ Ok m)
+    → ((fault : MoveFault) → Refuses t b words fault → r ≡ Err fault) → r ≡ move_of u d words
+reads_as t u b d words r kind board is only each = go (move_of t b words) refl ∙ (λ i. move_of (kind i) (board i) words)
+  where
+    go : (x : Result Move MoveFault) → move_of t b words ≡ x → r ≡ move_of t b words
+    go (Ok m) e = only m (denotes_of t b words m is e) ∙ sym e
+    go (Err fault) e = each fault (refuses_of t b words fault e) ∙ sym e

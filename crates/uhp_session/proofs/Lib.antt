@@ -1,0 +1,4 @@
+pub mod PlayedLaws
+pub mod KeptLaws
+pub mod ListLaws
+pub mod ReplyLaws

@@ -1,0 +1,58 @@
+-- Refusals of game strings, and the games of lines.
+use Rattle.std.proofs.Common.{◌≡◌, ◌≢◌, ◌≤◌, ℕ, Bool, true, false, List, [], ◌∷◌, length, Result, Err, inl, inr, refl, sym, subst, arith, if◌then◌else◌}
+use Rattle.std.specs.Prelude.{Option, Some, None, codes}
+use Rattle.std.specs.Str.{bytes_eq}
+use Rattle.hive_model.specs.declared.pieces.GameType.{GameType}
+use Rattle.hive_model.specs.declared.places.Move.{Move}
+use Rattle.hive_model.specs.Games.{IsGame}
+use Rattle.hive_model.specs.Strings.{IsGameLine}
+use Rattle.game_text.specs.declared.faults.GameFault.{GameFault}
+use Rattle.game_text.specs.declared.faults.GameFault.TheVariants.{Malformed, TooLong, BadMove, IllegalMove, OtherState, OtherTurn, Memory}
+use Rattle.hive_model.specs.Legal.{is_over}
+use Rattle.game_text.specs.Reading.{Fails}
+use Rattle.uhp_session.specs.Answers.{Begun, State, Answer, Says, reached, after_of, refuse, in_game, while_on, list, get, table_line, workers_line}
+
+-- a fault of the text is the one that the text has
+pub refused_as : {X : Type 0} (fault : GameFault) (read : Result X GameFault) → Fails fault read → fault ≢ Memory → read ≡ Err fault
+refused_as (Malformed k) read h other = h
+refused_as TooLong read h other = h
+refused_as (BadMove n fault) read h other = h
+refused_as (IllegalMove n) read h other = h
+refused_as OtherState read h other = h
+refused_as OtherTurn read h other = h
+refused_as Memory read h other = absurd (other refl)
+
+pub line_game : (line : List ℕ) (t : GameType) (ms : List Move) → IsGameLine line t ms → IsGame t ms
+line_game line t ms (inl alone) = subst (IsGame t) (sym alone.1) tt
+line_game line t ms (inr full) = full.legal
+
+pub line_few : (line : List ℕ) (t : GameType) (ms : List Move) → IsGameLine line t ms → length ms ≤ 5064
+line_few line t ms (inl alone) = subst (λ (ms : List Move). length ms ≤ 5064) (sym alone.1) (omega arith)
+line_few line t ms (inr full) = let few = full.few in omega (arith, few)
+
+-- What only tells leaves the session as it is
+
+pub get_keeps : (s : State) (name : List ℕ) → s ≡ after_of s (get s name)
+get_keeps s name = go (bytes_eq name (codes "Table")) (bytes_eq name (codes "Workers"))
+  where
+    go : (a b : Bool) → s ≡ after_of s (if a then Says (table_line s.table ∷ []) s else if b then Says (workers_line s.workers ∷ []) s else refuse s (codes "err 9 no such option"))
+    go true b = refl
+    go false true = refl
+    go false false = refl
+
+while_keeps : (s : State) (f : Begun → Answer) → ((g : Begun) → s ≡ after_of s (f g)) → s ≡ after_of s (while_on s f)
+while_keeps s f keeps = go s.game
+  where
+    over : (g : Begun) (b : Bool) → s ≡ after_of s (if b then refuse s (codes "err 8 game over") else f g)
+    over g true = refl
+    over g false = keeps g
+
+    go : (o : Option Begun) → s ≡ after_of s (in_game s o (λ g. if is_over (reached g) then refuse s (codes "err 8 game over") else f g))
+    go None = refl
+    go (Some g) = over g (is_over (reached g))
+
+pub list_keeps : (s : State) → s ≡ after_of s (while_on s (list s))
+list_keeps s = while_keeps s (list s) (λ g. refl)
+
+pub best_keeps : (s : State) → s ≡ after_of s (while_on s (λ g. refuse s (codes "err 20 not built")))
+best_keeps s = while_keeps s (λ g. refuse s (codes "err 20 not built")) (λ g. refl)

@@ -1,0 +1,10 @@
+use Rattle.std.proofs.Common.{rules, ◌≡◌, List, [], ◌∷◌, ◌++◌, sym, ◌∙◌, ap}
+use Rattle.hive_model.specs.declared.places.Move.{Move}
+use Rattle.game_text.proofs.WriteLaws.{taken_next}
+use Rattle.uhp_session.proofs.current.first_moves.Goals as goal
+
+pub loop-i-preserved : goal.loop-i-preserved
+loop-i-preserved g c =
+    let pushed : c.push.new.self ≡ c.loop-i.moves ++ c.move_at.result ∷ [] = search rules in
+    pushed ∙ ap (λ (r : List Move). r ++ c.move_at.result ∷ []) c.loop-i.invariant
+    ∙ sym (taken_next (g.G.Game.course c.args.game.now).made c.loop-i.i c.move_at.result c.move_at.ensures)

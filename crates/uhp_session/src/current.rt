@@ -1,0 +1,221 @@
+//! A game that was begun, with the written texts of its moves.
+
+ghost use Rattle.std.specs.Prelude.{◌≡◌, ◌<◌, ◌≤◌, ◌-◌, [], ◌∷◌, ◌++◌, length, take, map, codes, Some, IfOk, OnOk, OnErr, IsTrue};
+ghost use Rattle.hive_model.specs.Lists.{IsOn};
+ghost use Rattle.hive_model.specs.Legal.{moves, is_over};
+ghost use Rattle.hive_model.specs.Games.{IsGame};
+ghost use Rattle.hive_model.specs.Courses.{is_listed};
+ghost use Rattle.hive_model.specs.Denotes.{text};
+ghost use Rattle.hive_model.specs.Strings.{string};
+ghost use Rattle.hive_model.specs.Stack.{with_level};
+ghost use Rattle.move_text.specs.Moves.{move_of};
+ghost use Rattle.uhp_session.specs.Answers.{Begun, reached, text_of, ended, joined};
+
+use crate::lines::Reply;
+use crate::lists::joined_moves;
+use crate::says::close;
+use game_text::{MoveTexts, texts_of};
+use hive_model::{Game, GameType, Move, MoveList, MoveStack, ReplyText, State};
+use move_text::{MoveFault, read_move};
+use std::alloc::{AllocError, Global};
+use std::marker::Model;
+
+/// A game that was begun, seen as its type and its moves, with the written texts of the moves.
+#[derive(Drop)]
+pub(crate) struct Current<G: Game> {
+    game: G,
+    written: MoveTexts,
+}
+
+impl<G: Game> Model for Current<G> {
+    ghost use Rattle.std.specs.Prelude.{◌≡◌};
+    ghost use Rattle.hive_model.specs.Positions.{opening};
+    ghost use Rattle.hive_model.specs.Strings.{texts};
+    ghost use Rattle.uhp_session.specs.Answers.{Begun};
+
+    ghost Value = { Begun };
+
+    ghost view = { λ c. record { game_type = (G.course c.game).game_type; made = (G.course c.game).made } };
+
+    ghost invariant = { λ c. c.written ≡ texts (opening (G.course c.game).game_type) (G.course c.game).made };
+}
+
+/// A game of this type in which these moves were played.
+fn played<G: Game + Drop>(
+    alloc: Global,
+    game_type: GameType,
+    moves: &[Move],
+) -> Result<G, AllocError>
+    requires game { IsGame game_type moves.now }
+    requires few { length moves.now ≤ 5064 }
+    ensures kind { IfOk result (λ g. (G.course g).game_type ≡ game_type) }
+    ensures made { IfOk result (λ g. (G.course g).made ≡ moves.now) }
+{
+    let mut game = G::opening(alloc, game_type)?;
+    game.reserve(moves.len() as u32)?;
+    for m in moves {
+        game.play(m.again());
+    }
+    Ok(game)
+}
+
+/// The first moves of the game, so many.
+fn first_moves<G: Game>(alloc: Global, game: &G, count: u32) -> Result<MoveList, AllocError>
+    requires { count ≤ length (G.course game.now).made }
+    ensures { IfOk result (λ ms. ms ≡ take count (G.course game.now).made) }
+{
+    let mut moves = MoveList::new(alloc);
+    for i in 0..count {
+        moves.push(game.move_at(i))?;
+    }
+    Ok(moves)
+}
+
+impl<G: Game + Drop> Current<G> {
+    /// The game of this type and these moves.
+    pub(crate) fn begin(
+        alloc: Global,
+        game_type: GameType,
+        moves: &[Move],
+    ) -> Result<Current<G>, AllocError>
+        requires game { IsGame game_type moves.now }
+        requires few { length moves.now ≤ 5064 }
+        ensures { IfOk result (λ c. c ≡ record { game_type = game_type; made = moves.now }) }
+    {
+        let game: G = played(alloc, game_type, moves)?;
+        let written = texts_of(alloc, &game)?;
+        Ok(Current { game, written })
+    }
+
+    /// Whether the game is over.
+    pub(crate) fn is_over(&self) -> bool
+        ensures { result ≡ is_over (reached self.now) }
+    {
+        match self.game.state() {
+            State::NotStarted | State::InProgress => false,
+            State::Draw | State::WhiteWins | State::BlackWins => true,
+        }
+    }
+
+    /// The number of plies played.
+    pub(crate) fn plies(&self) -> u32
+        ensures { result ≡ length self.now.made }
+    {
+        self.game.plies()
+    }
+
+    /// The move that the words denote on the board, or why they denote none.
+    pub(crate) fn read(&self, words: &[u8]) -> Result<Move, MoveFault>
+        requires { length words.now ≤ 65536 }
+        ensures { result ≡ move_of self.now.game_type (reached self.now).board words.now }
+    {
+        let _state = self.game.state();
+        read_move(self.game.game_type(), &self.game, words)
+    }
+
+    /// Whether the move is legal.
+    pub(crate) fn is_legal(&mut self, m: Move) -> bool
+        ensures legal { IsTrue result → IsOn (moves (reached self.old)) m }
+        ensures test { result ≡ is_listed (reached self.old) m }
+        ensures same { self.new ≡ self.old }
+    {
+        self.game.is_legal(m)
+    }
+
+    /// Plays a legal move. After want of memory the game is as before.
+    pub(crate) fn play(&mut self, m: Move) -> Result<(), AllocError>
+        requires legal { IsOn (moves (reached self.old)) m }
+        requires few { length self.old.made < 5000 }
+        ensures played { OnOk result (self.new ≡ record { game_type = self.old.game_type; made = self.old.made ++ m ∷ [] }) }
+        ensures refused { OnErr result (self.new ≡ self.old) }
+    {
+        self.game.reserve(1)?;
+        let _state = self.game.state();
+        self.written.push(&self.game, m.again())?;
+        self.game.play(m);
+        Ok(())
+    }
+
+    /// Takes the last move back.
+    pub(crate) fn back(&mut self)
+        requires { 1 ≤ length self.old.made }
+        ensures { self.new ≡ record { game_type = self.old.game_type; made = take (length self.old.made - 1) self.old.made } }
+    {
+        self.game.undo();
+        self.written.pop();
+    }
+
+    /// The game without its last plies, so many.
+    pub(crate) fn earlier(&self, alloc: Global, plies: u32) -> Result<Current<G>, AllocError>
+        requires { plies ≤ length self.now.made }
+        ensures { IfOk result (λ c. c ≡ record { game_type = self.now.game_type; made = take (length self.now.made - plies) self.now.made }) }
+    {
+        let _state = self.game.state();
+        let left = self.game.plies() - plies;
+        let moves = first_moves(alloc, &self.game, left)?;
+        Current::begin(alloc, self.game.game_type(), moves.items())
+    }
+
+    /// Appends the game string. After want of memory nothing was appended.
+    pub(crate) fn write(&self, out: &mut ReplyText) -> Result<(), AllocError>
+        ensures written { OnOk result (out.new ≡ out.old ++ string self.now.game_type self.now.made) }
+        ensures refused { OnErr result (out.new ≡ out.old) }
+    {
+        let state = self.game.state();
+        self.written.write(
+            self.game.game_type(),
+            state,
+            self.game.side(),
+            self.game.turn(),
+            out,
+        )
+    }
+
+    /// The game string, and `ok`.
+    pub(crate) fn tell(&self, alloc: Global) -> Result<Reply, AllocError>
+        ensures { IfOk result (λ r. text_of r ≡ Some (ended (string self.now.game_type self.now.made ∷ (codes "ok" ∷ [])))) }
+    {
+        let mut text = ReplyText::new(alloc);
+        self.write(&mut text)?;
+        close(text)
+    }
+
+    /// Plays a legal move, and tells the game string after it. After want of memory the game is as before.
+    #[tactic(auto, using(crate::proofs::KeptLaws::taken_back))]
+    pub(crate) fn advance(&mut self, alloc: Global, m: Move) -> Result<Reply, AllocError>
+        requires legal { IsOn (moves (reached self.old)) m }
+        requires few { length self.old.made < 5000 }
+        ensures reply { IfOk result (λ r. text_of r ≡ Some (ended (string self.old.game_type (self.old.made ++ m ∷ []) ∷ (codes "ok" ∷ [])))) }
+        ensures played { OnOk result (self.new ≡ record { game_type = self.old.game_type; made = self.old.made ++ m ∷ [] }) }
+        ensures refused { OnErr result (self.new ≡ self.old) }
+    {
+        self.play(m)?;
+        match self.tell(alloc) {
+            Ok(reply) => Ok(reply),
+            Err(error) => {
+                self.back();
+                Err(error)
+            }
+        }
+    }
+
+    /// The legal moves, and `ok`. The game is as before.
+    pub(crate) fn tell_moves(&mut self, alloc: Global) -> Result<Reply, AllocError>
+        ensures reply { IfOk result (λ r. text_of r ≡ Some (ended (joined (map (text (reached self.old).board) (moves (reached self.old))) ∷ (codes "ok" ∷ [])))) }
+        ensures same { self.new ≡ self.old }
+    {
+        let mut stack = MoveStack::new(alloc, 1)?;
+        self.list(&mut stack);
+        let _state = self.game.state();
+        close(joined_moves(alloc, &self.game, &stack)?)
+    }
+
+    /// Begins a level and fills it with the legal moves.
+    fn list(&mut self, out: &mut MoveStack)
+        requires { 1 ≤ out.old.free }
+        ensures listed { out.new ≡ with_level out.old (moves (reached self.old)) }
+        ensures same { self.new ≡ self.old }
+    {
+        self.game.list(out)
+    }
+}

@@ -1,0 +1,78 @@
+//! The lines of options.
+
+ghost use Rattle.std.specs.Prelude.{◌≡◌, ◌≤◌, [], ◌∷◌, ◌++◌, Some, codes, decimal, IfOk, IfSome, OnOk};
+ghost use Rattle.uhp_words.specs.Numbers.{number_at};
+ghost use Rattle.uhp_session.specs.Answers.{text_of, ended, table_line, workers_line};
+
+use crate::lines::Reply;
+use crate::says::close;
+use hive_model::ReplyText;
+use itoa::Buffer;
+use std::alloc::{AllocError, Global};
+
+/// A number in this range.
+pub(crate) fn number_in(text: &[u8], least: u64, most: u64) -> Option<u64>
+    ensures value { result ≡ number_at text.now least most }
+    ensures small { IfSome result (λ n. n ≤ most) }
+{
+    move_text::read_number(text, least, most)
+}
+
+/// Appends the line of an option: what stands before its value, the value, and what stands behind it. After want of memory a part
+/// of these was appended.
+fn push_option(
+    text: &mut ReplyText,
+    start: &[u8],
+    value: u32,
+    rest: &[u8],
+) -> Result<(), AllocError>
+    ensures { OnOk result (text.new ≡ text.old ++ (start.now ++ (decimal value ++ rest.now))) }
+{
+    text.push_all(start)?;
+    let mut buffer = Buffer::new();
+    text.push_all(buffer.format(value).as_bytes())?;
+    text.push_all(rest)
+}
+
+/// Appends the line of the option Table, without its end.
+fn push_table(text: &mut ReplyText, value: u32) -> Result<(), AllocError>
+    ensures { OnOk result (text.new ≡ text.old ++ table_line value) }
+{
+    push_option(text, b"Table;int;", value, b";65536;1;1048576")
+}
+
+/// Appends the line of the option Workers, without its end.
+fn push_workers(text: &mut ReplyText, value: u32) -> Result<(), AllocError>
+    ensures { OnOk result (text.new ≡ text.old ++ workers_line value) }
+{
+    push_option(text, b"Workers;int;", value, b";1;1;16")
+}
+
+/// The line of the option Table, and `ok`.
+pub(crate) fn tell_table(alloc: Global, value: u32) -> Result<Reply, AllocError>
+    ensures { IfOk result (λ r. text_of r ≡ Some (ended (table_line value ∷ (codes "ok" ∷ [])))) }
+{
+    let mut text = ReplyText::new(alloc);
+    push_table(&mut text, value)?;
+    close(text)
+}
+
+/// The line of the option Workers, and `ok`.
+pub(crate) fn tell_workers(alloc: Global, value: u32) -> Result<Reply, AllocError>
+    ensures { IfOk result (λ r. text_of r ≡ Some (ended (workers_line value ∷ (codes "ok" ∷ [])))) }
+{
+    let mut text = ReplyText::new(alloc);
+    push_workers(&mut text, value)?;
+    close(text)
+}
+
+/// The lines of both options, and `ok`.
+pub(crate) fn tell_options(alloc: Global, table: u32, workers: u32) -> Result<Reply, AllocError>
+    ensures { IfOk result (λ r. text_of r ≡ Some (ended (table_line table ∷ (workers_line workers ∷ (codes "ok" ∷ []))))) }
+{
+    let mut text = ReplyText::new(alloc);
+    push_table(&mut text, table)?;
+    text.push(b'\n')?;
+    push_workers(&mut text, workers)?;
+    close(text)
+}
