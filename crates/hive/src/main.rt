@@ -3,14 +3,12 @@
 //! It ends with the number of the status of its run. Where the run could not be done, one line on standard error says why.
 #![tactic(auto)]
 
-mod no_game;
 mod streams;
 #[cfg(test)]
 mod tests;
 
 use hive_cli::{Status, run};
 use io_edge::{MemSpawner, StepClock};
-use no_game::NoGame;
 use std::env::Env;
 use std::process::ExitCode;
 use std::thread::Threads;
@@ -47,7 +45,7 @@ fn run_on_streams<R: Input + Print + AllocGlobal + Threads + Sync>(
     let mut output = OutputStream::new(io::writer(rt));
     let mut clock = StepClock::new(0, 1);
     let mut spawner = MemSpawner::new(rt.alloc(), Vec::new(rt.alloc()), Vec::new(rt.alloc()));
-    let outcome = run::<_, _, _, _, _, NoGame>(
+    let outcome = run(
         rt,
         rt.alloc(),
         words,

@@ -7,8 +7,9 @@ ghost use Rattle.hive_cli.specs.Session.{SessionRun};
 use crate::sessions::uhp;
 use crate::status::{Outcome, Status};
 use crate::words::are_uhp_words;
-use hive_model::{Game, TimedList};
+use hive_model::TimedList;
 use io_edge::{Clock, Sink, Source, Spawner};
+use plain_game::PlainGame;
 use std::alloc::Global;
 use std::thread::Threads;
 
@@ -20,7 +21,7 @@ use std::thread::Threads;
 /// with `InputFull`, and want of memory with `Memory`; what was written until then stays.
 ///
 /// Every other list of words is `Usage`, and nothing is read or written.
-pub fn run<R: Threads + Sync, S: Source, K: Sink, C: Clock, P: Spawner, G: Game + Drop>(
+pub fn run<R: Threads + Sync, S: Source, K: Sink, C: Clock, P: Spawner>(
     rt: &R,
     alloc: Global,
     words: &[String],
@@ -49,6 +50,6 @@ pub fn run<R: Threads + Sync, S: Source, K: Sink, C: Clock, P: Spawner, G: Game 
             timed,
         };
     }
-    let status = uhp::<R, S, K, C, G>(rt, alloc, input, output, clock, &mut timed);
+    let status = uhp::<R, S, K, C, PlainGame>(rt, alloc, input, output, clock, &mut timed);
     Outcome { status, timed }
 }
