@@ -1,3 +1,7 @@
 pub mod Walking
 pub mod Marking
-pub mod Separating
+pub mod SeparatingLists
+pub mod Around
+pub mod Visiting
+pub mod Onward
+pub mod Starting

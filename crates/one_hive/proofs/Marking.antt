@@ -6,7 +6,7 @@ use Rattle.std.proofs.lemmas.Bool.{lt-ltb, ltb-true, eqb-true, and_parts, and_fr
 use Rattle.hive_model.specs.declared.places.Place.{Place}
 use Rattle.hive_model.specs.declared.places.Spot.{Spot}
 use Rattle.hive_model.specs.Lists.{IsOn}
-use Rattle.hive_model.specs.Boards.{Stacks, stack_at, height_at, is_occupied, top_at, top_of, spot_of, StandsAt, IsBoard}
+use Rattle.hive_model.specs.Boards.{Stacks, height_at, is_occupied, top_at, top_of, spot_of, IsBoard}
 use Rattle.hive_model.proofs.Floods.{on_append, append_left, append_right}
 use Rattle.hive_model.proofs.GetLemmas.{get_within, get_exists, get-set_same, get-set_other}
 use Rattle.hive_model.proofs.BoardLemmas.{stands_occupied, spot_of_stands, stands_spot_of}
@@ -67,6 +67,9 @@ module _ (b : Stacks) (is : IsBoard b) (places : List Place) (tops : List Bool) 
       let e : r.0 ≡ x = cc in
       subst (λ y. slice_get tops y ≡ Some true) e r.2
 
+  pub not_on : slice_get tops x ≡ Some false → IsOn places p → ⊥
+  not_on free on = let wrong : Some true ≡ Some false = sym (mark_by_on on) ∙ free in let off : true ≡ false = cc in cc
+
   -- the marks after one more place
   module _ (free : slice_get tops x ≡ Some false) (new : List Place) (more : List Bool) (new_is : new ≡ places ++ p ∷ []) (more_is : more ≡ slice_set tops x true) where
     set_same : slice_get more x ≡ Some true
@@ -96,15 +99,16 @@ module _ (b : Stacks) (is : IsBoard b) (places : List Place) (tops : List Bool) 
         last_more [] = refl
         last_more (y ∷ ys) = omega (arith, last_more ys)
 
+-- no mark is set
+pub none_set : (ms : List Bool) → list_all not ms ≡ true → (x : ℕ) → slice_get ms x ≡ Some true → ⊥
+none_set [] e x h = let wrong : None ≡ Some true = h in cc
+none_set (m ∷ ms) e zero h = let same : Some m ≡ Some true = h in let is : m ≡ true = cc in let both = and_parts (not m) (list_all not ms) e in let wrong : false ≡ true = ap not (sym is) ∙ both.0 in cc
+none_set (m ∷ ms) e (suc x) h = none_set ms (and_parts (not m) (list_all not ms) e).1 x h
+
 -- nothing is on the list and no mark is set
 pub none_marked : (b : Stacks) (ms : List Bool) → list_all not ms ≡ true → length ms ≡ 28 → AreMarked b [] ms
-none_marked b ms e all = record { marked = λ p on. absurd on; listed = λ x h. absurd (none ms e x h); many = sym (none_count ms e); all = all }
+none_marked b ms e all = record { marked = λ p on. absurd on; listed = λ x h. absurd (none_set ms e x h); many = sym (none_count ms e); all = all }
   where
-    none : (ms : List Bool) → list_all not ms ≡ true → (x : ℕ) → slice_get ms x ≡ Some true → ⊥
-    none [] e x h = let wrong : None ≡ Some true = h in cc
-    none (m ∷ ms) e zero h = let same : Some m ≡ Some true = h in let is : m ≡ true = cc in let both = and_parts (not m) (list_all not ms) e in let wrong : false ≡ true = ap not (sym is) ∙ both.0 in cc
-    none (m ∷ ms) e (suc x) h = none ms (and_parts (not m) (list_all not ms) e).1 x h
-
     none_count : (ms : List Bool) → list_all not ms ≡ true → marks_set ms ≡ 0
     none_count [] e = refl
     none_count (true ∷ ms) e = let wrong : false ≡ true = e in absurd (cc)

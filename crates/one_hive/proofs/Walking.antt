@@ -22,7 +22,7 @@ joined_then o a b c x y = (x.0 ++ y.0, path_append (StepOn o) a x.0 b y.0 c x.1 
 pub joined_step : (o : Place → Bool) (a b : Place) → StepOn o a b → Joined o a b
 joined_step o a b s = (b ∷ [], (s, refl))
 
-neighbour_back : (a b : Place) → AreNeighbours a b → AreNeighbours b a
+pub neighbour_back : (a b : Place) → AreNeighbours a b → AreNeighbours b a
 neighbour_back a b h = (opposite h.0, subst (λ z. step z (opposite h.0) ≡ a) h.1 (back a h.0))
 
 -- the way back, from a place of the set
@@ -121,19 +121,19 @@ pub record Walked (o : Place → Bool) (start : Place) (n : ℕ) (places : List 
   pub closed : (p : Place) → IsOn (take n places) p → (d : Dir) → IsTrue (o (step p d)) → IsOn places (step p d)
 
 -- the start alone, which was met first
-pub walked_start : (o : Place → Bool) (start : Place) (old new : List Place) → old ≡ [] → IsTrue (o start) → Meets o start old new → Walked o start 0 new
-walked_start o start old new e there m = record {
+pub met_alone : (o : Place → Bool) (start : Place) (old new : List Place) → old ≡ [] → Meets o start old new → IsTrue (o start) → new ≡ start ∷ []
+met_alone o start old new e m there = elim m [
+  | inl (same, known) ↦ absurd (subst (λ zs. IsOn zs start) e (known there))
+  | inr (longer, here) ↦ longer ∙ ap (λ zs. zs ++ start ∷ []) e
+]
+
+pub walked_start : (o : Place → Bool) (start : Place) (new : List Place) → new ≡ start ∷ [] → Walked o start 0 new
+walked_start o start new alone = record {
   first = subst (λ zs. IsOn zs start) (sym alone) (inl refl);
   reached = λ p on. elim (subst (λ zs. IsOn zs p) alone on) [ inl same ↦ ([], same) | inr none ↦ absurd none ];
   closed = λ p on. absurd (none new p on);
 }
   where
-    alone : new ≡ start ∷ []
-    alone = elim m [
-      | inl (same, known) ↦ absurd (subst (λ zs. IsOn zs start) e (known there))
-      | inr (longer, here) ↦ longer ∙ ap (λ zs. zs ++ start ∷ []) e
-    ]
-
     none : (zs : List Place) (p : Place) → IsOn (take 0 zs) p → ⊥
     none [] p h = h
     none (z ∷ zs) p h = h

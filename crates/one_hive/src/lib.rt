@@ -2,10 +2,14 @@
 #![tactic(auto)]
 
 mod hives;
+mod marks;
 mod met;
+mod separating;
 mod steps;
+mod visits;
 
-pub use hives::{is_one, separating_places, walk_is_cut};
+pub use hives::{is_one, walk_is_cut};
+pub use separating::separating_places;
 pub use steps::Steps;
 
 #[cfg(test)]

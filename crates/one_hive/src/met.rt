@@ -47,7 +47,7 @@ pub(crate) fn ground_place<B: Board>(
 }
 
 /// Marks a piece, and adds its place.
-fn add(met: &mut Met, piece: Piece, place: Place)
+pub(crate) fn add(met: &mut Met, piece: Piece, place: Place)
     requires { length met.old.places.items < 28 }
     ensures places { met.new.places.items ≡ met.old.places.items ++ place ∷ [] }
     ensures tops { met.new.tops ≡ slice_set met.old.tops piece true }
@@ -57,7 +57,7 @@ fn add(met: &mut Met, piece: Piece, place: Place)
 }
 
 /// Whether the piece is marked.
-fn is_marked(met: &Met, piece: Piece) -> bool
+pub(crate) fn is_marked(met: &Met, piece: Piece) -> bool
     ensures { slice_get met.now.tops piece ≡ Some result }
 {
     met.tops[piece.index() as usize]
@@ -96,6 +96,21 @@ fn spread<B: Board>(board: &B, left_out: Option<Place>, from: Place, met: &mut M
     }
 }
 
+/// This place is met, and no other yet.
+pub(crate) fn met_first<B: Board>(board: &B, left_out: Option<Place>, start: Place) -> Met
+    requires board { IsBoard (B.stacks board.now) }
+    requires start { IsTrue (others (B.stacks board.now) left_out start) }
+    ensures places { result.places.items ≡ start ∷ [] }
+    ensures marked { AreMarked (B.stacks board.now) result.places.items result.tops }
+{
+    let mut met = Met {
+        places: ArrayVec::new(),
+        tops: [false; 28],
+    };
+    meet(board, left_out, start, &mut met);
+    met
+}
+
 /// All places to which a walk over the occupied places leads from this one, without the one that is left out.
 pub(crate) fn walk_from<B: Board>(board: &B, left_out: Option<Place>, start: Place) -> Met
     requires board { IsBoard (B.stacks board.now) }
@@ -103,11 +118,7 @@ pub(crate) fn walk_from<B: Board>(board: &B, left_out: Option<Place>, start: Pla
     ensures marked { AreMarked (B.stacks board.now) result.places.items result.tops }
     ensures met { (p : Place) → IsOn result.places.items p ↔ Joined (others (B.stacks board.now) left_out) start p }
 {
-    let mut met = Met {
-        places: ArrayVec::new(),
-        tops: [false; 28],
-    };
-    meet(board, left_out, start, &mut met);
+    let mut met = met_first(board, left_out, start);
     let mut next = 0;
     while next < met.places.len() {
         let place = met.places.as_slice()[next];

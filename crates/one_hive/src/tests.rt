@@ -65,11 +65,41 @@ fn ring(rt: HostRuntime) -> Result<(), Fail> {
 }
 
 #[test]
+fn ring_with_a_tail(rt: HostRuntime) -> Result<(), Fail> {
+    let board = board_of(
+        rt.alloc(),
+        &[
+            (0, 1),
+            (1, 0),
+            (2, 0),
+            (1, -1),
+            (0, -1),
+            (-1, 0),
+            (-1, 1),
+            (3, 0),
+        ],
+    )?;
+    let mut places = PlaceList::new();
+    separating_places(&board, &mut places);
+    assert_eq!(rt;
+        places.as_slice(),
+        [Place { q: 1, r: 0 }, Place { q: 2, r: 0 }].as_slice()
+    );
+    Ok(())
+}
+
+#[test]
 fn two_hives(rt: HostRuntime) -> Result<(), Fail> {
     assert!(rt; is_one(&PlainBoard::new(rt.alloc())?));
     let board = board_of(rt.alloc(), &[(0, 0), (2, 0), (2, 1)])?;
     assert!(rt; !is_one(&board));
     assert!(rt; !is_cut(&board, Place { q: 0, r: 0 }));
     assert!(rt; is_cut(&board, Place { q: 2, r: 1 }));
+    let mut places = PlaceList::new();
+    separating_places(&board, &mut places);
+    assert_eq!(rt;
+        places.as_slice(),
+        [Place { q: 2, r: 0 }, Place { q: 2, r: 1 }].as_slice()
+    );
     Ok(())
 }
