@@ -1,14 +1,13 @@
 -- The game of a session has legal moves after every line, and no more than 5,000.
-use Rattle.std.proofs.Common.{◌≡◌, ℕ, suc, ◌+◌, ◌-◌, ◌≤◌, ◌<◌, Bool, true, false, List, [], ◌∷◌, ◌++◌, length, take, Result, Ok, Err, refl, sym, ap, subst, arith, if◌then◌else◌}
+use Rattle.std.proofs.Common.{◌≡◌, ℕ, suc, ◌-◌, ◌<◌, Bool, true, false, List, [], ◌∷◌, ◌++◌, length, take, Result, Ok, Err, refl, ap, subst, arith, if◌then◌else◌}
 use Rattle.std.specs.Prelude.{Option, Some, None, codes, nat_le, nat_lt}
 use Rattle.std.specs.Str.{bytes_eq}
 use Rattle.std.proofs.lemmas.Bool.{leb-false}
-use Rattle.hive_model.specs.declared.pieces.GameType.{GameType}
 use Rattle.hive_model.specs.declared.places.Move.{Move}
 use Rattle.hive_model.specs.Courses.{is_listed}
-use Rattle.hive_model.specs.Games.{after, replay, AreLegal, IsGame}
+use Rattle.hive_model.specs.Games.{after, replay, AreLegal}
 use Rattle.hive_model.specs.Legal.{moves, is_over}
-use Rattle.hive_model.specs.Lines.{Line, Text as TextLine, TooLong as LongLine}
+use Rattle.hive_model.specs.Lines.{Text as TextLine, TooLong as LongLine}
 use Rattle.hive_model.specs.Lists.{IsOn}
 use Rattle.hive_model.specs.Positions.{Position, opening}
 use Rattle.move_text.specs.declared.faults.MoveFault.{MoveFault}
@@ -26,7 +25,7 @@ use Rattle.uhp_words.specs.declared.command.CommandFault.TheVariants.{Unknown, A
 use Rattle.uhp_words.specs.Numbers.{number_at}
 use Rattle.uhp_words.specs.Reading.{command_of}
 use Rattle.uhp_words.specs.Spans.{bytes_at}
-use Rattle.uhp_session.specs.Answers.{Begun, State, Answer, reached, refuse, go_on, in_game, begin, make, play, list, undo, set_table, set_workers, set, get, while_on, or_base, command_answer, words_answer, answer, after_of, next}
+use Rattle.uhp_session.specs.Answers.{Begun, State, Answer, reached, refuse, go_on, in_game, begin, make, play, list, undo, set_table, set_workers, set, get, while_on, or_base, command_answer, words_answer, after_of, next}
 use Rattle.uhp_session.specs.Laws.{HoldsGame, SessionsHoldGames}
 use Rattle.uhp_session.proofs.ReplyLaws.{get_keeps, list_keeps, best_keeps, line_game, line_few}
 

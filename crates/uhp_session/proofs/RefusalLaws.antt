@@ -6,7 +6,7 @@ use Rattle.hive_model.specs.declared.pieces.GameType.{GameType}
 use Rattle.hive_model.specs.declared.places.Move.{Move}
 use Rattle.hive_model.specs.Courses.{is_listed}
 use Rattle.hive_model.specs.Legal.{is_over}
-use Rattle.hive_model.specs.Lines.{Line, Text as TextLine, TooLong as LongLine}
+use Rattle.hive_model.specs.Lines.{Text as TextLine, TooLong as LongLine}
 use Rattle.hive_model.specs.Strings.{string}
 use Rattle.move_text.specs.declared.faults.MoveFault.{MoveFault}
 use Rattle.move_text.specs.Moves.{move_of}
@@ -20,7 +20,7 @@ use Rattle.uhp_words.specs.declared.command.CommandFault.TheVariants.{Unknown, A
 use Rattle.uhp_words.specs.Numbers.{number_at}
 use Rattle.uhp_words.specs.Reading.{command_of}
 use Rattle.uhp_words.specs.Spans.{bytes_at}
-use Rattle.uhp_session.specs.Answers.{Begun, State, Answer, Says, Leaves, reached, refuse, go_on, in_game, begin, make, play, list, undo, set_table, set_workers, set, table_line, workers_line, or_base, command_answer, words_answer, answer, after_of, next}
+use Rattle.uhp_session.specs.Answers.{Begun, State, Answer, reached, refuse, go_on, in_game, begin, make, play, undo, set_table, set_workers, set, table_line, workers_line, or_base, command_answer, words_answer, after_of, next}
 use Rattle.uhp_session.specs.Laws.{IsRefusal, RefusalsChangeNothing}
 use Rattle.uhp_session.proofs.ReplyLaws.{get_keeps, list_keeps, best_keeps}
 

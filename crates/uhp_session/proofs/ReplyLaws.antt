@@ -1,26 +1,13 @@
--- Refusals of game strings, and the games of lines.
-use Rattle.std.proofs.Common.{◌≡◌, ◌≢◌, ◌≤◌, ℕ, Bool, true, false, List, [], ◌∷◌, length, Result, Err, inl, inr, refl, sym, subst, arith, if◌then◌else◌}
+-- The games of lines, and the commands that only tell.
+use Rattle.std.proofs.Common.{◌≡◌, ◌≤◌, ℕ, Bool, true, false, List, [], ◌∷◌, length, inl, inr, refl, sym, subst, arith, if◌then◌else◌}
 use Rattle.std.specs.Prelude.{Option, Some, None, codes}
 use Rattle.std.specs.Str.{bytes_eq}
 use Rattle.hive_model.specs.declared.pieces.GameType.{GameType}
 use Rattle.hive_model.specs.declared.places.Move.{Move}
 use Rattle.hive_model.specs.Games.{IsGame}
 use Rattle.hive_model.specs.Strings.{IsGameLine}
-use Rattle.game_text.specs.declared.faults.GameFault.{GameFault}
-use Rattle.game_text.specs.declared.faults.GameFault.TheVariants.{Malformed, TooLong, BadMove, IllegalMove, OtherState, OtherTurn, Memory}
 use Rattle.hive_model.specs.Legal.{is_over}
-use Rattle.game_text.specs.Reading.{Fails}
 use Rattle.uhp_session.specs.Answers.{Begun, State, Answer, Says, reached, after_of, refuse, in_game, while_on, list, get, table_line, workers_line}
-
--- a fault of the text is the one that the text has
-pub refused_as : {X : Type 0} (fault : GameFault) (read : Result X GameFault) → Fails fault read → fault ≢ Memory → read ≡ Err fault
-refused_as (Malformed k) read h other = h
-refused_as TooLong read h other = h
-refused_as (BadMove n fault) read h other = h
-refused_as (IllegalMove n) read h other = h
-refused_as OtherState read h other = h
-refused_as OtherTurn read h other = h
-refused_as Memory read h other = absurd (other refl)
 
 pub line_game : (line : List ℕ) (t : GameType) (ms : List Move) → IsGameLine line t ms → IsGame t ms
 line_game line t ms (inl alone) = subst (IsGame t) (sym alone.1) tt

@@ -57,7 +57,16 @@ impl<G: Game + Drop> Session<G> {
         }
     }
 
-    /// Answers a line. After want of memory the session is as before.
+    /// Answers a line. The reply is some lines, each ended by LF, of which the last is `ok`; `exit` has no reply.
+    ///
+    /// `info` tells who the engine is. `newgame` begins the game of a game string, or of no text the base game; `play` and `pass`
+    /// play a move, and `undo` takes moves back: each is answered by the game string after it. `validmoves` lists the legal moves.
+    /// `options` tells the options, gets one or sets one, and they outlive a new game. `bestmove` is not built.
+    ///
+    /// A line that is too long, no command or of wrong arguments is refused. So is a command with no game, with a game that is over
+    /// or has 5,000 plies, with a text that is no game, a move that is unreadable or not legal, more plies to take back than were
+    /// played, no such option and a value out of range. A refusal is a line that begins with `err ` or `invalidmove `, and changes
+    /// nothing. After want of memory the session is as before.
     #[tactic(auto, unfolding(crate::specs::Answers::reply, crate::specs::Answers::next))]
     pub fn command<R: Threads + Sync, C: Clock>(
         &mut self,
