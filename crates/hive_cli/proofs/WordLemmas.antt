@@ -32,5 +32,6 @@ asks_for_one words is w = elim w [ inl none ↦ absurd (no_words (sym is ∙ non
   where
     no_words : {x : List ℕ} → x ∷ [] ≡ [] → ⊥
     no_words e = cc
+
     other_words : codes "replay" ≡ codes "uhp" → ⊥
     other_words e = cc

@@ -1,7 +1,7 @@
 -- What a replay writes for the lines of its input, and what was written and read by the status with which it ends.
 use Rattle.std.specs.Prelude.{◌≡◌, ℕ, ◌<◌, Bool, true, false, List, [], ◌∷◌, ◌++◌, length, take, map, codes, decimal, Result, Ok, Err}
 use Rattle.std.specs.List.{list_any}
-use Rattle.io_edge.specs.Outside.{Told, behind}
+use Rattle.io_edge.specs.Outside.{behind}
 use Rattle.hive_model.specs.Lines.{Line, Text, TooLong as LongLine, lines, whole_lines}
 use Rattle.hive_model.specs.Strings.{string}
 use Rattle.line_feed.specs.Feed.{input_limit}

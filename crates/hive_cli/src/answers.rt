@@ -105,7 +105,10 @@ fn answer_text<G: Game + Drop>(alloc: Global, line: &[u8]) -> Result<Answer, All
 
 /// The answer to a line. A line that is too long is refused.
 #[tactic(auto, unfolding(crate::specs::Replay::replay_answer, crate::specs::Replay::refuses))]
-pub(crate) fn answer_line<G: Game + Drop>(alloc: Global, line: LineIn<'_>) -> Result<Answer, AllocError>
+pub(crate) fn answer_line<G: Game + Drop>(
+    alloc: Global,
+    line: LineIn<'_>,
+) -> Result<Answer, AllocError>
     requires { IsShort (line_in line) }
     ensures text { IfOk result (λ a. a.text ≡ replay_answer (line_in line.entry)) }
     ensures refused { IfOk result (λ a. a.refused ≡ refuses (line_in line.entry)) }

@@ -79,7 +79,13 @@ pub(crate) fn replay<S: Source, K: Sink, G: Game + Drop>(
     };
     let mut refused = false;
     'lines: loop {
-        if let Some(status) = replay_line::<S, K, G>(alloc, &mut reader, input, output, &mut refused) {
+        if let Some(status) = replay_line::<S, K, G>(
+            alloc,
+            &mut reader,
+            input,
+            output,
+            &mut refused,
+        ) {
             return status;
         }
     }

@@ -9,8 +9,9 @@ use crate::replays::replay;
 use crate::sessions::uhp;
 use crate::status::{Outcome, Status};
 use crate::words::{are_replay_words, are_uhp_words};
-use hive_model::{Game, TimedList};
+use hive_model::TimedList;
 use io_edge::{Clock, Sink, Source, Spawner};
+use plain_game::PlainGame;
 use std::alloc::Global;
 use std::thread::Threads;
 
@@ -27,7 +28,7 @@ use std::thread::Threads;
 /// want of memory end it as they end a session.
 ///
 /// Every other list of words is `Usage`, and nothing is read or written.
-pub fn run<R: Threads + Sync, S: Source, K: Sink, C: Clock, P: Spawner, G: Game + Drop>(
+pub fn run<R: Threads + Sync, S: Source, K: Sink, C: Clock, P: Spawner>(
     rt: &R,
     alloc: Global,
     words: &[String],
@@ -54,7 +55,7 @@ pub fn run<R: Threads + Sync, S: Source, K: Sink, C: Clock, P: Spawner, G: Game 
 {
     let mut timed = TimedList::new(alloc);
     if are_replay_words(words) {
-        let status = replay::<S, K, G>(alloc, input, output);
+        let status = replay::<S, K, PlainGame>(alloc, input, output);
         return Outcome { status, timed };
     }
     if !are_uhp_words(words) {
@@ -63,6 +64,6 @@ pub fn run<R: Threads + Sync, S: Source, K: Sink, C: Clock, P: Spawner, G: Game 
             timed,
         };
     }
-    let status = uhp::<R, S, K, C, G>(rt, alloc, input, output, clock, &mut timed);
+    let status = uhp::<R, S, K, C, PlainGame>(rt, alloc, input, output, clock, &mut timed);
     Outcome { status, timed }
 }

@@ -1,18 +1,40 @@
 //! Sessions over sources and sinks in memory.
 
-mod no_game;
+mod faults;
+mod lists;
+mod refused;
+mod replayed;
 mod turns;
+mod worked;
 
 use crate::{Status, run};
 use io_edge::{MemSink, MemSource, MemSpawner, Sink, Source, StepClock};
-use no_game::NoGame;
 use std::alloc::{AllocError, Global};
+use std::process::Abort;
 use std::sync::atomic::{AtomicU64, Ordering};
 use std::test::Fail;
 use std::thread::Threads;
 use turns::{CountedSink, TurnSource};
 
 const GREETING: &str = "id HiveReferee 1.0\nMosquito;Ladybug;Pillbug\nok\n";
+
+/// A run in memory: its words, its input, the greatest sizes of the pieces in which both sides pass bytes (none: no bound), and
+/// the numbers, from 1, of the read and of the write that fail (0: none fails).
+#[derive(Clone, Copy)]
+struct Setting<'a> {
+    words: &'a [&'a str],
+    input: &'a [u8],
+    pieces: &'a [usize],
+    failing_read: u64,
+    failing_write: u64,
+}
+
+/// How a run ended, and what it wrote.
+#[derive(Drop)]
+struct Seen {
+    status: Status,
+    written: Vec<u8>,
+}
 
 /// Runs these words over these two sides.
 fn run_words<R: Threads + Sync, S: Source, K: Sink>(
@@ -28,7 +50,7 @@ fn run_words<R: Threads + Sync, S: Source, K: Sink>(
     }
     let mut clock = StepClock::new(0, 1);
     let mut spawner = MemSpawner::new(alloc, Vec::new(alloc), Vec::new(alloc));
-    let outcome = run::<R, S, K, StepClock, MemSpawner, NoGame>(
+    let outcome = run(
         rt,
         alloc,
         owned.as_slice(),
@@ -40,55 +62,101 @@ fn run_words<R: Threads + Sync, S: Source, K: Sink>(
     Ok(outcome.status)
 }
 
+/// Runs in memory.
+fn run_in_memory<R: Threads + Sync>(
+    rt: &R,
+    alloc: Global,
+    setting: Setting<'_>,
+) -> Result<Seen, AllocError> {
+    let input = Vec::from_slice(alloc, setting.input)?;
+    let pieces = Vec::from_slice(alloc, setting.pieces)?;
+    let reads = Vec::from_slice(alloc, &[setting.failing_read])?;
+    let mut source = MemSource::new(input, pieces, reads);
+    let pieces = Vec::from_slice(alloc, setting.pieces)?;
+    let writes = Vec::from_slice(alloc, &[setting.failing_write])?;
+    let mut sink = MemSink::new(alloc, pieces, writes);
+    let status = run_words(rt, alloc, setting.words, &mut source, &mut sink)?;
+    let written = Vec::from_slice(alloc, sink.bytes())?;
+    Ok(Seen { status, written })
+}
+
+/// Runs in memory, and compares the status and all that was written.
+fn expect_run<R: Threads + Sync + Abort>(
+    rt: &R,
+    alloc: Global,
+    setting: Setting<'_>,
+    status: Status,
+    written: &[u8],
+) -> Result<(), AllocError> {
+    let seen = run_in_memory(rt, alloc, setting)?;
+    let Setting {
+        pieces,
+        failing_read,
+        failing_write,
+        ..
+    } = setting;
+    assert_eq!(rt;
+        seen.status,
+        status,
+        "pieces of {pieces:?}, read {failing_read}, write {failing_write}"
+    );
+    assert_eq!(rt;
+        seen.written.as_slice(),
+        written,
+        "pieces of {pieces:?}, read {failing_read}, write {failing_write}"
+    );
+    Ok(())
+}
+
+/// Gives the lines, which these texts make, in pieces of one byte, of seven, and without bound, and compares all that is written
+/// with the greeting and these replies.
+fn expect_session<R: Threads + Sync + Abort>(
+    rt: &R,
+    alloc: Global,
+    lines: &[&str],
+    replies: &[&str],
+) -> Result<(), AllocError> {
+    let input = joined(alloc, "", lines)?;
+    let written = joined(alloc, GREETING, replies)?;
+    for pieces in [[1].as_slice(), [7].as_slice(), [].as_slice()] {
+        let setting = Setting {
+            words: &["uhp"],
+            input: input.as_slice(),
+            pieces,
+            failing_read: 0,
+            failing_write: 0,
+        };
+        expect_run(rt, alloc, setting, Status::Done, written.as_slice())?;
+    }
+    Ok(())
+}
+
+/// The texts, one after another.
+fn joined(alloc: Global, first: &str, texts: &[&str]) -> Result<Vec<u8>, AllocError> {
+    let mut bytes = Vec::from_slice(alloc, first.as_bytes())?;
+    for text in texts {
+        bytes.extend_from_slice(text.as_bytes())?;
+    }
+    Ok(bytes)
+}
+
 #[test]
-fn sessions_in_pieces_of_any_size(rt: HostRuntime) -> Result<(), Fail> {
-    let unknown = "err 1 unknown command\nok\n";
-    for (words, input, failing_read, failing_write, status, replies) in [
-        ([].as_slice(), "", 0, 0, Status::Done, Some(0)),
-        (["uhp"].as_slice(), "", 0, 0, Status::Done, Some(0)),
-        (
-            ["uhp"].as_slice(),
-            "help\r\n\nhelp",
-            0,
-            0,
-            Status::Done,
-            Some(3),
-        ),
-        ([].as_slice(), "help\n", 1, 0, Status::ReadFault, Some(0)),
-        ([].as_slice(), "help\n", 0, 1, Status::WriteFault, None),
-        (["x"].as_slice(), "help\n", 0, 0, Status::Usage, None),
-        (
-            ["uhp", "uhp"].as_slice(),
-            "help\n",
-            0,
-            0,
-            Status::Usage,
-            None,
-        ),
+fn the_words_decide(rt: HostRuntime) -> Result<(), Fail> {
+    let session = joined(rt.alloc(), GREETING, &["err 1 unknown command\nok\n"])?;
+    for (words, status, written) in [
+        ([].as_slice(), Status::Done, session.as_slice()),
+        (["uhp"].as_slice(), Status::Done, session.as_slice()),
+        (["x"].as_slice(), Status::Usage, [].as_slice()),
+        (["uhp", "uhp"].as_slice(), Status::Usage, [].as_slice()),
     ] {
-        let mut want = Vec::new(rt.alloc());
-        if let Some(count) = replies {
-            want.extend_from_slice(GREETING.as_bytes())?;
-            for _ in 0..count {
-                want.extend_from_slice(unknown.as_bytes())?;
-            }
-        }
-        for piece in 1..=input.len().max(1) {
-            let pieces = Vec::from_slice(rt.alloc(), &[piece])?;
-            let reads = Vec::from_slice(rt.alloc(), &[failing_read])?;
-            let bytes = Vec::from_slice(rt.alloc(), input.as_bytes())?;
-            let mut source = MemSource::new(bytes, pieces, reads);
-            let sizes = Vec::from_slice(rt.alloc(), &[piece])?;
-            let writes = Vec::from_slice(rt.alloc(), &[failing_write])?;
-            let mut sink = MemSink::new(rt.alloc(), sizes, writes);
-            let got = run_words(&rt, rt.alloc(), words, &mut source, &mut sink)?;
-            assert_eq!(rt; got, status, "{input:?} in pieces of {piece}");
-            assert_eq!(rt;
-                sink.bytes(),
-                want.as_slice(),
-                "{input:?} in pieces of {piece}"
-            );
-        }
+        let setting = Setting {
+            words,
+            input: b"help\n".as_slice(),
+            pieces: &[],
+            failing_read: 0,
+            failing_write: 0,
+        };
+        expect_run(&rt, rt.alloc(), setting, status, written)?;
     }
     Ok(())
 }

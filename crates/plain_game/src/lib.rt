@@ -9,3 +9,6 @@ mod results;
 mod turns;
 
 pub use game::PlainGame;
+
+#[cfg(test)]
+mod tests;

@@ -26,9 +26,9 @@ pub line_game : (line : List ℕ) (t : GameType) (ms : List Move) → IsGameLine
 line_game line t ms (inl alone) = subst (IsGame t) (sym alone.1) tt
 line_game line t ms (inr full) = full.legal
 
-pub line_few : (line : List ℕ) (t : GameType) (ms : List Move) → IsGameLine line t ms → length ms ≤ 5064
-line_few line t ms (inl alone) = subst (λ (ms : List Move). length ms ≤ 5064) (sym alone.1) (omega arith)
-line_few line t ms (inr full) = let few = full.few in omega (arith, few)
+pub line_few : (line : List ℕ) (t : GameType) (ms : List Move) → IsGameLine line t ms → length ms ≤ 5000
+line_few line t ms (inl alone) = subst (λ (ms : List Move). length ms ≤ 5000) (sym alone.1) (omega arith)
+line_few line t ms (inr full) = full.few
 
 -- What only tells leaves the session as it is
 

@@ -2,6 +2,7 @@
 #![tactic(auto)]
 
 mod current;
+mod laws;
 mod lines;
 mod lists;
 mod options;
@@ -9,5 +10,6 @@ mod refusals;
 mod says;
 mod session;
 
+pub use laws::{refusals_change_nothing, sessions_hold_games};
 pub use lines::{LineIn, Reply};
 pub use session::Session;

@@ -3,7 +3,7 @@ use Rattle.std.specs.Prelude.{Some, slice_get}
 use Rattle.hive_model.specs.Lists.{IsOn}
 use Rattle.hive_model.specs.Legal.{moves}
 use Rattle.hive_model.specs.Courses.{position}
-use Rattle.uhp_session.proofs.PlayedLaws.{played_none, played_legal, played_on, played_all, got}
+use Rattle.uhp_session.proofs.PlayedLaws.{played_none, played_legal, played_on, got}
 use Rattle.hive_cli.proofs.answers.written.Goals as goal
 
 pub loop-m-init : goal.loop-m-init

@@ -1,0 +1,83 @@
+//! The program `hive`: a Hive engine that speaks the Universal Hive Protocol on standard input and output.
+//!
+//! It ends with the number of the status of its run. Where the run could not be done, one line on standard error says why.
+#![tactic(auto)]
+
+mod streams;
+#[cfg(test)]
+mod tests;
+
+use hive_cli::{Status, run};
+use io_edge::{MemSpawner, StepClock};
+use std::env::Env;
+use std::process::ExitCode;
+use std::thread::Threads;
+use std::{env, io};
+use streams::{InputStream, OutputStream};
+
+/// The status of a run whose words cannot be had: memory is wanting, or a word is not UTF-8.
+fn status_of(error: io::Error) -> Status {
+    match error.kind() {
+        io::ErrorKind::OutOfMemory => Status::Memory,
+        _ => Status::Usage,
+    }
+}
+
+/// The words of the command line after the program's name, or the status of a run that cannot have them.
+fn words<R: Env + AllocGlobal>(rt: &R) -> Result<Vec<String>, Status> {
+    let mut all = env::args(rt).map_err(status_of)?;
+    let _ = all.next();
+    let mut words = Vec::new(rt.alloc());
+    for word in all {
+        if words.push(word).is_err() {
+            return Err(Status::Memory);
+        }
+    }
+    Ok(words)
+}
+
+/// Runs over standard input and output, with no engine to start.
+fn run_on_streams<R: Input + Print + AllocGlobal + Threads + Sync>(
+    rt: &R,
+    words: &[String],
+) -> Status {
+    let mut input = InputStream::new(rt.reader());
+    let mut output = OutputStream::new(io::writer(rt));
+    let mut clock = StepClock::new(0, 1);
+    let mut spawner = MemSpawner::new(rt.alloc(), Vec::new(rt.alloc()), Vec::new(rt.alloc()));
+    let outcome = run(
+        rt,
+        rt.alloc(),
+        words,
+        &mut input,
+        &mut output,
+        &mut clock,
+        &mut spawner,
+    );
+    outcome.status
+}
+
+/// Why a run could not be done, for standard error.
+fn complaint(status: Status) -> Option<&'static str> {
+    match status {
+        Status::Usage => Some("hive: wrong command line"),
+        Status::ReadFault => Some("hive: input failed"),
+        Status::WriteFault => Some("hive: output failed"),
+        Status::SpawnFault => Some("hive: an engine could not be started"),
+        Status::Memory => Some("hive: out of memory"),
+        Status::InputFull => Some("hive: input too long"),
+        Status::Done | Status::Refused | Status::BadInput => None,
+    }
+}
+
+fn main(rt: HostRuntime) -> ExitCode {
+    let status = match words(&rt) {
+        Ok(words) => run_on_streams(&rt, words.as_slice()),
+        Err(status) => status,
+    };
+    if let Some(text) = complaint(status) {
+        // where standard error fails too, the status alone tells
+        let _ = rt.eprintln(text);
+    }
+    ExitCode::from(status.code())
+}

@@ -1,0 +1,162 @@
+//! Reads and writes that fail in the midst of a session.
+
+use crate::Status;
+use crate::tests::{GREETING, Setting, expect_run, expect_session, joined};
+use std::alloc::{AllocError, Global};
+use std::test::Fail;
+
+/// Lines, and the reply to each.
+const TALK: [(&str, &str); 10] = [
+    ("newgame", "Base;NotStarted;White[1]\nok\n"),
+    ("validmoves", "wS1;wB1;wG1;wA1\nok\n"),
+    ("play wA1", "Base;InProgress;Black[1];wA1\nok\n"),
+    (
+        "play bA1 wA1-",
+        "Base;InProgress;White[2];wA1;bA1 wA1-\nok\n",
+    ),
+    ("play wQ bQ-", "invalidmove 2 not in play bQ\nok\n"),
+    (
+        "play wQ -wA1",
+        "Base;InProgress;Black[2];wA1;bA1 wA1-;wQ -wA1\nok\n",
+    ),
+    ("undo", "Base;InProgress;White[2];wA1;bA1 wA1-\nok\n"),
+    ("undo 3", "err 7 undo beyond start\nok\n"),
+    ("options set Workers 2", "Workers;int;2;1;1;16\nok\n"),
+    ("help", "err 1 unknown command\nok\n"),
+];
+
+/// The lines, each ended by LF.
+fn talk_lines(alloc: Global) -> Result<Vec<u8>, AllocError> {
+    let mut lines = Vec::new(alloc);
+    for (line, _) in TALK {
+        lines.extend_from_slice(line.as_bytes())?;
+        lines.push(b'\n')?;
+    }
+    Ok(lines)
+}
+
+/// What is written where so many bytes of the lines were read: the greeting, and the reply to each line whose LF is among them.
+fn written_for(alloc: Global, read: usize) -> Result<Vec<u8>, AllocError> {
+    let mut written = joined(alloc, GREETING, &[])?;
+    let mut end: usize = 0;
+    for (line, reply) in TALK {
+        end = end.saturating_add(line.len()).saturating_add(1);
+        if end <= read {
+            written.extend_from_slice(reply.as_bytes())?;
+        }
+    }
+    Ok(written)
+}
+
+/// The sizes of all writes, where each takes at most so many bytes: the greeting and each reply begin a write of their own.
+fn write_sizes(alloc: Global, piece: usize) -> Result<Vec<usize>, AllocError> {
+    let mut sizes = Vec::new(alloc);
+    add_sizes(&mut sizes, GREETING.len(), piece)?;
+    for (_, reply) in TALK {
+        add_sizes(&mut sizes, reply.len(), piece)?;
+    }
+    Ok(sizes)
+}
+
+/// Adds the sizes of the writes of one text.
+fn add_sizes(sizes: &mut Vec<usize>, length: usize, piece: usize) -> Result<(), AllocError> {
+    for start in (0..length).step_by(piece.max(1)) {
+        sizes.push(piece.min(length - start))?;
+    }
+    Ok(())
+}
+
+#[test]
+fn each_read_fails_in_turn(rt: HostRuntime) -> Result<(), Fail> {
+    let lines = talk_lines(rt.alloc())?;
+    for piece in [1, 7] {
+        // one read for each piece, and one that finds the end
+        let reads = lines.len().div_ceil(piece) + 1;
+        for number in 1..=reads {
+            let read = lines.len().min((number - 1) * piece);
+            let written = written_for(rt.alloc(), read)?;
+            let setting = Setting {
+                words: &["uhp"],
+                input: lines.as_slice(),
+                pieces: &[piece],
+                failing_read: number as u64,
+                failing_write: 0,
+            };
+            expect_run(
+                &rt,
+                rt.alloc(),
+                setting,
+                Status::ReadFault,
+                written.as_slice(),
+            )?;
+        }
+    }
+    Ok(())
+}
+
+#[test]
+fn each_write_fails_in_turn(rt: HostRuntime) -> Result<(), Fail> {
+    let lines = talk_lines(rt.alloc())?;
+    let all = written_for(rt.alloc(), lines.len())?;
+    for piece in [1, 7] {
+        let mut taken: usize = 0;
+        let mut number: u64 = 0;
+        for size in write_sizes(rt.alloc(), piece)? {
+            number = number.saturating_add(1);
+            let setting = Setting {
+                words: &["uhp"],
+                input: lines.as_slice(),
+                pieces: &[piece],
+                failing_read: 0,
+                failing_write: number,
+            };
+            let front = &all[..taken.min(all.len())];
+            expect_run(&rt, rt.alloc(), setting, Status::WriteFault, front)?;
+            taken = taken.saturating_add(size);
+        }
+        assert_eq!(rt; taken, all.len());
+    }
+    Ok(())
+}
+
+#[test]
+fn a_read_fails_after_a_line(rt: HostRuntime) -> Result<(), Fail> {
+    let setting = Setting {
+        words: &["uhp"],
+        input: b"newgame\n".as_slice(),
+        pieces: &[8],
+        failing_read: 2,
+        failing_write: 0,
+    };
+    let written = joined(rt.alloc(), GREETING, &["Base;NotStarted;White[1]\nok\n"])?;
+    expect_run(
+        &rt,
+        rt.alloc(),
+        setting,
+        Status::ReadFault,
+        written.as_slice(),
+    )?;
+    Ok(())
+}
+
+#[test]
+fn what_follows_exit_is_not_answered(rt: HostRuntime) -> Result<(), Fail> {
+    let lines = ["newgame\nexit\nvalidmoves\n"];
+    expect_session(&rt, rt.alloc(), &lines, &["Base;NotStarted;White[1]\nok\n"])?;
+    Ok(())
+}
+
+#[test]
+fn a_line_may_be_too_long(rt: HostRuntime) -> Result<(), Fail> {
+    let line = vec![in rt.alloc(); b'a'; 65537]?;
+    let written = joined(rt.alloc(), GREETING, &["err 10 line too long\nok\n"])?;
+    let setting = Setting {
+        words: &["uhp"],
+        input: line.as_slice(),
+        pieces: &[],
+        failing_read: 0,
+        failing_write: 0,
+    };
+    expect_run(&rt, rt.alloc(), setting, Status::Done, written.as_slice())?;
+    Ok(())
+}

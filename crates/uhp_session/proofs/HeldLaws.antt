@@ -1,0 +1,124 @@
+-- The game of a session has legal moves after every line, and no more than 5,000.
+use Rattle.std.proofs.Common.{◌≡◌, ℕ, suc, ◌+◌, ◌-◌, ◌≤◌, ◌<◌, Bool, true, false, List, [], ◌∷◌, ◌++◌, length, take, Result, Ok, Err, refl, sym, ap, subst, arith, if◌then◌else◌}
+use Rattle.std.specs.Prelude.{Option, Some, None, codes, nat_le, nat_lt}
+use Rattle.std.specs.Str.{bytes_eq}
+use Rattle.std.proofs.lemmas.Bool.{leb-false}
+use Rattle.hive_model.specs.declared.pieces.GameType.{GameType}
+use Rattle.hive_model.specs.declared.places.Move.{Move}
+use Rattle.hive_model.specs.Courses.{is_listed}
+use Rattle.hive_model.specs.Games.{after, replay, AreLegal, IsGame}
+use Rattle.hive_model.specs.Legal.{moves, is_over}
+use Rattle.hive_model.specs.Lines.{Line, Text as TextLine, TooLong as LongLine}
+use Rattle.hive_model.specs.Lists.{IsOn}
+use Rattle.hive_model.specs.Positions.{Position, opening}
+use Rattle.move_text.specs.declared.faults.MoveFault.{MoveFault}
+use Rattle.move_text.specs.Moves.{move_of}
+use Rattle.game_text.specs.declared.faults.GameFault.{GameFault}
+use Rattle.game_text.specs.declared.parsed.Parsed.{Parsed}
+use Rattle.game_text.specs.Reading.{game_of}
+use Rattle.game_text.proofs.LineLaws.{game_found}
+use Rattle.game_text.proofs.ListedLaws.{listed_on}
+use Rattle.game_text.proofs.WriteLaws.{legal_part, taken_size}
+use Rattle.uhp_words.specs.declared.command.Command.{Command}
+use Rattle.uhp_words.specs.declared.command.Command.TheVariants.{Info, NewGame, Play, Pass, ValidMoves, BestDepth, BestTime, Undo, Options, OptionGet, OptionSet, Exit}
+use Rattle.uhp_words.specs.declared.command.CommandFault.{CommandFault}
+use Rattle.uhp_words.specs.declared.command.CommandFault.TheVariants.{Unknown, Arguments}
+use Rattle.uhp_words.specs.Numbers.{number_at}
+use Rattle.uhp_words.specs.Reading.{command_of}
+use Rattle.uhp_words.specs.Spans.{bytes_at}
+use Rattle.uhp_session.specs.Answers.{Begun, State, Answer, reached, refuse, go_on, in_game, begin, make, play, list, undo, set_table, set_workers, set, get, while_on, or_base, command_answer, words_answer, answer, after_of, next}
+use Rattle.uhp_session.specs.Laws.{HoldsGame, SessionsHoldGames}
+use Rattle.uhp_session.proofs.ReplyLaws.{get_keeps, list_keeps, best_keeps, line_game, line_few}
+
+abbrev Holds : State → Answer → Type 0
+Holds s a = HoldsGame (after_of s a).game
+
+kept : (s : State) (a : Answer) → s ≡ after_of s a → HoldsGame s.game → Holds s a
+kept s a same h = subst (λ (z : State). HoldsGame z.game) same h
+
+begin_holds : (s : State) (line : List ℕ) (r : Result Parsed GameFault) → game_of line ≡ r → HoldsGame s.game → Holds s (begin s r)
+begin_holds s line (Ok g) e h = let is = game_found line g e in (line_game line g.game_type g.moves is, line_few line g.game_type g.moves is)
+begin_holds s line (Err fault) e h = h
+
+in_holds : (s : State) (o : Option Begun) (f : Begun → Answer) → s.game ≡ o → HoldsGame s.game → ((g : Begun) → s.game ≡ Some g → Holds s (f g)) → Holds s (in_game s o f)
+in_holds s None f e h each = h
+in_holds s (Some g) f e h each = each g e
+
+legal_more : (p : Position) (ms : List Move) (m : Move) → AreLegal p ms → IsOn (moves (replay p ms)) m → AreLegal p (ms ++ m ∷ [])
+legal_more p [] m legal on = (on, tt)
+legal_more p (k ∷ ms) m legal on = (legal.0, legal_more (after p k) ms m legal.1 on)
+
+length_more : (ms : List Move) (m : Move) → length (ms ++ m ∷ []) ≡ suc (length ms)
+length_more [] m = refl
+length_more (k ∷ ms) m = ap suc (length_more ms m)
+
+make_holds : (s : State) (g : Begun) (r : Result Move MoveFault) → HoldsGame s.game → HoldsGame (Some g) → length g.made < 5000 → Holds s (make s g r)
+make_holds s g (Err fault) h legal less = h
+make_holds s g (Ok m) h legal less = go (is_listed (reached g) m) refl
+  where
+    go : (b : Bool) → is_listed (reached g) m ≡ b → Holds s (if b then go_on s (record { game_type = g.game_type; made = g.made ++ m ∷ [] }) else refuse s (codes "invalidmove 3 not legal"))
+    go true e =
+        let size = length_more g.made m in
+        (legal_more (opening g.game_type) g.made m legal.0 (listed_on (reached g) m e), omega (arith, size, less))
+    go false e = h
+
+play_holds : (s : State) (words : List ℕ) (g : Begun) → HoldsGame s.game → HoldsGame (Some g) → Holds s (play s words g)
+play_holds s words g h legal = go (is_over (reached g)) (nat_le 5000 (length g.made)) refl
+  where
+    less : nat_le 5000 (length g.made) ≡ false → length g.made < 5000
+    less e = leb-false 5000 (length g.made) e
+
+    go : (over full : Bool) → nat_le 5000 (length g.made) ≡ full → Holds s (if over then refuse s (codes "invalidmove 4 game over") else if full then refuse s (codes "err 11 too many plies") else make s g (move_of g.game_type (reached g).board words))
+    go true full e = h
+    go false true e = h
+    go false false e = make_holds s g (move_of g.game_type (reached g).board words) h legal (less e)
+
+undo_holds : (s : State) (plies : ℕ) (g : Begun) → HoldsGame s.game → HoldsGame (Some g) → Holds s (undo s plies g)
+undo_holds s plies g h legal = go (nat_lt (length g.made) plies)
+  where
+    go : (b : Bool) → Holds s (if b then refuse s (codes "err 7 undo beyond start") else go_on s (record { game_type = g.game_type; made = take (length g.made - plies) g.made }))
+    go true = h
+    go false =
+        let size = taken_size g.made (length g.made - plies) in
+        let few = legal.1 in
+        (legal_part (opening g.game_type) g.made (length g.made - plies) legal.0, omega (arith, size, few))
+
+set_holds : (s : State) (name value : List ℕ) → HoldsGame s.game → Holds s (set s name value)
+set_holds s name value h = go (bytes_eq name (codes "Table")) (bytes_eq name (codes "Workers"))
+  where
+    table : (o : Option ℕ) → Holds s (set_table s o)
+    table None = h
+    table (Some n) = h
+
+    workers : (o : Option ℕ) → Holds s (set_workers s o)
+    workers None = h
+    workers (Some n) = h
+
+    go : (a b : Bool) → Holds s (if a then set_table s (number_at value 1 1048576) else if b then set_workers s (number_at value 1 16) else refuse s (codes "err 9 no such option"))
+    go true b = table (number_at value 1 1048576)
+    go false true = workers (number_at value 1 16)
+    go false false = h
+
+command_holds : (s : State) (line : List ℕ) (c : Command) → HoldsGame s.game → Holds s (command_answer s line c)
+command_holds s line Info h = h
+command_holds s line (NewGame part) h = begin_holds s (or_base (bytes_at line part)) (game_of (or_base (bytes_at line part))) refl h
+command_holds s line (Play part) h = in_holds s s.game (play s (bytes_at line part)) refl h (λ g e. play_holds s (bytes_at line part) g h (subst HoldsGame e h))
+command_holds s line Pass h = in_holds s s.game (play s (codes "pass")) refl h (λ g e. play_holds s (codes "pass") g h (subst HoldsGame e h))
+command_holds s line ValidMoves h = kept s (while_on s (list s)) (list_keeps s) h
+command_holds s line (BestDepth depth) h = kept s (while_on s (λ g. refuse s (codes "err 20 not built"))) (best_keeps s) h
+command_holds s line (BestTime budget) h = kept s (while_on s (λ g. refuse s (codes "err 20 not built"))) (best_keeps s) h
+command_holds s line (Undo plies) h = in_holds s s.game (undo s plies) refl h (λ g e. undo_holds s plies g h (subst HoldsGame e h))
+command_holds s line Options h = h
+command_holds s line (OptionGet name) h = kept s (get s (bytes_at line name)) (get_keeps s (bytes_at line name)) h
+command_holds s line (OptionSet name value) h = set_holds s (bytes_at line name) (bytes_at line value) h
+command_holds s line Exit h = h
+
+words_holds : (s : State) (line : List ℕ) (r : Result Command CommandFault) → HoldsGame s.game → Holds s (words_answer s line r)
+words_holds s line (Ok c) h = command_holds s line c h
+words_holds s line (Err Unknown) h = h
+words_holds s line (Err Arguments) h = h
+
+pub holds_games : SessionsHoldGames
+unfolding next
+holds_games s (TextLine bytes) h = words_holds s bytes (command_of bytes) h
+holds_games s LongLine h = h
