@@ -1,11 +1,11 @@
 -- The answers to the lines given so far, and how a replay ends.
-use Rattle.std.proofs.Common.{◌≡◌, ◌<◌, ◌-◌, ℕ, Bool, false, true, ◌||◌, List, [], ◌∷◌, ◌++◌, length, take, map, refl, ap, sym, ◌∙◌, arith, None, Some, inl, inr}
+use Rattle.std.proofs.Common.{◌≡◌, ℕ, Bool, false, true, ◌||◌, List, [], ◌∷◌, ◌++◌, length, take, map, refl, ap, sym, ◌∙◌, None, Some, inl, inr}
 use Rattle.std.proofs.lemmas.List.{append-nil, map-append}
 use Rattle.std.proofs.lemmas.List.Folds.{list_any-append}
 use Rattle.std.proofs.Math.Seq.{take-append_seam}
 use Rattle.io_edge.specs.Outside.{Told, behind}
 use Rattle.hive_model.specs.Lines.{Line, lines}
-use Rattle.line_feed.specs.Feed.{Ends, Holds, Takes, input_limit, settled, fresh as new_reading}
+use Rattle.line_feed.specs.Feed.{Ends, Holds, Takes, input_limit, fresh as new_reading}
 use Rattle.line_feed.specs.SoFar.{Fed}
 use Rattle.line_feed.proofs.FedLemmas.{fed_begin, fed_end, fed_held, fed_line}
 use Rattle.hive_cli.specs.Output.{joined}
@@ -69,13 +69,6 @@ replay_on {before} {old} {new} (bytes, given, run) (b1, round) = elim round.does
           ∙ ap (behind before.written) (sym (answers-one given line));
     },
   )
-  | inr (stops, same) ↦ absurd stops
-]
-
--- the bytes that were settled are more
-pub replay_moves : {old new : Replaying} → ReplayRounds None old new → input_limit - settled new.reader < input_limit - settled old.reader
-replay_moves {old} {new} (b1, round) = elim round.does [
-  | inl (line, gives, tells) ↦ let m = gives.moves_on in let h = round.within in omega arith
   | inr (stops, same) ↦ absurd stops
 ]
 
