@@ -42,8 +42,13 @@ run_begin r w0 now rest reader session wrote = (
   },
 )
 
+-- nothing was written
+pub behind_none : (w : Told) → w ≡ behind w []
+behind_none None = refl
+behind_none (Some w) = ap Some (sym (append-nil w))
+
 -- more was written
-on_written : (w0 w w2 : Told) (front text : List ℕ) → w ≡ behind w0 front → w2 ≡ behind w text → w2 ≡ behind w0 (front ++ text)
+pub on_written : (w0 w w2 : Told) (front text : List ℕ) → w ≡ behind w0 front → w2 ≡ behind w text → w2 ≡ behind w0 (front ++ text)
 on_written w0 w w2 front text e f = f ∙ (ap (λ z. behind z text) e ∙ behind-behind w0 front text)
 
 -- a line was answered
@@ -171,11 +176,7 @@ run_ends BadInput run (b1, round) = elim round.does [ inl (line, gives, never) �
 
 -- there was no memory for the reader
 pub no_memory : (before : Sides) → SessionRun Memory before before
-no_memory before = λ input e. ([], 0, record { were_read = none_were_read input before.rest e; wrote = nothing before.written })
-  where
-    nothing : (w : Told) → w ≡ behind w []
-    nothing None = refl
-    nothing (Some w) = ap Some (sym (append-nil w))
+no_memory before = λ input e. ([], 0, record { were_read = none_were_read input before.rest e; wrote = behind_none before.written })
 
 -- the greeting was cut
 pub greeting_cut : (before : Sides) (w : Told) → (n : ℕ) × (n < length greeting) × (w ≡ behind before.written (take n greeting)) → SessionRun WriteFault before (record { rest = before.rest; written = w })

@@ -1,7 +1,7 @@
 -- A list of one word.
-use Rattle.std.proofs.Common.{◌≡◌, ◌<◌, ◌≤◌, ℕ, Bool, true, List, [], ◌∷◌, length, get_or, ap, sym, ◌∙◌, arith, inl, inr, codes, IsTrue, String, Global}
+use Rattle.std.proofs.Common.{◌≡◌, ◌<◌, ◌≤◌, ℕ, Bool, true, List, [], ◌∷◌, length, get_or, map, ap, sym, ◌∙◌, arith, inl, inr, codes, IsTrue, String, Global}
 use Rattle.std.specs.Prelude.{string_bytes}
-use Rattle.hive_cli.specs.Words.{AreUhpWords}
+use Rattle.hive_cli.specs.Words.{AreReplayWords, AreUhpWords}
 
 true_of : (b : Bool) → IsTrue b → b ≡ true
 true_of b t = t
@@ -12,9 +12,26 @@ of_true b t = t
 front : {x y : List ℕ} → x ∷ [] ≡ y ∷ [] → x ≡ y
 front e = cc
 
-pub one_word : (words : List (String Global)) (word : String Global) (b : Bool) → 1 ≤ length words → length words < 2 → word ≡ get_or words 0 word
-    → (b ≡ true → string_bytes word ≡ codes "uhp") → (string_bytes word ≡ codes "uhp" → b ≡ true) → (IsTrue b → AreUhpWords words) × (AreUhpWords words → IsTrue b)
-one_word [] word b l h e f g = absurd (omega arith)
-one_word (x ∷ []) word b l h e f g =
-    (λ t. inr (ap (λ s. s ∷ []) (ap string_bytes (sym e) ∙ f (true_of b t))), λ w. elim w [ inl none ↦ cc | inr is ↦ of_true b (g (ap string_bytes e ∙ front is)) ])
-one_word (x ∷ y ∷ more) word b l h e f g = absurd (omega arith)
+-- the words are this text alone, where the answer tells whether the first of them is
+pub one_word : (words : List (String Global)) (word : String Global) (b : Bool) (text : List ℕ) → 1 ≤ length words → length words < 2 → word ≡ get_or words 0 word
+    → (b ≡ true → string_bytes word ≡ text) → (string_bytes word ≡ text → b ≡ true) → (IsTrue b → map string_bytes words ≡ text ∷ []) × (map string_bytes words ≡ text ∷ [] → IsTrue b)
+one_word [] word b text l h e f g = absurd (omega arith)
+one_word (x ∷ []) word b text l h e f g =
+    (λ t. ap (λ s. s ∷ []) (ap string_bytes (sym e) ∙ f (true_of b t)), λ is. of_true b (g (ap string_bytes e ∙ front is)))
+one_word (x ∷ y ∷ more) word b text l h e f g = absurd (omega arith)
+
+-- one word is not none
+pub some_words : (words : List (String Global)) (b : Bool) → 1 ≤ length words → (IsTrue b → map string_bytes words ≡ codes "uhp" ∷ []) × (map string_bytes words ≡ codes "uhp" ∷ [] → IsTrue b)
+    → (IsTrue b → AreUhpWords words) × (AreUhpWords words → IsTrue b)
+some_words [] b l (f, g) = absurd (omega arith)
+some_words (x ∷ xs) b l (f, g) = (λ t. inr (f t), λ w. elim w [ inl none ↦ absurd (cc) | inr is ↦ g is ])
+
+-- no words ask for a session and for a replay
+pub asks_for_one : (words : List (String Global)) → AreReplayWords words → ¬ AreUhpWords words
+asks_for_one words is w = elim w [ inl none ↦ absurd (no_words (sym is ∙ none)) | inr other ↦ absurd (other_words (front (sym is ∙ other))) ]
+  where
+    no_words : {x : List ℕ} → x ∷ [] ≡ [] → ⊥
+    no_words e = cc
+
+    other_words : codes "replay" ≡ codes "uhp" → ⊥
+    other_words e = cc

@@ -4,3 +4,5 @@ pub mod Output
 pub mod Session
 pub mod Rounds
 pub mod Laws
+pub mod Replay
+pub mod ReplayRounds

@@ -1,7 +1,9 @@
 //! The program over any source, sink, clock and starter of programs: what the words of its command line ask for.
 #![tactic(auto)]
 
+mod answers;
 mod laws;
+mod replays;
 mod sessions;
 mod start;
 mod status;

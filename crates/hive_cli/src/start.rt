@@ -1,12 +1,14 @@
 //! The run: what the words of the command line ask for.
 ghost use Rattle.std.specs.Prelude.{◌≡◌, ◌↔◌, []};
 ghost use Rattle.io_edge.specs.Outside.{HasCause};
-ghost use Rattle.hive_cli.specs.Words.{AreUhpWords};
+ghost use Rattle.hive_cli.specs.Words.{AreReplayWords, AreUhpWords};
+ghost use Rattle.hive_cli.specs.Replay.{ReplayRun};
 ghost use Rattle.hive_cli.specs.Session.{SessionRun};
 
+use crate::replays::replay;
 use crate::sessions::uhp;
 use crate::status::{Outcome, Status};
-use crate::words::are_uhp_words;
+use crate::words::{are_replay_words, are_uhp_words};
 use hive_model::TimedList;
 use io_edge::{Clock, Sink, Source, Spawner};
 use plain_game::PlainGame;
@@ -20,6 +22,11 @@ use std::thread::Threads;
 /// The first read or write that fails ends it with `ReadFault` or `WriteFault`, an input of 1,099,511,627,776 bytes or more
 /// with `InputFull`, and want of memory with `Memory`; what was written until then stays.
 ///
+/// The word `replay` asks for a replay: each line of the input is answered by one line before the next line is read. Where it is
+/// a game string, of a finished game too, the answer is the written form of its game, and else `refused` and why. The run goes on
+/// after a refusal. At the end of the input it is `Refused` where a line was refused, and else `Done`; faults, a full input and
+/// want of memory end it as they end a session.
+///
 /// Every other list of words is `Usage`, and nothing is read or written.
 pub fn run<R: Threads + Sync, S: Source, K: Sink, C: Clock, P: Spawner>(
     rt: &R,
@@ -30,10 +37,13 @@ pub fn run<R: Threads + Sync, S: Source, K: Sink, C: Clock, P: Spawner>(
     clock: &mut C,
     spawner: &mut P,
 ) -> Outcome
-    ensures usage { (result.status ≡ Status.Usage) ↔ (¬ AreUhpWords words.now) }
+    ensures usage { (result.status ≡ Status.Usage) ↔ ((¬ AreUhpWords words.now) × (¬ AreReplayWords words.now)) }
     ensures unread { result.status ≡ Status.Usage → input.new ≡ input.old }
     ensures unwritten { result.status ≡ Status.Usage → output.new ≡ output.old }
     ensures session { AreUhpWords words.now → SessionRun result.status
+        (record { rest = S.rest input.old; written = K.written output.old })
+        (record { rest = S.rest input.new; written = K.written output.new }) }
+    ensures replay { AreReplayWords words.now → ReplayRun result.status
         (record { rest = S.rest input.old; written = K.written output.old })
         (record { rest = S.rest input.new; written = K.written output.new }) }
     ensures reads { HasCause (result.status ≡ Status.ReadFault) (S.read_faults input.old) (S.read_faults input.new) }
@@ -44,6 +54,10 @@ pub fn run<R: Threads + Sync, S: Source, K: Sink, C: Clock, P: Spawner>(
     ensures timed { result.timed ≡ [] }
 {
     let mut timed = TimedList::new(alloc);
+    if are_replay_words(words) {
+        let status = replay::<S, K, PlainGame>(alloc, input, output);
+        return Outcome { status, timed };
+    }
     if !are_uhp_words(words) {
         return Outcome {
             status: Status::Usage,

@@ -3,6 +3,7 @@
 mod faults;
 mod lists;
 mod refused;
+mod replayed;
 mod turns;
 mod worked;
 

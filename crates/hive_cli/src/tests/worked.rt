@@ -17,7 +17,8 @@ const WALKED_OR_THROWN: &str =
     "Base+P;InProgress;White[5];wS1;bS1 wS1-;wQ -wS1;bQ bS1-;wP -wQ;bG1 bQ-;wA1 -wP;bA1 bG1-";
 
 /// The moves of `wA1` there, each once.
-const MOVES_OF_THE_ANT: &str = "wA1 /wP;wA1 \\wP;wA1 /wQ;wA1 wP/;wA1 /wS1;wA1 wQ/;wA1 /bS1;wA1 wS1/;wA1 /bQ;\
+const MOVES_OF_THE_ANT: &str =
+    "wA1 /wP;wA1 \\wP;wA1 /wQ;wA1 wP/;wA1 /wS1;wA1 wQ/;wA1 /bS1;wA1 wS1/;wA1 /bQ;\
                    wA1 bS1/;wA1 /bG1;wA1 bQ/;wA1 /bA1;wA1 bG1/;wA1 bA1\\;wA1 bA1/;wA1 bA1-";
 
 #[test]

@@ -1,0 +1,15 @@
+use Rattle.std.proofs.Common.{◌≡◌, ◌-◌}
+use Rattle.line_feed.specs.Feed.{input_limit, settled}
+use Rattle.hive_cli.proofs.ReplayProgress.{Replayed}
+use Rattle.hive_cli.proofs.replays.replay.Given as goal
+
+abbrev pub invariant-lines : goal.invariant-lines
+invariant-lines g l = record {
+  run : Replayed (record { rest = g.S.Source.rest l.fn.input; written = g.K.Sink.written l.fn.output })
+      (record { refused = l.refused; reader = l.reader; rest = g.S.Source.rest l.input; written = g.K.Sink.written l.output });
+  reads : g.S.Source.read_faults l.input ≡ g.S.Source.read_faults l.fn.input;
+  writes : g.K.Sink.write_faults l.output ≡ g.K.Sink.write_faults l.fn.output;
+}
+
+abbrev pub decreases-lines : goal.decreases-lines
+decreases-lines g l = input_limit - settled l.reader

@@ -1,0 +1,126 @@
+//! The line that a replay writes for a line.
+ghost use Rattle.std.specs.Prelude.{◌≡◌, ◌≢◌, ◌≤◌, [], ◌∷◌, ◌++◌, length, decimal, true, false, IfOk, OnOk};
+ghost use Rattle.hive_model.specs.Games.{IsGame};
+ghost use Rattle.hive_model.specs.Strings.{string};
+ghost use Rattle.game_text.specs.Reading.{game_of};
+ghost use Rattle.uhp_session.specs.Answers.{line_in, IsShort};
+ghost use Rattle.hive_cli.specs.Replay.{game_answer, is_fault, reason, refusal, refuses, replay_answer};
+
+use game_text::{GameFault, read_game, write_game};
+use hive_model::{Game, GameType, Move, ReplyText};
+use itoa::Buffer;
+use std::alloc::{AllocError, Global};
+use uhp_session::LineIn;
+
+/// The line that answers a line, its LF included, and whether it refuses that line.
+#[derive(Drop)]
+pub(crate) struct Answer {
+    pub(crate) text: ReplyText,
+    pub(crate) refused: bool,
+}
+
+/// The line that begins with `refused` and gives this reason.
+fn refuse_for(alloc: Global, reason: &[u8]) -> Result<ReplyText, AllocError>
+    ensures { IfOk result (λ t. t ≡ refusal reason.now) }
+{
+    let mut text = ReplyText::new(alloc);
+    text.push_all(b"refused ")?;
+    text.push_all(reason)?;
+    text.push(b'\n')?;
+    Ok(text)
+}
+
+/// The same for a reason that ends with a number.
+fn refuse_numbered(alloc: Global, reason: &[u8], number: u32) -> Result<ReplyText, AllocError>
+    ensures { IfOk result (λ t. t ≡ refusal (reason.now ++ decimal number)) }
+{
+    let mut whole = ReplyText::new(alloc);
+    whole.push_all(reason)?;
+    let mut buffer = Buffer::new();
+    whole.push_all(buffer.format(number).as_bytes())?;
+    refuse_for(alloc, whole.items())
+}
+
+/// The line that refuses a text that is no game. Want of memory is no fault of the text, and is passed on.
+fn refuse(alloc: Global, fault: GameFault) -> Result<ReplyText, AllocError>
+    ensures refusal { IfOk result (λ t. t ≡ refusal (reason fault)) }
+    ensures memory { OnOk result (fault ≢ GameFault.Memory) }
+{
+    match fault {
+        GameFault::Malformed { part } => refuse_numbered(alloc, b"malformed part ", part),
+        GameFault::TooLong => refuse_for(alloc, b"too many plies"),
+        GameFault::BadMove { number, .. } | GameFault::IllegalMove { number } => {
+            refuse_numbered(alloc, b"illegal move ", number)
+        }
+        GameFault::OtherState => refuse_for(alloc, b"other state"),
+        GameFault::OtherTurn => refuse_for(alloc, b"other turn"),
+        GameFault::Memory => Err(AllocError),
+    }
+}
+
+/// The written form of the game of this type and these moves, and an LF.
+fn written<G: Game + Drop>(
+    alloc: Global,
+    game_type: GameType,
+    moves: &[Move],
+) -> Result<ReplyText, AllocError>
+    requires game { IsGame game_type moves.now }
+    requires few { length moves.now ≤ 5064 }
+    ensures { IfOk result (λ t. t ≡ string game_type moves.now ++ 10 ∷ []) }
+{
+    let mut game = G::opening(alloc, game_type)?;
+    game.reserve(moves.len() as u32)?;
+    for m in moves {
+        game.play(m.again());
+    }
+    let mut text = ReplyText::new(alloc);
+    write_game(alloc, &game, &mut text)?;
+    text.push(b'\n')?;
+    Ok(text)
+}
+
+/// The answer to a text: the written form of the game that it is, or the reason why it is none.
+fn answer_text<G: Game + Drop>(alloc: Global, line: &[u8]) -> Result<Answer, AllocError>
+    requires { length line.now ≤ 65536 }
+    ensures text { IfOk result (λ a. a.text ≡ game_answer (game_of line.now)) }
+    ensures refused { IfOk result (λ a. a.refused ≡ is_fault (game_of line.now)) }
+{
+    match read_game::<G>(alloc, line) {
+        Ok(game) => {
+            let text = written::<G>(alloc, game.game_type, game.moves.items())?;
+            Ok(Answer {
+                text,
+                refused: false,
+            })
+        }
+        Err(fault) => {
+            let text = refuse(alloc, fault)?;
+            Ok(Answer {
+                text,
+                refused: true,
+            })
+        }
+    }
+}
+
+/// The answer to a line. A line that is too long is refused.
+#[tactic(auto, unfolding(crate::specs::Replay::replay_answer, crate::specs::Replay::refuses))]
+pub(crate) fn answer_line<G: Game + Drop>(
+    alloc: Global,
+    line: LineIn<'_>,
+) -> Result<Answer, AllocError>
+    requires { IsShort (line_in line) }
+    ensures text { IfOk result (λ a. a.text ≡ replay_answer (line_in line.entry)) }
+    ensures refused { IfOk result (λ a. a.refused ≡ refuses (line_in line.entry)) }
+{
+    match line {
+        LineIn::Text(bytes) => answer_text::<G>(alloc, bytes),
+        LineIn::TooLong => {
+            let text = refuse_for(alloc, b"line too long")?;
+            Ok(Answer {
+                text,
+                refused: true,
+            })
+        }
+    }
+}
