@@ -19,4 +19,8 @@ pub mod Strings
 pub mod Lines
 pub mod Stack
 pub mod Courses
+pub mod Evaluation
+pub mod Keys
+pub mod Minimax
+pub mod Costs
 pub mod Laws

@@ -8,8 +8,11 @@ ghost use Rattle.hive_model.specs.Legal as rules;
 ghost use Rattle.hive_model.specs.Games.{IsGame};
 ghost use Rattle.hive_model.specs.Courses.{Course, position, with_move, without_last, is_listed};
 ghost use Rattle.hive_model.specs.Stack.{with_level};
+ghost use Rattle.hive_model.specs.Evaluation.{eval};
+ghost use Rattle.hive_model.specs.Keys.{key};
 
 use crate::boards::Board;
+use crate::key::Key;
 use crate::move_stack::MoveStack;
 use crate::pieces::{Colour, GameType};
 use crate::places::{Move, State};
@@ -91,6 +94,17 @@ pub trait Game: Board + Sized {
         requires { 1 ≤ length (course self.old).made }
         ensures back { course self.new ≡ without_last (course self.old) }
         ensures count { played self.new ≡ played self.old };
+
+    /// What the position is worth to its side to move, judged without a search; its size is at most 1,000. The game is as before.
+    fn evaluate(&mut self) -> i32
+        ensures worth { result ≡ eval (position (course self.old)) }
+        ensures same { course self.new ≡ course self.old }
+        ensures count { played self.new ≡ played self.old };
+
+    /// The position's key. The position is sound.
+    fn key(&self) -> Key
+        ensures key { result ≡ key (position (course self.now)) }
+        ensures sound { IsSound (position (course self.now)) };
 
     /// How often `play` was called.
     fn played(&self) -> u64

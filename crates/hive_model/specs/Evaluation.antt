@@ -1,0 +1,67 @@
+-- What a position is worth to its side to move, judged without a search.
+use Rattle.std.specs.Prelude.{◌≡◌, ◌≢◌, ℕ, ◌+◌, ℤ, pos, ◌+ℤ◌, ◌-ℤ◌, ◌*ℤ◌, Bool, false, not, ◌&&◌, length, Option, Some, None, if◌then◌else◌}
+use Rattle.std.specs.List.{filter, sum_by}
+use Rattle.hive_model.specs.declared.pieces.Colour.{Colour}
+use Rattle.hive_model.specs.declared.pieces.Kind.{Kind}
+use Rattle.hive_model.specs.declared.pieces.Kind.TheVariants.{Queen, Spider, Beetle, Grasshopper, Ant, Mosquito, Ladybug, Pillbug}
+use Rattle.hive_model.specs.declared.places.Spot.{Spot}
+use Rattle.hive_model.specs.Pieces.{kind_of, colour_of, is_colour, other_side, all_pieces, queen_of}
+use Rattle.hive_model.specs.Places.{neighbours}
+use Rattle.hive_model.specs.Boards.{Stacks, height_at, is_occupied, spot_of, is_top_spot}
+use Rattle.hive_model.specs.Hive.{IsCut, is_cut}
+use Rattle.hive_model.specs.Positions.{Position, is_piece}
+
+-- what a free piece counts, by its kind
+abbrev pub weight_of : Kind → ℕ
+weight_of Queen = 4
+weight_of Spider = 4
+weight_of Beetle = 8
+weight_of Grasshopper = 6
+weight_of Ant = 10
+weight_of Mosquito = 10
+weight_of Ladybug = 8
+weight_of Pillbug = 8
+
+-- a piece is free where it is on top, does not rest and stands on no cut place
+pub record IsFreePiece (b : Stacks) (rest : Option ℕ) (x : ℕ) : Type 0 where
+  pub spot : Spot
+  pub stands : spot_of b x ≡ Some spot
+  pub on_top : spot.level + 1 ≡ height_at b spot.place
+  pub awake : rest ≢ Some x
+  pub not_cut : ¬ IsCut b spot.place
+
+-- the test of it
+abbrev pub is_uncut_top : Stacks → Option Spot → Bool
+is_uncut_top b None = false
+is_uncut_top b (Some s) = is_top_spot b (Some s) && not (is_cut b s.place)
+
+abbrev pub is_free_piece : Stacks → Option ℕ → ℕ → Bool
+is_free_piece b rest x = not (is_piece x rest) && is_uncut_top b (spot_of b x)
+
+-- what a piece counts for a side: its weight where it is a free piece of that side
+abbrev pub counted : Stacks → Option ℕ → Colour → ℕ → ℕ
+counted b rest c x = if is_colour (colour_of x) c && is_free_piece b rest x then weight_of (kind_of x) else 0
+
+-- the weights of a side's free pieces, each counted once
+abbrev pub free_weight : Stacks → Option ℕ → Colour → ℕ
+free_weight b rest c = sum_by (counted b rest c) all_pieces
+
+abbrev pub occupied_round : Stacks → Option Spot → ℕ
+occupied_round b None = 0
+occupied_round b (Some s) = length (filter (is_occupied b) (neighbours s.place))
+
+-- how many neighbours of a side's queen are occupied; 0 for a queen in hand
+abbrev pub round_queen : Stacks → Colour → ℕ
+round_queen b c = occupied_round b (spot_of b (queen_of c))
+
+-- From a side's view: 40 for each occupied neighbour of the other's queen, less 40 for each of its own queen, and the weights of
+-- its own free pieces, less those of the other side's. It goes over all 28 pieces: one that is not of the game type never stands
+-- on the board.
+unfoldable pub evaluation : Stacks → Option ℕ → Colour → ℤ
+evaluation b rest side =
+    pos 40 *ℤ (pos (round_queen b (other_side side)) -ℤ pos (round_queen b side))
+    +ℤ (pos (free_weight b rest side) -ℤ pos (free_weight b rest (other_side side)))
+
+-- a position's evaluation is that of its side to move
+abbrev pub eval : Position → ℤ
+eval p = evaluation p.board p.rest p.side

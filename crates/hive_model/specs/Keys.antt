@@ -1,0 +1,24 @@
+-- What the value of a position depends on, in one record that can be compared.
+use Rattle.std.specs.Prelude.{ℕ, min, List, map, Option}
+use Rattle.hive_model.specs.declared.pieces.Colour.{Colour}
+use Rattle.hive_model.specs.declared.pieces.GameType.{GameType}
+use Rattle.hive_model.specs.declared.places.Spot.{Spot}
+use Rattle.hive_model.specs.Pieces.{all_pieces}
+use Rattle.hive_model.specs.Boards.{Stacks, spot_of}
+use Rattle.hive_model.specs.Positions.{Position}
+
+-- The place and the level of each of the 28 pieces, in their order, the game type, the side to move, the turn, capped at 5, and
+-- the resting piece. Places are absolute. From the fifth turn on no rule asks for its number.
+pub record KeyParts : Type 0 where
+  pub spots : List (Option Spot)
+  pub game_type : GameType
+  pub side : Colour
+  pub turn : ℕ
+  pub rest : Option ℕ
+
+unfoldable pub key_of : GameType → Stacks → Colour → ℕ → Option ℕ → KeyParts
+key_of t b side turn rest = record { spots = map (spot_of b) all_pieces; game_type = t; side = side; turn = min turn 5; rest = rest }
+
+-- a position's key
+abbrev pub key : Position → KeyParts
+key p = key_of p.game_type p.board p.side p.turn p.rest

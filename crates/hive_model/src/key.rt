@@ -1,0 +1,55 @@
+//! What tells positions apart whose values may differ.
+
+ghost use Rattle.std.specs.Prelude.{◌≡◌};
+ghost use Rattle.hive_model.specs.Keys.{key_of};
+
+use crate::boards::Board;
+use crate::pieces::{Colour, GameType, Piece};
+use crate::places::Spot;
+use std::marker::Model;
+
+/// A position's key: where each piece stands and at which level, the game type, the side to move, the number of the turn, capped
+/// at 5, and the piece that rests. Sound positions with equal keys are worth the same at every depth.
+#[derive(Clone, Copy, Debug, PartialEq, Eq, Hash)]
+pub struct Key {
+    spots: [Option<Spot>; 28],
+    game_type: GameType,
+    side: Colour,
+    turn: u8,
+    rest: Option<Piece>,
+}
+
+impl Model for Key {
+    ghost use Rattle.hive_model.specs.Keys.{KeyParts};
+
+    ghost Value = { KeyParts };
+
+    ghost view = { λ k. record { spots = k.spots; game_type = k.game_type; side = k.side; turn = k.turn; rest = k.rest } };
+
+    ghost inverse = { λ v. record { spots = v.spots; game_type = v.game_type; side = v.side; turn = v.turn; rest = v.rest } };
+}
+
+impl Key {
+    /// The key of a position: its game type, its board, the side to move, the number of the turn and the piece that rests.
+    pub fn of<B: Board>(
+        game_type: GameType,
+        board: &B,
+        side: Colour,
+        turn: u32,
+        rest: Option<Piece>,
+    ) -> Key
+        ensures { result ≡ key_of game_type (B.stacks board.now) side turn rest }
+    {
+        let mut spots = [None; 28];
+        for index in 0..28u8 {
+            spots[index as usize] = board.spot(Piece::at(index));
+        }
+        Key {
+            spots,
+            game_type,
+            side,
+            turn: turn.min(5) as u8,
+            rest,
+        }
+    }
+}
