@@ -1,0 +1,13 @@
+pub mod EvalLaws
+pub mod CourseLaws
+pub mod Greatest
+pub mod LoopLaws
+pub mod MinimaxLaws
+pub mod NodesLaws
+pub mod CostLaws
+pub mod Signs
+pub mod FoundLaws
+pub mod TurnLaws
+pub mod HintLaws
+pub mod BestLaws
+pub mod RootLaws

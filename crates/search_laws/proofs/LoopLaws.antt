@@ -1,0 +1,88 @@
+-- Steps of a loop over the moves of a level.
+use Rattle.std.proofs.Common.{◌≡◌, ℕ, zero, suc, ◌+◌, ◌<◌, ◌≤◌, ◌-ℤ◌, List, [], ◌∷◌, ◌++◌, length, drop, map, get_or, refl, ap, inl, inr, arith, ◌∙◌, ℤ, pos, neg_ℤ, ◌≤ℤ◌, Some, length-append}
+use Rattle.std.proofs.lemmas.Int.{ints, clamps}
+use Rattle.std.specs.List.{slice_get}
+use Rattle.std.specs.Int.{int_max}
+use Rattle.hive_model.specs.declared.places.Move.{Move}
+use Rattle.hive_model.specs.Lists.{IsOn}
+use Rattle.hive_model.specs.Stack.{Levels, level_of, with_level, without_level}
+use Rattle.hive_model.specs.Minimax.{greatest_from, greatest}
+use Rattle.hive_model.specs.Courses.{Course, position, with_move, without_last}
+use Rattle.hive_model.specs.Games.{after}
+use Rattle.search_laws.proofs.CourseLaws.{without_level-with_level, without_last-with_move, position-with_move}
+
+get_or-seam : {A : Type 0} (xs : List A) (x d : A) → get_or (xs ++ x ∷ []) (length xs) d ≡ x
+get_or-seam [] x d = refl
+get_or-seam (y ∷ xs) x d = get_or-seam xs x d
+
+-- the level that was put on last
+pub level_of-with_level : (s old : Levels) (ms : List Move) (level : ℕ) → s ≡ with_level old ms → level ≡ length old.lists → level_of s level ≡ ms
+level_of-with_level s old ms level es el = rw (es, el) (get_or-seam old.lists ms [])
+
+pub level-in : (s old : Levels) (ms : List Move) (level : ℕ) → s ≡ with_level old ms → level ≡ length old.lists → level < length s.lists
+level-in s old ms level es el = rw es (omega (arith, length-append old.lists (ms ∷ [])))
+
+-- what is at a place stands on the list
+pub on-at : {A : Type 0} (xs : List A) (i : ℕ) (x : A) → slice_get xs i ≡ Some x → IsOn xs x
+on-at [] i x e = cc
+on-at (y ∷ xs) zero x e = inl cc
+on-at (y ∷ xs) (suc i) x e = inr (on-at xs i x e)
+
+pub drop-at : {A : Type 0} (xs : List A) (i : ℕ) (x : A) → slice_get xs i ≡ Some x → drop i xs ≡ x ∷ drop (i + 1) xs
+drop-at [] i x e = cc
+drop-at (y ∷ xs) zero x e = cc
+drop-at (y ∷ xs) (suc i) x e = let more : suc i + 1 ≡ suc (i + 1) = omega arith in rw more (drop-at xs i x e)
+
+pub drop-all : {A : Type 0} (xs : List A) (i : ℕ) → length xs ≤ i → drop i xs ≡ []
+drop-all [] zero h = refl
+drop-all [] (suc i) h = refl
+drop-all (x ∷ xs) zero h = absurd (omega arith)
+drop-all (x ∷ xs) (suc i) h = drop-all xs i (omega arith)
+
+-- ---- minimax
+
+pub int_max-below : (a x : ℤ) → a ≤ℤ x → int_max a x ≡ x
+int_max-below a x h = omega (arith, ints, clamps)
+
+pub int_max-above : (a x : ℤ) → x ≤ℤ a → int_max a x ≡ a
+int_max-above a x h = omega (arith, ints, clamps)
+
+-- one move more is tried
+pub greatest-step : (r : Move → ℤ) (ms : List Move) (i : ℕ) (m : Move) (a b v : ℤ) →
+    greatest_from a (map r (drop i ms)) ≡ v → slice_get ms i ≡ Some m → b ≡ int_max a (r m) → greatest_from b (map r (drop (i + 1) ms)) ≡ v
+greatest-step r ms i m a b v so e is = rw is (rw (drop-at ms i m e) at so)
+
+pub greatest-end : (r : Move → ℤ) (ms : List Move) (i : ℕ) (a v : ℤ) → greatest_from a (map r (drop i ms)) ≡ v → length ms ≤ i → a ≡ v
+greatest-end r ms i a v so past = rw (drop-all ms i past) at so
+
+-- a start below all of them changes nothing
+pub greatest-start : (r : Move → ℤ) (ms : List Move) (a : ℤ) → ((m : Move) → a ≤ℤ r m) → 0 < length ms → greatest_from a (map r ms) ≡ greatest (map r ms)
+greatest-start r [] a below some = absurd (omega arith)
+greatest-start r (m ∷ ms) a below some = ap (λ z. greatest_from z (map r ms)) (int_max-below a (r m) (below m))
+
+-- ---- what stands at one turn of a loop that plays each move of a level
+
+-- the move that was read from the level is at its place in the list
+pub listed-at : (s old : Levels) (ms : List Move) (level i : ℕ) (m : Move) → s ≡ with_level old ms → level ≡ length old.lists →
+    slice_get (level_of s level) i ≡ Some m → slice_get ms i ≡ Some m
+listed-at s old ms level i m es el e = rw (level_of-with_level s old ms level es el) at e
+
+-- a move that was played and taken back leaves the game as it was
+pub back-again : (g0 g1 g2 g3 : Course) (m : Move) → g1 ≡ with_move g0 m → g2 ≡ g1 → g3 ≡ without_last g2 → 1 ≤ g0.spare → g3 ≡ g0
+back-again g0 g1 g2 g3 m played same undone room = undone ∙ ap without_last (same ∙ played) ∙ without_last-with_move g0 m room
+
+-- what was searched behind a move
+pub position-behind : (g0 g1 start : Course) (m : Move) → g1 ≡ with_move g0 m → g0 ≡ start → position g1 ≡ after (position start) m
+position-behind g0 g1 start m played same = ap position (played ∙ ap (λ g. with_move g m) same) ∙ position-with_move start m
+
+-- the level that was put on is taken away
+pub level-dropped : (s old s' s'' : Levels) (ms : List Move) → s ≡ with_level old ms → s' ≡ s → s'' ≡ without_level s' → 1 ≤ old.free → s'' ≡ old
+level-dropped s old s' s'' ms es same dropped room = dropped ∙ ap without_level (same ∙ es) ∙ without_level-with_level old ms room
+
+pub minus-is-neg : (z : ℤ) → pos 0 -ℤ z ≡ neg_ℤ z
+minus-is-neg z = omega (arith, ints)
+
+-- a list of moves that was read whole
+pub count-of-level : (s old : Levels) (ms : List Move) (level n : ℕ) → s ≡ with_level old ms → level ≡ length old.lists →
+    n ≡ length (level_of s level) → n ≡ length ms
+count-of-level s old ms level n es el e = e ∙ ap length (level_of-with_level s old ms level es el)
