@@ -9,11 +9,8 @@ use Rattle.hive_model.specs.Legal.{moves, is_over}
 use Rattle.hive_model.specs.Games.{after}
 use Rattle.hive_model.specs.Minimax.{IsInner, reply_value}
 use Rattle.hive_model.specs.Costs.{tries_cost, most_by, cost}
+use Rattle.search_laws.specs.Tries.{tried_cost}
 use Rattle.search_laws.proofs.LoopLaws.{drop-at}
-
--- the plays behind one move, where the best so far is low
-abbrev pub tried_cost : Position → ℕ → ℤ → Move → ℤ → ℕ
-tried_cost p d b m low = 1 + cost (after p m) d (neg_ℤ b) (neg_ℤ low)
 
 pub cost-inner : (p : Position) (d : ℕ) (a b : ℤ) → IsInner p d →
     cost p d a b ≡ tries_cost (tried_cost p (d - 1) b) (reply_value p (d - 1)) a b (moves p) + most_by (λ m. tried_cost p (d - 1) b m a) (moves p)

@@ -17,7 +17,8 @@ use Rattle.hive_model.specs.Courses.{Course, position}
 use Rattle.search_laws.proofs.LoopLaws.{greatest-step, level_of-with_level}
 use Rattle.search_laws.proofs.Greatest.{greatest-each}
 use Rattle.search_laws.proofs.MinimaxLaws.{value-greatest}
-use Rattle.search_laws.proofs.CostLaws.{tried_cost, cost-inner, tries-first, tries-step, tries-falls, TriedFalls, cost-falls}
+use Rattle.search_laws.specs.Tries.{tried_cost}
+use Rattle.search_laws.proofs.CostLaws.{cost-inner, tries-first, tries-step, tries-falls, TriedFalls, cost-falls}
 use Rattle.search_laws.specs.declared.window.Window.{Window}
 use Rattle.search_laws.specs.Found.{IsFound}
 use Rattle.search_laws.proofs.TurnLaws.{Turn, PlaysWithin}

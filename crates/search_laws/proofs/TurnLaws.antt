@@ -16,7 +16,8 @@ use Rattle.search_laws.proofs.CourseLaws.{position-with_move}
 use Rattle.search_laws.proofs.LoopLaws.{greatest-step, greatest-end, listed-at, on-at, count-of-level}
 use Rattle.search_laws.proofs.Greatest.{greatest-each, greatest_from-greatest}
 use Rattle.search_laws.proofs.MinimaxLaws.{value-greatest, moves-not_over}
-use Rattle.search_laws.proofs.CostLaws.{tried_cost, cost-inner, tries-step, tries-first}
+use Rattle.search_laws.specs.Tries.{tried_cost}
+use Rattle.search_laws.proofs.CostLaws.{cost-inner, tries-step, tries-first}
 use Rattle.search_laws.specs.declared.window.Window.{Window}
 use Rattle.search_laws.specs.Found.{IsFound}
 use Rattle.search_laws.proofs.FoundLaws.{IsFound-neg, found-below, found-raises, found-cut, found-raised}
