@@ -130,7 +130,7 @@ fn search_rest<G: Game>(
             beta: window.beta,
         };
         let found = reply(game, m, depth - 1, inner, stack);
-        if found >= window.beta {
+        if found >= inner.beta {
             return found;
         }
         alpha = alpha.max(found);

@@ -250,8 +250,8 @@ search_rest-reply-found-requires g t c κs within = let turn = c.loop-i.invarian
       ),
     )
 
-pub search_rest-returns-then-found-window-clause-found : goal.search_rest-returns-then-found-window-clause-found
-search_rest-returns-then-found-window-clause-found g t c =
+pub search_rest-returns-then-found-inner-clause-found : goal.search_rest-returns-then-found-inner-clause-found
+search_rest-returns-then-found-inner-clause-found g t c =
     let turn = c.loop-i.invariant in
     let start = g.G.Game.course c.args.game.now in
     let fits : SFits w32 c.reply-found.result = search rules in
@@ -259,10 +259,10 @@ search_rest-returns-then-found-window-clause-found g t c =
     let here : slice_get (moves (position start)) c.loop-i.i ≡ Some c.get-m.result = here-in _ _ _ _ _ _ turn.stack c.requires.listed c.get-m.ensures in
     rw (to_z-of_z w32 c.reply-found.result fits)
     (cut-found _ _ _ _ c.loop-i.i _ _ (turn-made _ _ _ _ _ c.args.window _ _ c.requires.inner here turn.game beta turn.low turn.high c.reply-found.ensures.found)
-    (at-least _ _ (search rules) fits c.if-found-window.true))
+    (at-least _ _ (search rules) fits (rw beta at c.if-found-inner.true)))
 
-pub search_rest-returns-then-found-window-clause-played : goal.search_rest-returns-then-found-window-clause-played
-search_rest-returns-then-found-window-clause-played g t c = let turn = c.loop-i.invariant in
+pub search_rest-returns-then-found-inner-clause-played : goal.search_rest-returns-then-found-inner-clause-played
+search_rest-returns-then-found-inner-clause-played g t c = let turn = c.loop-i.invariant in
     let start = g.G.Game.course c.args.game.now in
     let beta : to_z w32 (of_z w32 c.args.window.beta) ≡ c.args.window.beta = omega (arith, ints) in
     let here : slice_get (moves (position start)) c.loop-i.i ≡ Some c.get-m.result = here-in _ _ _ _ _ _ turn.stack c.requires.listed c.get-m.ensures in
@@ -279,7 +279,7 @@ search_rest-loop-i-preserved g t c =
     let here : slice_get (moves (position start)) c.loop-i.i ≡ Some c.get-m.result = here-in _ _ _ _ _ _ turn.stack c.requires.listed c.get-m.ensures in
     let made : Turn (position start) c.args.depth c.args.window inner c.loop-i.i c.get-m.result c.reply-found.result =
     turn-made _ _ _ _ _ _ _ _ c.requires.inner here turn.game beta turn.low turn.high c.reply-found.ensures.found in
-    let under : c.reply-found.result <ℤ c.args.window.beta = below _ _ (search rules) fits c.if-found-window.false in
+    let under : c.reply-found.result <ℤ c.args.window.beta = below _ _ (search rules) fits (rw beta at c.if-found-inner.false) in
     let raised : to_z w32 (of_z w32 c.max-alpha.result) ≡ int_max inner.alpha c.reply-found.result =
     to_z-of_z w32 c.max-alpha.result (search rules) ∙ c.max-alpha.ensures.value ∙ ap (int_max inner.alpha) (to_z-of_z w32 c.reply-found.result fits) in
     record {
