@@ -3,5 +3,7 @@
 #![tactic(auto)]
 
 mod counts;
+mod values;
 
 pub use counts::count_lines;
+pub use values::minimax;
