@@ -8,3 +8,6 @@ mod queens;
 
 pub use evaluation::evaluate;
 pub use laws::{evaluations_are_small, free_pieces_are_tested};
+
+#[cfg(test)]
+mod tests;
