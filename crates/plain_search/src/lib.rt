@@ -7,3 +7,6 @@ mod values;
 
 pub use counts::count_lines;
 pub use values::minimax;
+
+#[cfg(test)]
+mod tests;
