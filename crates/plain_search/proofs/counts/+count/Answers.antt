@@ -1,0 +1,83 @@
+use Rattle.std.proofs.Common.{rules, ◌≡◌, ◌+◌, ◌^◌, ◌<◌, Some, refl, arith, ◌∙◌}
+use Rattle.std.specs.List.{slice_get}
+use Rattle.hive_model.specs.Legal.{moves}
+use Rattle.hive_model.specs.Courses.{position}
+use Rattle.search_laws.proofs.TurnLaws.{move-here, move-legal, count-here}
+use Rattle.plain_search.proofs.PlySteps.{levels-left, spare-before, spare-behind}
+use Rattle.plain_search.proofs.CountSteps.{count-begin, count-step, count-fits, count-one, count-none, behind-few, behind-count, count-now, few-now}
+use Rattle.plain_search.proofs.counts.+count.Goals as goal
+
+pub lines_behind-lines_from-lines-requires : goal.lines_behind-lines_from-lines-requires
+lines_behind-lines_from-lines-requires g t c κs within = (
+  search rules,
+  (
+    within,
+    (
+      omega arith,
+      (
+        behind-few _ _ c.args.m _ c.play.ensures.moved c.requires.few,
+        (spare-behind _ _ c.args.m _ c.play.ensures.moved c.requires.spare, c.requires.room),
+      ),
+    ),
+  ),
+)
+
+pub lines_behind-returns-clause-count : goal.lines_behind-returns-clause-count
+lines_behind-returns-clause-count g t c = behind-count _ _ _ _ _ c.play.ensures.moved c.lines_from-lines.ensures.count
+
+pub lines_from-returns-then-plies-eq0-clause-count : goal.lines_from-returns-then-plies-eq0-clause-count
+lines_from-returns-then-plies-eq0-clause-count g t c = count-none _ _ c.if-plies-eq0.true
+
+pub lines_from-returns-then-plies-eq1-clause-count : goal.lines_from-returns-then-plies-eq1-clause-count
+lines_from-returns-then-plies-eq1-clause-count g t c =
+    let start = g.G.Game.course c.args.game.now in
+    count-one _ _ _ c.if-plies-eq1.true (count-here start start _ _ _ _ refl c.list.ensures.listed c.levels-level.ensures c.level_len-count.ensures)
+
+pub lines_from-loop-i-init : goal.lines_from-loop-i-init
+lines_from-loop-i-init g t c = record {
+  game = c.list.ensures.same;
+  stack = refl;
+  rest = count-begin _ _ (omega arith);
+}
+
+pub lines_from-lines_behind-total-requires : goal.lines_from-lines_behind-total-requires
+lines_from-lines_behind-total-requires g t c κs within =
+    let turn = c.loop-i.invariant in
+    let start = g.G.Game.course c.args.game.now in (
+      search rules,
+      (
+        within,
+        (
+          omega arith,
+          (
+            move-legal start start _ _ _ _ _ _ _ refl c.list.ensures.listed turn.stack c.levels-level.ensures c.get-m.ensures turn.game,
+            (
+              few-now _ _ _ turn.game c.requires.few (omega arith),
+              (spare-before _ _ _ turn.game c.requires.spare (omega arith), levels-left _ _ _ _ _ turn.stack c.list.ensures.listed c.requires.room),
+            ),
+          ),
+        ),
+      ),
+    )
+
+pub lines_from-overflow_add-total : goal.lines_from-overflow_add-total
+lines_from-overflow_add-total g t c =
+    let turn = c.loop-i.invariant in
+    let start = g.G.Game.course c.args.game.now in
+    let here : slice_get (moves (position start)) c.loop-i.i ≡ Some c.get-m.result =
+    move-here start start _ _ _ _ _ _ refl c.list.ensures.listed turn.stack c.levels-level.ensures c.get-m.ensures in
+    let small : c.loop-i.total + c.lines_behind-total.result < 2 ^ 128 =
+    count-fits (position start) c.args.plies c.loop-i.i c.loop-i.total c.get-m.result _ here (count-now _ _ _ _ _ turn.game c.lines_behind-total.ensures.count) turn.rest c.requires.deep c.requires.few in
+    search rules
+
+pub lines_from-loop-i-preserved : goal.lines_from-loop-i-preserved
+lines_from-loop-i-preserved g t c =
+    let turn = c.loop-i.invariant in
+    let start = g.G.Game.course c.args.game.now in
+    let here : slice_get (moves (position start)) c.loop-i.i ≡ Some c.get-m.result =
+    move-here start start _ _ _ _ _ _ refl c.list.ensures.listed turn.stack c.levels-level.ensures c.get-m.ensures in
+    record {
+      game = c.lines_behind-total.ensures.game ∙ turn.game;
+      stack = c.lines_behind-total.ensures.stack ∙ turn.stack;
+      rest = count-step (position start) c.args.plies c.loop-i.i c.loop-i.total c.get-m.result _ here (count-now _ _ _ _ _ turn.game c.lines_behind-total.ensures.count) turn.rest;
+    }

@@ -1,0 +1,23 @@
+use Rattle.std.proofs.Common.{◌≡◌, ◌+◌, ◌*◌, ◌-◌, drop}
+use Rattle.std.specs.List.{sum_by}
+use Rattle.hive_model.specs.Legal.{moves}
+use Rattle.hive_model.specs.Games.{after}
+use Rattle.hive_model.specs.Minimax.{lines}
+use Rattle.hive_model.specs.Courses.{position}
+use Rattle.plain_search.proofs.counts.+count.Given as goal
+
+abbrev pub decreases-lines_behind : goal.decreases-lines_behind
+decreases-lines_behind g l = 2 * l.plies + 1
+
+abbrev pub decreases-lines_from : goal.decreases-lines_from
+decreases-lines_from g l = 2 * l.plies
+
+-- what is counted, with what the moves that are left count, is the whole
+abbrev pub invariant-lines_from-loop-i : goal.invariant-lines_from-loop-i
+invariant-lines_from-loop-i g l =
+    let p = position (g.G.Game.course l.fn.game) in
+    record {
+      game : g.G.Game.course l.game ≡ g.G.Game.course l.fn.game;
+      stack : l.stack ≡ l.initial.stack;
+      rest : l.total + sum_by (λ m. lines (after p m) (l.plies - 1)) (drop l.i (moves p)) ≡ lines p l.plies;
+    }

@@ -1,0 +1,73 @@
+//! How many lists of legal moves there are.
+
+ghost use Rattle.std.specs.Prelude.{◌≡◌, ◌+◌, ◌*◌, ◌<◌, ◌≤◌, length};
+ghost use Rattle.hive_model.specs.Lists.{IsOn};
+ghost use Rattle.hive_model.specs.Legal.{moves};
+ghost use Rattle.hive_model.specs.Games.{after};
+ghost use Rattle.hive_model.specs.Minimax.{lines};
+ghost use Rattle.hive_model.specs.Courses.{position};
+
+use hive_model::{Game, Move, MoveStack};
+
+/// How many lists of so many legal moves, at most 8, the game can go on with. The last ply of them is counted by the length of its
+/// list of moves, not played. The game and the stack are as before.
+pub fn count_lines<G: Game>(game: &mut G, plies: u32, stack: &mut MoveStack) -> u128
+    requires few { plies ≤ 8 }
+    requires spare { plies ≤ (G.course game.old).spare }
+    requires room { plies ≤ stack.old.free }
+    ensures count { result ≡ lines (position (G.course game.old)) plies }
+    ensures game { G.course game.new ≡ G.course game.old }
+    ensures stack { stack.new ≡ stack.old }
+{
+    // a game that answers its state is sound, so that at most 28 places of its board are occupied
+    let _state = game.state();
+    lines_from(game, plies, stack)
+}
+
+/// `count_lines`, where so few places are occupied that every list of moves is short. A ply leaves at most two places more.
+#[cycle(count)]
+fn lines_from<G: Game>(game: &mut G, plies: u32, stack: &mut MoveStack) -> u128
+    requires deep { plies ≤ 8 }
+    requires few { length (position (G.course game.old)).board + 2 * plies ≤ 44 }
+    requires spare { plies ≤ (G.course game.old).spare }
+    requires room { plies ≤ stack.old.free }
+    ensures count { result ≡ lines (position (G.course game.old)) plies }
+    ensures game { G.course game.new ≡ G.course game.old }
+    ensures stack { stack.new ≡ stack.old }
+{
+    if plies == 0 {
+        return 1;
+    }
+    let level = stack.levels();
+    game.list(stack);
+    let count = stack.level_len(level);
+    if plies == 1 {
+        stack.drop_level();
+        return count as u128;
+    }
+    let mut total = 0;
+    for i in 0..count {
+        let m = stack.get(level, i);
+        total += lines_behind(game, m, plies - 1, stack);
+    }
+    stack.drop_level();
+    total
+}
+
+/// How many lists of so many legal moves the game can go on with behind this legal one.
+#[cycle(count)]
+fn lines_behind<G: Game>(game: &mut G, m: Move, plies: u32, stack: &mut MoveStack) -> u128
+    requires deep { plies < 8 }
+    requires legal { IsOn (moves (position (G.course game.old))) m }
+    requires few { length (position (G.course game.old)).board + 2 * plies + 2 ≤ 44 }
+    requires spare { plies < (G.course game.old).spare }
+    requires room { plies ≤ stack.old.free }
+    ensures count { result ≡ lines (after (position (G.course game.old)) m) plies }
+    ensures game { G.course game.new ≡ G.course game.old }
+    ensures stack { stack.new ≡ stack.old }
+{
+    game.play(m);
+    let lines = lines_from(game, plies, stack);
+    game.undo();
+    lines
+}
