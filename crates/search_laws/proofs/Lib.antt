@@ -1,4 +1,3 @@
-pub mod EvalLaws
 pub mod CourseLaws
 pub mod Greatest
 pub mod LoopLaws

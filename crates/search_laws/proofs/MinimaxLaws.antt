@@ -10,7 +10,7 @@ use Rattle.hive_model.specs.declared.places.State.TheVariants.{NotStarted, InPro
 use Rattle.hive_model.specs.declared.places.Move.{Move}
 use Rattle.hive_model.specs.Positions.{Position}
 use Rattle.search_laws.specs.Laws.{IsSmall}
-use Rattle.search_laws.proofs.EvalLaws.{evaluation-within}
+use Rattle.hive_eval.proofs.SmallLaws.{evaluation-small}
 use Rattle.hive_model.specs.Legal.{moves, pairs, or_pass, state, is_over, is_over_state}
 use Rattle.hive_model.specs.Games.{after}
 use Rattle.hive_model.specs.Evaluation.{eval}
@@ -28,7 +28,7 @@ unfolding moves
 moves-not_over p h = rw h (or_pass-some (pairs p))
 
 pub eval-within : (p : Position) → IsSmall 1000 (eval p)
-eval-within p = evaluation-within p.board p.rest p.side
+eval-within p = let k = evaluation-small p.board p.rest p.side in record { low = omega (arith, ints, k.0); high = omega (arith, ints, k.1) }
 
 -- ---- the size of values
 
