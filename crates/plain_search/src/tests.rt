@@ -1,5 +1,7 @@
 //! Counts and values of known positions.
 
+mod beside;
+
 ghost use Rattle.std.specs.Prelude.{◌<◌, ◌≤◌};
 
 use crate::{count_lines, minimax};
