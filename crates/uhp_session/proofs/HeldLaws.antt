@@ -25,9 +25,9 @@ use Rattle.uhp_words.specs.declared.command.CommandFault.TheVariants.{Unknown, A
 use Rattle.uhp_words.specs.Numbers.{number_at}
 use Rattle.uhp_words.specs.Reading.{command_of}
 use Rattle.uhp_words.specs.Spans.{bytes_at}
-use Rattle.uhp_session.specs.Answers.{Begun, State, Answer, reached, refuse, go_on, in_game, begin, make, play, list, undo, set_table, set_workers, set, get, while_on, or_base, command_answer, words_answer, after_of, next}
+use Rattle.uhp_session.specs.Answers.{Begun, State, Answer, reached, refuse, go_on, in_game, begin, make, play, list, undo, set_table, set_workers, set, get, best_line, while_on, or_base, command_answer, words_answer, after_of, next}
 use Rattle.uhp_session.specs.Laws.{HoldsGame, SessionsHoldGames}
-use Rattle.uhp_session.proofs.ReplyLaws.{get_keeps, list_keeps, best_keeps, line_game, line_few}
+use Rattle.uhp_session.proofs.ReplyLaws.{get_keeps, list_keeps, best_keeps, time_keeps, line_game, line_few}
 
 abbrev Holds : State → Answer → Type 0
 Holds s a = HoldsGame (after_of s a).game
@@ -104,8 +104,8 @@ command_holds s line (NewGame part) h = begin_holds s (or_base (bytes_at line pa
 command_holds s line (Play part) h = in_holds s s.game (play s (bytes_at line part)) refl h (λ g e. play_holds s (bytes_at line part) g h (subst HoldsGame e h))
 command_holds s line Pass h = in_holds s s.game (play s (codes "pass")) refl h (λ g e. play_holds s (codes "pass") g h (subst HoldsGame e h))
 command_holds s line ValidMoves h = kept s (while_on s (list s)) (list_keeps s) h
-command_holds s line (BestDepth depth) h = kept s (while_on s (λ g. refuse s (codes "err 20 not built"))) (best_keeps s) h
-command_holds s line (BestTime budget) h = kept s (while_on s (λ g. refuse s (codes "err 20 not built"))) (best_keeps s) h
+command_holds s line (BestDepth depth) h = kept s (while_on s (best_line s depth)) (best_keeps s depth) h
+command_holds s line (BestTime budget) h = kept s (while_on s (λ g. refuse s (codes "err 20 not built"))) (time_keeps s) h
 command_holds s line (Undo plies) h = in_holds s s.game (undo s plies) refl h (λ g e. undo_holds s plies g h (subst HoldsGame e h))
 command_holds s line Options h = h
 command_holds s line (OptionGet name) h = kept s (get s (bytes_at line name)) (get_keeps s (bytes_at line name)) h

@@ -1,5 +1,5 @@
 -- The written texts of a game, one move on and one move back; what is read on its board; and its positions.
-use Rattle.std.proofs.Common.{◌≡◌, ℕ, zero, suc, ◌-◌, List, [], ◌∷◌, ◌++◌, length, take, Result, Ok, Err, refl, sym, ◌∙◌, ap, subst, arith}
+use Rattle.std.proofs.Common.{◌≡◌, ℕ, zero, suc, ◌-◌, ◌<◌, ◌≤◌, List, [], ◌∷◌, ◌++◌, length, take, Result, Ok, Err, refl, sym, ◌∙◌, ap, subst, arith, length-append}
 use Rattle.hive_model.specs.declared.pieces.GameType.{GameType}
 use Rattle.hive_model.specs.declared.places.Move.{Move}
 use Rattle.hive_model.specs.Lists.{IsOn}
@@ -11,6 +11,7 @@ use Rattle.hive_model.specs.Denotes.{Denotes, text}
 use Rattle.hive_model.specs.Courses.{Course, position, with_move, without_last}
 use Rattle.hive_model.specs.Strings.{texts}
 use Rattle.hive_model.proofs.MoveLaws.{moves_legal}
+use Rattle.game_text.proofs.WriteLaws.{taken_size}
 use Rattle.move_text.specs.declared.faults.MoveFault.{MoveFault}
 use Rattle.move_text.specs.Faults.{Refuses}
 use Rattle.move_text.specs.Moves.{move_of, IsMoveWithin}
@@ -62,6 +63,19 @@ written_less c e old new back before popped =
     popped ∙ (λ i. take (length (before i) - 1) (before i)) ∙ ap (λ n. take (n - 1) whole) (texts_size (opening c.game_type) c.made)
     ∙ sym (texts_part (opening c.game_type) c.made (length c.made - 1))
     ∙ sym (λ i. texts (opening (back i).game_type) (back i).made)
+
+-- How many moves
+
+pub few_more : (c d e : Course) (m : Move) → d.made ≡ c.made → e ≡ with_move d m → length c.made < 5000 → length e.made ≤ 5000
+few_more c d e m made moved less =
+    let size : length e.made ≡ length (c.made ++ m ∷ []) = ap (λ (z : Course). length z.made) moved ∙ ap (λ (r : List Move). length (r ++ m ∷ [])) made in
+    omega (arith, size, length-append c.made (m ∷ []), less)
+
+pub few_less : (c e : Course) → e ≡ without_last c → length c.made ≤ 5000 → length e.made ≤ 5000
+few_less c e back few =
+    let size : length e.made ≡ length (take (length c.made - 1) c.made) = ap (λ (z : Course). length z.made) back in
+    let part = taken_size c.made (length c.made - 1) in
+    omega (arith, size, part, few)
 
 -- a move was made and taken back
 pub taken_back : (ms : List Move) (m : Move) → take (length (ms ++ m ∷ []) - 1) (ms ++ m ∷ []) ≡ ms

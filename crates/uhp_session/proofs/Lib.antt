@@ -4,3 +4,5 @@ pub mod ListLaws
 pub mod ReplyLaws
 pub mod RefusalLaws
 pub mod HeldLaws
+pub mod BestLaws
+pub mod OptionLaws

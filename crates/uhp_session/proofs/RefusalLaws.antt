@@ -22,7 +22,7 @@ use Rattle.uhp_words.specs.Reading.{command_of}
 use Rattle.uhp_words.specs.Spans.{bytes_at}
 use Rattle.uhp_session.specs.Answers.{Begun, State, Answer, reached, refuse, go_on, in_game, begin, make, play, undo, set_table, set_workers, set, table_line, workers_line, or_base, command_answer, words_answer, after_of, next}
 use Rattle.uhp_session.specs.Laws.{IsRefusal, RefusalsChangeNothing}
-use Rattle.uhp_session.proofs.ReplyLaws.{get_keeps, list_keeps, best_keeps}
+use Rattle.uhp_session.proofs.ReplyLaws.{get_keeps, list_keeps, best_keeps, time_keeps}
 
 abbrev Keeps : State → Answer → Type 0
 Keeps s a = IsRefusal a → after_of s a ≡ s
@@ -111,8 +111,8 @@ command_keeps s line (NewGame part) = begin_keeps s (game_of (or_base (bytes_at 
 command_keeps s line (Play part) = in_keeps s s.game (play s (bytes_at line part)) (play_keeps s (bytes_at line part))
 command_keeps s line Pass = in_keeps s s.game (play s (codes "pass")) (play_keeps s (codes "pass"))
 command_keeps s line ValidMoves = λ h. sym (list_keeps s)
-command_keeps s line (BestDepth depth) = λ h. sym (best_keeps s)
-command_keeps s line (BestTime budget) = λ h. sym (best_keeps s)
+command_keeps s line (BestDepth depth) = λ h. sym (best_keeps s depth)
+command_keeps s line (BestTime budget) = λ h. sym (time_keeps s)
 command_keeps s line (Undo plies) = in_keeps s s.game (undo s plies) (undo_keeps s plies)
 command_keeps s line Options = λ h. refl
 command_keeps s line (OptionGet name) = λ h. sym (get_keeps s (bytes_at line name))

@@ -7,7 +7,7 @@ use Rattle.hive_model.specs.declared.places.Move.{Move}
 use Rattle.hive_model.specs.Games.{IsGame}
 use Rattle.hive_model.specs.Strings.{IsGameLine}
 use Rattle.hive_model.specs.Legal.{is_over}
-use Rattle.uhp_session.specs.Answers.{Begun, State, Answer, Says, reached, after_of, refuse, in_game, while_on, list, get, table_line, workers_line}
+use Rattle.uhp_session.specs.Answers.{Begun, State, Answer, Says, reached, after_of, refuse, in_game, while_on, list, best_line, get, table_line, workers_line}
 
 pub line_game : (line : List ℕ) (t : GameType) (ms : List Move) → IsGameLine line t ms → IsGame t ms
 line_game line t ms (inl alone) = subst (IsGame t) (sym alone.1) tt
@@ -41,5 +41,8 @@ while_keeps s f keeps = go s.game
 pub list_keeps : (s : State) → s ≡ after_of s (while_on s (list s))
 list_keeps s = while_keeps s (list s) (λ g. refl)
 
-pub best_keeps : (s : State) → s ≡ after_of s (while_on s (λ g. refuse s (codes "err 20 not built")))
-best_keeps s = while_keeps s (λ g. refuse s (codes "err 20 not built")) (λ g. refl)
+pub best_keeps : (s : State) (depth : ℕ) → s ≡ after_of s (while_on s (best_line s depth))
+best_keeps s depth = while_keeps s (best_line s depth) (λ g. refl)
+
+pub time_keeps : (s : State) → s ≡ after_of s (while_on s (λ g. refuse s (codes "err 20 not built")))
+time_keeps s = while_keeps s (λ g. refuse s (codes "err 20 not built")) (λ g. refl)

@@ -3,8 +3,10 @@ use Rattle.std.specs.Prelude.{ℕ, ◌-◌, ◌≤◌, nat_lt, nat_le, List, [],
 use Rattle.std.specs.Str.{bytes_eq}
 use Rattle.hive_model.specs.declared.pieces.GameType.{GameType}
 use Rattle.hive_model.specs.declared.places.Move.{Move}
+use Rattle.hive_model.specs.Boards.{Stacks}
 use Rattle.hive_model.specs.Positions.{Position, opening}
 use Rattle.hive_model.specs.Legal.{moves, is_over}
+use Rattle.hive_model.specs.Minimax.{best}
 use Rattle.hive_model.specs.Games.{replay}
 use Rattle.hive_model.specs.Courses.{is_listed}
 use Rattle.hive_model.specs.Texts.{piece_text}
@@ -120,7 +122,7 @@ play s words g =
     if nat_le most_plies (length g.made) then refuse s (codes "err 11 too many plies") else
     make s g (move_of g.game_type (reached g).board words)
 
--- Lists of moves, and undo
+-- Lists of moves
 
 -- texts with semicolons between them
 abbrev pub joined : List (List ℕ) → List ℕ
@@ -130,6 +132,24 @@ joined (t ∷ ts) = joined_on t ts
 -- the legal moves, written
 abbrev pub list : State → Begun → Answer
 list s g = Says (joined (map (text (reached g).board) (moves (reached g))) ∷ []) s
+
+-- The best move
+
+-- A move, written on a board. (None, here an empty text, does not come: in a game that is not over there is a best move at every
+-- depth from 1 on.)
+abbrev pub text_of_best : Stacks → Option Move → List ℕ
+text_of_best b None = []
+text_of_best b (Some m) = text b m
+
+-- the first legal move of the greatest minimax value, so many plies deep, written; the options play no part in it
+abbrev pub best_text : Begun → ℕ → List ℕ
+best_text g depth = text_of_best (reached g).board (best (reached g) depth)
+
+-- the line that names it; nothing changes
+abbrev pub best_line : State → ℕ → Begun → Answer
+best_line s depth g = Says (best_text g depth ∷ []) s
+
+-- Undo
 
 -- the game without its last moves
 abbrev pub undo : State → ℕ → Begun → Answer
@@ -175,7 +195,7 @@ command_answer s line (NewGame part) = begin s (game_of (or_base (bytes_at line 
 command_answer s line (Play part) = in_game s s.game (play s (bytes_at line part))
 command_answer s line Pass = in_game s s.game (play s (codes "pass"))
 command_answer s line ValidMoves = while_on s (list s)
-command_answer s line (BestDepth depth) = while_on s (λ g. refuse s (codes "err 20 not built"))
+command_answer s line (BestDepth depth) = while_on s (best_line s depth)
 command_answer s line (BestTime budget) = while_on s (λ g. refuse s (codes "err 20 not built"))
 command_answer s line (Undo plies) = in_game s s.game (undo s plies)
 command_answer s line Options = Says (table_line s.table ∷ (workers_line s.workers ∷ [])) s

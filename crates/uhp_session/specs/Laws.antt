@@ -1,8 +1,16 @@
 -- What holds of every session.
-use Rattle.std.specs.Prelude.{◌≡◌, ℕ, ◌≤◌, List, [], ◌∷◌, ◌++◌, length, codes, Option, Some, None, ◌⊎◌}
+use Rattle.std.specs.Prelude.{◌≡◌, ℕ, ◌≤◌, false, List, [], ◌∷◌, ◌++◌, length, codes, Option, Some, None, Result, Ok, ◌⊎◌}
+use Rattle.hive_model.specs.declared.places.Move.{Move}
+use Rattle.hive_model.specs.Denotes.{text}
 use Rattle.hive_model.specs.Games.{IsGame}
-use Rattle.hive_model.specs.Lines.{Line}
-use Rattle.uhp_session.specs.Answers.{Begun, State, Answer, Says, Leaves, answer, next}
+use Rattle.hive_model.specs.Legal.{is_over}
+use Rattle.hive_model.specs.Minimax.{IsBest}
+use Rattle.hive_model.specs.Lines.{Line, Text as TextLine, TooLong as LongLine}
+use Rattle.uhp_words.specs.declared.command.Command.{Command}
+use Rattle.uhp_words.specs.declared.command.Command.TheVariants.{Options, OptionGet, OptionSet}
+use Rattle.uhp_words.specs.declared.command.CommandFault.{CommandFault}
+use Rattle.uhp_words.specs.Reading.{command_of}
+use Rattle.uhp_session.specs.Answers.{Begun, State, Answer, Says, Leaves, reached, best_text, answer, reply, next}
 
 -- the first line of the answer begins with `err ` or with `invalidmove `
 abbrev pub IsRefusal : Answer → Type 0
@@ -22,3 +30,28 @@ HoldsGame (Some g) = IsGame g.game_type g.made × (length g.made ≤ 5000)
 -- a session that holds such a game, or none, does so after every line
 abbrev pub SessionsHoldGames : Type 0
 SessionsHoldGames = (s : State) (line : Line) → HoldsGame s.game → HoldsGame (next s line).game
+
+-- In a game that is not over the text that `bestmove depth` answers is that of a legal move, at every depth from 1 on: of the
+-- first of those that are worth most at that depth.
+abbrev pub BestMovesAreNamed : Type 0
+BestMovesAreNamed =
+    (g : Begun) (depth : ℕ) → is_over (reached g) ≡ false → 1 ≤ depth
+    → (m : Move) × IsBest (reached g) depth m × (best_text g depth ≡ text (reached g).board m)
+
+-- a command that tells or sets the options
+abbrev pub IsOfOptions : Result Command CommandFault → Type 0
+IsOfOptions (Ok Options) = Unit {0}
+IsOfOptions (Ok (OptionGet name)) = Unit {0}
+IsOfOptions (Ok (OptionSet name value)) = Unit {0}
+IsOfOptions _ = ⊥
+
+-- the line is such a command
+abbrev pub AsksOptions : Line → Type 0
+AsksOptions (TextLine bytes) = IsOfOptions (command_of bytes)
+AsksOptions LongLine = ⊥
+
+-- The values of the options show in no reply but those to `options`: to every other line two sessions of the same game give the
+-- same reply, and they are of the same game afterwards.
+abbrev pub OptionsChangeNoAnswer : Type 0
+OptionsChangeNoAnswer =
+    (s t : State) (line : Line) → s.game ≡ t.game → ¬ AsksOptions line → (reply s line ≡ reply t line) × ((next s line).game ≡ (next t line).game)

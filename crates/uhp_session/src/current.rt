@@ -1,22 +1,24 @@
 //! A game that was begun, with the written texts of its moves.
 
-ghost use Rattle.std.specs.Prelude.{◌≡◌, ◌<◌, ◌≤◌, ◌-◌, [], ◌∷◌, ◌++◌, length, take, map, codes, Some, IfOk, OnOk, OnErr, IsTrue};
+ghost use Rattle.std.specs.Prelude.{◌≡◌, ◌<◌, ◌≤◌, ◌-◌, false, [], ◌∷◌, ◌++◌, length, take, map, codes, Some, IfOk, OnOk, OnErr, IsTrue};
 ghost use Rattle.hive_model.specs.Lists.{IsOn};
 ghost use Rattle.hive_model.specs.Legal.{moves, is_over};
 ghost use Rattle.hive_model.specs.Games.{IsGame};
 ghost use Rattle.hive_model.specs.Courses.{is_listed};
+ghost use Rattle.hive_model.specs.Minimax.{best};
 ghost use Rattle.hive_model.specs.Denotes.{text};
 ghost use Rattle.hive_model.specs.Strings.{string};
 ghost use Rattle.hive_model.specs.Stack.{with_level};
 ghost use Rattle.move_text.specs.Moves.{move_of};
-ghost use Rattle.uhp_session.specs.Answers.{Begun, reached, text_of, ended, joined};
+ghost use Rattle.uhp_session.specs.Answers.{Begun, reached, text_of, ended, joined, best_text};
 
 use crate::lines::Reply;
 use crate::lists::joined_moves;
-use crate::says::close;
+use crate::says::{close, say};
+use deepening::Searcher;
 use game_text::{MoveTexts, texts_of};
 use hive_model::{Game, GameType, Move, MoveList, MoveStack, ReplyText, State};
-use move_text::{MoveFault, read_move};
+use move_text::{MoveFault, read_move, write_move};
 use std::alloc::{AllocError, Global};
 use std::marker::Model;
 
@@ -28,7 +30,7 @@ pub(crate) struct Current<G: Game> {
 }
 
 impl<G: Game> Model for Current<G> {
-    ghost use Rattle.std.specs.Prelude.{◌≡◌};
+    ghost use Rattle.std.specs.Prelude.{◌≡◌, ◌≤◌, length};
     ghost use Rattle.hive_model.specs.Positions.{opening};
     ghost use Rattle.hive_model.specs.Strings.{texts};
     ghost use Rattle.uhp_session.specs.Answers.{Begun};
@@ -37,7 +39,7 @@ impl<G: Game> Model for Current<G> {
 
     ghost view = { λ c. record { game_type = (G.course c.game).game_type; made = (G.course c.game).made } };
 
-    ghost invariant = { λ c. c.written ≡ texts (opening (G.course c.game).game_type) (G.course c.game).made };
+    ghost invariant = { λ c. (c.written ≡ texts (opening (G.course c.game).game_type) (G.course c.game).made) × (length (G.course c.game).made ≤ 5000) };
 }
 
 /// A game of this type in which these moves were played.
@@ -79,7 +81,7 @@ impl<G: Game + Drop> Current<G> {
         moves: &[Move],
     ) -> Result<Current<G>, AllocError>
         requires game { IsGame game_type moves.now }
-        requires few { length moves.now ≤ 5064 }
+        requires few { length moves.now ≤ 5000 }
         ensures { IfOk result (λ c. c ≡ record { game_type = game_type; made = moves.now }) }
     {
         let game: G = played(alloc, game_type, moves)?;
@@ -208,6 +210,44 @@ impl<G: Game + Drop> Current<G> {
         self.list(&mut stack);
         let _state = self.game.state();
         close(joined_moves(alloc, &self.game, &stack)?)
+    }
+
+    /// The first legal move that is worth most, so many plies deep, sought with a table of so many entries. The game is as before,
+    /// after want of memory too.
+    fn best(&mut self, alloc: Global, entries: u32, depth: u32) -> Result<Move, AllocError>
+        requires goes_on { is_over (reached self.old) ≡ false }
+        requires some { 1 ≤ entries }
+        requires few { entries ≤ 1048576 }
+        requires deep { 1 ≤ depth }
+        requires bound { depth ≤ 64 }
+        ensures best { IfOk result (λ m. best (reached self.old) depth ≡ Some m) }
+        ensures same { self.new ≡ self.old }
+    {
+        let mut searcher = Searcher::prepare(alloc, entries, depth)?;
+        self.game.reserve(depth)?;
+        let found = searcher.best_at(&mut self.game, depth);
+        Ok(found.best)
+    }
+
+    /// The best move, and `ok`. The game is as before, after want of memory too.
+    pub(crate) fn tell_best(
+        &mut self,
+        alloc: Global,
+        entries: u32,
+        depth: u32,
+    ) -> Result<Reply, AllocError>
+        requires goes_on { is_over (reached self.old) ≡ false }
+        requires some { 1 ≤ entries }
+        requires few { entries ≤ 1048576 }
+        requires deep { 1 ≤ depth }
+        requires bound { depth ≤ 64 }
+        ensures reply { IfOk result (λ r. text_of r ≡ Some (ended (best_text self.old depth ∷ (codes "ok" ∷ [])))) }
+        ensures same { self.new ≡ self.old }
+    {
+        let found = self.best(alloc, entries, depth)?;
+        let _state = self.game.state();
+        let written = write_move(&self.game, found);
+        say(alloc, written.as_bytes())
     }
 
     /// Begins a level and fills it with the legal moves.

@@ -1,6 +1,6 @@
 //! The laws of sessions. They have no code: a function here has its law as its contract, and an empty body.
 
-ghost use Rattle.uhp_session.specs.Laws.{RefusalsChangeNothing, SessionsHoldGames};
+ghost use Rattle.uhp_session.specs.Laws.{RefusalsChangeNothing, SessionsHoldGames, BestMovesAreNamed, OptionsChangeNoAnswer};
 
 /// Where the first line of the answer begins with `err ` or `invalidmove `, the session is afterwards as it was before.
 pub fn refusals_change_nothing()
@@ -11,4 +11,16 @@ pub fn refusals_change_nothing()
 /// every line. A new session has no game.
 pub fn sessions_hold_games()
     ensures { SessionsHoldGames }
+{}
+
+/// In a game that is not over `bestmove depth` names a legal move, at every depth from 1 on: the first of those that are worth most
+/// at that depth.
+pub fn best_moves_are_named()
+    ensures { BestMovesAreNamed }
+{}
+
+/// The values of the options show in no reply but those to `options`: to every other line two sessions of the same game give the
+/// same reply, and they are of the same game afterwards.
+pub fn options_change_no_answer()
+    ensures { OptionsChangeNoAnswer }
 {}

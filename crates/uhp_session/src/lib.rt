@@ -10,6 +10,8 @@ mod refusals;
 mod says;
 mod session;
 
-pub use laws::{refusals_change_nothing, sessions_hold_games};
+pub use laws::{
+    best_moves_are_named, options_change_no_answer, refusals_change_nothing, sessions_hold_games,
+};
 pub use lines::{LineIn, Reply};
 pub use session::Session;

@@ -13,6 +13,7 @@ use std::alloc::{AllocError, Global};
 /// A number in this range.
 pub(crate) fn number_in(text: &[u8], least: u64, most: u64) -> Option<u64>
     ensures value { result ≡ number_at text.now least most }
+    ensures large { IfSome result (λ n. least ≤ n) }
     ensures small { IfSome result (λ n. n ≤ most) }
 {
     move_text::read_number(text, least, most)

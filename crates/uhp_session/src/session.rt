@@ -2,9 +2,9 @@
 
 ghost use Rattle.std.specs.Prelude.{◌≡◌, ◌≤◌, [], ◌∷◌, length, codes, IfOk, OnOk, OnErr};
 ghost use Rattle.game_text.specs.Reading.{game_of};
-ghost use Rattle.uhp_words.specs.Grammar.{AreWithin};
+ghost use Rattle.uhp_words.specs.Grammar.{IsCommand, AreWithin};
 ghost use Rattle.uhp_words.specs.Reading.{command_of};
-ghost use Rattle.uhp_session.specs.Answers.{fresh, reply, next, line_in, text_of, IsShort, reply_of, after_of, refuse, words_answer, command_answer, get, set, go_on, with_game, or_base, begin, in_game, play, while_on, list, undo};
+ghost use Rattle.uhp_session.specs.Answers.{fresh, reply, next, line_in, text_of, IsShort, reply_of, after_of, refuse, words_answer, command_answer, get, set, go_on, with_game, or_base, begin, in_game, play, while_on, list, best_line, undo};
 
 use crate::current::Current;
 use crate::lines::{LineIn, Reply};
@@ -29,11 +29,14 @@ pub struct Session<G: Game> {
 }
 
 impl<G: Game> Model for Session<G> {
+    ghost use Rattle.std.specs.Prelude.{◌≤◌};
     ghost use Rattle.uhp_session.specs.Answers.{State};
 
     ghost Value = { State };
 
     ghost view = { λ s. record { game = s.game; table = s.table; workers = s.workers } };
+
+    ghost invariant = { λ s. (1 ≤ s.table) × (s.table ≤ 1048576) × (1 ≤ s.workers) × (s.workers ≤ 16) };
 }
 
 /// The text of a new game: no text stands for the base game.
@@ -61,7 +64,8 @@ impl<G: Game + Drop> Session<G> {
     ///
     /// `info` tells who the engine is. `newgame` begins the game of a game string, or of no text the base game; `play` and `pass`
     /// play a move, and `undo` takes moves back: each is answered by the game string after it. `validmoves` lists the legal moves.
-    /// `options` tells the options, gets one or sets one, and they outlive a new game. `bestmove` is not built.
+    /// `bestmove depth` names the first legal move of the greatest minimax value, so many plies deep; `bestmove time` is not built.
+    /// `options` tells the options, gets one or sets one, and they outlive a new game. No other answer depends on them.
     ///
     /// A line that is too long, no command or of wrong arguments is refused. So is a command with no game, with a game that is over
     /// or has 5,000 plies, with a text that is no game, a move that is unreadable or not legal, more plies to take back than were
@@ -104,10 +108,11 @@ impl<G: Game + Drop> Session<G> {
     }
 
     /// Answers a command, which names parts of its line.
-    #[tactic(auto, using(crate::proofs::ReplyLaws::get_keeps, crate::proofs::ReplyLaws::list_keeps, crate::proofs::ReplyLaws::best_keeps))]
+    #[tactic(auto, using(crate::proofs::ReplyLaws::get_keeps, crate::proofs::ReplyLaws::list_keeps, crate::proofs::ReplyLaws::best_keeps, crate::proofs::ReplyLaws::time_keeps))]
     fn perform(&mut self, alloc: Global, line: &[u8], command: Command) -> Result<Reply, AllocError>
         requires short { length line.now ≤ 65536 }
         requires within { AreWithin line.now command }
+        requires reads { IsCommand line.now command }
         ensures reply { IfOk result (λ r. text_of r ≡ reply_of (command_answer self.old line.now command)) }
         ensures next { OnOk result (self.new ≡ after_of self.old (command_answer self.old line.now command)) }
         ensures err { OnErr result (self.new ≡ self.old) }
@@ -118,7 +123,8 @@ impl<G: Game + Drop> Session<G> {
             Command::Play { text } => self.play(alloc, part(line, text)),
             Command::Pass => self.play(alloc, b"pass"),
             Command::ValidMoves => self.list(alloc),
-            Command::BestDepth { .. } | Command::BestTime { .. } => self.best(alloc),
+            Command::BestDepth { depth } => self.best(alloc, depth),
+            Command::BestTime { .. } => self.best_in_time(alloc),
             Command::Undo { plies } => self.undo(alloc, plies),
             Command::Options => tell_options(alloc, self.table, self.workers),
             Command::OptionGet { name } => self.tell_option(alloc, part(line, name)),
@@ -236,8 +242,25 @@ impl<G: Game + Drop> Session<G> {
         game.tell_moves(alloc)
     }
 
-    /// No search is built yet.
-    fn best(&self, alloc: Global) -> Result<Reply, AllocError>
+    /// The best move, so many plies deep. Each of the workers has its share of the option Table, at least one entry.
+    fn best(&mut self, alloc: Global, depth: u32) -> Result<Reply, AllocError>
+        requires some { 1 ≤ depth }
+        requires deep { depth ≤ 64 }
+        ensures reply { IfOk result (λ r. text_of r ≡ reply_of (while_on self.old (best_line self.old depth))) }
+        ensures same { self.new ≡ self.old }
+    {
+        let entries = (self.table / self.workers).max(1);
+        let Some(game) = &mut self.game else {
+            return say(alloc, b"err 3 no game");
+        };
+        if game.is_over() {
+            return say(alloc, b"err 8 game over");
+        }
+        game.tell_best(alloc, entries, depth)
+    }
+
+    /// A search for a time is not built.
+    fn best_in_time(&self, alloc: Global) -> Result<Reply, AllocError>
         ensures { IfOk result (λ r. text_of r ≡ reply_of (while_on self.now (λ g. refuse self.now (codes "err 20 not built")))) }
     {
         let Some(game) = &self.game else {

@@ -1,0 +1,95 @@
+-- What the options are plays no part in the answers to other lines.
+use Rattle.std.proofs.Common.{◌≡◌, ℕ, ◌-◌, Bool, true, false, List, [], ◌∷◌, ◌++◌, length, take, Result, Ok, Err, refl, subst, if◌then◌else◌}
+use Rattle.std.specs.Prelude.{Option, Some, None, codes, nat_le, nat_lt}
+use Rattle.hive_model.specs.declared.places.Move.{Move}
+use Rattle.hive_model.specs.Courses.{is_listed}
+use Rattle.hive_model.specs.Legal.{is_over}
+use Rattle.hive_model.specs.Lines.{Text as TextLine, TooLong as LongLine}
+use Rattle.move_text.specs.declared.faults.MoveFault.{MoveFault}
+use Rattle.move_text.specs.Moves.{move_of}
+use Rattle.game_text.specs.declared.faults.GameFault.{GameFault}
+use Rattle.game_text.specs.declared.parsed.Parsed.{Parsed}
+use Rattle.game_text.specs.Reading.{game_of}
+use Rattle.uhp_words.specs.declared.command.Command.{Command}
+use Rattle.uhp_words.specs.declared.command.Command.TheVariants.{Info, NewGame, Play, Pass, ValidMoves, BestDepth, BestTime, Undo, Options, OptionGet, OptionSet, Exit}
+use Rattle.uhp_words.specs.declared.command.CommandFault.{CommandFault}
+use Rattle.uhp_words.specs.declared.command.CommandFault.TheVariants.{Unknown, Arguments}
+use Rattle.uhp_words.specs.Reading.{command_of}
+use Rattle.uhp_words.specs.Spans.{bytes_at}
+use Rattle.uhp_session.specs.Answers.{Begun, State, Answer, reached, refuse, go_on, in_game, while_on, begin, make, play, list, best_line, undo, or_base, command_answer, words_answer, reply_of, after_of, reply, next}
+use Rattle.uhp_session.specs.Laws.{IsOfOptions, OptionsChangeNoAnswer}
+
+-- the answers of two sessions have one reply, and leave one game
+abbrev Alike : State → State → Answer → Answer → Type 0
+Alike s t a b = (reply_of a ≡ reply_of b) × ((after_of s a).game ≡ (after_of t b).game)
+
+in_alike : (s t : State) (f h : Begun → Answer) → s.game ≡ t.game → ((g : Begun) → Alike s t (f g) (h g)) → Alike s t (in_game s s.game f) (in_game t t.game h)
+in_alike s t f h same each = subst (λ (o : Option Begun). Alike s t (in_game s s.game f) (in_game t o h)) same (go s.game)
+  where
+    go : (o : Option Begun) → Alike s t (in_game s o f) (in_game t o h)
+    go None = (refl, same)
+    go (Some g) = each g
+
+while_alike : (s t : State) (f h : Begun → Answer) → s.game ≡ t.game → ((g : Begun) → Alike s t (f g) (h g)) → Alike s t (while_on s f) (while_on t h)
+while_alike s t f h same each = in_alike s t _ _ same (λ g. go g (is_over (reached g)))
+  where
+    go : (g : Begun) (over : Bool) → Alike s t (if over then refuse s (codes "err 8 game over") else f g) (if over then refuse t (codes "err 8 game over") else h g)
+    go g true = (refl, same)
+    go g false = each g
+
+begin_alike : (s t : State) (r : Result Parsed GameFault) → s.game ≡ t.game → Alike s t (begin s r) (begin t r)
+begin_alike s t (Ok g) same = (refl, refl)
+begin_alike s t (Err fault) same = (refl, same)
+
+make_alike : (s t : State) (g : Begun) (r : Result Move MoveFault) → s.game ≡ t.game → Alike s t (make s g r) (make t g r)
+make_alike s t g (Err fault) same = (refl, same)
+make_alike s t g (Ok m) same = go (is_listed (reached g) m)
+  where
+    go : (b : Bool) → Alike s t
+        (if b then go_on s (record { game_type = g.game_type; made = g.made ++ m ∷ [] }) else refuse s (codes "invalidmove 3 not legal"))
+        (if b then go_on t (record { game_type = g.game_type; made = g.made ++ m ∷ [] }) else refuse t (codes "invalidmove 3 not legal"))
+    go true = (refl, refl)
+    go false = (refl, same)
+
+play_alike : (s t : State) (words : List ℕ) → s.game ≡ t.game → (g : Begun) → Alike s t (play s words g) (play t words g)
+play_alike s t words same g = go (is_over (reached g)) (nat_le 5000 (length g.made))
+  where
+    go : (over full : Bool) → Alike s t
+        (if over then refuse s (codes "invalidmove 4 game over") else if full then refuse s (codes "err 11 too many plies") else make s g (move_of g.game_type (reached g).board words))
+        (if over then refuse t (codes "invalidmove 4 game over") else if full then refuse t (codes "err 11 too many plies") else make t g (move_of g.game_type (reached g).board words))
+    go true full = (refl, same)
+    go false true = (refl, same)
+    go false false = make_alike s t g (move_of g.game_type (reached g).board words) same
+
+undo_alike : (s t : State) (plies : ℕ) → s.game ≡ t.game → (g : Begun) → Alike s t (undo s plies g) (undo t plies g)
+undo_alike s t plies same g = go (nat_lt (length g.made) plies)
+  where
+    go : (b : Bool) → Alike s t
+        (if b then refuse s (codes "err 7 undo beyond start") else go_on s (record { game_type = g.game_type; made = take (length g.made - plies) g.made }))
+        (if b then refuse t (codes "err 7 undo beyond start") else go_on t (record { game_type = g.game_type; made = take (length g.made - plies) g.made }))
+    go true = (refl, same)
+    go false = (refl, refl)
+
+command_alike : (s t : State) (line : List ℕ) (c : Command) → s.game ≡ t.game → ¬ IsOfOptions (Ok c) → Alike s t (command_answer s line c) (command_answer t line c)
+command_alike s t line Info same other = (refl, same)
+command_alike s t line (NewGame part) same other = begin_alike s t (game_of (or_base (bytes_at line part))) same
+command_alike s t line (Play part) same other = in_alike s t (play s (bytes_at line part)) (play t (bytes_at line part)) same (play_alike s t (bytes_at line part) same)
+command_alike s t line Pass same other = in_alike s t (play s (codes "pass")) (play t (codes "pass")) same (play_alike s t (codes "pass") same)
+command_alike s t line ValidMoves same other = while_alike s t (list s) (list t) same (λ g. (refl, same))
+command_alike s t line (BestDepth depth) same other = while_alike s t (best_line s depth) (best_line t depth) same (λ g. (refl, same))
+command_alike s t line (BestTime budget) same other = while_alike s t (λ g. refuse s (codes "err 20 not built")) (λ g. refuse t (codes "err 20 not built")) same (λ g. (refl, same))
+command_alike s t line (Undo plies) same other = in_alike s t (undo s plies) (undo t plies) same (undo_alike s t plies same)
+command_alike s t line Options same other = absurd (other tt)
+command_alike s t line (OptionGet name) same other = absurd (other tt)
+command_alike s t line (OptionSet name value) same other = absurd (other tt)
+command_alike s t line Exit same other = (refl, same)
+
+words_alike : (s t : State) (line : List ℕ) (r : Result Command CommandFault) → s.game ≡ t.game → ¬ IsOfOptions r → Alike s t (words_answer s line r) (words_answer t line r)
+words_alike s t line (Ok c) same other = command_alike s t line c same other
+words_alike s t line (Err Unknown) same other = (refl, same)
+words_alike s t line (Err Arguments) same other = (refl, same)
+
+pub change_no_answer : OptionsChangeNoAnswer
+unfolding reply next
+change_no_answer s t (TextLine bytes) same other = words_alike s t bytes (command_of bytes) same other
+change_no_answer s t LongLine same other = (refl, same)
