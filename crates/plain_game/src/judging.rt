@@ -24,7 +24,8 @@ pub fn worth_after(board: &PlainBoard, made: &[Move]) -> i32
     separating_places(board, &mut separating);
     let cuts = KnownCuts::new(board, &separating);
     let side = side_after(made.len() as u32);
-    evaluate(board, &cuts, side, rest_after(made))
+    let rest = rest_after(made);
+    evaluate(board, &cuts, side, rest)
 }
 
 /// The key of the position that these moves lead to, on this board.
@@ -36,5 +37,6 @@ pub fn key_after(board: &PlainBoard, game_type: GameType, made: &[Move]) -> Key
     let plies = made.len() as u32;
     let side = side_after(plies);
     let turn = turn_after(plies);
-    Key::of(game_type, board, side, turn, rest_after(made))
+    let rest = rest_after(made);
+    Key::of(game_type, board, side, turn, rest)
 }

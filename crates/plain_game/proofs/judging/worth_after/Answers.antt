@@ -16,6 +16,6 @@ returns c = λ t board.
     let low = c.evaluate.ensures.low in
     let high = c.evaluate.ensures.high in
     let worth : to_z w32 (of_z w32 c.evaluate.result) ≡ c.evaluate.result = omega (arith, ints, low, high) in
-    let rest = c.rest_after.ensures t in
+    let rest = c.rest_after-rest.ensures t in
     let side : c.side_after-side.result ≡ (replay (opening t) made).side = c.side_after-side.ensures ∙ sym (games_count t made).side in
     worth ∙ c.evaluate.ensures.worth ∙ (λ i. evaluation (board i) (rest i) (side i))
