@@ -1,8 +1,10 @@
 #!/usr/bin/env python3
-"""Counts the games of so many plies through the built program, and compares the counts with those that other engines give.
+"""Counts the games of so many plies through the built program, by its answers to a viewer and by its command `count`, and compares
+the counts with those that other engines give.
 
 Usage: counts.py PROGRAM. Ends with status 0 where all counts are the same.
 """
+import subprocess
 import sys
 
 from viewer import Engine, expect
@@ -26,6 +28,15 @@ def count(engine, plies):
     return total
 
 
+def command(program, game_type, plies):
+    """What `count` writes."""
+    run = subprocess.run(
+        [program, "count", "--plies", str(plies)], input=game_type.encode("ascii") + b"\n", stdout=subprocess.PIPE, timeout=60
+    )
+    expect("status of count", run.returncode, 0)
+    return run.stdout.decode("ascii")
+
+
 if __name__ == "__main__":
     engine = Engine(sys.argv[1])
     engine.reply()
@@ -34,4 +45,7 @@ if __name__ == "__main__":
         for plies, wanted in enumerate(counts, 1):
             expect(f"games of {plies} plies of {game_type}", count(engine, plies), wanted)
     expect("status", engine.end(), 0)
+    for game_type, counts in COUNTS.items():
+        wanted = "".join(f"{plies} {number}\n" for plies, number in enumerate(counts, 1))
+        expect(f"count of {game_type}", command(sys.argv[1], game_type, len(counts)), wanted)
     print("counts: all are as expected")

@@ -49,6 +49,9 @@ def short_game(program):
         ("undo", ["err 3 no game"]),
         ("newgame", ["Base;NotStarted;White[1]"]),
         ("validmoves", ["wS1;wB1;wG1;wA1"]),
+        ("bestmove depth 1", ["wS1"]),
+        ("bestmove depth 2", ["wA1"]),
+        ("bestmove time 00:00:01", ["err 20 not built"]),
         ("play wS1", ["Base;InProgress;Black[1];wS1"]),
         ("validmoves", [seconds]),
         ("play wS1", ["invalidmove 1 unreadable"]),
@@ -71,6 +74,12 @@ def short_game(program):
         ("validmoves", ["wS1;wB1;wG1;wA1;wM;wL;wP"]),
     ]:
         expect(line[:60], engine.ask(line), wanted)
+    won = "wS1;bS1 wS1-;wQ /wS1;bQ bS1-;wQ /bS1;bQ wQ-;wG1 -wS1;bG1 bS1-;wB1 /wQ;bB1 bQ-;wA1 -wB1;bA1 /bB1"
+    expect("before a win", engine.ask("newgame Base;InProgress;White[7];" + won), ["Base;InProgress;White[7];" + won])
+    for depth in range(1, 4):
+        expect(f"a win at depth {depth}", engine.ask(f"bestmove depth {depth}"), ["wA1 wB1-"])
+    expect("won", engine.ask("play wA1 wB1-"), ["Base;WhiteWins;Black[7];" + won + ";wA1 wB1-"])
+    expect("over", engine.ask("bestmove depth 1"), ["err 8 game over"])
     expect("status", engine.end(), 0)
 
 
