@@ -3,10 +3,11 @@
 ghost use Rattle.std.specs.Prelude.{◌≡◌, refl};
 ghost use Rattle.hive_model.specs.Courses.{position};
 
+use crate::judging::{key_after, worth_after};
 use crate::listing::{is_legal_after, list_moves, state_of};
 use crate::making::{make, unmake};
 use crate::turns::{side_after, turn_after};
-use hive_model::{Board, Colour, Game, GameType, Move, MoveStack, Piece, Place, Spot, State};
+use hive_model::{Board, Colour, Game, GameType, Key, Move, MoveStack, Piece, Place, Spot, State};
 use stack_board::PlainBoard;
 use std::alloc::{AllocError, Global};
 use std::marker::Model;
@@ -127,6 +128,14 @@ impl Game for PlainGame {
             unmake(&mut self.board, &m, from);
             self.spare += 1;
         }
+    }
+
+    fn evaluate(&mut self) -> i32 {
+        worth_after(&self.board, &self.made)
+    }
+
+    fn key(&self) -> Key {
+        key_after(&self.board, self.game_type, &self.made)
     }
 
     fn played(&self) -> u64 {

@@ -2,6 +2,7 @@
 #![tactic(auto)]
 
 mod game;
+mod judging;
 mod known_cuts;
 mod listing;
 mod making;

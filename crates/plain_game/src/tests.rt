@@ -72,6 +72,16 @@ fn plays(game: &mut PlainGame, index: u8, place: Place) -> Result<bool, AllocErr
     Ok(true)
 }
 
+/// Plays each of these pieces to its place, one after another, if each is legal.
+fn plays_all(game: &mut PlainGame, moves: &[(u8, i32, i32)]) -> Result<bool, AllocError> {
+    for (index, q, r) in moves {
+        if *index >= 28 || !plays(game, *index, Place { q: *q, r: *r })? {
+            return Ok(false);
+        }
+    }
+    Ok(true)
+}
+
 /// Takes the last move back, if there is one.
 fn takes_back(game: &mut PlainGame) -> bool {
     if game.plies() == 0 {
@@ -116,5 +126,68 @@ fn played_and_taken_back(rt: HostRuntime) -> Result<(), Fail> {
     assert!(rt; lists(rt.alloc(), &mut game, &[1, 3, 5, 8], &[ORIGIN])?);
     assert!(rt; !takes_back(&mut game));
     assert!(rt; game.played() == 5);
+    Ok(())
+}
+
+/// White has the queen, the first spider and the first ant on the board, black too. The last ply brought black's ant.
+const LAST_ANT: [(u8, i32, i32); 6] = [
+    (1, 0, 0),
+    (15, 1, 0),
+    (0, -1, 0),
+    (14, 2, 0),
+    (8, -1, 1),
+    (22, 2, -1),
+];
+
+/// The same placements, white's in another order.
+const LAST_ANT_AGAIN: [(u8, i32, i32); 6] = [
+    (1, 0, 0),
+    (15, 1, 0),
+    (8, -1, 1),
+    (14, 2, 0),
+    (0, -1, 0),
+    (22, 2, -1),
+];
+
+/// The same placements, black's in another order: the last ply brought black's queen.
+const LAST_QUEEN: [(u8, i32, i32); 6] = [
+    (1, 0, 0),
+    (15, 1, 0),
+    (0, -1, 0),
+    (22, 2, -1),
+    (8, -1, 1),
+    (14, 2, 0),
+];
+
+#[test]
+fn keys(rt: HostRuntime) -> Result<(), Fail> {
+    let mut one = PlainGame::opening(rt.alloc(), BASE)?;
+    let mut same = PlainGame::opening(rt.alloc(), BASE)?;
+    let mut other = PlainGame::opening(rt.alloc(), BASE)?;
+    let all = PlainGame::opening(rt.alloc(), ALL)?;
+    assert!(rt; one.key() == same.key());
+    assert!(rt; one.key() != all.key());
+    assert!(rt; plays_all(&mut one, &LAST_ANT)?);
+    assert!(rt; one.key() != same.key());
+    assert!(rt; plays_all(&mut same, &LAST_ANT_AGAIN)?);
+    assert!(rt; plays_all(&mut other, &LAST_QUEEN)?);
+    assert!(rt; one.key() == same.key());
+    assert!(rt; one.key() != other.key());
+    Ok(())
+}
+
+/// Each queen has two neighbours, and the spiders hold the hive together. White's queen and ant are free, and of black's queen and
+/// ant the one that does not rest. Before the last ply black's queen had one neighbour, and white's ant rested.
+#[test]
+fn worth(rt: HostRuntime) -> Result<(), Fail> {
+    let mut game = PlainGame::opening(rt.alloc(), BASE)?;
+    assert!(rt; game.evaluate() == 0);
+    assert!(rt; plays_all(&mut game, &LAST_ANT)?);
+    assert!(rt; game.evaluate() == 10);
+    assert!(rt; takes_back(&mut game));
+    assert!(rt; game.evaluate() == 40);
+    let mut other = PlainGame::opening(rt.alloc(), BASE)?;
+    assert!(rt; plays_all(&mut other, &LAST_QUEEN)?);
+    assert!(rt; other.evaluate() == 4);
     Ok(())
 }
