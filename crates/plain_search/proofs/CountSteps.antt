@@ -8,9 +8,9 @@ use Rattle.hive_model.specs.Legal.{moves}
 use Rattle.hive_model.specs.Games.{after}
 use Rattle.hive_model.specs.Minimax.{lines}
 use Rattle.hive_model.specs.Courses.{Course, position, with_move}
-use Rattle.search_laws.proofs.CourseLaws.{position-with_move}
 use Rattle.search_laws.proofs.LoopLaws.{drop-at}
 use Rattle.search_laws.proofs.NodesLaws.{lines-one, lines-next}
+use Rattle.plain_search.proofs.PlySteps.{behind}
 use Rattle.plain_search.proofs.FewMoves.{after-few, lines-fit}
 
 -- the lists of so many moves behind a move
@@ -53,9 +53,6 @@ pub count-none : (p : Position) (d : ℕ) → d ≡ 0 → 1 ≡ lines p d
 count-none p d none = sym (lines-one p) ∙ ap (lines p) (sym none)
 
 -- Behind a move
-
-pub behind : (start played : Course) (m : Move) → played ≡ with_move start m → position played ≡ after (position start) m
-behind start played m moved = ap position moved ∙ position-with_move start m
 
 pub behind-few : (start played : Course) (m : Move) (n : ℕ) → played ≡ with_move start m → length (position start).board + 2 * n + 2 ≤ 44 →
     length (position played).board + 2 * n ≤ 44

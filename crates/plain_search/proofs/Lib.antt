@@ -1,2 +1,4 @@
 pub mod FewMoves
+pub mod PlySteps
 pub mod CountSteps
+pub mod WorthSteps

@@ -3,5 +3,10 @@
 #![tactic(auto)]
 
 mod counts;
+mod values;
 
 pub use counts::count_lines;
+pub use values::minimax;
+
+#[cfg(test)]
+mod tests;

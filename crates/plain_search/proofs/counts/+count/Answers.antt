@@ -1,9 +1,9 @@
-use Rattle.std.proofs.Common.{rules, ◌≡◌, ◌+◌, ◌-◌, ◌^◌, ◌<◌, ◌≤◌, Some, refl, ap, arith, ◌∙◌}
+use Rattle.std.proofs.Common.{rules, ◌≡◌, ◌+◌, ◌^◌, ◌<◌, Some, refl, arith, ◌∙◌}
 use Rattle.std.specs.List.{slice_get}
 use Rattle.hive_model.specs.Legal.{moves}
-use Rattle.hive_model.specs.Courses.{Course, position}
-use Rattle.hive_model.specs.Stack.{Levels}
+use Rattle.hive_model.specs.Courses.{position}
 use Rattle.search_laws.proofs.TurnLaws.{move-here, move-legal, count-here}
+use Rattle.plain_search.proofs.PlySteps.{levels-left, spare-before, spare-behind}
 use Rattle.plain_search.proofs.CountSteps.{count-begin, count-step, count-fits, count-one, count-none, behind-few, behind-count, count-now, few-now}
 use Rattle.plain_search.proofs.counts.+count.Goals as goal
 
@@ -16,7 +16,7 @@ lines_behind-lines_from-lines-requires g t c κs within = (
       omega arith,
       (
         behind-few _ _ c.args.m _ c.play.ensures.moved c.requires.few,
-        (omega (arith, ap (λ (h : Course). h.spare) c.play.ensures.moved, c.requires.spare), c.requires.room),
+        (spare-behind _ _ c.args.m _ c.play.ensures.moved c.requires.spare, c.requires.room),
       ),
     ),
   ),
@@ -43,9 +43,7 @@ lines_from-loop-i-init g t c = record {
 pub lines_from-lines_behind-total-requires : goal.lines_from-lines_behind-total-requires
 lines_from-lines_behind-total-requires g t c κs within =
     let turn = c.loop-i.invariant in
-    let start = g.G.Game.course c.args.game.now in
-    let room : c.args.plies - 1 ≤ c.loop-i.stack.free =
-    omega (arith, ap (λ (s : Levels). s.free) turn.stack, ap (λ (s : Levels). s.free) c.list.ensures.listed, c.requires.room) in (
+    let start = g.G.Game.course c.args.game.now in (
       search rules,
       (
         within,
@@ -55,7 +53,7 @@ lines_from-lines_behind-total-requires g t c κs within =
             move-legal start start _ _ _ _ _ _ _ refl c.list.ensures.listed turn.stack c.levels-level.ensures c.get-m.ensures turn.game,
             (
               few-now _ _ _ turn.game c.requires.few (omega arith),
-              (omega (arith, ap (λ (h : Course). h.spare) turn.game, c.requires.spare), room),
+              (spare-before _ _ _ turn.game c.requires.spare (omega arith), levels-left _ _ _ _ _ turn.stack c.list.ensures.listed c.requires.room),
             ),
           ),
         ),

@@ -1,0 +1,23 @@
+-- What a ply leaves for those behind it, over plain values.
+use Rattle.std.proofs.Common.{◌≡◌, ℕ, ◌-◌, ◌≤◌, ◌<◌, List, ap, arith, ◌∙◌}
+use Rattle.hive_model.specs.declared.places.Move.{Move}
+use Rattle.hive_model.specs.Games.{after}
+use Rattle.hive_model.specs.Stack.{Levels, with_level}
+use Rattle.hive_model.specs.Courses.{Course, position, with_move}
+use Rattle.search_laws.proofs.CourseLaws.{position-with_move}
+
+pub behind : (start played : Course) (m : Move) → played ≡ with_move start m → position played ≡ after (position start) m
+behind start played m moved = ap position moved ∙ position-with_move start m
+
+-- levels for the plies behind this one
+pub levels-left : (s s1 old : Levels) (ms : List Move) (d : ℕ) → s ≡ s1 → s1 ≡ with_level old ms → d ≤ old.free → d - 1 ≤ s.free
+levels-left s s1 old ms d same listed room =
+    let e : s.free ≡ old.free - 1 = ap (λ (t : Levels). t.free) (same ∙ listed) in
+    omega (arith, e, room)
+
+-- plies for which there is room before a move and behind it
+pub spare-before : (now start : Course) (d : ℕ) → now ≡ start → d ≤ start.spare → 0 < d → d - 1 < now.spare
+spare-before now start d same room deep = let e : now.spare ≡ start.spare = ap (λ (g : Course). g.spare) same in omega (arith, e, room, deep)
+
+pub spare-behind : (start played : Course) (m : Move) (d : ℕ) → played ≡ with_move start m → d < start.spare → d ≤ played.spare
+spare-behind start played m d moved room = let e : played.spare ≡ start.spare - 1 = ap (λ (g : Course). g.spare) moved in omega (arith, e, room)

@@ -1,0 +1,57 @@
+//! What a position is worth by minimax.
+
+ghost use Rattle.std.specs.Prelude.{◌≡◌, ◌<◌, ◌≤◌};
+ghost use Rattle.hive_model.specs.Lists.{IsOn};
+ghost use Rattle.hive_model.specs.Legal.{moves};
+ghost use Rattle.hive_model.specs.Minimax.{value, reply_value};
+ghost use Rattle.hive_model.specs.Courses.{position};
+
+use hive_model::{Game, Move, MoveStack};
+use search_laws::leaf_value;
+
+/// Below what any position is worth.
+const LOWEST: i32 = -1_000_100;
+
+/// What the position is worth to its side to move after `depth` plies of best play of both sides, from 0 to 64: every line of play
+/// is searched, with no window and no table. At depth 0, and where the game is over, that is the worth of the position itself. The
+/// game and the stack are as before.
+#[cycle(minimax)]
+pub fn minimax<G: Game>(game: &mut G, depth: u32, stack: &mut MoveStack) -> i32
+    requires deep { depth ≤ 64 }
+    requires spare { depth ≤ (G.course game.old).spare }
+    requires room { depth ≤ stack.old.free }
+    ensures worth { result ≡ value (position (G.course game.old)) depth }
+    ensures game { G.course game.new ≡ G.course game.old }
+    ensures stack { stack.new ≡ stack.old }
+{
+    if let Some(worth) = leaf_value(game, depth) {
+        return worth;
+    }
+    let level = stack.levels();
+    game.list(stack);
+    let count = stack.level_len(level);
+    let mut best = LOWEST;
+    for i in 0..count {
+        let m = stack.get(level, i);
+        best = best.max(reply(game, m, depth - 1, stack));
+    }
+    stack.drop_level();
+    best
+}
+
+/// What a legal move is worth to the side that makes it, with `depth` plies of best play behind it.
+#[cycle(minimax)]
+fn reply<G: Game>(game: &mut G, m: Move, depth: u32, stack: &mut MoveStack) -> i32
+    requires deep { depth < 64 }
+    requires legal { IsOn (moves (position (G.course game.old))) m }
+    requires spare { depth < (G.course game.old).spare }
+    requires room { depth ≤ stack.old.free }
+    ensures worth { result ≡ reply_value (position (G.course game.old)) depth m }
+    ensures game { G.course game.new ≡ G.course game.old }
+    ensures stack { stack.new ≡ stack.old }
+{
+    game.play(m);
+    let worth = minimax(game, depth, stack);
+    game.undo();
+    -worth
+}
