@@ -10,7 +10,7 @@ use Rattle.hive_model.specs.Positions.{Position, opening}
 use Rattle.hive_model.specs.Games.{replay}
 use Rattle.game_text.specs.declared.parsed.Parsed.{Parsed}
 use Rattle.hive_cli.specs.Session.{Sides, WhereTold}
-use Rattle.hive_cli.specs.OneGame.{FewWereRead, IsAsked, IsBad, alone, asked, bad_line, end_of, game_at}
+use Rattle.hive_cli.specs.OneGame.{IsAsked, alone, asked, end_of, game_at}
 use Rattle.hive_cli.specs.Asking.{IsAtEnd, IsNoGame}
 use Rattle.hive_cli.specs.Count.{CountRun, Ends, Tells, count_line, count_line_of, count_text}
 use Rattle.hive_cli.specs.declared.status.Status.{Status}
@@ -63,7 +63,7 @@ count_cut p n plies lists line w0 w1 w2 low high is count before (k, less, wrote
       length (count_text p (n - 1)) + k,
       subst (λ t. length (count_text p (n - 1)) + k < length t) (sym whole) (longer (count_text p (n - 1)) line rest k less),
       on_written w0 w1 w2 (count_text p (n - 1)) (take k line) before wrote
-      ∙ ap (behind w0) (sym (ap (take (length (count_text p (n - 1)) + k)) whole ∙ seam (count_text p (n - 1)) line rest k short)),
+          ∙ ap (behind w0) (sym (ap (take (length (count_text p (n - 1)) + k)) whole ∙ seam (count_text p (n - 1)) line rest k short)),
     )
   where
     longer : (a b c : List ℕ) (k : ℕ) → k < length b → length a + k < length ((a ++ b) ++ c)

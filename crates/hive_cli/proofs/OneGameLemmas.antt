@@ -1,18 +1,17 @@
 -- What was read of an input that is to be one game.
-use Rattle.std.proofs.Common.{◌≡◌, ◌≤◌, ℕ, List, [], ◌∷◌, ◌++◌, length, refl, ap, sym, ◌∙◌, subst, inl, inr, codes, None, Some, IfOk, IfErr, MatchResult, arith}
+use Rattle.std.proofs.Common.{◌≡◌, ◌≤◌, ℕ, List, [], ◌∷◌, ◌++◌, length, refl, ap, sym, ◌∙◌, subst, inl, inr, codes, Some, IfOk, IfErr, MatchResult, arith}
 use Rattle.std.specs.Prelude.{Result, Ok, Err}
 use Rattle.std.proofs.lemmas.List.{append-nil}
 use Rattle.io_edge.specs.Outside.{Told}
 use Rattle.hive_model.specs.Courses.{Course}
-use Rattle.hive_model.specs.Lines.{Line, Text, TooLong as LongLine, lines, whole_lines}
+use Rattle.hive_model.specs.Lines.{Line, Text, TooLong as LongLine, lines}
 use Rattle.line_feed.specs.Feed.{Reading, Ends, Gives, Holds, input_limit, fresh}
-use Rattle.line_feed.specs.SoFar.{Fed, WasRead}
+use Rattle.line_feed.specs.SoFar.{Fed}
 use Rattle.line_feed.proofs.FedLemmas.{fed_begin, fed_end, fed_held, fed_line, fed_prefix}
-use Rattle.game_text.specs.declared.faults.GameFault.{GameFault}
 use Rattle.game_text.specs.declared.parsed.Parsed.{Parsed}
 use Rattle.game_text.specs.Reading.{game_of}
 use Rattle.hive_cli.specs.Session.{IsAllRead, WereRead, WhereTold}
-use Rattle.hive_cli.specs.OneGame.{AreOpen, FewWereRead, IsAsked, IsBad, IsUndecided, alone, asked, bad_line, game_at, open_game}
+use Rattle.hive_cli.specs.OneGame.{AreOpen, FewWereRead, IsAsked, IsBad, IsUndecided, alone, asked, game_at, open_game}
 use Rattle.hive_cli.specs.Asking.{GivesGame, GivesNone, GoesOn, IsAtEnd, IsNoGame, Lacks, Plays, Says, WereTaken}
 use Rattle.hive_cli.specs.declared.no_game.NoGame.{NoGame}
 use Rattle.hive_cli.specs.declared.no_game.NoGame.TheVariants.{Bad, ReadFault, InputFull, Memory}

@@ -1,5 +1,5 @@
 -- Items of the command line: how words are split, and commands with one option.
-use Rattle.std.proofs.Common.{Bool, true, false, not, ◌==◌, ◌≡◌, ◌≢◌, ◌<◌, ◌≤◌, ℕ, zero, suc, zero-le, suc-le-suc, List, [], ◌∷◌, ◌++◌, length, get_or, drop, refl, ap, sym, ◌∙◌, subst, inl, inr, codes, map, arith}
+use Rattle.std.proofs.Common.{Bool, true, false, not, ◌==◌, ◌≡◌, ◌≢◌, ◌<◌, ℕ, zero, suc, List, [], ◌∷◌, ◌++◌, length, get_or, refl, ap, sym, ◌∙◌, subst, inl, inr, codes, map, arith}
 use Rattle.std.specs.Str.{bytes_eq}
 use Rattle.std.proofs.lemmas.Bool.{eqb-true}
 use Rattle.std.proofs.lemmas.Slice.Eq.{bytes_eq-Decides}

@@ -1,5 +1,6 @@
 //! Sessions over sources and sinks in memory.
 
+mod counted;
 mod faults;
 mod lists;
 mod refused;

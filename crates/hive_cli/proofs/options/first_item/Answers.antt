@@ -1,4 +1,4 @@
-use Rattle.std.proofs.Common.{◌≡◌, sym, ◌∙◌, subst}
+use Rattle.std.proofs.Common.{sym, subst}
 use Rattle.hive_cli.specs.Options.{IsValue}
 use Rattle.hive_cli.proofs.options.first_item.Goals as goal
 

@@ -1,4 +1,4 @@
-use Rattle.std.proofs.Common.{◌≡◌, [], map, ap, sym, ◌∙◌, string_bytes}
+use Rattle.std.proofs.Common.{[], map, ap, sym, ◌∙◌, string_bytes}
 use Rattle.hive_cli.proofs.OptionLemmas.{gives_one, none_left, one_given, other_text, same_text, some_left}
 use Rattle.hive_cli.proofs.options.one_option.Goals as goal
 use Rattle.hive_cli.proofs.options.one_option.Goals.{then-ne-2-via-then-ne-2, then-ne-2-via-else-ne-2+then-not-is_empty}

@@ -1,4 +1,4 @@
-use Rattle.std.proofs.Common.{◌≡◌, ℕ, List, [], ◌∷◌, ◌++◌, map, ap, sym, ◌∙◌, string_bytes, Some, None, lit<}
+use Rattle.std.proofs.Common.{◌≡◌, ◌∷◌, map, ap, sym, ◌∙◌, string_bytes, Some, None, lit<}
 use Rattle.std.proofs.lemmas.Str.Pattern.{split_parts}
 use Rattle.hive_cli.proofs.OptionLemmas.{halves_only, head_same, no_equals, no_words, tail_same, whole_only}
 use Rattle.hive_cli.proofs.options.split_item.Goals as goal
@@ -20,7 +20,7 @@ returns-in_err-next-clause-only c = λ item others free begin.
     let none = split_parts 61 c.in_ok-text.text.now None c.in_default.ensures.cases (lit< tt) in
     let (k, is, rest, len) = c.in_ok-text.ensures.cases in
     let (names, words) = halves_only (map string_bytes c.args.words.now) (map string_bytes c.in_ok-word.rest.now) (string_bytes c.in_ok-word.word.now) c.in_ok-text.text.now
-        (ap (map string_bytes) c.in_ok-word.ensures.cases.0) (sym c.as_str.ensures.value ∙ (is.1 ∙ ap (λ x. 45 ∷ (45 ∷ x)) (sym rest))) (no_equals c.in_ok-text.text.now none) item others begin in
+    (ap (map string_bytes) c.in_ok-word.ensures.cases.0) (sym c.as_str.ensures.value ∙ (is.1 ∙ ap (λ x. 45 ∷ (45 ∷ x)) (sym rest))) (no_equals c.in_ok-text.text.now none) item others begin in
     absurd (no_words string_bytes c.in_ok-word.rest.now item.value others c.in_err-next.ensures.cases words)
 
 pub returns-clause-name : goal.returns-clause-name
@@ -31,6 +31,6 @@ returns-clause-only c = λ item others free begin.
     let none = split_parts 61 c.in_ok-text.text.now None c.in_default.ensures.cases (lit< tt) in
     let (k, is, rest, len) = c.in_ok-text.ensures.cases in
     let (names, words) = halves_only (map string_bytes c.args.words.now) (map string_bytes c.in_ok-word.rest.now) (string_bytes c.in_ok-word.word.now) c.in_ok-text.text.now
-        (ap (map string_bytes) c.in_ok-word.ensures.cases.0) (sym c.as_str.ensures.value ∙ (is.1 ∙ ap (λ x. 45 ∷ (45 ∷ x)) (sym rest))) (no_equals c.in_ok-text.text.now none) item others begin in
+    (ap (map string_bytes) c.in_ok-word.ensures.cases.0) (sym c.as_str.ensures.value ∙ (is.1 ∙ ap (λ x. 45 ∷ (45 ∷ x)) (sym rest))) (no_equals c.in_ok-text.text.now none) item others begin in
     let both : string_bytes c.in_ok-next.next.now ∷ map string_bytes c.in_ok-next.others.now ≡ item.value ∷ others = sym (ap (map string_bytes) c.in_ok-next.ensures.cases.0) ∙ words in
     (names, c.as_str-2.ensures.value ∙ head_same both, tail_same both)

@@ -1,4 +1,4 @@
-use Rattle.std.proofs.Common.{◌≡◌, sym, ◌∙◌, subst}
+use Rattle.std.proofs.Common.{sym, ◌∙◌, subst}
 use Rattle.hive_model.specs.Fields.{IsNumberText}
 use Rattle.hive_cli.proofs.words.count_plies.Goals as goal
 
