@@ -3,3 +3,6 @@ pub mod ReadLemmas
 pub mod ReplyLemmas
 pub mod Progress
 pub mod ReplayProgress
+pub mod OneGameLemmas
+pub mod OptionLemmas
+pub mod CountLemmas

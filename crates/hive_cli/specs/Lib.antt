@@ -1,4 +1,5 @@
 pub mod Words
+pub mod Options
 pub mod Statuses
 pub mod Output
 pub mod Session
@@ -6,3 +7,6 @@ pub mod Rounds
 pub mod Laws
 pub mod Replay
 pub mod ReplayRounds
+pub mod OneGame
+pub mod Asking
+pub mod Count

@@ -6,9 +6,10 @@ ghost use Rattle.game_text.specs.Reading.{game_of};
 ghost use Rattle.uhp_session.specs.Answers.{line_in, IsShort};
 ghost use Rattle.hive_cli.specs.Replay.{game_answer, is_fault, reason, refusal, refuses, replay_answer};
 
+use crate::games::replayed;
+use crate::reasons::{line_for, reason_of};
 use game_text::{GameFault, read_game, write_game};
 use hive_model::{Game, GameType, Move, ReplyText};
-use itoa::Buffer;
 use std::alloc::{AllocError, Global};
 use uhp_session::LineIn;
 
@@ -19,26 +20,11 @@ pub(crate) struct Answer {
     pub(crate) refused: bool,
 }
 
-/// The line that begins with `refused` and gives this reason.
-fn refuse_for(alloc: Global, reason: &[u8]) -> Result<ReplyText, AllocError>
-    ensures { IfOk result (λ t. t ≡ refusal reason.now) }
+/// The line that refuses a line for this reason.
+fn refuse_for(alloc: Global, why: &[u8]) -> Result<ReplyText, AllocError>
+    ensures { IfOk result (λ t. t ≡ refusal why.now) }
 {
-    let mut text = ReplyText::new(alloc);
-    text.push_all(b"refused ")?;
-    text.push_all(reason)?;
-    text.push(b'\n')?;
-    Ok(text)
-}
-
-/// The same for a reason that ends with a number.
-fn refuse_numbered(alloc: Global, reason: &[u8], number: u32) -> Result<ReplyText, AllocError>
-    ensures { IfOk result (λ t. t ≡ refusal (reason.now ++ decimal number)) }
-{
-    let mut whole = ReplyText::new(alloc);
-    whole.push_all(reason)?;
-    let mut buffer = Buffer::new();
-    whole.push_all(buffer.format(number).as_bytes())?;
-    refuse_for(alloc, whole.items())
+    line_for(alloc, b"refused ", why)
 }
 
 /// The line that refuses a text that is no game. Want of memory is no fault of the text, and is passed on.
@@ -46,16 +32,8 @@ fn refuse(alloc: Global, fault: GameFault) -> Result<ReplyText, AllocError>
     ensures refusal { IfOk result (λ t. t ≡ refusal (reason fault)) }
     ensures memory { OnOk result (fault ≢ GameFault.Memory) }
 {
-    match fault {
-        GameFault::Malformed { part } => refuse_numbered(alloc, b"malformed part ", part),
-        GameFault::TooLong => refuse_for(alloc, b"too many plies"),
-        GameFault::BadMove { number, .. } | GameFault::IllegalMove { number } => {
-            refuse_numbered(alloc, b"illegal move ", number)
-        }
-        GameFault::OtherState => refuse_for(alloc, b"other state"),
-        GameFault::OtherTurn => refuse_for(alloc, b"other turn"),
-        GameFault::Memory => Err(AllocError),
-    }
+    let why = reason_of(alloc, fault)?;
+    refuse_for(alloc, why.items())
 }
 
 /// The written form of the game of this type and these moves, and an LF.
@@ -68,11 +46,7 @@ fn written<G: Game + Drop>(
     requires few { length moves.now ≤ 5064 }
     ensures { IfOk result (λ t. t ≡ string game_type moves.now ++ 10 ∷ []) }
 {
-    let mut game = G::opening(alloc, game_type)?;
-    game.reserve(moves.len() as u32)?;
-    for m in moves {
-        game.play(m.again());
-    }
+    let game = replayed::<G>(alloc, game_type, moves, 0)?;
     let mut text = ReplyText::new(alloc);
     write_game(alloc, &game, &mut text)?;
     text.push(b'\n')?;

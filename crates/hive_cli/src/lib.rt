@@ -2,7 +2,13 @@
 #![tactic(auto)]
 
 mod answers;
+mod asking;
+mod counts;
+mod games;
 mod laws;
+mod no_game;
+mod options;
+mod reasons;
 mod replays;
 mod sessions;
 mod start;

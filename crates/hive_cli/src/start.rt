@@ -1,14 +1,16 @@
 //! The run: what the words of the command line ask for.
-ghost use Rattle.std.specs.Prelude.{◌≡◌, ◌↔◌, []};
+ghost use Rattle.std.specs.Prelude.{◌≡◌, ◌↔◌, ℕ, []};
 ghost use Rattle.io_edge.specs.Outside.{HasCause};
-ghost use Rattle.hive_cli.specs.Words.{AreReplayWords, AreUhpWords};
+ghost use Rattle.hive_cli.specs.Words.{AreCountWords, AreReplayWords, AreUhpWords};
+ghost use Rattle.hive_cli.specs.Count.{CountRun};
 ghost use Rattle.hive_cli.specs.Replay.{ReplayRun};
 ghost use Rattle.hive_cli.specs.Session.{SessionRun};
 
+use crate::counts::count;
 use crate::replays::replay;
 use crate::sessions::uhp;
 use crate::status::{Outcome, Status};
-use crate::words::{are_replay_words, are_uhp_words};
+use crate::words::{are_replay_words, are_uhp_words, count_plies};
 use hive_model::TimedList;
 use io_edge::{Clock, Sink, Source, Spawner};
 use plain_game::PlainGame;
@@ -27,6 +29,12 @@ use std::thread::Threads;
 /// after a refusal. At the end of the input it is `Refused` where a line was refused, and else `Done`; faults, a full input and
 /// want of memory end it as they end a session.
 ///
+/// The words `count` and `--plies N`, or `--plies=N`, with N from 1 to 8, ask for counts: the input is to be one line, a game string
+/// of a game that is not over. Once it was read to its end, a line is written for each n from 1 to N, as soon as it is known: n, a
+/// space, and the number of lists of n legal moves that the game can go on with. It is `Done` then. Where the input is something
+/// else, it is `BadInput`, and one line that begins with `bad` says why. That line is written as soon as the fault is seen, and
+/// nothing further is read. A read that fails, a full input and want of memory end it with nothing written.
+///
 /// Every other list of words is `Usage`, and nothing is read or written.
 pub fn run<R: Threads + Sync, S: Source, K: Sink, C: Clock, P: Spawner>(
     rt: &R,
@@ -37,13 +45,17 @@ pub fn run<R: Threads + Sync, S: Source, K: Sink, C: Clock, P: Spawner>(
     clock: &mut C,
     spawner: &mut P,
 ) -> Outcome
-    ensures usage { (result.status ≡ Status.Usage) ↔ ((¬ AreUhpWords words.now) × (¬ AreReplayWords words.now)) }
+    ensures usage { (result.status ≡ Status.Usage)
+        ↔ ((¬ AreUhpWords words.now) × (¬ AreReplayWords words.now) × ((n : ℕ) → ¬ AreCountWords words.now n)) }
     ensures unread { result.status ≡ Status.Usage → input.new ≡ input.old }
     ensures unwritten { result.status ≡ Status.Usage → output.new ≡ output.old }
     ensures session { AreUhpWords words.now → SessionRun result.status
         (record { rest = S.rest input.old; written = K.written output.old })
         (record { rest = S.rest input.new; written = K.written output.new }) }
     ensures replay { AreReplayWords words.now → ReplayRun result.status
+        (record { rest = S.rest input.old; written = K.written output.old })
+        (record { rest = S.rest input.new; written = K.written output.new }) }
+    ensures count { (n : ℕ) → AreCountWords words.now n → CountRun n result.status
         (record { rest = S.rest input.old; written = K.written output.old })
         (record { rest = S.rest input.new; written = K.written output.new }) }
     ensures reads { HasCause (result.status ≡ Status.ReadFault) (S.read_faults input.old) (S.read_faults input.new) }
@@ -56,6 +68,10 @@ pub fn run<R: Threads + Sync, S: Source, K: Sink, C: Clock, P: Spawner>(
     let mut timed = TimedList::new(alloc);
     if are_replay_words(words) {
         let status = replay::<S, K, PlainGame>(alloc, input, output);
+        return Outcome { status, timed };
+    }
+    if let Some(plies) = count_plies(words) {
+        let status = count::<S, K, PlainGame>(alloc, plies, input, output);
         return Outcome { status, timed };
     }
     if !are_uhp_words(words) {

@@ -1,6 +1,7 @@
 //! Sessions over sources and sinks in memory.
 
 mod best;
+mod counted;
 mod faults;
 mod lists;
 mod refused;

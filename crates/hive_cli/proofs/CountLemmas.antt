@@ -1,0 +1,150 @@
+-- The counts written so far, and how a count ends.
+use Rattle.std.proofs.Common.{◌≡◌, ◌≤◌, ◌<◌, ◌⊎◌, ℕ, zero, suc, ◌+◌, ◌-◌, List, [], ◌∷◌, ◌++◌, length, take, refl, ap, sym, ◌∙◌, subst, inl, inr, arith, add-zero, append_assoc, length-append}
+use Rattle.std.specs.Prelude.{Result, Ok, Err}
+use Rattle.std.proofs.lemmas.List.{append-nil, take-append-le}
+use Rattle.io_edge.specs.Outside.{HasCause, Told, behind}
+use Rattle.hive_model.specs.Courses.{Course, position}
+use Rattle.hive_model.specs.Lines.{Line, lines}
+use Rattle.hive_model.specs.Minimax.{lines as lines_of_play}
+use Rattle.hive_model.specs.Positions.{Position, opening}
+use Rattle.hive_model.specs.Games.{replay}
+use Rattle.game_text.specs.declared.parsed.Parsed.{Parsed}
+use Rattle.hive_cli.specs.Session.{Sides, WhereTold}
+use Rattle.hive_cli.specs.OneGame.{IsAsked, alone, asked, end_of, game_at}
+use Rattle.hive_cli.specs.Asking.{IsAtEnd, IsNoGame}
+use Rattle.hive_cli.specs.Count.{CountRun, Ends, Tells, count_line, count_line_of, count_text}
+use Rattle.hive_cli.specs.declared.status.Status.{Status}
+use Rattle.hive_cli.specs.declared.status.Status.TheVariants.{Done, BadInput, InputFull, Memory, ReadFault, WriteFault}
+use Rattle.hive_cli.specs.declared.no_game.NoGame.{NoGame}
+use Rattle.hive_cli.specs.declared.no_game.NoGame.TheVariants.{Bad, ReadFault as NoRead, InputFull as TooMuch, Memory as NoMemory}
+use Rattle.hive_cli.proofs.OneGameLemmas.{all_were_read}
+use Rattle.hive_cli.proofs.Progress.{on_written}
+
+-- The lines
+
+-- the lines for 1 to n are those before, and the line for n
+text_next : (p : Position) (n : ℕ) → 1 ≤ n → count_text p n ≡ count_text p (n - 1) ++ count_line p n
+text_next p zero low = absurd (omega (arith, low))
+text_next p (suc n) low = let e : n ≡ suc n - 1 = omega arith in ap (λ m. count_text p m ++ count_line p (suc n)) e
+
+-- the lines for 1 to n come first among all
+text_front : (p : Position) (n d : ℕ) → (rest : List ℕ) × (count_text p (n + d) ≡ count_text p n ++ rest)
+text_front p n zero = ([], ap (count_text p) (add-zero n) ∙ sym (append-nil (count_text p n)))
+text_front p n (suc d) =
+    let (rest, e) = text_front p n d in
+    let s : n + suc d ≡ suc (n + d) = omega arith in (
+      rest ++ count_line p (suc (n + d)),
+      ap (count_text p) s ∙ (ap (λ x. x ++ count_line p (suc (n + d))) e ∙ append_assoc (count_text p n) rest (count_line p (suc (n + d)))),
+    )
+
+-- a cut in what comes second
+seam : (front line rest : List ℕ) (k : ℕ) → k ≤ length line → take (length front + k) ((front ++ line) ++ rest) ≡ front ++ take k line
+seam [] line rest k less = let e : 0 + k ≡ k = omega arith in ap (λ n. take n (line ++ rest)) e ∙ take-append-le k line rest less
+seam (x ∷ front) line rest k less =
+    let e : length (x ∷ front) + k ≡ suc (length front + k) = omega arith in
+    ap (λ n. take n (((x ∷ front) ++ line) ++ rest)) e ∙ ap (λ xs. x ∷ xs) (seam front line rest k less)
+
+-- the line for n was written behind those before
+pub count_on : (p : Position) (n lists : ℕ) (line : List ℕ) (w0 w1 w2 : Told) → 1 ≤ n → line ≡ count_line_of n lists → lists ≡ lines_of_play p n → w1 ≡ behind w0 (count_text p (n - 1)) → w2 ≡ behind w1 line
+    → w2 ≡ behind w0 (count_text p n)
+count_on p n lists line w0 w1 w2 low is count before wrote =
+    on_written w0 w1 w2 (count_text p (n - 1)) line before wrote
+    ∙ ap (behind w0) (ap (λ x. count_text p (n - 1) ++ x) (is ∙ ap (count_line_of n) count) ∙ sym (text_next p n low))
+
+-- of the line for n a part was written behind those before
+pub count_cut : (p : Position) (n plies lists : ℕ) (line : List ℕ) (w0 w1 w2 : Told) → 1 ≤ n → n ≤ plies → line ≡ count_line_of n lists → lists ≡ lines_of_play p n → w1 ≡ behind w0 (count_text p (n - 1))
+    → (k : ℕ) × (k < length line) × (w2 ≡ behind w1 (take k line)) → (m : ℕ) × (m < length (count_text p plies)) × (w2 ≡ behind w0 (take m (count_text p plies)))
+count_cut p n plies lists line w0 w1 w2 low high is count before (k, less, wrote) =
+    let (rest, front) = text_front p n (plies - n) in
+    let e : plies ≡ n + (plies - n) = omega (arith, high) in
+    let same : line ≡ count_line p n = is ∙ ap (count_line_of n) count in
+    let whole : count_text p plies ≡ (count_text p (n - 1) ++ line) ++ rest = ap (count_text p) e ∙ (front ∙ ap (λ x. x ++ rest) (text_next p n low ∙ ap (λ x. count_text p (n - 1) ++ x) (sym same))) in
+    let short : k ≤ length line = omega (arith, less) in (
+      length (count_text p (n - 1)) + k,
+      subst (λ t. length (count_text p (n - 1)) + k < length t) (sym whole) (longer (count_text p (n - 1)) line rest k less),
+      on_written w0 w1 w2 (count_text p (n - 1)) (take k line) before wrote
+          ∙ ap (behind w0) (sym (ap (take (length (count_text p (n - 1)) + k)) whole ∙ seam (count_text p (n - 1)) line rest k short)),
+    )
+  where
+    longer : (a b c : List ℕ) (k : ℕ) → k < length b → length a + k < length ((a ++ b) ++ c)
+    longer a b c k less = rw (length-append (a ++ b) c, length-append a b) (omega (arith, less))
+
+-- The run
+
+-- the input was bad
+bad_run : (plies : ℕ) (status : Status) (before after : Sides) (text : List ℕ) → WhereTold before.rest (λ input. IsNoGame (Bad text) input after.rest)
+    → Ends text BadInput status before.written after.written → CountRun plies status before after
+bad_run plies status before after text none (inl (e, wrote)) = subst (λ s. CountRun plies s before after) (sym e) (λ input told.
+    let (why, bad, is) = none input told in (why, record { bad = bad; wrote = wrote ∙ ap (behind before.written) is }))
+bad_run plies status before after text none (inr (e, (n, less, wrote))) = subst (λ s. CountRun plies s before after) (sym e) (λ input told.
+    let (why, bad, is) = none input told in (text, n, record { is_text = inl (why, bad, is); cut = less; wrote = wrote }))
+
+-- the input was not one game
+pub none_run : (plies : ℕ) (none : NoGame) (status : Status) (before after : Sides) → WhereTold before.rest (λ input. IsNoGame none input after.rest) → Tells none status before.written after.written
+    → CountRun plies status before after
+none_run plies (Bad text) status before after none told = bad_run plies status before after text none told
+none_run plies NoRead status before after none (e, same) = subst (λ s. CountRun plies s before after) (sym e) (same, none)
+none_run plies TooMuch status before after none (e, same) = subst (λ s. CountRun plies s before after) (sym e) (same, none)
+none_run plies NoMemory status before after none (e, same) = subst (λ s. CountRun plies s before after) (sym e) (same, none)
+
+-- a status tells of a read that has failed just where one has
+pub tells_read : (none : NoGame) (status : Status) (before after : Told) → Tells none status before after → (status ≡ ReadFault → none ≡ NoRead) × (none ≡ NoRead → status ≡ ReadFault)
+tells_read (Bad text) status before after (inl (e, wrote)) = (λ r. absurd (bad_read (sym e ∙ r)), λ r. cc)
+  where
+    bad_read : BadInput ≡ ReadFault → ⊥
+    bad_read e = cc
+tells_read (Bad text) status before after (inr (e, wrote)) = (λ r. absurd (write_read (sym e ∙ r)), λ r. cc)
+  where
+    write_read : WriteFault ≡ ReadFault → ⊥
+    write_read e = cc
+tells_read NoRead status before after (e, same) = (λ r. refl, λ r. e)
+tells_read TooMuch status before after (e, same) = (λ r. absurd (full_read (sym e ∙ r)), λ r. cc)
+  where
+    full_read : InputFull ≡ ReadFault → ⊥
+    full_read e = cc
+tells_read NoMemory status before after (e, same) = (λ r. absurd (memory_read (sym e ∙ r)), λ r. cc)
+  where
+    memory_read : Memory ≡ ReadFault → ⊥
+    memory_read e = cc
+
+-- a read has failed where a game was told of
+pub read_cause : {G : Type 0} (r : Result G NoGame) (none : NoGame) (status : Status) (before after : Told) (faults now : ℕ) → r ≡ Err none → Tells none status before after
+    → HasCause (r ≡ Err NoRead) faults now → HasCause (status ≡ ReadFault) faults now
+read_cause r none status before after faults now is told cause =
+    let (to, from) = tells_read none status before after told in record {
+      later = cause.later;
+      rose = λ e. cause.rose (is ∙ ap Err (to e));
+      same = λ other. cause.same (λ e. other (from (err_same (sym is ∙ e))));
+    }
+  where
+    err_same : {G : Type 0} {x y : NoGame} → (let z : Result G NoGame = Err x in z) ≡ Err y → x ≡ y
+    err_same e = cc
+
+more_lines : (r : Result Parsed (List ℕ)) (line : Line) (others : List Line) (game : Parsed) → alone r (line ∷ others) ≡ Ok game → ⊥
+more_lines (Ok other) line others game e = cc
+more_lines (Err why) line others game e = cc
+
+-- a game is asked for by one line
+asked_by_one : (ls : List Line) (game : Parsed) → asked ls ≡ Ok game → length ls ≤ 2
+asked_by_one [] game e = omega arith
+asked_by_one (line ∷ []) game e = omega arith
+asked_by_one (line ∷ (other ∷ others)) game e = absurd (more_lines (game_at line) other others game e)
+
+end_is : (c : Course) (game : Parsed) → IsAtEnd c game → position c ≡ end_of game
+end_is c game end = λ j. replay (opening (end.kind j)) (end.made j)
+
+-- the input was one game
+pub counts_run : (plies : ℕ) (status : Status) (before after : Sides) (c : Course) → WhereTold before.rest (λ input. (game : Parsed) × IsAsked input after.rest game × IsAtEnd c game)
+    → ((status ≡ Memory) × (after.written ≡ before.written)) ⊎ Ends (count_text (position c) plies) Done status before.written after.written → CountRun plies status before after
+counts_run plies status before after c given (inl (e, same)) = subst (λ s. CountRun plies s before after) (sym e) (
+  same,
+  λ input told. let (game, is, end) = given input told in (lines input, all_were_read is.over, asked_by_one (lines input) game is.asks),
+)
+counts_run plies status before after c given (inr (inl (e, wrote))) = subst (λ s. CountRun plies s before after) (sym e) (λ input told.
+    let (game, is, end) = given input told in (game, record { is_asked = is; wrote = wrote ∙ ap (λ p. behind before.written (count_text p plies)) (end_is c game end) }))
+counts_run plies status before after c given (inr (inr (e, (n, less, wrote)))) = subst (λ s. CountRun plies s before after) (sym e) (λ input told.
+    let (game, is, end) = given input told in (
+      count_text (position c) plies,
+      n,
+      record { is_text = inr (game, is, ap (λ p. count_text p plies) (end_is c game end)); cut = less; wrote = wrote },
+    ))

@@ -1,0 +1,46 @@
+use Rattle.std.proofs.Common.{rules, ◌≡◌, ◌≤◌, ◌+◌, ◌-◌, [], length, sym, ◌∙◌, ap, subst, arith}
+use Rattle.std.specs.Prelude.{Some, slice_get}
+use Rattle.hive_model.specs.Lists.{IsOn}
+use Rattle.hive_model.specs.Legal.{moves}
+use Rattle.hive_model.specs.Courses.{Course, position}
+use Rattle.uhp_session.proofs.PlayedLaws.{played_none, played_legal, played_on, got}
+use Rattle.hive_cli.proofs.games.replayed.Goals as goal
+
+pub loop-m-init : goal.loop-m-init
+loop-m-init g c =
+    let kind : (g.G.Game.course c.reserve.new.self).game_type ≡ c.args.game_type = search rules in
+    let none : (g.G.Game.course c.reserve.new.self).made ≡ [] = search rules in
+    let room : length c.args.moves.now + c.args.room ≤ (g.G.Game.course c.reserve.new.self).spare = search rules in
+    let less : length c.args.moves.now ≤ (g.G.Game.course c.reserve.new.self).spare = omega (arith, room) in record {
+      played = played_none c.args.game_type c.args.moves.now (g.G.Game.course c.reserve.new.self) kind none less c.requires.game;
+      room = omega (arith, room);
+    }
+
+pub play-requires-clause-legal : goal.play-requires-clause-legal
+play-requires-clause-legal g c =
+    let at = got c.args.moves.now c.loop-m.m-index c.m-item.result c.loop-m-test.true c.m-item.is in
+    subst (λ m. IsOn (moves (position (g.G.Game.course c.loop-m.game))) m) (sym c.again.ensures)
+    (played_legal c.args.game_type c.args.moves.now (g.G.Game.course c.loop-m.game) c.loop-m.m-index c.m-item.result c.loop-m.invariant.played at)
+
+pub play-requires-clause-room : goal.play-requires-clause-room
+play-requires-clause-room g c =
+    let room = c.loop-m.invariant.room in
+    let less = c.loop-m-test.true in
+    omega (arith, room, less)
+
+pub loop-m-preserved : goal.loop-m-preserved
+loop-m-preserved g c =
+    let at = got c.args.moves.now c.loop-m.m-index c.m-item.result c.loop-m-test.true c.m-item.is in
+    let at2 : slice_get c.args.moves.now c.loop-m.m-index ≡ Some c.again.result = at ∙ ap Some (sym c.again.ensures) in
+    let room = c.loop-m.invariant.room in
+    let less = c.loop-m-test.true in
+    let spare : (g.G.Game.course c.play.new.self).spare ≡ (g.G.Game.course c.loop-m.game).spare - 1 = ap (λ (z : Course). z.spare) c.play.ensures.moved in record {
+      played = played_on c.args.game_type c.args.moves.now (g.G.Game.course c.loop-m.game) (g.G.Game.course c.play.new.self) c.loop-m.m-index c.again.result c.loop-m.invariant.played at2 c.loop-m-test.true c.play.ensures.moved;
+      room = omega (arith, room, less, spare);
+    }
+
+pub returns-clause-room : goal.returns-clause-room
+returns-clause-room g c =
+    let room = c.loop-m.invariant.room in
+    let less = c.loop-m-test.false in
+    omega (arith, room, less)

@@ -1,0 +1,9 @@
+use Rattle.std.proofs.Common.{◌≤◌, ◌+◌, length}
+use Rattle.uhp_session.proofs.PlayedLaws.{IsPlayed}
+use Rattle.hive_cli.proofs.games.replayed.Given as goal
+
+abbrev pub invariant-loop-m : goal.invariant-loop-m
+invariant-loop-m g l = record {
+  played : IsPlayed l.fn.game_type l.fn.moves (g.G.Game.course l.game) l.m-index;
+  room : length l.fn.moves + l.fn.room ≤ l.m-index + (g.G.Game.course l.game).spare;
+}

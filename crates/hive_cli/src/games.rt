@@ -1,0 +1,27 @@
+//! Games that were read, played again.
+ghost use Rattle.std.specs.Prelude.{◌≡◌, ◌+◌, ◌≤◌, length, IfOk};
+ghost use Rattle.hive_model.specs.Games.{IsGame};
+
+use hive_model::{Game, GameType, Move};
+use std::alloc::{AllocError, Global};
+
+/// The game of this type after these moves, with room for so many more plies.
+pub(crate) fn replayed<G: Game + Drop>(
+    alloc: Global,
+    game_type: GameType,
+    moves: &[Move],
+    room: u32,
+) -> Result<G, AllocError>
+    requires game { IsGame game_type moves.now }
+    requires few { length moves.now + room ≤ 5064 }
+    ensures kind { IfOk result (λ g. (G.course g).game_type ≡ game_type) }
+    ensures made { IfOk result (λ g. (G.course g).made ≡ moves.now) }
+    ensures room { IfOk result (λ g. room ≤ (G.course g).spare) }
+{
+    let mut game = G::opening(alloc, game_type)?;
+    game.reserve(moves.len() as u32 + room)?;
+    for m in moves {
+        game.play(m.again());
+    }
+    Ok(game)
+}

@@ -1,0 +1,202 @@
+//! Counts of lists of legal moves, input that is no game to count, and words that ask for no count.
+
+use crate::Status;
+use crate::tests::{Setting, expect_run, joined};
+use std::alloc::{AllocError, Global};
+use std::process::Abort;
+use std::test::Fail;
+use std::thread::Threads;
+
+/// The counts of the opening of the base game.
+const COUNTS: &str = "1 4\n2 96\n3 1440\n4 21600\n";
+
+/// A finished game.
+const DRAW: &str =
+    "Base;Draw;Black[7];wS1;bS1 wS1-;wQ /wS1;bQ bS1-;wQ wS1\\;bQ bS1\\;wG1 -wQ;bG1 bS1-;wB1 wG1\\;bB1 bQ-;wA1 -wB1;bA1 bQ\\;wA1 wQ\\\n";
+
+/// A run, in which no call fails, that asks for counts of up to two plies.
+fn expect_counts<R: Threads + Sync + Abort>(
+    rt: &R,
+    alloc: Global,
+    input: &[u8],
+    status: Status,
+    written: &str,
+) -> Result<(), AllocError> {
+    for pieces in [[].as_slice(), [1].as_slice(), [7].as_slice()] {
+        let setting = Setting {
+            words: &["count", "--plies", "2"],
+            input,
+            pieces,
+            failing_read: 0,
+            failing_write: 0,
+        };
+        expect_run(rt, alloc, setting, status, written.as_bytes())?;
+    }
+    Ok(())
+}
+
+#[test]
+fn lists_of_four_plies_are_counted(rt: HostRuntime) -> Result<(), Fail> {
+    for (game, written) in [
+        ("Base\n", COUNTS),
+        ("Base+MLP\n", "1 7\n2 294\n3 6678\n4 151686\n"),
+    ] {
+        let setting = Setting {
+            words: &["count", "--plies", "4"],
+            input: game.as_bytes(),
+            pieces: &[],
+            failing_read: 0,
+            failing_write: 0,
+        };
+        expect_run(&rt, rt.alloc(), setting, Status::Done, written.as_bytes())?;
+    }
+    Ok(())
+}
+
+#[test]
+fn counts_begin_after_the_moves_of_the_game(rt: HostRuntime) -> Result<(), Fail> {
+    for (input, written) in [
+        ("Base", "1 4\n2 96\n"),
+        ("Base;InProgress;Black[1];wS1\r\n", "1 24\n2 360\n"),
+        ("Base+MLP;InProgress;Black[1];wS1\n", "1 42\n2 1008\n"),
+    ] {
+        expect_counts(&rt, rt.alloc(), input.as_bytes(), Status::Done, written)?;
+    }
+    Ok(())
+}
+
+#[test]
+fn bad_input_is_named(rt: HostRuntime) -> Result<(), Fail> {
+    for (input, written) in [
+        ("", "bad no line\n"),
+        ("\n", "bad malformed part 1\n"),
+        (
+            "Base;InProgress;Black[2];wS1;bS1 wS1-;wQ -wS1;bQ -wS1\n",
+            "bad illegal move 4\n",
+        ),
+        ("Base;Draw;Black[1];wS1\n", "bad other state\n"),
+        ("Base;InProgress;White[1];wS1\nBase\n", "bad other turn\n"),
+        (DRAW, "bad game over\n"),
+        ("Base\n\n", "bad more lines\n"),
+        ("Base\nBase", "bad more lines\n"),
+    ] {
+        expect_counts(&rt, rt.alloc(), input.as_bytes(), Status::BadInput, written)?;
+    }
+    Ok(())
+}
+
+#[test]
+fn a_game_may_be_too_long(rt: HostRuntime) -> Result<(), Fail> {
+    let line = vec![in rt.alloc(); b'a'; 65537]?;
+    expect_counts(
+        &rt,
+        rt.alloc(),
+        line.as_slice(),
+        Status::BadInput,
+        "bad line too long\n",
+    )?;
+    let mut game = joined(rt.alloc(), "Base;InProgress;White[2501]", &[])?;
+    for _ in 0..5001 {
+        game.extend_from_slice(b";wS1")?;
+    }
+    expect_counts(
+        &rt,
+        rt.alloc(),
+        game.as_slice(),
+        Status::BadInput,
+        "bad too many plies\n",
+    )?;
+    Ok(())
+}
+
+#[test]
+fn an_option_is_written_in_one_word_or_in_two(rt: HostRuntime) -> Result<(), Fail> {
+    for words in [
+        ["count", "--plies=2"].as_slice(),
+        ["count", "--plies", "2"].as_slice(),
+    ] {
+        let setting = Setting {
+            words,
+            input: b"Base\n".as_slice(),
+            pieces: &[],
+            failing_read: 0,
+            failing_write: 0,
+        };
+        expect_run(&rt, rt.alloc(), setting, Status::Done, b"1 4\n2 96\n")?;
+    }
+    Ok(())
+}
+
+#[test]
+fn other_words_ask_for_no_count(rt: HostRuntime) -> Result<(), Fail> {
+    for words in [
+        ["count"].as_slice(),
+        ["count", "2"].as_slice(),
+        ["count", "--plies"].as_slice(),
+        ["count", "--plies="].as_slice(),
+        ["count", "--plies", "0"].as_slice(),
+        ["count", "--plies", "9"].as_slice(),
+        ["count", "--plies", "02"].as_slice(),
+        ["count", "--plies", "-2"].as_slice(),
+        ["count", "--plys", "2"].as_slice(),
+        ["count", "-plies", "2"].as_slice(),
+        ["count", "--plies", "2", "--plies", "2"].as_slice(),
+        ["count", "--plies=2", "x"].as_slice(),
+        ["--plies=2", "count"].as_slice(),
+    ] {
+        let setting = Setting {
+            words,
+            input: b"Base\n".as_slice(),
+            pieces: &[],
+            failing_read: 1,
+            failing_write: 1,
+        };
+        expect_run(&rt, rt.alloc(), setting, Status::Usage, b"")?;
+    }
+    Ok(())
+}
+
+#[test]
+fn a_failed_read_ends_a_count(rt: HostRuntime) -> Result<(), Fail> {
+    // five bytes, and the read that finds the end
+    for (piece, reads) in [(1, 6), (7, 2)] {
+        for failing_read in 1..=reads {
+            let setting = Setting {
+                words: &["count", "--plies", "2"],
+                input: b"Base\n".as_slice(),
+                pieces: &[piece],
+                failing_read,
+                failing_write: 0,
+            };
+            expect_run(&rt, rt.alloc(), setting, Status::ReadFault, b"")?;
+        }
+    }
+    Ok(())
+}
+
+#[test]
+fn a_failed_write_ends_a_count(rt: HostRuntime) -> Result<(), Fail> {
+    for (input, piece, failing_write, written) in [
+        ("Base\n", 1, 1, ""),
+        ("Base\n", 1, 6, "1 4\n2"),
+        ("Base\n", 7, 2, "1 4\n"),
+        ("Base\n\n", 1, 4, "bad"),
+        ("Base\n\n", 7, 2, "bad mor"),
+    ] {
+        let setting = Setting {
+            words: &["count", "--plies", "2"],
+            input: input.as_bytes(),
+            pieces: &[piece],
+            failing_read: 0,
+            failing_write,
+        };
+        expect_run(
+            &rt,
+            rt.alloc(),
+            setting,
+            Status::WriteFault,
+            written.as_bytes(),
+        )?;
+    }
+    Ok(())
+}
