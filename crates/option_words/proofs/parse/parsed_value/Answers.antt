@@ -2,6 +2,9 @@ use Rattle.std.proofs.Common.{rules, ◌≡◌, ◌∙◌, IfOk, map, option_map
 use Rattle.clap.specs.Faults.{is_simple_and_free, fault_of}
 use Rattle.clap.specs.Simple.{App, app_of, new_app, with_rule, matches_of}
 use Rattle.clap.specs.Walk.{Rule, rule_of}
+use Rattle.clap.specs.declared.error.kind.ErrorKind.TheVariants.{OutOfMemory}
+use Rattle.clap.specs.contracts.error.kind.ErrorKind.{the_type}
+use denote.Enum.Bare.{sameb}
 use Rattle.option_words.specs.Parse.{option_app, option_rule, parsed}
 use Rattle.option_words.proofs.ParserLaws.{parse_fails, parse_finds, settings}
 use Rattle.option_words.proofs.parse.parsed_value.Goals as goal
@@ -22,4 +25,5 @@ returns-else-eq c =
     let app_is : app_of c.in_ok-parser.parser ≡ option_app c.args.command.now c.args.option.now = c.in_ok-parser.ensures.shape (search rules)
     ∙ ap₂ with_rule (settings c.new-2.result c.no_binary_name.result c.disable_help_flag.result c.disable_version_flag.result c.args.command.now
     c.new-2.ensures.app c.no_binary_name.ensures c.disable_help_flag.ensures c.disable_version_flag.ensures) rule_is in
-    parse_fails c.args.command.now c.args.option.now _ _ c.in-Err.error app_is c.in-Err.ensures.kinds ?
+    parse_fails c.args.command.now c.args.option.now _ _ c.in-Err.error app_is c.in-Err.ensures.kinds
+    (λ memory. let same = c.if-eq.ensures ∙ ap (λ k. sameb the_type k OutOfMemory) (c.kind.ensures ∙ memory) in cc)
