@@ -1,0 +1,5 @@
+pub mod WalkLaws
+pub mod PlaceLaws
+pub mod ParserLaws
+pub mod FormLaws
+pub mod GiveLaws

@@ -1,0 +1,59 @@
+-- The options that follow a command on the command line, each with its value.
+use Rattle.std.specs.Prelude.{◌≡◌, ◌≢◌, ◌⊎◌, ℕ, List, [], ◌∷◌, ◌++◌, codes}
+use Rattle.hive_model.specs.Lists.{IsOn}
+
+-- the name of an option, and its value
+pub record Item : Type 0 where
+  pub name : List ℕ
+  pub value : List ℕ
+
+-- an item in one word, `--name=value`
+abbrev pub in_one_word : Item → List ℕ
+in_one_word item = codes "--" ++ (item.name ++ 61 ∷ item.value)
+
+-- the first word of an item in two words, `--name`; the second is the value
+abbrev pub name_word : Item → List ℕ
+name_word item = codes "--" ++ item.name
+
+-- Words begin with this item, in one word or in two, and then come the others.
+abbrev pub BeginWith : List (List ℕ) → Item → List (List ℕ) → Type 0
+BeginWith words item others = (words ≡ in_one_word item ∷ others) ⊎ (words ≡ name_word item ∷ (item.value ∷ others))
+
+-- no byte is `=` (61)
+abbrev pub HasNoEquals : List ℕ → Type 0
+HasNoEquals [] = Unit {0}
+HasNoEquals (b ∷ bs) = (b ≢ 61) × HasNoEquals bs
+
+-- it is not empty and does not begin with `-` (45)
+abbrev pub IsValue : List ℕ → Type 0
+IsValue [] = ⊥
+IsValue (b ∷ bs) = b ≢ 45
+
+-- a name and a value of their form: so a word is split at its first `=`
+pub record IsItem (item : Item) : Type 0 where
+  pub name : HasNoEquals item.name
+  pub value : IsValue item.value
+
+-- the words are these items, one after another
+abbrev pub AreItems : List (List ℕ) → List Item → Type 0
+AreItems words [] = words ≡ []
+AreItems words (item ∷ items) = (others : List (List ℕ)) × BeginWith words item others × IsItem item × AreItems others items
+
+-- no two items have the same name
+abbrev pub AreDifferent : List Item → Type 0
+AreDifferent [] = Unit {0}
+AreDifferent (item ∷ items) = ((other : Item) → IsOn items other → other.name ≢ item.name) × AreDifferent items
+
+-- The words are a command and items, whose names are among the command's options, in any order, each at most once.
+pub record AskFor (words : List (List ℕ)) (command : List ℕ) (options : List (List ℕ)) (items : List Item) : Type 0 where
+  pub rest : List (List ℕ)
+  pub begin : words ≡ command ∷ rest
+  pub are_items : AreItems rest items
+  pub known : (item : Item) → IsOn items item → IsOn options item.name
+  pub once : AreDifferent items
+
+-- the words are a command whose one option is required, and give that option this value
+pub record GiveOne (words : List (List ℕ)) (command option value : List ℕ) : Type 0 where
+  pub items : List Item
+  pub ask : AskFor words command (option ∷ []) items
+  pub given : IsOn items (record { name = option; value = value })
