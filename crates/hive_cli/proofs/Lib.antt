@@ -4,5 +4,4 @@ pub mod ReplyLemmas
 pub mod Progress
 pub mod ReplayProgress
 pub mod OneGameLemmas
-pub mod OptionLemmas
 pub mod CountLemmas

@@ -57,6 +57,20 @@ all_were_read {input} {rest} all = (
   },
 )
 
+-- no byte of an input has left its source
+pub none_read : (input : List ℕ) (rest : Told) → rest ≡ Some input → FewWereRead input rest
+none_read input rest e = (
+  [],
+  (
+    [],
+    input,
+    [],
+    lines input,
+    record { was_read = record { split = refl; told = e }; of_bytes = refl; of_input = refl },
+  ),
+  omega arith,
+)
+
 -- the first line
 fed_first : {r0 r1 : Told} {old new : Reading} {bytes : List ℕ} {line : Line} → old ≡ fresh → WereTaken bytes old new r0 r1 → Gives old bytes line new r1 → Fed r0 r1 new bytes (line ∷ [])
 fed_first {r0} {r1} {old} {new} {bytes} {line} is taken gives = fed_line (fed_begin r0 old is) taken.takes gives

@@ -1,5 +1,4 @@
 pub mod Words
-pub mod Options
 pub mod Statuses
 pub mod Output
 pub mod Session

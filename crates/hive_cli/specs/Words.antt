@@ -3,7 +3,7 @@ use Rattle.std.specs.Prelude.{◌≡◌, ◌⊎◌, ℕ, List, [], ◌∷◌, ma
 use Rattle.std.specs.declared.string.String.{String}
 use Rattle.std.specs.declared.alloc.Global.{Global}
 use Rattle.hive_model.specs.Fields.{IsNumberText}
-use Rattle.hive_cli.specs.Options.{GiveOne}
+use Rattle.option_words.specs.Options.{GiveOne}
 
 -- the words that ask for a session: none, or `uhp` alone
 abbrev pub AreUhpWords : List (String Global) → Type 0
@@ -18,3 +18,9 @@ pub record AreCountWords (words : List (String Global)) (plies : ℕ) : Type 0 w
   pub value : List ℕ
   pub give : GiveOne (map string_bytes words) (codes "count") (codes "plies") value
   pub number : IsNumberText value 1 8 plies
+
+-- the words ask for nothing that the program does
+pub record AreOfNoCommand (words : List (String Global)) : Type 0 where
+  pub not_uhp : ¬ AreUhpWords words
+  pub not_replay : ¬ AreReplayWords words
+  pub not_count : (plies : ℕ) → ¬ AreCountWords words plies

@@ -7,7 +7,6 @@ mod counts;
 mod games;
 mod laws;
 mod no_game;
-mod options;
 mod reasons;
 mod replays;
 mod sessions;

@@ -1,7 +1,7 @@
 //! The run: what the words of the command line ask for.
-ghost use Rattle.std.specs.Prelude.{◌≡◌, ◌↔◌, ℕ, []};
+ghost use Rattle.std.specs.Prelude.{◌≡◌, ◌≢◌, ◌⊎◌, ℕ, []};
 ghost use Rattle.io_edge.specs.Outside.{HasCause};
-ghost use Rattle.hive_cli.specs.Words.{AreCountWords, AreReplayWords, AreUhpWords};
+ghost use Rattle.hive_cli.specs.Words.{AreCountWords, AreOfNoCommand, AreReplayWords, AreUhpWords};
 ghost use Rattle.hive_cli.specs.Count.{CountRun};
 ghost use Rattle.hive_cli.specs.Replay.{ReplayRun};
 ghost use Rattle.hive_cli.specs.Session.{SessionRun};
@@ -35,7 +35,7 @@ use std::thread::Threads;
 /// else, it is `BadInput`, and one line that begins with `bad` says why. That line is written as soon as the fault is seen, and
 /// nothing further is read. A read that fails, a full input and want of memory end it with nothing written.
 ///
-/// Every other list of words is `Usage`, and nothing is read or written.
+/// Every other list of words is `Usage`, or `Memory` where memory runs out before that is known; nothing is read or written.
 pub fn run<R: Threads + Sync, S: Source, K: Sink, C: Clock, P: Spawner>(
     rt: &R,
     alloc: Global,
@@ -45,10 +45,10 @@ pub fn run<R: Threads + Sync, S: Source, K: Sink, C: Clock, P: Spawner>(
     clock: &mut C,
     spawner: &mut P,
 ) -> Outcome
-    ensures usage { (result.status ≡ Status.Usage)
-        ↔ ((¬ AreUhpWords words.now) × (¬ AreReplayWords words.now) × ((n : ℕ) → ¬ AreCountWords words.now n)) }
-    ensures unread { result.status ≡ Status.Usage → input.new ≡ input.old }
-    ensures unwritten { result.status ≡ Status.Usage → output.new ≡ output.old }
+    ensures usage { result.status ≡ Status.Usage → AreOfNoCommand words.now }
+    ensures refused { AreOfNoCommand words.now → (result.status ≡ Status.Usage) ⊎ (result.status ≡ Status.Memory) }
+    ensures unread { AreOfNoCommand words.now → input.new ≡ input.old }
+    ensures unwritten { AreOfNoCommand words.now → output.new ≡ output.old }
     ensures session { AreUhpWords words.now → SessionRun result.status
         (record { rest = S.rest input.old; written = K.written output.old })
         (record { rest = S.rest input.new; written = K.written output.new }) }
@@ -66,20 +66,39 @@ pub fn run<R: Threads + Sync, S: Source, K: Sink, C: Clock, P: Spawner>(
     ensures timed { result.timed ≡ [] }
 {
     let mut timed = TimedList::new(alloc);
+    if are_uhp_words(words) {
+        let status = uhp::<R, S, K, C, PlainGame>(rt, alloc, input, output, clock, &mut timed);
+        return Outcome { status, timed };
+    }
     if are_replay_words(words) {
         let status = replay::<S, K, PlainGame>(alloc, input, output);
         return Outcome { status, timed };
     }
-    if let Some(plies) = count_plies(words) {
-        let status = count::<S, K, PlainGame>(alloc, plies, input, output);
-        return Outcome { status, timed };
-    }
-    if !are_uhp_words(words) {
-        return Outcome {
-            status: Status::Usage,
-            timed,
-        };
-    }
-    let status = uhp::<R, S, K, C, PlainGame>(rt, alloc, input, output, clock, &mut timed);
+    let status = count_asked(alloc, words, input, output);
     Outcome { status, timed }
+}
+
+/// Counts, where the words ask for that, and else does nothing.
+fn count_asked<S: Source, K: Sink>(
+    alloc: Global,
+    words: &[String],
+    input: &mut S,
+    output: &mut K,
+) -> Status
+    ensures usage { result ≡ Status.Usage → (n : ℕ) → ¬ AreCountWords words.now n }
+    ensures refused { ((n : ℕ) → ¬ AreCountWords words.now n) → (result ≡ Status.Usage) ⊎ (result ≡ Status.Memory) }
+    ensures unread { ((n : ℕ) → ¬ AreCountWords words.now n) → input.new ≡ input.old }
+    ensures unwritten { ((n : ℕ) → ¬ AreCountWords words.now n) → output.new ≡ output.old }
+    ensures count { (n : ℕ) → AreCountWords words.now n → CountRun n result
+        (record { rest = S.rest input.old; written = K.written output.old })
+        (record { rest = S.rest input.new; written = K.written output.new }) }
+    ensures reads { HasCause (result ≡ Status.ReadFault) (S.read_faults input.old) (S.read_faults input.new) }
+    ensures writes { HasCause (result ≡ Status.WriteFault) (K.write_faults output.old) (K.write_faults output.new) }
+    ensures starts { result ≢ Status.SpawnFault }
+{
+    match count_plies(alloc, words) {
+        Ok(Some(plies)) => count::<S, K, PlainGame>(alloc, plies, input, output),
+        Ok(None) => Status::Usage,
+        Err(_) => Status::Memory,
+    }
 }

@@ -65,10 +65,12 @@ long_is word p long = first (strip_byte 45 word) refl
     third : (rest text : Text) → word ≡ 45 ∷ rest → rest ≡ 45 ∷ text → long_of_rest text ≡ Some p → (text : Text) × (word ≡ 45 ∷ (45 ∷ text)) × (name_and_value text ≡ p)
     third rest [] one two e = cc
     third rest (b ∷ bs) one two e = let cut : name_and_value (b ∷ bs) ≡ p = cc in (b ∷ bs, one ∙ ap (λ t. 45 ∷ t) two, cut)
+
     second : (rest : Text) → word ≡ 45 ∷ rest → (s : Option Text) → strip_byte 45 rest ≡ s → option_and_then long_of_rest s ≡ Some p
         → (text : Text) × (word ≡ 45 ∷ (45 ∷ text)) × (name_and_value text ≡ p)
     second rest one None e none = cc
     second rest one (Some text) e some = third rest text one (strip_is 45 rest text e) some
+
     first : (s : Option Text) → strip_byte 45 word ≡ s → (text : Text) × (word ≡ 45 ∷ (45 ∷ text)) × (name_and_value text ≡ p)
     first None e = let none : None ≡ Some p = sym (ap (λ s. option_and_then long_of_rest (option_and_then (strip_byte 45) s)) e) ∙ long in cc
     first (Some rest) e = second rest (strip_is 45 word rest e) (strip_byte 45 rest) refl

@@ -60,6 +60,7 @@ only_item words command name v give = go give.items give.ask give.given
     named : (item : Item) → IsOn (name ∷ []) item.name → name ≡ item.name
     named item (inl is) = is
     named item (inr none) = absurd none
+
     go : (items : List Item) → AskFor words command (name ∷ []) items → IsOn items (item_of name v) → IsOnly words command name v
     go [] ask none = absurd none
     go (item ∷ []) ask (inr none) = absurd none
@@ -98,6 +99,7 @@ given_parsed command name v words rest more begin only = subst (λ r. HasNoDashe
   where
     same : only.rest ≡ rest
     same = let both : command ∷ only.rest ≡ command ∷ rest = sym only.begin ∙ begin in cc
+
     go : BeginWith only.rest (item_of name v) [] → HasNoDashes only.rest × (parsed command name only.rest ≡ Some v)
     go (inl one) =
         let word : Text = in_one_word (item_of name v) in

@@ -16,9 +16,7 @@ pub(crate) fn parsed_value<'a>(
 ) -> Result<Option<&'a str>, AllocError>
     ensures { IfOk result (λ o. option_map (λ v. v.now) o ≡ parsed command.now option.now (map string_bytes words.now)) }
 {
-    let value = Arg::new(alloc, "value")
-        .long(option)
-        .action(ArgAction::Set);
+    let value = Arg::new(alloc, "value").long(option).action(ArgAction::Set);
     let parser = Command::new(alloc, command)
         .no_binary_name(true)
         .disable_help_flag(true)

@@ -78,11 +78,7 @@ fn is_found(value: i32, window: Window, answer: i32) -> bool {
 }
 
 /// The value by minimax, and how many of these windows have an answer that is wrong.
-fn wrong_answers(
-    game: &mut PlainGame,
-    depth: u32,
-    stack: &mut MoveStack,
-) -> Result<u32, AllocError>
+fn wrong_answers(game: &mut PlainGame, depth: u32, stack: &mut MoveStack) -> Result<u32, AllocError>
     requires { depth ≤ 3 }
 {
     if game.plies() > 100 || stack.free_levels() < depth {
