@@ -10,9 +10,9 @@ use Rattle.hive_model.specs.Positions.{Position, opening}
 use Rattle.hive_model.specs.Games.{replay}
 use Rattle.game_text.specs.declared.parsed.Parsed.{Parsed}
 use Rattle.hive_cli.specs.Session.{Sides, WhereTold}
-use Rattle.hive_cli.specs.OneGame.{IsAsked, alone, asked, end_of, game_at}
-use Rattle.hive_cli.specs.Asking.{IsAtEnd, IsNoGame}
-use Rattle.hive_cli.specs.Count.{CountRun, Ends, Tells, count_line, count_line_of, count_text}
+use Rattle.hive_cli.specs.OneGame.{IsAsked, and_no_more, asked, last_position, game_in}
+use Rattle.hive_cli.specs.Asking.{IsReplayOf, IsNoGame}
+use Rattle.hive_cli.specs.Count.{CountRun, WritesAs, TellsNone, count_line, count_line_of, count_text}
 use Rattle.hive_cli.specs.declared.status.Status.{Status}
 use Rattle.hive_cli.specs.declared.status.Status.TheVariants.{Done, BadInput, InputFull, Memory, ReadFault, WriteFault}
 use Rattle.hive_cli.specs.declared.no_game.NoGame.{NoGame}
@@ -73,54 +73,21 @@ count_cut p n plies lists line w0 w1 w2 low high is count before (k, less, wrote
 
 -- the input was bad
 bad_run : (plies : ℕ) (status : Status) (before after : Sides) (text : List ℕ) → WhereTold before.rest (λ input. IsNoGame (Bad text) input after.rest)
-    → Ends text BadInput status before.written after.written → CountRun plies status before after
+    → WritesAs text BadInput status before.written after.written → CountRun plies status before after
 bad_run plies status before after text none (inl (e, wrote)) = subst (λ s. CountRun plies s before after) (sym e) (λ input told.
     let (why, bad, is) = none input told in (why, record { bad = bad; wrote = wrote ∙ ap (behind before.written) is }))
 bad_run plies status before after text none (inr (e, (n, less, wrote))) = subst (λ s. CountRun plies s before after) (sym e) (λ input told.
     let (why, bad, is) = none input told in (text, n, record { is_text = inl (why, bad, is); cut = less; wrote = wrote }))
 
 -- the input was not one game
-pub none_run : (plies : ℕ) (none : NoGame) (status : Status) (before after : Sides) → WhereTold before.rest (λ input. IsNoGame none input after.rest) → Tells none status before.written after.written
+pub none_run : (plies : ℕ) (none : NoGame) (status : Status) (before after : Sides) → WhereTold before.rest (λ input. IsNoGame none input after.rest) → TellsNone none status before.written after.written
     → CountRun plies status before after
 none_run plies (Bad text) status before after none told = bad_run plies status before after text none told
 none_run plies NoRead status before after none (e, same) = subst (λ s. CountRun plies s before after) (sym e) (same, none)
 none_run plies TooMuch status before after none (e, same) = subst (λ s. CountRun plies s before after) (sym e) (same, none)
 none_run plies NoMemory status before after none (e, same) = subst (λ s. CountRun plies s before after) (sym e) (same, none)
 
--- a status tells of a read that has failed just where one has
-pub tells_read : (none : NoGame) (status : Status) (before after : Told) → Tells none status before after → (status ≡ ReadFault → none ≡ NoRead) × (none ≡ NoRead → status ≡ ReadFault)
-tells_read (Bad text) status before after (inl (e, wrote)) = (λ r. absurd (bad_read (sym e ∙ r)), λ r. cc)
-  where
-    bad_read : BadInput ≡ ReadFault → ⊥
-    bad_read e = cc
-tells_read (Bad text) status before after (inr (e, wrote)) = (λ r. absurd (write_read (sym e ∙ r)), λ r. cc)
-  where
-    write_read : WriteFault ≡ ReadFault → ⊥
-    write_read e = cc
-tells_read NoRead status before after (e, same) = (λ r. refl, λ r. e)
-tells_read TooMuch status before after (e, same) = (λ r. absurd (full_read (sym e ∙ r)), λ r. cc)
-  where
-    full_read : InputFull ≡ ReadFault → ⊥
-    full_read e = cc
-tells_read NoMemory status before after (e, same) = (λ r. absurd (memory_read (sym e ∙ r)), λ r. cc)
-  where
-    memory_read : Memory ≡ ReadFault → ⊥
-    memory_read e = cc
-
--- a read has failed where a game was told of
-pub read_cause : {G : Type 0} (r : Result G NoGame) (none : NoGame) (status : Status) (before after : Told) (faults now : ℕ) → r ≡ Err none → Tells none status before after
-    → HasCause (r ≡ Err NoRead) faults now → HasCause (status ≡ ReadFault) faults now
-read_cause r none status before after faults now is told cause =
-    let (to, from) = tells_read none status before after told in record {
-      later = cause.later;
-      rose = λ e. cause.rose (is ∙ ap Err (to e));
-      same = λ other. cause.same (λ e. other (from (err_same (sym is ∙ e))));
-    }
-  where
-    err_same : {G : Type 0} {x y : NoGame} → (let z : Result G NoGame = Err x in z) ≡ Err y → x ≡ y
-    err_same e = cc
-
-more_lines : (r : Result Parsed (List ℕ)) (line : Line) (others : List Line) (game : Parsed) → alone r (line ∷ others) ≡ Ok game → ⊥
+more_lines : (r : Result Parsed (List ℕ)) (line : Line) (others : List Line) (game : Parsed) → and_no_more r (line ∷ others) ≡ Ok game → ⊥
 more_lines (Ok other) line others game e = cc
 more_lines (Err why) line others game e = cc
 
@@ -128,14 +95,14 @@ more_lines (Err why) line others game e = cc
 asked_by_one : (ls : List Line) (game : Parsed) → asked ls ≡ Ok game → length ls ≤ 2
 asked_by_one [] game e = omega arith
 asked_by_one (line ∷ []) game e = omega arith
-asked_by_one (line ∷ (other ∷ others)) game e = absurd (more_lines (game_at line) other others game e)
+asked_by_one (line ∷ (other ∷ others)) game e = absurd (more_lines (game_in line) other others game e)
 
-end_is : (c : Course) (game : Parsed) → IsAtEnd c game → position c ≡ end_of game
+end_is : (c : Course) (game : Parsed) → IsReplayOf c game → position c ≡ last_position game
 end_is c game end = λ j. replay (opening (end.kind j)) (end.made j)
 
 -- the input was one game
-pub counts_run : (plies : ℕ) (status : Status) (before after : Sides) (c : Course) → WhereTold before.rest (λ input. (game : Parsed) × IsAsked input after.rest game × IsAtEnd c game)
-    → ((status ≡ Memory) × (after.written ≡ before.written)) ⊎ Ends (count_text (position c) plies) Done status before.written after.written → CountRun plies status before after
+pub counts_run : (plies : ℕ) (status : Status) (before after : Sides) (c : Course) → WhereTold before.rest (λ input. (game : Parsed) × IsAsked input after.rest game × IsReplayOf c game)
+    → ((status ≡ Memory) × (after.written ≡ before.written)) ⊎ WritesAs (count_text (position c) plies) Done status before.written after.written → CountRun plies status before after
 counts_run plies status before after c given (inl (e, same)) = subst (λ s. CountRun plies s before after) (sym e) (
   same,
   λ input told. let (game, is, end) = given input told in (lines input, all_were_read is.over, asked_by_one (lines input) game is.asks),

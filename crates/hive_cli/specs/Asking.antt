@@ -7,7 +7,7 @@ use Rattle.line_feed.specs.Feed.{Reading, Ends, Gives, Holds, Takes, input_limit
 use Rattle.game_text.specs.declared.faults.GameFault.{GameFault}
 use Rattle.game_text.specs.declared.faults.GameFault.TheVariants.{Memory as NoMemory}
 use Rattle.game_text.specs.declared.parsed.Parsed.{Parsed}
-use Rattle.hive_cli.specs.OneGame.{FewWereRead, IsBad, IsUndecided, bad_line, game_at}
+use Rattle.hive_cli.specs.OneGame.{FewWereRead, IsBad, IsUndecided, bad_line, game_in}
 use Rattle.hive_cli.specs.Replay.{reason}
 use Rattle.hive_cli.specs.declared.no_game.NoGame.{NoGame}
 use Rattle.hive_cli.specs.declared.no_game.NoGame.TheVariants.{Bad, ReadFault, InputFull, Memory}
@@ -15,13 +15,13 @@ use Rattle.hive_cli.specs.declared.no_game.NoGame.TheVariants.{Bad, ReadFault, I
 -- A game
 
 -- a game under way is at the end of a game that was read
-pub record IsAtEnd (course : Course) (game : Parsed) : Type 0 where
+pub record IsReplayOf (course : Course) (game : Parsed) : Type 0 where
   pub kind : course.game_type ≡ game.game_type
   pub made : course.made ≡ game.moves
 
 -- the answer is a game, and the game under way is at its end
-abbrev pub Plays : Course → Result Parsed (List ℕ) → Type 0
-Plays course answer = (game : Parsed) × (answer ≡ Ok game) × IsAtEnd course game
+abbrev pub Resumes : Course → Result Parsed (List ℕ) → Type 0
+Resumes course answer = (game : Parsed) × (answer ≡ Ok game) × IsReplayOf course game
 
 -- No game
 
@@ -59,11 +59,11 @@ GivesLine bytes old new rest = (line : Line) × Gives old bytes line new rest
 
 -- the line that was given is a game, and the game under way is at its end
 abbrev pub GivesGame : Course → List ℕ → Reading → Reading → Told → Type 0
-GivesGame course bytes old new rest = (line : Line) × Gives old bytes line new rest × Plays course (game_at line)
+GivesGame course bytes old new rest = (line : Line) × Gives old bytes line new rest × Resumes course (game_in line)
 
 -- the line that was given is no game, for this reason
 abbrev pub GivesOther : List ℕ → List ℕ → Reading → Reading → Told → Type 0
-GivesOther why bytes old new rest = (line : Line) × Gives old bytes line new rest × (game_at line ≡ Err why)
+GivesOther why bytes old new rest = (line : Line) × Gives old bytes line new rest × (game_in line ≡ Err why)
 
 -- No game was read: the line is none, there is no line, a read has failed, the limit is reached, or memory is wanting.
 abbrev pub GivesNone : NoGame → List ℕ → Reading → Reading → Told → Type 0

@@ -5,7 +5,7 @@ use Rattle.hive_model.specs.Positions.{Position}
 use Rattle.hive_model.specs.Minimax.{lines as lines_of_play}
 use Rattle.line_feed.specs.Feed.{input_limit}
 use Rattle.game_text.specs.declared.parsed.Parsed.{Parsed}
-use Rattle.hive_cli.specs.OneGame.{FewWereRead, IsAsked, IsBad, IsUndecided, bad_line, end_of}
+use Rattle.hive_cli.specs.OneGame.{FewWereRead, IsAsked, IsBad, IsUndecided, bad_line, last_position}
 use Rattle.hive_cli.specs.Session.{Sides, WhereTold}
 use Rattle.hive_cli.specs.declared.no_game.NoGame.{NoGame}
 use Rattle.hive_cli.specs.declared.no_game.NoGame.TheVariants.{Bad, ReadFault as NoRead, InputFull as TooMuch, Memory as NoMemory}
@@ -26,23 +26,23 @@ count_text p zero = []
 count_text p (suc n) = count_text p n ++ count_line p (suc n)
 
 -- this text was written, with which the run ends so, or its first n bytes and not all
-abbrev pub Ends : List ℕ → Status → Status → Told → Told → Type 0
-Ends text whole status before after =
+abbrev pub WritesAs : List ℕ → Status → Status → Told → Told → Type 0
+WritesAs text whole status before after =
     ((status ≡ whole) × (after ≡ behind before text))
     ⊎ ((status ≡ WriteFault) × ((n : ℕ) × (n < length text) × (after ≡ behind before (take n text))))
 
 -- where the input is not one game: its line was written, or nothing
-abbrev pub Tells : NoGame → Status → Told → Told → Type 0
-Tells (Bad line) status before after = Ends line BadInput status before after
-Tells NoRead status before after = (status ≡ ReadFault) × (after ≡ before)
-Tells TooMuch status before after = (status ≡ InputFull) × (after ≡ before)
-Tells NoMemory status before after = (status ≡ Memory) × (after ≡ before)
+abbrev pub TellsNone : NoGame → Status → Told → Told → Type 0
+TellsNone (Bad line) status before after = WritesAs line BadInput status before after
+TellsNone NoRead status before after = (status ≡ ReadFault) × (after ≡ before)
+TellsNone TooMuch status before after = (status ≡ InputFull) × (after ≡ before)
+TellsNone NoMemory status before after = (status ≡ Memory) × (after ≡ before)
 
 -- what is to be written is this: the line that says why the input asks about no game, or the counts of the game
 abbrev pub IsText : ℕ → List ℕ → Told → List ℕ → Type 0
 IsText plies input rest text =
     ((why : List ℕ) × IsBad input rest why × (text ≡ bad_line why))
-    ⊎ ((game : Parsed) × IsAsked input rest game × (text ≡ count_text (end_of game) plies))
+    ⊎ ((game : Parsed) × IsAsked input rest game × (text ≡ count_text (last_position game) plies))
 
 -- the input asks about no game, and the line that says why was written
 pub record WroteBad (input : List ℕ) (before after : Sides) (why : List ℕ) : Type 0 where
@@ -52,7 +52,7 @@ pub record WroteBad (input : List ℕ) (before after : Sides) (why : List ℕ) :
 -- the counts of the game that the input asks about were written
 pub record WroteCounts (plies : ℕ) (input : List ℕ) (before after : Sides) (game : Parsed) : Type 0 where
   pub is_asked : IsAsked input after.rest game
-  pub wrote : after.written ≡ behind before.written (count_text (end_of game) plies)
+  pub wrote : after.written ≡ behind before.written (count_text (last_position game) plies)
 
 -- of what is to be written the first n bytes were written, and not all
 pub record WroteCut (plies : ℕ) (input : List ℕ) (before after : Sides) (text : List ℕ) (n : ℕ) : Type 0 where

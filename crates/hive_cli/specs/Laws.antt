@@ -1,7 +1,12 @@
 -- What follows from the clauses of a run.
-use Rattle.std.specs.Prelude.{◌≡◌, ◌⊎◌, ℕ, ◌<◌, List, length, Some}
+use Rattle.std.specs.Prelude.{◌≡◌, ◌⊎◌, ℕ, ◌<◌, false, List, length, Some, Ok}
 use Rattle.io_edge.specs.Outside.{HasCause, Rose}
 use Rattle.line_feed.specs.Feed.{input_limit}
+use Rattle.hive_model.specs.Lines.{lines}
+use Rattle.game_text.specs.declared.parsed.Parsed.{Parsed}
+use Rattle.hive_cli.specs.Count.{CountRun}
+use Rattle.hive_cli.specs.OneGame.{asked}
+use Rattle.hive_cli.specs.Replay.{ReplayRun, some_refused}
 use Rattle.hive_cli.specs.Session.{SessionRun, Sides}
 use Rattle.hive_cli.specs.declared.status.Status.{Status}
 use Rattle.hive_cli.specs.declared.status.Status.TheVariants.{Done, ReadFault, WriteFault, Memory}
@@ -14,3 +19,22 @@ SessionsAreDone =
     → (reads_before : ℕ) → (reads_after : ℕ) → HasCause (status ≡ ReadFault) reads_before reads_after → ¬ Rose reads_before reads_after
     → (writes_before : ℕ) → (writes_after : ℕ) → HasCause (status ≡ WriteFault) writes_before writes_after → ¬ Rose writes_before writes_after
     → (input : List ℕ) → before.rest ≡ Some input → length input < input_limit → (status ≡ Done) ⊎ (status ≡ Memory)
+
+-- Where neither count of faults rose, the replay of an input below the limit whose every line is a game is done, unless memory
+-- is wanting.
+abbrev pub ReplaysAreDone : Type 0
+ReplaysAreDone =
+    (status : Status) → (before : Sides) → (after : Sides) → ReplayRun status before after
+    → (reads_before : ℕ) → (reads_after : ℕ) → HasCause (status ≡ ReadFault) reads_before reads_after → ¬ Rose reads_before reads_after
+    → (writes_before : ℕ) → (writes_after : ℕ) → HasCause (status ≡ WriteFault) writes_before writes_after → ¬ Rose writes_before writes_after
+    → (input : List ℕ) → before.rest ≡ Some input → length input < input_limit → some_refused (lines input) ≡ false
+    → (status ≡ Done) ⊎ (status ≡ Memory)
+
+-- The same of a count whose input is exactly one line, a game that is not over.
+abbrev pub CountsAreDone : Type 0
+CountsAreDone =
+    (plies : ℕ) → (status : Status) → (before : Sides) → (after : Sides) → CountRun plies status before after
+    → (reads_before : ℕ) → (reads_after : ℕ) → HasCause (status ≡ ReadFault) reads_before reads_after → ¬ Rose reads_before reads_after
+    → (writes_before : ℕ) → (writes_after : ℕ) → HasCause (status ≡ WriteFault) writes_before writes_after → ¬ Rose writes_before writes_after
+    → (input : List ℕ) → before.rest ≡ Some input → length input < input_limit → (game : Parsed) → asked (lines input) ≡ Ok game
+    → (status ≡ Done) ⊎ (status ≡ Memory)

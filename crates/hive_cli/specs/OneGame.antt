@@ -13,32 +13,32 @@ use Rattle.hive_cli.specs.Replay.{reason}
 use Rattle.hive_cli.specs.Session.{IsAllRead, WereRead}
 
 -- the position after all moves of a game
-abbrev pub end_of : Parsed → Position
-end_of game = replay (opening game.game_type) game.moves
+abbrev pub last_position : Parsed → Position
+last_position game = replay (opening game.game_type) game.moves
 
 -- a game, if it is not over
 abbrev pub if_open : Parsed → Result Parsed (List ℕ)
-if_open game = if is_over (end_of game) then Err (codes "game over") else Ok game
+if_open game = if is_over (last_position game) then Err (codes "game over") else Ok game
 
 abbrev pub open_game : Result Parsed GameFault → Result Parsed (List ℕ)
 open_game (Ok game) = if_open game
 open_game (Err fault) = Err (reason fault)
 
 -- the game of a line, which is not over, or why there is none
-unfoldable pub game_at : Line → Result Parsed (List ℕ)
-game_at (Text bytes) = open_game (game_of bytes)
-game_at LongLine = Err (codes "line too long")
+unfoldable pub game_in : Line → Result Parsed (List ℕ)
+game_in (Text bytes) = open_game (game_of bytes)
+game_in LongLine = Err (codes "line too long")
 
 -- a game after which no line comes, not even an empty one
-abbrev pub alone : Result Parsed (List ℕ) → List Line → Result Parsed (List ℕ)
-alone (Err why) others = Err why
-alone (Ok game) [] = Ok game
-alone (Ok game) (line ∷ others) = Err (codes "more lines")
+abbrev pub and_no_more : Result Parsed (List ℕ) → List Line → Result Parsed (List ℕ)
+and_no_more (Err why) others = Err why
+and_no_more (Ok game) [] = Ok game
+and_no_more (Ok game) (line ∷ others) = Err (codes "more lines")
 
 -- the game that the lines ask about, or why there is none, in the order of the tests
 abbrev pub asked : List Line → Result Parsed (List ℕ)
 asked [] = Err (codes "no line")
-asked (line ∷ others) = alone (game_at line) others
+asked (line ∷ others) = and_no_more (game_in line) others
 
 -- the line that is written where there is no such game
 abbrev pub bad_line : List ℕ → List ℕ
@@ -58,15 +58,15 @@ pub record IsBad (input : List ℕ) (rest : Told) (why : List ℕ) : Type 0 wher
   pub few : length read ≤ 2
 
 -- lines that do not show yet what is to be answered: none, or one that is a game not over
-abbrev pub AreOpen : List Line → Type 0
-AreOpen [] = Unit {0}
-AreOpen (line ∷ []) = (game : Parsed) × (game_at line ≡ Ok game)
-AreOpen (line ∷ (other ∷ others)) = ⊥
+abbrev pub AreUndecided : List Line → Type 0
+AreUndecided [] = Unit {0}
+AreUndecided (line ∷ []) = (game : Parsed) × (game_in line ≡ Ok game)
+AreUndecided (line ∷ (other ∷ others)) = ⊥
 
 -- the bytes that have left the source are these, and their lines that end in LF do not show yet what is to be answered
 pub record IsUndecided (input : List ℕ) (rest : Told) (bytes left : List ℕ) : Type 0 where
   pub was_read : WasRead input rest bytes left
-  pub are_open : AreOpen (whole_lines bytes)
+  pub undecided : AreUndecided (whole_lines bytes)
 
 -- two lines were read at most
 abbrev pub FewWereRead : List ℕ → Told → Type 0

@@ -9,7 +9,7 @@ ghost use Rattle.game_text.specs.Reading.{game_of};
 ghost use Rattle.game_text.specs.declared.parsed.Parsed.{Parsed as AnyGame};
 ghost use Rattle.hive_cli.specs.Session.{WhereTold};
 ghost use Rattle.hive_cli.specs.OneGame.{IsAsked, if_open, open_game};
-ghost use Rattle.hive_cli.specs.Asking.{GivesGame, GivesNone, GoesOn, IsAtEnd, IsNoGame, Lacks, Plays, Says, SaysFault, WereTaken};
+ghost use Rattle.hive_cli.specs.Asking.{GivesGame, GivesNone, GoesOn, IsReplayOf, IsNoGame, Lacks, Resumes, Says, SaysFault, WereTaken};
 
 use crate::games::replayed;
 use crate::no_game::NoGame;
@@ -54,7 +54,7 @@ fn is_over<G: Game>(game: &G) -> bool
 fn begin_again<G: Game + Drop>(alloc: Global, game: Parsed, room: u32) -> Result<G, NoGame>
     requires legal { IsGame game.game_type game.moves }
     requires few { length game.moves + room ≤ 5064 }
-    ensures game { IfOk result (λ g. Plays (G.course g) (if_open game)) }
+    ensures game { IfOk result (λ g. Resumes (G.course g) (if_open game)) }
     ensures room { IfOk result (λ g. room ≤ (G.course g).spare) }
     ensures none { IfErr result (λ e. Lacks e (if_open game)) }
 {
@@ -69,7 +69,7 @@ fn begin_again<G: Game + Drop>(alloc: Global, game: Parsed, room: u32) -> Result
 fn game_of<G: Game + Drop>(alloc: Global, text: &[u8], room: u32) -> Result<G, NoGame>
     requires short { length text.now ≤ 65536 }
     requires few { room ≤ 64 }
-    ensures game { IfOk result (λ g. Plays (G.course g) (open_game (game_of text.now))) }
+    ensures game { IfOk result (λ g. Resumes (G.course g) (open_game (game_of text.now))) }
     ensures room { IfOk result (λ g. room ≤ (G.course g).spare) }
     ensures none { IfErr result (λ e. Lacks e (open_game (game_of text.now))) }
 {
@@ -134,7 +134,7 @@ pub(crate) fn read_one_game<S: Source, G: Game + Drop>(
 ) -> Result<G, NoGame>
     requires { room ≤ 64 }
     ensures game { IfOk result (λ g. WhereTold (S.rest input.old)
-        (λ bytes. (game : AnyGame) × IsAsked bytes (S.rest input.new) game × IsAtEnd (G.course g) game)) }
+        (λ bytes. (game : AnyGame) × IsAsked bytes (S.rest input.new) game × IsReplayOf (G.course g) game)) }
     ensures room { IfOk result (λ g. room ≤ (G.course g).spare) }
     ensures none { IfErr result (λ e. WhereTold (S.rest input.old) (λ bytes. IsNoGame e bytes (S.rest input.new))) }
     ensures cause { HasCause (result ≡ Err NoGame.ReadFault) (S.read_faults input.old) (S.read_faults input.new) }

@@ -4,7 +4,7 @@ ghost use Rattle.std.specs.Bool.{OnTrue, OnFalse};
 ghost use Rattle.io_edge.specs.Outside.{HasCause, behind};
 ghost use Rattle.hive_model.specs.Courses.{position};
 ghost use Rattle.hive_model.specs.Minimax.{lines};
-ghost use Rattle.hive_cli.specs.Count.{CountRun, Ends, Tells, count_line_of, count_text};
+ghost use Rattle.hive_cli.specs.Count.{CountRun, WritesAs, TellsNone, count_line_of, count_text};
 
 use crate::asking::read_one_game;
 use crate::no_game::NoGame;
@@ -65,7 +65,7 @@ fn tell_counts<K: Sink, G: Game + Drop>(
     requires few { plies ≤ 8 }
     requires spare { plies ≤ (G.course game).spare }
     ensures told { ((result ≡ Status.Memory) × (K.written output.new ≡ K.written output.old))
-        ⊎ Ends (count_text (position (G.course game)) plies) Status.Done result (K.written output.old) (K.written output.new) }
+        ⊎ WritesAs (count_text (position (G.course game)) plies) Status.Done result (K.written output.old) (K.written output.new) }
     ensures cause { HasCause (result ≡ Status.WriteFault) (K.write_faults output.old) (K.write_faults output.new) }
 {
     let Ok(mut stack) = MoveStack::new(alloc, plies) else {
@@ -80,7 +80,7 @@ fn tell_counts<K: Sink, G: Game + Drop>(
 
 /// Writes a line that says why the input is bad.
 fn tell_bad<K: Sink>(line: &[u8], output: &mut K) -> Status
-    ensures told { Ends line.now Status.BadInput result (K.written output.old) (K.written output.new) }
+    ensures told { WritesAs line.now Status.BadInput result (K.written output.old) (K.written output.new) }
     ensures cause { HasCause (result ≡ Status.WriteFault) (K.write_faults output.old) (K.write_faults output.new) }
 {
     if write_all(output, line) {
@@ -92,7 +92,7 @@ fn tell_bad<K: Sink>(line: &[u8], output: &mut K) -> Status
 
 /// Writes the line that says why the input is not one game, where that is its fault.
 fn tell_none<K: Sink>(none: NoGame, output: &mut K) -> Status
-    ensures told { Tells none result (K.written output.old) (K.written output.new) }
+    ensures told { TellsNone none result (K.written output.old) (K.written output.new) }
     ensures cause { HasCause (result ≡ Status.WriteFault) (K.write_faults output.old) (K.write_faults output.new) }
 {
     match none {

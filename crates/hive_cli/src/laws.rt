@@ -1,8 +1,20 @@
 //! Laws of the definitions, as contracts of functions that do nothing.
-ghost use Rattle.hive_cli.specs.Laws.{SessionsAreDone};
+ghost use Rattle.hive_cli.specs.Laws.{CountsAreDone, ReplaysAreDone, SessionsAreDone};
 
 /// A session whose input is shorter than 1,099,511,627,776 bytes ends with `Done`, or for want of memory, where neither the
 /// source nor the sink counted a fault.
 pub fn sessions_are_done()
     ensures { SessionsAreDone }
+{}
+
+/// A replay of fewer than 1,099,511,627,776 bytes, each line of which is a game string, ends with `Done`, or for want of memory,
+/// where neither the source nor the sink counted a fault.
+pub fn replays_are_done()
+    ensures { ReplaysAreDone }
+{}
+
+/// A count whose input is exactly one line, a game string of a game that is not over, ends with `Done`, or for want of memory,
+/// where neither the source nor the sink counted a fault.
+pub fn counts_are_done()
+    ensures { CountsAreDone }
 {}

@@ -14,7 +14,7 @@ mod start;
 mod status;
 mod words;
 
-pub use laws::sessions_are_done;
+pub use laws::{counts_are_done, replays_are_done, sessions_are_done};
 pub use start::run;
 pub use status::{Outcome, Status};
 
