@@ -1,8 +1,8 @@
 -- The counts written so far, and how a count ends.
-use Rattle.std.proofs.Common.{◌≡◌, ◌≤◌, ◌<◌, ◌⊎◌, ℕ, zero, suc, ◌+◌, ◌-◌, List, [], ◌∷◌, ◌++◌, length, take, refl, ap, sym, ◌∙◌, subst, inl, inr, arith, add-zero, append_assoc, length-append}
+use Rattle.std.proofs.Common.{◌≡◌, ◌≤◌, ◌<◌, ◌⊎◌, ℕ, zero, suc, ◌+◌, ◌-◌, List, [], ◌∷◌, ◌++◌, length, take, ap, sym, ◌∙◌, subst, inl, inr, arith, add-zero, append_assoc, length-append}
 use Rattle.std.specs.Prelude.{Result, Ok, Err}
 use Rattle.std.proofs.lemmas.List.{append-nil, take-append-le}
-use Rattle.io_edge.specs.Outside.{HasCause, Told, behind}
+use Rattle.io_edge.specs.Outside.{Told, behind}
 use Rattle.hive_model.specs.Courses.{Course, position}
 use Rattle.hive_model.specs.Lines.{Line, lines}
 use Rattle.hive_model.specs.Minimax.{lines as lines_of_play}
@@ -14,7 +14,7 @@ use Rattle.hive_cli.specs.OneGame.{IsAsked, and_no_more, asked, last_position, g
 use Rattle.hive_cli.specs.Asking.{IsReplayOf, IsNoGame}
 use Rattle.hive_cli.specs.Count.{CountRun, WritesAs, TellsNone, count_line, count_line_of, count_text}
 use Rattle.hive_cli.specs.declared.status.Status.{Status}
-use Rattle.hive_cli.specs.declared.status.Status.TheVariants.{Done, BadInput, InputFull, Memory, ReadFault, WriteFault}
+use Rattle.hive_cli.specs.declared.status.Status.TheVariants.{Done, BadInput, Memory}
 use Rattle.hive_cli.specs.declared.no_game.NoGame.{NoGame}
 use Rattle.hive_cli.specs.declared.no_game.NoGame.TheVariants.{Bad, ReadFault as NoRead, InputFull as TooMuch, Memory as NoMemory}
 use Rattle.hive_cli.proofs.OneGameLemmas.{all_were_read}

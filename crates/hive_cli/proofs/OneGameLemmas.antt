@@ -57,20 +57,6 @@ all_were_read {input} {rest} all = (
   },
 )
 
--- no byte of an input has left its source
-pub none_read : (input : List ℕ) (rest : Told) → rest ≡ Some input → FewWereRead input rest
-none_read input rest e = (
-  [],
-  (
-    [],
-    input,
-    [],
-    lines input,
-    record { was_read = record { split = refl; told = e }; of_bytes = refl; of_input = refl },
-  ),
-  omega arith,
-)
-
 -- the first line
 fed_first : {r0 r1 : Told} {old new : Reading} {bytes : List ℕ} {line : Line} → old ≡ fresh → WereTaken bytes old new r0 r1 → Gives old bytes line new r1 → Fed r0 r1 new bytes (line ∷ [])
 fed_first {r0} {r1} {old} {new} {bytes} {line} is taken gives = fed_line (fed_begin r0 old is) taken.takes gives
@@ -88,6 +74,10 @@ is_bad {given = given} input why fed within e shown few =
 
 few_read : {r0 r1 : Told} {new : Reading} {bytes : List ℕ} {given : List Line} (input : List ℕ) → Fed r0 r1 new bytes given → new.taken ≤ input_limit → r0 ≡ Some input → length given ≤ 2 → FewWereRead input r1
 few_read {given = given} input fed within e few = (given, given_were_read input fed e within, few)
+
+-- nothing was read
+pub none_read : (input : List ℕ) (rest : Told) → rest ≡ Some input → FewWereRead input rest
+none_read input rest e = few_read input (fed_begin rest fresh refl) (omega arith) e (omega arith)
 
 held_open : {r0 r1 r2 : Told} {old new : Reading} {bytes b1 : List ℕ} {given : List Line} (input : List ℕ) → Fed r0 r1 old bytes given → WereTaken b1 old new r1 r2 → Holds old b1 new → r0 ≡ Some input → AreUndecided given
     → (read : List ℕ) × (left : List ℕ) × (new.taken ≡ length read) × IsUndecided input r2 read left
