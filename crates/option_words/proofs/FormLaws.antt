@@ -1,10 +1,9 @@
 -- What the words of an item are to the lexer of `clap`, and back.
-use Rattle.std.proofs.Common.{◌≡◌, ◌≢◌, ◌∙◌, ◌⊎◌, ◌==◌, ◌<◌, ◌+◌, ◌++◌, ◌&&◌, inl, inr, ℕ, zero, suc, Bool, true, false, refl, sym, ap, ap₂, subst, arith, List, [], ◌∷◌, Option, Some, None, codes, length, get_or, if◌then◌else◌, nat_eq, cond}
+use Rattle.std.proofs.Common.{◌≡◌, ◌≢◌, ◌∙◌, ◌⊎◌, ◌<◌, ◌++◌, inl, inr, ℕ, zero, suc, Bool, true, false, refl, sym, ap, ap₂, subst, arith, [], ◌∷◌, Option, Some, None, codes, length, if◌then◌else◌, nat_eq}
 use Rattle.std.specs.Prelude.{option_and_then}
 use Rattle.std.specs.Str.{bytes_eq}
 use Rattle.std.proofs.lemmas.Bool.Decides.{nat_tests}
-use Rattle.std.proofs.lemmas.Grind.{common_steps}
-use Rattle.clap.specs.Lexer.{long_of, long_of_rest, name_and_value, short_of, short_of_rest, strip_byte}
+use Rattle.clap.specs.Lexer.{long_of, long_of_rest, name_and_value, short_of, strip_byte}
 use Rattle.clap.specs.Walk.{Text}
 use Rattle.clap.proofs.CutLemmas.{Lacks}
 use Rattle.clap.proofs.LexerLemmas.{name_and_value-at, name_and_value-without}
@@ -65,10 +64,12 @@ long_is word p long = first (strip_byte 45 word) refl
     third : (rest text : Text) → word ≡ 45 ∷ rest → rest ≡ 45 ∷ text → long_of_rest text ≡ Some p → (text : Text) × (word ≡ 45 ∷ (45 ∷ text)) × (name_and_value text ≡ p)
     third rest [] one two e = cc
     third rest (b ∷ bs) one two e = let cut : name_and_value (b ∷ bs) ≡ p = cc in (b ∷ bs, one ∙ ap (λ t. 45 ∷ t) two, cut)
+
     second : (rest : Text) → word ≡ 45 ∷ rest → (s : Option Text) → strip_byte 45 rest ≡ s → option_and_then long_of_rest s ≡ Some p
         → (text : Text) × (word ≡ 45 ∷ (45 ∷ text)) × (name_and_value text ≡ p)
     second rest one None e none = cc
     second rest one (Some text) e some = third rest text one (strip_is 45 rest text e) some
+
     first : (s : Option Text) → strip_byte 45 word ≡ s → (text : Text) × (word ≡ 45 ∷ (45 ∷ text)) × (name_and_value text ≡ p)
     first None e = let none : None ≡ Some p = sym (ap (λ s. option_and_then long_of_rest (option_and_then (strip_byte 45) s)) e) ∙ long in cc
     first (Some rest) e = second rest (strip_is 45 word rest e) (strip_byte 45 rest) refl

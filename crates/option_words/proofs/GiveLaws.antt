@@ -1,17 +1,14 @@
 -- The value that the words give the one option of a command is the value that a parse of them finds.
-use Rattle.std.proofs.Common.{◌≡◌, ◌≢◌, ◌∙◌, arith, zero, suc, not, ◌⊎◌, ◌<◌, ◌++◌, ◌||◌, inl, inr, ℕ, Bool, true, false, refl, sym, ap, ap₂, subst, List, [], ◌∷◌, Option, Some, None, codes, length}
+use Rattle.std.proofs.Common.{◌≡◌, ◌∙◌, arith, suc, not, ◌<◌, ◌++◌, ◌||◌, inl, inr, Bool, true, false, refl, sym, ap, ap₂, subst, List, [], ◌∷◌, Option, Some, None, codes, length}
 use Rattle.hive_model.specs.Lists.{IsOn}
-use Rattle.std.specs.List.{list_any}
 use Rattle.std.specs.Str.{bytes_eq}
 use Rattle.std.proofs.lemmas.Grind.{common_steps}
 use Rattle.clap.specs.Kinds.{Kinds}
-use Rattle.clap.specs.Lexer.{long_of, name_and_value}
 use Rattle.clap.specs.Simple.{built}
 use Rattle.clap.specs.Walk.{Text, nothing_held}
-use Rattle.clap.specs.Faults.{fault_of}
 use Rattle.clap.proofs.CutLemmas.{Lacks}
 use Rattle.clap.proofs.FaultLemmas.{leaf_fault}
-use Rattle.option_words.specs.Options.{AreItems, AskFor, BeginWith, GiveOne, HasNoEquals, IsItem, IsValue, Item, in_one_word, name_word}
+use Rattle.option_words.specs.Options.{AskFor, BeginWith, GiveOne, HasNoEquals, IsItem, IsValue, Item, in_one_word, name_word}
 use Rattle.option_words.specs.Parse.{option_app, parsed, unless_fault}
 use Rattle.option_words.proofs.WalkLaws.{equal_texts, found, left, same_bytes}
 use Rattle.option_words.proofs.PlaceLaws.{Finds, HasNoDashes, Reads, one_word_finds, start, start_reads, two_words_find}
@@ -60,6 +57,7 @@ only_item words command name v give = go give.items give.ask give.given
     named : (item : Item) → IsOn (name ∷ []) item.name → name ≡ item.name
     named item (inl is) = is
     named item (inr none) = absurd none
+
     go : (items : List Item) → AskFor words command (name ∷ []) items → IsOn items (item_of name v) → IsOnly words command name v
     go [] ask none = absurd none
     go (item ∷ []) ask (inr none) = absurd none
@@ -98,6 +96,7 @@ given_parsed command name v words rest more begin only = subst (λ r. HasNoDashe
   where
     same : only.rest ≡ rest
     same = let both : command ∷ only.rest ≡ command ∷ rest = sym only.begin ∙ begin in cc
+
     go : BeginWith only.rest (item_of name v) [] → HasNoDashes only.rest × (parsed command name only.rest ≡ Some v)
     go (inl one) =
         let word : Text = in_one_word (item_of name v) in

@@ -1,10 +1,10 @@
 -- The walk of `clap` from each place that it can stand at, at the command with one option: what is refused, and what is found.
-use Rattle.std.proofs.Common.{◌≡◌, ◌∙◌, ◌||◌, ◌⊎◌, inl, inr, ℕ, Bool, true, false, refl, sym, ap, ap₂, List, [], ◌∷◌, Option, Some, None, codes}
+use Rattle.std.proofs.Common.{◌≡◌, ◌∙◌, ◌||◌, ◌⊎◌, inl, inr, Bool, true, false, refl, sym, ap, ap₂, List, [], ◌∷◌, Option, Some, None, codes}
 use Rattle.std.specs.List.{list_any}
 use Rattle.std.specs.Str.{bytes_eq}
 use Rattle.clap.specs.Lexer.{long_of, short_of}
 use Rattle.clap.specs.Kinds.{Kinds, or_else}
-use Rattle.clap.specs.Walk.{Held, Row, Rule, Step, Text, Waiting, Walk, after_step, idle, next, option, pushed, settled, subcommand_or_other, used, value, walked}
+use Rattle.clap.specs.Walk.{Held, Row, Step, Text, Waiting, Walk, after_step, idle, option, subcommand_or_other, used, value, walked}
 use Rattle.clap.specs.Faults.{defaults_fault, other_fault, step_fault, turn_fault, walk_fault}
 use Rattle.clap.specs.declared.error.kind.ErrorKind.{ErrorKind}
 use Rattle.option_words.proofs.WalkLaws.{WordKind, at, found, holding, id, left, named, named_fault, named_met, no_subcommand, or_else-assoc, refused, rule, shape, stray, stray_fault, stray_met, valued, valued_fault, valued_met, word_kind}
@@ -144,6 +144,7 @@ got_again_fails command name v u (word ∷ rest) h = go (word_kind command name 
   where
     whole : bytes_eq word (codes "--") ≡ false
     whole = (neither _ _ h).0
+
     go : WordKind command name word → Fails command name (got_again name v u) (word ∷ rest)
     go (valued t long) = word_fails command name _ _ _ word rest _ _ (valued_fault command name word t (holding (given name v) (Some (id, u ∷ []))) whole long)
     go (named long) = word_fails command name _ _ _ word rest _ _ (named_fault command name word (holding (given name v) (Some (id, u ∷ []))) whole long)
@@ -156,6 +157,7 @@ asked_again_fails command name v (word ∷ rest) h = go (word_kind command name 
   where
     whole : bytes_eq word (codes "--") ≡ false
     whole = (neither _ _ h).0
+
     go : WordKind command name word → Fails command name (asked_again name v) (word ∷ rest)
     go (valued t long) = word_fails command name _ _ _ word rest _ _ (valued_fault command name word t (holding (given name v) (Some (id, []))) whole long)
     go (named long) = word_fails command name _ _ _ word rest _ _ (named_fault command name word (holding (given name v) (Some (id, []))) whole long)
@@ -170,6 +172,7 @@ given_fails command name v word rest h = go (word_kind command name word whole)
   where
     whole : bytes_eq word (codes "--") ≡ false
     whole = (neither _ _ h).0
+
     go : WordKind command name word → Fails command name (given_at name v) (word ∷ rest)
     go (valued t long) = word_fails command name _ _ _ word rest _ _ (valued_fault command name word t (holding (given name v) None) whole long)
     go (named long) =
@@ -185,6 +188,7 @@ got_fails command name v word rest h = go (word_kind command name word whole)
   where
     whole : bytes_eq word (codes "--") ≡ false
     whole = (neither _ _ h).0
+
     go : WordKind command name word → Fails command name (got_at v) (word ∷ rest)
     go (valued t long) = word_fails command name _ _ _ word rest _ _ (valued_fault command name word t (holding [] (Some (id, v ∷ []))) whole long)
     go (named long) =
@@ -222,6 +226,7 @@ asked_reads command name word v (u ∷ rest) h long finds = go (word_kind comman
   where
     whole : bytes_eq u (codes "--") ≡ false
     whole = (neither _ _ h).0
+
     go : WordKind command name u → Reads name (word ∷ (u ∷ rest)) v
     go (valued t at) = absurd (word_fails command name _ _ _ u rest _ _ (valued_fault command name u t (holding [] (Some (id, []))) whole at) finds.0)
     go (named at) = absurd (word_fails command name _ _ _ u rest _ _ (named_fault command name u (holding [] (Some (id, []))) whole at) finds.0)
@@ -237,6 +242,7 @@ start_reads command name v (word ∷ rest) h finds = go (word_kind command name 
   where
     whole : bytes_eq word (codes "--") ≡ false
     whole = (neither _ _ h).0
+
     go : WordKind command name word → Reads name (word ∷ rest) v
     go (valued u long) =
         let on = goes command name _ _ _ word rest _ (valued_fault command name word u (holding [] None) whole long) (valued_met name word u (holding [] None) idle whole long) refl in

@@ -16,9 +16,7 @@ pub(crate) fn parsed_value<'a>(
 ) -> Result<Option<&'a str>, AllocError>
     ensures { IfOk result (λ o. option_map (λ v. v.now) o ≡ parsed command.now option.now (map string_bytes words.now)) }
 {
-    let value = Arg::new(alloc, "value")
-        .long(option)
-        .action(ArgAction::Set);
+    let value = Arg::new(alloc, "value").long(option).action(ArgAction::Set);
     let parser = Command::new(alloc, command)
         .no_binary_name(true)
         .disable_help_flag(true)
@@ -26,11 +24,7 @@ pub(crate) fn parsed_value<'a>(
         .arg(value)?;
     match parser.try_get_matches_from(words) {
         Ok(matches) => Ok(matches.get_str("value")),
-        Err(error) => {
-            if error.kind() == ErrorKind::OutOfMemory {
-                return Err(AllocError);
-            }
-            Ok(None)
-        }
+        Err(error) if error.kind() == ErrorKind::OutOfMemory => Err(AllocError),
+        Err(_) => Ok(None),
     }
 }
