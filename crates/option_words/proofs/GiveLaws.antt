@@ -1,17 +1,14 @@
 -- The value that the words give the one option of a command is the value that a parse of them finds.
-use Rattle.std.proofs.Common.{◌≡◌, ◌≢◌, ◌∙◌, arith, zero, suc, not, ◌⊎◌, ◌<◌, ◌++◌, ◌||◌, inl, inr, ℕ, Bool, true, false, refl, sym, ap, ap₂, subst, List, [], ◌∷◌, Option, Some, None, codes, length}
+use Rattle.std.proofs.Common.{◌≡◌, ◌∙◌, arith, suc, not, ◌<◌, ◌++◌, ◌||◌, inl, inr, Bool, true, false, refl, sym, ap, ap₂, subst, List, [], ◌∷◌, Option, Some, None, codes, length}
 use Rattle.hive_model.specs.Lists.{IsOn}
-use Rattle.std.specs.List.{list_any}
 use Rattle.std.specs.Str.{bytes_eq}
 use Rattle.std.proofs.lemmas.Grind.{common_steps}
 use Rattle.clap.specs.Kinds.{Kinds}
-use Rattle.clap.specs.Lexer.{long_of, name_and_value}
 use Rattle.clap.specs.Simple.{built}
 use Rattle.clap.specs.Walk.{Text, nothing_held}
-use Rattle.clap.specs.Faults.{fault_of}
 use Rattle.clap.proofs.CutLemmas.{Lacks}
 use Rattle.clap.proofs.FaultLemmas.{leaf_fault}
-use Rattle.option_words.specs.Options.{AreItems, AskFor, BeginWith, GiveOne, HasNoEquals, IsItem, IsValue, Item, in_one_word, name_word}
+use Rattle.option_words.specs.Options.{AskFor, BeginWith, GiveOne, HasNoEquals, IsItem, IsValue, Item, in_one_word, name_word}
 use Rattle.option_words.specs.Parse.{option_app, parsed, unless_fault}
 use Rattle.option_words.proofs.WalkLaws.{equal_texts, found, left, same_bytes}
 use Rattle.option_words.proofs.PlaceLaws.{Finds, HasNoDashes, Reads, one_word_finds, start, start_reads, two_words_find}

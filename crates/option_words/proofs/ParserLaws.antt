@@ -1,31 +1,33 @@
 -- The parser of the one option, and its answers.
-use Rattle.std.proofs.Common.{◌≡◌, ◌≢◌, ◌∙◌, ◌⊎◌, inl, inr, ℕ, Bool, true, false, refl, sym, ap, ap₂, subst, List, [], ◌∷◌, Option, Some, None, codes}
-use Rattle.clap.specs.Kinds.{HasKind, IsAmong, Kinds}
+use Rattle.std.proofs.Common.{◌≡◌, ◌≢◌, ◌∙◌, inl, inr, true, false, refl, sym, ap, ap₂, subst, List, [], ◌∷◌, Option, None}
+use Rattle.clap.specs.Kinds.{HasKind, Kinds}
 use Rattle.clap.specs.Matches.{first_value, found_of}
 use Rattle.clap.specs.Values.{kind_of}
 use Rattle.clap.specs.Faults.{fault_of, is_simple_and_free}
-use Rattle.clap.specs.Simple.{App, HasMatchesOf, Shape, app_of, app_of_fields, is_simple, matches_of, new_app, on_top}
-use Rattle.clap.specs.Walk.{Text, first_of, rows_of}
+use Rattle.clap.specs.Simple.{App, HasMatchesOf, app_of, app_of_fields, is_simple, matches_of, new_app, on_top, with_rule}
+use Rattle.clap.specs.Walk.{Text, first_of, rule_of}
+use Rattle.clap.specs.Built.{AddsArg}
+use Rattle.clap.specs.declared.builder.arg.Arg.{Arg}
 use Rattle.clap.specs.declared.builder.command.Command.{Command}
 use Rattle.clap.specs.declared.builder.command.Command.TheViews.{out-Command}
 use Rattle.clap.specs.declared.error.Error.{Error}
 use Rattle.clap.specs.declared.error.kind.ErrorKind.TheVariants.{OutOfMemory}
 use Rattle.clap.specs.declared.parser.matches.ArgMatches.{ArgMatches}
 use Rattle.clap.proofs.WalkLemmas.{first_value-rows}
-use Rattle.option_words.specs.Parse.{option_app, parsed, unless_fault}
+use Rattle.option_words.specs.Parse.{option_app, option_rule, parsed, unless_fault}
 use Rattle.option_words.proofs.WalkLaws.{id}
 
--- the settings, one after another, make the command of the definitions, before its option is added
-pub settings : (new named helpless plain : Command) (command : Text) → app_of new ≡ new_app command
+-- the builders, one after another, make the command of the definitions
+pub built_parser : (new named helpless plain parser : Command) (value : Arg) (command name : Text) → app_of new ≡ new_app command
     → out-Command named ≡ record (out-Command new) { no_binary_name = true }
     → out-Command helpless ≡ record (out-Command named) { disable_help_flag = true }
     → out-Command plain ≡ record (out-Command helpless) { disable_version_flag = true }
-    → app_of plain ≡ on_top (λ s. record s { no_binary_name = true; disable_help_flag = true; disable_version_flag = true }) (new_app command)
-settings new named helpless plain command is_new no_name no_help no_version =
-    ap app_of_fields no_version
+    → AddsArg plain value parser → value.global ≡ false → rule_of value ≡ option_rule name → app_of parser ≡ option_app command name
+built_parser new named helpless plain parser value command name is_new no_name no_help no_version adds local is_rule =
+    adds.shape local ∙ ap₂ with_rule (ap app_of_fields no_version
     ∙ ap (on_top (λ s. record s { disable_version_flag = true })) (ap app_of_fields no_help
     ∙ ap (on_top (λ s. record s { disable_help_flag = true })) (ap app_of_fields no_name
-    ∙ ap (on_top (λ s. record s { no_binary_name = true })) is_new))
+    ∙ ap (on_top (λ s. record s { no_binary_name = true })) is_new))) is_rule
 
 -- a parse that succeeds finds the value that is parsed
 pub parse_finds : (command name : Text) (words : List Text) (a : App) (m : ArgMatches) (got : Option Text) → a ≡ option_app command name

@@ -1,10 +1,10 @@
 -- The walk of `clap` from each place that it can stand at, at the command with one option: what is refused, and what is found.
-use Rattle.std.proofs.Common.{◌≡◌, ◌∙◌, ◌||◌, ◌⊎◌, inl, inr, ℕ, Bool, true, false, refl, sym, ap, ap₂, List, [], ◌∷◌, Option, Some, None, codes}
+use Rattle.std.proofs.Common.{◌≡◌, ◌∙◌, ◌||◌, ◌⊎◌, inl, inr, Bool, true, false, refl, sym, ap, ap₂, List, [], ◌∷◌, Option, Some, None, codes}
 use Rattle.std.specs.List.{list_any}
 use Rattle.std.specs.Str.{bytes_eq}
 use Rattle.clap.specs.Lexer.{long_of, short_of}
 use Rattle.clap.specs.Kinds.{Kinds, or_else}
-use Rattle.clap.specs.Walk.{Held, Row, Rule, Step, Text, Waiting, Walk, after_step, idle, next, option, pushed, settled, subcommand_or_other, used, value, walked}
+use Rattle.clap.specs.Walk.{Held, Row, Step, Text, Waiting, Walk, after_step, idle, option, subcommand_or_other, used, value, walked}
 use Rattle.clap.specs.Faults.{defaults_fault, other_fault, step_fault, turn_fault, walk_fault}
 use Rattle.clap.specs.declared.error.kind.ErrorKind.{ErrorKind}
 use Rattle.option_words.proofs.WalkLaws.{WordKind, at, found, holding, id, left, named, named_fault, named_met, no_subcommand, or_else-assoc, refused, rule, shape, stray, stray_fault, stray_met, valued, valued_fault, valued_met, word_kind}

@@ -1,14 +1,14 @@
 -- One step of the walk of `clap` over the words, at the command with one option.
-use Rattle.std.proofs.Common.{◌≡◌, ◌∙◌, ◌&&◌, ◌||◌, ℕ, Bool, true, false, not, refl, sym, ap, ap₂, Decides, List, [], ◌∷◌, Option, Some, None, codes, fold, if◌then◌else◌}
+use Rattle.std.proofs.Common.{◌≡◌, ◌∙◌, ◌&&◌, ◌||◌, ℕ, Bool, true, false, refl, sym, ap, ap₂, List, [], ◌∷◌, Option, Some, None, codes, fold, if◌then◌else◌}
 use Rattle.std.specs.Option.{option_map_or}
 use Rattle.std.specs.Str.{bytes_eq, chars}
 use Rattle.std.specs.Prelude.{length, slice_get}
 use Rattle.std.proofs.lemmas.Slice.Eq.{bytes_eq-Decides}
 use Rattle.clap.specs.Lexer.{long_of, short_of}
 use Rattle.clap.specs.Kinds.{Kinds, or_else}
-use Rattle.clap.specs.Simple.{App, Shape, built, filled, with_index}
-use Rattle.clap.specs.Walk.{Held, Row, Rule, Step, Text, Waiting, Walk, after_flag, after_step, arg_by_long, bundle_met, bundle_step, finished, first_of, idle, long_met, long_or_other, next, option, plain, plain_word, positional, reacted, settled, short_or_plain, subcommand_met, subcommand_or_other, trailing, value, walk_from, walked, word_met}
-use Rattle.clap.specs.Faults.{bundle_fault, bundle_step_fault, check_fault, defaults_fault, flag_word_fault, flags_fault, long_fault, other_fault, react_fault, settle_fault, step_fault, turn_fault, walk_fault, word_fault}
+use Rattle.clap.specs.Simple.{Shape, built, filled, with_index}
+use Rattle.clap.specs.Walk.{Held, Row, Rule, Text, Waiting, Walk, after_flag, arg_by_long, bundle_met, bundle_step, finished, first_of, idle, long_met, long_or_other, next, option, plain, plain_word, positional, reacted, settled, short_or_plain, subcommand_met, subcommand_or_other, trailing, walked}
+use Rattle.clap.specs.Faults.{bundle_fault, bundle_step_fault, check_fault, defaults_fault, flag_word_fault, flags_fault, long_fault, other_fault, react_fault, settle_fault, walk_fault}
 use Rattle.clap.specs.declared.error.kind.ErrorKind.TheVariants.{UnknownArgument}
 use Rattle.option_words.specs.Parse.{option_app, option_rule}
 

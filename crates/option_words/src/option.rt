@@ -17,7 +17,7 @@ fn is_value(word: &str) -> bool
     }
 }
 
-/// Whether one of the words is `--`.
+/// Whether one of the words is `--`, alone.
 fn has_dashes(words: &[String]) -> bool
     ensures { result ≡ list_any (λ word. bytes_eq (string_bytes word) (codes "--")) words.now }
 {
@@ -41,13 +41,14 @@ pub fn one_option<'a>(
     let Some((first, rest)) = words.split_first() else {
         return Ok(None);
     };
-    // `clap` takes a last `--`, and a value that is empty or `-`
+    // `clap` passes over a last `--`, which is no item
     if first.as_str() != command || has_dashes(rest) {
         return Ok(None);
     }
     let Some(value) = parsed_value(alloc, rest, command, option)? else {
         return Ok(None);
     };
+    // it also takes a value that is empty or, in one word with the name, begins with `-`
     if !is_value(value) {
         return Ok(None);
     }

@@ -24,11 +24,7 @@ pub(crate) fn parsed_value<'a>(
         .arg(value)?;
     match parser.try_get_matches_from(words) {
         Ok(matches) => Ok(matches.get_str("value")),
-        Err(error) => {
-            if error.kind() == ErrorKind::OutOfMemory {
-                return Err(AllocError);
-            }
-            Ok(None)
-        }
+        Err(error) if error.kind() == ErrorKind::OutOfMemory => Err(AllocError),
+        Err(_) => Ok(None),
     }
 }

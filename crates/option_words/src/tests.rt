@@ -4,16 +4,21 @@ use std::alloc::Global;
 use std::test::Fail;
 
 /// The words, separated by single spaces, and the value that they give the option `--plies` of `count`.
-const ROWS: [(&str, Option<&str>); 28] = [
+const ROWS: [(&str, Option<&str>); 33] = [
     ("count --plies=2", Some("2")),
     ("count --plies 2", Some("2")),
     ("count --plies=a=b", Some("a=b")),
     ("count --plies a=b", Some("a=b")),
     ("count --plies 2-", Some("2-")),
+    ("count --plies=--plies", None),
+    ("count --plies=zwölf", Some("zwölf")),
+    ("", None),
     ("count", None),
+    ("--plies=2", None),
     ("perft --plies=2", None),
     ("count --plies", None),
     ("count --plies=", None),
+    ("count --plies ", None),
     ("count --plies=-2", None),
     ("count --plies -2", None),
     ("count --plies -", None),
@@ -50,5 +55,25 @@ fn words_and_values(rt: HostRuntime) -> Result<(), Fail> {
         let found = one_option(rt.alloc(), words.as_slice(), "count", "plies")?;
         assert_eq!(rt; found, value, "at {text}");
     }
+    assert_eq!(rt; one_option(rt.alloc(), &[], "count", "plies")?, None);
+    Ok(())
+}
+
+#[test]
+fn another_command(rt: HostRuntime) -> Result<(), Fail> {
+    let words = words_of(rt.alloc(), "certify --depth 12")?;
+    let alloc = rt.alloc();
+    assert_eq!(rt;
+        one_option(alloc, words.as_slice(), "certify", "depth")?,
+        Some("12")
+    );
+    assert_eq!(rt;
+        one_option(alloc, words.as_slice(), "certify", "dept")?,
+        None
+    );
+    assert_eq!(rt;
+        one_option(alloc, words.as_slice(), "certif", "depth")?,
+        None
+    );
     Ok(())
 }
