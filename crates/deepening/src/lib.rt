@@ -14,7 +14,7 @@ use std::alloc::{AllocError, Global};
 use std::marker::Model;
 
 /// Less than any move is worth: the bound that a root begins with.
-const LOWEST: i32 = -1_000_090;
+const FIRST_BOUND: i32 = -1_000_090;
 
 /// More than any move is worth.
 const HIGHEST: i32 = 1_000_100;
@@ -37,7 +37,7 @@ fn best_reply<G: Game>(game: &mut G, depth: u32, stack: &mut MoveStack) -> Best
     game.list(stack);
     let count = stack.level_len(level);
     let mut first = stack.get(level, 0);
-    let mut greatest = LOWEST;
+    let mut greatest = FIRST_BOUND;
     for i in 0..count {
         let m = stack.get(level, i);
         let window = Window {

@@ -10,3 +10,4 @@ pub mod StopLaws
 pub mod RefusalLaws
 pub mod WriteLaws
 pub mod Rows
+pub mod PlayedLaws

@@ -6,9 +6,8 @@ ghost use Rattle.game_text.specs.Reading.{game_of};
 ghost use Rattle.uhp_session.specs.Answers.{line_in, IsShort};
 ghost use Rattle.hive_cli.specs.Replay.{game_answer, is_fault, reason, refusal, refuses, replay_answer};
 
-use crate::games::replayed;
 use crate::reasons::{line_for, reason_of};
-use game_text::{GameFault, read_game, write_game};
+use game_text::{GameFault, played, read_game, write_game};
 use hive_model::{Game, GameType, Move, ReplyText};
 use std::alloc::{AllocError, Global};
 use uhp_session::LineIn;
@@ -46,7 +45,7 @@ fn written<G: Game + Drop>(
     requires few { length moves.now ≤ 5064 }
     ensures { IfOk result (λ t. t ≡ string game_type moves.now ++ 10 ∷ []) }
 {
-    let game = replayed::<G>(alloc, game_type, moves, 0)?;
+    let game = played::<G>(alloc, game_type, moves, 0)?;
     let mut text = ReplyText::new(alloc);
     write_game(alloc, &game, &mut text)?;
     text.push(b'\n')?;

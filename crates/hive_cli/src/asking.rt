@@ -11,10 +11,9 @@ ghost use Rattle.hive_cli.specs.Session.{WhereTold};
 ghost use Rattle.hive_cli.specs.OneGame.{IsAsked, if_open, open_game};
 ghost use Rattle.hive_cli.specs.Asking.{GivesGame, GivesNone, GoesOn, IsReplayOf, IsNoGame, Lacks, Resumes, Says, SaysFault, WereTaken};
 
-use crate::games::replayed;
 use crate::no_game::NoGame;
 use crate::reasons::{line_for, reason_of};
-use game_text::{GameFault, Parsed, read_game};
+use game_text::{GameFault, Parsed, played, read_game};
 use hive_model::{Game, State};
 use io_edge::Source;
 use line_feed::{LineAnswer, LineReader};
@@ -58,7 +57,7 @@ fn begin_again<G: Game + Drop>(alloc: Global, game: Parsed, room: u32) -> Result
     ensures room { IfOk result (λ g. room ≤ (G.course g).spare) }
     ensures none { IfErr result (λ e. Lacks e (if_open game)) }
 {
-    let under_way: G = replayed(alloc, game.game_type, game.moves.items(), room)?;
+    let under_way: G = played(alloc, game.game_type, game.moves.items(), room)?;
     if is_over(&under_way) {
         return Err(bad(alloc, b"game over"));
     }

@@ -4,7 +4,6 @@
 mod answers;
 mod asking;
 mod counts;
-mod games;
 mod laws;
 mod no_game;
 mod reasons;

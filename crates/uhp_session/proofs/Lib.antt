@@ -1,4 +1,3 @@
-pub mod PlayedLaws
 pub mod KeptLaws
 pub mod ListLaws
 pub mod ReplyLaws

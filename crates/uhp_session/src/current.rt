@@ -16,7 +16,7 @@ use crate::lines::Reply;
 use crate::lists::joined_moves;
 use crate::says::{close, say};
 use deepening::Searcher;
-use game_text::{MoveTexts, texts_of};
+use game_text::{MoveTexts, played, texts_of};
 use hive_model::{Game, GameType, Move, MoveList, MoveStack, ReplyText, State};
 use move_text::{MoveFault, read_move, write_move};
 use std::alloc::{AllocError, Global};
@@ -42,25 +42,6 @@ impl<G: Game> Model for Current<G> {
     ghost invariant = { λ c. (c.written ≡ texts (opening (G.course c.game).game_type) (G.course c.game).made) × (length (G.course c.game).made ≤ 5000) };
 }
 
-/// A game of this type in which these moves were played.
-fn played<G: Game + Drop>(
-    alloc: Global,
-    game_type: GameType,
-    moves: &[Move],
-) -> Result<G, AllocError>
-    requires game { IsGame game_type moves.now }
-    requires few { length moves.now ≤ 5064 }
-    ensures kind { IfOk result (λ g. (G.course g).game_type ≡ game_type) }
-    ensures made { IfOk result (λ g. (G.course g).made ≡ moves.now) }
-{
-    let mut game = G::opening(alloc, game_type)?;
-    game.reserve(moves.len() as u32)?;
-    for m in moves {
-        game.play(m.again());
-    }
-    Ok(game)
-}
-
 /// The first moves of the game, so many.
 fn first_moves<G: Game>(alloc: Global, game: &G, count: u32) -> Result<MoveList, AllocError>
     requires { count ≤ length (G.course game.now).made }
@@ -84,7 +65,7 @@ impl<G: Game + Drop> Current<G> {
         requires few { length moves.now ≤ 5000 }
         ensures { IfOk result (λ c. c ≡ record { game_type = game_type; made = moves.now }) }
     {
-        let game: G = played(alloc, game_type, moves)?;
+        let game: G = played(alloc, game_type, moves, 0)?;
         let written = texts_of(alloc, &game)?;
         Ok(Current { game, written })
     }

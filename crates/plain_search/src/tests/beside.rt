@@ -2,8 +2,8 @@
 
 ghost use Rattle.std.specs.Prelude.{◌≤◌};
 
-use crate::minimax;
-use game_text::read_game;
+use crate::tests::worth;
+use game_text::{played, read_game};
 use hive_model::{Game, MoveStack};
 use plain_game::PlainGame;
 use search_core::{Window, search};
@@ -46,7 +46,7 @@ const POSITIONS: [(&str, u32); 7] = [
     ),
 ];
 
-/// The game of a text, if it is one of at most 100 plies.
+/// The game of a text, if it is one.
 fn game_of(alloc: Global, text: &str) -> Result<Option<PlainGame>, AllocError> {
     if text.len() > 1000 {
         return Ok(None);
@@ -54,14 +54,7 @@ fn game_of(alloc: Global, text: &str) -> Result<Option<PlainGame>, AllocError> {
     let Ok(parsed) = read_game::<PlainGame>(alloc, text.as_bytes()) else {
         return Ok(None);
     };
-    let mut game = PlainGame::opening(alloc, parsed.game_type)?;
-    for m in parsed.moves.items() {
-        if game.plies() > 100 || !game.is_legal(m.again()) {
-            return Ok(None);
-        }
-        game.reserve(1)?;
-        game.play(m.again());
-    }
+    let game = played(alloc, parsed.game_type, parsed.moves.items(), 0)?;
     Ok(Some(game))
 }
 
@@ -77,17 +70,42 @@ fn is_found(value: i32, window: Window, answer: i32) -> bool {
     answer == value
 }
 
-/// The value by minimax, and how many of these windows have an answer that is wrong.
-fn wrong_answers(game: &mut PlainGame, depth: u32, stack: &mut MoveStack) -> Result<u32, AllocError>
+/// Whether `search` answers as it should in the window with these ends, where the position is worth `value`.
+fn answers_right(
+    game: &mut PlainGame,
+    depth: u32,
+    value: i32,
+    ends: (i32, i32),
+    stack: &mut MoveStack,
+) -> Result<bool, AllocError>
     requires { depth ≤ 3 }
 {
+    let (alpha, beta) = ends;
+    if alpha < -1_000_100 || alpha >= beta || beta > 1_000_100 {
+        return Ok(false);
+    }
     if game.plies() > 100 || stack.free_levels() < depth {
-        return Ok(1);
+        return Ok(false);
     }
     game.reserve(depth)?;
-    let value = minimax(game, depth, stack);
-    let mut wrong = 0;
-    for (alpha, beta) in [
+    let window = Window { alpha, beta };
+    let answer = search(game, depth, window, stack);
+    Ok(is_found(value, window, answer))
+}
+
+/// The ends of the first of some windows in which the answer is wrong.
+fn first_wrong(
+    alloc: Global,
+    game: &mut PlainGame,
+    depth: u32,
+    stack: &mut MoveStack,
+) -> Result<Option<(i32, i32)>, AllocError>
+    requires { depth ≤ 3 }
+{
+    let Some(value) = worth(alloc, game, depth)? else {
+        return Ok(Some((0, 0)));
+    };
+    for ends in [
         (-1_000_100, 1_000_100),
         (-1, 1),
         (-40, 40),
@@ -97,15 +115,11 @@ fn wrong_answers(game: &mut PlainGame, depth: u32, stack: &mut MoveStack) -> Res
         (value, value.saturating_add(1)),
         (value.saturating_sub(1), value),
     ] {
-        if alpha < -1_000_100 || alpha >= beta || beta > 1_000_100 {
-            return Ok(100);
-        }
-        let window = Window { alpha, beta };
-        if !is_found(value, window, search(game, depth, window, stack)) {
-            wrong += 1;
+        if !answers_right(game, depth, value, ends, stack)? {
+            return Ok(Some(ends));
         }
     }
-    Ok(wrong)
+    Ok(None)
 }
 
 #[test]
@@ -115,8 +129,8 @@ fn search_beside_minimax(rt: HostRuntime) -> Result<(), Fail> {
         let mut game = game_of(rt.alloc(), text)?.ok_or(text)?;
         for depth in 1..4 {
             if depth <= deepest {
-                let wrong = wrong_answers(&mut game, depth, &mut stack)?;
-                assert_eq!(rt; wrong, 0, "{text} at depth {depth}");
+                let wrong = first_wrong(rt.alloc(), &mut game, depth, &mut stack)?;
+                assert_eq!(rt; wrong, None, "{text} at depth {depth}");
             }
         }
     }

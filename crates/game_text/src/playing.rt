@@ -1,12 +1,12 @@
-//! Games that were read, played again.
+//! Games played from their moves.
 ghost use Rattle.std.specs.Prelude.{◌≡◌, ◌+◌, ◌≤◌, length, IfOk};
 ghost use Rattle.hive_model.specs.Games.{IsGame};
 
 use hive_model::{Game, GameType, Move};
 use std::alloc::{AllocError, Global};
 
-/// The game of this type after these moves, with room for so many more plies.
-pub(crate) fn replayed<G: Game + Drop>(
+/// The game of this type in which these moves were played, with room for so many more plies: a game has room for 5,064 in all.
+pub fn played<G: Game + Drop>(
     alloc: Global,
     game_type: GameType,
     moves: &[Move],

@@ -1,6 +1,6 @@
 use Rattle.std.proofs.Common.{◌≤◌, ◌+◌, length}
-use Rattle.uhp_session.proofs.PlayedLaws.{IsPlayed}
-use Rattle.hive_cli.proofs.games.replayed.Given as goal
+use Rattle.game_text.proofs.PlayedLaws.{IsPlayed}
+use Rattle.game_text.proofs.playing.played.Given as goal
 
 abbrev pub invariant-loop-m : goal.invariant-loop-m
 invariant-loop-m g l = record {

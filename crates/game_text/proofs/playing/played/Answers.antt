@@ -3,8 +3,8 @@ use Rattle.std.specs.Prelude.{Some, slice_get}
 use Rattle.hive_model.specs.Lists.{IsOn}
 use Rattle.hive_model.specs.Legal.{moves}
 use Rattle.hive_model.specs.Courses.{Course, position}
-use Rattle.uhp_session.proofs.PlayedLaws.{played_none, played_legal, played_on, got}
-use Rattle.hive_cli.proofs.games.replayed.Goals as goal
+use Rattle.game_text.proofs.PlayedLaws.{played_none, played_legal, played_on, got}
+use Rattle.game_text.proofs.playing.played.Goals as goal
 
 pub loop-m-init : goal.loop-m-init
 loop-m-init g c =
