@@ -13,7 +13,7 @@ use std::test::Fail;
 /// Games, and how many plies are searched from their ends.
 const POSITIONS: [(&str, u32); 7] = [
     // the opening
-    ("Base+MLP", 2),
+    ("Base+MLP", 3),
     // throws of own and other pieces
     (
         "Base+P;InProgress;White[5];wS1;bS1 wS1-;wQ -wS1;bQ bS1-;wP -wQ;bG1 bQ-;wA1 -wP;bA1 bG1-",
@@ -22,7 +22,7 @@ const POSITIONS: [(&str, u32); 7] = [
     // a piece that was thrown rests
     (
         "Base+P;InProgress;Black[4];wP;bA1 wP-;wQ -wP;bQ bA1/;wS1 -wQ;bQ wP/;bA1 wP\\",
-        2,
+        3,
     ),
     // stacks; black can but pass
     (
