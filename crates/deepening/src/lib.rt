@@ -72,7 +72,7 @@ impl Model for Searcher {
 
     ghost view = { λ s. s.stack.free };
 
-    ghost invariant = { λ s. s.stack.free ≤ 64 };
+    ghost invariant = { λ s. (s.stack.free ≤ 64) × (1 ≤ s.entries) × (s.entries ≤ 1048576) };
 }
 
 impl Searcher {

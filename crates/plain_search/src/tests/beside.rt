@@ -1,10 +1,13 @@
 //! Alpha-beta beside minimax: what `search` answers in several windows, and what the position is worth.
 
-ghost use Rattle.std.specs.Prelude.{◌≤◌};
+ghost use Rattle.std.specs.Prelude.{◌≡◌, ◌≤◌};
+ghost use Rattle.hive_model.specs.Courses.{position};
+ghost use Rattle.hive_model.specs.Legal as rules;
 
 use crate::tests::worth;
+use deepening::Searcher;
 use game_text::{played, read_game};
-use hive_model::{Game, MoveStack};
+use hive_model::{Game, MoveStack, State};
 use plain_game::PlainGame;
 use search_core::{Window, search};
 use std::alloc::{AllocError, Global};
@@ -120,6 +123,53 @@ fn first_wrong(
         }
     }
     Ok(None)
+}
+
+/// Whether the game is over.
+fn is_over(game: &PlainGame) -> bool
+    ensures { result ≡ rules.is_over (position game.now.course) }
+{
+    match game.state() {
+        State::NotStarted | State::InProgress => false,
+        State::Draw | State::WhiteWins | State::BlackWins => true,
+    }
+}
+
+/// What a searcher finds the best move to be worth, and what it answers in the widest window; none where the game cannot go on.
+fn by_searcher(
+    alloc: Global,
+    game: &mut PlainGame,
+    depth: u32,
+) -> Result<Option<(i32, i32)>, AllocError>
+    requires some { 1 ≤ depth }
+    requires few { depth ≤ 3 }
+{
+    if game.plies() > 100 || is_over(game) {
+        return Ok(None);
+    }
+    game.reserve(depth)?;
+    let mut searcher = Searcher::prepare(alloc, 65536, 3)?;
+    let best = searcher.best_at(game, depth);
+    let widest = Window {
+        alpha: -1_000_100,
+        beta: 1_000_100,
+    };
+    Ok(Some((best.value, searcher.value_in(game, depth, widest))))
+}
+
+#[test]
+fn searcher_beside_minimax(rt: HostRuntime) -> Result<(), Fail> {
+    for (text, depth) in [(POSITIONS[3].0, 3), (POSITIONS[4].0, 2)] {
+        let mut game = game_of(rt.alloc(), text)?.ok_or(text)?;
+        let value = worth(rt.alloc(), &mut game, depth)?.ok_or(text)?;
+        assert_eq!(rt;
+            by_searcher(rt.alloc(), &mut game, depth)?,
+            Some((value, value))
+        );
+    }
+    let mut over = game_of(rt.alloc(), POSITIONS[6].0)?.ok_or("a draw")?;
+    assert_eq!(rt; by_searcher(rt.alloc(), &mut over, 1)?, None);
+    Ok(())
 }
 
 #[test]
