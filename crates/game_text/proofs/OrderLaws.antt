@@ -14,7 +14,7 @@ use Rattle.move_text.proofs.MoveLaws.{denotes_of, of_denotes}
 use Rattle.rule_laws.proofs.Games.{listed_keep}
 use Rattle.game_text.specs.declared.faults.GameFault.{GameFault}
 use Rattle.game_text.specs.Reading.{prefixed, if_legal, on_move, moves_of}
-use Rattle.game_text.proofs.ListedLaws.{listed_on, on_listed}
+use Rattle.hive_model.proofs.ListedLaws.{listed_on, on_listed}
 
 -- the texts denote the moves, and each is legal
 pub record Reads (p : Position) (xs : List (List ℕ)) (ms : List Move) : Type 0 where

@@ -18,7 +18,7 @@ use Rattle.rule_laws.proofs.Games.{games_sound, games_count}
 use Rattle.game_text.specs.declared.faults.GameFault.{GameFault}
 use Rattle.game_text.specs.declared.faults.GameFault.TheVariants.{Malformed, TooLong, BadMove, IllegalMove, OtherState, OtherTurn, Memory}
 use Rattle.game_text.specs.Reading.{prefixed, if_legal, on_move, moves_of, Fails, Plays, IsMoveFault}
-use Rattle.game_text.proofs.ListedLaws.{on_listed}
+use Rattle.hive_model.proofs.ListedLaws.{on_listed}
 
 -- One move
 

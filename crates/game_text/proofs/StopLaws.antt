@@ -17,7 +17,7 @@ use Rattle.rule_laws.proofs.Games.{listed_keep}
 use Rattle.game_text.specs.declared.faults.GameFault.{GameFault}
 use Rattle.game_text.specs.declared.faults.GameFault.TheVariants.{Malformed, TooLong, BadMove, IllegalMove, OtherState, OtherTurn, Memory}
 use Rattle.game_text.specs.Reading.{prefixed, if_legal, on_move, moves_of}
-use Rattle.game_text.proofs.ListedLaws.{listed_on, on_listed}
+use Rattle.hive_model.proofs.ListedLaws.{listed_on, on_listed}
 
 -- the moves before this text are legal and denoted by the texts in front of it
 pub record StopsAt (p : Position) (xs : List (List ℕ)) (n k : ℕ) (text : List ℕ) (ms : List Move) : Type 0 where

@@ -1,9 +1,10 @@
 -- What the value of a position depends on, in one record that can be compared.
-use Rattle.std.specs.Prelude.{ℕ, min, List, map, Option}
+use Rattle.std.specs.Prelude.{◌≡◌, ℕ, min, List, map, Option, None, Some, slice_index_or}
 use Rattle.hive_model.specs.declared.pieces.Colour.{Colour}
 use Rattle.hive_model.specs.declared.pieces.GameType.{GameType}
 use Rattle.hive_model.specs.declared.places.Spot.{Spot}
 use Rattle.hive_model.specs.Pieces.{all_pieces}
+use Rattle.hive_model.specs.Places.{IsWithin}
 use Rattle.hive_model.specs.Boards.{Stacks, spot_of}
 use Rattle.hive_model.specs.Positions.{Position}
 
@@ -22,3 +23,11 @@ key_of t b side turn rest = record { spots = map (spot_of b) all_pieces; game_ty
 -- a position's key
 abbrev pub key : Position → KeyParts
 key p = key_of p.game_type p.board p.side p.turn p.rest
+
+-- the spot of a piece, if it is in play
+abbrev pub spot_in : KeyParts → ℕ → Option Spot
+spot_in k x = slice_index_or k.spots x None
+
+-- the piece of each spot stands in the plane, no coordinate larger in size than 9,000
+abbrev pub IsInPlane : List (Option Spot) → Type 0
+IsInPlane spots = (x : ℕ) (s : Spot) → slice_index_or spots x None ≡ Some s → IsWithin 9000 s.place

@@ -20,6 +20,7 @@ use Rattle.hive_model.specs.Positions.{Position}
 use Rattle.hive_model.specs.Placement.{IsInHand, IsLeastInHand, MayPlace, Placement, is_in_hand, is_least_in_hand, next_of, may_place, is_placement}
 use Rattle.hive_model.specs.Pieces.{kind_of, colour_of}
 use Rattle.hive_model.specs.Throws.{IsThrower, ThrowOver, Throw, is_thrower, throws_over, is_throw}
+use Rattle.hive_model.specs.Courses.{is_listed}
 use Rattle.hive_model.specs.Legal.{IsSurrounded, IsOver, Walk, LegalPair, IsLegal, is_surrounded, is_over, is_walk, is_legal_pair, move_cmp, moves}
 
 -- Neighbours and the hive
@@ -154,6 +155,10 @@ OverHasNoMoves = (p : Position) → (moves p ≡ []) ↔ IsOver p
 -- each move on it is of one of the 28 pieces
 abbrev pub MovesHavePieces : Type 0
 MovesHavePieces = (p : Position) (x : ℕ) (q : Place) → IsOn (moves p) (To x q) → x < 28
+
+-- a move is tested to be on the list exactly where it stands there
+abbrev pub ListedMovesAreTested : Type 0
+ListedMovesAreTested = (p : Position) (m : Move) → IsTrue (is_listed p m) ↔ IsOn (moves p) m
 
 -- Boards
 

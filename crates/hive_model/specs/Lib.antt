@@ -3,6 +3,7 @@ pub mod Pieces
 pub mod Places
 pub mod Boards
 pub mod Spots
+pub mod Spread
 pub mod Hive
 pub mod Steps
 pub mod Near
@@ -21,6 +22,7 @@ pub mod Stack
 pub mod Courses
 pub mod Evaluation
 pub mod Keys
+pub mod SameKeys
 pub mod Minimax
 pub mod Costs
 pub mod Laws

@@ -1,5 +1,5 @@
 -- The lines of a byte stream, as one list for the whole stream: nothing here knows in which pieces the bytes come.
-use Rattle.std.specs.Prelude.{ℕ, ◌-◌, ◌==◌, nat_lt, if◌then◌else◌, List, [], ◌∷◌, length, map, take, slice_index}
+use Rattle.std.specs.Prelude.{◌≡◌, ℕ, ◌-◌, ◌==◌, nat_lt, if◌then◌else◌, List, [], ◌∷◌, length, map, take, slice_index, Option, Some, None}
 use Rattle.hive_model.specs.Lists.{onto}
 
 -- a line is its text, or the mark that it is too long
@@ -37,3 +37,19 @@ lines bytes = map line_of (line_parts bytes)
 -- its lines that end in LF
 unfoldable pub whole_lines : List ℕ → List Line
 whole_lines bytes = map line_of (whole_parts bytes)
+
+-- Lines to come
+
+-- lines where they are told, and none where they are not
+abbrev pub ToldLines : Type 0
+ToldLines = Option (List Line)
+
+-- no line is to come, where that is told
+abbrev pub NoneAhead : ToldLines → Type 0
+NoneAhead None = Unit {0}
+NoneAhead (Some left) = left ≡ []
+
+-- the next line to come is too long, where that is told
+abbrev pub LongAhead : ToldLines → Type 0
+LongAhead None = Unit {0}
+LongAhead (Some left) = (more : List Line) × (left ≡ TooLong ∷ more)

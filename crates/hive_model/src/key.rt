@@ -1,7 +1,7 @@
 //! What tells positions apart whose values may differ.
 
 ghost use Rattle.std.specs.Prelude.{◌≡◌};
-ghost use Rattle.hive_model.specs.Keys.{key_of};
+ghost use Rattle.hive_model.specs.Keys.{key_of, spot_in};
 
 use crate::boards::Board;
 use crate::pieces::{Colour, GameType, Piece};
@@ -20,9 +20,11 @@ pub struct Key {
 }
 
 impl Model for Key {
-    ghost use Rattle.hive_model.specs.Keys.{KeyParts};
+    ghost use Rattle.hive_model.specs.Keys.{KeyParts, IsInPlane};
 
     ghost Value = { KeyParts };
+
+    ghost invariant = { λ k. IsInPlane k.spots };
 
     ghost view = { λ k. record { spots = k.spots; game_type = k.game_type; side = k.side; turn = k.turn; rest = k.rest } };
 
@@ -51,5 +53,40 @@ impl Key {
             turn: turn.min(5) as u8,
             rest,
         }
+    }
+
+    /// Where the piece stands, and at which level, if it is in play.
+    pub fn spot(&self, piece: Piece) -> Option<Spot>
+        ensures { result ≡ spot_in self.now piece }
+    {
+        self.spots[piece.index() as usize]
+    }
+
+    /// The game type.
+    pub fn game_type(&self) -> GameType
+        ensures { result ≡ self.now.game_type }
+    {
+        self.game_type
+    }
+
+    /// The side to move.
+    pub fn side(&self) -> Colour
+        ensures { result ≡ self.now.side }
+    {
+        self.side
+    }
+
+    /// The number of the turn, capped at 5.
+    pub fn turn(&self) -> u32
+        ensures { result ≡ self.now.turn }
+    {
+        u32::from(self.turn)
+    }
+
+    /// The resting piece, if there is one.
+    pub fn rest(&self) -> Option<Piece>
+        ensures { result ≡ self.now.rest }
+    {
+        self.rest
     }
 }

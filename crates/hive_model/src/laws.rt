@@ -5,7 +5,8 @@
 
 ghost use Rattle.hive_model.specs.Laws.{NeighboursAreTested, OneHiveIsTested, SeparatingIsTested, CutIsTested, GroundStepIsTested, ClimbingStepIsTested, FreeStepIsTested, ReachIsTested, CopiesAreTested, MovesAsIsTested};
 ghost use Rattle.hive_model.specs.Laws.{InHandIsTested, LeastInHandIsTested, NextIsLeast, NextMayBeNone, MayPlaceIsTested, PlacementIsTested, ThrowerIsTested, ThrowOverIsTested, ThrowIsTested, WalkIsTested, SurroundedIsTested, OverIsTested};
-ghost use Rattle.hive_model.specs.Laws.{LegalPairIsTested, LegalPairIsNear, MovesAreLegal, MovesRise, PassIsAlone, OverHasNoMoves, MovesHavePieces, PutKeepsBoards, LiftKeepsBoards, FloodsFindWays, PlacesAreSettled, MovesAreSettled};
+ghost use Rattle.hive_model.specs.Laws.{LegalPairIsTested, LegalPairIsNear, MovesAreLegal, MovesRise, PassIsAlone, OverHasNoMoves, MovesHavePieces, PutKeepsBoards, LiftKeepsBoards, FloodsFindWays, PlacesAreSettled, MovesAreSettled, ListedMovesAreTested};
+ghost use Rattle.hive_model.specs.SameKeys.{KeysAreCompared};
 
 /// The tests of neighbours, of one hive, and of the places that hold it together: a separating place, without whose pieces the
 /// board is not one hive, and a cut place, which is one of height 1.
@@ -95,4 +96,14 @@ pub fn floods_find_ways()
 pub fn members_settle_lists()
     ensures places { PlacesAreSettled }
     ensures moves { MovesAreSettled }
+{}
+
+/// The test that finds a move on the list of legal moves.
+pub fn listed_moves_are_tested()
+    ensures { ListedMovesAreTested }
+{}
+
+/// `==` answers whether two keys are equal in all that contracts see of them.
+pub fn keys_are_compared()
+    ensures { KeysAreCompared }
 {}

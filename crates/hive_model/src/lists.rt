@@ -82,6 +82,15 @@ impl LineText {
         Ok(())
     }
 
+    /// Appends all of these bytes, or after want of memory none.
+    pub fn push_all(&mut self, items: &[u8]) -> Result<(), AllocError>
+        ensures pushed { OnOk result (self.new ≡ self.old ++ items.now) }
+        ensures refused { OnErr result (self.new ≡ self.old) }
+    {
+        self.kept.extend_from_slice(items)?;
+        Ok(())
+    }
+
     /// The items in order.
     pub fn items(&self) -> &[u8]
         ensures { result.now ≡ self.now }

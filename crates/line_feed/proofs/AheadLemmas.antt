@@ -7,7 +7,8 @@ use Rattle.std.proofs.lemmas.Bool.{cases_lt}
 use Rattle.io_edge.specs.Outside.{Told, in_front, IsAtEnd}
 use Rattle.hive_model.specs.Lines.{Line as OneLine, Text, TooLong as LongLine, line_parts, lines, whole_parts, whole_lines}
 use Rattle.line_feed.specs.Feed.{Reading, fresh, pending, SplitsOff, IsLastLine, Gives, Holds, Ends, Feeds, Takes, lf_after, input_limit}
-use Rattle.line_feed.specs.Ahead.{ToldLines, ahead_of, whole_ahead_of, lines_left, whole_left, NoneAhead, LongAhead, Advances}
+use Rattle.hive_model.specs.Lines.{ToldLines, NoneAhead, LongAhead}
+use Rattle.line_feed.specs.Ahead.{ahead_of, whole_ahead_of, lines_left, whole_left, Advances}
 use Rattle.line_feed.specs.declared.answers.LineAnswer.{LineAnswer}
 use Rattle.line_feed.specs.declared.answers.LineAnswer.TheVariants.{Line, TooLong, End, Failed, Full}
 use Rattle.line_feed.proofs.PartLemmas.{text_fits, long_passes, lines_long}

@@ -3,14 +3,10 @@ use Rattle.std.specs.Prelude.{◌≡◌, ℕ, List, [], ◌∷◌, ◌++◌, if�
 use Rattle.std.specs.Option.{option_map}
 use Rattle.std.specs.declared.option.Option.{Option}
 use Rattle.io_edge.specs.Outside.{Told}
-use Rattle.hive_model.specs.Lines.{Line as OneLine, Text, TooLong as LongLine, lines, whole_lines}
+use Rattle.hive_model.specs.Lines.{Line as OneLine, Text, TooLong as LongLine, lines, whole_lines, ToldLines, NoneAhead}
 use Rattle.line_feed.specs.Feed.{Reading, pending}
 use Rattle.line_feed.specs.declared.answers.LineAnswer.{LineAnswer}
 use Rattle.line_feed.specs.declared.answers.LineAnswer.TheVariants.{Line, TooLong, End, Failed, Full}
-
--- lines where they are told, and none where they are not
-abbrev pub ToldLines : Type 0
-ToldLines = Option (List OneLine)
 
 -- the lines that a reader still gives where just these bytes come: none once it has met the end
 abbrev pub lines_left : Reading → List ℕ → List OneLine
@@ -27,16 +23,6 @@ ahead_of r rest = option_map (lines_left r) rest
 -- the lines to come that end in LF
 unfoldable pub whole_ahead_of : Reading → Told → ToldLines
 whole_ahead_of r rest = option_map (whole_left r) rest
-
--- no line is to come, where that is told
-abbrev pub NoneAhead : ToldLines → Type 0
-NoneAhead None = Unit {0}
-NoneAhead (Some left) = left ≡ []
-
--- the next line to come is too long, where that is told
-abbrev pub LongAhead : ToldLines → Type 0
-LongAhead None = Unit {0}
-LongAhead (Some left) = (more : List OneLine) × (left ≡ LongLine ∷ more)
 
 -- what an answer does to the lines to come: a line that is given or passed over was the first of them,
 -- at the end there is none, and a failure or a full reader leaves them

@@ -16,7 +16,8 @@ use Rattle.hive_model.specs.Games.{replay}
 use Rattle.hive_model.proofs.BoardLemmas.{spot_within}
 use Rattle.hive_model.proofs.CountLaws.{listed}
 use Rattle.plain_game.specs.Replayed.{CanMake, WasMade, IsReplayed, AreSeparating}
-use Rattle.plain_game.proofs.BackLaws.{put_on_top, lift_put, without_board, without_gone, without_spot, without_none, put_back}
+use Rattle.hive_model.proofs.BackLaws.{put_on_top, lift_put}
+use Rattle.plain_game.proofs.BackLaws.{without_board, without_gone, without_spot, without_none, put_back}
 use Rattle.plain_game.proofs.PlyLaws.{was_made, taken_back}
 
 -- the piece of a move that can be made is off the board once it was taken

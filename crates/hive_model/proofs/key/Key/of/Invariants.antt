@@ -1,5 +1,5 @@
-use Rattle.std.proofs.Common.{◌≡◌, length, take, map}
-use Rattle.hive_model.specs.Boards.{spot_of}
+use Rattle.std.proofs.Common.{◌≡◌, ◌<◌, length, take, map}
+use Rattle.hive_model.specs.Boards.{spot_of, IsBoard}
 use Rattle.hive_model.specs.Lists.{count_from}
 use Rattle.hive_model.proofs.key.Key.of.Given as goal
 
@@ -7,4 +7,5 @@ abbrev pub invariant-loop-index : goal.invariant-loop-index
 invariant-loop-index g l = record {
   many : length l.spots ≡ 28;
   filled : take l.index l.spots ≡ map (spot_of (g.B.Board.stacks l.board)) (count_from 0 l.index);
+  board : 0 < l.index → IsBoard (g.B.Board.stacks l.board);
 }
