@@ -1,0 +1,3 @@
+pub mod QueenLaws
+pub mod CountLaws
+pub mod StateLaws
