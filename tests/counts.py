@@ -1,18 +1,25 @@
 #!/usr/bin/env python3
 """Counts the games of so many plies through the built program, by its answers to a viewer and by its command `count`, and compares
-the counts with those that other engines give.
+the counts with those of docs/PROTOCOL.md.
 
 Usage: counts.py PROGRAM. Ends with status 0 where all counts are the same.
 """
+import pathlib
+import re
 import subprocess
 import sys
 
 from viewer import Engine, expect
 
-COUNTS = {
-    "Base": [4, 96, 1440, 21600, 516240],
-    "Base+MLP": [7, 294, 6678, 151686],
-}
+PROTOCOL = pathlib.Path(__file__).resolve().parent.parent / "docs" / "PROTOCOL.md"
+
+
+def documented():
+    """The counts of each game type, from 1 ply on, that docs/PROTOCOL.md gives."""
+    rows = re.findall(r"^\| `(Base\S*)` \|([0-9, |]+)\|$", PROTOCOL.read_text(encoding="utf-8"), re.MULTILINE)
+    counts = {name: [int(number.replace(",", "")) for number in row.split("|")] for name, row in rows}
+    expect("game types in PROTOCOL.md", len(counts), 8)
+    return counts
 
 
 def count(engine, plies):
@@ -38,14 +45,15 @@ def command(program, game_type, plies):
 
 
 if __name__ == "__main__":
+    counts = documented()
+    for game_type, wanted in counts.items():
+        lines = "".join(f"{plies} {number}\n" for plies, number in enumerate(wanted, 1))
+        expect(f"count of {game_type}", command(sys.argv[1], game_type, len(wanted)), lines)
     engine = Engine(sys.argv[1])
     engine.reply()
-    for game_type, counts in COUNTS.items():
+    for game_type in ["Base", "Base+MLP"]:
         engine.ask("newgame " + game_type)
-        for plies, wanted in enumerate(counts, 1):
+        for plies, wanted in enumerate(counts[game_type][:4], 1):
             expect(f"games of {plies} plies of {game_type}", count(engine, plies), wanted)
     expect("status", engine.end(), 0)
-    for game_type, counts in COUNTS.items():
-        wanted = "".join(f"{plies} {number}\n" for plies, number in enumerate(counts, 1))
-        expect(f"count of {game_type}", command(sys.argv[1], game_type, len(counts)), wanted)
     print("counts: all are as expected")
