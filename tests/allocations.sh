@@ -1,0 +1,14 @@
+#!/usr/bin/env bash
+# Refuses each request for memory of a few runs of the built program in turn.
+set -eu
+top=$(cd "$(dirname "$0")/.." && pwd)
+compiler=$(command -v cc || command -v gcc || command -v clang || true)
+if [ -z "$compiler" ]; then
+    echo "allocations: skipped, as this machine has no C compiler"
+    exit 0
+fi
+folder=$(mktemp -d)
+trap 'rm -rf "$folder"' EXIT
+"$compiler" -O1 -shared -fPIC -o "$folder/refusing_malloc.so" "$top/tests/refusing_malloc.c" -ldl
+"$top/hive" uhp </dev/null >/dev/null
+timeout 600 python3 "$top/tests/allocations.py" "$top/crates/hive/out/hive" "$folder/refusing_malloc.so"
