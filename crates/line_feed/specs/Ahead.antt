@@ -1,7 +1,6 @@
 -- The lines to come, as a function of a reader and of the bytes that its source tells.
-use Rattle.std.specs.Prelude.{◌≡◌, ℕ, List, [], ◌∷◌, ◌++◌, if◌then◌else◌, None, Some}
+use Rattle.std.specs.Prelude.{◌≡◌, ℕ, List, [], ◌∷◌, ◌++◌, if◌then◌else◌}
 use Rattle.std.specs.Option.{option_map}
-use Rattle.std.specs.declared.option.Option.{Option}
 use Rattle.io_edge.specs.Outside.{Told}
 use Rattle.hive_model.specs.Lines.{Line as OneLine, Text, TooLong as LongLine, lines, whole_lines, ToldLines, NoneAhead}
 use Rattle.line_feed.specs.Feed.{Reading, pending}
