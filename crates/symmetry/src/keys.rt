@@ -10,9 +10,10 @@ use crate::symmetry::Symmetry;
 use hive_model::{Key, Piece, Place, Spot};
 
 /// The shift by which the position of one key is alike to that of another by this symmetry, if they
-/// are alike. It is the only one.
+/// are alike. It is the only one. No coordinate of it is larger in size than 40,000.
 pub fn alike(from: &Key, to: &Key, symmetry: Symmetry) -> Option<Place>
-    ensures { IsShift result from.now to.now symmetry }
+    ensures shift { IsShift result from.now to.now symmetry }
+    ensures within { IfSome result (λ t. IsWithin 40000 t) }
 {
     if !has_same_turn(from, to) {
         return None;
