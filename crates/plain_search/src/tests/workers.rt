@@ -1,0 +1,234 @@
+//! Workers at a root where one move wins.
+
+ghost use Rattle.std.specs.Prelude.{◌≡◌, ◌≤◌, length, IfOk};
+ghost use Rattle.std.specs.List.{All};
+ghost use Rattle.hive_model.specs.Courses.{position};
+ghost use Rattle.hive_model.specs.Games.{IsGame};
+ghost use Rattle.hive_model.specs.Legal as rules;
+ghost use Rattle.root_share.specs.Answer.{IsGameOf};
+
+use deepening::Searcher;
+use game_text::{Parsed, played, read_game};
+use hive_model::{Best, Game, Move, MoveStack, Piece, Place, State};
+use plain_game::PlainGame;
+use root_share::{FreeGate, Gate, Worker, best_shared};
+use std::alloc::{AllocError, Global};
+use std::sync::atomic::{AtomicBool, Ordering};
+use std::test::Fail;
+use std::thread::Threads;
+
+/// A game that white wins by one move.
+const ONE_MOVE_WINS: &str = "Base;InProgress;White[7];wS1;bS1 wS1-;wQ /wS1;bQ bS1-;wQ /bS1;bQ wQ-;wG1 -wS1;bG1 bS1-;wB1 /wQ;bB1 bQ-;wA1 -wB1;bA1 /bB1";
+
+/// How often a worker that waits for another looks at its flag.
+const LOOKS: u32 = 1_000_000_000;
+
+/// The move that wins: the first white ant goes to the right of the first white beetle.
+fn wins() -> Move {
+    Move::To {
+        piece: Piece::at(8),
+        place: Place { q: 0, r: 2 },
+    }
+}
+
+/// Before its first child each of two workers tells that it is here, and then looks whether the other is.
+#[derive(Drop)]
+struct Meeting {
+    here: [AtomicBool; 2],
+    saw: [AtomicBool; 2],
+}
+
+impl Gate for Meeting {
+    fn before_child(&self, worker: u32, child: u32) {
+        if child >= 2 || worker >= 2 {
+            return;
+        }
+        self.here[worker as usize].store(true, Ordering::SeqCst);
+        for _ in 0..LOOKS {
+            if self.here[1 - worker as usize].load(Ordering::SeqCst) {
+                self.saw[worker as usize].store(true, Ordering::SeqCst);
+                return;
+            }
+        }
+    }
+}
+
+/// Holds one of two workers before its first child until the other has come to its last one.
+#[derive(Drop)]
+struct Holding {
+    held: u32,
+    last: u32,
+    came: AtomicBool,
+    gave_up: AtomicBool,
+}
+
+impl Gate for Holding {
+    fn before_child(&self, worker: u32, child: u32) {
+        if worker != self.held {
+            if child == self.last {
+                self.came.store(true, Ordering::SeqCst);
+            }
+            return;
+        }
+        if child != self.held {
+            return;
+        }
+        for _ in 0..LOOKS {
+            if self.came.load(Ordering::SeqCst) {
+                return;
+            }
+        }
+        self.gave_up.store(true, Ordering::SeqCst);
+    }
+}
+
+/// So many workers, each with a game of these moves and a searcher for this depth.
+fn workers_in(
+    alloc: Global,
+    parsed: &Parsed,
+    count: u32,
+    depth: u32,
+) -> Result<Vec<Worker<PlainGame>>, AllocError>
+    requires game { IsGame parsed.now.game_type parsed.now.moves }
+    requires short { length parsed.now.moves ≤ 5000 }
+    requires some { 1 ≤ depth }
+    requires few { depth ≤ 3 }
+    ensures count { IfOk result (λ ws. length ws.items ≡ count) }
+    ensures games {
+        IfOk result (λ ws. All (λ w. IsGameOf parsed.now.game_type parsed.now.moves depth w.game.course)
+            ws.items)
+    }
+    ensures searchers { IfOk result (λ ws. All (λ w. depth ≤ w.searcher) ws.items) }
+{
+    let mut workers = Vec::new(alloc);
+    for _made in 0..count {
+        let game = played(alloc, parsed.game_type, parsed.moves.items(), depth)?;
+        let searcher = Searcher::prepare(alloc, 1, depth)?;
+        workers.push(Worker { game, searcher })?;
+    }
+    Ok(workers)
+}
+
+/// Whether the game is over.
+fn is_over(game: &PlainGame) -> bool
+    ensures { result ≡ rules.is_over (position game.now.course) }
+{
+    match game.state() {
+        State::NotStarted | State::InProgress => false,
+        State::Draw | State::WhiteWins | State::BlackWins => true,
+    }
+}
+
+/// What so many workers find where one move wins, and the workers afterwards.
+fn found_by<R: Threads + Sync, T: Gate + Sync>(
+    rt: &R,
+    alloc: Global,
+    count: u32,
+    depth: u32,
+    gate: &T,
+) -> Result<Option<(Best, Vec<Worker<PlainGame>>)>, AllocError> {
+    let Ok(parsed) = read_game::<PlainGame>(alloc, ONE_MOVE_WINS.as_bytes()) else {
+        return Ok(None);
+    };
+    if parsed.moves.items().len() > 5000 || depth < 1 || depth > 3 || count < 1 || count > 16 {
+        return Ok(None);
+    }
+    let mut workers = workers_in(alloc, &parsed, count, depth)?;
+    if is_over(&workers[0].game) {
+        return Ok(None);
+    }
+    let best = best_shared(rt, alloc, &mut workers, depth, gate)?;
+    Ok(Some((best, workers)))
+}
+
+/// The plays of one of two workers where one of them is held; none where the hold did not end in time.
+fn plays_beside<R: Threads + Sync>(
+    rt: &R,
+    alloc: Global,
+    count: u32,
+    held: u32,
+    of: usize,
+) -> Result<Option<u64>, AllocError>
+    requires { 2 ≤ count }
+{
+    let gate = Holding {
+        held,
+        last: if (count - 1) % 2 == held {
+            count - 2
+        } else {
+            count - 1
+        },
+        came: AtomicBool::new(false),
+        gave_up: AtomicBool::new(false),
+    };
+    let Some((_, workers)) = found_by(rt, alloc, 2, 2, &gate)? else {
+        return Ok(None);
+    };
+    if gate.gave_up.load(Ordering::SeqCst) {
+        return Ok(None);
+    }
+    let Some(worker) = workers.get(of) else {
+        return Ok(None);
+    };
+    Ok(Some(worker.game.played()))
+}
+
+/// The number of legal moves where one move wins, and the place of that move among them.
+fn place_of_the_win(alloc: Global) -> Result<Option<(u32, u32)>, AllocError> {
+    let Ok(parsed) = read_game::<PlainGame>(alloc, ONE_MOVE_WINS.as_bytes()) else {
+        return Ok(None);
+    };
+    if parsed.moves.items().len() > 5000 {
+        return Ok(None);
+    }
+    let mut game = played(alloc, parsed.game_type, parsed.moves.items(), 0)?;
+    let mut root = MoveStack::new(alloc, 1)?;
+    game.list(&mut root);
+    let count = root.level_len(0);
+    for place in 0..count {
+        if root.get(0, place) == wins() {
+            return Ok(Some((count, place)));
+        }
+    }
+    Ok(None)
+}
+
+#[test]
+fn workers_find_the_win(rt: HostRuntime) -> Result<(), Fail> {
+    for count in [1, 2, 16] {
+        for (depth, value) in [(1, 1_000_000), (2, 1_000_001)] {
+            let (found, _) = found_by(&rt, rt.alloc(), count, depth, &FreeGate)?.ok_or("the root")?;
+            let best = wins();
+            assert_eq!(rt;
+                found,
+                Best { best, value },
+                "{count} workers at depth {depth}"
+            );
+        }
+    }
+    Ok(())
+}
+
+#[test]
+fn workers_meet(rt: HostRuntime) -> Result<(), Fail> {
+    let gate = Meeting {
+        here: [AtomicBool::new(false), AtomicBool::new(false)],
+        saw: [AtomicBool::new(false), AtomicBool::new(false)],
+    };
+    found_by(&rt, rt.alloc(), 2, 1, &gate)?.ok_or("the root")?;
+    assert!(rt; gate.saw[0].load(Ordering::SeqCst));
+    assert!(rt; gate.saw[1].load(Ordering::SeqCst));
+    Ok(())
+}
+
+#[test]
+fn a_worker_plays_less_after_the_best(rt: HostRuntime) -> Result<(), Fail> {
+    let (count, place) = place_of_the_win(rt.alloc())?.ok_or("the move that wins")?;
+    assert!(rt; count >= 2);
+    let with_best = place % 2;
+    let other = 1 - with_best;
+    let after = plays_beside(&rt, rt.alloc(), count, other, other as usize)?.ok_or("held")?;
+    let before = plays_beside(&rt, rt.alloc(), count, with_best, other as usize)?.ok_or("held")?;
+    assert!(rt; after < before, "{after} plays and {before}");
+    Ok(())
+}
