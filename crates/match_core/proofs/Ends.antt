@@ -22,7 +22,8 @@ use Rattle.match_core.specs.Texts.{read_of}
 use Rattle.match_core.specs.Standing.{Standing, Happening, start, match_after, next, after_all, act_at, answers, position_of}
 use Rattle.match_core.specs.Fairness.{Answering, Reply, nothing_heard, heard, first_of, Accepts, MovesOn, MatchesAreFair}
 use Rattle.match_core.specs.Plays.{left, IsBounded, IsPliesAt, given, reply_to, left_of_white, left_of_black, is_finished, has_verdict, happens, match_of, MatchesEnd, MatchesAreJudged}
-use Rattle.match_core.proofs.Fair.{fair, reads, Reading, ReadsOn, IsRead}
+use Rattle.match_core.proofs.Fair.{reads, Reading, ReadsOn, IsRead}
+use Rattle.match_core.proofs.Tells.{fair}
 use Rattle.match_core.proofs.Falls.{matches_near_their_end}
 use Rattle.match_core.proofs.Follows.{open_at, finished_at, happens_none, happens_more, bounded_start}
 

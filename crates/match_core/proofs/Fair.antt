@@ -1,4 +1,4 @@
--- Every course is fair: what holds at each place of it.
+-- Every match is fair: what holds at each place of it.
 use Rattle.std.proofs.Common.{◌≡◌, ◌⊎◌, inl, inr, ℕ, ◌+◌, Bool, true, false, cond, List, [], ◌∷◌, ◌++◌, length, refl, ap, sym, ◌∙◌, append_assoc, None, Some, IsTrue, unwrap_or, subst, Result, Ok, Err}
 use Rattle.std.specs.declared.option.Option.{Option}
 use Rattle.std.proofs.lemmas.List.{append-nil}
@@ -27,7 +27,7 @@ use Rattle.match_core.specs.declared.answers.Verdict.TheVariants.{Rules, Limit, 
 use Rattle.match_core.specs.Replies.{is_ok, is_error}
 use Rattle.match_core.specs.Texts.{read_of}
 use Rattle.match_core.specs.Standing.{Standing, Happening, Sent, Line, TooLong, Ended, Broke, Reading as ClockReading, start, match_after, next, after_all, act_at, answers, position_of, go, finish, ask, judge, judge_read, decide, accept, first_line, at_stage, is_late, keep, reply_ends, hear, question, forfeit, answered}
-use Rattle.match_core.specs.Fairness.{Answering, told_at, told, WasTold, Reply, Heard, nothing_heard, heard_at, heard, first_of, IsFair}
+use Rattle.match_core.specs.Fairness.{Answering, told_at, told, WasTold, Reply, Heard, nothing_heard, heard_at, heard, first_of}
 
 -- a move is accepted: it is legal, and is read from the first line of the last whole reply, which the side to move gave
 pub record IsRead (s : Standing) (reply : Reply) (m : Move) : Type 0 where
@@ -107,7 +107,7 @@ told_half {m} h = (inl h.white, inr (h.before, m, h.made, h.black))
 told_fresh : {m : Move} {moves tw tb : List Move} → Fresh m moves tw tb → WasTold tw moves × WasTold tb moves
 told_fresh {m} h = (inr (h.before, m, h.made, h.white), inr (h.before, m, h.made, h.black))
 
-told_some : (stage : Stage) (moves tw tb : List Move) → ToldAt stage moves tw tb → WasTold tw moves × WasTold tb moves
+pub told_some : (stage : Stage) (moves tw tb : List Move) → ToldAt stage moves tw tb → WasTold tw moves × WasTold tb moves
 told_some (Send Greet side) moves tw tb t = told_both t
 told_some (Send Begin side) moves tw tb t = told_both t
 told_some (Send Ask side) moves tw tb t = told_both t
@@ -285,7 +285,7 @@ pub record All (s t : Standing) (k : Heard) (tw tb : List Move) : Type 0 where
   pub good : Good t k tw tb
   pub same : t.setup ≡ s.setup
 
-goes : (hs : List Happening) (s : Standing) (k : Heard) (tw tb : List Move) → Good s k tw tb → Answering s hs → All s (after_all s hs) (heard s k hs) (tw ++ told s hs White) (tb ++ told s hs Black)
+pub goes : (hs : List Happening) (s : Standing) (k : Heard) (tw tb : List Move) → Good s k tw tb → Answering s hs → All s (after_all s hs) (heard s k hs) (tw ++ told s hs White) (tb ++ told s hs Black)
 goes [] s k tw tb g a = record { good = rw (append-nil tw, append-nil tb) g; same = refl }
 goes (h ∷ hs) s k tw tb g (w, a) =
     let st = steps s k tw tb h g w in
@@ -294,7 +294,7 @@ goes (h ∷ hs) s k tw tb g (w, a) =
     let f : (tb ++ told_at s.stage h Black) ++ told (next s h) hs Black ≡ tb ++ told s (h ∷ hs) Black = append_assoc tb (told_at s.stage h Black) (told (next s h) hs Black) in
     record { good = rw (← e, ← f) r.good; same = r.same ∙ st.same }
 
-good_start : (setup : Setup) → Good (start setup) nothing_heard [] []
+pub good_start : (setup : Setup) → Good (start setup) nothing_heard [] []
 good_start setup = record { legal = tt; told = record { white = refl; black = refl }; heard = (refl, tt) }
 
 answering_front : (hs : List Happening) (s : Standing) (h : Happening) → Answering s (hs ++ h ∷ []) → Answering s hs × IsTrue (answers (act_at (after_all s hs).stage) h)
@@ -308,13 +308,6 @@ after_all-snoc (x ∷ hs) s h = after_all-snoc hs (next s x) h
 heard-snoc : (hs : List Happening) (s : Standing) (k : Heard) (h : Happening) → heard s k (hs ++ h ∷ []) ≡ heard_at (after_all s hs).stage (heard s k hs) h
 heard-snoc [] s k h = refl
 heard-snoc (x ∷ hs) s k h = heard-snoc hs (next s x) (heard_at s.stage k x) h
-
-pub fair : (setup : Setup) (hs : List Happening) → Answering (start setup) hs → IsFair setup hs
-fair setup hs a =
-    let r = goes hs (start setup) nothing_heard [] [] (good_start setup) a in
-    let kind : (match_after setup hs).setup.game_type ≡ setup.game_type = ap (λ (x : Setup). x.game_type) r.same in
-    let some = told_some (match_after setup hs).stage (match_after setup hs).moves _ _ r.good.told in
-    record { legal = subst (λ t. AreLegal (opening t) (match_after setup hs).moves) kind r.good.legal; white = some.0; black = some.1 }
 
 -- the match before an event, and what the event comes to
 pub record Reading (setup : Setup) (hs : List Happening) (h : Happening) : Type 0 where

@@ -1,4 +1,5 @@
 pub mod Fair
+pub mod Tells
 pub mod Falls
 pub mod Follows
 pub mod Ends

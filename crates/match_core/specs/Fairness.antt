@@ -1,4 +1,4 @@
--- What holds of every course.
+-- What holds of every match: which moves are played, and who is told of them.
 use Rattle.std.specs.Prelude.{◌≡◌, ◌⊎◌, ℕ, Bool, true, false, cond, List, [], ◌∷◌, ◌++◌, Option, Some, None, IsTrue, unwrap_or, Ok}
 use Rattle.hive_model.specs.declared.pieces.Colour.{Colour}
 use Rattle.hive_model.specs.declared.pieces.Colour.TheVariants.{White, Black}
@@ -15,6 +15,7 @@ use Rattle.match_core.specs.declared.answers.Stage.{Stage}
 use Rattle.match_core.specs.declared.answers.Stage.TheVariants.{Send, Read, Before, After, Finished}
 use Rattle.match_core.specs.Replies.{is_ok}
 use Rattle.match_core.specs.Keeps.{IsSetup}
+use Rattle.match_core.specs.Texts.{tell_line}
 use Rattle.match_core.specs.Standing.{Standing, Happening, Sent, Line, TooLong, Ended, Broke, Reading, start, match_after, next, after_all, act_at, answers, line_for, position_of}
 
 -- each of these answers the act to come
@@ -22,6 +23,7 @@ abbrev pub Answering : Standing → List Happening → Type 0
 Answering s [] = Unit {0}
 Answering s (h ∷ hs) = IsTrue (answers (act_at s.stage) h) × Answering (next s h) hs
 
+-- whether a side is this one
 abbrev pub is_side : Colour → Colour → Bool
 is_side White White = true
 is_side White Black = false
@@ -67,6 +69,27 @@ abbrev pub told : Standing → List Happening → Colour → List Move
 told s [] to = []
 told s (h ∷ hs) to = told_at s.stage h to ++ told (next s h) hs to
 
+-- a line is sent that tells a move
+abbrev pub is_telling : Stage → Bool
+is_telling (Send Greet side) = false
+is_telling (Send Begin side) = false
+is_telling (Send Ask side) = false
+is_telling (Send (Tell m) side) = true
+is_telling (Read job side) = false
+is_telling Before = false
+is_telling After = false
+is_telling Finished = false
+
+-- those of the lines that were sent to a side that tell it a move
+abbrev pub telling_lines : Standing → List Happening → Colour → List (List ℕ)
+telling_lines s [] to = []
+telling_lines s (h ∷ hs) to = cond (is_telling s.stage) (sent_at s s.stage h to) [] ++ telling_lines (next s h) hs to
+
+-- the lines that tell these moves, each made in the position that those before it lead to
+abbrev pub tell_lines : Position → List Move → List (List ℕ)
+tell_lines p [] = []
+tell_lines p (m ∷ ms) = tell_line p m ∷ tell_lines (after p m) ms
+
 -- all moves were told, or all but the last
 abbrev pub WasTold : List Move → List Move → Type 0
 WasTold told moves = (told ≡ moves) ⊎ ((before : List Move) × (last : Move) × (moves ≡ before ++ last ∷ []) × (told ≡ before))
@@ -81,9 +104,11 @@ pub record Heard : Type 0 where
   pub begun : List (List ℕ)
   pub last : Reply
 
+-- before anything was heard
 abbrev pub nothing_heard : Heard
 nothing_heard = record { begun = []; last = record { side = White; lines = [] } }
 
+-- what was heard once this has happened: a line goes on the reply that is begun, and `ok` ends it
 abbrev pub heard_at : Stage → Heard → Happening → Heard
 heard_at (Read job side) k (Line bytes) =
     cond (is_ok bytes) (record { begun = []; last = record { side = side; lines = k.begun } }) (record { begun = k.begun ++ bytes ∷ []; last = k.last })
@@ -97,10 +122,12 @@ heard_at Before k h = k
 heard_at After k h = k
 heard_at Finished k h = k
 
+-- what was heard after all that happened
 abbrev pub heard : Standing → Heard → List Happening → Heard
 heard s k [] = k
 heard s k (h ∷ hs) = heard (next s h) (heard_at s.stage k h) hs
 
+-- the first line, empty where there is none
 abbrev pub first_of : List (List ℕ) → List ℕ
 first_of [] = []
 first_of (line ∷ lines) = line
@@ -115,13 +142,16 @@ pub record Accepts (s : Standing) (reply : Reply) (m : Move) : Type 0 where
 abbrev pub MovesOn : Standing → Standing → Reply → Type 0
 MovesOn s t reply = (t.moves ≡ s.moves) ⊎ ((m : Move) × (t.moves ≡ s.moves ++ m ∷ []) × Accepts s reply m)
 
--- the moves are a legal game, and each side was told all of them, or all but the last, each once and in order
+-- The moves are a legal game. Each side was told all of them, or all but the last, each once and in order, and the lines that
+-- told it a move are those of these moves.
 pub record IsFair (setup : Setup) (hs : List Happening) : Type 0 where
   pub legal : IsGame setup.game_type (match_after setup hs).moves
   pub white : WasTold (told (start setup) hs White) (match_after setup hs).moves
   pub black : WasTold (told (start setup) hs Black) (match_after setup hs).moves
+  pub white_lines : telling_lines (start setup) hs White ≡ tell_lines (opening setup.game_type) (told (start setup) hs White)
+  pub black_lines : telling_lines (start setup) hs Black ≡ tell_lines (opening setup.game_type) (told (start setup) hs Black)
 
--- the law of courses, over every list of events that answer the acts
+-- the law of fair matches, over every list of events that answer the acts
 pub record MatchesAreFair : Type 0 where
   pub fair : (setup : Setup) (hs : List Happening) → Answering (start setup) hs → IsFair setup hs
   pub read : (setup : Setup) (hs : List Happening) (h : Happening) → IsSetup setup → Answering (start setup) (hs ++ h ∷ []) →

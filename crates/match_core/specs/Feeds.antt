@@ -22,10 +22,12 @@ Gave Sent old new = ⊥
 Gave Broke old new = ⊥
 Gave (Reading at) old new = ⊥
 
+-- what is read of the side that is read, and nothing of the other
 abbrev pub GaveOr : Bool → Happening → ToldLines → ToldLines → Type 0
 GaveOr true h old new = Gave h old new
 GaveOr false h old new = new ≡ old
 
+-- what an event takes of the lines to come of a side
 abbrev pub FeedsAt : Stage → Happening → Colour → ToldLines → ToldLines → Type 0
 FeedsAt (Read job side) h to old new = GaveOr (is_side side to) h old new
 FeedsAt (Send job side) h to old new = new ≡ old
@@ -56,6 +58,7 @@ IsInTime (Read job side) s h = Unit {0}
 IsInTime Before s h = Unit {0}
 IsInTime Finished s h = Unit {0}
 
+-- no event is a fault, and no answer is late
 abbrev pub AreInTime : Standing → List Happening → Type 0
 AreInTime s [] = Unit {0}
 AreInTime s (h ∷ hs) = IsInTime s.stage s h × AreInTime (next s h) hs

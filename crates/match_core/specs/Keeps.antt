@@ -14,10 +14,12 @@ use Rattle.match_core.specs.declared.answers.Event.TheVariants.{Sent, Line, TooL
 use Rattle.match_core.specs.Texts.{most_sent}
 use Rattle.match_core.specs.Standing.{Standing, line_for}
 
+-- A depth is from 1 to 64. A time is whole seconds, at most 99 hours, 59 minutes and 59 seconds; a margin is at most an hour.
 abbrev pub IsLevel : Level → Type 0
 IsLevel (Depth depth) = (1 ≤ depth) × (depth ≤ 64)
 IsLevel (Time budget margin) = (budget % 1000 ≡ 0) × (budget ≤ 359999000) × (margin ≤ 3600000)
 
+-- a match has from 1 to 1,000 plies at most
 pub record IsSetup (setup : Setup) : Type 0 where
   pub some : 1 ≤ setup.limit
   pub few : setup.limit ≤ 1000
@@ -30,6 +32,7 @@ HasNext Begin plies limit = plies < limit
 HasNext Ask plies limit = plies < limit
 HasNext (Tell told) plies limit = plies ≤ limit
 
+-- the line to send is ready, and the game may go on
 abbrev pub FitsStage : Stage → Standing → List ℕ → Type 0
 FitsStage (Send job side) s text = (text ≡ line_for s job) × HasNext job (length s.moves) s.setup.limit
 FitsStage (Read job side) s text = (text ≡ line_for s job) × HasNext job (length s.moves) s.setup.limit
@@ -37,6 +40,7 @@ FitsStage Before s text = length s.moves < s.setup.limit
 FitsStage After s text = length s.moves < s.setup.limit
 FitsStage Finished s text = Unit {0}
 
+-- the game is the one of the moves, with room for the rest; the line to send is ready
 pub record IsReferee (s : Standing) (game : Course) (text : List ℕ) (room : ℕ) : Type 0 where
   pub kind : game.game_type ≡ s.setup.game_type
   pub same : game.made ≡ s.moves
@@ -48,6 +52,7 @@ pub record IsReferee (s : Standing) (game : Course) (text : List ℕ) (room : �
   pub fits : FitsStage s.stage s text
   pub has_room : most_sent ≤ room
 
+-- a line is to be sent
 abbrev pub IsSend : Stage → Type 0
 IsSend (Send job side) = Unit {0}
 IsSend (Read job side) = ⊥

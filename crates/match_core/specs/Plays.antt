@@ -20,6 +20,7 @@ abbrev pub has_verdict : Option Verdict → Bool
 has_verdict None = false
 has_verdict (Some verdict) = true
 
+-- the match is over
 abbrev pub is_finished : Stage → Bool
 is_finished (Send job side) = false
 is_finished (Read job side) = false
@@ -46,6 +47,7 @@ left_at (Send (Tell m) Black) d c = 8008 * d + 5005
 left_at (Read (Tell m) Black) d c = 8008 * d + 4004 - c
 left_at Finished d c = 0
 
+-- at most so many events are left
 unfoldable pub left : Standing → ℕ
 left s = left_at s.stage (s.setup.limit - length s.moves) s.count
 
@@ -55,6 +57,7 @@ given [] = Ended
 given (Text bytes ∷ marks) = Line bytes
 given (LongMark ∷ marks) = TooLong
 
+-- the lines after the next
 abbrev pub others : List Mark → List Mark
 others [] = []
 others (mark ∷ marks) = marks
@@ -77,6 +80,7 @@ left_of_white Before white = white
 left_of_white After white = white
 left_of_white Finished white = white
 
+-- the same of black
 abbrev pub left_of_black : Stage → List Mark → List Mark
 left_of_black (Send job side) black = black
 left_of_black (Read job White) black = black

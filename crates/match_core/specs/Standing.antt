@@ -1,4 +1,4 @@
--- The course of a match: a fold over what happened.
+-- How a match stands, as a fold over what has happened in it.
 use Rattle.std.specs.Prelude.{ℕ, ◌+◌, ◌-◌, Bool, true, false, cond, nat_lt, nat_le, List, [], ◌∷◌, ◌++◌, length, take, Option, Some, None, unwrap_or, Result, Ok, Err}
 use Rattle.hive_model.specs.declared.pieces.Colour.{Colour}
 use Rattle.hive_model.specs.declared.pieces.Colour.TheVariants.{White, Black}
@@ -55,6 +55,7 @@ pub record Standing : Type 0 where
   pub count : ℕ
   pub verdict : Option Verdict
 
+-- the position that the moves lead to
 abbrev pub position_of : Standing → Position
 position_of s = replay (opening s.setup.game_type) s.moves
 
@@ -85,9 +86,11 @@ line_for s (Tell told) = tell_line (position_before s) told
 abbrev pub go : Standing → Stage → Standing
 go s stage = record { setup = s.setup; moves = s.moves; stage = stage; asked = s.asked; first = None; count = 0; verdict = s.verdict }
 
+-- the match is over
 abbrev pub finish : Standing → Verdict → Standing
 finish s verdict = record { setup = s.setup; moves = s.moves; stage = Finished; asked = s.asked; first = None; count = 0; verdict = Some verdict }
 
+-- a side loses by this cause
 abbrev pub forfeit : Standing → Colour → Cause → Standing
 forfeit s side cause = finish s (Forfeit side cause)
 
@@ -96,6 +99,7 @@ abbrev pub question : Level → Colour → Stage
 question (Depth depth) side = Send Ask side
 question (Time budget margin) side = Before
 
+-- the side to move is asked
 unfoldable pub ask : Standing → Standing
 ask s = go s (question s.setup.level (position_of s).side)
 
@@ -107,6 +111,7 @@ accept s m = record { setup = s.setup; moves = s.moves ++ m ∷ []; stage = Send
 abbrev pub first_line : Standing → List ℕ
 first_line s = unwrap_or s.first []
 
+-- the side to move forfeits where its line is no move, or a move that is not legal
 abbrev pub judge_read : Standing → List ℕ → Result Move MoveFault → Standing
 judge_read s line (Err fault) = forfeit s (position_of s).side (NotAMove line)
 judge_read s line (Ok m) = cond (is_listed (position_of s) m) (accept s m) (forfeit s (position_of s).side (Illegal line))
@@ -121,6 +126,7 @@ decide s =
     cond (is_over_state (outcome s.setup.game_type s.moves)) (finish s (Rules (outcome s.setup.game_type s.moves)))
     (cond (nat_le s.setup.limit (length s.moves)) (finish s Limit) (ask s))
 
+-- a reply to a question has ended: where it has a time, the clock is read before it is judged
 abbrev pub answered : Standing → Level → Standing
 answered s (Depth depth) = judge s
 answered s (Time budget margin) = record { setup = s.setup; moves = s.moves; stage = After; asked = s.asked; first = s.first; count = s.count; verdict = s.verdict }
@@ -139,19 +145,23 @@ reply_ends s (Tell told) Black = decide s
 abbrev pub keep : Standing → Stage → List ℕ → Standing
 keep s stage line = record { setup = s.setup; moves = s.moves; stage = stage; asked = s.asked; first = Some (unwrap_or s.first line); count = s.count + 1; verdict = s.verdict }
 
+-- a line of a reply ends it, tells a fault, is the 1,001st, or is kept
 abbrev pub hear : Standing → Task → Colour → List ℕ → Standing
 hear s job side line =
     cond (is_ok line) (reply_ends s job side)
     (cond (is_error line) (forfeit s side (ErrLine line))
     (cond (nat_le 1000 s.count) (forfeit s side (Flood 1001)) (keep s (Read job side) line)))
 
+-- the last moment at which an answer is in time: the time and the margin after the question
 abbrev pub latest : Level → ℕ → ℕ
 latest (Depth depth) asked = asked
 latest (Time budget margin) asked = asked + budget + margin
 
+-- an answer is late that comes after that moment
 abbrev pub is_late : Standing → ℕ → Bool
 is_late s at = nat_lt (latest s.setup.level s.asked) at
 
+-- what came of sending a line
 abbrev pub at_send : Standing → Task → Colour → Happening → Standing
 at_send s job side Sent = go s (Read job side)
 at_send s job side Broke = forfeit s side BrokeCause
@@ -160,6 +170,7 @@ at_send s job side TooLong = s
 at_send s job side Ended = s
 at_send s job side (Reading at) = s
 
+-- what came of reading a line: one that is too long, an end and a fault are forfeits
 abbrev pub at_read : Standing → Task → Colour → Happening → Standing
 at_read s job side (Line bytes) = hear s job side bytes
 at_read s job side TooLong = forfeit s side LongLine
@@ -168,6 +179,7 @@ at_read s job side Broke = forfeit s side BrokeCause
 at_read s job side Sent = s
 at_read s job side (Reading at) = s
 
+-- the clock is read before the question
 abbrev pub at_before : Standing → Happening → Standing
 at_before s (Reading at) = record { setup = s.setup; moves = s.moves; stage = Send Ask (position_of s).side; asked = at; first = s.first; count = s.count; verdict = s.verdict }
 at_before s Sent = s
@@ -176,6 +188,7 @@ at_before s TooLong = s
 at_before s Ended = s
 at_before s Broke = s
 
+-- the clock is read after the reply
 abbrev pub at_after : Standing → Happening → Standing
 at_after s (Reading at) = cond (is_late s at) (forfeit s (position_of s).side (Late s.asked at)) (judge s)
 at_after s Sent = s
@@ -184,6 +197,7 @@ at_after s TooLong = s
 at_after s Ended = s
 at_after s Broke = s
 
+-- what happened at a place of the match
 abbrev pub at_stage : Standing → Stage → Happening → Standing
 at_stage s (Send job side) h = at_send s job side h
 at_stage s (Read job side) h = at_read s job side h
@@ -222,5 +236,6 @@ abbrev pub after_all : Standing → List Happening → Standing
 after_all s [] = s
 after_all s (h ∷ hs) = after_all (next s h) hs
 
+-- the match of a setup after all that happened
 abbrev pub match_after : Setup → List Happening → Standing
 match_after setup hs = after_all (start setup) hs

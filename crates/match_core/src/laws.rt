@@ -1,10 +1,10 @@
-// What holds of every match, as the contract of a function.
+//! What holds of every match, as the contract of a function.
 ghost use Rattle.match_core.specs.Fairness.{MatchesAreFair};
 ghost use Rattle.match_core.specs.Plays.{MatchesNearTheirEnd, MatchesEnd, MatchesAreJudged};
 ghost use Rattle.match_core.specs.Feeds.{MatchesAreOfTheirLines, MatchesBegin};
 
 /// Over every list of events that answer the acts the moves are a legal game, each is what the reply of the side to move
-/// denotes, and each side was told all of them, or all but the last.
+/// denotes, and each side was told all of them, or all but the last, in lines that are those of these moves.
 pub fn matches_are_fair()
     ensures { MatchesAreFair }
 {}

@@ -1,4 +1,4 @@
-// Lines that are kept.
+//! Lines that are kept.
 ghost use Rattle.std.specs.Prelude.{◌≡◌, IfOk};
 
 use hive_model::LineText;

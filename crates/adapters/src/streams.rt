@@ -1,0 +1,103 @@
+//! Standard input and output as a source and a sink. They do not tell their bytes.
+ghost use Rattle.std.specs.Prelude.{◌≡◌, ◌≤◌, None, length, IfOk};
+ghost use Rattle.io_edge.specs.Outside.{no_side};
+
+use io_edge::{ReadAnswer, Sink, Source, WriteAnswer};
+use std::io;
+use std::io::{Read, Write};
+
+/// A reader as a source. Each read that fails is counted.
+#[derive(Drop)]
+pub struct InputStream<R> {
+    reader: R,
+    faults: u64,
+}
+
+impl<R> InputStream<R> {
+    /// A source of which no read has failed.
+    pub fn new(reader: R) -> Self
+        ensures { result.faults ≡ 0 }
+    {
+        InputStream { reader, faults: 0 }
+    }
+
+    /// How often a read has failed.
+    pub fn faults(&self) -> u64
+        ensures { result ≡ self.now.faults }
+    {
+        self.faults
+    }
+}
+
+impl<R: Read> Source for InputStream<R> {
+    ghost rest = { λ _. None };
+
+    ghost read_faults = { λ s. s.faults };
+
+    ghost source_aside = { λ _. no_side };
+
+    fn read(&mut self, buffer: &mut [u8]) -> ReadAnswer {
+        match self.reader.read(buffer) {
+            Ok(0) => ReadAnswer::End,
+            Ok(count) => ReadAnswer::Got(count),
+            Err(_) => {
+                self.faults = self.faults.saturating_add(1);
+                ReadAnswer::Failed
+            }
+        }
+    }
+}
+
+/// A writer as a sink, flushed after each write. Each write or flush that fails is counted, and so is a write that takes no
+/// byte.
+#[derive(Drop)]
+pub struct OutputStream<W> {
+    writer: W,
+    faults: u64,
+}
+
+impl<W> OutputStream<W> {
+    /// A sink of which no write has failed.
+    pub fn new(writer: W) -> Self
+        ensures { result.faults ≡ 0 }
+    {
+        OutputStream { writer, faults: 0 }
+    }
+
+    /// How often a write has failed.
+    pub fn faults(&self) -> u64
+        ensures { result ≡ self.now.faults }
+    {
+        self.faults
+    }
+}
+
+impl<W: Write> OutputStream<W> {
+    /// Writes the front of the bytes and flushes, and answers how many were written.
+    fn write_through(&mut self, bytes: &[u8]) -> io::Result<usize>
+        ensures faults { self.new.faults ≡ self.old.faults }
+        ensures most { IfOk result (λ n. n ≤ length bytes.now) }
+    {
+        let count = self.writer.write(bytes)?;
+        self.writer.flush()?;
+        Ok(count)
+    }
+}
+
+impl<W: Write> Sink for OutputStream<W> {
+    ghost written = { λ _. None };
+
+    ghost write_faults = { λ s. s.faults };
+
+    ghost sink_aside = { λ _. no_side };
+
+    fn write(&mut self, bytes: &[u8]) -> WriteAnswer {
+        match self.write_through(bytes) {
+            Ok(count) if count > 0 => WriteAnswer::Took(count),
+            _ => {
+                self.faults = self.faults.saturating_add(1);
+                WriteAnswer::Failed
+            }
+        }
+    }
+}
