@@ -1,14 +1,9 @@
 -- Every match ends, with a verdict; and what its moves are.
-use Rattle.std.proofs.Common.{◌≡◌, ◌↔◌, ◌⊎◌, inl, inr, ◌<◌, ◌≤◌, ℕ, zero, suc, ◌+◌, Bool, true, false, List, [], ◌∷◌, ◌++◌, length, refl, ap, sym, ◌∙◌, None, Some, IsTrue, arith, subst, Ok}
+use Rattle.std.proofs.Common.{◌≡◌, inl, inr, ◌≤◌, ℕ, zero, suc, true, false, List, [], ◌∷◌, ◌++◌, length, refl, ap, sym, ◌∙◌, IsTrue, arith}
 use Rattle.hive_model.specs.declared.pieces.Colour.{Colour}
 use Rattle.hive_model.specs.declared.pieces.Colour.TheVariants.{White, Black}
-use Rattle.hive_model.specs.declared.places.Move.{Move}
 use Rattle.hive_model.specs.Lines.{Line as Mark, Text, TooLong as LongMark}
 use Rattle.hive_model.specs.Boards.{IsBoard}
-use Rattle.hive_model.specs.Denotes.{Denotes}
-use Rattle.hive_model.specs.Positions.{opening}
-use Rattle.hive_model.specs.Games.{replay}
-use Rattle.move_text.specs.Moves.{move_of}
 use Rattle.move_text.proofs.MoveLaws.{denotes_of}
 use Rattle.rule_laws.proofs.Games.{games_sound}
 use Rattle.match_core.specs.declared.answers.Setup.{Setup}
@@ -20,9 +15,9 @@ use Rattle.match_core.specs.declared.answers.Act.TheVariants.{Read as ReadAct, F
 use Rattle.match_core.specs.Keeps.{IsSetup, HasNext}
 use Rattle.match_core.specs.Texts.{read_of}
 use Rattle.match_core.specs.Standing.{Standing, Happening, start, match_after, next, after_all, act_at, answers, position_of}
-use Rattle.match_core.specs.Fairness.{Answering, Reply, nothing_heard, heard, first_of, Accepts, MovesOn, MatchesAreFair}
-use Rattle.match_core.specs.Plays.{left, IsBounded, IsPliesAt, given, reply_to, left_of_white, left_of_black, is_finished, has_verdict, happens, match_of, MatchesEnd, MatchesAreJudged}
-use Rattle.match_core.proofs.Fair.{reads, Reading, ReadsOn, IsRead}
+use Rattle.match_core.specs.Fairness.{Answering, Reply, nothing_heard, heard, first_of, MovesOn, MatchesAreFair}
+use Rattle.match_core.specs.Plays.{left, IsBounded, IsPliesAt, given, reply_to, left_of_white, left_of_black, is_finished, happens, match_of, MatchesEnd, MatchesAreJudged}
+use Rattle.match_core.proofs.Fair.{reads, ReadsOn}
 use Rattle.match_core.proofs.Tells.{fair}
 use Rattle.match_core.proofs.Falls.{matches_near_their_end}
 use Rattle.match_core.proofs.Follows.{open_at, finished_at, happens_none, happens_more, bounded_start}

@@ -1,5 +1,5 @@
 -- The lines that tell a side its moves are those of the moves that it is told, one after the other.
-use Rattle.std.proofs.Common.{◌≡◌, ℕ, zero, suc, ◌-◌, Bool, cond, List, [], ◌∷◌, ◌++◌, length, take, refl, ap, sym, ◌∙◌, subst, append_assoc, arith}
+use Rattle.std.proofs.Common.{◌≡◌, ℕ, suc, ◌-◌, cond, List, [], ◌∷◌, ◌++◌, length, take, refl, ap, sym, ◌∙◌, subst, append_assoc, arith}
 use Rattle.std.proofs.lemmas.List.{append-nil}
 use Rattle.hive_model.specs.declared.pieces.Colour.{Colour}
 use Rattle.hive_model.specs.declared.pieces.Colour.TheVariants.{White, Black}
@@ -7,14 +7,13 @@ use Rattle.hive_model.specs.declared.places.Move.{Move}
 use Rattle.hive_model.specs.Positions.{Position, opening}
 use Rattle.hive_model.specs.Games.{after, replay, AreLegal}
 use Rattle.match_core.specs.declared.answers.Setup.{Setup}
-use Rattle.match_core.specs.declared.answers.Task.{Task}
 use Rattle.match_core.specs.declared.answers.Task.TheVariants.{Greet, Begin, Ask, Tell}
 use Rattle.match_core.specs.declared.answers.Stage.{Stage}
 use Rattle.match_core.specs.declared.answers.Stage.TheVariants.{Send, Read, Before, After, Finished}
 use Rattle.match_core.specs.Texts.{tell_line}
-use Rattle.match_core.specs.Standing.{Standing, Happening, Sent, Line, TooLong, Ended, Broke, Reading, start, match_after, next, position_before}
+use Rattle.match_core.specs.Standing.{Standing, Happening, Sent, Line, TooLong, Ended, Broke, Reading, start, match_after, next}
 use Rattle.match_core.specs.Fairness.{Answering, Heard, nothing_heard, heard_at, sent_at, told_at, told, is_telling, telling_lines, tell_lines, IsFair}
-use Rattle.match_core.proofs.Fair.{Good, ToldAt, Fresh, Half, steps, goes, good_start, told_some}
+use Rattle.match_core.proofs.Fair.{Good, ToldAt, steps, goes, good_start, told_some}
 
 lines-snoc : (p : Position) (ms : List Move) (m : Move) → tell_lines p (ms ++ m ∷ []) ≡ tell_lines p ms ++ tell_line (replay p ms) m ∷ []
 lines-snoc p [] m = refl
@@ -83,7 +82,7 @@ in_front : (s : Standing) (h : Happening) (hs : List Happening) (to : Colour) (k
     → tell_lines (opening s.setup.game_type) (known ++ told s (h ∷ hs) to) ≡ tell_lines (opening s.setup.game_type) known ++ telling_lines s (h ∷ hs) to
 in_front s h hs to known same now later =
     let P : Setup → Type 0 = λ x. tell_lines (opening x.game_type) ((known ++ told_at s.stage h to) ++ told (next s h) hs to)
-        ≡ tell_lines (opening x.game_type) (known ++ told_at s.stage h to) ++ telling_lines (next s h) hs to in
+    ≡ tell_lines (opening x.game_type) (known ++ told_at s.stage h to) ++ telling_lines (next s h) hs to in
     ap (tell_lines (opening s.setup.game_type)) (sym (append_assoc known (told_at s.stage h to) (told (next s h) hs to)))
     ∙ subst P same later
     ∙ ap (λ (r : List (List ℕ)). r ++ telling_lines (next s h) hs to) now
@@ -117,4 +116,3 @@ fair setup hs a =
       white_lines = sym (tells_white hs (start setup) nothing_heard [] [] (good_start setup) a);
       black_lines = sym (tells_black hs (start setup) nothing_heard [] [] (good_start setup) a);
     }
-

@@ -1,5 +1,5 @@
 -- What holds of every match: which moves are played, and who is told of them.
-use Rattle.std.specs.Prelude.{◌≡◌, ◌⊎◌, ℕ, Bool, true, false, cond, List, [], ◌∷◌, ◌++◌, Option, Some, None, IsTrue, unwrap_or, Ok}
+use Rattle.std.specs.Prelude.{◌≡◌, ◌⊎◌, ℕ, Bool, true, false, cond, List, [], ◌∷◌, ◌++◌, IsTrue}
 use Rattle.hive_model.specs.declared.pieces.Colour.{Colour}
 use Rattle.hive_model.specs.declared.pieces.Colour.TheVariants.{White, Black}
 use Rattle.hive_model.specs.declared.places.Move.{Move}
@@ -9,14 +9,13 @@ use Rattle.hive_model.specs.Positions.{Position, opening}
 use Rattle.hive_model.specs.Games.{after, IsGame}
 use Rattle.hive_model.specs.Legal.{moves as legal_moves}
 use Rattle.match_core.specs.declared.answers.Setup.{Setup}
-use Rattle.match_core.specs.declared.answers.Task.{Task}
 use Rattle.match_core.specs.declared.answers.Task.TheVariants.{Greet, Begin, Ask, Tell}
 use Rattle.match_core.specs.declared.answers.Stage.{Stage}
 use Rattle.match_core.specs.declared.answers.Stage.TheVariants.{Send, Read, Before, After, Finished}
 use Rattle.match_core.specs.Replies.{is_ok}
 use Rattle.match_core.specs.Keeps.{IsSetup}
 use Rattle.match_core.specs.Texts.{tell_line}
-use Rattle.match_core.specs.Standing.{Standing, Happening, Sent, Line, TooLong, Ended, Broke, Reading, start, match_after, next, after_all, act_at, answers, line_for, position_of}
+use Rattle.match_core.specs.Standing.{Standing, Happening, Sent, Line, TooLong, Ended, Broke, Reading, start, match_after, next, act_at, answers, line_for, position_of}
 
 -- each of these answers the act to come
 abbrev pub Answering : Standing → List Happening → Type 0

@@ -1,5 +1,5 @@
 -- How what happens takes the lines of a side.
-use Rattle.std.specs.Prelude.{◌≡◌, ℕ, Bool, true, false, List, [], ◌∷◌, ◌++◌, Option, Some, None}
+use Rattle.std.specs.Prelude.{◌≡◌, ℕ, Bool, true, false, List, [], ◌∷◌, ◌++◌, Some}
 use Rattle.std.specs.Option.{option_map}
 use Rattle.hive_model.specs.declared.pieces.Colour.{Colour}
 use Rattle.hive_model.specs.Lines.{Line as Mark, Text, ToldLines, NoneAhead, LongAhead}

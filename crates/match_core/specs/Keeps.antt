@@ -1,7 +1,6 @@
 -- What a referee keeps.
-use Rattle.std.specs.Prelude.{◌≡◌, ℕ, ◌+◌, ◌%◌, unwrap_or, ◌*◌, ◌^◌, ◌<◌, ◌≤◌, List, [], length}
+use Rattle.std.specs.Prelude.{◌≡◌, ℕ, ◌+◌, ◌%◌, unwrap_or, ◌^◌, ◌<◌, ◌≤◌, List, [], length}
 use Rattle.hive_model.specs.Courses.{Course}
-use Rattle.hive_model.specs.Positions.{Position}
 use Rattle.match_core.specs.declared.answers.Setup.{Setup}
 use Rattle.match_core.specs.declared.answers.Level.{Level}
 use Rattle.match_core.specs.declared.answers.Level.TheVariants.{Depth, Time}

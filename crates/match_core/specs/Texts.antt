@@ -1,5 +1,5 @@
 -- The lines that are sent, and what a line read is as a move.
-use Rattle.std.specs.Prelude.{ℕ, List, [], ◌∷◌, ◌++◌, codes, decimal, Result}
+use Rattle.std.specs.Prelude.{ℕ, List, ◌++◌, codes, decimal, Result}
 use Rattle.hive_model.specs.declared.places.Move.{Move}
 use Rattle.hive_model.specs.declared.places.Move.TheVariants.{Pass, To}
 use Rattle.hive_model.specs.declared.pieces.GameType.{GameType}

@@ -1,7 +1,5 @@
-use Rattle.std.proofs.Common.{rules, ◌≡◌, ap, sym, subst}
 use Rattle.hive_model.specs.Courses.{position}
 use Rattle.move_text.proofs.LegalSpell.{listed_within}
-use Rattle.match_core.specs.Texts.{tell_line}
 use Rattle.match_core.proofs.texts.write_tell.Goals as goal
 
 pub write_move-requires-clause-within : goal.write_move-requires-clause-within
