@@ -48,6 +48,7 @@ pub record Runs (setup : Setup) (s : Standing) (w0 w b0 b : Side) (r0 r : Watch)
   pub time : KeepTime r0.last hs r.last
   pub bounded : IsBounded s
 
+-- some events have brought the match to this
 abbrev pub Run : Setup → Standing → Side → Side → Side → Side → Watch → Watch → Type 0
 Run setup s w0 w b0 b r0 r = (hs : List Happening) × Runs setup s w0 w b0 b r0 r hs
 
@@ -76,6 +77,7 @@ FinalRun setup t w_rest w_old w_new b_rest b_old b_new w_left b_left r0 r w_read
     × Ran setup t (side_of fresh w_rest w_old) (side_of w_reader w_left w_new) (side_of fresh b_rest b_old) (side_of b_reader b_left b_new)
     r0 r (SideRose w_reads0 w_reads w_writes0 w_writes) (SideRose b_reads0 b_reads b_writes0 b_writes)
 
+-- a side forfeits for a late answer
 abbrev pub IsLate : Option Verdict → Type 0
 IsLate None = ⊥
 IsLate (Some (Rules state)) = ⊥

@@ -61,6 +61,7 @@ pub record Watch : Type 0 where
   pub last : ℕ
   pub readings : ℕ
 
+-- a clock with this last reading, read so often
 abbrev pub watch : ℕ → ℕ → Watch
 watch last readings = record { last = last; readings = readings }
 
@@ -73,9 +74,11 @@ KeepsAt TooLong before now = now ≡ before
 KeepsAt Ended before now = now ≡ before
 KeepsAt Broke before now = now ≡ before
 
+-- a side whose reader and link are these
 abbrev pub side_of : Reader → Told → Told → Side
 side_of reader rest written = record { ahead = ahead_of reader rest; written = written }
 
+-- a read or a write failed
 abbrev pub is_broke : Happening → Bool
 is_broke Sent = false
 is_broke (Line bytes) = false
@@ -84,6 +87,7 @@ is_broke Ended = false
 is_broke Broke = true
 is_broke (Reading at) = false
 
+-- the clock is to be read
 abbrev pub is_clock : Act → Bool
 is_clock (SendAct side) = false
 is_clock (ReadAct side) = false
@@ -119,6 +123,7 @@ pub record Breaks (s t : Standing) (w0 w b0 b : Side) : Type 0 where
   pub white : CutSide s White w0 w
   pub black : CutSide s Black b0 b
 
+-- what an act did to the match, to both sides and to the clock
 abbrev pub Turns : Turn → Standing → Standing → Side → Side → Side → Side → ℕ → ℕ → Type 0
 Turns GoOn s t w0 w b0 b c0 c = (h : Happening) × Goes s h t w0 w b0 b c0 c
 Turns (ReadFault side) s t w0 w b0 b c0 c = (act_at s.stage ≡ ReadAct side) × Breaks s t w0 w b0 b × (c ≡ c0)

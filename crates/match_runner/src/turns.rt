@@ -1,4 +1,4 @@
-// One act of a match.
+//! One act of a match.
 ghost use Rattle.std.specs.Prelude.{◌≡◌, ℕ, ◌+◌, ◌<◌, ◌≤◌, ◌^◌, true, false};
 ghost use Rattle.hive_model.specs.declared.pieces.Colour.{Colour};
 ghost use Rattle.io_edge.specs.Outside.{HasCause};
@@ -16,10 +16,15 @@ use match_core::{Act, Event, Referee};
 /// What an act came to.
 #[derive(Clone, Copy, Debug, PartialEq, Eq)]
 pub enum Turn {
+    /// It was done, and the match may go on.
     GoOn,
+    /// There is nothing to do: the match is over.
     Finished,
+    /// A read of this side failed.
     ReadFault { side: Colour },
+    /// A write to this side failed.
     WriteFault { side: Colour },
+    /// There is no memory for a line.
     Memory,
 }
 
