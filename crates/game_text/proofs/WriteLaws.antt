@@ -9,9 +9,8 @@ use Rattle.hive_model.specs.Games.{after, replay, AreLegal, IsGame}
 use Rattle.hive_model.specs.Denotes.{text}
 use Rattle.hive_model.specs.Courses.{Course, position, with_move}
 use Rattle.hive_model.specs.Strings.{joined_on, texts}
-use Rattle.hive_model.proofs.MoveLaws.{moves_legal}
 use Rattle.move_text.specs.Moves.{IsMoveWithin}
-use Rattle.move_text.proofs.LegalSpell.{legal_within}
+use Rattle.move_text.proofs.LegalSpell.{listed_within}
 use Rattle.rule_laws.proofs.Games.{games_sound}
 use Rattle.game_text.proofs.ReadLaws.{replay_more}
 
@@ -150,7 +149,7 @@ copy_legal g c i done m h at = subst (λ p. IsOn (moves p) m) (sym (here g c i d
 pub copy_within : (g c : Course) (i : ℕ) (done : List (List ℕ)) (m : Move) → IsCopying g c i done → slice_get g.made i ≡ Some m → IsMoveWithin m
 copy_within g c i done m h at =
     let sound = copy_sound g c i done h in
-    legal_within (position c) m sound (moves_legal (position c) sound.board m (copy_legal g c i done m h at))
+    listed_within (position c) m sound (copy_legal g c i done m h at)
 
 pub copy_on : (g c d : Course) (i j : ℕ) (done done2 : List (List ℕ)) (m : Move) → IsCopying g c i done → slice_get g.made i ≡ Some m → i < length g.made
     → d ≡ with_move c m → j ≡ i + 1 → done2 ≡ done ++ text (position c).board m ∷ [] → IsCopying g d j done2

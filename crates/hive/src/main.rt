@@ -3,7 +3,12 @@
 //! It ends with the number of the status of its run. Where the run could not be done, one line on standard error says why.
 #![tactic(auto)]
 
+mod engines;
+mod machine_clock;
+mod programs;
 mod streams;
+#[cfg(test)]
+mod system_tests;
 #[cfg(test)]
 mod tests;
 

@@ -20,6 +20,13 @@ impl<R> InputStream<R> {
     {
         InputStream { reader, faults: 0 }
     }
+
+    /// How often a read has failed.
+    pub fn faults(&self) -> u64
+        ensures { result ≡ self.now.faults }
+    {
+        self.faults
+    }
 }
 
 impl<R: Read> Source for InputStream<R> {
@@ -55,6 +62,13 @@ impl<W> OutputStream<W> {
         ensures { result.faults ≡ 0 }
     {
         OutputStream { writer, faults: 0 }
+    }
+
+    /// How often a write has failed.
+    pub fn faults(&self) -> u64
+        ensures { result ≡ self.now.faults }
+    {
+        self.faults
     }
 }
 

@@ -14,7 +14,7 @@ use Rattle.hive_model.specs.declared.places.Dir.{Dir}
 use Rattle.hive_model.specs.declared.places.Dir.TheVariants.{E, NE, NW, W, SW, SE}
 use Rattle.hive_model.specs.declared.places.Move.{Move}
 use Rattle.hive_model.specs.declared.places.Move.TheVariants.{Pass, To}
-use Rattle.hive_model.specs.Lists.{IsPath}
+use Rattle.hive_model.specs.Lists.{IsOn, IsPath}
 use Rattle.hive_model.specs.Pieces.{colour_of, kind_of, other_side, OfType}
 use Rattle.hive_model.specs.Places.{step, steps, origin, dir_after, dir_before}
 use Rattle.hive_model.specs.Boards.{Stacks, stack_at, set_stack, height_at, is_occupied, spot_of, lift, lift_from, without, without_at, is_in_play, IsBoard}
@@ -23,12 +23,13 @@ use Rattle.hive_model.specs.Reach.{Hop, ReachBy, MovesAs}
 use Rattle.hive_model.specs.Positions.{Position, IsSound}
 use Rattle.hive_model.specs.Placement.{HasColour, MayPlace, Placement, has_colour}
 use Rattle.hive_model.specs.Throws.{Throw}
-use Rattle.hive_model.specs.Legal.{Walk, LegalPair, IsLegal}
+use Rattle.hive_model.specs.Legal.{Walk, LegalPair, IsLegal, moves}
 use Rattle.hive_model.specs.Denotes.{Denotes, text}
 use Rattle.hive_model.proofs.BoardLemmas.{stands_occupied, spot_of_stands, stands_spot_of}
 use Rattle.hive_model.proofs.NearLaws.{place_standing, near_within}
 use Rattle.hive_model.proofs.RuleLaws.{over_last, over_next}
 use Rattle.hive_model.proofs.LegalLaws.{opposite, back, near_legal, from_legal_pair}
+use Rattle.hive_model.proofs.MoveLaws.{moves_legal}
 use Rattle.hive_model.proofs.PlacementLaws.{has_colour_from, from_has_colour}
 use Rattle.move_text.specs.Moves.{IsMoveWithin}
 use Rattle.move_text.proofs.WithoutLaws.{not_there, stack_there}
@@ -206,3 +207,7 @@ pub legal_within : (p : Position) (m : Move) → IsSound p → IsLegal p m → I
 legal_within p Pass sound legal = tt
 legal_within p (To x q) sound legal =
     near_within p.board sound.board q (near_legal p x q sound.board (from_legal_pair p sound.board x q legal.1))
+
+-- each move on the list of legal moves can be written
+pub listed_within : (p : Position) (m : Move) → IsSound p → IsOn (moves p) m → IsMoveWithin m
+listed_within p m sound on = legal_within p m sound (moves_legal p sound.board m on)

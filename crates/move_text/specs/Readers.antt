@@ -1,9 +1,10 @@
 -- What the fields of a line hold, as functions that compute.
-use Rattle.std.specs.Prelude.{ℕ, ◌+◌, ◌*◌, ◌-◌, Bool, true, false, ◌&&◌, nat_le, nat_lt, nat_eq, List, [], ◌∷◌, codes, Option, Some, None, if◌then◌else◌}
+use Rattle.std.specs.Prelude.{ℕ, ◌+◌, ◌*◌, ◌-◌, ◌/◌, ◌%◌, Bool, true, false, ◌&&◌, nat_le, nat_lt, nat_eq, List, [], ◌∷◌, codes, Option, Some, None, if◌then◌else◌}
 use Rattle.std.specs.Str.{bytes_eq}
 use Rattle.hive_model.specs.declared.pieces.GameType.{GameType}
 use Rattle.hive_model.specs.declared.places.State.{State}
 use Rattle.hive_model.specs.declared.places.State.TheVariants.{NotStarted, InProgress, Draw, WhiteWins, BlackWins}
+use Rattle.hive_model.specs.Fields.{clock_bytes}
 
 abbrev pub game_type_of : Bool → Bool → Bool → GameType
 game_type_of m l p = record { mosquito = m; ladybug = l; pillbug = p }
@@ -46,3 +47,7 @@ time_at (a ∷ b ∷ c ∷ d ∷ e ∷ f ∷ g ∷ h ∷ []) =
     if nat_eq c 58 && nat_eq f 58 then budget_of (two_digit_number 99 a b) (two_digit_number 59 d e) (two_digit_number 59 g h)
     else None
 time_at _ = None
+
+-- the time `hh:mm:ss` of so many milliseconds
+abbrev pub time_bytes : ℕ → List ℕ
+time_bytes budget = clock_bytes (budget / 1000 / 3600) (budget / 1000 / 60 % 60) (budget / 1000 % 60)

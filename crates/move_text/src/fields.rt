@@ -5,7 +5,7 @@ ghost use Rattle.arrayvec.specs.ArrayString.{array_string_len};
 ghost use Rattle.hive_model.specs.declared.pieces.GameType.{GameType as AnyType};
 ghost use Rattle.hive_model.specs.declared.places.State.{State as AnyState};
 ghost use Rattle.hive_model.specs.Fields.{IsNumberText, IsTimeText, type_bytes, state_bytes, two_digits};
-ghost use Rattle.move_text.specs.Readers.{type_at, state_at, two_digit_number, time_at};
+ghost use Rattle.move_text.specs.Readers.{type_at, state_at, two_digit_number, time_at, time_bytes};
 
 use arrayvec::ArrayString;
 use hive_model::{GameType, State};
@@ -214,7 +214,8 @@ fn push_two_digits(text: &mut ArrayString<8>, number: u64)
 pub fn time_text(budget: u64) -> ArrayString<8>
     requires whole { budget % 1000 ≡ 0 }
     requires most { budget ≤ 359999000 }
-    ensures { IsTimeText result.bytes budget }
+    ensures time { IsTimeText result.bytes budget }
+    ensures bytes { result.bytes ≡ time_bytes budget }
 {
     let seconds = budget / 1000;
     let mut text = ArrayString::new();

@@ -137,6 +137,8 @@ pub fn read_move<B: Board>(game_type: GameType, board: &B, text: &[u8]) -> Resul
     ensures only { (m : AnyMove) → Denotes game_type (B.stacks board.now) text.now m → result ≡ Ok m }
     ensures refuses { IfErr result (λ fault. Refuses game_type (B.stacks board.now) text.now fault) }
     ensures each { (fault : AnyFault) → Refuses game_type (B.stacks board.now) text.now fault → result ≡ Err fault }
+    // the same as one function of the type, the board and the text
+    ensures computes { result ≡ move_of game_type (B.stacks board.now) text.now }
 {
     move_of(game_type, board, text)
 }

@@ -1,22 +1,17 @@
--- The written texts of a game, one move on and one move back; what is read on its board; and its positions.
-use Rattle.std.proofs.Common.{◌≡◌, ℕ, zero, suc, ◌-◌, ◌<◌, ◌≤◌, List, [], ◌∷◌, ◌++◌, length, take, Result, Ok, Err, refl, sym, ◌∙◌, ap, subst, arith, length-append}
-use Rattle.hive_model.specs.declared.pieces.GameType.{GameType}
+-- The written texts of a game, one move on and one move back; and its positions.
+use Rattle.std.proofs.Common.{◌≡◌, ℕ, zero, suc, ◌-◌, ◌<◌, ◌≤◌, List, [], ◌∷◌, ◌++◌, length, take, refl, sym, ◌∙◌, ap, subst, arith, length-append}
 use Rattle.hive_model.specs.declared.places.Move.{Move}
 use Rattle.hive_model.specs.Lists.{IsOn}
-use Rattle.hive_model.specs.Boards.{Stacks, IsBoard}
+use Rattle.hive_model.specs.Boards.{Stacks}
 use Rattle.hive_model.specs.Positions.{Position, IsSound, opening}
 use Rattle.hive_model.specs.Legal.{moves}
 use Rattle.hive_model.specs.Games.{after, replay}
-use Rattle.hive_model.specs.Denotes.{Denotes, text}
+use Rattle.hive_model.specs.Denotes.{text}
 use Rattle.hive_model.specs.Courses.{Course, position, with_move, without_last}
 use Rattle.hive_model.specs.Strings.{texts}
-use Rattle.hive_model.proofs.MoveLaws.{moves_legal}
 use Rattle.game_text.proofs.WriteLaws.{taken_size}
-use Rattle.move_text.specs.declared.faults.MoveFault.{MoveFault}
-use Rattle.move_text.specs.Faults.{Refuses}
-use Rattle.move_text.specs.Moves.{move_of, IsMoveWithin}
-use Rattle.move_text.proofs.MoveLaws.{denotes_of, refuses_of}
-use Rattle.move_text.proofs.LegalSpell.{legal_within}
+use Rattle.move_text.specs.Moves.{IsMoveWithin}
+use Rattle.move_text.proofs.LegalSpell.{listed_within}
 use Rattle.uhp_session.specs.Answers.{Begun, reached}
 
 -- The position of a course that has the game's type and moves
@@ -27,7 +22,7 @@ same_place c g kind made = λ j. replay (opening (kind j)) (made j)
 pub kept_within : (c : Course) (g : Begun) (m : Move) → c.game_type ≡ g.game_type → c.made ≡ g.made → IsSound (position c) → IsOn (moves (reached g)) m → IsMoveWithin m
 kept_within c g m kind made sound on =
     let here : IsOn (moves (position c)) m = subst (λ p. IsOn (moves p) m) (sym (same_place c g kind made)) on in
-    legal_within (position c) m sound (moves_legal (position c) sound.board m here)
+    listed_within (position c) m sound here
 
 -- Texts
 
@@ -87,13 +82,3 @@ taken_back (k ∷ ms) m =
     longer : (ms : List Move) → length (k ∷ (ms ++ m ∷ [])) - 1 ≡ suc (length (ms ++ m ∷ []) - 1)
     longer [] = refl
     longer (x ∷ xs) = omega arith
-
--- What is read
-
-pub reads_as : (t u : GameType) (b d : Stacks) (words : List ℕ) (r : Result Move MoveFault) → t ≡ u → b ≡ d → IsBoard b → ((m : Move) → Denotes t b words m → r ≡ Ok m)
-    → ((fault : MoveFault) → Refuses t b words fault → r ≡ Err fault) → r ≡ move_of u d words
-reads_as t u b d words r kind board is only each = go (move_of t b words) refl ∙ (λ i. move_of (kind i) (board i) words)
-  where
-    go : (x : Result Move MoveFault) → move_of t b words ≡ x → r ≡ move_of t b words
-    go (Ok m) e = only m (denotes_of t b words m is e) ∙ sym e
-    go (Err fault) e = each fault (refuses_of t b words fault e) ∙ sym e

@@ -1,0 +1,86 @@
+//! The starting of programs by the system.
+ghost use Rattle.std.specs.Prelude.{◌≡◌, ◌<◌, None, length, IfOk};
+
+use crate::engines::Engine;
+use io_edge::{Spawner, StartFault};
+use std::alloc::Global;
+use std::io;
+use std::process::{Command, Processes, Stdio};
+
+/// What starts programs of the system. It does not tell what they say or are told.
+#[derive(Drop)]
+pub struct Programs<'a, R: Processes> {
+    rt: &'a R,
+    alloc: Global,
+    start_faults: u64,
+    engine_faults: u64,
+}
+
+impl<'a, R: Processes> Programs<'a, R> {
+    /// A starter of which no start has failed, and that has ended no program.
+    pub fn new(rt: &'a R, alloc: Global) -> Self
+        ensures starts { result.start_faults ≡ 0 }
+        ensures engines { result.engine_faults ≡ 0 }
+    {
+        Programs {
+            rt,
+            alloc,
+            start_faults: 0,
+            engine_faults: 0,
+        }
+    }
+}
+
+/// Starts the program that the first word names, with the others as its arguments, over pipes.
+fn start_program<R: Processes>(
+    rt: &R,
+    alloc: Global,
+    words: &[String],
+) -> io::Result<Engine<R::Started>>
+    requires { 0 < length words.now }
+    ensures reads { IfOk result (λ e. e.output.faults ≡ 0) }
+    ensures writes { IfOk result (λ e. e.input.faults ≡ 0) }
+{
+    let mut command = Command::new(alloc, words[0].as_str())?;
+    for word in words[1..].iter() {
+        command.arg(word.as_str())?;
+    }
+    let mut child = command
+        .stdin(Stdio::piped())
+        .stdout(Stdio::piped())
+        .spawn(rt)?;
+    match (child.stdin.take(), child.stdout.take()) {
+        (Some(input), Some(output)) => Ok(Engine::new(child, input, output)),
+        _ => Err(io::Error::from(io::ErrorKind::BrokenPipe)),
+    }
+}
+
+impl<'a, R: Processes> Spawner for Programs<'a, R> {
+    type Engine = Engine<R::Started>;
+
+    ghost to_come = { λ _. None };
+
+    ghost sent = { λ _. None };
+
+    ghost start_faults = { λ s. s.start_faults };
+
+    ghost engine_faults = { λ s. s.engine_faults };
+
+    fn start(&mut self, words: &[String]) -> Result<Engine<R::Started>, StartFault> {
+        match start_program(self.rt, self.alloc, words) {
+            Ok(engine) => Ok(engine),
+            Err(error) if error.kind() == io::ErrorKind::OutOfMemory => Err(StartFault::Memory),
+            Err(_) => {
+                self.start_faults = self.start_faults.saturating_add(1);
+                Err(StartFault::Failed)
+            }
+        }
+    }
+
+    fn close(&mut self, engine: Engine<R::Started>) {
+        if engine.has_failed() {
+            self.engine_faults = self.engine_faults.saturating_add(1);
+        }
+        drop(engine);
+    }
+}

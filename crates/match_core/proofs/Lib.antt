@@ -1,0 +1,6 @@
+pub mod Fair
+pub mod Tells
+pub mod Falls
+pub mod Follows
+pub mod Ends
+pub mod Fronts

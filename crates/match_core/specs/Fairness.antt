@@ -1,0 +1,157 @@
+-- What holds of every match: which moves are played, and who is told of them.
+use Rattle.std.specs.Prelude.{◌≡◌, ◌⊎◌, ℕ, Bool, true, false, cond, List, [], ◌∷◌, ◌++◌, IsTrue}
+use Rattle.hive_model.specs.declared.pieces.Colour.{Colour}
+use Rattle.hive_model.specs.declared.pieces.Colour.TheVariants.{White, Black}
+use Rattle.hive_model.specs.declared.places.Move.{Move}
+use Rattle.hive_model.specs.Denotes.{Denotes}
+use Rattle.hive_model.specs.Lists.{IsOn}
+use Rattle.hive_model.specs.Positions.{Position, opening}
+use Rattle.hive_model.specs.Games.{after, IsGame}
+use Rattle.hive_model.specs.Legal.{moves as legal_moves}
+use Rattle.match_core.specs.declared.answers.Setup.{Setup}
+use Rattle.match_core.specs.declared.answers.Task.TheVariants.{Greet, Begin, Ask, Tell}
+use Rattle.match_core.specs.declared.answers.Stage.{Stage}
+use Rattle.match_core.specs.declared.answers.Stage.TheVariants.{Send, Read, Before, After, Finished}
+use Rattle.match_core.specs.Replies.{is_ok}
+use Rattle.match_core.specs.Keeps.{IsSetup}
+use Rattle.match_core.specs.Texts.{tell_line}
+use Rattle.match_core.specs.Standing.{Standing, Happening, Sent, Line, TooLong, Ended, Broke, Reading, start, match_after, next, act_at, answers, line_for, position_of}
+
+-- each of these answers the act to come
+abbrev pub Answering : Standing → List Happening → Type 0
+Answering s [] = Unit {0}
+Answering s (h ∷ hs) = IsTrue (answers (act_at s.stage) h) × Answering (next s h) hs
+
+-- whether a side is this one
+abbrev pub is_side : Colour → Colour → Bool
+is_side White White = true
+is_side White Black = false
+is_side Black White = false
+is_side Black Black = true
+
+-- the line that an event sends to a side
+abbrev pub sent_at : Standing → Stage → Happening → Colour → List (List ℕ)
+sent_at s (Send job side) Sent to = cond (is_side side to) (line_for s job ∷ []) []
+sent_at s (Send job side) (Line bytes) to = []
+sent_at s (Send job side) TooLong to = []
+sent_at s (Send job side) Ended to = []
+sent_at s (Send job side) Broke to = []
+sent_at s (Send job side) (Reading at) to = []
+sent_at s (Read job side) h to = []
+sent_at s Before h to = []
+sent_at s After h to = []
+sent_at s Finished h to = []
+
+-- the lines that were sent to a side
+abbrev pub sent : Standing → List Happening → Colour → List (List ℕ)
+sent s [] to = []
+sent s (h ∷ hs) to = sent_at s s.stage h to ++ sent (next s h) hs to
+
+-- the move that an event tells a side
+abbrev pub told_at : Stage → Happening → Colour → List Move
+told_at (Send Greet side) h to = []
+told_at (Send Begin side) h to = []
+told_at (Send Ask side) h to = []
+told_at (Send (Tell m) side) Sent to = cond (is_side side to) (m ∷ []) []
+told_at (Send (Tell m) side) (Line bytes) to = []
+told_at (Send (Tell m) side) TooLong to = []
+told_at (Send (Tell m) side) Ended to = []
+told_at (Send (Tell m) side) Broke to = []
+told_at (Send (Tell m) side) (Reading at) to = []
+told_at (Read job side) h to = []
+told_at Before h to = []
+told_at After h to = []
+told_at Finished h to = []
+
+-- the moves that a side was told
+abbrev pub told : Standing → List Happening → Colour → List Move
+told s [] to = []
+told s (h ∷ hs) to = told_at s.stage h to ++ told (next s h) hs to
+
+-- a line is sent that tells a move
+abbrev pub is_telling : Stage → Bool
+is_telling (Send Greet side) = false
+is_telling (Send Begin side) = false
+is_telling (Send Ask side) = false
+is_telling (Send (Tell m) side) = true
+is_telling (Read job side) = false
+is_telling Before = false
+is_telling After = false
+is_telling Finished = false
+
+-- those of the lines that were sent to a side that tell it a move
+abbrev pub telling_lines : Standing → List Happening → Colour → List (List ℕ)
+telling_lines s [] to = []
+telling_lines s (h ∷ hs) to = cond (is_telling s.stage) (sent_at s s.stage h to) [] ++ telling_lines (next s h) hs to
+
+-- the lines that tell these moves, each made in the position that those before it lead to
+abbrev pub tell_lines : Position → List Move → List (List ℕ)
+tell_lines p [] = []
+tell_lines p (m ∷ ms) = tell_line p m ∷ tell_lines (after p m) ms
+
+-- all moves were told, or all but the last
+abbrev pub WasTold : List Move → List Move → Type 0
+WasTold told moves = (told ≡ moves) ⊎ ((before : List Move) × (last : Move) × (moves ≡ before ++ last ∷ []) × (told ≡ before))
+
+-- a whole reply, its ok left out, and the side that gave it
+pub record Reply : Type 0 where
+  pub side : Colour
+  pub lines : List (List ℕ)
+
+-- the lines of the reply that is being read, and the last whole reply
+pub record Heard : Type 0 where
+  pub begun : List (List ℕ)
+  pub last : Reply
+
+-- before anything was heard
+abbrev pub nothing_heard : Heard
+nothing_heard = record { begun = []; last = record { side = White; lines = [] } }
+
+-- what was heard once this has happened: a line goes on the reply that is begun, and `ok` ends it
+abbrev pub heard_at : Stage → Heard → Happening → Heard
+heard_at (Read job side) k (Line bytes) =
+    cond (is_ok bytes) (record { begun = []; last = record { side = side; lines = k.begun } }) (record { begun = k.begun ++ bytes ∷ []; last = k.last })
+heard_at (Read job side) k Sent = k
+heard_at (Read job side) k TooLong = k
+heard_at (Read job side) k Ended = k
+heard_at (Read job side) k Broke = k
+heard_at (Read job side) k (Reading at) = k
+heard_at (Send job side) k h = k
+heard_at Before k h = k
+heard_at After k h = k
+heard_at Finished k h = k
+
+-- what was heard after all that happened
+abbrev pub heard : Standing → Heard → List Happening → Heard
+heard s k [] = k
+heard s k (h ∷ hs) = heard (next s h) (heard_at s.stage k h) hs
+
+-- the first line, empty where there is none
+abbrev pub first_of : List (List ℕ) → List ℕ
+first_of [] = []
+first_of (line ∷ lines) = line
+
+-- a move is accepted: it is legal, and is what the first line of the last whole reply, which the side to move gave, denotes
+pub record Accepts (s : Standing) (reply : Reply) (m : Move) : Type 0 where
+  pub side : reply.side ≡ (position_of s).side
+  pub denotes : Denotes s.setup.game_type (position_of s).board (first_of reply.lines) m
+  pub legal : IsOn (legal_moves (position_of s)) m
+
+-- an event leaves the moves, or accepts one
+abbrev pub MovesOn : Standing → Standing → Reply → Type 0
+MovesOn s t reply = (t.moves ≡ s.moves) ⊎ ((m : Move) × (t.moves ≡ s.moves ++ m ∷ []) × Accepts s reply m)
+
+-- The moves are a legal game. Each side was told all of them, or all but the last, each once and in order, and the lines that
+-- told it a move are those of these moves.
+pub record IsFair (setup : Setup) (hs : List Happening) : Type 0 where
+  pub legal : IsGame setup.game_type (match_after setup hs).moves
+  pub white : WasTold (told (start setup) hs White) (match_after setup hs).moves
+  pub black : WasTold (told (start setup) hs Black) (match_after setup hs).moves
+  pub white_lines : telling_lines (start setup) hs White ≡ tell_lines (opening setup.game_type) (told (start setup) hs White)
+  pub black_lines : telling_lines (start setup) hs Black ≡ tell_lines (opening setup.game_type) (told (start setup) hs Black)
+
+-- the law of fair matches, over every list of events that answer the acts
+pub record MatchesAreFair : Type 0 where
+  pub fair : (setup : Setup) (hs : List Happening) → Answering (start setup) hs → IsFair setup hs
+  pub read : (setup : Setup) (hs : List Happening) (h : Happening) → IsSetup setup → Answering (start setup) (hs ++ h ∷ []) →
+      MovesOn (match_after setup hs) (match_after setup (hs ++ h ∷ [])) (heard (start setup) nothing_heard (hs ++ h ∷ [])).last

@@ -1,0 +1,77 @@
+-- What a referee keeps.
+use Rattle.std.specs.Prelude.{◌≡◌, ℕ, ◌+◌, ◌%◌, unwrap_or, ◌^◌, ◌<◌, ◌≤◌, List, [], length}
+use Rattle.hive_model.specs.Courses.{Course}
+use Rattle.match_core.specs.declared.answers.Setup.{Setup}
+use Rattle.match_core.specs.declared.answers.Level.{Level}
+use Rattle.match_core.specs.declared.answers.Level.TheVariants.{Depth, Time}
+use Rattle.match_core.specs.declared.answers.Task.{Task}
+use Rattle.match_core.specs.declared.answers.Task.TheVariants.{Greet, Begin, Ask, Tell}
+use Rattle.match_core.specs.declared.answers.Stage.{Stage}
+use Rattle.match_core.specs.declared.answers.Stage.TheVariants.{Send, Read, Before, After, Finished}
+use Rattle.match_core.specs.declared.answers.Event.{Event}
+use Rattle.match_core.specs.declared.answers.Event.TheVariants.{Sent, Line, TooLong, Ended, Broke, Reading}
+use Rattle.match_core.specs.Texts.{most_sent}
+use Rattle.match_core.specs.Standing.{Standing, line_for}
+
+-- A depth is from 1 to 64. A time is whole seconds, at most 99 hours, 59 minutes and 59 seconds; a margin is at most an hour.
+abbrev pub IsLevel : Level → Type 0
+IsLevel (Depth depth) = (1 ≤ depth) × (depth ≤ 64)
+IsLevel (Time budget margin) = (budget % 1000 ≡ 0) × (budget ≤ 359999000) × (margin ≤ 3600000)
+
+-- a match has from 1 to 1,000 plies at most
+pub record IsSetup (setup : Setup) : Type 0 where
+  pub some : 1 ≤ setup.limit
+  pub few : setup.limit ≤ 1000
+  pub level : IsLevel setup.level
+
+-- the game may go on
+abbrev pub HasNext : Task → ℕ → ℕ → Type 0
+HasNext Greet plies limit = plies < limit
+HasNext Begin plies limit = plies < limit
+HasNext Ask plies limit = plies < limit
+HasNext (Tell told) plies limit = plies ≤ limit
+
+-- the line to send is ready, and the game may go on
+abbrev pub FitsStage : Stage → Standing → List ℕ → Type 0
+FitsStage (Send job side) s text = (text ≡ line_for s job) × HasNext job (length s.moves) s.setup.limit
+FitsStage (Read job side) s text = (text ≡ line_for s job) × HasNext job (length s.moves) s.setup.limit
+FitsStage Before s text = length s.moves < s.setup.limit
+FitsStage After s text = length s.moves < s.setup.limit
+FitsStage Finished s text = Unit {0}
+
+-- the game is the one of the moves, with room for the rest; the line to send is ready
+pub record IsReferee (s : Standing) (game : Course) (text : List ℕ) (room : ℕ) : Type 0 where
+  pub kind : game.game_type ≡ s.setup.game_type
+  pub same : game.made ≡ s.moves
+  pub spare : s.setup.limit ≤ length s.moves + game.spare
+  pub setup : IsSetup s.setup
+  pub asked : s.asked < 2 ^ 62
+  pub count : s.count ≤ 1000
+  pub short : length (unwrap_or s.first []) ≤ 65536
+  pub fits : FitsStage s.stage s text
+  pub has_room : most_sent ≤ room
+
+-- a line is to be sent
+abbrev pub IsSend : Stage → Type 0
+IsSend (Send job side) = Unit {0}
+IsSend (Read job side) = ⊥
+IsSend Before = ⊥
+IsSend After = ⊥
+IsSend Finished = ⊥
+
+-- the line to send
+abbrev pub line_at : Standing → Stage → List ℕ
+line_at s (Send job side) = line_for s job
+line_at s (Read job side) = []
+line_at s Before = []
+line_at s After = []
+line_at s Finished = []
+
+-- a reading is below 2^62
+abbrev pub IsEarly : Event → Type 0
+IsEarly Sent = Unit {0}
+IsEarly Line = Unit {0}
+IsEarly TooLong = Unit {0}
+IsEarly Ended = Unit {0}
+IsEarly Broke = Unit {0}
+IsEarly (Reading at) = at < 2 ^ 62

@@ -1,0 +1,241 @@
+-- How a match stands, as a fold over what has happened in it.
+use Rattle.std.specs.Prelude.{ℕ, ◌+◌, ◌-◌, Bool, true, false, cond, nat_lt, nat_le, List, [], ◌∷◌, ◌++◌, length, take, Option, Some, None, unwrap_or, Result, Ok, Err}
+use Rattle.hive_model.specs.declared.pieces.Colour.{Colour}
+use Rattle.hive_model.specs.declared.pieces.Colour.TheVariants.{White, Black}
+use Rattle.hive_model.specs.declared.places.Move.{Move}
+use Rattle.hive_model.specs.Positions.{Position, opening}
+use Rattle.hive_model.specs.Games.{replay, outcome}
+use Rattle.hive_model.specs.Legal.{is_over_state}
+use Rattle.hive_model.specs.Courses.{is_listed}
+use Rattle.move_text.specs.declared.faults.MoveFault.{MoveFault}
+use Rattle.match_core.specs.declared.answers.Setup.{Setup}
+use Rattle.match_core.specs.declared.answers.Level.{Level}
+use Rattle.match_core.specs.declared.answers.Level.TheVariants.{Depth, Time}
+use Rattle.match_core.specs.declared.answers.Task.{Task}
+use Rattle.match_core.specs.declared.answers.Task.TheVariants.{Greet, Begin, Ask, Tell}
+use Rattle.match_core.specs.declared.answers.Stage.{Stage}
+use Rattle.match_core.specs.declared.answers.Stage.TheVariants.{Send, Read, Before, After, Finished}
+use Rattle.match_core.specs.declared.answers.Act.{Act}
+use Rattle.match_core.specs.declared.answers.Act.TheVariants.{Send as SendAct, Read as ReadAct, Clock, Finish}
+use Rattle.match_core.specs.declared.answers.Cause.{Cause}
+use Rattle.match_core.specs.declared.answers.Cause.TheVariants.{NotAMove, Illegal, ErrLine, Flood, LongLine, Ended as EndedCause, Broke as BrokeCause, Late}
+use Rattle.match_core.specs.declared.answers.Verdict.{Verdict}
+use Rattle.match_core.specs.declared.answers.Verdict.TheVariants.{Rules, Limit, Forfeit}
+use Rattle.match_core.specs.declared.answers.Event.{Event}
+use Rattle.match_core.specs.declared.answers.Event.TheVariants.{Sent as SentEvent, Line as LineEvent, TooLong as TooLongEvent, Ended as EndedEvent, Broke as BrokeEvent, Reading as ReadingEvent}
+use Rattle.match_core.specs.Replies.{is_ok, is_error}
+use Rattle.match_core.specs.Texts.{read_of, begin_line, ask_line, tell_line}
+
+-- what happened where an act was done
+pub data Happening : Type 0 where
+  Sent : Happening
+  Line : (bytes : List ℕ) → Happening
+  TooLong : Happening
+  Ended : Happening
+  Broke : Happening
+  Reading : (at : ℕ) → Happening
+
+-- the line counts for the event Line alone
+abbrev pub happening : Event → List ℕ → Happening
+happening SentEvent line = Sent
+happening LineEvent line = Line line
+happening TooLongEvent line = TooLong
+happening EndedEvent line = Ended
+happening BrokeEvent line = Broke
+happening (ReadingEvent at) line = Reading at
+
+-- a match: the place that it has reached, the first clock reading of the current question, and of the current reply
+-- the first line and the number of lines
+pub record Standing : Type 0 where
+  pub setup : Setup
+  pub moves : List Move
+  pub stage : Stage
+  pub asked : ℕ
+  pub first : Option (List ℕ)
+  pub count : ℕ
+  pub verdict : Option Verdict
+
+-- the position that the moves lead to
+abbrev pub position_of : Standing → Position
+position_of s = replay (opening s.setup.game_type) s.moves
+
+-- the position before the last move
+abbrev pub position_before : Standing → Position
+position_before s = replay (opening s.setup.game_type) (take (length s.moves - 1) s.moves)
+
+-- white's greeting is read first
+abbrev pub start : Setup → Standing
+start setup = record { setup = setup; moves = []; stage = Read Greet White; asked = 0; first = None; count = 0; verdict = None }
+
+-- the act to come
+abbrev pub act_at : Stage → Act
+act_at (Send job side) = SendAct side
+act_at (Read job side) = ReadAct side
+act_at Before = Clock
+act_at After = Clock
+act_at Finished = Finish
+
+-- the line to send
+abbrev pub line_for : Standing → Task → List ℕ
+line_for s Greet = []
+line_for s Begin = begin_line s.setup.game_type
+line_for s Ask = ask_line s.setup.level
+line_for s (Tell told) = tell_line (position_before s) told
+
+-- on to a place, where nothing was read of a reply yet
+abbrev pub go : Standing → Stage → Standing
+go s stage = record { setup = s.setup; moves = s.moves; stage = stage; asked = s.asked; first = None; count = 0; verdict = s.verdict }
+
+-- the match is over
+abbrev pub finish : Standing → Verdict → Standing
+finish s verdict = record { setup = s.setup; moves = s.moves; stage = Finished; asked = s.asked; first = None; count = 0; verdict = Some verdict }
+
+-- a side loses by this cause
+abbrev pub forfeit : Standing → Colour → Cause → Standing
+forfeit s side cause = finish s (Forfeit side cause)
+
+-- the side to move is asked; with a time the clock is read first
+abbrev pub question : Level → Colour → Stage
+question (Depth depth) side = Send Ask side
+question (Time budget margin) side = Before
+
+-- the side to move is asked
+unfoldable pub ask : Standing → Standing
+ask s = go s (question s.setup.level (position_of s).side)
+
+-- a move is accepted: it is played, and then told to white and to black
+abbrev pub accept : Standing → Move → Standing
+accept s m = record { setup = s.setup; moves = s.moves ++ m ∷ []; stage = Send (Tell m) White; asked = s.asked; first = None; count = 0; verdict = s.verdict }
+
+-- the first line of a reply, empty where there is none
+abbrev pub first_line : Standing → List ℕ
+first_line s = unwrap_or s.first []
+
+-- the side to move forfeits where its line is no move, or a move that is not legal
+abbrev pub judge_read : Standing → List ℕ → Result Move MoveFault → Standing
+judge_read s line (Err fault) = forfeit s (position_of s).side (NotAMove line)
+judge_read s line (Ok m) = cond (is_listed (position_of s) m) (accept s m) (forfeit s (position_of s).side (Illegal line))
+
+-- the reply of the side to move is judged
+unfoldable pub judge : Standing → Standing
+judge s = judge_read s (first_line s) (read_of s.setup.game_type (position_of s).board (first_line s))
+
+-- both sides know the last move
+unfoldable pub decide : Standing → Standing
+decide s =
+    cond (is_over_state (outcome s.setup.game_type s.moves)) (finish s (Rules (outcome s.setup.game_type s.moves)))
+    (cond (nat_le s.setup.limit (length s.moves)) (finish s Limit) (ask s))
+
+-- a reply to a question has ended: where it has a time, the clock is read before it is judged
+abbrev pub answered : Standing → Level → Standing
+answered s (Depth depth) = judge s
+answered s (Time budget margin) = record { setup = s.setup; moves = s.moves; stage = After; asked = s.asked; first = s.first; count = s.count; verdict = s.verdict }
+
+-- a reply has ended
+abbrev pub reply_ends : Standing → Task → Colour → Standing
+reply_ends s Greet White = go s (Read Greet Black)
+reply_ends s Greet Black = go s (Send Begin White)
+reply_ends s Begin White = go s (Send Begin Black)
+reply_ends s Begin Black = ask s
+reply_ends s Ask side = answered s s.setup.level
+reply_ends s (Tell told) White = go s (Send (Tell told) Black)
+reply_ends s (Tell told) Black = decide s
+
+-- a line of a reply that does not end it
+abbrev pub keep : Standing → Stage → List ℕ → Standing
+keep s stage line = record { setup = s.setup; moves = s.moves; stage = stage; asked = s.asked; first = Some (unwrap_or s.first line); count = s.count + 1; verdict = s.verdict }
+
+-- a line of a reply ends it, tells a fault, is the 1,001st, or is kept
+abbrev pub hear : Standing → Task → Colour → List ℕ → Standing
+hear s job side line =
+    cond (is_ok line) (reply_ends s job side)
+    (cond (is_error line) (forfeit s side (ErrLine line))
+    (cond (nat_le 1000 s.count) (forfeit s side (Flood 1001)) (keep s (Read job side) line)))
+
+-- the last moment at which an answer is in time: the time and the margin after the question
+abbrev pub latest : Level → ℕ → ℕ
+latest (Depth depth) asked = asked
+latest (Time budget margin) asked = asked + budget + margin
+
+-- an answer is late that comes after that moment
+abbrev pub is_late : Standing → ℕ → Bool
+is_late s at = nat_lt (latest s.setup.level s.asked) at
+
+-- what came of sending a line
+abbrev pub at_send : Standing → Task → Colour → Happening → Standing
+at_send s job side Sent = go s (Read job side)
+at_send s job side Broke = forfeit s side BrokeCause
+at_send s job side (Line bytes) = s
+at_send s job side TooLong = s
+at_send s job side Ended = s
+at_send s job side (Reading at) = s
+
+-- what came of reading a line: one that is too long, an end and a fault are forfeits
+abbrev pub at_read : Standing → Task → Colour → Happening → Standing
+at_read s job side (Line bytes) = hear s job side bytes
+at_read s job side TooLong = forfeit s side LongLine
+at_read s job side Ended = forfeit s side EndedCause
+at_read s job side Broke = forfeit s side BrokeCause
+at_read s job side Sent = s
+at_read s job side (Reading at) = s
+
+-- the clock is read before the question
+abbrev pub at_before : Standing → Happening → Standing
+at_before s (Reading at) = record { setup = s.setup; moves = s.moves; stage = Send Ask (position_of s).side; asked = at; first = s.first; count = s.count; verdict = s.verdict }
+at_before s Sent = s
+at_before s (Line bytes) = s
+at_before s TooLong = s
+at_before s Ended = s
+at_before s Broke = s
+
+-- the clock is read after the reply
+abbrev pub at_after : Standing → Happening → Standing
+at_after s (Reading at) = cond (is_late s at) (forfeit s (position_of s).side (Late s.asked at)) (judge s)
+at_after s Sent = s
+at_after s (Line bytes) = s
+at_after s TooLong = s
+at_after s Ended = s
+at_after s Broke = s
+
+-- what happened at a place of the match
+abbrev pub at_stage : Standing → Stage → Happening → Standing
+at_stage s (Send job side) h = at_send s job side h
+at_stage s (Read job side) h = at_read s job side h
+at_stage s Before h = at_before s h
+at_stage s After h = at_after s h
+at_stage s Finished h = s
+
+-- the match after what happened
+unfoldable pub next : Standing → Happening → Standing
+next s h = at_stage s s.stage h
+
+-- what happened answers the act
+abbrev pub answers : Act → Happening → Bool
+answers (SendAct side) Sent = true
+answers (SendAct side) Broke = true
+answers (SendAct side) (Line bytes) = false
+answers (SendAct side) TooLong = false
+answers (SendAct side) Ended = false
+answers (SendAct side) (Reading at) = false
+answers (ReadAct side) (Line bytes) = true
+answers (ReadAct side) TooLong = true
+answers (ReadAct side) Ended = true
+answers (ReadAct side) Broke = true
+answers (ReadAct side) Sent = false
+answers (ReadAct side) (Reading at) = false
+answers Clock (Reading at) = true
+answers Clock Sent = false
+answers Clock (Line bytes) = false
+answers Clock TooLong = false
+answers Clock Ended = false
+answers Clock Broke = false
+answers Finish h = false
+
+-- the match after all that happened
+abbrev pub after_all : Standing → List Happening → Standing
+after_all s [] = s
+after_all s (h ∷ hs) = after_all (next s h) hs
+
+-- the match of a setup after all that happened
+abbrev pub match_after : Setup → List Happening → Standing
+match_after setup hs = after_all (start setup) hs

@@ -1,0 +1,35 @@
+//! What holds of every match, as the contract of a function.
+ghost use Rattle.match_core.specs.Fairness.{MatchesAreFair};
+ghost use Rattle.match_core.specs.Plays.{MatchesNearTheirEnd, MatchesEnd, MatchesAreJudged};
+ghost use Rattle.match_core.specs.Feeds.{MatchesAreOfTheirLines, MatchesBegin};
+
+/// Over every list of events that answer the acts the moves are a legal game, each is what the reply of the side to move
+/// denotes, and each side was told all of them, or all but the last, in lines that are those of these moves.
+pub fn matches_are_fair()
+    ensures { MatchesAreFair }
+{}
+
+/// Each event that answers the act brings a match nearer to its end.
+pub fn matches_near_their_end()
+    ensures { MatchesNearTheirEnd }
+{}
+
+/// A whole match that took just these lines, with no fault and no late answer, is the match of these lines.
+pub fn matches_are_of_their_lines()
+    ensures { MatchesAreOfTheirLines }
+{}
+
+/// The match of two sides whose lines are known comes to its end.
+pub fn matches_end()
+    ensures { MatchesEnd }
+{}
+
+/// A match is over exactly where it has a verdict.
+pub fn matches_are_judged()
+    ensures { MatchesAreJudged }
+{}
+
+/// A match that took just these lines so far, with no fault and no late answer, is a front of the match of these lines.
+pub fn matches_begin()
+    ensures { MatchesBegin }
+{}

@@ -1,0 +1,16 @@
+//! The referee: what is to be done next in a match of two engines, and what came of it.
+#![tactic(auto)]
+
+mod answers;
+mod laws;
+mod line_text;
+mod lines;
+mod referee;
+mod texts;
+
+pub use answers::{Act, Cause, Event, Level, Setup, Stage, Task, Verdict};
+pub use laws::{
+    matches_are_fair, matches_are_judged, matches_are_of_their_lines, matches_begin, matches_end,
+    matches_near_their_end,
+};
+pub use referee::Referee;

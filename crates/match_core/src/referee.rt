@@ -1,0 +1,141 @@
+//! The referee of a match.
+ghost use Rattle.std.specs.Prelude.{◌≡◌, ◌≤◌, length, IfOk, OnOk, OnErr, IsTrue, Some, None, MatchOption};
+ghost use Rattle.match_core.specs.Standing.{start, next, happening, act_at, answers};
+ghost use Rattle.match_core.specs.Keeps.{IsSetup, IsSend, line_at, IsEarly};
+
+mod judging;
+mod steps;
+
+use crate::answers::{Act, Event, Setup, Stage, Task, Verdict};
+use hive_model::{Colour, Game, LineText};
+use std::alloc::{AllocError, Global};
+use std::marker::Model;
+
+/// A match that is under way, as it stands after what has happened in it.
+///
+/// Each engine greets first, white before black, and is then told to begin a new game. The side to move is asked for its best
+/// move; the first line of its reply is judged, and a legal move is played and told to white and then to black. The match ends by
+/// the rules, at its limit of plies, or by a forfeit.
+#[derive(Drop)]
+pub struct Referee<G: Game> {
+    alloc: Global,
+    setup: Setup,
+    game: G,
+    stage: Stage,
+    asked: u64,
+    first: Option<LineText>,
+    count: u32,
+    verdict: Option<Verdict>,
+    text: Vec<u8>,
+}
+
+impl<G: Game> Model for Referee<G> {
+    ghost use Rattle.std.specs.Prelude.{vec_capacity};
+    ghost use Rattle.match_core.specs.Standing.{Standing};
+    ghost use Rattle.match_core.specs.Keeps.{IsReferee};
+
+    ghost Value = { Standing };
+
+    ghost view = { λ r. record { setup = r.setup; moves = (G.course r.game).made; stage = r.stage; asked = r.asked; first = r.first; count = r.count; verdict = r.verdict } };
+
+    ghost invariant = { λ r. IsReferee (record { setup = r.setup; moves = (G.course r.game).made; stage = r.stage; asked = r.asked; first = r.first; count = r.count; verdict = r.verdict }) (G.course r.game) r.text.items (vec_capacity r.text) };
+}
+
+impl<G: Game + Drop> Referee<G> {
+    /// The referee of a match that begins. It makes room for the whole match, and answers `AllocError` where there is none.
+    pub fn new(alloc: Global, setup: Setup) -> Result<Referee<G>, AllocError>
+        requires { IsSetup setup }
+        ensures { IfOk result (λ r. r ≡ start setup) }
+    {
+        let mut game = G::opening(alloc, setup.game_type)?;
+        game.reserve(setup.limit)?;
+        let text = Vec::with_capacity(alloc, 64)?;
+        Ok(Referee {
+            alloc,
+            setup,
+            game,
+            stage: Stage::Read {
+                task: Task::Greet,
+                side: Colour::White,
+            },
+            asked: 0,
+            first: None,
+            count: 0,
+            verdict: None,
+            text,
+        })
+    }
+
+    /// The act that is to be done now.
+    pub fn next(&self) -> Act
+        ensures { result ≡ act_at self.now.stage }
+    {
+        match self.stage {
+            Stage::Send { task: _, side } => Act::Send { side },
+            Stage::Read { task: _, side } => Act::Read { side },
+            Stage::Before => Act::Clock,
+            Stage::After => Act::Clock,
+            Stage::Finished => Act::Finish,
+        }
+    }
+}
+
+impl<G: Game + Drop> Referee<G> {
+    /// The line that is to be sent now, its LF included.
+    pub fn text(&self) -> &[u8]
+        requires { IsSend self.now.stage }
+        ensures { result.now ≡ line_at self.now self.now.stage }
+    {
+        self.text.as_slice()
+    }
+
+    /// The verdict: none until the match is over.
+    pub fn verdict(&self) -> Option<&Verdict>
+        ensures { MatchOption result (self.now.verdict ≡ None) (λ v. self.now.verdict ≡ Some v.now) }
+    {
+        self.verdict.as_ref()
+    }
+
+    /// The game so far.
+    pub fn game(&self) -> &G
+        ensures moves { (G.course result.now).made ≡ self.now.moves }
+        ensures kind { (G.course result.now).game_type ≡ self.now.setup.game_type }
+    {
+        &self.game
+    }
+}
+
+impl<G: Game + Drop> Referee<G> {
+    /// Moves on by one event, which answers the act that was to be done. The line counts for the event `Line` alone; it has at most
+    /// 65,536 bytes. A reading of the clock is below 2 to the power 62.
+    ///
+    /// # Errors
+    ///
+    /// Only a line can want memory, for a copy that is kept. Then the match stands as before.
+    #[tactic(auto, unfolding(crate::specs::Standing::next))]
+    pub fn step(&mut self, event: Event, line: &[u8]) -> Result<(), AllocError>
+        requires answers { IsTrue (answers (act_at self.old.stage) (happening event line.now)) }
+        requires early { IsEarly event }
+        requires short { length line.now ≤ 65536 }
+        ensures ok { OnOk result (self.new ≡ next self.old (happening event line.now)) }
+        ensures err { OnErr result (self.new ≡ self.old) }
+        ensures memory { OnErr result (event ≡ Event.Line) }
+    {
+        match self.stage {
+            Stage::Send { task, side } => {
+                self.on_send(task, side, event);
+                Ok(())
+            }
+            Stage::Read { task, side } => self.on_read(task, side, event, line),
+            Stage::Before => {
+                self.on_before(event);
+                Ok(())
+            }
+            Stage::After => {
+                self.on_after(event);
+                Ok(())
+            }
+            Stage::Finished => Ok(()),
+        }
+    }
+}

@@ -1,0 +1,117 @@
+//! How a match goes on once a reply is whole.
+ghost use Rattle.std.specs.Prelude.{◌≡◌, ◌<◌, ◌≤◌, length, None, unwrap_or, []};
+ghost use Rattle.hive_model.specs.Legal.{moves};
+ghost use Rattle.hive_model.specs.Lists.{IsOn};
+ghost use Rattle.match_core.specs.Standing.{ask, judge, decide, forfeit, finish, accept, position_of};
+
+use super::Referee;
+use crate::answers::{Cause, Level, Stage, Task, Verdict};
+use crate::texts::{outcome, read_line, write_ask, write_tell};
+use hive_model::{Colour, Game, LineText, Move};
+use std::alloc::Global;
+
+/// Takes the first line, empty where there is none.
+fn take_first(alloc: Global, first: &mut Option<LineText>) -> LineText
+    ensures line { result ≡ unwrap_or first.old [] }
+    ensures none { first.new ≡ None }
+{
+    match first.take() {
+        Some(line) => line,
+        None => LineText::new(alloc),
+    }
+}
+
+impl<G: Game + Drop> Referee<G> {
+    /// The match is over.
+    pub(super) fn finish(&mut self, verdict: Verdict)
+        ensures { self.new ≡ finish self.old verdict }
+    {
+        self.first = None;
+        self.count = 0;
+        self.stage = Stage::Finished;
+        self.verdict = Some(verdict);
+    }
+
+    /// A side loses by this cause.
+    pub(super) fn forfeit(&mut self, side: Colour, cause: Cause)
+        ensures { self.new ≡ forfeit self.old side cause }
+    {
+        self.finish(Verdict::Forfeit { side, cause });
+    }
+
+    /// The side to move is asked; where it has a time, the clock is read first.
+    #[tactic(auto, unfolding(crate::specs::Standing::ask))]
+    pub(super) fn ask(&mut self)
+        requires { length self.old.moves < self.old.setup.limit }
+        ensures { self.new ≡ ask self.old }
+    {
+        self.first = None;
+        self.count = 0;
+        match self.setup.level {
+            Level::Depth { depth: _ } => {
+                write_ask(&mut self.text, self.setup.level);
+                self.stage = Stage::Send {
+                    task: Task::Ask,
+                    side: self.game.side(),
+                };
+            }
+            Level::Time { .. } => {
+                self.stage = Stage::Before;
+            }
+        }
+    }
+
+    /// Both sides know the last move: the rules end the game, or the limit does, or it goes on.
+    #[tactic(auto, unfolding(crate::specs::Standing::decide))]
+    pub(super) fn decide(&mut self)
+        requires { length self.old.moves ≤ self.old.setup.limit }
+        ensures { self.new ≡ decide self.old }
+    {
+        let state = outcome(&self.game);
+        if state.is_over() {
+            self.finish(Verdict::Rules { state });
+            return;
+        }
+        if self.game.plies() >= self.setup.limit {
+            self.finish(Verdict::Limit);
+            return;
+        }
+        self.ask();
+    }
+
+    /// A legal move is played, and is to be told to white first.
+    fn accept(&mut self, m: Move)
+        requires more { length self.old.moves < self.old.setup.limit }
+        requires legal { IsOn (moves (position_of self.old)) m }
+        ensures { self.new ≡ accept self.old m }
+    {
+        write_tell(&mut self.text, &self.game, m.again());
+        self.game.play(m.again());
+        self.first = None;
+        self.count = 0;
+        self.stage = Stage::Send {
+            task: Task::Tell { told: m },
+            side: Colour::White,
+        };
+    }
+
+    /// The first line of the reply is to be a legal move.
+    #[tactic(auto, unfolding(crate::specs::Standing::judge))]
+    pub(super) fn judge(&mut self)
+        requires { length self.old.moves < self.old.setup.limit }
+        ensures { self.new ≡ judge self.old }
+    {
+        let side = self.game.side();
+        let line = take_first(self.alloc, &mut self.first);
+        match read_line(&self.game, line.items()) {
+            Err(_) => self.forfeit(side, Cause::NotAMove { line }),
+            Ok(m) => {
+                if self.game.is_legal(m.again()) {
+                    self.accept(m);
+                } else {
+                    self.forfeit(side, Cause::Illegal { line });
+                }
+            }
+        }
+    }
+}

@@ -1,0 +1,232 @@
+//! What each event does to a match.
+ghost use Rattle.std.specs.Prelude.{◌≡◌, ◌+◌, ◌<◌, ◌≤◌, ◌^◌, length, OnOk, OnErr, List, ℕ};
+ghost use Rattle.match_core.specs.Standing.{happening, reply_ends, hear, go, keep, latest, at_send, at_read, at_before, at_after, answered};
+ghost use Rattle.match_core.specs.Keeps.{IsLevel, IsEarly, HasNext};
+
+use super::Referee;
+use crate::answers::{Cause, Event, Level, Stage, Task};
+use crate::line_text::copy_line;
+use crate::lines::{is_error, is_ok};
+use crate::texts::{write_ask, write_begin};
+use hive_model::{Colour, Game, Move};
+use std::alloc::AllocError;
+
+/// The last moment at which a question that was asked then is answered in time.
+fn latest(level: Level, asked: u64) -> u64
+    requires level { IsLevel level }
+    requires early { asked < 2 ^ 62 }
+    ensures { result ≡ latest level asked }
+{
+    match level {
+        Level::Depth { depth: _ } => asked,
+        Level::Time { budget, margin } => asked + budget + margin,
+    }
+}
+
+impl<G: Game + Drop> Referee<G> {
+    /// A side is told to begin a new game.
+    fn begin(&mut self, side: Colour)
+        requires { length self.old.moves < self.old.setup.limit }
+        ensures { self.new ≡ go self.old (Stage.Send Task.Begin side) }
+    {
+        write_begin(&mut self.text, self.setup.game_type);
+        self.first = None;
+        self.count = 0;
+        self.stage = Stage::Send {
+            task: Task::Begin,
+            side,
+        };
+    }
+
+    /// The greeting of a side is to be read.
+    fn greet(&mut self, side: Colour)
+        requires { self.old.stage ≡ Stage.Read Task.Greet Colour.White }
+        ensures { self.new ≡ go self.old (Stage.Read Task.Greet side) }
+    {
+        self.first = None;
+        self.count = 0;
+        self.stage = Stage::Read {
+            task: Task::Greet,
+            side,
+        };
+    }
+
+    /// The reply of the side to move has ended.
+    fn answered(&mut self)
+        requires { length self.old.moves < self.old.setup.limit }
+        ensures { self.new ≡ answered self.old self.old.setup.level }
+    {
+        match self.setup.level {
+            Level::Depth { depth: _ } => self.judge(),
+            Level::Time { .. } => {
+                self.stage = Stage::After;
+            }
+        }
+    }
+
+    /// White knows the move, and black is told it.
+    fn tell_black(&mut self, m: Move)
+        requires { self.old.stage ≡ Stage.Read (Task.Tell m) Colour.White }
+        ensures { self.new ≡ go self.old (Stage.Send (Task.Tell m) Colour.Black) }
+    {
+        self.first = None;
+        self.count = 0;
+        self.stage = Stage::Send {
+            task: Task::Tell { told: m },
+            side: Colour::Black,
+        };
+    }
+
+    /// A reply has ended.
+    fn reply_ends(&mut self, task: Task, side: Colour)
+        requires more { HasNext task (length self.old.moves) self.old.setup.limit }
+        requires stage { self.old.stage ≡ Stage.Read task side }
+        ensures { self.new ≡ reply_ends self.old task side }
+    {
+        match (task, side) {
+            (Task::Greet, Colour::White) => self.greet(Colour::Black),
+            (Task::Greet, Colour::Black) => self.begin(Colour::White),
+            (Task::Begin, Colour::White) => self.begin(Colour::Black),
+            (Task::Begin, Colour::Black) => self.ask(),
+            (Task::Ask, _) => self.answered(),
+            (Task::Tell { told }, Colour::White) => self.tell_black(told),
+            (Task::Tell { told: _ }, Colour::Black) => self.decide(),
+        }
+    }
+
+    /// Counts a line, and keeps the first.
+    fn keep(&mut self, line: &[u8]) -> Result<(), AllocError>
+        requires few { self.old.count < 1000 }
+        requires short { length line.now ≤ 65536 }
+        ensures ok { OnOk result (self.new ≡ keep self.old self.old.stage line.now) }
+        ensures err { OnErr result (self.new ≡ self.old) }
+    {
+        if self.first.is_some() {
+            self.count += 1;
+            return Ok(());
+        }
+        let kept = copy_line(self.alloc, line)?;
+        self.first = Some(kept);
+        self.count += 1;
+        Ok(())
+    }
+
+    /// A line of a reply: it ends the reply, tells a fault, is one line too many, or is counted.
+    fn hear(&mut self, task: Task, side: Colour, line: &[u8]) -> Result<(), AllocError>
+        requires more { HasNext task (length self.old.moves) self.old.setup.limit }
+        requires short { length line.now ≤ 65536 }
+        requires stage { self.old.stage ≡ Stage.Read task side }
+        ensures ok { OnOk result (self.new ≡ hear self.old task side line.now) }
+        ensures err { OnErr result (self.new ≡ self.old) }
+    {
+        if is_ok(line) {
+            self.reply_ends(task, side);
+            return Ok(());
+        }
+        if is_error(line) {
+            let line = copy_line(self.alloc, line)?;
+            self.forfeit(side, Cause::ErrLine { line });
+            return Ok(());
+        }
+        if self.count >= 1000 {
+            self.forfeit(side, Cause::Flood { lines: 1001 });
+            return Ok(());
+        }
+        self.keep(line)
+    }
+
+    /// What came of sending a line.
+    pub(super) fn on_send(&mut self, task: Task, side: Colour, event: Event)
+        requires { self.old.stage ≡ Stage.Send task side }
+        ensures { (line : List ℕ) → self.new ≡ at_send self.old task side (happening event line) }
+    {
+        match event {
+            Event::Sent => {
+                self.first = None;
+                self.count = 0;
+                self.stage = Stage::Read { task, side };
+            }
+            Event::Broke => self.forfeit(side, Cause::Broke),
+            _ => {}
+        }
+    }
+
+    /// What came of reading a line.
+    pub(super) fn on_read(
+        &mut self,
+        task: Task,
+        side: Colour,
+        event: Event,
+        line: &[u8],
+    ) -> Result<(), AllocError>
+        requires more { HasNext task (length self.old.moves) self.old.setup.limit }
+        requires short { length line.now ≤ 65536 }
+        requires stage { self.old.stage ≡ Stage.Read task side }
+        ensures ok { OnOk result (self.new ≡ at_read self.old task side (happening event line.now)) }
+        ensures err { OnErr result (self.new ≡ self.old) }
+        ensures memory { OnErr result (event ≡ Event.Line) }
+    {
+        match event {
+            Event::Line => self.hear(task, side, line),
+            Event::TooLong => {
+                self.forfeit(side, Cause::LongLine);
+                Ok(())
+            }
+            Event::Ended => {
+                self.forfeit(side, Cause::Ended);
+                Ok(())
+            }
+            Event::Broke => {
+                self.forfeit(side, Cause::Broke);
+                Ok(())
+            }
+            _ => Ok(()),
+        }
+    }
+
+    /// The clock is read before a question.
+    pub(super) fn on_before(&mut self, event: Event)
+        requires stage { self.old.stage ≡ Stage.Before }
+        requires early { IsEarly event }
+        ensures { (line : List ℕ) → self.new ≡ at_before self.old (happening event line) }
+    {
+        match event {
+            Event::Reading { at } => {
+                write_ask(&mut self.text, self.setup.level);
+                self.asked = at;
+                self.stage = Stage::Send {
+                    task: Task::Ask,
+                    side: self.game.side(),
+                };
+            }
+            _ => {}
+        }
+    }
+
+    /// The clock is read after a reply.
+    pub(super) fn on_after(&mut self, event: Event)
+        requires stage { self.old.stage ≡ Stage.After }
+        requires early { IsEarly event }
+        ensures { (line : List ℕ) → self.new ≡ at_after self.old (happening event line) }
+    {
+        match event {
+            Event::Reading { at } => {
+                let latest = latest(self.setup.level, self.asked);
+                if at > latest {
+                    let side = self.game.side();
+                    let asked = self.asked;
+                    self.forfeit(
+                        side,
+                        Cause::Late {
+                            asked,
+                            answered: at,
+                        },
+                    );
+                } else {
+                    self.judge();
+                }
+            }
+            _ => {}
+        }
+    }
+}

@@ -1,0 +1,97 @@
+//! The lines that are sent, and the move of a line.
+ghost use Rattle.std.specs.Prelude.{◌≡◌, ◌+◌, ◌%◌, ◌≤◌, ◌++◌, length, vec_len, vec_capacity};
+ghost use Rattle.hive_model.specs.Courses.{position};
+ghost use Rattle.hive_model.specs.Legal.{moves};
+ghost use Rattle.hive_model.specs.Lists.{IsOn};
+ghost use Rattle.match_core.specs.Keeps.{IsLevel};
+ghost use Rattle.hive_model.specs.Games.{outcome};
+ghost use Rattle.match_core.specs.Texts.{read_of, begin_line, ask_line, tell_line, most_sent};
+
+use crate::answers::Level;
+use hive_model::{Game, GameType, Move, State};
+use itoa::Buffer;
+use move_text::{MoveFault, read_move, time_text, type_text, write_move};
+
+/// How the game stands.
+#[tactic(auto, unfolding(hive_model::specs::Games::outcome))]
+pub(crate) fn outcome<G: Game>(game: &G) -> State
+    ensures { result ≡ outcome (G.course game.now).game_type (G.course game.now).made }
+{
+    game.state()
+}
+
+/// The move that a line denotes on the game's board, or why it denotes none.
+#[tactic(auto, unfolding(crate::specs::Texts::read_of))]
+pub(crate) fn read_line<G: Game>(game: &G, line: &[u8]) -> Result<Move, MoveFault>
+    requires { length line.now ≤ 65536 }
+    ensures { result ≡ read_of (G.course game.now).game_type (position (G.course game.now)).board line.now }
+{
+    let _state = game.state();
+    read_move(game.game_type(), game, line)
+}
+
+/// Appends bytes that there is room for.
+fn put(text: &mut Vec<u8>, bytes: &[u8])
+    requires short { vec_len text.old + length bytes.now ≤ most_sent }
+    requires room { most_sent ≤ vec_capacity text.old }
+    ensures text { text.new.items ≡ text.old.items ++ bytes.now }
+    ensures len { vec_len text.new ≡ vec_len text.old + length bytes.now }
+    ensures room { most_sent ≤ vec_capacity text.new }
+{
+    let _ = text.extend_from_slice(bytes);
+}
+
+#[tactic(auto, unfolding(crate::specs::Texts::begin_line))]
+pub(crate) fn write_begin(text: &mut Vec<u8>, game_type: GameType)
+    requires { most_sent ≤ vec_capacity text.old }
+    ensures text { text.new.items ≡ begin_line game_type }
+    ensures room { most_sent ≤ vec_capacity text.new }
+{
+    text.clear();
+    put(text, b"newgame ");
+    put(text, type_text(game_type).as_bytes());
+    put(text, b"\n");
+}
+
+#[tactic(auto, unfolding(crate::specs::Texts::ask_line))]
+pub(crate) fn write_ask(text: &mut Vec<u8>, level: Level)
+    requires level { IsLevel level }
+    requires room { most_sent ≤ vec_capacity text.old }
+    ensures text { text.new.items ≡ ask_line level }
+    ensures room { most_sent ≤ vec_capacity text.new }
+{
+    text.clear();
+    match level {
+        Level::Depth { depth } => {
+            let mut buffer = Buffer::new();
+            put(text, b"bestmove depth ");
+            put(text, buffer.format(depth).as_bytes());
+            put(text, b"\n");
+        }
+        Level::Time { budget, margin: _ } => {
+            put(text, b"bestmove time ");
+            put(text, time_text(budget).as_bytes());
+            put(text, b"\n");
+        }
+    }
+}
+
+/// The line that tells a legal move, before it is made.
+#[tactic(auto, unfolding(crate::specs::Texts::tell_line))]
+pub(crate) fn write_tell<G: Game>(text: &mut Vec<u8>, game: &G, m: Move)
+    requires legal { IsOn (moves (position (G.course game.now))) m }
+    requires room { most_sent ≤ vec_capacity text.old }
+    ensures text { text.new.items ≡ tell_line (position (G.course game.now)) m }
+    ensures room { most_sent ≤ vec_capacity text.new }
+{
+    let _state = game.state();
+    text.clear();
+    match m {
+        Move::Pass => put(text, b"pass\n"),
+        Move::To { .. } => {
+            put(text, b"play ");
+            put(text, write_move(game, m).as_bytes());
+            put(text, b"\n");
+        }
+    }
+}

@@ -1,0 +1,193 @@
+use Rattle.std.specs.declared.option.Option.{Option}
+use Rattle.std.specs.Prelude.{nat_le, nat_lt}
+use Rattle.hive_model.specs.declared.pieces.Colour.{Colour}
+use Rattle.hive_model.specs.declared.pieces.Colour.TheVariants.{White, Black}
+use Rattle.hive_model.specs.declared.places.Move.{Move}
+use Rattle.hive_model.specs.Lists.{IsOn}
+use Rattle.hive_model.specs.Positions.{Position, opening}
+use Rattle.hive_model.specs.Legal.{is_over_state}
+use Rattle.hive_model.specs.Courses.{is_listed}
+use Rattle.hive_model.specs.Games.{outcome}
+use Rattle.move_text.specs.declared.faults.MoveFault.{MoveFault}
+use Rattle.match_core.specs.declared.answers.Setup.{Setup}
+use Rattle.match_core.specs.declared.answers.Level.{Level}
+use Rattle.match_core.specs.declared.answers.Level.TheVariants.{Depth, Time}
+use Rattle.match_core.specs.declared.answers.Task.{Task}
+use Rattle.match_core.specs.declared.answers.Task.TheVariants.{Greet, Begin, Ask, Tell}
+use Rattle.match_core.specs.declared.answers.Stage.{Stage}
+use Rattle.match_core.specs.declared.answers.Stage.TheVariants.{Send, Read, Before, After, Finished}
+use Rattle.match_core.specs.declared.answers.Cause.{Cause}
+use Rattle.match_core.specs.declared.answers.Cause.TheVariants.{NotAMove, Illegal, ErrLine, Flood, LongLine, Ended as EndedCause, Broke as BrokeCause, Late}
+use Rattle.match_core.specs.declared.answers.Verdict.{Verdict}
+use Rattle.match_core.specs.declared.answers.Verdict.TheVariants.{Rules, Limit, Forfeit}
+use Rattle.match_core.specs.Replies.{is_ok, is_error}
+use Rattle.match_core.specs.Standing.{Standing, Happening, Sent, Line, TooLong, Ended, Broke, Reading, start, match_after, next, after_all, act_at, answers, position_of, go, finish, ask, judge, judge_read, decide, accept, first_line, at_stage, is_late, keep, reply_ends, hear, question, forfeit, answered}
+use Rattle.match_core.specs.Texts.{read_of}
+use Rattle.match_core.specs.Keeps.{IsSetup}
+use Rattle.match_core.specs.declared.answers.Act.TheVariants.{Finish, Send as SendAct, Read as ReadAct}
+use Rattle.match_core.specs.Fairness.{Answering, sent, sent_at}
+use Rattle.std.proofs.Common.{◌≡◌, ◌⊎◌, inl, inr, ◌<◌, ◌≤◌, ℕ, ◌+◌, ◌*◌, Bool, true, false, cond, List, [], ◌∷◌, ◌++◌, length, length-append, refl, ap, sym, ◌∙◌, None, Some, IsTrue, arith, subst, Ok, Err}
+use Rattle.std.specs.Result.{IfOk}
+use Rattle.std.specs.declared.result.Result.{Result}
+use Rattle.match_core.proofs.Fair.{either}
+use Rattle.match_core.proofs.Follows.{next_is}
+use Rattle.io_edge.specs.Outside.{Told}
+use Rattle.match_runner.specs.Turns.{Side, Watch, Breaks, looks_at}
+use Rattle.match_runner.specs.Runs.{looks, FinalRun, Runs, Run}
+
+abbrev extra_job : Task → ℕ
+extra_job Greet = 0
+extra_job Begin = 0
+extra_job Ask = 1
+extra_job (Tell m) = 0
+
+abbrev extra : Stage → ℕ
+extra (Send job side) = extra_job job
+extra (Read job side) = extra_job job
+extra Before = 0
+extra After = 1
+extra Finished = 2
+
+abbrev Read_so : ℕ → Standing → Type 0
+Read_so n t = n ≤ 2 * length t.moves + extra t.stage
+
+asks_at : (s : Standing) (level : Level) (side : Colour) (n : ℕ) → n ≤ 2 * length s.moves → Read_so n (go s (question level side))
+asks_at s (Depth depth) side n h = omega arith
+asks_at s (Time budget margin) side n h = omega arith
+
+asks : (s : Standing) (n : ℕ) → n ≤ 2 * length s.moves → Read_so n (ask s)
+unfolding ask
+asks s n h = asks_at s s.setup.level (position_of s).side n h
+
+decides : (s : Standing) (n : ℕ) → n ≤ 2 * length s.moves → Read_so n (decide s)
+unfolding decide
+decides s n h =
+    let P : Standing → Type 0 = λ t. Read_so n t in
+    either P (is_over_state (outcome s.setup.game_type s.moves)) (finish s (Rules (outcome s.setup.game_type s.moves))) (cond (nat_le s.setup.limit (length s.moves)) (finish s Limit) (ask s)) (λ e. omega arith)
+    (λ e. either P (nat_le s.setup.limit (length s.moves)) (finish s Limit) (ask s) (λ f. omega arith) (λ f. asks s n h))
+
+judges_as : (s : Standing) (line : List ℕ) (o : Result Move MoveFault) (n : ℕ) → n ≤ 2 * length s.moves + 2 → Read_so n (judge_read s line o)
+judges_as s line (Err fault) n h = h
+judges_as s line (Ok m) n h =
+    let P : Standing → Type 0 = λ t. Read_so n t in
+    either P (is_listed (position_of s) m) (accept s m) (forfeit s (position_of s).side (Illegal line)) (λ e. let k : length (s.moves ++ m ∷ []) ≡ length s.moves + 1 = length-append s.moves (m ∷ []) in omega (arith, k, h)) (λ e. h)
+
+judges : (s : Standing) (n : ℕ) → n ≤ 2 * length s.moves + 2 → Read_so n (judge s)
+unfolding judge
+judges s n h = judges_as s (first_line s) (read_of s.setup.game_type (position_of s).board (first_line s)) n h
+
+answers_as : (s : Standing) (level : Level) (n : ℕ) → n ≤ 2 * length s.moves + 1 → Read_so n (answered s level)
+answers_as s (Depth depth) n h = judges s n (omega arith)
+answers_as s (Time budget margin) n h = h
+
+ends_reply : (s : Standing) (job : Task) (side : Colour) (n : ℕ) → n ≤ 2 * length s.moves + extra_job job → Read_so n (reply_ends s job side)
+ends_reply s Greet White n h = h
+ends_reply s Greet Black n h = h
+ends_reply s Begin White n h = h
+ends_reply s Begin Black n h = asks s n (omega arith)
+ends_reply s Ask side n h = answers_as s s.setup.level n h
+ends_reply s (Tell m) White n h = h
+ends_reply s (Tell m) Black n h = decides s n (omega arith)
+
+two_more : (job : Task) (m n : ℕ) → n ≤ m + extra_job job → n ≤ m + 2
+two_more Greet m n h = omega arith
+two_more Begin m n h = omega arith
+two_more Ask m n h = omega arith
+two_more (Tell t) m n h = omega arith
+
+hears : (s : Standing) (job : Task) (side : Colour) (line : List ℕ) (n : ℕ) → n ≤ 2 * length s.moves + extra_job job → Read_so n (hear s job side line)
+hears s job side line n h =
+    let P : Standing → Type 0 = λ t. Read_so n t in
+    let more : n ≤ 2 * length s.moves + 2 = two_more job (2 * length s.moves) n h in
+    either P (is_ok line) (reply_ends s job side) (cond (is_error line) (forfeit s side (ErrLine line)) (cond (nat_le 1000 s.count) (forfeit s side (Flood 1001)) (keep s (Read job side) line)))
+    (λ e. ends_reply s job side n h)
+    (λ e. either P (is_error line) (forfeit s side (ErrLine line)) (cond (nat_le 1000 s.count) (forfeit s side (Flood 1001)) (keep s (Read job side) line)) (λ f. more)
+    (λ f. either P (nat_le 1000 s.count) (forfeit s side (Flood 1001)) (keep s (Read job side) line) (λ k. more) (λ k. h)))
+
+reads_at : (stage : Stage) (s : Standing) (h : Happening) (n : ℕ) → n ≤ 2 * length s.moves + extra stage → IsTrue (answers (act_at stage) h) → Read_so (n + looks_at stage) (at_stage s stage h)
+reads_at (Send job side) s Sent n b w = omega (arith, b)
+reads_at (Send job side) s Broke n b w = let c = two_more job (2 * length s.moves) n b in omega (arith, c)
+reads_at (Send job side) s (Line bytes) n b w = absurd (cc)
+reads_at (Send job side) s TooLong n b w = absurd (cc)
+reads_at (Send job side) s Ended n b w = absurd (cc)
+reads_at (Send job side) s (Reading at) n b w = absurd (cc)
+reads_at (Read job side) s (Line bytes) n b w = hears s job side bytes (n + 0) (omega (arith, b))
+reads_at (Read job side) s TooLong n b w = let c = two_more job (2 * length s.moves) n b in omega (arith, c)
+reads_at (Read job side) s Ended n b w = let c = two_more job (2 * length s.moves) n b in omega (arith, c)
+reads_at (Read job side) s Broke n b w = let c = two_more job (2 * length s.moves) n b in omega (arith, c)
+reads_at (Read job side) s Sent n b w = absurd (cc)
+reads_at (Read job side) s (Reading at) n b w = absurd (cc)
+reads_at Before s (Reading at) n b w = omega (arith, b)
+reads_at Before s Sent n b w = absurd (cc)
+reads_at Before s Broke n b w = absurd (cc)
+reads_at Before s (Line bytes) n b w = absurd (cc)
+reads_at Before s TooLong n b w = absurd (cc)
+reads_at Before s Ended n b w = absurd (cc)
+reads_at After s (Reading at) n b w =
+    let P : Standing → Type 0 = λ t. Read_so (n + 1) t in
+    let c : n + 1 ≤ 2 * length s.moves + 2 = omega (arith, b) in
+    either P (is_late s at) (forfeit s (position_of s).side (Late s.asked at)) (judge s) (λ e. c) (λ e. judges s (n + 1) c)
+reads_at After s Sent n b w = absurd (cc)
+reads_at After s Broke n b w = absurd (cc)
+reads_at After s (Line bytes) n b w = absurd (cc)
+reads_at After s TooLong n b w = absurd (cc)
+reads_at After s Ended n b w = absurd (cc)
+reads_at Finished s h n b w = absurd (cc)
+
+reads_next : (s : Standing) (h : Happening) (n : ℕ) → Read_so n s → IsTrue (answers (act_at s.stage) h) → Read_so (n + looks_at s.stage) (next s h)
+reads_next s h n b w = rw (next_is s h) (reads_at s.stage s h n b w)
+
+reads_all : (hs : List Happening) (s : Standing) (n : ℕ) → Read_so n s → Answering s hs → Read_so (n + looks s hs) (after_all s hs)
+reads_all [] s n b t = omega (arith, b)
+reads_all (h ∷ hs) s n b (t, u) = let r = reads_all hs (next s h) (n + looks_at s.stage) (reads_next s h n b t) u in omega (arith, r)
+
+extra_most : (stage : Stage) → extra stage ≤ 2
+extra_most (Send Greet side) = omega arith
+extra_most (Send Begin side) = omega arith
+extra_most (Send Ask side) = omega arith
+extra_most (Send (Tell m) side) = omega arith
+extra_most (Read Greet side) = omega arith
+extra_most (Read Begin side) = omega arith
+extra_most (Read Ask side) = omega arith
+extra_most (Read (Tell m) side) = omega arith
+extra_most Before = omega arith
+extra_most After = omega arith
+extra_most Finished = omega arith
+
+pub looks_bound : (setup : Setup) (hs : List Happening) → Answering (start setup) hs → looks (start setup) hs ≤ 2 * length (match_after setup hs).moves + 2
+looks_bound setup hs t = let r = reads_all hs (start setup) 0 (omega arith) t in let e = extra_most (match_after setup hs).stage in omega (arith, r, e)
+
+pub moves_broke : (stage : Stage) (s : Standing) → IsTrue (answers (act_at stage) Broke) → (at_stage s stage Broke).moves ≡ s.moves
+moves_broke (Send job side) s w = refl
+moves_broke (Read job side) s w = refl
+moves_broke Before s w = absurd (cc)
+moves_broke After s w = absurd (cc)
+moves_broke Finished s w = absurd (cc)
+
+read_run : (setup : Setup) (s : Standing) (w0 w b0 b : Side) (r0 r : Watch) → Run setup s w0 w b0 b r0 r → r.readings ≤ r0.readings + (2 * length s.moves + 2)
+read_run setup s w0 w b0 b r0 r (hs, run) =
+    let k = looks_bound setup hs run.fits in
+    let e : length s.moves ≡ length (match_after setup hs).moves = ap (λ (x : Standing). length x.moves) run.here in
+    let a = run.readings in omega (arith, k, e, a)
+
+read_cut : (setup : Setup) (s t : Standing) (w0 w w2 b0 b b2 : Side) (r0 r : Watch) → Run setup s w0 w b0 b r0 r → Breaks s t w w2 b b2 → r.readings ≤ r0.readings + (2 * length t.moves + 2)
+read_cut setup s t w0 w w2 b0 b b2 r0 r run br =
+    let k = read_run setup s w0 w b0 b r0 r run in
+    let e : t.moves ≡ s.moves = ap (λ (x : Standing). x.moves) (br.next_is ∙ next_is s Broke) ∙ moves_broke s.stage s br.fits in
+    let f : length t.moves ≡ length s.moves = ap length e in omega (arith, k, f)
+
+read_final : (setup : Setup) (t : Standing) (w_rest w_old w_new b_rest b_old b_new w_left b_left : Told) (r0 r : Watch) (i0 i1 i2 i3 i4 i5 i6 i7 : ℕ) → FinalRun setup t w_rest w_old w_new b_rest b_old b_new w_left b_left r0 r i0 i1 i2 i3 i4 i5 i6 i7
+    → r.readings ≤ r0.readings + (2 * length t.moves + 2)
+read_final setup t w_rest w_old w_new b_rest b_old b_new w_left b_left r0 r i0 i1 i2 i3 i4 i5 i6 i7 (w_reader, b_reader, wh, bh, ran) =
+    elim ran.ended [
+      | inl whole ↦ read_run setup t _ _ _ _ r0 r whole.0
+      | inr cut ↦ elim cut [
+        | inl c ↦ let (s, w1, b1, run, br, act) = c.0 in read_cut setup s t _ w1 _ _ b1 _ r0 r run br
+        | inr c ↦ let (s, w1, b1, run, br, act) = c.0 in read_cut setup s t _ w1 _ _ b1 _ r0 r run br
+      ]
+    ]
+
+pub all_read : {X : Type 0} (o : Result Standing X) (setup : Setup) (w_rest w_old w_new b_rest b_old b_new w_left b_left : Told) (r0 r : Watch) (i0 i1 i2 i3 i4 i5 i6 i7 : ℕ)
+    → IfOk o (λ t. FinalRun setup t w_rest w_old w_new b_rest b_old b_new w_left b_left r0 r i0 i1 i2 i3 i4 i5 i6 i7) → IfOk o (λ t. r.readings ≤ r0.readings + (2 * length t.moves + 2))
+all_read (Ok t) setup w_rest w_old w_new b_rest b_old b_new w_left b_left r0 r i0 i1 i2 i3 i4 i5 i6 i7 f = read_final setup t w_rest w_old w_new b_rest b_old b_new w_left b_left r0 r i0 i1 i2 i3 i4 i5 i6 i7 f
+all_read (Err x) setup w_rest w_old w_new b_rest b_old b_new w_left b_left r0 r i0 i1 i2 i3 i4 i5 i6 i7 f = tt

@@ -1,0 +1,165 @@
+-- A run goes on by one act.
+use Rattle.std.proofs.Common.{◌≡◌, ◌⊎◌, inl, inr, ◌<◌, ◌≤◌, ℕ, ◌+◌, ◌*◌, Bool, true, false, List, [], ◌∷◌, ◌++◌, refl, ap, sym, ◌∙◌, arith, append_assoc, None, Some, IsTrue, subst}
+use Rattle.std.proofs.lemmas.List.{append-nil}
+use Rattle.io_edge.specs.Outside.{Told, behind, Rose, HasCause}
+use Rattle.io_edge.proofs.Told.{behind-behind}
+use Rattle.hive_model.specs.declared.pieces.Colour.{Colour}
+use Rattle.hive_model.specs.declared.pieces.Colour.TheVariants.{White, Black}
+use Rattle.match_core.specs.declared.answers.Setup.{Setup}
+use Rattle.match_core.specs.declared.answers.Stage.{Stage}
+use Rattle.match_core.specs.declared.answers.Stage.TheVariants.{Send, Read, Before, After, Finished as FinishedStage}
+use Rattle.match_core.specs.declared.answers.Act.TheVariants.{Send as SendAct, Read as ReadAct, Clock, Finish}
+use Rattle.match_core.specs.Standing.{Standing, Happening, start, match_after, next, after_all, act_at, answers}
+use Rattle.match_core.specs.Fairness.{Answering, sent, sent_at}
+use Rattle.match_core.specs.Plays.{joined, left, is_finished, IsBounded}
+use Rattle.match_core.specs.Keeps.{IsSetup}
+use Rattle.hive_model.specs.Lines.{ToldLines}
+use Rattle.match_core.specs.Feeds.{FeedsAt, Feeds}
+use Rattle.match_core.proofs.Falls.{matches_near_their_end}
+use Rattle.match_core.proofs.Fair.{after_all-snoc}
+use Rattle.match_runner.specs.Turns.{Side, Watch, OneSide, Goes, Breaks, KeepsAt, is_broke, looks_at, side_of, Turns}
+use Rattle.match_runner.specs.declared.turns.Turn.TheVariants.{ReadFault, WriteFault}
+use Rattle.match_runner.specs.Runs.{AreSound, KeepTime, looks, Served, Runs, Run, Whole, Cut, Ran}
+use Rattle.match_runner.proofs.Acts.{behind-nil}
+
+pub joined-append : (xs ys : List (List ℕ)) → joined (xs ++ ys) ≡ joined xs ++ joined ys
+joined-append [] ys = refl
+joined-append (x ∷ xs) ys = ap (λ z. x ++ z) (joined-append xs ys) ∙ sym (append_assoc x (joined xs) (joined ys))
+
+pub sent-snoc : (hs : List Happening) (s : Standing) (h : Happening) (to : Colour) → sent s (hs ++ h ∷ []) to ≡ sent s hs to ++ sent_at (after_all s hs) (after_all s hs).stage h to
+sent-snoc [] s h to = append-nil (sent_at s s.stage h to)
+sent-snoc (x ∷ hs) s h to = ap (λ z. sent_at s s.stage x to ++ z) (sent-snoc hs (next s x) h to) ∙ sym (append_assoc (sent_at s s.stage x to) (sent (next s x) hs to) _)
+
+pub feeds-snoc : (hs : List Happening) (s : Standing) (h : Happening) (to : Colour) (o m n : ToldLines) → Feeds s hs to o m → FeedsAt (after_all s hs).stage h to m n → Feeds s (hs ++ h ∷ []) to o n
+feeds-snoc [] s h to o m n e f = (n, subst (λ x. FeedsAt s.stage h to x n) e f, refl)
+feeds-snoc (x ∷ hs) s h to o m n (mid, f, g) k = (mid, f, feeds-snoc hs (next s x) h to mid m n g k)
+
+pub answering-snoc : (hs : List Happening) (s : Standing) (h : Happening) → Answering s hs → IsTrue (answers (act_at (after_all s hs).stage) h) → Answering s (hs ++ h ∷ [])
+answering-snoc [] s h a w = (w, tt)
+answering-snoc (x ∷ hs) s h (v, a) w = (v, answering-snoc hs (next s x) h a w)
+
+pub sound-snoc : (hs : List Happening) (h : Happening) → AreSound hs → is_broke h ≡ false → AreSound (hs ++ h ∷ [])
+sound-snoc [] h a w = (w, tt)
+sound-snoc (x ∷ hs) h (v, a) w = (v, sound-snoc hs h a w)
+
+looks-snoc : (hs : List Happening) (s : Standing) (h : Happening) → looks s (hs ++ h ∷ []) ≡ looks s hs + looks_at (after_all s hs).stage
+looks-snoc [] s h = omega arith
+looks-snoc (x ∷ hs) s h = let e = looks-snoc hs (next s x) h in omega (arith, e)
+
+served-snoc : (hs : List Happening) (s : Standing) (h : Happening) (to : Colour) (o m n : Side) → Served s hs to o m → OneSide (after_all s hs) h to m n → Served s (hs ++ h ∷ []) to o n
+served-snoc hs s h to o m n f g = record {
+  feeds = feeds-snoc hs s h to o.ahead m.ahead n.ahead f.feeds g.feeds;
+  wrote =
+      let x : joined (sent s (hs ++ h ∷ []) to) ≡ joined (sent s hs to) ++ joined (sent_at (after_all s hs) (after_all s hs).stage h to) = ap joined (sent-snoc hs s h to) ∙ joined-append (sent s hs to) _ in
+      g.wrote ∙ (ap (λ z. behind z (joined (sent_at (after_all s hs) (after_all s hs).stage h to))) f.wrote ∙ (behind-behind o.written (joined (sent s hs to)) _ ∙ ap (behind o.written) (sym x)));
+}
+
+time-snoc : (hs : List Happening) (h : Happening) (a b c : ℕ) → KeepTime a hs b → KeepsAt h b c → KeepTime a (hs ++ h ∷ []) c
+time-snoc [] h a b c e k = (c, subst (λ x. KeepsAt h x c) e k, refl)
+time-snoc (x ∷ hs) h a b c (mid, f, g) k = (mid, f, time-snoc hs h mid b c g k)
+
+pub run_begin : (setup : Setup) (s : Standing) (w b : Side) (r : Watch) → IsSetup setup → s ≡ start setup → Run setup s w w b b r r
+run_begin setup s w b r is e = (
+  [],
+  record {
+    here = e;
+    fits = tt;
+    sound = tt;
+    white = record { feeds = refl; wrote = behind-nil w.written };
+    black = record { feeds = refl; wrote = behind-nil b.written };
+    readings = omega arith;
+    time = refl;
+    bounded = rw e (record { plies = is.some; count = omega arith; judged = refl });
+  },
+)
+
+run_goes : (setup : Setup) (s t : Standing) (w0 w w2 b0 b b2 : Side) (r0 r r2 : Watch) → Run setup s w0 w b0 b r0 r → (h : Happening) × Goes s h t w w2 b b2 r.last r2.last → r2.readings ≤ r.readings + looks_at s.stage → Run setup t w0 w2 b0 b2 r0 r2
+run_goes setup s t w0 w w2 b0 b b2 r0 r r2 (hs, run) (h, g) c =
+    let f : IsTrue (answers (act_at (match_after setup hs).stage) h) = subst (λ (x : Standing). IsTrue (answers (act_at x.stage) h)) run.here g.fits in (
+      hs ++ h ∷ [],
+      record {
+        here = g.next_is ∙ (ap (λ x. next x h) run.here ∙ sym (after_all-snoc hs (start setup) h));
+        fits = answering-snoc hs (start setup) h run.fits f;
+        sound = sound-snoc hs h run.sound g.sound;
+        white = served-snoc hs (start setup) h White w0 w w2 run.white (subst (λ x. OneSide x h White w w2) run.here g.white);
+        black = served-snoc hs (start setup) h Black b0 b b2 run.black (subst (λ x. OneSide x h Black b b2) run.here g.black);
+        readings =
+            let e = looks-snoc hs (start setup) h in
+            let k : looks_at s.stage ≡ looks_at (match_after setup hs).stage = ap (λ (x : Standing). looks_at x.stage) run.here in
+            let a = run.readings in omega (arith, e, k, a, c);
+        time = time-snoc hs h r0.last r.last r2.last run.time g.time;
+        bounded = rw g.next_is (matches_near_their_end s h run.bounded g.fits).0;
+      },
+    )
+
+pub run_on : (setup : Setup) (s t : Standing) (w0 w w2 b0 b b2 : Side) (r0 r r2 : Watch) → Run setup s w0 w b0 b r0 r → (h : Happening) × Goes s h t w w2 b b2 r.last r2.last → r2.readings ≤ r.readings + looks_at s.stage → Run setup t w0 w2 b0 b2 r0 r2
+run_on = run_goes
+
+pub run_falls : (setup : Setup) (s t : Standing) (w0 w w2 b0 b b2 : Side) (r0 r : Watch) → (c0 c : ℕ) → Run setup s w0 w b0 b r0 r → (h : Happening) × Goes s h t w w2 b b2 c0 c → left t < left s
+run_falls setup s t w0 w w2 b0 b b2 r0 r c0 c (hs, run) (h, g) = rw g.next_is (matches_near_their_end s h run.bounded g.fits).1
+
+was_open : (stage : Stage) (h : Happening) → IsTrue (answers (act_at stage) h) → is_finished stage ≡ false
+was_open (Send job side) h w = refl
+was_open (Read job side) h w = refl
+was_open Before h w = refl
+was_open After h w = refl
+was_open FinishedStage h w = absurd (cc)
+
+pub room_on : (s t : Standing) (w w2 b b2 : Side) (before after c0 c1 : ℕ) → (h : Happening) × Goes s h t w w2 b b2 c0 c1 → left t < left s → (is_finished s.stage ≡ false → before + 65538 * left s ≤ 525418735842) → (is_finished t.stage ≡ false → after ≤ before + 65538)
+    → is_finished t.stage ≡ false → after + 65538 * left t ≤ 525418735842
+room_on s t w w2 b b2 before after c0 c1 (h, g) less f k o = let a = f (was_open s.stage h g.fits) in let c = k o in omega (arith, a, c, less)
+
+pub room_begin : (setup : Setup) (s : Standing) → IsSetup setup → s ≡ start setup → 0 + 65538 * left s ≤ 525418735842
+unfolding left
+room_begin setup s is e = rw e (let k = is.few in omega (arith, k))
+
+run_later : (setup : Setup) (s : Standing) (w0 w b0 b : Side) (r0 r r2 : Watch) → Run setup s w0 w b0 b r0 r → r2.readings ≤ r.readings → r2.last ≡ r.last → Run setup s w0 w b0 b r0 r2
+run_later setup s w0 w b0 b r0 r r2 (hs, run) h k = (hs, record { here = run.here; fits = run.fits; sound = run.sound; white = run.white; black = run.black; readings = let a = run.readings in omega (arith, a, h); time = rw k run.time; bounded = run.bounded })
+
+no_look_read : (stage : Stage) (side : Colour) → act_at stage ≡ ReadAct side → looks_at stage ≡ 0
+no_look_read (Send job at) side e = refl
+no_look_read (Read job at) side e = refl
+no_look_read Before side e = absurd (cc)
+no_look_read After side e = absurd (cc)
+no_look_read FinishedStage side e = refl
+
+no_look_send : (stage : Stage) (side : Colour) → act_at stage ≡ SendAct side → looks_at stage ≡ 0
+no_look_send (Send job at) side e = refl
+no_look_send (Read job at) side e = refl
+no_look_send Before side e = absurd (cc)
+no_look_send After side e = absurd (cc)
+no_look_send FinishedStage side e = refl
+
+no_look_finish : (stage : Stage) → act_at stage ≡ Finish → looks_at stage ≡ 0
+no_look_finish (Send job at) e = refl
+no_look_finish (Read job at) e = refl
+no_look_finish Before e = absurd (cc)
+no_look_finish After e = absurd (cc)
+no_look_finish FinishedStage e = refl
+
+pub rose_from : (a b c : ℕ) → a ≤ b → Rose b c → Rose a c
+rose_from a b c h r = elim r [ inl x ↦ inl (omega (arith, h, x)) | inr y ↦ inr y ]
+
+pub cut_read : (side : Colour) (setup : Setup) (s t : Standing) (w0 w w2 b0 b b2 : Side) (r0 r r2 : Watch) (P Q : Type 0) → Run setup s w0 w b0 b r0 r → (act_at s.stage ≡ ReadAct side) × Breaks s t w w2 b b2 × (r2.last ≡ r.last) → r2.readings ≤ r.readings + looks_at s.stage
+    → (ReadFault side ≡ ReadFault White → P) → (ReadFault side ≡ ReadFault Black → Q) → Ran setup t w0 w2 b0 b2 r0 r2 P Q
+cut_read White setup s t w0 w w2 b0 b b2 r0 r r2 P Q run (e, br, k) c p q =
+    let n = no_look_read s.stage White e in
+    record { ended = inr (inl ((s, w, b, run_later setup s w0 w b0 b r0 r r2 run (omega (arith, n, c)) k, br, inr e), p refl)) }
+cut_read Black setup s t w0 w w2 b0 b b2 r0 r r2 P Q run (e, br, k) c p q =
+    let n = no_look_read s.stage Black e in
+    record { ended = inr (inr ((s, w, b, run_later setup s w0 w b0 b r0 r r2 run (omega (arith, n, c)) k, br, inr e), q refl)) }
+
+pub cut_write : (side : Colour) (setup : Setup) (s t : Standing) (w0 w w2 b0 b b2 : Side) (r0 r r2 : Watch) (P Q : Type 0) → Run setup s w0 w b0 b r0 r → (act_at s.stage ≡ SendAct side) × Breaks s t w w2 b b2 × (r2.last ≡ r.last) → r2.readings ≤ r.readings + looks_at s.stage
+    → (WriteFault side ≡ WriteFault White → P) → (WriteFault side ≡ WriteFault Black → Q) → Ran setup t w0 w2 b0 b2 r0 r2 P Q
+cut_write White setup s t w0 w w2 b0 b b2 r0 r r2 P Q run (e, br, k) c p q =
+    let n = no_look_send s.stage White e in
+    record { ended = inr (inl ((s, w, b, run_later setup s w0 w b0 b r0 r r2 run (omega (arith, n, c)) k, br, inl e), p refl)) }
+cut_write Black setup s t w0 w w2 b0 b b2 r0 r r2 P Q run (e, br, k) c p q =
+    let n = no_look_send s.stage Black e in
+    record { ended = inr (inr ((s, w, b, run_later setup s w0 w b0 b r0 r r2 run (omega (arith, n, c)) k, br, inl e), q refl)) }
+
+pub ran_whole : (setup : Setup) (s t : Standing) (w0 w w2 b0 b b2 : Side) (r0 r r2 : Watch) (P Q : Type 0) → Run setup s w0 w b0 b r0 r → (t ≡ s) × (act_at s.stage ≡ Finish) × (w2 ≡ w) × (b2 ≡ b) × (r2.last ≡ r.last) → r2.readings ≤ r.readings + looks_at s.stage
+    → Ran setup t w0 w2 b0 b2 r0 r2 P Q
+ran_whole setup s t w0 w w2 b0 b b2 r0 r r2 P Q run (e, f, x, y, k) c =
+    let n = no_look_finish s.stage f in
+    record { ended = inl (rw (e, x, y) (run_later setup s w0 w b0 b r0 r r2 run (omega (arith, n, c)) k), rw e f) }

@@ -1,0 +1,153 @@
+-- What a whole run has done.
+use Rattle.std.specs.Prelude.{◌≡◌, ◌⊎◌, ℕ, ◌+◌, ◌<◌, ◌≤◌, Bool, true, false, List, [], ◌∷◌, ◌++◌, Option, Some, None, IsTrue}
+use Rattle.io_edge.specs.Outside.{Told, behind, Rose}
+use Rattle.hive_model.specs.declared.pieces.Colour.{Colour}
+use Rattle.hive_model.specs.declared.pieces.Colour.TheVariants.{White, Black}
+use Rattle.line_feed.specs.Feed.{Reading as Reader, HoldsLittle, fresh}
+use Rattle.match_core.specs.declared.answers.Setup.{Setup}
+use Rattle.match_core.specs.declared.answers.Act.TheVariants.{Send as SendAct, Read as ReadAct, Finish}
+use Rattle.hive_model.specs.Lines.{Line as Mark, lines, ToldLines}
+use Rattle.match_core.specs.declared.answers.Cause.TheVariants.{NotAMove, Illegal, ErrLine, Flood, LongLine, Ended as EndedCause, Broke as BrokeCause, Late}
+use Rattle.match_core.specs.declared.answers.Verdict.{Verdict}
+use Rattle.match_core.specs.declared.answers.Verdict.TheVariants.{Rules, Limit, Forfeit}
+use Rattle.match_core.specs.Standing.{Standing, Happening, start, match_after, next, act_at}
+use Rattle.match_core.specs.Fairness.{Answering, sent}
+use Rattle.match_core.specs.Plays.{joined, IsBounded, match_of, has_verdict}
+use Rattle.match_core.specs.Feeds.{Feeds, IsFront}
+use Rattle.match_runner.specs.Turns.{Side, Watch, Breaks, KeepsAt, is_broke, looks_at, side_of}
+
+-- no event is a fault
+abbrev pub AreSound : List Happening → Type 0
+AreSound [] = Unit {0}
+AreSound (h ∷ hs) = (is_broke h ≡ false) × AreSound hs
+
+-- how often the clock was read
+abbrev pub looks : Standing → List Happening → ℕ
+looks s [] = 0
+looks s (h ∷ hs) = looks_at s.stage + looks (next s h) hs
+
+-- the readings among the events are those of a clock: none is before the one before it, nor the first before the clock's last
+-- reading at the beginning, and the latest of them is the clock's last reading now
+abbrev pub KeepTime : ℕ → List Happening → ℕ → Type 0
+KeepTime before [] now = now ≡ before
+KeepTime before (h ∷ hs) now = (mid : ℕ) × KeepsAt h before mid × KeepTime mid hs now
+
+-- what the events did at a side
+pub record Served (s : Standing) (hs : List Happening) (to : Colour) (old new : Side) : Type 0 where
+  pub feeds : Feeds s hs to old.ahead new.ahead
+  pub wrote : new.written ≡ behind old.written (joined (sent s hs to))
+
+-- the match has come to this by these events
+pub record Runs (setup : Setup) (s : Standing) (w0 w b0 b : Side) (r0 r : Watch) (hs : List Happening) : Type 0 where
+  pub here : s ≡ match_after setup hs
+  pub fits : Answering (start setup) hs
+  pub sound : AreSound hs
+  pub white : Served (start setup) hs White w0 w
+  pub black : Served (start setup) hs Black b0 b
+  pub readings : r.readings ≤ r0.readings + looks (start setup) hs
+  pub time : KeepTime r0.last hs r.last
+  pub bounded : IsBounded s
+
+-- some events have brought the match to this
+abbrev pub Run : Setup → Standing → Side → Side → Side → Side → Watch → Watch → Type 0
+Run setup s w0 w b0 b r0 r = (hs : List Happening) × Runs setup s w0 w b0 b r0 r hs
+
+-- the match has ended by itself
+abbrev pub Whole : Setup → Standing → Side → Side → Side → Side → Watch → Watch → Type 0
+Whole setup t w0 w b0 b r0 r = Run setup t w0 w b0 b r0 r × (act_at t.stage ≡ Finish)
+
+-- it was ended by a fault of this side
+abbrev pub Cut : Colour → Setup → Standing → Side → Side → Side → Side → Watch → Watch → Type 0
+Cut side setup t w0 w b0 b r0 r =
+    (s : Standing) × (w1 : Side) × (b1 : Side) × Run setup s w0 w1 b0 b1 r0 r × Breaks s t w1 w b1 b × ((act_at s.stage ≡ SendAct side) ⊎ (act_at s.stage ≡ ReadAct side))
+
+-- where a side breaks, one of its counts rose (or stands at its greatest value)
+pub record Ran (setup : Setup) (t : Standing) (w0 w b0 b : Side) (r0 r : Watch) (white_rose black_rose : Type 0) : Type 0 where
+  pub ended : (Whole setup t w0 w b0 b r0 r) ⊎ ((Cut White setup t w0 w b0 b r0 r × white_rose) ⊎ (Cut Black setup t w0 w b0 b r0 r × black_rose))
+
+-- a side's count of failed reads or of failed writes rose
+abbrev pub SideRose : ℕ → ℕ → ℕ → ℕ → Type 0
+SideRose reads0 reads writes0 writes = Rose reads0 reads ⊎ Rose writes0 writes
+
+-- The run of a match over links that had these rests and have these now, and have sent and counted this. The lines to come of each
+-- side are those of what its reader holds, the front of one line and at most one piece, and of what the link has left.
+abbrev pub FinalRun : Setup → Standing → Told → Told → Told → Told → Told → Told → Told → Told → Watch → Watch → ℕ → ℕ → ℕ → ℕ → ℕ → ℕ → ℕ → ℕ → Type 0
+FinalRun setup t w_rest w_old w_new b_rest b_old b_new w_left b_left r0 r w_reads0 w_reads w_writes0 w_writes b_reads0 b_reads b_writes0 b_writes =
+    (w_reader : Reader) × (b_reader : Reader) × HoldsLittle w_reader × HoldsLittle b_reader
+    × Ran setup t (side_of fresh w_rest w_old) (side_of w_reader w_left w_new) (side_of fresh b_rest b_old) (side_of b_reader b_left b_new)
+    r0 r (SideRose w_reads0 w_reads w_writes0 w_writes) (SideRose b_reads0 b_reads b_writes0 b_writes)
+
+-- a side forfeits for a late answer
+abbrev pub IsLate : Option Verdict → Type 0
+IsLate None = ⊥
+IsLate (Some (Rules state)) = ⊥
+IsLate (Some Limit) = ⊥
+IsLate (Some (Forfeit side (NotAMove line))) = ⊥
+IsLate (Some (Forfeit side (Illegal line))) = ⊥
+IsLate (Some (Forfeit side (ErrLine line))) = ⊥
+IsLate (Some (Forfeit side (Flood count))) = ⊥
+IsLate (Some (Forfeit side LongLine)) = ⊥
+IsLate (Some (Forfeit side EndedCause)) = ⊥
+IsLate (Some (Forfeit side BrokeCause)) = ⊥
+IsLate (Some (Forfeit side (Late asked answered))) = Unit {0}
+
+-- moves, verdict and the bytes sent are those of the match of these lines
+pub record IsMatch (setup : Setup) (white black : List Mark) (t : Standing) (w0 w b0 b : Told) : Type 0 where
+  pub moves : t.moves ≡ (match_after setup (match_of setup white black)).moves
+  pub verdict : t.verdict ≡ (match_after setup (match_of setup white black)).verdict
+  pub to_white : w ≡ behind w0 (joined (sent (start setup) (match_of setup white black) White))
+  pub to_black : b ≡ behind b0 (joined (sent (start setup) (match_of setup white black) Black))
+
+-- where both links tell their bytes, no count rose and no answer was late
+abbrev pub ToldRun : Setup → Standing → Told → Told → Told → Told → Told → Told → Type 0 → Type 0 → Type 0
+ToldRun setup t w_rest w_old w_new b_rest b_old b_new w_rose b_rose =
+    (white : List ℕ) (black : List ℕ) → w_rest ≡ Some white → b_rest ≡ Some black → (w_rose → ⊥) → (b_rose → ⊥) → (IsLate t.verdict → ⊥)
+    → IsMatch setup (lines white) (lines black) t w_old w_new b_old b_new
+
+-- a side is said to have broken only where one of its counts rose
+pub record BrokeOnly (t : Standing) (white_rose black_rose : Type 0) : Type 0 where
+  pub white : t.verdict ≡ Some (Forfeit White BrokeCause) → white_rose
+  pub black : t.verdict ≡ Some (Forfeit Black BrokeCause) → black_rose
+
+-- the match has a verdict
+abbrev pub IsJudged : Standing → Type 0
+IsJudged t = has_verdict t.verdict ≡ true
+
+-- where an answer is late, it was asked for no earlier than the clock's last reading before the run, it was not answered before
+-- that, and the clock has not been read since
+abbrev pub LateIn : Option Verdict → ℕ → ℕ → Type 0
+LateIn None before now = Unit {0}
+LateIn (Some (Rules state)) before now = Unit {0}
+LateIn (Some Limit) before now = Unit {0}
+LateIn (Some (Forfeit side (NotAMove line))) before now = Unit {0}
+LateIn (Some (Forfeit side (Illegal line))) before now = Unit {0}
+LateIn (Some (Forfeit side (ErrLine line))) before now = Unit {0}
+LateIn (Some (Forfeit side (Flood count))) before now = Unit {0}
+LateIn (Some (Forfeit side LongLine)) before now = Unit {0}
+LateIn (Some (Forfeit side EndedCause)) before now = Unit {0}
+LateIn (Some (Forfeit side BrokeCause)) before now = Unit {0}
+LateIn (Some (Forfeit side (Late asked answered))) before now = (before ≤ asked) × (asked ≤ answered) × (answered ≡ now)
+
+-- the bytes sent to a side are the first of these
+abbrev pub IsFrontSent : Told → Told → List ℕ → Type 0
+IsFrontSent old new all = (bytes : List ℕ) × (new ≡ behind old bytes) × IsFront bytes all
+
+-- the moves, and the bytes sent to each side, are the first ones of the match of these lines
+pub record IsFrontOf (setup : Setup) (white black : List Mark) (t : Standing) (w0 w b0 b : Told) : Type 0 where
+  pub moves : IsFront t.moves (match_after setup (match_of setup white black)).moves
+  pub to_white : IsFrontSent w0 w (joined (sent (start setup) (match_of setup white black) White))
+  pub to_black : IsFrontSent b0 b (joined (sent (start setup) (match_of setup white black) Black))
+
+-- where both links tell their bytes, whatever rose and however late an answer was
+abbrev pub FrontRun : Setup → Standing → Told → Told → Told → Told → Told → Told → Type 0
+FrontRun setup t w_rest w_old w_new b_rest b_old b_new = (white : List ℕ) (black : List ℕ) → w_rest ≡ Some white → b_rest ≡ Some black
+    → IsFrontOf setup (lines white) (lines black) t w_old w_new b_old b_new
+
+-- a side broke, and one of its counts rose
+abbrev pub HasBroken : Option Verdict → Colour → Type 0 → Type 0
+HasBroken v side rose = (v ≡ Some (Forfeit side BrokeCause)) × rose
+
+-- where both links tell their bytes, the verdict is that of the match of these lines, or an answer was late, or a side broke
+abbrev pub VerdictRun : Setup → Standing → Told → Told → Type 0 → Type 0 → Type 0
+VerdictRun setup t w_rest b_rest w_rose b_rose = (white : List ℕ) (black : List ℕ) → w_rest ≡ Some white → b_rest ≡ Some black
+    → (t.verdict ≡ (match_after setup (match_of setup (lines white) (lines black))).verdict) ⊎ (IsLate t.verdict ⊎ (HasBroken t.verdict White w_rose ⊎ HasBroken t.verdict Black b_rose))

@@ -1,0 +1,132 @@
+-- One act of a match, done over two links and a clock.
+use Rattle.std.specs.Prelude.{◌≡◌, ◌⊎◌, ℕ, ◌+◌, ◌*◌, ◌<◌, ◌≤◌, Bool, true, false, if◌then◌else◌, List, [], ◌∷◌, ◌++◌, length, take, Option, Some, None, IsTrue}
+use Rattle.std.specs.Option.{option_map}
+use Rattle.io_edge.specs.Outside.{Told, behind, Rose}
+use Rattle.hive_model.specs.declared.pieces.Colour.{Colour}
+use Rattle.hive_model.specs.declared.pieces.Colour.TheVariants.{White, Black}
+use Rattle.line_feed.specs.Feed.{Reading as Reader}
+use Rattle.line_feed.specs.Ahead.{ahead_of}
+use Rattle.match_core.specs.declared.answers.Setup.{Setup}
+use Rattle.match_core.specs.declared.answers.Stage.{Stage}
+use Rattle.match_core.specs.declared.answers.Act.{Act}
+use Rattle.match_core.specs.declared.answers.Act.TheVariants.{Send as SendAct, Read as ReadAct, Clock, Finish}
+use Rattle.match_core.specs.Keeps.{line_at}
+use Rattle.match_core.specs.Standing.{Standing, Happening, Sent, Line, TooLong, Ended, Broke, Reading, start, match_after, next, act_at, answers}
+use Rattle.match_core.specs.Fairness.{Answering, sent, sent_at}
+use Rattle.match_core.specs.Plays.{joined, left, is_finished}
+use Rattle.hive_model.specs.Lines.{ToldLines}
+use Rattle.match_core.specs.Feeds.{Gave, FeedsAt, Feeds}
+use Rattle.match_runner.specs.declared.turns.Turn.{Turn}
+use Rattle.match_runner.specs.declared.turns.Turn.TheVariants.{GoOn, Finished, ReadFault, WriteFault, Memory}
+
+-- one side: the lines to come, the bytes that were sent to it
+pub record Side : Type 0 where
+  pub ahead : ToldLines
+  pub written : Told
+
+-- a line is sent
+abbrev pub Tells : Turn → Standing → Standing → Told → Told → Type 0
+Tells GoOn s t before after = (t ≡ next s Sent) × (after ≡ behind before (line_at s s.stage))
+Tells (WriteFault at) s t before after = (t ≡ next s Broke) × ((n : ℕ) × (after ≡ behind before (take n (line_at s s.stage))))
+Tells (ReadFault side) s t before after = ⊥
+Tells Finished s t before after = ⊥
+Tells Memory s t before after = Unit {0}
+
+-- a line is read
+abbrev pub Hears : Turn → Standing → Standing → ToldLines → ToldLines → Type 0
+Hears GoOn s t old new = (h : Happening) × (t ≡ next s h) × Gave h old new
+Hears (ReadFault side) s t old new = (t ≡ next s Broke) × (new ≡ old)
+Hears (WriteFault side) s t old new = ⊥
+Hears Finished s t old new = ⊥
+Hears Memory s t old new = Unit {0}
+
+-- a match that goes on is within this many bytes of lines
+abbrev pub Room : Turn → Standing → ℕ → Standing → ℕ → Type 0
+Room GoOn s before t after = is_finished t.stage ≡ false → after ≤ before + 65538
+Room (ReadFault side) s before t after = Unit {0}
+Room (WriteFault side) s before t after = Unit {0}
+Room Finished s before t after = Unit {0}
+Room Memory s before t after = Unit {0}
+
+-- the clock is read
+abbrev pub Looks : Turn → Standing → Standing → ℕ → ℕ → Type 0
+Looks GoOn s t before last = (t ≡ next s (Reading last)) × (before ≤ last)
+Looks (ReadFault side) s t before last = ⊥
+Looks (WriteFault side) s t before last = ⊥
+Looks Finished s t before last = ⊥
+Looks Memory s t before last = Unit {0}
+
+-- a clock: its last reading, and how often it was read
+pub record Watch : Type 0 where
+  pub last : ℕ
+  pub readings : ℕ
+
+-- a clock with this last reading, read so often
+abbrev pub watch : ℕ → ℕ → Watch
+watch last readings = record { last = last; readings = readings }
+
+-- a reading is that of the clock, and none before its last one
+abbrev pub KeepsAt : Happening → ℕ → ℕ → Type 0
+KeepsAt (Reading at) before now = (before ≤ at) × (now ≡ at)
+KeepsAt Sent before now = now ≡ before
+KeepsAt (Line bytes) before now = now ≡ before
+KeepsAt TooLong before now = now ≡ before
+KeepsAt Ended before now = now ≡ before
+KeepsAt Broke before now = now ≡ before
+
+-- a side whose reader and link are these
+abbrev pub side_of : Reader → Told → Told → Side
+side_of reader rest written = record { ahead = ahead_of reader rest; written = written }
+
+-- a read or a write failed
+abbrev pub is_broke : Happening → Bool
+is_broke Sent = false
+is_broke (Line bytes) = false
+is_broke TooLong = false
+is_broke Ended = false
+is_broke Broke = true
+is_broke (Reading at) = false
+
+-- the clock is to be read
+abbrev pub is_clock : Act → Bool
+is_clock (SendAct side) = false
+is_clock (ReadAct side) = false
+is_clock Clock = true
+is_clock Finish = false
+
+-- how often the clock is read at a place
+abbrev pub looks_at : Stage → ℕ
+looks_at stage = if is_clock (act_at stage) then 1 else 0
+
+-- what an event does at a side
+pub record OneSide (s : Standing) (h : Happening) (to : Colour) (old new : Side) : Type 0 where
+  pub feeds : FeedsAt s.stage h to old.ahead new.ahead
+  pub wrote : new.written ≡ behind old.written (joined (sent_at s s.stage h to))
+
+-- a side has got a front of the line that was to be sent to it
+abbrev pub CutSide : Standing → Colour → Side → Side → Type 0
+CutSide s to old new = (n : ℕ) × (new.written ≡ behind old.written (take n (joined (sent_at s s.stage Sent to))))
+
+-- an event that is no fault, and what came of it at both sides
+pub record Goes (s : Standing) (h : Happening) (t : Standing) (w0 w b0 b : Side) (c0 c : ℕ) : Type 0 where
+  pub time : KeepsAt h c0 c
+  pub next_is : t ≡ next s h
+  pub fits : IsTrue (answers (act_at s.stage) h)
+  pub sound : is_broke h ≡ false
+  pub white : OneSide s h White w0 w
+  pub black : OneSide s h Black b0 b
+
+-- a side breaks
+pub record Breaks (s t : Standing) (w0 w b0 b : Side) : Type 0 where
+  pub next_is : t ≡ next s Broke
+  pub fits : IsTrue (answers (act_at s.stage) Broke)
+  pub white : CutSide s White w0 w
+  pub black : CutSide s Black b0 b
+
+-- what an act did to the match, to both sides and to the clock
+abbrev pub Turns : Turn → Standing → Standing → Side → Side → Side → Side → ℕ → ℕ → Type 0
+Turns GoOn s t w0 w b0 b c0 c = (h : Happening) × Goes s h t w0 w b0 b c0 c
+Turns (ReadFault side) s t w0 w b0 b c0 c = (act_at s.stage ≡ ReadAct side) × Breaks s t w0 w b0 b × (c ≡ c0)
+Turns (WriteFault side) s t w0 w b0 b c0 c = (act_at s.stage ≡ SendAct side) × Breaks s t w0 w b0 b × (c ≡ c0)
+Turns Finished s t w0 w b0 b c0 c = (t ≡ s) × (act_at s.stage ≡ Finish) × (w ≡ w0) × (b ≡ b0) × (c ≡ c0)
+Turns Memory s t w0 w b0 b c0 c = Unit {0}
