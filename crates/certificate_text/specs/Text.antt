@@ -38,12 +38,13 @@ not_empty (b ∷ bs) = Some (b ∷ bs)
 abbrev pub move_at : List ℕ → Option (List ℕ)
 move_at line = then_at (behind_word (codes "move ") line) not_empty
 
--- a number, or a minus sign (45) and a number that is not 0
+-- behind a minus sign a number that is not 0, and else a number
+abbrev pub signed : Option (List ℕ) → List ℕ → Option ℤ
+signed (Some digits) text = option_map (λ n. neg_ℤ (pos n)) (number_at digits 1 1000064)
+signed None text = option_map (λ n. pos n) (number_at text 0 1000064)
+
 abbrev pub int_at : List ℕ → Option ℤ
-int_at [] = None
-int_at (b ∷ bs) =
-    if nat_eq b 45 then option_map (λ n. neg_ℤ (pos n)) (number_at bs 1 1000064)
-    else option_map (λ n. pos n) (number_at (b ∷ bs) 0 1000064)
+int_at text = signed (behind_word (codes "-") text) text
 
 abbrev pub value_at : List ℕ → Option ℤ
 value_at line = then_at (behind_word (codes "value ") line) int_at

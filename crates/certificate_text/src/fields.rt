@@ -1,6 +1,6 @@
 //! The fields of the lines of a certificate.
 
-ghost use Rattle.std.specs.Prelude.{◌≡◌, ◌≤◌, None, Some, IfSome, MatchOption};
+ghost use Rattle.std.specs.Prelude.{◌≡◌, ◌≤◌, length, None, Some, IfSome, MatchOption};
 ghost use Rattle.game_text.specs.Turns.{behind_word};
 ghost use Rattle.uhp_words.specs.Numbers.{number_at};
 ghost use Rattle.search_laws.specs.Laws.{IsSmall};
@@ -17,9 +17,10 @@ use move_text::read_number;
 
 /// What stands behind a word with which the text begins.
 fn behind<'a>(text: &'a [u8], word: &[u8]) -> Option<&'a [u8]>
-    ensures { MatchOption result
+    ensures found { MatchOption result
         (behind_word word.now text.now ≡ None)
         (λ rest. behind_word word.now text.now ≡ Some rest.now) }
+    ensures short { IfSome result (λ rest. length rest.now ≤ length text.now) }
 {
     text.strip_prefix(word)
 }
@@ -27,14 +28,15 @@ fn behind<'a>(text: &'a [u8], word: &[u8]) -> Option<&'a [u8]>
 /// The number in this range that the text is.
 fn number_at(text: &[u8], least: u64, most: u64) -> Option<u64>
     ensures value { result ≡ number_at text.now least most }
-    ensures small { IfSome result (λ n. n ≤ most) }
+    ensures range { IfSome result (λ n. (least ≤ n) × (n ≤ most)) }
 {
     read_number(text, least, most)
 }
 
 /// The version that the first line of a certificate names, from 1 to the newest.
 pub(crate) fn version_at(text: &[u8], newest: u32) -> Option<u32>
-    ensures { result ≡ version_at newest text.now }
+    ensures version { result ≡ version_at newest text.now }
+    ensures range { IfSome result (λ v. (1 ≤ v) × (v ≤ newest)) }
 {
     let rest = behind(text, b"hive-certificate ")?;
     let version = number_at(rest, 1, newest as u64)?;
@@ -43,7 +45,8 @@ pub(crate) fn version_at(text: &[u8], newest: u32) -> Option<u32>
 
 /// The depth that the third line claims, from 1 to 64.
 pub(crate) fn depth_at(text: &[u8]) -> Option<u32>
-    ensures { result ≡ depth_at text.now }
+    ensures depth { result ≡ depth_at text.now }
+    ensures range { IfSome result (λ d. (1 ≤ d) × (d ≤ 64)) }
 {
     let rest = behind(text, b"depth ")?;
     let depth = number_at(rest, 1, 64)?;
@@ -52,7 +55,8 @@ pub(crate) fn depth_at(text: &[u8]) -> Option<u32>
 
 /// The text of the move that the fourth line claims, which is not empty.
 pub(crate) fn move_at(text: &[u8]) -> Option<&[u8]>
-    ensures { MatchOption result (move_at text.now ≡ None) (λ t. move_at text.now ≡ Some t.now) }
+    ensures found { MatchOption result (move_at text.now ≡ None) (λ t. move_at text.now ≡ Some t.now) }
+    ensures short { IfSome result (λ t. length t.now ≤ length text.now) }
 {
     let rest = behind(text, b"move ")?;
     if rest.is_empty() { None } else { Some(rest) }
@@ -61,22 +65,24 @@ pub(crate) fn move_at(text: &[u8]) -> Option<&[u8]>
 /// The whole number that the text is, from -1,000,064 to 1,000,064.
 fn int_at(text: &[u8]) -> Option<i32>
     ensures value { result ≡ int_at text.now }
+    ensures range { IfSome result (λ v. IsSmall 1000064 v) }
 {
-    match text {
-        [b'-', digits @ ..] => {
+    match behind(text, b"-") {
+        Some(digits) => {
             let size = number_at(digits, 1, 1_000_064)?;
             Some(-(size as i32))
         }
-        _ => {
+        None => {
             let size = number_at(text, 0, 1_000_064)?;
             Some(size as i32)
         }
     }
 }
 
-/// The value that the fifth line claims.
+/// The value that the fifth line claims, from -1,000,064 to 1,000,064.
 pub(crate) fn value_at(text: &[u8]) -> Option<i32>
-    ensures { result ≡ value_at text.now }
+    ensures value { result ≡ value_at text.now }
+    ensures range { IfSome result (λ v. IsSmall 1000064 v) }
 {
     let rest = behind(text, b"value ")?;
     int_at(rest)

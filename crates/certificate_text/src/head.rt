@@ -60,6 +60,7 @@ fn next_text<S: Source>(
 ) -> Result<(), HeadFault>
     ensures told { TakesLine result line reader.new.last (ahead_of reader.old (S.rest source.old)) (ahead_of reader.new (S.rest source.new)) }
     ensures fits { IfOk result (λ done. length reader.new.last ≤ 65536) }
+    ensures no_game { (fault : AnyFault) → result ≢ Err (HeadFault.BadGame fault) }
     ensures full { result ≡ Err HeadFault.InputFull → reader.new.taken ≡ input_limit }
     ensures cause { HasCause (result ≡ Err HeadFault.ReadFault) (S.read_faults source.old) (S.read_faults source.new) }
 {
@@ -80,6 +81,7 @@ fn read_version<S: Source>(
     ensures told { (lines : List AnyLine) → ahead_of reader.old (S.rest source.old) ≡ Some lines
         → Parses result (with_line 1 (version_at newest) lines) lines (ahead_of reader.new (S.rest source.new)) }
     ensures range { IfOk result (λ v. (1 ≤ v) × (v ≤ newest)) }
+    ensures no_game { (fault : AnyFault) → result ≢ Err (HeadFault.BadGame fault) }
     ensures full { result ≡ Err HeadFault.InputFull → reader.new.taken ≡ input_limit }
     ensures cause { HasCause (result ≡ Err HeadFault.ReadFault) (S.read_faults source.old) (S.read_faults source.new) }
 {
@@ -120,6 +122,7 @@ fn read_depth<S: Source>(reader: &mut LineReader, source: &mut S) -> Result<u32,
     ensures told { (lines : List AnyLine) → ahead_of reader.old (S.rest source.old) ≡ Some lines
         → Parses result (with_line 3 depth_at lines) lines (ahead_of reader.new (S.rest source.new)) }
     ensures range { IfOk result (λ d. (1 ≤ d) × (d ≤ 64)) }
+    ensures no_game { (fault : AnyFault) → result ≢ Err (HeadFault.BadGame fault) }
     ensures full { result ≡ Err HeadFault.InputFull → reader.new.taken ≡ input_limit }
     ensures cause { HasCause (result ≡ Err HeadFault.ReadFault) (S.read_faults source.old) (S.read_faults source.new) }
 {
@@ -150,6 +153,7 @@ fn read_claim_text<S: Source>(
     ensures told { (lines : List AnyLine) → ahead_of reader.old (S.rest source.old) ≡ Some lines
         → Parses result (with_line 4 move_at lines) lines (ahead_of reader.new (S.rest source.new)) }
     ensures short { IfOk result (λ t. length t ≤ 65536) }
+    ensures no_game { (fault : AnyFault) → result ≢ Err (HeadFault.BadGame fault) }
     ensures full { result ≡ Err HeadFault.InputFull → reader.new.taken ≡ input_limit }
     ensures cause { HasCause (result ≡ Err HeadFault.ReadFault) (S.read_faults source.old) (S.read_faults source.new) }
 {
@@ -170,6 +174,7 @@ fn read_value<S: Source>(reader: &mut LineReader, source: &mut S) -> Result<i32,
     ensures told { (lines : List AnyLine) → ahead_of reader.old (S.rest source.old) ≡ Some lines
         → Parses result (with_line 5 value_at lines) lines (ahead_of reader.new (S.rest source.new)) }
     ensures range { IfOk result (λ v. IsSmall 1000064 v) }
+    ensures no_game { (fault : AnyFault) → result ≢ Err (HeadFault.BadGame fault) }
     ensures full { result ≡ Err HeadFault.InputFull → reader.new.taken ≡ input_limit }
     ensures cause { HasCause (result ≡ Err HeadFault.ReadFault) (S.read_faults source.old) (S.read_faults source.new) }
 {
