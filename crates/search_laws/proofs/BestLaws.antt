@@ -75,7 +75,7 @@ greatest_from-met r a (m ∷ ms) =
       | inr met ↦ inr (suc met.0, met.1, met.2, met.3)
     ]
 
-greatest-met : (r : Move → ℤ) (ms : List Move) → 0 < length ms → (i : ℕ) × (n : Move) × (slice_get ms i ≡ Some n) × (greatest (map r ms) ≤ℤ r n)
+pub greatest-met : (r : Move → ℤ) (ms : List Move) → 0 < length ms → (i : ℕ) × (n : Move) × (slice_get ms i ≡ Some n) × (greatest (map r ms) ≤ℤ r n)
 greatest-met r [] some = absurd (omega (arith, some))
 greatest-met r (m ∷ ms) some =
     elim (greatest_from-met r (r m) ms) [

@@ -10,3 +10,4 @@ pub mod TurnLaws
 pub mod HintLaws
 pub mod BestLaws
 pub mod RootLaws
+pub mod ReplyLaws

@@ -1,0 +1,50 @@
+-- What the parts of the reading of a head answer.
+use Rattle.std.specs.Prelude.{◌≡◌, ℕ, ◌+◌, ◌≤◌, ◌⊎◌, ⊤, List, ◌∷◌, length, drop, Option, Some, Result, Ok, Err}
+use Rattle.std.specs.Option.{option_map}
+use Rattle.hive_model.specs.Lines.{Line, Text, ToldLines, NoneAhead, LongAhead}
+use Rattle.hive_model.specs.Games.{IsGame}
+use Rattle.search_laws.specs.Laws.{IsSmall}
+use Rattle.certificate_text.specs.declared.head.Head.{Head}
+use Rattle.certificate_text.specs.declared.head.HeadFault.{HeadFault}
+use Rattle.certificate_text.specs.declared.head.HeadFault.TheVariants.{BadLine, BadGame, ReadFault, InputFull, Memory}
+use Rattle.certificate_text.specs.Text.{HeadRead}
+
+-- the next line was taken; or it is missing or too long, which is the fault of the line of this number
+abbrev pub TakesLine : Result ⊤ HeadFault → ℕ → List ℕ → ToldLines → ToldLines → Type 0
+TakesLine (Ok done) n last old new = old ≡ option_map (λ left. Text last ∷ left) new
+TakesLine (Err (BadLine k)) n last old new = (k ≡ n) × (NoneAhead old ⊎ LongAhead old)
+TakesLine (Err (BadGame fault)) n last old new = ⊥
+TakesLine (Err ReadFault) n last old new = ⊤
+TakesLine (Err InputFull) n last old new = ⊤
+TakesLine (Err Memory) n last old new = ⊥
+
+-- What a part of the reading answers where just these lines were to come: what the definition goes on with, from the lines that are
+-- to come now; or its fault.
+abbrev pub Parses : {A : Type 0} → Result A HeadFault → ((A → List Line → HeadRead) → HeadRead) → List Line → ToldLines → Type 0
+Parses (Ok a) f lines later = (later ≡ Some (drop 1 lines)) × ((next : _) → f next ≡ next a (drop 1 lines))
+Parses (Err (BadLine n)) f lines later = (next : _) → f next ≡ Err (BadLine n)
+Parses (Err (BadGame fault)) f lines later = (next : _) → f next ≡ Err (BadGame fault)
+Parses (Err ReadFault) f lines later = ⊤
+Parses (Err InputFull) f lines later = ⊤
+Parses (Err Memory) f lines later = ⊤
+
+-- What the reading of a head answers where just these lines were to come: the head of these lines, after which those behind it are
+-- to come; or their first fault.
+abbrev pub ReadsHead : HeadRead → HeadRead → List Line → ToldLines → Type 0
+ReadsHead (Ok head) read lines later = (read ≡ Ok head) × (later ≡ Some (drop 5 lines))
+ReadsHead (Err (BadLine n)) read lines later = read ≡ Err (BadLine n)
+ReadsHead (Err (BadGame fault)) read lines later = read ≡ Err (BadGame fault)
+ReadsHead (Err ReadFault) read lines later = ⊤
+ReadsHead (Err InputFull) read lines later = ⊤
+ReadsHead (Err Memory) read lines later = ⊤
+
+-- what every head keeps
+pub record IsHead (newest : ℕ) (head : Head) : Type 0 where
+  pub old : 1 ≤ head.version
+  pub known : head.version ≤ newest
+  pub game : IsGame head.game_type head.moves
+  pub few : length head.moves ≤ 5000
+  pub some : 1 ≤ head.depth
+  pub deep : head.depth ≤ 64
+  pub short : length head.claim_text ≤ 65536
+  pub small : IsSmall 1000064 head.value

@@ -1,0 +1,115 @@
+-- Certificates as texts. Five lines are the head: `hive-certificate ` and the version; a game; `depth ` and a number from 1 to 64;
+-- `move ` and a move text; `value ` and a whole number. On each line behind them stands an index.
+use Rattle.std.specs.Prelude.{ℕ, Bool, List, [], ◌∷◌, ◌++◌, codes, decimal, ℤ, pos, neg_ℤ, nat_eq, Option, Some, None, Result, Ok, Err, option_map, if◌then◌else◌}
+use Rattle.std.specs.Fmt.{signed_decimal}
+use Rattle.hive_model.specs.declared.pieces.GameType.{GameType}
+use Rattle.hive_model.specs.declared.places.Move.{Move}
+use Rattle.hive_model.specs.Positions.{opening}
+use Rattle.hive_model.specs.Games.{replay}
+use Rattle.hive_model.specs.Denotes.{text}
+use Rattle.hive_model.specs.Lines.{Line, Text, TooLong}
+use Rattle.hive_model.specs.Strings.{string}
+use Rattle.uhp_words.specs.Numbers.{number_at}
+use Rattle.game_text.specs.Turns.{behind_word}
+use Rattle.game_text.specs.Reading.{game_of}
+use Rattle.game_text.specs.declared.parsed.Parsed.{Parsed}
+use Rattle.game_text.specs.declared.faults.GameFault.{GameFault}
+use Rattle.certificate_text.specs.declared.head.Head.{Head}
+use Rattle.certificate_text.specs.declared.head.HeadFault.{HeadFault}
+use Rattle.certificate_text.specs.declared.head.HeadFault.TheVariants.{BadLine, BadGame}
+
+-- The fields of the lines
+
+abbrev pub then_at : {A B : Type 0} → Option A → (A → Option B) → Option B
+then_at None next = None
+then_at (Some a) next = next a
+
+abbrev pub version_at : ℕ → List ℕ → Option ℕ
+version_at newest line = then_at (behind_word (codes "hive-certificate ") line) (λ t. number_at t 1 newest)
+
+abbrev pub depth_at : List ℕ → Option ℕ
+depth_at line = then_at (behind_word (codes "depth ") line) (λ t. number_at t 1 64)
+
+-- something follows
+abbrev pub not_empty : List ℕ → Option (List ℕ)
+not_empty [] = None
+not_empty (b ∷ bs) = Some (b ∷ bs)
+
+abbrev pub move_at : List ℕ → Option (List ℕ)
+move_at line = then_at (behind_word (codes "move ") line) not_empty
+
+-- behind a minus sign a number that is not 0, and else a number
+abbrev pub signed : Option (List ℕ) → List ℕ → Option ℤ
+signed (Some digits) text = option_map (λ n. neg_ℤ (pos n)) (number_at digits 1 1000064)
+signed None text = option_map (λ n. pos n) (number_at text 0 1000064)
+
+abbrev pub int_at : List ℕ → Option ℤ
+int_at text = signed (behind_word (codes "-") text) text
+
+abbrev pub value_at : List ℕ → Option ℤ
+value_at line = then_at (behind_word (codes "value ") line) int_at
+
+-- a place in a list of moves
+abbrev pub index_at : List ℕ → Option ℕ
+index_at line = number_at line 0 5487
+
+abbrev pub index_in : Line → Option ℕ
+index_in (Text line) = index_at line
+index_in TooLong = None
+
+-- The head, line by line. The first line that is missing, too long or not of its form is its fault; or what is wrong with the game.
+
+abbrev pub HeadRead : Type 0
+HeadRead = Result Head HeadFault
+
+abbrev pub or_bad : {A : Type 0} → ℕ → Option A → List Line → (A → List Line → HeadRead) → HeadRead
+or_bad n None rest next = Err (BadLine n)
+or_bad n (Some a) rest next = next a rest
+
+-- the first of the lines, which has this number in the text, has such a field
+abbrev pub with_line : {A : Type 0} → ℕ → (List ℕ → Option A) → List Line → (A → List Line → HeadRead) → HeadRead
+with_line n read [] next = Err (BadLine n)
+with_line n read (TooLong ∷ rest) next = Err (BadLine n)
+with_line n read (Text line ∷ rest) next = or_bad n (read line) rest next
+
+abbrev pub or_bad_game : Result Parsed GameFault → List Line → (Parsed → List Line → HeadRead) → HeadRead
+or_bad_game (Err fault) rest next = Err (BadGame fault)
+or_bad_game (Ok game) rest next = next game rest
+
+-- the first of the lines is a game
+abbrev pub with_game : List Line → (Parsed → List Line → HeadRead) → HeadRead
+with_game [] next = Err (BadLine 2)
+with_game (TooLong ∷ rest) next = Err (BadLine 2)
+with_game (Text line ∷ rest) next = or_bad_game (game_of line) rest next
+
+-- the head of these lines, and what is to be made of it and of the lines behind it
+abbrev pub with_head : ℕ → List Line → (Head → List Line → HeadRead) → HeadRead
+with_head newest lines next =
+    with_line 1 (version_at newest) lines (λ version rest.
+    with_game rest (λ game rest.
+    with_line 3 depth_at rest (λ depth rest.
+    with_line 4 move_at rest (λ claim_text rest.
+    with_line 5 value_at rest (λ value rest.
+    next (record { version = version; game_type = game.game_type; moves = game.moves; claim_text = claim_text; depth = depth; value = value }) rest)))))
+
+-- the head of these lines, with a version up to the newest, or their first fault
+unfoldable pub head_of : ℕ → List Line → HeadRead
+head_of newest lines = with_head newest lines (λ head rest. Ok head)
+
+-- The written form
+
+abbrev pub written_line : List ℕ → List ℕ
+written_line line = line ++ 10 ∷ []
+
+-- the five lines of the head
+unfoldable pub head_text : ℕ → GameType → List Move → ℕ → Move → ℤ → List ℕ
+head_text version t ms depth m v =
+    written_line (codes "hive-certificate " ++ decimal version)
+    ++ written_line (string t ms)
+    ++ written_line (codes "depth " ++ decimal depth)
+    ++ written_line (codes "move " ++ text (replay (opening t) ms).board m)
+    ++ written_line (codes "value " ++ signed_decimal v)
+
+-- an index on a line of its own
+abbrev pub index_line : ℕ → List ℕ
+index_line i = written_line (decimal i)

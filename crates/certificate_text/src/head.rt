@@ -1,0 +1,239 @@
+//! The head of a certificate.
+
+ghost use Rattle.std.specs.Prelude.{◌≡◌, ◌≢◌, ◌≤◌, ℕ, List, length, Some, Err, IfOk, IfSome};
+ghost use Rattle.io_edge.specs.Outside.{HasCause};
+ghost use Rattle.line_feed.specs.Feed.{input_limit};
+ghost use Rattle.line_feed.specs.Ahead.{ahead_of};
+ghost use Rattle.hive_model.specs.Lines.{Line as AnyLine};
+ghost use Rattle.hive_model.specs.Games.{IsGame};
+ghost use Rattle.game_text.specs.declared.faults.GameFault.{GameFault as AnyFault};
+ghost use Rattle.search_laws.specs.Laws.{IsSmall};
+ghost use Rattle.certificate_text.specs.Text.{
+    version_at,
+    depth_at,
+    move_at,
+    value_at,
+    with_line,
+    with_game,
+    head_of
+};
+ghost use Rattle.certificate_text.specs.Heads.{IsHead, Parses, ReadsHead, TakesLine};
+
+use crate::fields::{depth_at, move_at, value_at, version_at};
+use game_text::{GameFault, Parsed, read_game};
+use hive_model::{Game, GameType, LineText, MoveList};
+use io_edge::Source;
+use line_feed::{LineAnswer, LineReader};
+use std::alloc::{AllocError, Global};
+
+/// What the head of a certificate says: its version, the game, and the claim, whose move is not read yet.
+#[derive(Drop)]
+pub struct Head {
+    pub version: u32,
+    pub game_type: GameType,
+    pub moves: MoveList,
+    pub claim_text: LineText,
+    pub depth: u32,
+    pub value: i32,
+}
+
+/// Why there is no head.
+#[derive(Clone, Copy, Debug, PartialEq, Eq)]
+pub enum HeadFault {
+    /// The first line that is missing, too long or not of its form, counted from 1.
+    BadLine { line: u32 },
+    /// What is wrong with the second line as a game. It is never want of memory.
+    BadGame { fault: GameFault },
+    /// The source could not be read: its count of failed reads rose.
+    ReadFault,
+    /// The reader has taken as many bytes as it ever takes.
+    InputFull,
+    /// There was not so much memory.
+    Memory,
+}
+
+/// Takes the next line, which has this number.
+fn next_text<S: Source>(
+    reader: &mut LineReader,
+    source: &mut S,
+    line: u32,
+) -> Result<(), HeadFault>
+    ensures told { TakesLine result line reader.new.last (ahead_of reader.old (S.rest source.old)) (ahead_of reader.new (S.rest source.new)) }
+    ensures fits { IfOk result (λ done. length reader.new.last ≤ 65536) }
+    ensures no_game { (fault : AnyFault) → result ≢ Err (HeadFault.BadGame fault) }
+    ensures full { result ≡ Err HeadFault.InputFull → reader.new.taken ≡ input_limit }
+    ensures cause { HasCause (result ≡ Err HeadFault.ReadFault) (S.read_faults source.old) (S.read_faults source.new) }
+{
+    match reader.next_line(source) {
+        LineAnswer::Line => Ok(()),
+        LineAnswer::TooLong | LineAnswer::End => Err(HeadFault::BadLine { line }),
+        LineAnswer::Failed => Err(HeadFault::ReadFault),
+        LineAnswer::Full => Err(HeadFault::InputFull),
+    }
+}
+
+/// The version, of the first line.
+fn read_version<S: Source>(
+    reader: &mut LineReader,
+    source: &mut S,
+    newest: u32,
+) -> Result<u32, HeadFault>
+    ensures told { (lines : List AnyLine) → ahead_of reader.old (S.rest source.old) ≡ Some lines
+        → Parses result (with_line 1 (version_at newest) lines) lines (ahead_of reader.new (S.rest source.new)) }
+    ensures range { IfOk result (λ v. (1 ≤ v) × (v ≤ newest)) }
+    ensures no_game { (fault : AnyFault) → result ≢ Err (HeadFault.BadGame fault) }
+    ensures full { result ≡ Err HeadFault.InputFull → reader.new.taken ≡ input_limit }
+    ensures cause { HasCause (result ≡ Err HeadFault.ReadFault) (S.read_faults source.old) (S.read_faults source.new) }
+{
+    if let Err(fault) = next_text(reader, source, 1) {
+        return Err(fault);
+    }
+    match version_at(reader.line(), newest) {
+        Some(version) => Ok(version),
+        None => Err(HeadFault::BadLine { line: 1 }),
+    }
+}
+
+/// The game, of the second line.
+fn read_game_line<G: Game + Drop, S: Source>(
+    alloc: Global,
+    reader: &mut LineReader,
+    source: &mut S,
+) -> Result<Parsed, HeadFault>
+    ensures told { (lines : List AnyLine) → ahead_of reader.old (S.rest source.old) ≡ Some lines
+        → Parses result (with_game lines) lines (ahead_of reader.new (S.rest source.new)) }
+    ensures game { IfOk result (λ g. IsGame g.game_type g.moves × (length g.moves ≤ 5000)) }
+    ensures fault { (fault : AnyFault) → result ≡ Err (HeadFault.BadGame fault) → fault ≢ GameFault.Memory }
+    ensures full { result ≡ Err HeadFault.InputFull → reader.new.taken ≡ input_limit }
+    ensures cause { HasCause (result ≡ Err HeadFault.ReadFault) (S.read_faults source.old) (S.read_faults source.new) }
+{
+    if let Err(fault) = next_text(reader, source, 2) {
+        return Err(fault);
+    }
+    match read_game::<G>(alloc, reader.line()) {
+        Ok(game) => Ok(game),
+        Err(GameFault::Memory) => Err(HeadFault::Memory),
+        Err(fault) => Err(HeadFault::BadGame { fault }),
+    }
+}
+
+/// The depth, of the third line.
+fn read_depth<S: Source>(reader: &mut LineReader, source: &mut S) -> Result<u32, HeadFault>
+    ensures told { (lines : List AnyLine) → ahead_of reader.old (S.rest source.old) ≡ Some lines
+        → Parses result (with_line 3 depth_at lines) lines (ahead_of reader.new (S.rest source.new)) }
+    ensures range { IfOk result (λ d. (1 ≤ d) × (d ≤ 64)) }
+    ensures no_game { (fault : AnyFault) → result ≢ Err (HeadFault.BadGame fault) }
+    ensures full { result ≡ Err HeadFault.InputFull → reader.new.taken ≡ input_limit }
+    ensures cause { HasCause (result ≡ Err HeadFault.ReadFault) (S.read_faults source.old) (S.read_faults source.new) }
+{
+    if let Err(fault) = next_text(reader, source, 3) {
+        return Err(fault);
+    }
+    match depth_at(reader.line()) {
+        Some(depth) => Ok(depth),
+        None => Err(HeadFault::BadLine { line: 3 }),
+    }
+}
+
+/// A text of these bytes.
+fn text_of(alloc: Global, bytes: &[u8]) -> Result<LineText, AllocError>
+    ensures { IfOk result (λ t. t ≡ bytes.now) }
+{
+    let mut text = LineText::new(alloc);
+    text.push_all(bytes)?;
+    Ok(text)
+}
+
+/// The text of the move, of the fourth line.
+fn read_claim_text<S: Source>(
+    alloc: Global,
+    reader: &mut LineReader,
+    source: &mut S,
+) -> Result<LineText, HeadFault>
+    ensures told { (lines : List AnyLine) → ahead_of reader.old (S.rest source.old) ≡ Some lines
+        → Parses result (with_line 4 move_at lines) lines (ahead_of reader.new (S.rest source.new)) }
+    ensures short { IfOk result (λ t. length t ≤ 65536) }
+    ensures no_game { (fault : AnyFault) → result ≢ Err (HeadFault.BadGame fault) }
+    ensures full { result ≡ Err HeadFault.InputFull → reader.new.taken ≡ input_limit }
+    ensures cause { HasCause (result ≡ Err HeadFault.ReadFault) (S.read_faults source.old) (S.read_faults source.new) }
+{
+    if let Err(fault) = next_text(reader, source, 4) {
+        return Err(fault);
+    }
+    let Some(bytes) = move_at(reader.line()) else {
+        return Err(HeadFault::BadLine { line: 4 });
+    };
+    match text_of(alloc, bytes) {
+        Ok(text) => Ok(text),
+        Err(_) => Err(HeadFault::Memory),
+    }
+}
+
+/// The value, of the fifth line.
+fn read_value<S: Source>(reader: &mut LineReader, source: &mut S) -> Result<i32, HeadFault>
+    ensures told { (lines : List AnyLine) → ahead_of reader.old (S.rest source.old) ≡ Some lines
+        → Parses result (with_line 5 value_at lines) lines (ahead_of reader.new (S.rest source.new)) }
+    ensures range { IfOk result (λ v. IsSmall 1000064 v) }
+    ensures no_game { (fault : AnyFault) → result ≢ Err (HeadFault.BadGame fault) }
+    ensures full { result ≡ Err HeadFault.InputFull → reader.new.taken ≡ input_limit }
+    ensures cause { HasCause (result ≡ Err HeadFault.ReadFault) (S.read_faults source.old) (S.read_faults source.new) }
+{
+    if let Err(fault) = next_text(reader, source, 5) {
+        return Err(fault);
+    }
+    match value_at(reader.line()) {
+        Some(value) => Ok(value),
+        None => Err(HeadFault::BadLine { line: 5 }),
+    }
+}
+
+/// Reads the five lines of the head of a certificate, whose version is at most the newest one: `hive-certificate ` and the version, a
+/// game, `depth ` and a number from 1 to 64, `move ` and some text, and `value ` and a whole number from -1,000,064 to 1,000,064. The
+/// game is played on a game of the kind G that is made for it. No line behind the first fault is read.
+///
+/// # Errors
+///
+/// The first line that is missing, too long or not of its form, or what is wrong with the second line as a game; a failed read; a
+/// reader that takes no more; and want of memory.
+pub fn read_head<G: Game + Drop, S: Source>(
+    alloc: Global,
+    reader: &mut LineReader,
+    source: &mut S,
+    newest: u32,
+) -> Result<Head, HeadFault>
+    ensures told { (lines : List AnyLine) → ahead_of reader.old (S.rest source.old) ≡ Some lines
+        → ReadsHead result (head_of newest lines) lines (ahead_of reader.new (S.rest source.new)) }
+    ensures head { IfOk result (λ h. IsHead newest h) }
+    ensures fault { (fault : AnyFault) → result ≡ Err (HeadFault.BadGame fault) → fault ≢ GameFault.Memory }
+    ensures full { result ≡ Err HeadFault.InputFull → reader.new.taken ≡ input_limit }
+    ensures cause { HasCause (result ≡ Err HeadFault.ReadFault) (S.read_faults source.old) (S.read_faults source.new) }
+{
+    let version = match read_version(reader, source, newest) {
+        Ok(version) => version,
+        Err(fault) => return Err(fault),
+    };
+    let game = match read_game_line::<G, S>(alloc, reader, source) {
+        Ok(game) => game,
+        Err(fault) => return Err(fault),
+    };
+    let depth = match read_depth(reader, source) {
+        Ok(depth) => depth,
+        Err(fault) => return Err(fault),
+    };
+    let claim_text = match read_claim_text(alloc, reader, source) {
+        Ok(claim_text) => claim_text,
+        Err(fault) => return Err(fault),
+    };
+    let value = match read_value(reader, source) {
+        Ok(value) => value,
+        Err(fault) => return Err(fault),
+    };
+    Ok(Head {
+        version,
+        game_type: game.game_type,
+        moves: game.moves,
+        claim_text,
+        depth,
+        value,
+    })
+}

@@ -1,0 +1,174 @@
+-- What is written piece by piece, and the least indices of a node.
+use Rattle.std.proofs.Common.{◌≡◌, ℕ, zero, suc, ◌+◌, ◌-◌, ◌<◌, ◌≤◌, Bool, true, false, cond, List, [], ◌∷◌, ◌++◌, length, take, drop, refl, sym, ap, subst, arith, ◌∙◌, Option, Some, None, inl, inr}
+use Rattle.std.specs.Prelude.{◌+ℤ◌}
+use Rattle.search_laws.proofs.LoopLaws.{drop-at, drop-all}
+use Rattle.std.specs.Prelude.{ℤ, pos, neg_ℤ, ◌-ℤ◌, ◌<ℤ◌, ◌≤ℤ◌, int_le, slice_get}
+use Rattle.std.specs.List.{flat_map, position_from}
+use Rattle.std.proofs.lemmas.Grind.{flat_map-append}
+use Rattle.std.proofs.lemmas.List.{take-append-le, append-nil}
+use Rattle.std.proofs.Math.Seq.{take-append-add}
+use Rattle.io_edge.specs.Outside.{Told, behind}
+use Rattle.io_edge.proofs.Told.{behind-behind}
+use Rattle.hive_model.specs.declared.places.Move.{Move}
+use Rattle.hive_model.specs.Positions.{Position}
+use Rattle.hive_model.specs.Legal.{moves, is_over}
+use Rattle.hive_model.specs.Games.{after}
+use Rattle.hive_model.specs.Courses.{Course, position, with_move}
+use Rattle.hive_model.specs.Minimax.{IsInner, value}
+use Rattle.search_laws.specs.Found.{IsFound}
+use Rattle.search_laws.specs.declared.window.Window.{Window}
+use Rattle.std.proofs.lemmas.Int.{by_lt_z, ints}
+use Rattle.claim_walks.proofs.SoundLaws.{keeps-true, true-keeps}
+use Rattle.search_laws.specs.Leaves.{IsLeaf}
+use Rattle.search_laws.specs.Laws.{IsSmall}
+use Rattle.claim_walks.specs.declared.limit.Limit.{Limit}
+use Rattle.claim_walks.specs.declared.limit.Limit.TheVariants.{AtMost, AtLeast}
+use Rattle.claim_walks.specs.Limits.{Keeps, is_kept, number}
+use Rattle.claim_walks.specs.Follows.{range_of}
+use Rattle.claim_walks.proofs.FollowLaws.{range-next, range-end, range-all, position-behind}
+use Rattle.strategy_check.specs.Least.{least, least_from, least_inner}
+use Rattle.certificate_text.specs.Text.{index_line}
+use Rattle.index_writing.specs.Writing.{Wrote, index_lines, lines_below, keeps_below, first_kept}
+
+-- ---- pieces
+
+pub wrote-as : (r : Bool) (s t : List ℕ) (a b : Told) → s ≡ t → Wrote r s a b → Wrote r t a b
+wrote-as r s t a b e h = subst (λ (x : List ℕ). Wrote r x a b) e h
+
+pub wrote-then : (r : Bool) (s t : List ℕ) (a b c : Told) → Wrote true s a b → Wrote r t b c → Wrote r (s ++ t) a c
+wrote-then true s t a b c first then_ = then_ ∙ ap (λ z. behind z t) first ∙ behind-behind a s t
+wrote-then false s t a b c first then_ = (
+  length s + then_.0,
+  then_.1 ∙ ap (λ z. behind z (take then_.0 t)) first ∙ behind-behind a s (take then_.0 t) ∙ ap (behind a) (sym (take-append-add s t then_.0)),
+)
+
+-- a cut in the first piece is a cut in the whole: at most its length counts
+cut-in : (s t : List ℕ) (n : ℕ) → (k : ℕ) × (take k (s ++ t) ≡ take n s)
+cut-in s t zero = (0, refl)
+cut-in [] t (suc n) = (0, refl)
+cut-in (x ∷ s) t (suc n) = let c = cut-in s t n in (suc c.0, ap (λ l. x ∷ l) c.1)
+
+pub wrote-stop : (s t : List ℕ) (a b : Told) → Wrote false s a b → Wrote false (s ++ t) a b
+wrote-stop s t a b h = let c = cut-in s t h.0 in (c.0, h.1 ∙ ap (behind a) (sym c.1))
+
+pub wrote-nothing : (a : Told) → Wrote true [] a a
+wrote-nothing None = refl
+wrote-nothing (Some w) = ap (λ l. Some l) (sym (append-nil w))
+
+-- of what was written whole or in part, by the answer
+pub wrote-is : (r : Bool) (w : Bool) (s : List ℕ) (a b : Told) → r ≡ w → Wrote r s a b → Wrote w s a b
+wrote-is r w s a b e h = subst (λ (x : Bool). Wrote x s a b) e h
+
+-- ---- the moves of a level
+
+pub lines-next : (p : Position) (e : ℕ) (c : Limit) (i to : ℕ) (m : Move) → slice_get (moves p) i ≡ Some m → i < to →
+    lines_below p e c (range_of (moves p) i to) ≡ index_lines (least (after p m) e c) ++ lines_below p e c (range_of (moves p) (i + 1) to)
+lines-next p e c i to m here low =
+    ap (lines_below p e c) (range-next (moves p) i to m here low)
+    ∙ flat_map-append index_line (least (after p m) e c) (flat_map (λ n. least (after p n) e c) (range_of (moves p) (i + 1) to))
+
+pub lines-end : (p : Position) (e : ℕ) (c : Limit) (i to : ℕ) → to ≤ i → lines_below p e c (range_of (moves p) i to) ≡ []
+lines-end p e c i to past = ap (lines_below p e c) (range-end (moves p) i to past)
+
+-- ---- a node
+
+pub least-leaf : (p : Position) (e : ℕ) (c : Limit) → IsLeaf p e → least p e c ≡ []
+unfolding least
+least-leaf p zero c leaf = refl
+least-leaf p (suc e) c (inl none) = absurd (cc)
+least-leaf p (suc e) c (inr over) = ap (λ b. cond b [] (least_inner p e (λ m. least (after p m) e) c)) over
+
+pub least-node : (p : Position) (e : ℕ) (c : Limit) → IsInner p e → least p e c ≡ least_inner p (e - 1) (λ m. least (after p m) (e - 1)) c
+unfolding least
+least-node p zero c inner = absurd (omega (arith, inner.deep))
+least-node p (suc e) c inner =
+    let one : e ≡ suc e - 1 = omega arith in
+    ap (λ b. cond b [] (least_inner p e (λ m. least (after p m) e) c)) inner.open_
+    ∙ ap (λ d. least_inner p d (λ m. least (after p m) d) c) one
+
+module _ (passes : Move → Bool) (below : Move → List ℕ) where
+  least_from-at : (j : ℕ) (ms : List Move) (k : ℕ) → position_from passes j ms ≡ Some k → (i : ℕ) × (m : Move) × (k ≡ j + i) × (slice_get ms i ≡ Some m) × (least_from passes below j ms ≡ k ∷ below m)
+  least_from-at j [] k e = cc
+  least_from-at j (m ∷ ms) k e =
+      elim (passes m) as (λ b. cond b (Some j) (position_from passes (j + 1) ms) ≡ Some k →
+          (i : ℕ) × (n : Move) × (k ≡ j + i) × (slice_get (m ∷ ms) i ≡ Some n) × (cond b (j ∷ below m) (least_from passes below (j + 1) ms) ≡ k ∷ below n)) [
+        | true ↦ λ h. let same : j ≡ k = cc in (0, m, omega (arith, same), refl, ap (λ n. n ∷ below m) same)
+        | false ↦ λ h. let later = least_from-at (j + 1) ms k h in (suc later.0, later.1, omega (arith, later.2), later.3, later.4)
+      ] e
+
+  least_from-none : (j : ℕ) (ms : List Move) → position_from passes j ms ≡ None → least_from passes below j ms ≡ []
+  least_from-none j [] e = refl
+  least_from-none j (m ∷ ms) e =
+      elim (passes m) as (λ b. cond b (Some j) (position_from passes (j + 1) ms) ≡ None → cond b (j ∷ below m) (least_from passes below (j + 1) ms) ≡ []) [
+        | true ↦ λ h. absurd (cc)
+        | false ↦ λ h. least_from-none (j + 1) ms h
+      ] e
+
+  position-step : (ms : List Move) (i : ℕ) (m : Move) → position_from passes 0 ms ≡ position_from passes i (drop i ms) → slice_get ms i ≡ Some m → passes m ≡ false →
+      position_from passes 0 ms ≡ position_from passes (i + 1) (drop (i + 1) ms)
+  position-step ms i m so here not = so ∙ ap (position_from passes i) (drop-at ms i m here) ∙ ap (λ b. cond b (Some i) (position_from passes (i + 1) (drop (i + 1) ms))) not
+
+  position-met : (ms : List Move) (i : ℕ) (m : Move) → position_from passes 0 ms ≡ position_from passes i (drop i ms) → slice_get ms i ≡ Some m → passes m ≡ true → Some i ≡ position_from passes 0 ms
+  position-met ms i m so here yes_ = sym (so ∙ ap (position_from passes i) (drop-at ms i m here) ∙ ap (λ b. cond b (Some i) (position_from passes (i + 1) (drop (i + 1) ms))) yes_)
+
+  position-none : (ms : List Move) (i : ℕ) → position_from passes 0 ms ≡ position_from passes i (drop i ms) → length ms ≤ i → None ≡ position_from passes 0 ms
+  position-none ms i so past = sym (so ∙ ap (position_from passes i) (drop-all ms i past))
+
+-- the least indices of a node that names a move: its place, and those behind it
+pub named-is : (p : Position) (d : ℕ) (x y : ℤ) (k : ℕ) (m : Move) → IsInner p d → y ≡ neg_ℤ x → Some k ≡ first_kept p (d - 1) (AtMost y) (moves p) → slice_get (moves p) k ≡ Some m →
+    index_lines (least p d (AtLeast x)) ≡ index_line k ++ index_lines (least (after p m) (d - 1) (AtMost y))
+named-is p d x y k m inner turned found here =
+    let at = least_from-at (keeps_below p (d - 1) (AtMost y)) (λ n. least (after p n) (d - 1) (AtMost y)) 0 (moves p) k (sym found) in
+    let same_place : at.0 ≡ k = omega (arith, at.2) in
+    let there : slice_get (moves p) k ≡ Some at.1 = ap (slice_get (moves p)) (sym same_place) ∙ at.3 in
+    let both : Some at.1 ≡ Some m = sym there ∙ here in
+    let same : at.1 ≡ m = cc in
+    ap index_lines (least-node p d (AtLeast x) inner ∙ ap (λ z. least_from (keeps_below p (d - 1) (AtMost z)) (λ n. least (after p n) (d - 1) (AtMost z)) 0 (moves p)) (sym turned) ∙ at.4)
+    ∙ ap (λ n. index_line k ++ index_lines (least (after p n) (d - 1) (AtMost y))) same
+
+pub none-named : (p : Position) (d : ℕ) (x y : ℤ) → IsInner p d → y ≡ neg_ℤ x → None ≡ first_kept p (d - 1) (AtMost y) (moves p) → index_lines (least p d (AtLeast x)) ≡ []
+none-named p d x y inner turned found =
+    ap index_lines (least-node p d (AtLeast x) inner ∙ ap (λ z. least_from (keeps_below p (d - 1) (AtMost z)) (λ n. least (after p n) (d - 1) (AtMost z)) 0 (moves p)) (sym turned)
+    ∙ least_from-none (keeps_below p (d - 1) (AtMost y)) (λ n. least (after p n) (d - 1) (AtMost y)) 0 (moves p) (sym found))
+
+-- and of one that walks every move
+pub every-is : (p : Position) (d : ℕ) (x y : ℤ) (count : ℕ) → IsInner p d → y ≡ neg_ℤ x → count ≡ length (moves p) →
+    lines_below p (d - 1) (AtLeast y) (range_of (moves p) 0 count) ≡ index_lines (least p d (AtMost x))
+every-is p d x y count inner turned all =
+    ap (lines_below p (d - 1) (AtLeast y)) (range-all (moves p) count all)
+    ∙ ap (λ z. lines_below p (d - 1) (AtLeast z) (moves p)) turned
+    ∙ ap index_lines (sym (least-node p d (AtMost x) inner))
+
+-- ---- the code's limits
+
+pub small-of : (c k : Limit) (x : ℤ) → c ≡ k → number k ≡ x → IsSmall 1000090 (number c) → IsSmall 1000090 x
+small-of c k x e is h = subst (IsSmall 1000090) (ap number e ∙ is) h
+
+-- ---- what a search in a window tells of a limit
+
+kept-same : (c : Limit) (v w : ℤ) → (Keeps c w → Keeps c v) → (Keeps c v → Keeps c w) → is_kept c w ≡ is_kept c v
+kept-same c v w forth back =
+    elim (is_kept c w) as (λ b. is_kept c w ≡ b → b ≡ is_kept c v) [
+      | true ↦ λ e. sym (true-keeps c v (forth (keeps-true c w e)))
+      | false ↦ λ e. no (is_kept c v) refl e
+    ] refl
+  where
+    no : (b : Bool) → is_kept c v ≡ b → is_kept c w ≡ false → false ≡ is_kept c v
+    no true e g = let yes_ : is_kept c w ≡ true = true-keeps c w (back (keeps-true c v e)) in absurd (cc)
+    no false e g = sym e
+
+pub found-most : (x v w : ℤ) (window : Window) → window.alpha ≡ x → window.beta ≡ x +ℤ pos 1 → IsFound v window w → is_kept (AtMost x) w ≡ is_kept (AtMost x) v
+found-most x v w window low high found =
+    kept-same (AtMost x) v w
+    (λ k. let under : v ≤ℤ w = found.upper (omega (arith, ints, k, low)) in omega (arith, ints, k, under))
+    (λ k. by_lt_z w (x +ℤ pos 1)
+    (λ less. omega (arith, ints, less))
+    (λ more. let over : w ≤ℤ v = found.lower (omega (arith, ints, more, high)) in omega (arith, ints, over, k)))
+
+pub found-least : (x v w : ℤ) (window : Window) → window.alpha ≡ x -ℤ pos 1 → window.beta ≡ x → IsFound v window w → is_kept (AtLeast x) w ≡ is_kept (AtLeast x) v
+found-least x v w window low high found =
+    kept-same (AtLeast x) v w
+    (λ k. let over : w ≤ℤ v = found.lower (omega (arith, ints, k, high)) in omega (arith, ints, k, over))
+    (λ k. by_lt_z w x
+    (λ less. let under : v ≤ℤ w = found.upper (omega (arith, ints, less, low)) in omega (arith, ints, under, k))
+    (λ more. more))
