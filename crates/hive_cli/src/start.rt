@@ -11,11 +11,14 @@ use crate::replays::replay;
 use crate::sessions::uhp;
 use crate::status::{Outcome, Status};
 use crate::words::{are_replay_words, are_uhp_words, count_plies};
+use fast_game::FastGame;
 use hive_model::TimedList;
 use io_edge::{Clock, Sink, Source, Spawner};
-use plain_game::PlainGame;
 use std::alloc::Global;
 use std::thread::Threads;
+
+/// The game that the program plays on.
+type Played = FastGame;
 
 /// Does what the words of the command line ask for; the program's name is left out of them.
 ///
@@ -67,11 +70,11 @@ pub fn run<R: Threads + Sync, S: Source, K: Sink, C: Clock, P: Spawner>(
 {
     let mut timed = TimedList::new(alloc);
     if are_uhp_words(words) {
-        let status = uhp::<R, S, K, C, PlainGame>(rt, alloc, input, output, clock, &mut timed);
+        let status = uhp::<R, S, K, C, Played>(rt, alloc, input, output, clock, &mut timed);
         return Outcome { status, timed };
     }
     if are_replay_words(words) {
-        let status = replay::<S, K, PlainGame>(alloc, input, output);
+        let status = replay::<S, K, Played>(alloc, input, output);
         return Outcome { status, timed };
     }
     let status = count_asked(alloc, words, input, output);
@@ -97,7 +100,7 @@ fn count_asked<S: Source, K: Sink>(
     ensures starts { result ≢ Status.SpawnFault }
 {
     match count_plies(alloc, words) {
-        Ok(Some(plies)) => count::<S, K, PlainGame>(alloc, plies, input, output),
+        Ok(Some(plies)) => count::<S, K, Played>(alloc, plies, input, output),
         Ok(None) => Status::Usage,
         Err(_) => Status::Memory,
     }
