@@ -18,7 +18,8 @@ use std::test::Fail;
 use std::thread::Threads;
 
 /// A game that white wins by one move.
-const ONE_MOVE_WINS: &str = "Base;InProgress;White[7];wS1;bS1 wS1-;wQ /wS1;bQ bS1-;wQ /bS1;bQ wQ-;wG1 -wS1;bG1 bS1-;wB1 /wQ;bB1 bQ-;wA1 -wB1;bA1 /bB1";
+const ONE_MOVE_WINS: &str =
+    "Base;InProgress;White[7];wS1;bS1 wS1-;wQ /wS1;bQ bS1-;wQ /bS1;bQ wQ-;wG1 -wS1;bG1 bS1-;wB1 /wQ;bB1 bQ-;wA1 -wB1;bA1 /bB1";
 
 /// How often a worker that waits for another looks at its flag.
 const LOOKS: u32 = 1_000_000_000;
@@ -94,10 +95,8 @@ fn workers_in(
     requires some { 1 ≤ depth }
     requires few { depth ≤ 3 }
     ensures count { IfOk result (λ ws. length ws.items ≡ count) }
-    ensures games {
-        IfOk result (λ ws. All (λ w. IsGameOf parsed.now.game_type parsed.now.moves depth w.game.course)
-            ws.items)
-    }
+    ensures games { IfOk result (λ ws. All (λ w. IsGameOf parsed.now.game_type parsed.now.moves depth w.game.course)
+        ws.items) }
     ensures searchers { IfOk result (λ ws. All (λ w. depth ≤ w.searcher) ws.items) }
 {
     let mut workers = Vec::new(alloc);
@@ -181,7 +180,7 @@ fn place_of_the_win(alloc: Global) -> Result<Option<(u32, u32)>, AllocError> {
     if parsed.moves.items().len() > 5000 {
         return Ok(None);
     }
-    let mut game = played(alloc, parsed.game_type, parsed.moves.items(), 0)?;
+    let mut game: PlainGame = played(alloc, parsed.game_type, parsed.moves.items(), 0)?;
     let mut root = MoveStack::new(alloc, 1)?;
     game.list(&mut root);
     let count = root.level_len(0);
