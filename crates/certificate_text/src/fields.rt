@@ -5,12 +5,12 @@ ghost use Rattle.game_text.specs.Turns.{behind_word};
 ghost use Rattle.uhp_words.specs.Numbers.{number_at};
 ghost use Rattle.search_laws.specs.Laws.{IsSmall};
 ghost use Rattle.certificate_text.specs.Text.{
-    version_at,
-    depth_at,
-    move_at,
-    value_at,
-    int_at,
-    index_at
+  version_at,
+  depth_at,
+  move_at,
+  value_at,
+  int_at,
+  index_at,
 };
 
 use move_text::read_number;

@@ -9,13 +9,13 @@ ghost use Rattle.hive_model.specs.Games.{IsGame};
 ghost use Rattle.game_text.specs.declared.faults.GameFault.{GameFault as AnyFault};
 ghost use Rattle.search_laws.specs.Laws.{IsSmall};
 ghost use Rattle.certificate_text.specs.Text.{
-    version_at,
-    depth_at,
-    move_at,
-    value_at,
-    with_line,
-    with_game,
-    head_of
+  version_at,
+  depth_at,
+  move_at,
+  value_at,
+  with_line,
+  with_game,
+  head_of,
 };
 ghost use Rattle.certificate_text.specs.Heads.{IsHead, Parses, ReadsHead, TakesLine};
 
@@ -53,11 +53,7 @@ pub enum HeadFault {
 }
 
 /// Takes the next line, which has this number.
-fn next_text<S: Source>(
-    reader: &mut LineReader,
-    source: &mut S,
-    line: u32,
-) -> Result<(), HeadFault>
+fn next_text<S: Source>(reader: &mut LineReader, source: &mut S, line: u32) -> Result<(), HeadFault>
     ensures told { TakesLine result line reader.new.last (ahead_of reader.old (S.rest source.old)) (ahead_of reader.new (S.rest source.new)) }
     ensures fits { IfOk result (λ done. length reader.new.last ≤ 65536) }
     ensures no_game { (fault : AnyFault) → result ≢ Err (HeadFault.BadGame fault) }

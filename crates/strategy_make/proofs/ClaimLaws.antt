@@ -87,7 +87,7 @@ head-whole t ms d m v one two three four five e1 e2 e3 e4 e5 =
     let b = written_line (codes "move " ++ text (replay (opening t) ms).board m) in
     let f = written_line (codes "value " ++ signed_decimal v) in
     ap (λ x. x ++ f) (e5 ∙ ap (λ x. x ++ b) (e4 ∙ ap (λ x. x ++ c) (e3 ∙ ap (λ x. x ++ 10 ∷ []) (e2 ∙ ap (λ x. x ++ s) e1))))
-    ∙ append_assoc (((( a ++ s) ++ 10 ∷ []) ++ c)) b f
+    ∙ append_assoc ((((a ++ s) ++ 10 ∷ []) ++ c)) b f
     ∙ append_assoc ((a ++ s) ++ 10 ∷ []) c (b ++ f)
     ∙ append_assoc (a ++ s) (10 ∷ []) (c ++ (b ++ f))
     ∙ append_assoc a s ((10 ∷ []) ++ (c ++ (b ++ f)))

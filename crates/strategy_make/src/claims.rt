@@ -57,5 +57,15 @@ pub(crate) fn write_claims<G: Game, K: Sink>(
     if !write_child(searcher, game, best.best, depth, low, stack, sink) {
         return false;
     }
-    write_moves(searcher, game, level, place + 1, count, depth, low, stack, sink)
+    write_moves(
+        searcher,
+        game,
+        level,
+        place + 1,
+        count,
+        depth,
+        low,
+        stack,
+        sink,
+    )
 }

@@ -76,13 +76,7 @@ fn bound_of(limit: Limit, kept: bool) -> (Bound, i32)
 }
 
 /// Tells the table whether the limit is kept. Where there is no memory for it, nothing is kept.
-pub(crate) fn tell<G: Game>(
-    table: &mut ValueTable,
-    game: &G,
-    depth: u32,
-    limit: Limit,
-    kept: bool,
-)
+pub(crate) fn tell<G: Game>(table: &mut ValueTable, game: &G, depth: u32, limit: Limit, kept: bool)
     requires small { IsSmall 1000100 (number limit) }
     requires kept { kept ≡ is_kept limit (value (position (G.course game.now)) depth) }
 {
