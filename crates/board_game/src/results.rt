@@ -3,10 +3,9 @@
 ghost use Rattle.std.specs.Prelude.{◌≡◌};
 ghost use Rattle.std.specs.List.{list_all};
 ghost use Rattle.hive_model.specs.declared.pieces.Colour.TheVariants.{White, Black};
-ghost use Rattle.hive_model.specs.Pieces.{queen_of};
 ghost use Rattle.hive_model.specs.Places.{IsWithin, step, dirs};
 ghost use Rattle.hive_model.specs.Boards.{is_occupied};
-ghost use Rattle.hive_model.specs.Legal.{is_surrounded, state_from, is_over_state};
+ghost use Rattle.hive_model.specs.Legal.{is_surrounded, state_from};
 
 use hive_model::{Board, Colour, Dir, Place, State, is_occupied};
 

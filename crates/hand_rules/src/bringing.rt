@@ -5,7 +5,6 @@ ghost use Rattle.hive_model.specs.declared.places.Place.{Place};
 ghost use Rattle.hive_model.specs.declared.places.Move.{Move};
 ghost use Rattle.hive_model.specs.declared.places.Move.TheVariants.{To};
 ghost use Rattle.hive_model.specs.Lists.{IsOn, Rises};
-ghost use Rattle.hive_model.specs.Pieces.{queen_of};
 ghost use Rattle.hive_model.specs.Placement.{IsLeastInHand};
 ghost use Rattle.hive_model.specs.Legal.{move_cmp};
 ghost use Rattle.hive_model.specs.Stack.{without_level};

@@ -1,7 +1,7 @@
 //! Pieces in hand.
 
 ghost use Rattle.std.specs.Prelude.{◌≡◌, ◌↔◌, ◌≤◌, IsTrue, IfSome, IsNone};
-ghost use Rattle.hive_model.specs.Pieces.{has_kind, kind_of, colour_of};
+ghost use Rattle.hive_model.specs.Pieces.{kind_of, colour_of};
 ghost use Rattle.hive_model.specs.Placement.{IsInHand, IsLeastInHand};
 ghost use Rattle.hand_rules.specs.Hands.{HasNoneInHand, count_of, first_piece};
 

@@ -4,7 +4,6 @@ ghost use Rattle.std.specs.Prelude.{◌≡◌, ◌+◌, ◌≤◌, pos, negsuc, 
 ghost use Rattle.hive_model.specs.Boards.{height_at};
 ghost use Rattle.hive_model.specs.Evaluation.{weight_of, is_free_piece, counted, free_weight};
 ghost use Rattle.hive_model.specs.Pieces.{other_side};
-ghost use Rattle.hive_model.specs.Positions.{is_piece};
 
 use hive_model::{Board, Colour, Cuts, Kind, Piece, Spot};
 

@@ -1,9 +1,8 @@
 //! The list of legal moves.
 
-ghost use Rattle.std.specs.Prelude.{◌≡◌, ◌↔◌, ◌+◌, ◌≤◌, [], ◌++◌, map, length};
+ghost use Rattle.std.specs.Prelude.{◌≡◌, ◌↔◌, ◌+◌, ◌≤◌, [], length};
 ghost use Rattle.hive_model.specs.declared.places.Place.{Place};
 ghost use Rattle.hive_model.specs.declared.places.Move.{Move};
-ghost use Rattle.hive_model.specs.declared.places.Move.TheVariants.{To};
 ghost use Rattle.hive_model.specs.Lists.{IsOn, Rises};
 ghost use Rattle.hive_model.specs.Places.{place_cmp};
 ghost use Rattle.hive_model.specs.Boards.{IsBoard};

@@ -3,7 +3,6 @@
 ghost use Rattle.std.specs.Prelude.{◌≡◌, ◌↔◌, ◌⊎◌, [], IsTrue};
 ghost use Rattle.hive_model.specs.declared.places.Place.{Place};
 ghost use Rattle.hive_model.specs.Lists.{IsOn, Rises};
-ghost use Rattle.hive_model.specs.Pieces.{queen_of};
 ghost use Rattle.hive_model.specs.Places.{place_cmp};
 ghost use Rattle.hive_model.specs.Boards.{IsBoard, is_in_play};
 ghost use Rattle.hive_model.specs.Legal.{Walk};

@@ -1,10 +1,9 @@
 //! Whose turn it is.
 
 ghost use Rattle.std.specs.Prelude.{◌≡◌};
-ghost use Rattle.hive_model.specs.declared.pieces.Kind.TheVariants.{Queen, Mosquito, Pillbug};
-ghost use Rattle.hive_model.specs.Pieces.{piece_of, queen_of};
+ghost use Rattle.hive_model.specs.declared.pieces.Kind.TheVariants.{Mosquito, Pillbug};
+ghost use Rattle.hive_model.specs.Pieces.{piece_of};
 ghost use Rattle.hive_model.specs.Boards.{is_in_play};
-ghost use Rattle.hive_model.specs.Positions.{is_piece};
 
 use hive_model::{Board, Colour, GameType, Piece};
 

@@ -3,7 +3,7 @@
 //! The board is always the one from which the mosquito was lifted.
 #![tactic(auto)]
 
-ghost use Rattle.std.specs.Prelude.{◌≡◌, ◌≢◌, ◌↔◌, ◌<◌, [], length, slice_get, Some, IsTrue};
+ghost use Rattle.std.specs.Prelude.{◌≡◌, ◌≢◌, ◌↔◌, ◌<◌, [], Some, IsTrue};
 ghost use Rattle.hive_model.specs.declared.pieces.Kind.{Kind};
 ghost use Rattle.hive_model.specs.declared.pieces.Kind.TheVariants.{Mosquito};
 ghost use Rattle.hive_model.specs.Boards.{is_occupied};

@@ -5,7 +5,6 @@ ghost use Rattle.hive_model.specs.declared.places.Spot.{Spot};
 ghost use Rattle.std.specs.List.{list_any};
 ghost use Rattle.hive_model.specs.Boards.{height_at, top_at};
 ghost use Rattle.hive_model.specs.Places.{IsWithin, step, dirs};
-ghost use Rattle.hive_model.specs.Pieces.{is_kind};
 ghost use Rattle.hive_model.specs.Positions.{is_piece};
 ghost use Rattle.hive_model.specs.Throws.{IsThrower, is_pillbug, can_throw};
 

@@ -1,6 +1,6 @@
 //! The ways of the bugs, and steps past a gate, on the grid.
 
-ghost use Rattle.std.specs.Prelude.{◌≡◌, ◌≢◌, ◌<◌, IfOk};
+ghost use Rattle.std.specs.Prelude.{◌≢◌, ◌<◌, IfOk};
 ghost use Rattle.hive_model.specs.declared.pieces.Kind.TheVariants.{Mosquito};
 ghost use Rattle.hive_model.specs.Places.{IsWithin};
 ghost use Rattle.fast_game.specs.Small.{IsSmall};
