@@ -1,0 +1,4 @@
+pub mod RingLaws
+pub mod StoreLemmas
+pub mod ChangeLaws
+pub mod KeeperLemmas

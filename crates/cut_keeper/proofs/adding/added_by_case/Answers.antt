@@ -1,0 +1,12 @@
+use Rattle.std.proofs.Common.{sym, ◌∙◌}
+use Rattle.cut_keeper.proofs.KeeperLemmas.{arc_mask, mask_arc, grown_known}
+use Rattle.cut_keeper.proofs.adding.added_by_case.Goals as goal
+
+pub added_beside-requires-clause-arc : goal.added_beside-requires-clause-arc
+added_beside-requires-clause-arc g c = arc_mask (g.B.Board.stacks c.args.board.now) c.args.place c.mask_of-mask.result c.mask_of-mask.ensures.mask (sym c.arcs.ensures ∙ c.if-arcs-eq1.true)
+
+pub added_elsewhere-requires-clause-known : goal.added_elsewhere-requires-clause-known
+added_elsewhere-requires-clause-known g c = grown_known c.args.keeper.now (g.B.Board.stacks c.args.board.now) c.args.place c.requires.sound c.requires.grown
+
+pub returns-clause-few : goal.returns-clause-few
+returns-clause-few g c = λ arc. absurd (c.if-arcs-eq1.false (c.arcs.ensures ∙ mask_arc (g.B.Board.stacks c.args.board.now) c.args.place c.mask_of-mask.result c.mask_of-mask.ensures.mask arc))

@@ -1,0 +1,34 @@
+use Rattle.std.proofs.Common.{ℕ, sym, ◌∙◌, ap, subst, Some}
+use Rattle.cut_keeper.specs.Examining.{Right}
+use Rattle.cut_keeper.specs.Keeping.{with_status}
+use Rattle.cut_keeper.proofs.KeeperLemmas.{few_known, known_with, grown_known, grown_some, grown_on, grown_occupied, right_high}
+use Rattle.hive_model.specs.Lists.{IsOn}
+use Rattle.cut_keeper.specs.Keeping.{changed}
+use Rattle.cut_keeper.proofs.ChangeLaws.{told_none}
+use Rattle.cut_keeper.proofs.adding.added_on.Goals as goal
+
+pub change-requires-clause-few : goal.change-requires-clause-few
+change-requires-clause-few g c =
+    let b = g.B.Board.stacks c.args.board.now in
+    let k = c.args.keeper.now in
+    few_known _ b c.requires.sound
+    (known_with k b c.args.place (record { height = c.height-height.result; separating = c.in-Some.status.separating })
+    (grown_known k b c.args.place c.requires.sound c.requires.grown) (grown_occupied k b c.args.place c.requires.sound c.requires.grown))
+
+pub unreachable-requires : goal.unreachable-requires
+unreachable-requires g c = grown_some c.args.keeper.now (g.B.Board.stacks c.args.board.now) c.args.place c.requires.sound c.requires.grown c.requires.high c.in-None.ensures.status
+
+pub returns-clause-right : goal.returns-clause-right
+returns-clause-right g c = λ p.
+    let b = g.B.Board.stacks c.args.board.now in
+    let k = c.args.keeper.now in
+    let same = ap (λ (h : ℕ). record { height = h; separating = c.in-Some.status.separating }) c.height-height.ensures
+    ∙ grown_on k b c.args.place c.requires.sound c.requires.grown c.in-Some.status c.requires.high c.in-Some.ensures.status in
+    let made = c.change.ensures.status ∙ ap (λ s. with_status k c.args.place (Some s)) same in
+    subst (λ j. Right j b p) (sym made) (right_high k b c.args.place c.requires.sound c.requires.grown c.requires.high p)
+
+pub change-requires-clause-told : goal.change-requires-clause-told
+change-requires-clause-told g c = told_none c.args.keeper.now c.new-delta.result c.new-delta.ensures
+
+pub change-requires-clause-settled : goal.change-requires-clause-settled
+change-requires-clause-settled g c = λ on. absurd (subst (λ cs. IsOn (changed cs) c.args.place) c.new-delta.ensures on)

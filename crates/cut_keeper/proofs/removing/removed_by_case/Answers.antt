@@ -1,0 +1,9 @@
+use Rattle.std.proofs.Common.{sym, ◌∙◌}
+use Rattle.cut_keeper.proofs.KeeperLemmas.{arc_mask, mask_arc}
+use Rattle.cut_keeper.proofs.removing.removed_by_case.Goals as goal
+
+pub removed_beside-requires-clause-arc : goal.removed_beside-requires-clause-arc
+removed_beside-requires-clause-arc g c = arc_mask (g.B.Board.stacks c.args.board.now) c.args.place c.mask_of-mask.result c.mask_of-mask.ensures.mask (sym c.arcs.ensures ∙ c.if-arcs-eq1.true)
+
+pub returns-clause-few : goal.returns-clause-few
+returns-clause-few g c = λ arc. absurd (c.if-arcs-eq1.false (c.arcs.ensures ∙ mask_arc (g.B.Board.stacks c.args.board.now) c.args.place c.mask_of-mask.result c.mask_of-mask.ensures.mask arc))

@@ -1,0 +1,4 @@
+pub mod Rings
+pub mod Keeping
+pub mod Examining
+pub mod Slots

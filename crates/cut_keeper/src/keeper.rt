@@ -1,0 +1,128 @@
+//! The keeper.
+
+ghost use Rattle.std.specs.Prelude.{◌≡◌, ◌↔◌, ◌<◌, ◌+◌, ◌≤◌, [], length, IfOk, IsTrue, Some};
+ghost use Rattle.hive_model.specs.Places.{IsWithin};
+ghost use Rattle.hive_model.specs.Boards.{Stacks, IsBoard, height_at, is_occupied};
+ghost use Rattle.hive_model.specs.Hive.{IsCut};
+ghost use Rattle.arc_law.specs.Arcs.{OneArc};
+ghost use Rattle.cut_keeper.specs.Keeping.{Grown, Shrunk, AreChanges, keeper_of, is_cut_status, status_on, undone};
+ghost use Rattle.cut_keeper.specs.Slots.{AtMost};
+
+use crate::statuses::{Delta, Status};
+use crate::store::Store;
+use crate::{adding, removing};
+use hive_model::{Board, Place};
+use one_hive::Steps;
+use std::alloc::{AllocError, Global};
+use std::marker::Model;
+use std::sync::ledger::Ledger;
+
+/// For each occupied place of a board its height, and whether it is separating. Contracts see the list of the places with their
+/// statuses, in the order of the places; `keeper_of` a board is the one that stands for it.
+#[derive(Drop)]
+pub struct CutKeeper {
+    store: Store,
+}
+
+impl Model for CutKeeper {
+    ghost use Rattle.cut_keeper.specs.Keeping.{Standings};
+    ghost use Rattle.cut_keeper.specs.Slots.{AtMost};
+
+    ghost Value = { Standings };
+
+    ghost view = { λ k. k.store };
+
+    ghost invariant = { λ k. AtMost 28 k.store };
+}
+
+/// Whether this is the status of a cut place.
+fn is_cut_status(status: Status) -> bool
+    ensures { result ≡ is_cut_status (Some status) }
+{
+    status.height == 1 && status.separating
+}
+
+/// Takes changes back, the last one first.
+fn take_back(store: &mut Store, delta: &Delta)
+    requires { AtMost 28 store.old }
+    ensures { store.new ≡ undone delta.now store.old }
+{
+    let mut i = delta.len();
+    while i > 0 {
+        i -= 1;
+        let change = delta.get(i);
+        store.set(change.place, change.before);
+    }
+}
+
+impl CutKeeper {
+    /// Stands for the empty board. All memory is taken here.
+    pub fn new(_alloc: Global) -> Result<CutKeeper, AllocError>
+        ensures { IfOk result (λ k. k ≡ keeper_of []) }
+    {
+        Ok(CutKeeper {
+            store: Store::new(),
+        })
+    }
+
+    /// After a piece was put on the place, makes a keeper that stood for the board before stand for the board, and answers what it
+    /// changed. It takes no step where the place was occupied before, at most 5 where the occupied neighbours of the place form one
+    /// arc, and else at most 28.
+    pub fn added<B: Board, L: Ledger>(
+        &mut self,
+        board: &B,
+        place: Place,
+        steps: &mut Steps<L>,
+    ) -> Delta
+        requires grown { Grown self.old (B.stacks board.now) place }
+        requires within { IsWithin 9500 place }
+        ensures stands { self.new ≡ keeper_of (B.stacks board.now) }
+        ensures undone { undone result self.new ≡ self.old }
+        ensures changes { AreChanges self.old self.new result }
+        ensures none { 1 < height_at (B.stacks board.now) place → steps.new ≡ steps.old }
+        ensures few { OneArc (is_occupied (B.stacks board.now)) place → steps.new ≤ steps.old + 5 }
+        ensures most { steps.new ≤ steps.old + 28 }
+    {
+        adding::added(&mut self.store, board, place, steps)
+    }
+
+    /// After a piece was taken from the place, makes a keeper that stood for the board before stand for the board, and answers what
+    /// it changed. It takes no step where the place is still occupied, at most 5 where the occupied neighbours of the place form one
+    /// arc, and else at most 28.
+    pub fn removed<B: Board, L: Ledger>(
+        &mut self,
+        board: &B,
+        place: Place,
+        steps: &mut Steps<L>,
+    ) -> Delta
+        requires shrunk { Shrunk self.old (B.stacks board.now) place }
+        requires within { IsWithin 9500 place }
+        ensures stands { self.new ≡ keeper_of (B.stacks board.now) }
+        ensures undone { undone result self.new ≡ self.old }
+        ensures changes { AreChanges self.old self.new result }
+        ensures none { 0 < height_at (B.stacks board.now) place → steps.new ≡ steps.old }
+        ensures few { OneArc (is_occupied (B.stacks board.now)) place → steps.new ≤ steps.old + 5 }
+        ensures most { steps.new ≤ steps.old + 28 }
+    {
+        removing::removed(&mut self.store, board, place, steps)
+    }
+
+    /// Takes the changes of a call back: each place of the delta has its status of before. At most 28 places have one then.
+    pub fn back(&mut self, delta: Delta)
+        requires { length (undone delta self.old) ≤ 28 }
+        ensures { self.new ≡ undone delta self.old }
+    {
+        take_back(&mut self.store, &delta);
+    }
+
+    /// Whether the place is kept as a separating place of height 1. Where the keeper stands for a board, that is a cut place of it.
+    pub fn is_cut(&self, place: Place) -> bool
+        ensures kept { result ≡ is_cut_status (status_on self.now place) }
+        ensures cut { (b : Stacks) → IsBoard b → self.now ≡ keeper_of b → IsTrue result ↔ IsCut b place }
+    {
+        match self.store.status(place) {
+            Some(status) => is_cut_status(status),
+            None => false,
+        }
+    }
+}

@@ -1,0 +1,141 @@
+//! Statuses kept up after a piece was taken from a place.
+
+ghost use Rattle.std.specs.Prelude.{◌≡◌, ◌<◌, ◌+◌, ◌≤◌};
+ghost use Rattle.hive_model.specs.declared.places.Place.{Place};
+ghost use Rattle.hive_model.specs.Places.{IsWithin};
+ghost use Rattle.hive_model.specs.Boards.{Stacks, IsBoard, height_at, is_occupied};
+ghost use Rattle.arc_law.specs.Arcs.{OneArc};
+ghost use Rattle.cut_keeper.specs.Rings.{ring, ring_mask};
+ghost use Rattle.cut_keeper.specs.Keeping.{Shrunk, AreChanges, undone, keeper_of};
+ghost use Rattle.cut_keeper.specs.Slots.{AtMost};
+ghost use Rattle.cut_keeper.specs.Examining.{Right, IsTold};
+
+use crate::examining::{beside, change, examine_all};
+use crate::rings::mask_of;
+use crate::statuses::{Delta, Status};
+use crate::store::Store;
+use arc_table::arcs;
+use hive_model::{Board, Piece, Place};
+use one_hive::Steps;
+use std::sync::ledger::Ledger;
+
+/// Where the place is occupied still, its height alone changes.
+fn removed_on<B: Board>(keeper: &mut Store, board: &B, place: Place) -> Delta
+    requires sound { IsBoard (B.stacks board.now) }
+    requires shrunk { Shrunk keeper.old (B.stacks board.now) place }
+    requires high { 0 < height_at (B.stacks board.now) place }
+    ensures right { (p : Place) → Right keeper.new (B.stacks board.now) p }
+    ensures undone { undone result keeper.new ≡ keeper.old }
+    ensures told { IsTold keeper.new result }
+{
+    let height = board.height(place);
+    match keeper.status(place) {
+        Some(status) => {
+            let separating = status.separating;
+            let mut delta = Delta::new();
+            change(
+                keeper,
+                place,
+                Some(Status { height, separating }),
+                &mut delta,
+            );
+            delta
+        }
+        None => unreachable!(),
+    }
+}
+
+/// Beside one arc the place loses its status, and some of its neighbours are examined.
+fn removed_beside<B: Board, L: Ledger>(
+    keeper: &mut Store,
+    board: &B,
+    place: Place,
+    mask: u8,
+    steps: &mut Steps<L>,
+) -> Delta
+    requires sound { IsBoard (B.stacks board.now) }
+    requires shrunk { Shrunk keeper.old (B.stacks board.now) place }
+    requires within { IsWithin 9500 place }
+    requires mask { mask ≡ ring_mask (ring (is_occupied (B.stacks board.now)) place) }
+    requires low { height_at (B.stacks board.now) place ≡ 0 }
+    requires arc { OneArc (is_occupied (B.stacks board.now)) place }
+    ensures right { (p : Place) → Right keeper.new (B.stacks board.now) p }
+    ensures undone { undone result keeper.new ≡ keeper.old }
+    ensures told { IsTold keeper.new result }
+    ensures steps { steps.new ≤ steps.old + 3 }
+{
+    let mut delta = Delta::new();
+    change(keeper, place, None, &mut delta);
+    beside(keeper, board, place, mask, steps, &mut delta);
+    delta
+}
+
+/// Elsewhere the place loses its status, and every place is examined.
+fn removed_elsewhere<B: Board, L: Ledger>(
+    keeper: &mut Store,
+    board: &B,
+    place: Place,
+    steps: &mut Steps<L>,
+) -> Delta
+    requires sound { IsBoard (B.stacks board.now) }
+    requires shrunk { Shrunk keeper.old (B.stacks board.now) place }
+    requires low { height_at (B.stacks board.now) place ≡ 0 }
+    ensures right { (p : Place) → Right keeper.new (B.stacks board.now) p }
+    ensures undone { undone result keeper.new ≡ keeper.old }
+    ensures told { IsTold keeper.new result }
+    ensures steps { steps.new ≤ steps.old + 28 }
+{
+    let mut delta = Delta::new();
+    change(keeper, place, None, &mut delta);
+    examine_all(keeper, board, steps, &mut delta);
+    delta
+}
+
+fn removed_by_case<B: Board, L: Ledger>(
+    keeper: &mut Store,
+    board: &B,
+    place: Place,
+    steps: &mut Steps<L>,
+) -> Delta
+    requires sound { IsBoard (B.stacks board.now) }
+    requires shrunk { Shrunk keeper.old (B.stacks board.now) place }
+    requires within { IsWithin 9500 place }
+    ensures right { (p : Place) → Right keeper.new (B.stacks board.now) p }
+    ensures undone { undone result keeper.new ≡ keeper.old }
+    ensures told { IsTold keeper.new result }
+    ensures none { 0 < height_at (B.stacks board.now) place → steps.new ≡ steps.old }
+    ensures few { OneArc (is_occupied (B.stacks board.now)) place → steps.new ≤ steps.old + 5 }
+    ensures most { steps.new ≤ steps.old + 28 }
+{
+    if board.height(place) > 0 {
+        return removed_on(keeper, board, place);
+    }
+    let mask = mask_of(board, place);
+    if arcs(mask) == 1 {
+        return removed_beside(keeper, board, place, mask, steps);
+    }
+    removed_elsewhere(keeper, board, place, steps)
+}
+
+/// After a piece was taken from the place, makes what stood for the board before stand for the board.
+pub(crate) fn removed<B: Board, L: Ledger>(
+    keeper: &mut Store,
+    board: &B,
+    place: Place,
+    steps: &mut Steps<L>,
+) -> Delta
+    requires shrunk { Shrunk keeper.old (B.stacks board.now) place }
+    requires within { IsWithin 9500 place }
+    ensures stands { keeper.new ≡ keeper_of (B.stacks board.now) }
+    ensures short { AtMost 28 keeper.new }
+    ensures undone { undone result keeper.new ≡ keeper.old }
+    ensures changes { AreChanges keeper.old keeper.new result }
+    ensures none { 0 < height_at (B.stacks board.now) place → steps.new ≡ steps.old }
+    ensures few { OneArc (is_occupied (B.stacks board.now)) place → steps.new ≤ steps.old + 5 }
+    ensures most { steps.new ≤ steps.old + 28 }
+{
+    let _spot = board.spot(Piece::at(0));
+    let delta = removed_by_case(keeper, board, place, steps);
+    keeper.rises();
+    delta
+}
