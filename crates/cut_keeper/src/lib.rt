@@ -9,12 +9,12 @@
 mod adding;
 mod examining;
 mod keeper;
-mod kept_cuts;
+mod kept_board;
 mod removing;
 mod rings;
 mod statuses;
 mod store;
 
 pub use keeper::CutKeeper;
-pub use kept_cuts::KeptCuts;
+pub use kept_board::KeptBoard;
 pub use statuses::{Change, Delta, Status};
