@@ -71,7 +71,7 @@ fn removed_in<B: Board, L: Ledger>(
 }
 
 /// `CutKeeper::added` for a caller that counts no steps.
-fn added_uncounted<B: Board>(keeper: &mut CutKeeper, board: &B, place: Place) -> Delta
+pub(crate) fn added_uncounted<B: Board>(keeper: &mut CutKeeper, board: &B, place: Place) -> Delta
     requires grown { Grown keeper.old (B.stacks board.now) place }
     requires within { IsWithin 9500 place }
     ensures stands { keeper.new ≡ keeper_of (B.stacks board.now) }
@@ -81,7 +81,7 @@ fn added_uncounted<B: Board>(keeper: &mut CutKeeper, board: &B, place: Place) ->
 }
 
 /// `CutKeeper::removed` for a caller that counts no steps.
-fn removed_uncounted<B: Board>(keeper: &mut CutKeeper, board: &B, place: Place) -> Delta
+pub(crate) fn removed_uncounted<B: Board>(keeper: &mut CutKeeper, board: &B, place: Place) -> Delta
     requires shrunk { Shrunk keeper.old (B.stacks board.now) place }
     requires within { IsWithin 9500 place }
     ensures stands { keeper.new ≡ keeper_of (B.stacks board.now) }

@@ -18,3 +18,6 @@ mod store;
 pub use keeper::CutKeeper;
 pub use kept_board::KeptBoard;
 pub use statuses::{Change, Delta, Status};
+
+#[cfg(test)]
+mod tests;
