@@ -14,8 +14,8 @@ use std::alloc::{AllocError, Global};
 use std::marker::{Brand, Model};
 use std::sync::ledger::{Blank, Ledger};
 
-/// A board whose cut places are kept up as pieces are put and lifted, so that each of them is found by a look-up. Its keeper always
-/// stands for it.
+/// A board whose cut places are kept up as pieces are put and lifted, so that each of them is found
+/// by a look-up. Its keeper always stands for it.
 #[derive(Drop)]
 pub struct KeptBoard<B: GameBoard> {
     board: B,
@@ -31,7 +31,8 @@ impl<B: GameBoard> Model for KeptBoard<B> {
 
     ghost view = { λ k. B.stacks k.board };
 
-    ghost invariant = { λ k. IsBoard (B.stacks k.board) × (k.keeper ≡ keeper_of (B.stacks k.board)) };
+    ghost invariant = { λ k. IsBoard (B.stacks k.board)
+        × (k.keeper ≡ keeper_of (B.stacks k.board)) };
 }
 
 fn added_in<B: Board, L: Ledger>(
@@ -129,8 +130,9 @@ impl<B: GameBoard> KeptBoard<B> {
         Ok(KeptBoard { board, keeper })
     }
 
-    /// Puts a piece that is not on the board on top of a place, whose coordinates are from -9000 to 9000. Every occupied place
-    /// differs from it by less than 32 in each coordinate. Answers what takes it back, for `undo_put`.
+    /// Puts a piece that is not on the board on top of a place, whose coordinates are from -9000 to
+    /// 9000. Every occupied place differs from it by less than 32 in each coordinate. Answers what
+    /// takes it back, for `undo_put`.
     pub fn put(&mut self, piece: Piece, place: Place) -> Delta
         requires absent { IsNone (spot_of self.old piece) }
         requires within { IsWithin 9000 place }
@@ -143,7 +145,8 @@ impl<B: GameBoard> KeptBoard<B> {
         added_uncounted(&mut self.keeper, &self.board, place)
     }
 
-    /// Takes away a piece that is on top of its place, and answers that place, with what takes it back, for `undo_lift`.
+    /// Takes away a piece that is on top of its place, and answers that place, with what takes it
+    /// back, for `undo_lift`.
     pub fn lift(&mut self, piece: Piece) -> (Place, Delta)
         requires { IsTrue (is_on_top self.old piece) }
         ensures board { self.new ≡ lift self.old piece }
@@ -156,7 +159,8 @@ impl<B: GameBoard> KeptBoard<B> {
         (place, delta)
     }
 
-    /// Takes away a piece that was put on top of its place, by what `put` answered. No place is examined again.
+    /// Takes away a piece that was put on top of its place, by what `put` answered. No place is
+    /// examined again.
     pub fn undo_put(&mut self, piece: Piece, delta: Delta)
         requires top { IsTrue (is_on_top self.old piece) }
         requires undone { undone delta (keeper_of self.old) ≡ keeper_of (lift self.old piece) }
@@ -167,7 +171,8 @@ impl<B: GameBoard> KeptBoard<B> {
         self.keeper.back(delta);
     }
 
-    /// Puts a piece that was lifted back on top of its place, by what `lift` answered. No place is examined again.
+    /// Puts a piece that was lifted back on top of its place, by what `lift` answered. No place is
+    /// examined again.
     pub fn undo_lift(&mut self, piece: Piece, place: Place, delta: Delta)
         requires absent { IsNone (spot_of self.old piece) }
         requires within { IsWithin 9000 place }

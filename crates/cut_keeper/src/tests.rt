@@ -81,7 +81,8 @@ impl Tried {
         Ok(Tried { board, keeper })
     }
 
-    /// Puts a piece that is not on the board on the place, and answers how often the keeper asked the board.
+    /// Puts a piece that is not on the board on the place, and answers how often the keeper asked
+    /// the board.
     fn put(&mut self, piece: Piece, place: Place) -> u32
         requires { IsWithin 9000 place }
     {
@@ -107,8 +108,8 @@ impl Tried {
         }
     }
 
-    /// Puts a piece that is not on the board on the place, lifts it and takes the changes back. Answers whether the place was a cut
-    /// place in between.
+    /// Puts a piece that is not on the board on the place, lifts it and takes the changes back.
+    /// Answers whether the place was a cut place in between.
     fn put_and_back(&mut self, index: u8, place: Place) -> bool
         requires small { index < 28 }
         requires within { IsWithin 9000 place }
@@ -131,7 +132,8 @@ impl Tried {
     }
 }
 
-/// The board on which the first pieces stand on these places, in turn, and how often the keeper asked it for the last one.
+/// The board on which the first pieces stand on these places, in turn, and how often the keeper
+/// asked it for the last one.
 fn tried_of(alloc: Global, places: &[(i32, i32)]) -> Result<(Tried, u32), AllocError> {
     let mut tried = Tried::new(alloc)?;
     let mut calls = 0;
