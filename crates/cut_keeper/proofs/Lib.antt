@@ -2,3 +2,4 @@ pub mod RingLaws
 pub mod StoreLemmas
 pub mod ChangeLaws
 pub mod KeeperLemmas
+pub mod BoardLaws

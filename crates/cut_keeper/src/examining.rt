@@ -27,7 +27,8 @@ pub(crate) fn change(keeper: &mut Store, place: Place, status: Option<Status>, d
     ensures undone { undone delta.new keeper.new ≡ undone delta.old keeper.old }
     ensures room { length delta.new ≤ length delta.old + 1 }
     ensures told { IsTold keeper.new delta.new }
-    ensures places { (p : Place) → IsOn (changed delta.new) p → IsOn (changed delta.old) p ⊎ (p ≡ place) }
+    ensures places { (p : Place) → IsOn (changed delta.new) p
+        → IsOn (changed delta.old) p ⊎ (p ≡ place) }
 {
     let before = keeper.status(place);
     if are_same(before, status) {
@@ -50,7 +51,8 @@ pub(crate) fn examine<B: Board, L: Ledger>(
     requires occupied { IsTrue (is_occupied (B.stacks board.now) place) }
     requires room { length delta.old < 28 }
     requires told { Told (B.stacks board.now) keeper.old delta.old }
-    ensures status { keeper.new ≡ with_status keeper.old place (Some (status_of (B.stacks board.now) place)) }
+    ensures status { keeper.new
+        ≡ with_status keeper.old place (Some (status_of (B.stacks board.now) place)) }
     ensures undone { undone delta.new keeper.new ≡ undone delta.old keeper.old }
     ensures room { length delta.new ≤ length delta.old + 1 }
     ensures told { Told (B.stacks board.now) keeper.new delta.new }
@@ -80,9 +82,11 @@ fn beside_one<B: Board, L: Ledger>(
     requires told { Told (B.stacks board.now) keeper.old delta.old }
     ensures pending { Pending keeper.new (B.stacks board.now) place (later dir) }
     ensures undone { undone delta.new keeper.new ≡ undone delta.old keeper.old }
-    ensures room { length delta.new + suspects (B.stacks board.now) place (later dir) ≤ length delta.old + suspects (B.stacks board.now) place (dir ∷ later dir) }
+    ensures room { length delta.new + suspects (B.stacks board.now) place (later dir)
+        ≤ length delta.old + suspects (B.stacks board.now) place (dir ∷ later dir) }
     ensures told { Told (B.stacks board.now) keeper.new delta.new }
-    ensures steps { steps.new + suspects (B.stacks board.now) place (later dir) ≡ steps.old + suspects (B.stacks board.now) place (dir ∷ later dir) }
+    ensures steps { steps.new + suspects (B.stacks board.now) place (later dir)
+        ≡ steps.old + suspects (B.stacks board.now) place (dir ∷ later dir) }
 {
     if is_suspect(board, place, dir, mask) {
         examine(keeper, board, place.step(dir), steps, delta);
@@ -129,12 +133,15 @@ fn examine_piece<B: Board, L: Ledger>(
     requires known { Known keeper.old (B.stacks board.now) }
     requires room { (spot_of (B.stacks board.now) index ≡ None) ⊎ (length delta.old < 28) }
     requires told { Told (B.stacks board.now) keeper.old delta.old }
-    ensures done { (p : Place) → StandsAt (B.stacks board.now) index p 0 → Right keeper.new (B.stacks board.now) p }
-    ensures kept { (p : Place) → Right keeper.old (B.stacks board.now) p → Right keeper.new (B.stacks board.now) p }
+    ensures done { (p : Place) → StandsAt (B.stacks board.now) index p 0
+        → Right keeper.new (B.stacks board.now) p }
+    ensures kept { (p : Place) → Right keeper.old (B.stacks board.now) p
+        → Right keeper.new (B.stacks board.now) p }
     ensures known { Known keeper.new (B.stacks board.now) }
     ensures undone { undone delta.new keeper.new ≡ undone delta.old keeper.old }
     ensures room { length delta.new ≤ length delta.old + 1 }
-    ensures absent { spot_of (B.stacks board.now) index ≡ None → length delta.new ≡ length delta.old }
+    ensures absent { spot_of (B.stacks board.now) index ≡ None
+        → length delta.new ≡ length delta.old }
     ensures told { Told (B.stacks board.now) keeper.new delta.new }
     ensures steps { steps.new ≤ steps.old + 1 }
 {

@@ -17,8 +17,9 @@ use std::alloc::{AllocError, Global};
 use std::marker::Model;
 use std::sync::ledger::Ledger;
 
-/// For each occupied place of a board its height, and whether it is separating. Contracts see the list of the places with their
-/// statuses, in the order of the places; `keeper_of` a board is the one that stands for it.
+/// For each occupied place of a board its height, and whether it is separating. Contracts see the
+/// list of the places with their statuses, in the order of the places; `keeper_of` a board is the
+/// one that stands for it.
 #[derive(Drop)]
 pub struct CutKeeper {
     store: Store,
@@ -65,9 +66,10 @@ impl CutKeeper {
         })
     }
 
-    /// After a piece was put on the place, makes a keeper that stood for the board before stand for the board, and answers what it
-    /// changed. It takes no step where the place was occupied before, at most 5 where the occupied neighbours of the place form one
-    /// arc, and else at most 28.
+    /// After a piece was put on the place, makes a keeper that stood for the board before stand for
+    /// the board, and answers what it changed. It takes no step where the place was occupied
+    /// before, at most 5 where the occupied neighbours of the place form one arc, and else at most
+    /// 28.
     pub fn added<B: Board, L: Ledger>(
         &mut self,
         board: &B,
@@ -86,9 +88,10 @@ impl CutKeeper {
         adding::added(&mut self.store, board, place, steps)
     }
 
-    /// After a piece was taken from the place, makes a keeper that stood for the board before stand for the board, and answers what
-    /// it changed. It takes no step where the place is still occupied, at most 5 where the occupied neighbours of the place form one
-    /// arc, and else at most 28.
+    /// After a piece was taken from the place, makes a keeper that stood for the board before stand
+    /// for the board, and answers what it changed. It takes no step where the place is still
+    /// occupied, at most 5 where the occupied neighbours of the place form one arc, and else at
+    /// most 28.
     pub fn removed<B: Board, L: Ledger>(
         &mut self,
         board: &B,
@@ -107,7 +110,8 @@ impl CutKeeper {
         removing::removed(&mut self.store, board, place, steps)
     }
 
-    /// Takes the changes of a call back: each place of the delta has its status of before. At most 28 places have one then.
+    /// Takes the changes of a call back: each place of the delta has its status of before. At most
+    /// 28 places have one then.
     pub fn back(&mut self, delta: Delta)
         requires { length (undone delta self.old) ≤ 28 }
         ensures { self.new ≡ undone delta self.old }
@@ -115,10 +119,12 @@ impl CutKeeper {
         take_back(&mut self.store, &delta);
     }
 
-    /// Whether the place is kept as a separating place of height 1. Where the keeper stands for a board, that is a cut place of it.
+    /// Whether the place is kept as a separating place of height 1. Where the keeper stands for a
+    /// board, that is a cut place of it.
     pub fn is_cut(&self, place: Place) -> bool
         ensures kept { result ≡ is_cut_status (status_on self.now place) }
-        ensures cut { (b : Stacks) → IsBoard b → self.now ≡ keeper_of b → IsTrue result ↔ IsCut b place }
+        ensures cut { (b : Stacks) → IsBoard b → self.now ≡ keeper_of b
+            → IsTrue result ↔ IsCut b place }
     {
         match self.store.status(place) {
             Some(status) => is_cut_status(status),

@@ -117,7 +117,8 @@ fn removed_by_case<B: Board, L: Ledger>(
     removed_elsewhere(keeper, board, place, steps)
 }
 
-/// After a piece was taken from the place, makes what stood for the board before stand for the board.
+/// After a piece was taken from the place, makes what stood for the board before stand for the
+/// board.
 pub(crate) fn removed<B: Board, L: Ledger>(
     keeper: &mut Store,
     board: &B,

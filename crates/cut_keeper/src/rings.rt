@@ -1,4 +1,5 @@
-//! The six neighbours of a place as a mask: bit i is set where the neighbour in direction i is occupied.
+//! The six neighbours of a place as a mask: bit i is set where the neighbour in direction i is
+//! occupied.
 
 ghost use Rattle.std.specs.Prelude.{◌≡◌, ◌<◌, ◌≤◌};
 ghost use Rattle.hive_model.specs.Places.{IsWithin};
@@ -48,7 +49,8 @@ pub(crate) fn mask_of<B: Board>(board: &B, place: Place) -> u8
         + bit(board, place, Dir::SE)
 }
 
-/// Whether the neighbour in this direction is occupied, and the others form no single arc without it.
+/// Whether the neighbour in this direction is occupied, and the others form no single arc without
+/// it.
 #[tactic(auto, using(hive_model::proofs::PlaceLemmas::wider))]
 pub(crate) fn is_suspect<B: Board>(board: &B, place: Place, dir: Dir, mask: u8) -> bool
     requires within { IsWithin 9500 place }

@@ -6,7 +6,8 @@ use arrayvec::ArrayVec;
 use hive_model::Place;
 use std::marker::Model;
 
-/// An occupied place's height, and whether it is separating: whether the other occupied places are not one hive.
+/// An occupied place's height, and whether it is separating: whether the other occupied places are
+/// not one hive.
 #[derive(Clone, Copy, Debug, Default, PartialEq, Eq)]
 pub struct Status {
     pub height: u8,

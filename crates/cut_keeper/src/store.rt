@@ -26,7 +26,8 @@ fn entry_is(entry: &Option<Entry>, place: Place) -> bool
     }
 }
 
-/// The statuses of places, in no order. While changes are taken back, 28 places of before and 28 of after may stand here at once.
+/// The statuses of places, in no order. While changes are taken back, 28 places of before and 28 of
+/// after may stand here at once.
 #[derive(Drop)]
 pub(crate) struct Store {
     slots: [Option<Entry>; 56],
