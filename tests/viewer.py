@@ -104,7 +104,53 @@ def greatest_game(program):
     expect("status", engine.end(), 0)
 
 
+def written(stands, piece, place):
+    """The written form of a move to an empty place: by its first occupied neighbour in the order W, E, SW, NE, NW, SE."""
+    q, r = place
+    pieces = {where: other for other, where in stands.items() if other != piece}
+    for step, form in [
+        ((-1, 0), "{}-"), ((1, 0), "-{}"), ((-1, 1), "{}/"), ((1, -1), "/{}"), ((0, -1), "{}\\"), ((0, 1), "\\{}"),
+    ]:
+        other = pieces.get((q + step[0], r + step[1]))
+        if other:
+            return f"{piece} " + form.format(other)
+    return piece
+
+
+def walk(plies):
+    """The moves of a game whose two ants and two queens walk away, two places to the east and one to the north in six plies."""
+    first = [("wA1", 0, 0), ("bA1", 1, 0), ("wQ", -1, 0), ("bQ", 2, 0), ("wQ", 0, -1), ("bQ", 1, 1)]
+    again = [("wQ", 1, -1), ("bQ", 2, 0), ("wA1", 2, -1), ("bA1", 3, -1), ("wQ", 2, -2), ("bQ", 3, 0)]
+    places = first + [(piece, q + 2 * i, r - i) for i in range(plies // 6) for piece, q, r in again]
+    stands, moves = {}, []
+    for piece, q, r in places[:plies]:
+        moves.append(written(stands, piece, (q, r)))
+        stands[piece] = (q, r)
+    return moves
+
+
+def walking_game(program):
+    """A game of 5,000 plies that ends far from the origin, played and taken back move by move."""
+    moves = walk(5000)
+
+    def game(plies):
+        state = "InProgress" if plies else "NotStarted"
+        turn = f"{'White' if plies % 2 == 0 else 'Black'}[{plies // 2 + 1}]"
+        return [";".join(["Base", state, turn] + moves[:plies])]
+
+    engine = Engine(program)
+    engine.reply()
+    expect("newgame", engine.ask("newgame"), game(0))
+    for ply, move in enumerate(moves, 1):
+        expect(f"ply {ply} of the walk", engine.ask("play " + move), game(ply))
+    expect("one ply more", engine.ask("pass"), ["err 11 too many plies"])
+    for ply in range(4999, -1, -1):
+        expect(f"back to ply {ply} of the walk", engine.ask("undo"), game(ply))
+    expect("status", engine.end(), 0)
+
+
 if __name__ == "__main__":
     short_game(sys.argv[1])
     greatest_game(sys.argv[1])
+    walking_game(sys.argv[1])
     print("viewer: every answer is as expected")
