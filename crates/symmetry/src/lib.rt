@@ -1,0 +1,17 @@
+//! Symmetry: positions that are one another turned, mirrored and shifted have the same moves,
+//! turned, mirrored and shifted.
+#![tactic(auto)]
+
+mod keys;
+mod laws;
+mod symmetry;
+
+pub use keys::alike;
+pub use laws::{
+    after_is_alike, images_are_boards, legal_moves_are_alike, shift_is_only, states_are_alike,
+    symmetries_are_isometries, takes_are_tested,
+};
+pub use symmetry::Symmetry;
+
+#[cfg(test)]
+mod tests;

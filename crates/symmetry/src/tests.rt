@@ -1,0 +1,79 @@
+//! Where symmetries take places, and boards that are alike.
+
+use crate::{Symmetry, alike};
+use hive_model::{Board, Colour, GameType, Key, Piece, Place};
+use stack_board::PlainBoard;
+use std::alloc::{AllocError, Global};
+use std::test::Fail;
+
+/// The place of these coordinates after the symmetry of this number.
+fn taken(index: u8, q: i32, r: i32) -> (i32, i32) {
+    if index < 12 && -9 <= q && q <= 9 && -9 <= r && r <= 9 {
+        let place = Symmetry::at(index).place(Place { q, r });
+        (place.q, place.r)
+    } else {
+        (q, r)
+    }
+}
+
+#[test]
+fn places(rt: HostRuntime) -> Result<(), Fail> {
+    assert_eq!(rt; taken(1, 1, 0), (0, 1));
+    assert_eq!(rt; taken(1, 1, -1), (1, 0));
+    assert_eq!(rt; taken(6, 1, -1), (-1, 1));
+    assert_eq!(rt; taken(7, 1, 0), (-1, 1));
+    for index in 0..12u8 {
+        assert_eq!(rt; taken(index, 0, 0), (0, 0));
+    }
+    Ok(())
+}
+
+/// A key of a board on which the first pieces stand on these places, in turn.
+fn key_on(alloc: Global, places: &[(i32, i32)]) -> Result<Key, AllocError> {
+    let mut board = PlainBoard::new(alloc)?;
+    for (x, (q, r)) in places.iter().enumerate() {
+        if x < 28 && -9 <= *q && *q <= 9 && -9 <= *r && *r <= 9 {
+            let piece = Piece::at(x as u8);
+            if board.spot(piece).is_none() {
+                board.put(piece, Place { q: *q, r: *r });
+            }
+        }
+    }
+    Ok(key_of(&board))
+}
+
+fn key_of(board: &PlainBoard) -> Key {
+    let game_type = GameType {
+        mosquito: false,
+        ladybug: false,
+        pillbug: false,
+    };
+    Key::of(game_type, board, Colour::White, 7, None)
+}
+
+fn shift(from: &Key, to: &Key, index: u8) -> Option<(i32, i32)> {
+    if index < 12 {
+        alike(from, to, Symmetry::at(index)).map(|place| (place.q, place.r))
+    } else {
+        None
+    }
+}
+
+#[test]
+fn shifts(rt: HostRuntime) -> Result<(), Fail> {
+    let empty = key_on(rt.alloc(), &[])?;
+    let line = key_on(rt.alloc(), &[(0, 0), (1, 0), (2, 0)])?;
+    let turned = key_on(rt.alloc(), &[(3, -1), (3, 0), (3, 1)])?;
+    let other = key_on(rt.alloc(), &[(3, -1), (3, 1), (3, 0)])?;
+    let stacked = key_on(rt.alloc(), &[(3, -1), (3, 0), (3, 0)])?;
+    assert_eq!(rt; shift(&empty, &empty, 5), Some((0, 0)));
+    assert_eq!(rt; shift(&empty, &line, 0), None);
+    assert_eq!(rt; shift(&line, &empty, 0), None);
+    assert_eq!(rt; shift(&line, &turned, 1), Some((3, -1)));
+    assert_eq!(rt; shift(&line, &turned, 6), Some((3, -1)));
+    assert_eq!(rt; shift(&line, &turned, 0), None);
+    assert_eq!(rt; shift(&line, &other, 1), None);
+    assert_eq!(rt; shift(&line, &stacked, 1), None);
+    assert_eq!(rt; shift(&line, &line, 0), Some((0, 0)));
+    Ok(())
+}
