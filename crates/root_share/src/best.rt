@@ -1,0 +1,83 @@
+//! The call that runs all workers at a root.
+
+ghost use Rattle.std.specs.Prelude.{◌≡◌, ◌+◌, ◌<◌, ◌≤◌, [], ◌∷◌, map, length, Some, IfOk, false};
+ghost use Rattle.std.specs.List.{All};
+ghost use Rattle.hive_model.specs.Legal.{moves, is_over};
+ghost use Rattle.hive_model.specs.Minimax.{value, best};
+ghost use Rattle.hive_model.specs.Courses.{position};
+ghost use Rattle.root_share.specs.Answer.{PlaysWithin, root_of, AreEqualGames};
+
+use crate::gate::Gate;
+use crate::part::{RootWork, run_parts};
+use crate::word::begin;
+use crate::worker::Worker;
+use hive_model::{Best, Game, MoveStack};
+use std::alloc::{AllocError, Global};
+use std::thread::Threads;
+
+/// The moves of the root, by the first worker's game.
+fn list_root<G: Game>(workers: &mut [Worker<G>], root: &mut MoveStack)
+    requires some { 0 < length workers.old }
+    requires empty { root.old.lists ≡ [] }
+    requires free { 1 ≤ root.old.free }
+    ensures listed { root.new.lists
+        ≡ moves (root_of (map (λ w. G.course w.game) workers.old)) ∷ [] }
+    ensures games { map (λ w. G.course w.game) workers.new
+        ≡ map (λ w. G.course w.game) workers.old }
+    ensures searchers { map (λ w. w.searcher) workers.new ≡ map (λ w. w.searcher) workers.old }
+    ensures played { map (λ w. G.played w.game) workers.new
+        ≡ map (λ w. G.played w.game) workers.old }
+{
+    workers[0].game.list(root);
+}
+
+/// The best move of a root and its value at a depth from 1 to 64, by 1 to 16 workers, each with a
+/// game of its own at the root. Worker w of W searches the moves whose place on the list of the
+/// root leaves w when divided by W; it plays no more than its share. The workers run beside each
+/// other where threads can be had, and the answer is the one of a single worker under any schedule.
+/// Before each move a worker calls the gate. Games and searchers are as before, also after want of
+/// memory, which is the only other answer and comes before the first move is tried.
+pub fn best_shared<R: Threads + Sync, G: Game + Send, T: Gate + Sync>(
+    rt: &R,
+    alloc: Global,
+    workers: &mut [Worker<G>],
+    depth: u32,
+    gate: &T,
+) -> Result<Best, AllocError>
+    requires some { 1 ≤ length workers.old }
+    requires few { length workers.old ≤ 16 }
+    requires depth { 1 ≤ depth }
+    requires deep { depth ≤ 64 }
+    requires goes_on { is_over (root_of (map (λ w. G.course w.game) workers.old)) ≡ false }
+    requires equal { AreEqualGames (map (λ w. G.course w.game) workers.old) }
+    requires spare { All (λ c. depth ≤ c.spare) (map (λ w. G.course w.game) workers.old) }
+    requires prepared { All (λ n. depth ≤ n) (map (λ w. w.searcher) workers.old) }
+    ensures first { let p = root_of (map (λ w. G.course w.game) workers.old) in
+        IfOk result (λ b. best p depth ≡ Some b.best) }
+    ensures worth { let p = root_of (map (λ w. G.course w.game) workers.old) in
+        IfOk result (λ b. b.value ≡ value p depth) }
+    ensures games { map (λ w. G.course w.game) workers.new
+        ≡ map (λ w. G.course w.game) workers.old }
+    ensures searchers { map (λ w. w.searcher) workers.new ≡ map (λ w. w.searcher) workers.old }
+    ensures played { let p = root_of (map (λ w. G.course w.game) workers.old) in
+        PlaysWithin p depth (length workers.old) 0
+        (map (λ w. G.played w.game) workers.old) (map (λ w. G.played w.game) workers.new) }
+{
+    let mut root = MoveStack::new(alloc, 1)?;
+    list_root(workers, &mut root);
+    let (board, mut seat) = begin(alloc, &workers[0].game, depth)?;
+    let task = RootWork {
+        rt,
+        word: &board.shared,
+        gate,
+        root: &root,
+        depth,
+        parts: workers.len() as u32,
+    };
+    let found = run_parts(&task, 0, &mut seat, workers);
+    let Some(best) = found else { unreachable!() };
+    Ok(Best {
+        best: root.get(0, best.child),
+        value: best.value,
+    })
+}
