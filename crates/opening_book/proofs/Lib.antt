@@ -1,0 +1,2 @@
+pub mod PlyLaws
+pub mod TallyLaws

@@ -1,0 +1,138 @@
+//! The counts of a position's legal moves.
+
+ghost use Rattle.std.specs.Prelude.{◌≡◌, ℕ, ◌+◌, ◌-◌, ◌^◌, ◌<◌, ◌≤◌, [], ◌∷◌, ◌++◌, length, false, IfOk};
+ghost use Rattle.std.specs.Prelude.{slice_get, slice_index, Some, List};
+ghost use Rattle.std.specs.List.{All};
+ghost use Rattle.hive_model.specs.Positions.{Position};
+ghost use Rattle.hive_model.specs.Legal.{is_over};
+ghost use Rattle.hive_model.specs.Courses.{position};
+ghost use Rattle.hive_model.specs.Stack.{level_of};
+ghost use Rattle.opening_book.specs.Book.{Played, IsTally, IsBook};
+ghost use Rattle.opening_book.specs.Plies.{IsMost};
+
+use crate::plies::count_plies;
+use hive_model::{Game, Key, Move, MoveStack};
+use std::alloc::{AllocError, Global};
+use std::marker::Model;
+
+/// How often each legal move of a position was made in the games that were added. Its memory does
+/// not grow with the games.
+#[derive(Drop)]
+pub struct Tally {
+    key: Key,
+    moves: Vec<Move>,
+    counts: Vec<u64>,
+    plies: u64,
+}
+
+impl Model for Tally {
+    ghost use Rattle.opening_book.specs.Book.{Counts, IsKept};
+
+    ghost Value = { Counts };
+
+    ghost view = { λ t.
+        record { key = t.key; moves = t.moves.items; counts = t.counts.items; plies = t.plies } };
+
+    ghost invariant = { λ t. IsKept t.moves.items t.counts.items t.plies };
+}
+
+impl Tally {
+    /// The counts of the game's position over no games. The game is not over; it and the stack, which
+    /// needs room for one level, are as before. All memory is taken here.
+    pub fn of<G: Game>(
+        alloc: Global,
+        game: &mut G,
+        stack: &mut MoveStack,
+    ) -> Result<Tally, AllocError>
+        requires open { is_over (position (G.course game.old)) ≡ false }
+        requires room { 1 ≤ stack.old.free }
+        ensures tally { IfOk result (λ t. IsTally (position (G.course game.old)) [] t) }
+        ensures game { G.course game.new ≡ G.course game.old }
+        ensures stack { stack.new ≡ stack.old }
+    {
+        let key = game.key();
+        let level = stack.levels();
+        game.list(stack);
+        let moves = listed(alloc, stack, level);
+        stack.drop_level();
+        let moves = moves?;
+        let counts = Vec::from_elem(alloc, 0, moves.len())?;
+        Ok(Tally {
+            key,
+            moves,
+            counts,
+            plies: 0,
+        })
+    }
+
+    /// Adds the plies of a played game, finished or not, and takes it back to its opening. Fewer than
+    /// 2 to the power 40 plies are counted with it.
+    pub fn add<G: Game>(&mut self, played: &mut G)
+        requires { self.old.plies + length (G.course played.old).made < 2 ^ 40 }
+        ensures added { (p : Position) (games : List Played) → IsTally p games self.old → IsTally p
+            (games ++ record {
+              game_type = (G.course played.old).game_type;
+              made = (G.course played.old).made;
+            } ∷ [])
+            self.new }
+        ensures plies { self.new.plies ≡ self.old.plies + length (G.course played.old).made }
+        ensures game_type { (G.course played.new).game_type ≡ (G.course played.old).game_type }
+        ensures opening { (G.course played.new).made ≡ [] }
+    {
+        let plies = played.plies();
+        count_plies(
+            &self.key,
+            self.moves.as_slice(),
+            self.counts.as_mut_slice(),
+            played,
+        );
+        self.plies += u64::from(plies);
+    }
+
+    /// How many plies of played games were looked at.
+    pub fn plies(&self) -> u64
+        ensures { result ≡ self.now.plies }
+    {
+        self.plies
+    }
+
+    /// The first of the legal moves that was made most often, and how often; none where none was
+    /// made.
+    pub fn best(&self) -> Option<(Move, u64)>
+        ensures { (p : Position) (games : List Played) → IsTally p games self.now
+            → IsBook p games result }
+    {
+        let (place, most) = most_made(self.counts.as_slice());
+        if most == 0 {
+            return None;
+        }
+        Some((self.moves[place].again(), most))
+    }
+}
+
+/// The moves of a level.
+fn listed(alloc: Global, stack: &MoveStack, level: u32) -> Result<Vec<Move>, AllocError>
+    requires { level < length stack.now.lists }
+    ensures { IfOk result (λ moves. moves.items ≡ level_of stack.now level) }
+{
+    let mut moves = Vec::new(alloc);
+    for i in 0..stack.level_len(level) {
+        moves.push(stack.get(level, i))?;
+    }
+    Ok(moves)
+}
+
+/// The first place of the greatest count, and that count; 0 where every count is 0.
+fn most_made(counts: &[u64]) -> (usize, u64)
+    ensures { IsMost counts.now (length counts.now) result.0 result.1 }
+{
+    let mut place = 0;
+    let mut most = 0;
+    for i in 0..counts.len() {
+        if counts[i] > most {
+            place = i;
+            most = counts[i];
+        }
+    }
+    (place, most)
+}
