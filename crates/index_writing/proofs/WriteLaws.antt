@@ -96,7 +96,7 @@ module _ (passes : Move → Bool) (below : Move → List ℕ) where
   least_from-at j [] k e = cc
   least_from-at j (m ∷ ms) k e =
       elim (passes m) as (λ b. cond b (Some j) (position_from passes (j + 1) ms) ≡ Some k →
-          (i : ℕ) × (n : Move) × (k ≡ j + i) × (slice_get (m ∷ ms) i ≡ Some n) × (cond b (j ∷ below m) (least_from passes below (j + 1) ms) ≡ k ∷ below n)) [
+      (i : ℕ) × (n : Move) × (k ≡ j + i) × (slice_get (m ∷ ms) i ≡ Some n) × (cond b (j ∷ below m) (least_from passes below (j + 1) ms) ≡ k ∷ below n)) [
         | true ↦ λ h. let same : j ≡ k = cc in (0, m, omega (arith, same), refl, ap (λ n. n ∷ below m) same)
         | false ↦ λ h. let later = least_from-at (j + 1) ms k h in (suc later.0, later.1, omega (arith, later.2), later.3, later.4)
       ] e
@@ -216,11 +216,14 @@ node-written start now d l x y k m r0 r a mid b inner is turned same found here 
     (wrote-then r (index_line k) (index_lines (least (after (position start) m) (d - 1) (AtMost y))) a mid b (wrote-is r0 true _ a mid whole first)
     (here-written start now (d - 1) (AtMost y) m r r mid b same refl later))
 
-pub node-cut : (p : Position) (d : ℕ) (l : Limit) (x y : ℤ) (k : ℕ) (m : Move) (r0 : Bool) (a mid : Told) → IsInner p d → l ≡ AtLeast x → y ≡ neg_ℤ x →
-    Some k ≡ first_kept p (d - 1) (AtMost y) (moves p) → slice_get (moves p) k ≡ Some m → r0 ≡ false → Wrote r0 (index_line k) a mid → Wrote false (index_lines (least p d l)) a mid
-node-cut p d l x y k m r0 a mid inner is turned found here cut first =
-    wrote-as false _ _ a mid (sym (ap (λ c. index_lines (least p d c)) is ∙ named-is p d x y k m inner turned found here))
-    (wrote-stop (index_line k) (index_lines (least (after p m) (d - 1) (AtMost y))) a mid (wrote-is r0 false _ a mid cut first))
+pub node-cut : (p : Position) (d : ℕ) (l : Limit) (x y : ℤ) (k : ℕ) (r0 : Bool) (a mid : Told) → IsInner p d → l ≡ AtLeast x → y ≡ neg_ℤ x →
+    Some k ≡ first_kept p (d - 1) (AtMost y) (moves p) → r0 ≡ false → Wrote r0 (index_line k) a mid → Wrote false (index_lines (least p d l)) a mid
+node-cut p d l x y k r0 a mid inner is turned found cut first =
+    let at = position-at (keeps_below p (d - 1) (AtMost y)) 0 (moves p) k (sym found) in
+    let place : at.0 ≡ k = omega (arith, at.2) in
+    let here : slice_get (moves p) k ≡ Some at.1 = ap (slice_get (moves p)) (sym place) ∙ at.3 in
+    wrote-as false _ _ a mid (sym (ap (λ c. index_lines (least p d c)) is ∙ named-is p d x y k at.1 inner turned found here))
+    (wrote-stop (index_line k) (index_lines (least (after p at.1) (d - 1) (AtMost y))) a mid (wrote-is r0 false _ a mid cut first))
 
 pub node-none : (p : Position) (d : ℕ) (l : Limit) (x y : ℤ) (a : Told) → IsInner p d → l ≡ AtLeast x → y ≡ neg_ℤ x → None ≡ first_kept p (d - 1) (AtMost y) (moves p) → Wrote true (index_lines (least p d l)) a a
 node-none p d l x y a inner is turned found = wrote-as true _ _ a a (sym (ap (λ c. index_lines (least p d c)) is ∙ none-named p d x y inner turned found)) (wrote-nothing a)
@@ -239,14 +242,14 @@ index-written false bytes line a b e all part = (part.0, part.2 ∙ ap (λ s. be
 -- the first move that keeps to the limit, as the code finds it
 pub find-step : (p : Position) (e : ℕ) (c : Limit) (i : ℕ) (m : Move) → slice_get (moves p) i ≡ Some m → first_kept p e c (moves p) ≡ position_from (keeps_below p e c) i (drop i (moves p)) → keeps_below p e c m ≡ false →
     first_kept p e c (moves p) ≡ position_from (keeps_below p e c) (i + 1) (drop (i + 1) (moves p))
-find-step p e c i m here so not = position-step (keeps_below p e c) (moves p) i m so here not
+find-step p e c i m here so not = position-step (keeps_below p e c) (λ n. []) (moves p) i m so here not
 
 pub find-met : (p : Position) (e : ℕ) (c : Limit) (i : ℕ) (m : Move) → slice_get (moves p) i ≡ Some m → first_kept p e c (moves p) ≡ position_from (keeps_below p e c) i (drop i (moves p)) → keeps_below p e c m ≡ true →
     Some i ≡ first_kept p e c (moves p)
-find-met p e c i m here so yes_ = position-met (keeps_below p e c) (moves p) i m so here yes_
+find-met p e c i m here so yes_ = position-met (keeps_below p e c) (λ n. []) (moves p) i m so here yes_
 
 pub find-past : (p : Position) (e : ℕ) (c : Limit) (i : ℕ) → first_kept p e c (moves p) ≡ position_from (keeps_below p e c) i (drop i (moves p)) → length (moves p) ≤ i → None ≡ first_kept p e c (moves p)
-find-past p e c i so past = position-none (keeps_below p e c) (moves p) i so past
+find-past p e c i so past = position-none (keeps_below p e c) (λ n. []) (moves p) i so past
 
 pub kept-at : (start now : Course) (e : ℕ) (c : Limit) (m : Move) (r b : Bool) → now ≡ start → r ≡ keeps_below (position now) e c m → r ≡ b → keeps_below (position start) e c m ≡ b
 kept-at start now e c m r b same kept is = ap (λ (g : Course). keeps_below (position g) e c m) (sym same) ∙ sym kept ∙ is

@@ -1,4 +1,6 @@
-use Rattle.std.proofs.Common.{rules, ◌≡◌, ◌<◌, ℕ, length, List, Some, true, false, refl, sym, ap, subst, arith, ◌∙◌, to_z, of_z}
+use mir.Syntax.{w32}
+use Rattle.std.specs.Prelude.{pos, ◌-ℤ◌}
+use Rattle.std.proofs.Common.{rules, ◌≡◌, ◌<◌, ◌-◌, ℕ, length, List, Some, true, false, refl, sym, ap, subst, arith, ◌∙◌, to_z, of_z}
 use Rattle.std.specs.List.{slice_get}
 use Rattle.hive_model.specs.declared.places.Move.{Move}
 use Rattle.hive_model.specs.Legal.{moves}
@@ -27,18 +29,21 @@ write_moves-write_child-requires g t c κs within =
       (
         within.0,
         (
-          within.1,
+          within.1.0,
           (
-            c.requires.deep,
+            within.1.1,
             (
-              omega (arith, turn.same, c.requires.ready),
+              c.requires.deep,
               (
-                c.requires.small,
+                omega (arith, turn.same, c.requires.ready),
                 (
-                  on-at _ _ _ (here-in _ _ _ _ _ _ turn.stack (c.requires.listed ∙ ap (λ (h : Course). moves (position h)) (sym turn.game)) c.get-m.ensures),
+                  c.requires.small,
                   (
-                    omega (arith, ap (λ (h : Course). h.spare) turn.game, c.requires.spare),
-                    omega (arith, ap (λ (s : Levels). s.free) turn.stack, c.requires.room),
+                    on-at _ _ _ (here-in _ _ _ _ _ _ turn.stack (c.requires.listed ∙ ap (λ (h : Course). moves (position h)) (sym turn.game)) c.get-m.ensures),
+                    (
+                      omega (arith, ap (λ (h : Course). h.spare) turn.game, c.requires.spare),
+                      omega (arith, ap (λ (s : Levels). s.free) turn.stack, c.requires.room),
+                    ),
                   ),
                 ),
               ),
@@ -82,7 +87,7 @@ write_node-returns-in_default-clause-wrote g t c =
 pub write_node-get-m-requires-clause-place : goal.write_node-get-m-requires-clause-place
 write_node-get-m-requires-clause-place g t c =
     let p = position (g.G.Game.course c.args.game.now) in
-    let low : c.in-Some.place < length (moves p) = place-under p _ _ c.in-Some.place c.in-Some.ensures.found in
+    let low : c.in-Some.place < length (moves p) = place-under p (c.args.depth - 1) (AtMost (to_z w32 (of_z w32 (pos 0 -ℤ to_z w32 (of_z w32 c.in-AtLeast.least))))) c.in-Some.place c.in-Some.ensures.found in
     omega (arith, low, ap length c.requires.listed)
 
 pub write_node-returns-then-not-write_index-clause-wrote : goal.write_node-returns-then-not-write_index-clause-wrote
@@ -102,18 +107,21 @@ write_node-write_child-requires g t c κs within =
       (
         within.0,
         (
-          within.1,
+          within.1.0,
           (
-            omega (arith, c.requires.deep, c.requires.inner.deep),
+            within.1.1,
             (
-              omega (arith, c.find_kept.ensures.same, c.requires.ready),
+              omega (arith, c.requires.deep, c.requires.inner.deep),
               (
-                small-turned _ small,
+                omega (arith, c.find_kept.ensures.same, c.requires.ready),
                 (
-                  on-at _ _ _ now,
+                  small-turned _ small,
                   (
-                    omega (arith, ap (λ (h : Course). h.spare) same, c.requires.spare, c.requires.inner.deep),
-                    c.requires.room,
+                    on-at _ _ _ now,
+                    (
+                      omega (arith, ap (λ (h : Course). h.spare) same, c.requires.spare, c.requires.inner.deep),
+                      c.requires.room,
+                    ),
                   ),
                 ),
               ),
