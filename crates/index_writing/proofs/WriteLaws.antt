@@ -25,7 +25,12 @@ use Rattle.claim_walks.specs.declared.limit.Limit.{Limit}
 use Rattle.claim_walks.specs.declared.limit.Limit.TheVariants.{AtMost, AtLeast}
 use Rattle.claim_walks.specs.Limits.{Keeps, is_kept, number}
 use Rattle.claim_walks.specs.Follows.{range_of}
-use Rattle.claim_walks.proofs.FollowLaws.{range-next, range-end, range-all, position-behind}
+use Rattle.claim_walks.proofs.FollowLaws.{range-next, range-end, range-all, position-behind, place-low}
+use Rattle.claim_walks.proofs.PlaceLaws.{position-at}
+use Rattle.search_laws.proofs.Signs.{neg-is}
+use Rattle.std.proofs.Common.{to_z, of_z}
+use mir.Syntax.{w32}
+use Rattle.std.specs.Bool.{OnTrue, OnFalse}
 use Rattle.strategy_check.specs.Least.{least, least_from, least_inner}
 use Rattle.certificate_text.specs.Text.{index_line}
 use Rattle.index_writing.specs.Writing.{Wrote, index_lines, lines_below, keeps_below, first_kept}
@@ -91,7 +96,7 @@ module _ (passes : Move → Bool) (below : Move → List ℕ) where
   least_from-at j [] k e = cc
   least_from-at j (m ∷ ms) k e =
       elim (passes m) as (λ b. cond b (Some j) (position_from passes (j + 1) ms) ≡ Some k →
-          (i : ℕ) × (n : Move) × (k ≡ j + i) × (slice_get (m ∷ ms) i ≡ Some n) × (cond b (j ∷ below m) (least_from passes below (j + 1) ms) ≡ k ∷ below n)) [
+      (i : ℕ) × (n : Move) × (k ≡ j + i) × (slice_get (m ∷ ms) i ≡ Some n) × (cond b (j ∷ below m) (least_from passes below (j + 1) ms) ≡ k ∷ below n)) [
         | true ↦ λ h. let same : j ≡ k = cc in (0, m, omega (arith, same), refl, ap (λ n. n ∷ below m) same)
         | false ↦ λ h. let later = least_from-at (j + 1) ms k h in (suc later.0, later.1, omega (arith, later.2), later.3, later.4)
       ] e
@@ -172,3 +177,93 @@ found-least x v w window low high found =
     (λ k. by_lt_z w x
     (λ less. let under : v ≤ℤ w = found.upper (omega (arith, ints, less, low)) in omega (arith, ints, under, k))
     (λ more. more))
+
+-- ---- the code
+
+pub child-written : (start played : Course) (m : Move) (e : ℕ) (c : Limit) (r : Bool) (a b : Told) → played ≡ with_move start m →
+    Wrote r (index_lines (least (position played) e c)) a b → Wrote r (index_lines (least (after (position start) m) e c)) a b
+child-written start played m e c r a b moved h = wrote-as r _ _ a b (ap (λ q. index_lines (least q e c)) (position-behind start played m moved)) h
+
+pub child-kept : (start played : Course) (m : Move) (e : ℕ) (c : Limit) (r : Bool) → played ≡ with_move start m → r ≡ is_kept c (value (position played) e) → r ≡ keeps_below (position start) e c m
+child-kept start played m e c r moved h = h ∙ ap (λ q. is_kept c (value q e)) (position-behind start played m moved)
+
+here-written : (start now : Course) (e : ℕ) (c : Limit) (m : Move) (r0 r : Bool) (a mid : Told) → now ≡ start → r0 ≡ r → Wrote r0 (index_lines (least (after (position now) m) e c)) a mid →
+    Wrote r (index_lines (least (after (position start) m) e c)) a mid
+here-written start now e c m r0 r a mid same is h = wrote-is r0 r _ a mid is (subst (λ (g : Course). Wrote r0 (index_lines (least (after (position g) m) e c)) a mid) same h)
+
+pub turn-written : (start now : Course) (e : ℕ) (c : Limit) (i to : ℕ) (m : Move) (r0 r : Bool) (a mid b : Told) → now ≡ start → slice_get (moves (position start)) i ≡ Some m → i < to → r0 ≡ true →
+    Wrote r0 (index_lines (least (after (position now) m) e c)) a mid → Wrote r (lines_below (position start) e c (range_of (moves (position start)) (i + 1) to)) mid b →
+    Wrote r (lines_below (position start) e c (range_of (moves (position start)) i to)) a b
+turn-written start now e c i to m r0 r a mid b same here low whole first later =
+    wrote-as r _ _ a b (sym (lines-next (position start) e c i to m here low))
+    (wrote-then r (index_lines (least (after (position start) m) e c)) (lines_below (position start) e c (range_of (moves (position start)) (i + 1) to)) a mid b (here-written start now e c m r0 true a mid same whole first) later)
+
+pub turn-cut : (start now : Course) (e : ℕ) (c : Limit) (i to : ℕ) (m : Move) (r0 : Bool) (a mid : Told) → now ≡ start → slice_get (moves (position start)) i ≡ Some m → i < to → r0 ≡ false →
+    Wrote r0 (index_lines (least (after (position now) m) e c)) a mid → Wrote false (lines_below (position start) e c (range_of (moves (position start)) i to)) a mid
+turn-cut start now e c i to m r0 a mid same here low cut first =
+    wrote-as false _ _ a mid (sym (lines-next (position start) e c i to m here low))
+    (wrote-stop (index_lines (least (after (position start) m) e c)) (lines_below (position start) e c (range_of (moves (position start)) (i + 1) to)) a mid (here-written start now e c m r0 false a mid same cut first))
+
+pub turn-over : (p : Position) (e : ℕ) (c : Limit) (i to : ℕ) (a : Told) → to ≤ i → Wrote true (lines_below p e c (range_of (moves p) i to)) a a
+turn-over p e c i to a past = wrote-as true _ _ a a (sym (lines-end p e c i to past)) (wrote-nothing a)
+
+-- a node that names a move
+pub node-written : (start now : Course) (d : ℕ) (l : Limit) (x y : ℤ) (k : ℕ) (m : Move) (r0 r : Bool) (a mid b : Told) → IsInner (position start) d → l ≡ AtLeast x → y ≡ neg_ℤ x → now ≡ start →
+    Some k ≡ first_kept (position start) (d - 1) (AtMost y) (moves (position start)) → slice_get (moves (position start)) k ≡ Some m → r0 ≡ true →
+    Wrote r0 (index_line k) a mid → Wrote r (index_lines (least (after (position now) m) (d - 1) (AtMost y))) mid b → Wrote r (index_lines (least (position start) d l)) a b
+node-written start now d l x y k m r0 r a mid b inner is turned same found here whole first later =
+    wrote-as r _ _ a b (sym (ap (λ c. index_lines (least (position start) d c)) is ∙ named-is (position start) d x y k m inner turned found here))
+    (wrote-then r (index_line k) (index_lines (least (after (position start) m) (d - 1) (AtMost y))) a mid b (wrote-is r0 true _ a mid whole first)
+    (here-written start now (d - 1) (AtMost y) m r r mid b same refl later))
+
+pub node-cut : (p : Position) (d : ℕ) (l : Limit) (x y : ℤ) (k : ℕ) (r0 : Bool) (a mid : Told) → IsInner p d → l ≡ AtLeast x → y ≡ neg_ℤ x →
+    Some k ≡ first_kept p (d - 1) (AtMost y) (moves p) → r0 ≡ false → Wrote r0 (index_line k) a mid → Wrote false (index_lines (least p d l)) a mid
+node-cut p d l x y k r0 a mid inner is turned found cut first =
+    let at = position-at (keeps_below p (d - 1) (AtMost y)) 0 (moves p) k (sym found) in
+    let place : at.0 ≡ k = omega (arith, at.2) in
+    let here : slice_get (moves p) k ≡ Some at.1 = ap (slice_get (moves p)) (sym place) ∙ at.3 in
+    wrote-as false _ _ a mid (sym (ap (λ c. index_lines (least p d c)) is ∙ named-is p d x y k at.1 inner turned found here))
+    (wrote-stop (index_line k) (index_lines (least (after p at.1) (d - 1) (AtMost y))) a mid (wrote-is r0 false _ a mid cut first))
+
+pub node-none : (p : Position) (d : ℕ) (l : Limit) (x y : ℤ) (a : Told) → IsInner p d → l ≡ AtLeast x → y ≡ neg_ℤ x → None ≡ first_kept p (d - 1) (AtMost y) (moves p) → Wrote true (index_lines (least p d l)) a a
+node-none p d l x y a inner is turned found = wrote-as true _ _ a a (sym (ap (λ c. index_lines (least p d c)) is ∙ none-named p d x y inner turned found)) (wrote-nothing a)
+
+pub node-every : (p : Position) (d : ℕ) (l : Limit) (x y : ℤ) (count : ℕ) (r : Bool) (a b : Told) → IsInner p d → l ≡ AtMost x → y ≡ neg_ℤ x → count ≡ length (moves p) →
+    Wrote r (lines_below p (d - 1) (AtLeast y) (range_of (moves p) 0 count)) a b → Wrote r (index_lines (least p d l)) a b
+node-every p d l x y count r a b inner is turned all h = wrote-as r _ _ a b (every-is p d x y count inner turned all ∙ ap (λ c. index_lines (least p d c)) (sym is)) h
+
+pub leaf-written : (p : Position) (d : ℕ) (c : Limit) (a : Told) → IsLeaf p d → Wrote true (index_lines (least p d c)) a a
+leaf-written p d c a leaf = wrote-as true _ _ a a (sym (ap index_lines (least-leaf p d c leaf))) (wrote-nothing a)
+
+pub index-written : (r : Bool) (bytes line : List ℕ) (a b : Told) → bytes ≡ line → OnTrue r (b ≡ behind a bytes) → OnFalse r ((n : ℕ) × (n < length bytes) × (b ≡ behind a (take n bytes))) → Wrote r line a b
+index-written true bytes line a b e all part = all ∙ ap (behind a) e
+index-written false bytes line a b e all part = (part.0, part.2 ∙ ap (λ s. behind a (take part.0 s)) e)
+
+-- the first move that keeps to the limit, as the code finds it
+pub find-step : (p : Position) (e : ℕ) (c : Limit) (i : ℕ) (m : Move) → slice_get (moves p) i ≡ Some m → first_kept p e c (moves p) ≡ position_from (keeps_below p e c) i (drop i (moves p)) → keeps_below p e c m ≡ false →
+    first_kept p e c (moves p) ≡ position_from (keeps_below p e c) (i + 1) (drop (i + 1) (moves p))
+find-step p e c i m here so not = position-step (keeps_below p e c) (λ n. []) (moves p) i m so here not
+
+pub find-met : (p : Position) (e : ℕ) (c : Limit) (i : ℕ) (m : Move) → slice_get (moves p) i ≡ Some m → first_kept p e c (moves p) ≡ position_from (keeps_below p e c) i (drop i (moves p)) → keeps_below p e c m ≡ true →
+    Some i ≡ first_kept p e c (moves p)
+find-met p e c i m here so yes_ = position-met (keeps_below p e c) (λ n. []) (moves p) i m so here yes_
+
+pub find-past : (p : Position) (e : ℕ) (c : Limit) (i : ℕ) → first_kept p e c (moves p) ≡ position_from (keeps_below p e c) i (drop i (moves p)) → length (moves p) ≤ i → None ≡ first_kept p e c (moves p)
+find-past p e c i so past = position-none (keeps_below p e c) (λ n. []) (moves p) i so past
+
+pub kept-at : (start now : Course) (e : ℕ) (c : Limit) (m : Move) (r b : Bool) → now ≡ start → r ≡ keeps_below (position now) e c m → r ≡ b → keeps_below (position start) e c m ≡ b
+kept-at start now e c m r b same kept is = ap (λ (g : Course). keeps_below (position g) e c m) (sym same) ∙ sym kept ∙ is
+
+pub place-under : (p : Position) (e : ℕ) (c : Limit) (k : ℕ) → Some k ≡ first_kept p e c (moves p) → k < length (moves p)
+place-under p e c k found =
+    let at = position-at (keeps_below p e c) 0 (moves p) k (sym found) in
+    let low : at.0 < length (moves p) = place-low (moves p) at.0 at.1 at.3 in omega (arith, low, at.2)
+
+pub wider : (z : ℤ) → IsSmall 1000090 z → IsSmall 1000100 z
+wider z h = let low = h.low in let high = h.high in record { low = omega (arith, ints, low); high = omega (arith, ints, high) }
+
+small-neg : (z : ℤ) → IsSmall 1000090 z → IsSmall 1000090 (neg_ℤ z)
+small-neg z h = let low = h.low in let high = h.high in record { low = omega (arith, ints, high); high = omega (arith, ints, low) }
+
+pub small-turned : (z : ℤ) → IsSmall 1000090 z → IsSmall 1000090 (to_z w32 (of_z w32 (pos 0 -ℤ to_z w32 (of_z w32 z))))
+small-turned z h = subst (IsSmall 1000090) (sym (neg-is z (wider z h))) (small-neg z h)

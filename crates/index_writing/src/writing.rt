@@ -117,7 +117,7 @@ pub fn write_indices<G: Game, J: Judge, K: Sink>(
     ensures same { J.prepared judge.new ≡ J.prepared judge.old }
     ensures stack { stack.new ≡ stack.old }
 {
-    if leaf_value(game, depth).is_some() {
+    if let Some(_) = leaf_value(game, depth) {
         return true;
     }
     let level = stack.levels();

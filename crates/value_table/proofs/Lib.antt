@@ -1,3 +1,0 @@
-pub mod TrueEntries
-pub mod Lookups
-pub mod Tables
