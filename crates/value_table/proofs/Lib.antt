@@ -1,0 +1,3 @@
+pub mod TrueEntries
+pub mod Lookups
+pub mod Tables
