@@ -1,5 +1,5 @@
 -- What a table keeps.
-use Rattle.std.specs.Prelude.{◌≡◌, ◌≢◌, ℕ, Bool, nat_eq, List, length, Option, Some, None, IsSome, IsTrue, find, ◌⊎◌, ◌↔◌, if◌then◌else◌}
+use Rattle.std.specs.Prelude.{◌≡◌, ◌≢◌, ℕ, nat_eq, List, length, Option, Some, None, IsSome, find, ◌⊎◌, if◌then◌else◌}
 use Rattle.hive_model.specs.Keys.{KeyParts}
 use Rattle.hive_model.specs.SameKeys.{same_key}
 use Rattle.value_table.specs.Entries.{EntryParts}

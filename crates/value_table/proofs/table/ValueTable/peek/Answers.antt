@@ -1,4 +1,4 @@
-use Rattle.std.proofs.Common.{◌≡◌, sym, ap, ◌∙◌}
+use Rattle.std.proofs.Common.{sym, ap, ◌∙◌}
 use Rattle.value_table.specs.Kept.{TableParts, kept}
 use Rattle.value_table.proofs.Tables.{kept-lookup}
 use Rattle.value_table.proofs.table.ValueTable.peek.Goals as goal
