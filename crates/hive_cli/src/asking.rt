@@ -7,7 +7,7 @@ ghost use Rattle.hive_model.specs.Games.{IsGame};
 ghost use Rattle.hive_model.specs.Legal as rules;
 ghost use Rattle.game_text.specs.Reading.{game_of};
 ghost use Rattle.game_text.specs.declared.parsed.Parsed.{Parsed as AnyGame};
-ghost use Rattle.hive_cli.specs.Session.{WhereTold};
+ghost use Rattle.hive_cli.specs.Input.{WhereTold};
 ghost use Rattle.hive_cli.specs.OneGame.{IsAsked, if_open, open_game};
 ghost use Rattle.hive_cli.specs.Asking.{GivesGame, GivesNone, GoesOn, IsReplayOf, IsNoGame, Lacks, Resumes, Says, SaysFault, WereTaken};
 

@@ -16,7 +16,7 @@ use Rattle.game_text.specs.declared.faults.GameFault.{GameFault}
 use Rattle.game_text.specs.declared.parsed.Parsed.{Parsed}
 use Rattle.game_text.specs.Reading.{game_of}
 use Rattle.game_text.proofs.LineLaws.{game_found}
-use Rattle.game_text.proofs.ListedLaws.{listed_on}
+use Rattle.hive_model.proofs.ListedLaws.{listed_on}
 use Rattle.game_text.proofs.WriteLaws.{legal_part, taken_size}
 use Rattle.uhp_words.specs.declared.command.Command.{Command}
 use Rattle.uhp_words.specs.declared.command.Command.TheVariants.{Info, NewGame, Play, Pass, ValidMoves, BestDepth, BestTime, Undo, Options, OptionGet, OptionSet, Exit}
