@@ -5,8 +5,7 @@ ghost use Rattle.hive_model.specs.Reach.{Hop};
 ghost use Rattle.bug_moves.specs.Adding.{IsAround, Gains};
 ghost use Rattle.bug_moves.specs.Ways.{HopAlong};
 
-use crate::steps::is_occupied;
-use hive_model::{Board, Dir, Place, PlaceList, add_place};
+use hive_model::{Board, Dir, Place, PlaceList, add_place, is_occupied};
 
 /// Adds the empty place behind a row of pieces that begins at the neighbour in a direction, if a piece stands there.
 fn add_hop<B: Board>(board: &B, from: Place, dir: Dir, out: &mut PlaceList)

@@ -5,8 +5,8 @@ ghost use Rattle.hive_model.specs.Reach.{OverTwo};
 ghost use Rattle.bug_moves.specs.Adding.{IsAround, Gains};
 ghost use Rattle.bug_moves.specs.Ways.{DownToward, StepDown, AlongToward, StepAlong, UpToward, OverTwoAway};
 
-use crate::steps::{is_occupied, may_climb};
-use hive_model::{Board, Dir, Place, PlaceList, add_place};
+use crate::steps::may_climb;
+use hive_model::{Board, Dir, Place, PlaceList, add_place, is_occupied};
 
 /// Adds the end of a step down in a direction, unless that is where the ladybug began.
 fn add_down<B: Board>(board: &B, start: Place, second: Place, dir: Dir, out: &mut PlaceList)

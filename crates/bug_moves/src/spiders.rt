@@ -5,7 +5,7 @@ ghost use Rattle.hive_model.specs.Reach.{ThreeSteps};
 ghost use Rattle.bug_moves.specs.Adding.{IsAround, Gains};
 ghost use Rattle.bug_moves.specs.Ways.{ThirdToward, ThirdStep, SecondToward, SecondStep, FirstToward};
 
-use gates::slide_ok;
+use gates::slide_toward;
 use hive_model::{Board, Dir, Place, PlaceList, add_place};
 
 /// Adds the end of a third step in a direction, unless it goes back to where the spider was.
@@ -22,7 +22,7 @@ fn add_third<B: Board>(
     ensures { Gains (B.stacks board.now) (ThirdToward (B.stacks board.now) start first second dir) out.old.items out.new.items }
 {
     let to = second.step(dir);
-    if to.is(start) || to.is(first) || !slide_ok(board, second, to) {
+    if to.is(start) || to.is(first) || !slide_toward(board, second, dir, to) {
         return;
     }
     add_place(out, to);
@@ -46,7 +46,7 @@ fn add_second<B: Board>(board: &B, start: Place, first: Place, dir: Dir, out: &m
     ensures { Gains (B.stacks board.now) (SecondToward (B.stacks board.now) start first dir) out.old.items out.new.items }
 {
     let second = first.step(dir);
-    if second.is(start) || !slide_ok(board, first, second) {
+    if second.is(start) || !slide_toward(board, first, dir, second) {
         return;
     }
     third_steps(board, start, first, second, out);
@@ -70,7 +70,7 @@ fn add_first<B: Board>(board: &B, start: Place, dir: Dir, out: &mut PlaceList)
     ensures { Gains (B.stacks board.now) (FirstToward (B.stacks board.now) start dir) out.old.items out.new.items }
 {
     let first = start.step(dir);
-    if slide_ok(board, start, first) {
+    if slide_toward(board, start, dir, first) {
         second_steps(board, start, first, out);
     }
 }

@@ -7,15 +7,8 @@ ghost use Rattle.hive_model.specs.Steps.{GroundStep, ClimbingStep};
 ghost use Rattle.bug_moves.specs.Adding.{IsAround, Gains};
 ghost use Rattle.bug_moves.specs.Ways.{Toward, BeetleStep};
 
-use gates::{climb_ok, slide_ok};
-use hive_model::{Board, Dir, Place, PlaceList, add_place};
-
-/// Whether a piece stands on the place.
-pub fn is_occupied<B: Board>(board: &B, place: Place) -> bool
-    ensures { result ≡ is_occupied (B.stacks board.now) place }
-{
-    board.height(place) > 0
-}
+use gates::{climb_ok, slide_ok, slide_toward};
+use hive_model::{Board, Dir, Place, PlaceList, add_place, is_occupied};
 
 /// Whether the step between two neighbours is a climbing step: one of them is occupied, and the step is not blocked.
 pub fn may_climb<B: Board>(board: &B, from: Place, to: Place) -> bool
@@ -41,7 +34,7 @@ fn add_ground_step<B: Board>(board: &B, from: Place, dir: Dir, out: &mut PlaceLi
     ensures { Gains (B.stacks board.now) (Toward (GroundStep (B.stacks board.now)) from dir) out.old.items out.new.items }
 {
     let to = from.step(dir);
-    if slide_ok(board, from, to) {
+    if slide_toward(board, from, dir, to) {
         add_place(out, to);
     }
 }

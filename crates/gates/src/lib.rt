@@ -6,13 +6,7 @@ ghost use Rattle.hive_model.specs.Boards.{Stacks, height_at, is_occupied};
 ghost use Rattle.hive_model.specs.Places.{AreNeighbours, IsWithin, step, is_place};
 ghost use Rattle.hive_model.specs.Steps.{GroundStep, ClimbingStep, is_ground_step, is_blocked, ground_at, is_free, FreeStep};
 
-use hive_model::{Board, Dir, Place};
-
-fn is_occupied<B: Board>(board: &B, place: Place) -> bool
-    ensures { result ≡ is_occupied (B.stacks board.now) place }
-{
-    board.height(place) > 0
-}
+use hive_model::{Board, Dir, Place, is_occupied};
 
 /// Whether both common neighbours are higher than the two places of the step.
 #[tactic(auto, using(hive_model::proofs::PlaceLemmas::wider))]
@@ -46,6 +40,18 @@ pub fn slide_ok<B: Board>(board: &B, from: Place, to: Place) -> bool
     ensures { IsTrue result ↔ GroundStep (B.stacks board.now) from to }
 {
     ground_to(board, from, to)
+}
+
+/// The same, where the direction of the step is at hand.
+pub fn slide_toward<B: Board>(board: &B, from: Place, dir: Dir, to: Place) -> bool
+    requires leads { to ≡ step from dir }
+    requires within { IsWithin 9500 from }
+    ensures { IsTrue result ↔ GroundStep (B.stacks board.now) from to }
+{
+    if is_occupied(board, to) {
+        return false;
+    }
+    is_ground(board, from, dir)
 }
 
 #[tactic(auto, using(hive_model::proofs::PlaceLemmas::wider))]

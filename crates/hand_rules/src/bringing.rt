@@ -25,16 +25,6 @@ fn is_next<B: Board>(game_type: GameType, board: &B, piece: Piece) -> bool
     }
 }
 
-/// The queen of a side.
-fn queen_of(colour: Colour) -> Piece
-    ensures { result ≡ queen_of colour }
-{
-    match colour {
-        Colour::White => Piece::at(0),
-        Colour::Black => Piece::at(14),
-    }
-}
-
 /// Whether the side may bring this piece into play in its turn of this number. The piece is the side's and the next of its kind.
 /// On its first turn a side brings no queen; on its fourth or a later turn, while its queen is in hand, nothing else.
 pub fn may_bring<B: Board>(
@@ -50,7 +40,7 @@ pub fn may_bring<B: Board>(
     if !piece.colour().is(colour) || is_queen && turn == 1 {
         return false;
     }
-    if !is_queen && turn >= 4 && board.spot(queen_of(colour)).is_none() {
+    if !is_queen && turn >= 4 && board.spot(colour.queen()).is_none() {
         return false;
     }
     is_next(game_type, board, piece)
@@ -68,8 +58,8 @@ fn can_bring<B: Board>(game_type: GameType, board: &B, colour: Colour, turn: u32
     false
 }
 
-/// Puts the piece's move to each of the places at the end of the last level.
-fn push_each(piece: Piece, places: &[Place], out: &mut MoveStack)
+/// Puts the piece's move to each of the places at the end of the last level, in their order.
+pub fn push_each(piece: Piece, places: &[Place], out: &mut MoveStack)
     requires level { 1 ≤ length out.old.lists }
     requires room { length (last_level out.old) + length places.now ≤ 5488 }
     ensures added { last_level out.new ≡ last_level out.old ++ map (λ q. To piece q) places.now }

@@ -7,23 +7,11 @@ ghost use Rattle.hand_rules.specs.Hands.{HasNoneInHand, count_of, first_piece};
 
 use hive_model::{Board, Colour, GameType, Kind, Piece};
 
-/// Whether the game type has pieces of this kind.
-fn has_kind(game_type: GameType, kind: Kind) -> bool
-    ensures { result ≡ has_kind game_type kind }
-{
-    match kind {
-        Kind::Mosquito => game_type.mosquito,
-        Kind::Ladybug => game_type.ladybug,
-        Kind::Pillbug => game_type.pillbug,
-        _ => true,
-    }
-}
-
 /// Whether the piece is in hand: of the game type and on no place.
 pub fn in_hand<B: Board>(game_type: GameType, board: &B, piece: Piece) -> bool
     ensures { IsTrue result ↔ IsInHand game_type (B.stacks board.now) piece }
 {
-    has_kind(game_type, piece.kind()) && board.spot(piece).is_none()
+    game_type.has(piece.kind()) && board.spot(piece).is_none()
 }
 
 /// The index of the side's first piece of the kind.

@@ -21,16 +21,6 @@ fn weight_of(kind: Kind) -> i32
     }
 }
 
-/// Whether this is the piece that rests.
-fn rests(piece: Piece, rest: &Option<Piece>) -> bool
-    ensures { result ≡ is_piece piece rest.now }
-{
-    match rest {
-        Some(other) => piece.index() == other.index(),
-        None => false,
-    }
-}
-
 /// Whether a piece that stands there has none above it.
 fn is_top<B: Board>(board: &B, spot: &Spot) -> bool
     ensures { result ≡ nat_eq (spot.now.level + 1) (height_at (B.stacks board.now) spot.now.place) }
@@ -43,7 +33,7 @@ fn is_free<B: Board, C: Cuts>(board: &B, cuts: &C, piece: Piece, rest: &Option<P
     requires { C.board cuts.now ≡ B.stacks board.now }
     ensures { result ≡ is_free_piece (B.stacks board.now) rest.now piece }
 {
-    if rests(piece, rest) {
+    if piece.rests(rest) {
         return false;
     }
     let Some(spot) = board.spot(piece) else {

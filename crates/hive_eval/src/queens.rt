@@ -6,16 +6,7 @@ ghost use Rattle.hive_model.specs.Evaluation.{round_queen};
 ghost use Rattle.hive_model.specs.Pieces.{queen_of};
 ghost use Rattle.hive_model.specs.Places.{IsWithin, step, dirs};
 
-use hive_model::{Board, Colour, Dir, Piece, Place};
-
-fn queen_of(side: Colour) -> Piece
-    ensures { result ≡ queen_of side }
-{
-    match side {
-        Colour::White => Piece::at(0),
-        Colour::Black => Piece::at(14),
-    }
-}
+use hive_model::{Board, Colour, Dir, Place};
 
 /// How many neighbours of the place are occupied.
 fn occupied_round<B: Board>(board: &B, place: Place) -> usize
@@ -38,7 +29,7 @@ pub(crate) fn occupied_round_queen<B: Board>(board: &B, side: Colour) -> i32
     ensures count { result ≡ pos (round_queen (B.stacks board.now) side) }
     ensures few { result ≤ℤ pos 6 }
 {
-    match board.spot(queen_of(side)) {
+    match board.spot(side.queen()) {
         Some(spot) => occupied_round(board, spot.place) as i32,
         None => 0,
     }

@@ -16,24 +16,8 @@ ghost use Rattle.legal_moves.specs.Listing.{IsPairBelow, GainsPairs};
 
 use crate::throws::moved_places;
 use crate::turns::Turn;
-use hand_rules::{may_bring, placement_places};
+use hand_rules::{may_bring, placement_places, push_each};
 use hive_model::{Board, Colour, Cuts, GameType, Move, MoveStack, Piece, Place, PlaceList};
-
-/// Puts the piece's move to each of the places at the end of the last level.
-fn push_each(piece: Piece, places: &[Place], out: &mut MoveStack)
-    requires level { 1 ≤ length out.old.lists }
-    requires room { length (last_level out.old) + length places.now ≤ 5488 }
-    ensures added { last_level out.new ≡ last_level out.old ++ map (λ q. To piece q) places.now }
-    ensures levels { length out.new.lists ≡ length out.old.lists }
-    ensures others { without_level out.new ≡ without_level out.old }
-{
-    for place in places {
-        out.push(Move::To {
-            piece,
-            place: *place,
-        });
-    }
-}
 
 /// Puts the legal moves of the piece at the end of the last level. `open_places` are the places where the side may place.
 fn push_piece<B: Board, C: Cuts>(

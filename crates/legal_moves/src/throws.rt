@@ -11,7 +11,7 @@ ghost use Rattle.hive_model.specs.Throws.{Throw};
 ghost use Rattle.legal_moves.specs.Going.{ThrownBy, AreGoals, IsMoved, position_of};
 
 use crate::merging::add_all;
-use crate::turns::{Turn, again, is_in_play, mosquito_of, pillbug_of, queen_of};
+use crate::turns::{Turn, again, is_in_play, mosquito_of, pillbug_of};
 use crate::walks::walks;
 use hive_model::{Board, Cuts, Piece, PlaceList};
 use pillbug_throws::{may_throw, throws};
@@ -71,7 +71,7 @@ pub fn moved_places<B: Board, C: Cuts>(
     ensures places { (q : Place) → IsOn out.new.items q ↔ IsMoved (position_of (B.stacks board.now) turn.now) piece q }
     ensures order { Rises place_cmp out.new.items }
 {
-    if !is_in_play(board, queen_of(turn.side)) {
+    if !is_in_play(board, turn.side.queen()) {
         return;
     }
     walks(board, cuts, turn, piece, out);

@@ -25,31 +25,11 @@ pub fn again(rest: &Option<Piece>) -> Option<Piece>
     *rest
 }
 
-/// Whether this is the piece that rests.
-pub fn rests(piece: Piece, rest: &Option<Piece>) -> bool
-    ensures { result ≡ is_piece piece rest.now }
-{
-    match rest {
-        Some(other) => piece.index() == other.index(),
-        None => false,
-    }
-}
-
 /// Whether the piece is on the board.
 pub fn is_in_play<B: Board>(board: &B, piece: Piece) -> bool
     ensures { result ≡ is_in_play (B.stacks board.now) piece }
 {
     board.spot(piece).is_some()
-}
-
-/// The queen of a side.
-pub fn queen_of(side: Colour) -> Piece
-    ensures { result ≡ queen_of side }
-{
-    match side {
-        Colour::White => Piece::at(0),
-        Colour::Black => Piece::at(14),
-    }
 }
 
 /// The mosquito of a side.

@@ -8,7 +8,7 @@ ghost use Rattle.hive_model.specs.Boards.{IsBoard, is_on_top};
 ghost use Rattle.hive_model.specs.Legal.{Walk};
 ghost use Rattle.legal_moves.specs.Going.{MayWalk, Goes, position_of};
 
-use crate::turns::{Turn, rests};
+use crate::turns::Turn;
 use bug_moves::reach;
 use hive_model::{Board, Cuts, Kind, Lifted, Piece, PlaceList};
 use mosquito_moves::mosquito_reach;
@@ -23,7 +23,7 @@ fn may_walk<B: Board, C: Cuts>(board: &B, cuts: &C, piece: Piece, rest: &Option<
         return false;
     };
     let height = board.height(spot.place);
-    if rests(piece, rest) || height - spot.level != 1 {
+    if piece.rests(rest) || height - spot.level != 1 {
         return false;
     }
     !cuts.is_cut(spot.place)

@@ -15,7 +15,7 @@ ghost use Rattle.bug_moves.specs.Adding.{IsAround, Gains};
 ghost use Rattle.mosquito_moves.specs.Copied.{shows, touches_kind, CopiesKind};
 
 use bug_moves::reach;
-use hive_model::{Board, Dir, Kind, Piece, Place, PlaceList, add_place};
+use hive_model::{Board, Dir, Kind, Piece, Place, PlaceList, add_place, place_at};
 
 /// The kinds that a mosquito copies, which are all others.
 const COPIED: [Kind; 7] = [
@@ -54,14 +54,6 @@ fn touches_kind<B: Board>(board: &B, from: Place, kind: Kind) -> bool
             requires { IsWithin 9500 from }
         { shows(board.top(from.step(*d)), kind) },
     )
-}
-
-/// The place at an index of a list.
-fn place_at(places: &PlaceList, index: usize) -> Place
-    requires { index < length places.now.items }
-    ensures { slice_get places.now.items index ≡ Some result }
-{
-    places.as_slice()[index]
 }
 
 /// Adds where a bug of this kind goes.

@@ -13,7 +13,6 @@ ghost use Rattle.hive_model.specs.Steps.{FreeStep};
 ghost use Rattle.hive_model.specs.Throws.{IsThrower};
 ghost use Rattle.pillbug_throws.specs.Throwing.{IsLoose, ComesDown, ThrowsTo};
 
-use crate::throwers::rests;
 use gates::climb_ok;
 use hive_model::{Board, Cuts, Dir, Lifted, Piece, Place, PlaceList, add_place};
 
@@ -41,7 +40,7 @@ fn is_at_hand<B: Board>(
     requires { IsWithin 9500 over }
     ensures { result ≡ (nat_eq (height_at (B.stacks board.now) from) 1 && (not (is_piece piece rest) && are_neighbours over from)) }
 {
-    board.height(from) == 1 && !rests(piece, rest) && are_neighbours(over, from)
+    board.height(from) == 1 && !piece.rests(&rest) && are_neighbours(over, from)
 }
 
 /// Whether the piece can be lifted from its place over the thrower's: it is alone there, does not rest, stands beside the

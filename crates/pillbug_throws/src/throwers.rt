@@ -11,29 +11,12 @@ ghost use Rattle.hive_model.specs.Throws.{IsThrower, is_pillbug, can_throw};
 
 use hive_model::{Board, Dir, Kind, Piece, Place};
 
-/// Whether the two are one kind.
-fn is_kind(kind: Kind, other: Kind) -> bool
-    ensures { result ≡ is_kind kind other }
-{
-    kind == other
-}
-
-/// Whether this is the piece that rests: the one that was placed, moved or thrown on the last ply.
-pub(crate) fn rests(piece: Piece, rest: Option<Piece>) -> bool
-    ensures { result ≡ is_piece piece rest }
-{
-    match rest {
-        Some(other) => piece.index() == other.index(),
-        None => false,
-    }
-}
-
 /// Whether a top piece is a pillbug.
 fn is_pillbug(top: Option<Piece>) -> bool
     ensures { result ≡ is_pillbug top }
 {
     match top {
-        Some(piece) => is_kind(piece.kind(), Kind::Pillbug),
+        Some(piece) => piece.kind().is(Kind::Pillbug),
         None => false,
     }
 }
@@ -44,8 +27,8 @@ fn can_throw<B: Board>(board: &B, piece: Piece, place: Place) -> bool
     requires { IsWithin 9500 place }
     ensures { result ≡ can_throw (B.stacks board.now) piece place }
 {
-    is_kind(piece.kind(), Kind::Pillbug)
-        || is_kind(piece.kind(), Kind::Mosquito) && touches_pillbug(board, place)
+    piece.kind().is(Kind::Pillbug)
+        || piece.kind().is(Kind::Mosquito) && touches_pillbug(board, place)
 }
 
 /// Whether the top piece of a neighbour is a pillbug.
@@ -66,7 +49,7 @@ fn throws_from<B: Board>(board: &B, piece: Piece, place: Place, rest: Option<Pie
     requires { IsWithin 9500 place }
     ensures { result ≡ (nat_eq (height_at (B.stacks board.now) place) 1 && (not (is_piece piece rest) && can_throw (B.stacks board.now) piece place)) }
 {
-    board.height(place) == 1 && !rests(piece, rest) && can_throw(board, piece, place)
+    board.height(place) == 1 && !piece.rests(&rest) && can_throw(board, piece, place)
 }
 
 /// Whether the piece may throw: it is a pillbug, or a mosquito that touches a pillbug, it is alone on its place, and it does not

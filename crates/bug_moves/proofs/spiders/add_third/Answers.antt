@@ -3,7 +3,7 @@ use Rattle.hive_model.proofs.PlaceLemmas.{same_place, false_place}
 use Rattle.bug_moves.proofs.AtHive.{ground_at_hive}
 use Rattle.bug_moves.proofs.Gaining.{room_for, gains_toward, gains_no_step}
 use Rattle.bug_moves.specs.Ways.{ThirdStep}
-use Rattle.bug_moves.proofs.spiders.add_third.Goals.{then-is-via-then-is, then-is-via-else-is+then-is-2, then-is-via-else-is+else-is-2+then-not-slide_ok}
+use Rattle.bug_moves.proofs.spiders.add_third.Goals.{then-is-via-then-is, then-is-via-else-is+then-is-2, then-is-via-else-is+else-is-2+then-not-slide_toward}
 use Rattle.bug_moves.proofs.spiders.add_third.Goals as goal
 
 pub returns-then-is : goal.returns-then-is
@@ -13,19 +13,19 @@ returns-then-is g c =
     (λ (ground, first, second). elim c.then-is.branch [
       | then-is-via-then-is w ↦ absurd (first (sym (same_place c.step-to.result c.args.start (sym c.is.ensures ∙ w.if-is.true))))
       | then-is-via-else-is+then-is-2 w ↦ absurd (second (sym (same_place c.step-to.result c.args.first (sym w.is-else-is.ensures ∙ w.if-is-2.true))))
-      | then-is-via-else-is+else-is-2+then-not-slide_ok w ↦ absurd (let wrong : false ≡ true = sym w.if-not-slide_ok.true ∙ w.slide_ok.ensures.1 ground in cc)
+      | then-is-via-else-is+else-is-2+then-not-slide_toward w ↦ absurd (let wrong : false ≡ true = sym w.if-not-slide_toward.true ∙ w.slide_toward.ensures.1 ground in cc)
     ])
 
 pub add_place-requires : goal.add_place-requires
 add_place-requires g c =
     let b = g.B.Board.stacks c.args.board.now in
-    let ground = c.slide_ok.ensures.0 c.if-not-slide_ok.false in
+    let ground = c.slide_toward.ensures.0 c.if-not-slide_toward.false in
     record { room = room_for b c.step-to.result c.args.out.now.items c.requires.list (ground_at_hive b c.args.second c.step-to.result ground) }
 
 pub returns : goal.returns
 returns g c =
     let b = g.B.Board.stacks c.args.board.now in
-    let ground = c.slide_ok.ensures.0 c.if-not-slide_ok.false in
+    let ground = c.slide_toward.ensures.0 c.if-not-slide_toward.false in
     gains_toward b (ThirdStep b c.args.start c.args.first) c.args.second c.args.dir c.step-to.result c.args.out.now.items c.add_place.new.list.items c.requires.list (ground_at_hive b c.args.second c.step-to.result ground)
     c.step-to.ensures c.add_place.ensures
     (ground, (λ e. false_place c.step-to.result c.args.start (sym c.is.ensures ∙ c.if-is.false) (sym e)), (λ e. false_place c.step-to.result c.args.first (sym c.is-else-is.ensures ∙ c.if-is-2.false) (sym e)))

@@ -1,0 +1,154 @@
+//! The game.
+
+ghost use Rattle.std.specs.Prelude.{◌≡◌, refl};
+ghost use Rattle.hive_model.specs.Courses.{position};
+
+use crate::judging::{key_after, worth_after};
+use crate::listing::{is_legal_after, list_moves, state_of};
+use crate::making::{make, unmake};
+use crate::turns::{side_after, turn_after};
+use hive_model::{
+    Board, Colour, Game, GameBoard, GameType, Key, Move, MoveStack, Piece, Place, Spot, State,
+};
+use std::alloc::{AllocError, Global};
+use std::marker::Model;
+
+/// A game on a board. To take a move back it keeps where the piece of each ply came from; the piece that rests is that
+/// of the last move.
+#[derive(Drop)]
+pub struct BoardGame<B: GameBoard> {
+    game_type: GameType,
+    board: B,
+    made: Vec<Move>,
+    from: Vec<Option<Place>>,
+    spare: u32,
+    count: u64,
+}
+
+impl<B: GameBoard> Model for BoardGame<B> {
+    ghost use Rattle.std.specs.Prelude.{◌≡◌, ◌≤◌, ◌+◌, vec_capacity, vec_len};
+    ghost use Rattle.board_game.specs.Replayed.{Played, IsReplayed};
+
+    ghost Value = { Played };
+
+    ghost view = { λ g. record {
+      course = record { game_type = g.game_type; made = g.made.items; spare = g.spare };
+      count = g.count;
+    } };
+
+    ghost invariant = { λ g. IsReplayed g.game_type (B.stacks g.board) g.made.items g.from.items
+        × (vec_len g.made + g.spare ≤ 5064)
+        × (vec_len g.from ≡ vec_len g.made)
+        × (vec_len g.made + g.spare ≤ vec_capacity g.made)
+        × (vec_len g.made + g.spare ≤ vec_capacity g.from) };
+}
+
+impl<B: GameBoard> Board for BoardGame<B> {
+    ghost use Rattle.hive_model.specs.Courses.{position};
+
+    ghost stacks = { λ g. (position g.course).board };
+
+    fn top(&self, place: Place) -> Option<Piece> {
+        self.board.top(place)
+    }
+
+    fn height(&self, place: Place) -> u8 {
+        self.board.height(place)
+    }
+
+    fn spot(&self, piece: Piece) -> Option<Spot> {
+        self.board.spot(piece)
+    }
+
+    fn under(&self, piece: Piece) -> Option<Piece> {
+        self.board.under(piece)
+    }
+}
+
+impl<B: GameBoard> Game for BoardGame<B> {
+    ghost course = { λ g. g.course };
+
+    ghost played = { λ g. g.count };
+
+    fn opening(alloc: Global, game_type: GameType) -> Result<Self, AllocError> {
+        Ok(BoardGame {
+            game_type,
+            board: B::empty(alloc)?,
+            made: Vec::new(alloc),
+            from: Vec::new(alloc),
+            spare: 0,
+            count: 0,
+        })
+    }
+
+    fn reserve(&mut self, plies: u32) -> Result<(), AllocError> {
+        self.made.reserve(plies as usize)?;
+        self.from.reserve(plies as usize)?;
+        if self.spare < plies {
+            self.spare = plies;
+        }
+        Ok(())
+    }
+
+    fn game_type(&self) -> GameType {
+        self.game_type
+    }
+
+    fn plies(&self) -> u32 {
+        self.made.len() as u32
+    }
+
+    fn move_at(&self, i: u32) -> Move {
+        self.made[i as usize]
+    }
+
+    fn state(&self) -> State {
+        state_of(&self.board, self.game_type, &self.made)
+    }
+
+    fn side(&self) -> Colour {
+        side_after(self.made.len() as u32)
+    }
+
+    fn turn(&self) -> u32 {
+        turn_after(self.made.len() as u32)
+    }
+
+    fn list(&mut self, out: &mut MoveStack) {
+        list_moves(&self.board, self.game_type, &self.made, out);
+    }
+
+    fn is_legal(&mut self, m: Move) -> bool {
+        is_legal_after(&self.board, self.game_type, &self.made, m)
+    }
+
+    fn play(&mut self, m: Move) {
+        let from = make(&mut self.board, &m);
+        let _ = self.made.push(m);
+        let _ = self.from.push(from);
+        self.spare -= 1;
+        self.count = self.count.saturating_add(1);
+    }
+
+    fn undo(&mut self) {
+        if let Some(m) = self.made.pop() {
+            let from = self.from.pop().flatten();
+            unmake(&mut self.board, &m, from);
+            self.spare += 1;
+        }
+    }
+
+    fn evaluate(&mut self) -> i32 {
+        worth_after(&self.board, &self.made)
+    }
+
+    fn key(&self) -> Key {
+        key_after(&self.board, self.game_type, &self.made)
+    }
+
+    fn played(&self) -> u64 {
+        self.count
+    }
+
+    ghost on_board = { λ g. refl };
+}

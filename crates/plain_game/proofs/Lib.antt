@@ -1,4 +1,0 @@
-pub mod BackLaws
-pub mod PlyLaws
-pub mod HereLaws
-pub mod StepLaws

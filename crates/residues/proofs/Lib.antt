@@ -1,0 +1,4 @@
+pub mod Pigeons
+pub mod Spans
+pub mod Cells
+pub mod Residues

@@ -1,0 +1,5 @@
+use Rattle.residues.proofs.Residues.{law}
+use Rattle.residues.proofs.residues_are_distinct.Goals as goal
+
+pub returns : goal.returns
+returns c = law

@@ -1,0 +1,154 @@
+-- What `put` and `lift` leave, in the terms of the code's reads and writes.
+use Rattle.std.proofs.Common.{◌≡◌, ℕ, suc, zero, inl, inr, ◌*◌, ◌+◌, ◌≤◌, ◌<◌, ◌∙◌, refl, ap, sym, false, true, cond, None, Some, Option, List, [], ◌∷◌, length, subst, slice_set, Bool, arith}
+use Rattle.std.specs.List.{list_all}
+use Rattle.std.specs.Prelude.{replicate, is_none, slice_get, is_some, unwrap_or, IsNone, IsTrue}
+use Rattle.hive_model.specs.declared.places.Place.{Place}
+use Rattle.hive_model.specs.declared.places.Spot.{Spot}
+use Rattle.hive_model.specs.Places.{IsWithin}
+use Rattle.hive_model.specs.Boards.{Stacks, spot_of, is_on_top, is_top_spot, top_at, height_at, under_of, put, lift}
+use Rattle.hive_model.specs.Spots.{Spots, IsSpots, HasSpot, board_of, height_by, spots_put, is_at}
+use Rattle.hive_model.proofs.SpotLemmas.{is_board, board_has, height_is, spots_put_is, board_of-put, spots_lift_is, board_of-lift, absent_is, on_top_is, spot_is, no_spots}
+use Rattle.hive_model.proofs.GetLemmas.{get_exists}
+use Rattle.hive_model.specs.Spread.{IsNearAll, IsSpread}
+use Rattle.torus_board.specs.Grid.{IsSide, IsGrid, IsLinked}
+use Rattle.residues.specs.Residues.{cell_of}
+use Rattle.torus_board.proofs.Cells.{one_some, none_some, grid_put, linked_put, spread_put, grid_lift, linked_lift, spread_lift, empty_grid, empty_spread}
+
+-- a height is no more than the number of the pieces
+pub height_low : (s : Spots) (p : Place) → height_by s p ≤ length s
+height_low [] p = omega arith
+height_low (o ∷ s) p = at (is_at p o) (height_low s p)
+  where
+    at : (t : Bool) → height_by s p ≤ length s → cond t (1 + height_by s p) (height_by s p) ≤ suc (length s)
+    at true h = omega (arith, h)
+    at false h = omega (arith, h)
+
+none_is : (o : Option Spot) → is_some o ≡ false → o ≡ None
+none_is None e = refl
+none_is (Some t) e = let wrong : true ≡ false = e in absurd (cc)
+
+opened : (o : Option (Option Spot)) (t : Spot) → unwrap_or o None ≡ Some t → o ≡ Some (Some t)
+opened None t h = absurd (none_some _ h)
+opened (Some u) t h = ap Some h
+
+-- the whole invariant of a grid
+abbrev pub Kept : ℕ → Spots → List (Option ℕ) → List (Option ℕ) → Type 0
+Kept n s below cells = (32 ≤ n) × (n ≤ 128) × IsSpots s × IsLinked (board_of s) below × IsGrid n (board_of s) cells × IsSpread n (board_of s)
+
+module _ (n : ℕ) (s : Spots) (below cells : List (Option ℕ)) (is : Kept n s below cells) (b : Stacks) (view : board_of s ≡ b) (x : ℕ) (small : x < 28) where
+  some : 0 < n
+  some = let wide = is.0 in omega (arith, wide)
+
+  module _ (p : Place) (absent : IsNone (spot_of b x)) (within : IsWithin 9000 p) (near : IsNearAll n b p) where
+    off : spot_of (board_of s) x ≡ None
+    off = none_is _ (ap (λ c. is_some (spot_of c x)) view ∙ absent)
+
+    free : slice_get s x ≡ Some None
+    free = absent_is s is.2 x small off
+
+    made : board_of (spots_put s x p) ≡ put (board_of s) x p
+    made = board_of-put s is.2 x p free within
+
+    close : IsNearAll n (board_of s) p
+    close = subst (λ c. IsNearAll n c p) (sym view) near
+
+    -- the indices and values that the code wrote
+    module _ (k h i j : ℕ) (top : Option ℕ) (at_k : k ≡ cell_of n p) (at_i : i ≡ x) (at_j : j ≡ x) (height : h ≡ height_at (board_of s) p) (top_is : top ≡ top_at (board_of s) p) where
+      written : slice_set s j (Some (record { place = p; level = h })) ≡ spots_put s x p
+      written = (λ m. slice_set s (at_j m) (Some (record { place = p; level = height m }))) ∙ ap (λ l. slice_set s x (Some (record { place = p; level = l }))) (sym (height_is s is.2 p))
+
+      pub put_kept : Kept n (slice_set s j (Some (record { place = p; level = h }))) (slice_set below i top) (slice_set cells k (Some x))
+      put_kept =
+          subst (λ u. Kept n u (slice_set below i top) (slice_set cells k (Some x))) (sym written) (
+            is.0,
+            is.1,
+            spots_put_is s is.2 x p free within,
+            subst (λ c. IsLinked c (slice_set below i top)) (sym made) (subst (λ m. IsLinked (put (board_of s) x p) (slice_set below m top)) (sym at_i) (subst (λ t. IsLinked (put (board_of s) x p) (slice_set below x t)) (sym top_is)
+                (linked_put n some (board_of s) (is_board s is.2) x p small within off close below is.3))),
+            subst (λ c. IsGrid n c (slice_set cells k (Some x))) (sym made) (subst (λ m. IsGrid n (put (board_of s) x p) (slice_set cells m (Some x))) (sym at_k)
+                (grid_put n some (board_of s) (is_board s is.2) x p small within off close cells is.4)),
+            subst (IsSpread n) (sym made) (spread_put n some (board_of s) (is_board s is.2) x p small within off close is.5),
+          )
+
+      pub put_made : board_of (slice_set s j (Some (record { place = p; level = h }))) ≡ put b x p
+      put_made = ap board_of written ∙ made ∙ ap (λ c. put c x p) view
+
+  module _ (t : Spot) (read : spot_of (board_of s) x ≡ Some t) (top : IsTrue (is_on_top b x)) where
+    stands : HasSpot s x t.place t.level
+    stands = opened (slice_get s x) t (spot_is s is.2 x ∙ read)
+
+    top_here : height_by s t.place ≡ t.level + 1
+    top_here = on_top_is s is.2 x t stands (ap (λ c. is_on_top c x) view ∙ top)
+
+    left : board_of (slice_set s x None) ≡ lift (board_of s) x
+    left = board_of-lift s is.2 x t.place t.level stands top_here
+
+    high : height_at (board_of s) t.place ≡ t.level + 1
+    high = sym (height_is s is.2 t.place) ∙ top_here
+
+    module _ (k i j : ℕ) (o : Option ℕ) (at_k : k ≡ cell_of n t.place) (at_i : i ≡ x) (at_j : j ≡ x) (o_is : slice_get below x ≡ Some o) where
+      under : o ≡ under_of (board_of s) x
+      under = one_some _ _ (sym o_is ∙ is.3.links x small)
+
+      pub lift_kept : Kept n (slice_set s j None) (slice_set below i None) (slice_set cells k o)
+      lift_kept =
+          subst (λ m. Kept n (slice_set s m None) (slice_set below i None) (slice_set cells k o)) (sym at_j) (
+            is.0,
+            is.1,
+            spots_lift_is s is.2 x t.place t.level stands top_here,
+            subst (λ c. IsLinked c (slice_set below i None)) (sym left) (subst (λ m. IsLinked (lift (board_of s) x) (slice_set below m None)) (sym at_i)
+                (linked_lift n some (board_of s) (is_board s is.2) is.5 x t.place t.level (board_has s is.2 x t.place t.level stands) high below small is.3)),
+            subst (λ c. IsGrid n c (slice_set cells k o)) (sym left) (subst (λ m. IsGrid n (lift (board_of s) x) (slice_set cells m o)) (sym at_k) (subst (λ u. IsGrid n (lift (board_of s) x) (slice_set cells (cell_of n t.place) u)) (sym under)
+                (grid_lift n some (board_of s) (is_board s is.2) is.5 x t.place t.level (board_has s is.2 x t.place t.level stands) high cells is.4))),
+            subst (IsSpread n) (sym left) (spread_lift n some (board_of s) (is_board s is.2) is.5 x t.place t.level (board_has s is.2 x t.place t.level stands) high),
+          )
+
+      pub lift_made : board_of (slice_set s j None) ≡ lift b x
+      lift_made = ap (λ m. board_of (slice_set s m None)) at_j ∙ left ∙ ap (λ c. lift c x) view
+
+  pub some_read : spot_of (board_of s) x ≡ None → IsTrue (is_on_top b x) → ⊥
+  some_read read top =
+      let off : spot_of b x ≡ None = ap (λ c. spot_of c x) (sym view) ∙ read in
+      let wrong : false ≡ true = ap (is_top_spot b) (sym off) ∙ top in
+      cc
+
+-- The empty board
+
+side_small : (n : ℕ) → IsSide n → (32 ≤ n) × (n ≤ 128)
+side_small n (inl e) = (omega (arith, e), omega (arith, e))
+side_small n (inr (inl e)) = (omega (arith, e), omega (arith, e))
+side_small n (inr (inr e)) = (omega (arith, e), omega (arith, e))
+
+none_in : (k i x : ℕ) → slice_get (replicate {A = Option ℕ} k None) i ≡ Some (Some x) → ⊥
+none_in zero i x h = none_some _ h
+none_in (suc k) zero x h = none_some _ (one_some _ _ h)
+none_in (suc k) (suc i) x h = none_in k i x h
+
+length-replicate : (k : ℕ) → length (replicate {A = Option ℕ} k None) ≡ k
+length-replicate zero = refl
+length-replicate (suc k) = ap suc (length-replicate k)
+
+no_links : (below : List (Option ℕ)) → length below ≡ 28 → list_all is_none below ≡ true → IsLinked [] below
+no_links below many none = record {
+  many = many;
+  links = λ x small.
+      let here = get_exists below x (subst (λ m. x < m) (sym many) small) in
+      here.1 ∙ ap Some (all below x here.0 none here.1);
+}
+  where
+    all : (ys : List (Option ℕ)) (x : ℕ) (o : Option ℕ) → list_all is_none ys ≡ true → slice_get ys x ≡ Some o → o ≡ None
+    all [] x o e h = absurd (none_some _ h)
+    all (None ∷ ys) zero o e h = sym (one_some _ _ h)
+    all (None ∷ ys) (suc x) o e h = all ys x o e h
+    all ((Some y) ∷ ys) x o e h = let wrong : false ≡ true = e in absurd (cc)
+
+pub new_kept : (n : ℕ) → IsSide n → (s : Spots) → length s ≡ 28 → list_all is_none s ≡ true → board_of s ≡ [] → (below : List (Option ℕ)) → length below ≡ 28 → list_all is_none below ≡ true
+    → (cells : List (Option ℕ)) → cells ≡ replicate (n * n) None → Kept n s below cells
+new_kept n side s many none empty below long free cells clear = (
+  (side_small n side).0,
+  (side_small n side).1,
+  no_spots s none many,
+  subst (λ b. IsLinked b below) (sym empty) (no_links below long free),
+  subst (λ b. IsGrid n b cells) (sym empty) (empty_grid n cells (ap length clear ∙ length-replicate (n * n)) (λ i x h. none_in (n * n) i x (ap (λ (l : List (Option ℕ)). slice_get l i) (sym clear) ∙ h))),
+  subst (IsSpread n) (sym empty) (empty_spread n),
+)

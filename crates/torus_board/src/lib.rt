@@ -1,0 +1,234 @@
+//! A board on a wrapped grid.
+#![tactic(auto)]
+
+ghost use Rattle.std.specs.Prelude.{◌≡◌, ◌+◌, ◌*◌, ◌<◌, ◌≤◌, ℕ, pos, IsTrue, IsNone, IsSome, IfOk, IfSome, Some, None, unwrap_or, option_map, slice_get, length, []};
+ghost use Rattle.hive_model.specs.Boards.{Stacks, IsBoard, height_at, top_at, spot_of, under_of, put, lift, is_on_top};
+ghost use Rattle.hive_model.specs.Places.{IsWithin, is_place};
+ghost use Rattle.hive_model.specs.Spots.{board_of, IsSpots, is_at};
+ghost use Rattle.hive_model.specs.Spread.{IsSpread, IsNearAll};
+ghost use Rattle.residues.specs.Residues.{residue, cell_of};
+ghost use Rattle.torus_board.specs.Grid.{IsSide, IsGrid, IsLinked};
+
+use hive_model::{Board, GameBoard, Piece, Place, Spot};
+use std::alloc::{AllocError, Global};
+use std::marker::Model;
+
+/// A coordinate's residue.
+fn residue(z: i32, side: usize) -> usize
+    requires small { side ≤ 128 }
+    requires some { 0 < side }
+    ensures residue { result ≡ residue side z }
+    ensures bound { result < side }
+{
+    z.rem_euclid(side as i32) as usize
+}
+
+/// The index of a place's cell.
+fn index_in(side: usize, place: Place) -> usize
+    requires small { side ≤ 128 }
+    requires some { 0 < side }
+    ensures index { result ≡ cell_of side place }
+    ensures bound { result < side * side }
+{
+    side * residue(place.q, side) + residue(place.r, side)
+}
+
+/// The piece that a cell has.
+fn cell_in(cells: &[Option<Piece>], index: usize) -> Option<Piece>
+    requires { index < length cells.now }
+    ensures { slice_get cells.now index ≡ Some result }
+{
+    cells[index]
+}
+
+/// Where the piece stands.
+fn spot_in(spots: &[Option<Spot>; 28], piece: Piece) -> Option<Spot>
+    requires { IsSpots spots.now }
+    ensures answer { result ≡ spot_of (board_of spots.now) piece }
+    ensures board { IsBoard (board_of spots.now) }
+{
+    spots[piece.index() as usize]
+}
+
+/// What is directly below the piece.
+fn under_in(below: &[Option<Piece>; 28], piece: Piece) -> Option<Piece>
+    ensures { slice_get below.now piece ≡ Some result }
+{
+    below[piece.index() as usize]
+}
+
+/// The piece of the place's cell, and its level, where it stands on the place that was asked.
+fn highest_in(
+    spots: &[Option<Spot>; 28],
+    cells: &[Option<Piece>],
+    side: usize,
+    place: Place,
+) -> Option<(Piece, u8)>
+    requires small { side ≤ 128 }
+    requires some { 0 < side }
+    requires spots { IsSpots spots.now }
+    requires grid { IsGrid side (board_of spots.now) cells.now }
+    ensures top { option_map (λ h. h.0) result ≡ top_at (board_of spots.now) place }
+    ensures height { unwrap_or (option_map (λ h. h.1 + 1) result) 0 ≡ height_at (board_of spots.now) place }
+{
+    match cell_in(cells, index_in(side, place)) {
+        Some(piece) => match spot_in(spots, piece) {
+            Some(spot) => {
+                if place.is(spot.place) {
+                    Some((piece, spot.level))
+                } else {
+                    None
+                }
+            }
+            None => None,
+        },
+        None => None,
+    }
+}
+
+fn top_in(
+    spots: &[Option<Spot>; 28],
+    cells: &[Option<Piece>],
+    side: usize,
+    place: Place,
+) -> Option<Piece>
+    requires small { side ≤ 128 }
+    requires some { 0 < side }
+    requires spots { IsSpots spots.now }
+    requires grid { IsGrid side (board_of spots.now) cells.now }
+    ensures { result ≡ top_at (board_of spots.now) place }
+{
+    match highest_in(spots, cells, side, place) {
+        Some((piece, _)) => Some(piece),
+        None => None,
+    }
+}
+
+fn height_in(spots: &[Option<Spot>; 28], cells: &[Option<Piece>], side: usize, place: Place) -> u8
+    requires small { side ≤ 128 }
+    requires some { 0 < side }
+    requires spots { IsSpots spots.now }
+    requires grid { IsGrid side (board_of spots.now) cells.now }
+    ensures { result ≡ height_at (board_of spots.now) place }
+{
+    match highest_in(spots, cells, side, place) {
+        Some((_, level)) => level + 1,
+        None => 0,
+    }
+}
+
+/// A board of at most 28 pieces, seen as the finite map from places to the pieces there. It keeps where each piece stands and
+/// what is directly below it, and in a grid of SIDE times SIDE cells the top piece of each place, found by the residues of the
+/// place's coordinates. So every look-up is one read, and a place with the residues of another reads as empty.
+#[derive(Drop)]
+pub struct Torus<const SIDE: usize> {
+    spots: [Option<Spot>; 28],
+    below: [Option<Piece>; 28],
+    cells: Vec<Option<Piece>>,
+}
+
+impl<const SIDE: usize> Model for Torus<SIDE> {
+    ghost use Rattle.std.specs.Prelude.{◌≤◌};
+    ghost use Rattle.hive_model.specs.Boards.{Stacks};
+    ghost use Rattle.hive_model.specs.Spots.{board_of, IsSpots};
+    ghost use Rattle.hive_model.specs.Spread.{IsSpread};
+    ghost use Rattle.torus_board.specs.Grid.{IsGrid, IsLinked};
+
+    ghost Value = { Stacks };
+
+    ghost view = { λ a. board_of a.spots };
+
+    ghost invariant = { λ a. (32 ≤ SIDE) × (SIDE ≤ 128) × IsSpots a.spots
+        × IsLinked (board_of a.spots) a.below
+        × IsGrid SIDE (board_of a.spots) a.cells.items
+        × IsSpread SIDE (board_of a.spots) };
+}
+
+impl<const SIDE: usize> Board for Torus<SIDE> {
+    ghost use Rattle.hive_model.specs.Boards.{Stacks};
+
+    ghost stacks = { λ b. b };
+
+    fn top(&self, place: Place) -> Option<Piece> {
+        top_in(&self.spots, &self.cells, SIDE, place)
+    }
+
+    fn height(&self, place: Place) -> u8 {
+        height_in(&self.spots, &self.cells, SIDE, place)
+    }
+
+    fn spot(&self, piece: Piece) -> Option<Spot> {
+        spot_in(&self.spots, piece)
+    }
+
+    fn under(&self, piece: Piece) -> Option<Piece> {
+        under_in(&self.below, piece)
+    }
+}
+
+impl GameBoard for Torus<32> {
+    fn empty(alloc: Global) -> Result<Self, AllocError> {
+        Torus::new(alloc)
+    }
+
+    fn put(&mut self, piece: Piece, place: Place) {
+        self.put(piece, place);
+    }
+
+    fn lift(&mut self, piece: Piece) -> Place {
+        self.lift(piece)
+    }
+}
+
+impl<const SIDE: usize> Torus<SIDE> {
+    /// The empty board. All its memory is taken here.
+    pub fn new(alloc: Global) -> Result<Torus<SIDE>, AllocError>
+        requires { IsSide SIDE }
+        ensures { IfOk result (λ b. b ≡ []) }
+    {
+        Ok(Torus {
+            spots: [None; 28],
+            below: [None; 28],
+            cells: vec![in alloc; None; SIDE * SIDE]?,
+        })
+    }
+
+    /// Puts a piece that is not on the board on top of a place, whose coordinates are from -9000 to 9000. Every occupied place
+    /// differs from it by less than SIDE in each coordinate.
+    pub fn put(&mut self, piece: Piece, place: Place)
+        requires absent { IsNone (spot_of self.old piece) }
+        requires within { IsWithin 9000 place }
+        requires near { IsNearAll SIDE self.old place }
+        ensures { self.new ≡ put self.old piece place }
+    {
+        let level = height_in(&self.spots, &self.cells, SIDE, place);
+        let top = top_in(&self.spots, &self.cells, SIDE, place);
+        let index = index_in(SIDE, place);
+        self.cells[index] = Some(piece);
+        self.below[piece.index() as usize] = top;
+        self.spots[piece.index() as usize] = Some(Spot { place, level });
+    }
+
+    /// Takes away a piece that is on top of its place, and answers that place.
+    pub fn lift(&mut self, piece: Piece) -> Place
+        requires { IsTrue (is_on_top self.old piece) }
+        ensures lifted { self.new ≡ lift self.old piece }
+        ensures place { IfSome (spot_of self.old piece) (λ s. s.place ≡ result) }
+    {
+        match spot_in(&self.spots, piece) {
+            Some(spot) => {
+                let place = spot.place;
+                let index = index_in(SIDE, place);
+                let below = under_in(&self.below, piece);
+                self.cells[index] = below;
+                self.below[piece.index() as usize] = None;
+                self.spots[piece.index() as usize] = None;
+                place
+            }
+            None => unreachable!(),
+        }
+    }
+}
+
+#[cfg(test)]
+mod tests;
