@@ -6,7 +6,7 @@ use Rattle.hive_cli.specs.ServiceRun.{ServiceRun}
 use Rattle.hive_cli.specs.Session.{session}
 use Rattle.hive_cli.specs.Replay.{replays}
 use Rattle.hive_cli.specs.Count.{CountRun}
-use Rattle.hive_cli.specs.Run.{RunOf, Scene}
+use Rattle.hive_cli.specs.Run.{RunOf, Scene, TakesNoTime}
 use Rattle.hive_cli.specs.declared.status.Status.{Status}
 use Rattle.hive_cli.specs.declared.status.Status.TheVariants.{Usage, SpawnFault, Memory}
 use Rattle.hive_cli.specs.declared.words.Asked.{Asked}
@@ -27,10 +27,10 @@ never_spawns Replay status before after (run, time) e = subst (λ s. ServiceRun 
 never_spawns (Count plies) status before after (run, time) e = subst (λ s. CountRun plies s before.sides after.sides) e run
 
 -- memory was wanting before anything was done
-pub starved : (asked : Asked) (scene : Scene) → RunOf asked Memory scene scene
-starved Session scene = (no_memory session scene.sides, record { last = refl; readings = refl; timed = refl })
-starved Replay scene = (no_memory replays scene.sides, record { last = refl; readings = refl; timed = refl })
-starved (Count plies) scene = ((refl, λ input told. none_read input scene.sides.rest told), record { last = refl; readings = refl; timed = refl })
+pub starved : (asked : Asked) (before after : Scene) → after.sides ≡ before.sides → TakesNoTime before after → RunOf asked Memory before after
+starved Session before after same time = (subst (λ s. ServiceRun session Memory before.sides s) (sym same) (no_memory session before.sides), time)
+starved Replay before after same time = (subst (λ s. ServiceRun replays Memory before.sides s) (sym same) (no_memory replays before.sides), time)
+starved (Count plies) before after same time = (subst (λ s. CountRun plies Memory before.sides s) (sym same) (refl, λ input told. none_read input before.sides.rest told), time)
 
 some_same : {a b : Asked} → Some a ≡ Some b → a ≡ b
 some_same e = cc

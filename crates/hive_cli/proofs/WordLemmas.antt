@@ -30,6 +30,12 @@ pub some_words : (words : List (String Global)) (b : Bool) → 1 ≤ length word
 some_words [] b l (f, g) = absurd (omega arith)
 some_words (x ∷ xs) b l (f, g) = (λ t. inr (f t), λ w. elim w [ inl none ↦ absurd (cc) | inr is ↦ g is ])
 
+-- the first of some words is `count`, where the answer tells whether it is
+pub first_word : (words : List (String Global)) (word : String Global) (b : Bool) → 1 ≤ length words → word ≡ get_or words 0 word
+    → (b ≡ true → string_bytes word ≡ codes "count") → (string_bytes word ≡ codes "count" → b ≡ true) → (IsTrue b → TakeOption (map string_bytes words)) × (TakeOption (map string_bytes words) → IsTrue b)
+first_word [] word b l e f g = absurd (omega arith)
+first_word (x ∷ xs) word b l e f g = (λ t. ap string_bytes (sym e) ∙ f (true_of b t), λ is. of_true b (g (ap string_bytes e ∙ is)))
+
 -- What the words ask for is one thing
 
 no_words : {x : List ℕ} {xs : List (List ℕ)} → x ∷ xs ≡ [] → ⊥

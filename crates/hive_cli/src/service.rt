@@ -1,5 +1,6 @@
 //! A service over a source and a sink: the reply to each line is written before the next line is read.
 ghost use Rattle.std.specs.Prelude.{◌≡◌, Some, IfOk, OnOk};
+ghost use Rattle.std.specs.Thread.{IsSync};
 ghost use Rattle.io_edge.specs.Outside.{HasCause};
 ghost use Rattle.uhp_session.specs.Answers.{line_in, text_of, IsShort};
 ghost use Rattle.hive_cli.specs.Rounds.{Answers, Rounds, status_of};
@@ -32,7 +33,8 @@ pub(crate) trait LineService {
         clock: &mut C,
         timed: &mut TimedList,
     ) -> Result<Reply, AllocError>
-        requires { IsShort (line_in line) }
+        requires sync { IsSync R.row }
+        requires short { IsShort (line_in line) }
         ensures reply { IfOk result (λ r. text_of r ≡ service.reply self.old (line_in line.entry)) }
         ensures next { OnOk result (self.new ≡ service.next self.old (line_in line.entry)) }
         ensures clock { clock.new ≡ clock.old }

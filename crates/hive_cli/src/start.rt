@@ -63,16 +63,16 @@ pub fn run<R: Threads + Sync, S: Source, K: Sink, C: Clock, P: Spawner>(
     ensures clock { Never words.now UsesClock → clock.new ≡ clock.old }
     ensures spawner { Never words.now UsesSpawner → spawner.new ≡ spawner.old }
 {
-    let status = match asked_of(alloc, words) {
-        Ok(Some(asked)) => {
-            return perform::<R, S, K, C, PlainGame>(rt, alloc, asked, input, output, clock);
-        }
-        Ok(None) => Status::Usage,
-        Err(_) => Status::Memory,
-    };
-    Outcome {
-        status,
-        timed: TimedList::new(alloc),
+    match asked_of(alloc, words) {
+        Ok(Some(asked)) => perform::<R, S, K, C, PlainGame>(rt, alloc, asked, input, output, clock),
+        Ok(None) => Outcome {
+            status: Status::Usage,
+            timed: TimedList::new(alloc),
+        },
+        Err(_) => Outcome {
+            status: Status::Memory,
+            timed: TimedList::new(alloc),
+        },
     }
 }
 
