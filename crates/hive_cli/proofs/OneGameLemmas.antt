@@ -7,6 +7,7 @@ use Rattle.hive_model.specs.Courses.{Course}
 use Rattle.hive_model.specs.Lines.{Line, Text, TooLong as LongLine, lines}
 use Rattle.line_feed.specs.Feed.{Reading, Ends, Gives, Holds, HoldsLittle, input_limit, fresh}
 use Rattle.line_feed.specs.SoFar.{Fed}
+use Rattle.line_feed.proofs.AheadLemmas.{lines-nil}
 use Rattle.line_feed.proofs.FedLemmas.{fed_begin, fed_end, fed_held, fed_line, fed_prefix}
 use Rattle.game_text.specs.declared.parsed.Parsed.{Parsed}
 use Rattle.game_text.specs.Reading.{game_of}
@@ -54,7 +55,7 @@ all_were_read {input} {rest} all =
       record {
         was_read = record { split = sym (append-nil input); told = all.at_end };
         within = omega (arith, below);
-        of_bytes = sym (append-nil (lines input));
+        of_bytes = sym (append-nil (lines input)) ∙ ap (λ ls. lines input ++ ls) (sym lines-nil);
         little = fresh_holds_little;
         of_input = sym (append-nil (lines input));
       },

@@ -1,5 +1,5 @@
 -- How a run ends, by what is asked for.
-use Rattle.std.proofs.Common.{◌≡◌, ◌×◌, ◌∙◌, ap, sym, refl, subst, None, Some}
+use Rattle.std.proofs.Common.{◌≡◌, sym, refl, subst, Some}
 use Rattle.hive_cli.specs.Input.{Sides}
 use Rattle.hive_cli.specs.Service.{Service}
 use Rattle.hive_cli.specs.ServiceRun.{ServiceRun}

@@ -63,15 +63,24 @@ pub fn run<R: Threads + Sync, S: Source, K: Sink, C: Clock, P: Spawner>(
     ensures clock { Never words.now UsesClock → clock.new ≡ clock.old }
     ensures spawner { Never words.now UsesSpawner → spawner.new ≡ spawner.old }
 {
+    let timed = TimedList::new(alloc);
     match asked_of(alloc, words) {
-        Ok(Some(asked)) => perform::<R, S, K, C, PlainGame>(rt, alloc, asked, input, output, clock),
+        Ok(Some(asked)) => perform::<R, S, K, C, PlainGame>(
+            rt,
+            alloc,
+            asked,
+            input,
+            output,
+            clock,
+            timed,
+        ),
         Ok(None) => Outcome {
             status: Status::Usage,
-            timed: TimedList::new(alloc),
+            timed,
         },
         Err(_) => Outcome {
             status: Status::Memory,
-            timed: TimedList::new(alloc),
+            timed,
         },
     }
 }
@@ -84,8 +93,10 @@ fn perform<R: Threads + Sync, S: Source, K: Sink, C: Clock, G: Game + Drop>(
     input: &mut S,
     output: &mut K,
     clock: &mut C,
+    mut timed: TimedList,
 ) -> Outcome
-    requires { IsInRange asked }
+    requires range { IsInRange asked }
+    requires none { timed ≡ [] }
     ensures does { RunOf asked result.status
         (record { sides = record { rest = S.rest input.old; written = K.written output.old };
             last = C.last clock.old; readings = C.readings clock.old; timed = [] })
@@ -95,7 +106,6 @@ fn perform<R: Threads + Sync, S: Source, K: Sink, C: Clock, G: Game + Drop>(
     ensures writes { HasCause (result.status ≡ Status.WriteFault) (K.write_faults output.old) (K.write_faults output.new) }
     ensures clock { clock.new ≡ clock.old }
 {
-    let mut timed = TimedList::new(alloc);
     let status = match asked {
         Asked::Session => {
             let mut session: Session<G> = Session::new();
