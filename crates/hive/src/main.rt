@@ -3,6 +3,10 @@
 //! It ends with the number of the status of its run. Where the run could not be done, one line on standard error says why.
 #![tactic(auto)]
 
+ghost use Rattle.std.specs.Prelude.{◌≡◌, ◌≢◌, ◌⊎◌, drop, map, option_map, string_bytes};
+ghost use Rattle.hive_cli.specs.Words.{AreOfNoCommand, TakeOption};
+ghost use Rattle.hive.specs.Complaints.{complaint};
+
 mod engines;
 mod machine_clock;
 mod programs;
@@ -21,31 +25,42 @@ use std::{env, io};
 use streams::{InputStream, OutputStream};
 
 /// The status of a run whose words cannot be had: memory is wanting, or a word is not UTF-8.
-fn status_of(error: io::Error) -> Status {
-    match error.kind() {
+fn status_of(kind: io::ErrorKind) -> Status
+    ensures memory { kind ≡ io.ErrorKind.OutOfMemory → result ≡ Status.Memory }
+    ensures usage { kind ≢ io.ErrorKind.OutOfMemory → result ≡ Status.Usage }
+{
+    match kind {
         io::ErrorKind::OutOfMemory => Status::Memory,
         _ => Status::Usage,
     }
 }
 
+/// The words of the command line but for the first, which is the program's name.
+fn without_name(mut words: Vec<String>) -> Vec<String>
+    ensures { result.items ≡ drop 1 words.items }
+{
+    if !words.is_empty() {
+        words.remove(0);
+    }
+    words
+}
+
 /// The words of the command line after the program's name, or the status of a run that cannot have them.
 fn words<R: Env + AllocGlobal>(rt: &R) -> Result<Vec<String>, Status> {
-    let mut all = env::args(rt).map_err(status_of)?;
-    let _ = all.next();
-    let mut words = Vec::new(rt.alloc());
-    for word in all {
-        if words.push(word).is_err() {
-            return Err(Status::Memory);
-        }
-    }
-    Ok(words)
+    let all = env::args(rt).map_err(|error| status_of(error.kind()))?;
+    let words = all.collect(rt.alloc()).map_err(|_| Status::Memory)?;
+    Ok(without_name(words))
 }
 
 /// Runs over standard input and output, with no engine to start.
 fn run_on_streams<R: Input + Print + AllocGlobal + Threads + Sync>(
     rt: &R,
     words: &[String],
-) -> Status {
+) -> Status
+    ensures usage { result ≡ Status.Usage → AreOfNoCommand words.now }
+    ensures refused { AreOfNoCommand words.now → (result ≡ Status.Usage) ⊎ (result ≡ Status.Memory) }
+    ensures exact { AreOfNoCommand words.now → ¬ TakeOption (map string_bytes words.now) → result ≡ Status.Usage }
+{
     let mut input = InputStream::new(rt.reader());
     let mut output = OutputStream::new(io::writer(rt));
     let mut clock = StepClock::new(0, 1);
@@ -63,7 +78,9 @@ fn run_on_streams<R: Input + Print + AllocGlobal + Threads + Sync>(
 }
 
 /// Why a run could not be done, for standard error.
-fn complaint(status: Status) -> Option<&'static str> {
+fn complaint(status: Status) -> Option<&'static str>
+    ensures { option_map (λ text. text.now) result ≡ complaint status }
+{
     match status {
         Status::Usage => Some("hive: wrong command line"),
         Status::ReadFault => Some("hive: input failed"),

@@ -9,7 +9,7 @@ use Rattle.hive_model.specs.Minimax.{lines as lines_of_play}
 use Rattle.hive_model.specs.Positions.{Position, opening}
 use Rattle.hive_model.specs.Games.{replay}
 use Rattle.game_text.specs.declared.parsed.Parsed.{Parsed}
-use Rattle.hive_cli.specs.Session.{Sides, WhereTold}
+use Rattle.hive_cli.specs.Input.{Sides, WhereTold}
 use Rattle.hive_cli.specs.OneGame.{IsAsked, and_no_more, asked, last_position, game_in}
 use Rattle.hive_cli.specs.Asking.{IsReplayOf, IsNoGame}
 use Rattle.hive_cli.specs.Count.{CountRun, WritesAs, TellsNone, count_line, count_line_of, count_text}
@@ -18,7 +18,7 @@ use Rattle.hive_cli.specs.declared.status.Status.TheVariants.{Done, BadInput, Me
 use Rattle.hive_cli.specs.declared.no_game.NoGame.{NoGame}
 use Rattle.hive_cli.specs.declared.no_game.NoGame.TheVariants.{Bad, ReadFault as NoRead, InputFull as TooMuch, Memory as NoMemory}
 use Rattle.hive_cli.proofs.OneGameLemmas.{all_were_read}
-use Rattle.hive_cli.proofs.Progress.{on_written}
+use Rattle.hive_cli.proofs.ReplyLemmas.{on_written}
 
 -- The lines
 

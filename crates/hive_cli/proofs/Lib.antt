@@ -2,6 +2,7 @@ pub mod WordLemmas
 pub mod ReadLemmas
 pub mod ReplyLemmas
 pub mod Progress
-pub mod ReplayProgress
+pub mod DoneLaws
 pub mod OneGameLemmas
 pub mod CountLemmas
+pub mod RunLemmas

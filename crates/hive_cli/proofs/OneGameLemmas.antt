@@ -1,21 +1,22 @@
 -- What was read of an input that is to be one game.
-use Rattle.std.proofs.Common.{◌≡◌, ◌≤◌, ℕ, List, [], ◌∷◌, ◌++◌, length, refl, ap, sym, ◌∙◌, subst, inl, inr, codes, Some, IfOk, IfErr, MatchResult, arith}
+use Rattle.std.proofs.Common.{◌≡◌, ◌<◌, ◌≤◌, ℕ, List, [], ◌∷◌, ◌++◌, length, refl, ap, sym, ◌∙◌, subst, inl, inr, codes, Some, IfOk, IfErr, MatchResult, arith}
 use Rattle.std.specs.Prelude.{Result, Ok, Err}
 use Rattle.std.proofs.lemmas.List.{append-nil}
 use Rattle.io_edge.specs.Outside.{Told}
 use Rattle.hive_model.specs.Courses.{Course}
 use Rattle.hive_model.specs.Lines.{Line, Text, TooLong as LongLine, lines}
-use Rattle.line_feed.specs.Feed.{Reading, Ends, Gives, Holds, input_limit, fresh}
+use Rattle.line_feed.specs.Feed.{Reading, Ends, Gives, Holds, HoldsLittle, input_limit, fresh}
 use Rattle.line_feed.specs.SoFar.{Fed}
+use Rattle.line_feed.proofs.AheadLemmas.{lines-nil}
 use Rattle.line_feed.proofs.FedLemmas.{fed_begin, fed_end, fed_held, fed_line, fed_prefix}
 use Rattle.game_text.specs.declared.parsed.Parsed.{Parsed}
 use Rattle.game_text.specs.Reading.{game_of}
-use Rattle.hive_cli.specs.Session.{IsAllRead, WereRead, WhereTold}
+use Rattle.hive_cli.specs.Input.{IsAllRead, WereRead, WhereTold}
 use Rattle.hive_cli.specs.OneGame.{AreUndecided, FewWereRead, IsAsked, IsBad, IsUndecided, and_no_more, asked, game_in, open_game}
 use Rattle.hive_cli.specs.Asking.{GivesGame, GivesNone, GoesOn, IsReplayOf, IsNoGame, Lacks, Resumes, Says, WereTaken}
 use Rattle.hive_cli.specs.declared.no_game.NoGame.{NoGame}
 use Rattle.hive_cli.specs.declared.no_game.NoGame.TheVariants.{Bad, ReadFault, InputFull, Memory}
-use Rattle.hive_cli.proofs.ReadLemmas.{all_is_read, given_were_read}
+use Rattle.hive_cli.proofs.ReadLemmas.{all_is_read, fresh_holds_little, given_were_read}
 
 -- A line
 
@@ -45,39 +46,42 @@ long_given Memory gives any = inl (LongLine, gives)
 
 -- all lines of an input that was read to its end were read
 pub all_were_read : {input : List ℕ} {rest : Told} → IsAllRead input rest → WereRead input rest (lines input)
-all_were_read {input} {rest} all = (
-  input,
-  [],
-  [],
-  [],
-  record {
-    was_read = record { split = sym (append-nil input); told = all.at_end };
-    of_bytes = sym (append-nil (lines input));
-    of_input = sym (append-nil (lines input));
-  },
-)
+all_were_read {input} {rest} all =
+    let below = all.below in (
+      input,
+      [],
+      fresh,
+      [],
+      record {
+        was_read = record { split = sym (append-nil input); told = all.at_end };
+        within = omega (arith, below);
+        of_bytes = sym (append-nil (lines input)) ∙ ap (λ ls. lines input ++ ls) (sym lines-nil);
+        little = fresh_holds_little;
+        of_input = sym (append-nil (lines input));
+      },
+    )
 
 -- the first line
 fed_first : {r0 r1 : Told} {old new : Reading} {bytes : List ℕ} {line : Line} → old ≡ fresh → WereTaken bytes old new r0 r1 → Gives old bytes line new r1 → Fed r0 r1 new bytes (line ∷ [])
 fed_first {r0} {r1} {old} {new} {bytes} {line} is taken gives = fed_line (fed_begin r0 old is) taken.takes gives
 
-is_bad : {r0 r1 : Told} {new : Reading} {bytes : List ℕ} {given : List Line} (input why : List ℕ) → Fed r0 r1 new bytes given → new.taken ≤ input_limit → r0 ≡ Some input
+is_bad : {r0 r1 : Told} {new : Reading} {bytes : List ℕ} {given : List Line} (input why : List ℕ) → Fed r0 r1 new bytes given → new.taken ≤ input_limit → HoldsLittle new → r0 ≡ Some input
     → ((others : List Line) → asked (given ++ others) ≡ Err why) → length given ≤ 2 → IsBad input r1 why
-is_bad {given = given} input why fed within e shown few =
+is_bad {given = given} input why fed within little e shown few =
     let (others, p) = fed_prefix input fed e in record {
       asks = ap asked p ∙ shown others;
       read = given;
-      were_read = given_were_read input fed e within;
+      were_read = given_were_read input fed e within little;
       shown = ap asked (sym (append-nil given)) ∙ shown [];
       few = few;
     }
 
-few_read : {r0 r1 : Told} {new : Reading} {bytes : List ℕ} {given : List Line} (input : List ℕ) → Fed r0 r1 new bytes given → new.taken ≤ input_limit → r0 ≡ Some input → length given ≤ 2 → FewWereRead input r1
-few_read {given = given} input fed within e few = (given, given_were_read input fed e within, few)
+few_read : {r0 r1 : Told} {new : Reading} {bytes : List ℕ} {given : List Line} (input : List ℕ) → Fed r0 r1 new bytes given → new.taken ≤ input_limit → HoldsLittle new → r0 ≡ Some input → length given ≤ 2 → FewWereRead input r1
+few_read {given = given} input fed within little e few = (given, given_were_read input fed e within little, few)
 
 -- nothing was read
 pub none_read : (input : List ℕ) (rest : Told) → rest ≡ Some input → FewWereRead input rest
-none_read input rest e = few_read input (fed_begin rest fresh refl) (omega arith) e (omega arith)
+none_read input rest e = few_read input (fed_begin rest fresh refl) (omega arith) fresh_holds_little e (omega arith)
 
 held_open : {r0 r1 r2 : Told} {old new : Reading} {bytes b1 : List ℕ} {given : List Line} (input : List ℕ) → Fed r0 r1 old bytes given → WereTaken b1 old new r1 r2 → Holds old b1 new → r0 ≡ Some input → AreUndecided given
     → (read : List ℕ) × (left : List ℕ) × (new.taken ≡ length read) × IsUndecided input r2 read left
@@ -92,7 +96,7 @@ held_open {bytes = bytes} {b1} input fed taken holds e open_ =
 -- no line was given before
 pub no_game_first : {r0 r1 : Told} {old new : Reading} {bytes : List ℕ} (e : NoGame) → old ≡ fresh → WereTaken bytes old new r0 r1 → GivesNone e bytes old new r1 → WhereTold r0 (λ input. IsNoGame e input r1)
 no_game_first {r0} {r1} {old} {new} {bytes} (Bad text) is taken none = λ input told. elim none [
-  | inl (why, (line, gives, other), says) ↦ (why, is_bad input why (fed_first is taken gives) taken.within told (λ others. ap (λ r. and_no_more r others) other) (omega arith), says)
+  | inl (why, (line, gives, other), says) ↦ (why, is_bad input why (fed_first is taken gives) taken.within taken.little told (λ others. ap (λ r. and_no_more r others) other) (omega arith), says)
   | inr (ends, says) ↦
       let fed = fed_begin r0 old is in
       let (all, below) = fed_end input fed taken.takes ends told in
@@ -108,12 +112,12 @@ no_game_first {r0} {r1} {old} {new} {bytes} (Bad text) is taken none = λ input 
         says,
       )
 ]
-no_game_first {r0} {r1} {old} ReadFault is taken holds = λ input told.
-    let (read, left, count, open_) = held_open input (fed_begin r0 old is) taken holds told tt in (read, left, open_)
+no_game_first {r0} {r1} {old} ReadFault is taken (holds, below) = λ input told.
+    let (read, left, count, open_) = held_open input (fed_begin r0 old is) taken holds told tt in (read, left, subst (λ n. n < input_limit) count below, open_)
 no_game_first {r0} {r1} {old} InputFull is taken (holds, full) = λ input told.
     let (read, left, count, open_) = held_open input (fed_begin r0 old is) taken holds told tt in (read, left, sym count ∙ full, open_)
 no_game_first {r0} {r1} {old} Memory is taken none = λ input told. elim none [
-  | inl (line, gives) ↦ few_read input (fed_first is taken gives) taken.within told (omega arith)
+  | inl (line, gives) ↦ few_read input (fed_first is taken gives) taken.within taken.little told (omega arith)
   | inr ends ↦
       let fed = fed_begin r0 old is in
       let (all, below) = fed_end input fed taken.takes ends told in
@@ -125,15 +129,15 @@ pub no_game_after : {r0 r1 r2 : Told} {old mid new : Reading} {b1 b2 : List ℕ}
     → GoesOn e b2 mid new r2 → WhereTold r0 (λ input. IsNoGame e input r2)
 no_game_after (Bad text) is taken (line, gives, (game, plays, replay_of)) more ((line2, gives2), says) = λ input told. (
   codes "more lines",
-  is_bad input (codes "more lines") (fed_line (fed_first is taken gives) more.takes gives2) more.within told (λ others. ap (λ r. and_no_more r (line2 ∷ others)) plays) (omega arith),
+  is_bad input (codes "more lines") (fed_line (fed_first is taken gives) more.takes gives2) more.within more.little told (λ others. ap (λ r. and_no_more r (line2 ∷ others)) plays) (omega arith),
   says,
 )
-no_game_after ReadFault is taken (line, gives, (game, plays, replay_of)) more holds = λ input told.
-    let (read, left, count, open_) = held_open input (fed_first is taken gives) more holds told (game, plays) in (read, left, open_)
+no_game_after ReadFault is taken (line, gives, (game, plays, replay_of)) more (holds, below) = λ input told.
+    let (read, left, count, open_) = held_open input (fed_first is taken gives) more holds told (game, plays) in (read, left, subst (λ n. n < input_limit) count below, open_)
 no_game_after InputFull is taken (line, gives, (game, plays, replay_of)) more (holds, full) = λ input told.
     let (read, left, count, open_) = held_open input (fed_first is taken gives) more holds told (game, plays) in (read, left, sym count ∙ full, open_)
 no_game_after Memory is taken (line, gives, (game, plays, replay_of)) more (line2, gives2) = λ input told.
-    few_read input (fed_line (fed_first is taken gives) more.takes gives2) more.within told (omega arith)
+    few_read input (fed_line (fed_first is taken gives) more.takes gives2) more.within more.little told (omega arith)
 
 -- the input ended after a game
 pub game_alone : {r0 r1 r2 : Told} {old mid new : Reading} {b1 b2 : List ℕ} {course : Course} → old ≡ fresh → WereTaken b1 old mid r0 r1 → GivesGame course b1 old mid r1 → WereTaken b2 mid new r1 r2 → Ends mid b2 new r2

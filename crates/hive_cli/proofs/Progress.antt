@@ -1,195 +1,202 @@
--- What was written for the lines given so far, and how the run ends.
-use Rattle.std.proofs.Common.{◌≡◌, ◌<◌, ◌-◌, ℕ, List, [], ◌∷◌, ◌++◌, length, take, refl, ap, sym, ◌∙◌, append_assoc, arith, None, Some, inl, inr, subst}
+-- What a service wrote for the lines given so far, and how its run ends.
+use Rattle.std.proofs.Common.{◌≡◌, ◌<◌, ◌-◌, ℕ, Bool, true, false, List, [], ◌∷◌, ◌++◌, length, take, refl, ap, sym, ◌∙◌, append_assoc, arith, None, Some, inl, inr, subst}
 use Rattle.std.proofs.lemmas.List.{append-nil}
 use Rattle.std.proofs.Math.Seq.{take-append_seam}
 use Rattle.io_edge.specs.Outside.{Told, behind}
-use Rattle.io_edge.proofs.Told.{behind-behind}
 use Rattle.hive_model.specs.Lines.{Line, lines, whole_lines}
 use Rattle.line_feed.specs.Feed.{Holds, Takes, input_limit, settled, fresh as new_reading}
 use Rattle.line_feed.specs.SoFar.{Fed}
 use Rattle.line_feed.proofs.FedLemmas.{fed_begin, fed_end, fed_held, fed_line, fed_prefix}
-use Rattle.uhp_session.specs.Answers.{fresh}
-use Rattle.hive_cli.specs.Output.{HasExit, greeting, joined, replies, texts}
-use Rattle.hive_cli.specs.Rounds.{Rounds, Standing}
-use Rattle.hive_cli.specs.Session.{SessionRun, Sides, WroteAll, WroteFront, WroteTexts, WroteWhole}
+use Rattle.hive_cli.specs.Input.{Sides}
+use Rattle.hive_cli.specs.Service.{HasExit, Service, joined, last_of, output, replies, texts}
+use Rattle.hive_cli.specs.ServiceRun.{RunsToEnd, ServiceRun, WroteAll, WroteFront, WroteTexts, WroteWhole}
+use Rattle.hive_cli.specs.Rounds.{Rounds, Standing, status_of}
 use Rattle.hive_cli.specs.declared.status.Status.{Status}
-use Rattle.hive_cli.specs.declared.status.Status.TheVariants.{Done, Refused, Usage, ReadFault, WriteFault, SpawnFault, BadInput, Memory, InputFull}
+use Rattle.hive_cli.specs.declared.status.Status.TheVariants.{WriteFault, Memory}
+use Rattle.hive_cli.specs.declared.service.Stop.{Stop}
+use Rattle.hive_cli.specs.declared.service.Stop.TheVariants.{Over, ReadFailed, Full, WriteFailed, NoMemory}
 use Rattle.hive_cli.proofs.ReadLemmas.{all_is_read, given_were_read, none_were_read}
-use Rattle.hive_cli.proofs.ReplyLemmas.{Replied, joined-append, replied_begin, replied_exit, replied_exit_all, replied_on, replied_open, replied_texts}
+use Rattle.hive_cli.proofs.ReplyLemmas.{Replied, behind_none, joined-append, on_written, replied_begin, replied_exit, replied_exit_all, replied_exit_last, replied_last, replied_on, replied_open, replied_texts}
 
--- Since the run began, these bytes were read, which gave these lines, and the greeting and these replies to the lines were written.
-pub record Runs (before : Sides) (now : Standing) (bytes : List ℕ) (given : List Line) (written : List (List ℕ)) : Type 0 where
-  pub fed : Fed before.rest now.rest now.reader bytes given
-  pub replied : Replied fresh now.session given written
-  pub wrote : now.written ≡ behind before.written (joined (greeting ∷ written))
+-- Since the run began, these bytes were read, which gave these lines, and the preface and these replies to the lines were written.
+pub record Runs {S : Type 0} (v : Service S) (before : Sides) (now : Standing S) (bytes : List ℕ) (given : List Line) (written : List (List ℕ)) : Type 0 where
+  pub fed : Fed before.rest now.sides.rest now.reader bytes given
+  pub replied : Replied v v.begins now.state given written
+  pub wrote : now.sides.written ≡ behind before.written (joined (v.preface ∷ written))
 
-abbrev pub Run : Sides → Standing → Type 0
-Run before now = (bytes : List ℕ) × (given : List Line) × (written : List (List ℕ)) × Runs before now bytes given written
+abbrev pub Run : {S : Type 0} → Service S → Sides → Standing S → Type 0
+Run v before now = (bytes : List ℕ) × (given : List Line) × (written : List (List ℕ)) × Runs v before now bytes given written
 
-abbrev pub sides_of : Standing → Sides
-sides_of s = record { rest = s.rest; written = s.written }
-
--- the greeting was written, and nothing read
-pub run_begin : (r w0 : Told) (now : Standing) → now.rest ≡ r → now.reader ≡ new_reading → now.session ≡ fresh → now.written ≡ behind w0 greeting → Run (record { rest = r; written = w0 }) now
-run_begin r w0 now rest reader session wrote = (
+-- the preface was written, and nothing read
+pub run_begin : {S : Type 0} (v : Service S) (before : Sides) (now : Standing S) (text : List ℕ) → now.sides.rest ≡ before.rest → now.reader ≡ new_reading → now.state ≡ v.begins → text ≡ v.preface
+    → now.sides.written ≡ behind before.written text → Run v before now
+run_begin v before now text rest reader state is wrote = (
   [],
   [],
   [],
   record {
-    fed = rw rest (fed_begin r now.reader reader);
-    replied = rw session (replied_begin fresh);
-    wrote = wrote ∙ ap (behind w0) (sym (append-nil greeting));
+    fed = rw rest (fed_begin before.rest now.reader reader);
+    replied = rw state (replied_begin v v.begins);
+    wrote = wrote ∙ ap (behind before.written) (is ∙ sym (append-nil v.preface));
   },
 )
 
--- nothing was written
-pub behind_none : (w : Told) → w ≡ behind w []
-behind_none None = refl
-behind_none (Some w) = ap Some (sym (append-nil w))
-
--- more was written
-pub on_written : (w0 w w2 : Told) (front text : List ℕ) → w ≡ behind w0 front → w2 ≡ behind w text → w2 ≡ behind w0 (front ++ text)
-on_written w0 w w2 front text e f = f ∙ (ap (λ z. behind z text) e ∙ behind-behind w0 front text)
-
 -- a line was answered
-pub run_on : {before : Sides} {old new : Standing} → Run before old → Rounds None old new → Run before new
-run_on {before} {old} {new} (bytes, given, written, run) (b1, round) = elim round.does [
+pub run_on : {S : Type 0} {v : Service S} {before : Sides} {old new : Standing S} → Run v before old → Rounds v None old new → Run v before new
+run_on {S} {v} {before} {old} {new} (bytes, given, written, run) (b1, round) = elim round.does [
   | inl (line, gives, (text, is, moves, appends)) ↦ (
     bytes ++ b1,
     given ++ line ∷ [],
     written ++ text ∷ [],
     record {
       fed = fed_line run.fed round.takes gives;
-      replied = rw moves (replied_on fresh old.session given written line text run.replied is);
+      replied = rw moves (replied_on v v.begins old.state given written line text run.replied is);
       wrote =
-          on_written before.written old.written new.written (joined (greeting ∷ written)) text run.wrote appends
-          ∙ ap (behind before.written) (sym (joined-append (greeting ∷ written) (text ∷ []) ∙ ap (λ x. joined (greeting ∷ written) ++ x) (append-nil text)));
+          on_written before.written old.sides.written new.sides.written (joined (v.preface ∷ written)) text run.wrote appends
+          ∙ ap (behind before.written) (sym (joined-append (v.preface ∷ written) (text ∷ []) ∙ ap (λ x. joined (v.preface ∷ written) ++ x) (append-nil text)));
     },
   )
-  | inr (stops, same) ↦ absurd stops
+  | inr rests ↦ absurd rests.stops
 ]
 
 -- the bytes that were settled are more
-pub run_moves : {old new : Standing} → Rounds None old new → input_limit - settled new.reader < input_limit - settled old.reader
-run_moves {old} {new} (b1, round) = elim round.does [
+pub run_moves : {S : Type 0} {v : Service S} {old new : Standing S} → Rounds v None old new → input_limit - settled new.reader < input_limit - settled old.reader
+run_moves {S} {v} {old} {new} (b1, round) = elim round.does [
   | inl (line, gives, answers) ↦ let m = gives.moves_on in let h = round.within in omega arith
-  | inr (stops, same) ↦ absurd stops
+  | inr rests ↦ absurd rests.stops
 ]
 
-ends_done : {before : Sides} {old new : Standing} → Run before old → Rounds (Some Done) old new → (input : List ℕ) → before.rest ≡ Some input → WroteAll input before (sides_of new)
-ends_done {before} {old} {new} (bytes, given, written, run) (b1, round) input e = elim round.does [
-  | inl (line, gives, (exit, same)) ↦
+-- the line that was given ends the run
+exits_at : {S : Type 0} {v : Service S} {before : Sides} {old new : Standing S} → Run v before old → Rounds v (Some Over) old new → (input : List ℕ) → before.rest ≡ Some input → WroteAll v input before new.sides new.state
+exits_at {S} {v} {before} {old} {new} (bytes, given, written, run) (b1, round) input e = elim round.does [
+  | inl (line, gives, (exit, moves, same)) ↦
       let fed = fed_line run.fed round.takes gives in
       let (others, p) = fed_prefix input fed e in
-      let all : replies fresh (lines input) ≡ written = ap (replies fresh) (p ∙ append_assoc given (line ∷ []) others) ∙ replied_exit_all line others run.replied exit in
+      let is : lines input ≡ given ++ (line ∷ others) = p ∙ append_assoc given (line ∷ []) others in
+      let all : replies v v.begins (lines input) ≡ written = ap (replies v v.begins) is ∙ replied_exit_all line others run.replied exit in
       record {
-        wrote = same ∙ (run.wrote ∙ ap (λ ts. behind before.written (joined (greeting ∷ ts))) (sym all));
-        over = inr (given ++ line ∷ [], given_were_read input fed e round.within, replied_exit line run.replied exit);
+        wrote = same ∙ (run.wrote ∙ ap (λ ts. behind before.written (joined (v.preface ∷ ts))) (sym all));
+        stands = ap (last_of v v.begins) is ∙ (replied_exit_last line others run.replied exit ∙ sym moves);
+        over = inr (given ++ line ∷ [], given_were_read input fed e round.within round.little, replied_exit line run.replied exit);
       }
-  | inr (ends, same) ↦
-      let (all, below) = fed_end input run.fed round.takes ends e in
-      let told : replies fresh (lines input) ≡ written = ap (replies fresh) all ∙ replied_texts run.replied in
+  | inr rests ↦
+      let (all, below) = fed_end input run.fed round.takes rests.stops e in
+      let told : replies v v.begins (lines input) ≡ written = ap (replies v v.begins) all ∙ replied_texts run.replied in
       record {
-        wrote = same ∙ (run.wrote ∙ ap (λ ts. behind before.written (joined (greeting ∷ ts))) (sym told));
-        over = inl (all_is_read input run.fed round.takes ends e);
+        wrote = rests.same ∙ (run.wrote ∙ ap (λ ts. behind before.written (joined (v.preface ∷ ts))) (sym told));
+        stands = ap (last_of v v.begins) all ∙ (replied_last run.replied ∙ sym rests.stands);
+        over = inl (all_is_read input run.fed round.takes rests.stops e);
       }
 ]
 
-held : {before : Sides} {old : Standing} (new : Standing) {bytes b1 : List ℕ} {given : List Line} {written : List (List ℕ)} (input : List ℕ) → Runs before old bytes given written
-    → Takes old.rest new.rest old.reader.taken new.reader.taken b1 → Holds old.reader b1 new.reader → new.written ≡ old.written → before.rest ≡ Some input
-    → (read : List ℕ) × (left : List ℕ) × (new.reader.taken ≡ length read) × WroteWhole input before (sides_of new) read left
-held {before} {old} new {bytes} {b1} {given} {written} input run takes holds same e =
+held : {S : Type 0} {v : Service S} {before : Sides} {old : Standing S} (new : Standing S) {bytes b1 : List ℕ} {given : List Line} {written : List (List ℕ)} (input : List ℕ) → Runs v before old bytes given written
+    → Takes old.sides.rest new.sides.rest old.reader.taken new.reader.taken b1 → Holds old.reader b1 new.reader → new.sides.written ≡ old.sides.written → before.rest ≡ Some input
+    → (read : List ℕ) × (left : List ℕ) × (new.reader.taken ≡ length read) × WroteWhole v input before new.sides read left
+held {S} {v} {before} {old} new {bytes} {b1} {given} {written} input run takes holds same e =
     let (left, read, all, count) = fed_held input run.fed takes holds e in
-    let told : replies fresh (whole_lines (bytes ++ b1)) ≡ written = ap (replies fresh) all ∙ replied_texts run.replied in (
+    let told : replies v v.begins (whole_lines (bytes ++ b1)) ≡ written = ap (replies v v.begins) all ∙ replied_texts run.replied in (
       bytes ++ b1,
       left,
       count,
       record {
         was_read = read;
-        goes_on = subst (λ ls. ¬ HasExit fresh ls) (sym all) (replied_open run.replied);
-        wrote = same ∙ (run.wrote ∙ ap (λ ts. behind before.written (joined (greeting ∷ ts))) (sym told));
+        goes_on = subst (λ ls. ¬ HasExit v v.begins ls) (sym all) (replied_open run.replied);
+        wrote = same ∙ (run.wrote ∙ ap (λ ts. behind before.written (joined (v.preface ∷ ts))) (sym told));
       },
     )
 
-ends_read_fault : {before : Sides} {old new : Standing} → Run before old → Rounds (Some ReadFault) old new → (input : List ℕ) → before.rest ≡ Some input → (bytes : List ℕ) × (left : List ℕ) × WroteWhole input before (sides_of new) bytes left
-ends_read_fault {before} {old} {new} (bytes, given, written, run) (b1, round) input e = elim round.does [
+ends_read_fault : {S : Type 0} {v : Service S} {before : Sides} {old new : Standing S} → Run v before old → Rounds v (Some ReadFailed) old new → (input : List ℕ) → before.rest ≡ Some input
+    → (bytes : List ℕ) × (left : List ℕ) × (length bytes < input_limit) × WroteWhole v input before new.sides bytes left
+ends_read_fault {S} {v} {before} {old} {new} (bytes, given, written, run) (b1, round) input e = elim round.does [
   | inl (line, gives, never) ↦ absurd never
-  | inr (holds, same) ↦ let (read, left, count, wrote) = held new input run round.takes holds same e in (read, left, wrote)
+  | inr rests ↦
+      let (holds, below) = rests.stops in
+      let (read, left, count, wrote) = held new input run round.takes holds rests.same e in (read, left, subst (λ n. n < input_limit) count below, wrote)
 ]
 
-ends_full : {before : Sides} {old new : Standing} → Run before old → Rounds (Some InputFull) old new → (input : List ℕ) → before.rest ≡ Some input
-    → (bytes : List ℕ) × (left : List ℕ) × (length bytes ≡ input_limit) × WroteWhole input before (sides_of new) bytes left
-ends_full {before} {old} {new} (bytes, given, written, run) (b1, round) input e = elim round.does [
+ends_full : {S : Type 0} {v : Service S} {before : Sides} {old new : Standing S} → Run v before old → Rounds v (Some Full) old new → (input : List ℕ) → before.rest ≡ Some input
+    → (bytes : List ℕ) × (left : List ℕ) × (length bytes ≡ input_limit) × WroteWhole v input before new.sides bytes left
+ends_full {S} {v} {before} {old} {new} (bytes, given, written, run) (b1, round) input e = elim round.does [
   | inl (line, gives, never) ↦ absurd never
-  | inr ((holds, full), same) ↦ let (read, left, count, wrote) = held new input run round.takes holds same e in (read, left, sym count ∙ full, wrote)
+  | inr rests ↦
+      let (holds, full) = rests.stops in
+      let (read, left, count, wrote) = held new input run round.takes holds rests.same e in (read, left, sym count ∙ full, wrote)
 ]
 
-ends_write_fault : {before : Sides} {old new : Standing} → Run before old → Rounds (Some WriteFault) old new → (input : List ℕ) → before.rest ≡ Some input
-    → (read : List Line) × (whole : List (List ℕ)) × (last : List ℕ) × (n : ℕ) × WroteFront input before (sides_of new) read whole last n
-ends_write_fault {before} {old} {new} (bytes, given, written, run) (b1, round) input e = elim round.does [
+ends_write_fault : {S : Type 0} {v : Service S} {before : Sides} {old new : Standing S} → Run v before old → Rounds v (Some WriteFailed) old new → (input : List ℕ) → before.rest ≡ Some input
+    → (read : List Line) × (whole : List (List ℕ)) × (last : List ℕ) × (n : ℕ) × WroteFront v input before new.sides read whole last n
+ends_write_fault {S} {v} {before} {old} {new} (bytes, given, written, run) (b1, round) input e = elim round.does [
   | inl (line, gives, (text, n, is, short, wrote)) ↦
       let fed = fed_line run.fed round.takes gives in
-      let after = replied_on fresh old.session given written line text run.replied is in (
+      let after = replied_on v v.begins old.state given written line text run.replied is in (
         given ++ line ∷ [],
-        greeting ∷ written,
+        v.preface ∷ written,
         text,
         n,
         record {
-          were_read = given_were_read input fed e round.within;
+          were_read = given_were_read input fed e round.within round.little;
           goes_on = replied_open after;
-          texts = ap (λ ts. greeting ∷ ts) (replied_texts after);
+          are_texts = ap (λ ts. v.preface ∷ ts) (replied_texts after);
           cut = short;
-          wrote = on_written before.written old.written new.written (joined (greeting ∷ written)) (take n text) run.wrote wrote;
+          wrote = on_written before.written old.sides.written new.sides.written (joined (v.preface ∷ written)) (take n text) run.wrote wrote;
         },
       )
-  | inr (never, same) ↦ absurd never
+  | inr rests ↦ absurd rests.stops
 ]
 
-ends_memory : {before : Sides} {old new : Standing} → Run before old → Rounds (Some Memory) old new → (input : List ℕ) → before.rest ≡ Some input
-    → (read : List Line) × (n : ℕ) × WroteTexts input before (sides_of new) read n
-ends_memory {before} {old} {new} (bytes, given, written, run) (b1, round) input e = elim round.does [
+ends_memory : {S : Type 0} {v : Service S} {before : Sides} {old new : Standing S} → Run v before old → Rounds v (Some NoMemory) old new → (input : List ℕ) → before.rest ≡ Some input
+    → (read : List Line) × (n : ℕ) × WroteTexts v input before new.sides read n
+ends_memory {S} {v} {before} {old} {new} (bytes, given, written, run) (b1, round) input e = elim round.does [
   | inl (line, gives, same) ↦
       let fed = fed_line run.fed round.takes gives in
-      let front : take (length (greeting ∷ written)) (texts fresh (given ++ line ∷ [])) ≡ greeting ∷ written =
-      ap (λ ts. take (length (greeting ∷ written)) (greeting ∷ ts)) (run.replied.goes_on (line ∷ [])) ∙ take-append_seam (greeting ∷ written) (replies old.session (line ∷ [])) in (
+      let front : take (length (v.preface ∷ written)) (texts v (given ++ line ∷ [])) ≡ v.preface ∷ written =
+      ap (λ ts. take (length (v.preface ∷ written)) (v.preface ∷ ts)) (run.replied.goes_on (line ∷ [])) ∙ take-append_seam (v.preface ∷ written) (replies v old.state (line ∷ [])) in (
         given ++ line ∷ [],
-        length (greeting ∷ written),
+        length (v.preface ∷ written),
         record {
-          were_read = given_were_read input fed e round.within;
+          were_read = given_were_read input fed e round.within round.little;
           wrote = same ∙ (run.wrote ∙ ap (λ ts. behind before.written (joined ts)) (sym front));
         },
       )
-  | inr (never, same) ↦ absurd never
+  | inr rests ↦ absurd rests.stops
 ]
 
--- the run ends with the status of its last round
-pub run_ends : {before : Sides} {old new : Standing} (status : Status) → Run before old → Rounds (Some status) old new → SessionRun status before (sides_of new)
-run_ends Done run round = λ input e. ends_done run round input e
-run_ends ReadFault run round = λ input e. ends_read_fault run round input e
-run_ends InputFull run round = λ input e. ends_full run round input e
-run_ends WriteFault run round = λ input e. ends_write_fault run round input e
-run_ends Memory run round = λ input e. ends_memory run round input e
-run_ends Refused run (b1, round) = elim round.does [ inl (line, gives, never) ↦ absurd never | inr (never, same) ↦ absurd never ]
-run_ends Usage run (b1, round) = elim round.does [ inl (line, gives, never) ↦ absurd never | inr (never, same) ↦ absurd never ]
-run_ends SpawnFault run (b1, round) = elim round.does [ inl (line, gives, never) ↦ absurd never | inr (never, same) ↦ absurd never ]
-run_ends BadInput run (b1, round) = elim round.does [ inl (line, gives, never) ↦ absurd never | inr (never, same) ↦ absurd never ]
+-- at its end a run is done or refused
+over_ends : {S : Type 0} {v : Service S} {before after : Sides} (refused : Bool) → RunsToEnd v refused before after → ServiceRun v (status_of refused Over) before after
+over_ends true run = run
+over_ends false run = run
+
+-- the run ends as its last round
+ends : {S : Type 0} {v : Service S} {before : Sides} {old new : Standing S} (stop : Stop) → Run v before old → Rounds v (Some stop) old new → ServiceRun v (status_of (v.has_refused new.state) stop) before new.sides
+ends {S} {v} {before} {old} {new} Over run round = over_ends (v.has_refused new.state) (new.state, refl, λ input e. exits_at run round input e)
+ends ReadFailed run round = λ input e. ends_read_fault run round input e
+ends Full run round = λ input e. ends_full run round input e
+ends WriteFailed run round = λ input e. ends_write_fault run round input e
+ends NoMemory run round = λ input e. ends_memory run round input e
+
+-- and so with its status
+pub run_ends : {S : Type 0} {v : Service S} {before : Sides} {old new : Standing S} (stop : Stop) (refused : Bool) (status : Status) → Run v before old → Rounds v (Some stop) old new → refused ≡ v.has_refused new.state → status ≡ status_of refused stop
+    → ServiceRun v status before new.sides
+run_ends {S} {v} {before} {old} {new} stop refused status run round is same =
+    subst (λ s. ServiceRun v s before new.sides) (sym (same ∙ ap (λ b. status_of b stop) is)) (ends stop run round)
 
 -- there was no memory for the reader
-pub no_memory : (before : Sides) → SessionRun Memory before before
-no_memory before = λ input e. ([], 0, record { were_read = none_were_read input before.rest e; wrote = behind_none before.written })
+pub no_memory : {S : Type 0} (v : Service S) (before : Sides) → ServiceRun v Memory before before
+no_memory v before = λ input e. ([], 0, record { were_read = none_were_read input before.rest e; wrote = behind_none before.written })
 
--- the greeting was cut
-pub greeting_cut : (before : Sides) (w : Told) → (n : ℕ) × (n < length greeting) × (w ≡ behind before.written (take n greeting)) → SessionRun WriteFault before (record { rest = before.rest; written = w })
-greeting_cut before w (n, short, wrote) = λ input e. (
+-- the preface was cut
+pub preface_cut : {S : Type 0} (v : Service S) (before after : Sides) (text : List ℕ) → after.rest ≡ before.rest → text ≡ v.preface → (n : ℕ) × (n < length text) × (after.written ≡ behind before.written (take n text))
+    → ServiceRun v WriteFault before after
+preface_cut v before after text rest is (n, short, wrote) = λ input e. (
   [],
   [],
-  greeting,
+  v.preface,
   n,
   record {
-    were_read = none_were_read input before.rest e;
+    were_read = none_were_read input after.rest (rest ∙ e);
     goes_on = λ h. h;
-    texts = refl;
-    cut = short;
-    wrote = wrote;
+    are_texts = refl;
+    cut = subst (λ t. n < length t) is short;
+    wrote = wrote ∙ ap (λ t. behind before.written (take n t)) is;
   },
 )

@@ -1,12 +1,14 @@
 -- What was read of the input, and the lines that it gave.
-use Rattle.std.proofs.Common.{◌≡◌, ◌≤◌, ℕ, Bool, true, false, List, [], ◌∷◌, ◌++◌, refl, ap, sym, ◌∙◌, None, Some, subst}
+use Rattle.std.proofs.Common.{arith, ◌≡◌, ◌≤◌, ℕ, Bool, true, false, List, [], ◌∷◌, ◌++◌, refl, ap, sym, ◌∙◌, None, Some, subst}
 use Rattle.io_edge.specs.Outside.{Told, in_front, IsAtEnd}
 use Rattle.io_edge.proofs.Told.{in_front-nil}
 use Rattle.hive_model.specs.Lines.{Line, lines}
-use Rattle.line_feed.specs.Feed.{Reading, Ends, Takes, pending, input_limit}
+use Rattle.line_feed.specs.Feed.{Reading, Ends, HoldsLittle, Takes, pending, input_limit, fresh}
 use Rattle.line_feed.specs.SoFar.{Covers, Fed, WasRead}
-use Rattle.line_feed.proofs.FedLemmas.{fed_end, fed_prefix, fed_within}
-use Rattle.hive_cli.specs.Session.{IsAllRead, WereRead}
+use Rattle.line_feed.proofs.FedLemmas.{fed_end, fed_prefix}
+use Rattle.line_feed.proofs.AheadLemmas.{lines-nil}
+use Rattle.std.proofs.lemmas.List.{append-nil}
+use Rattle.hive_cli.specs.Input.{IsAllRead, WereRead}
 
 some_same : {x y : List ℕ} → Some x ≡ Some y → x ≡ y
 some_same e = cc
@@ -16,17 +18,49 @@ was_read : (rest old : Told) (bytes input : List ℕ) → old ≡ in_front bytes
 was_read None old bytes input e f = cc
 was_read (Some left) old bytes input e f = (left, record { split = some_same (sym f ∙ e); told = refl })
 
+-- of the bytes read the lines given are the first, and the others are those of what is held
+held_of : (finished : Bool) (bytes held : List ℕ) (given : List Line) (rest : Told) → Covers finished bytes held given rest → lines bytes ≡ given ++ lines held
+held_of true bytes held given rest (all, none, at_end) = all ∙ (sym (append-nil given) ∙ ap (λ h. given ++ h) (sym lines-nil ∙ ap lines (sym none)))
+held_of false bytes held given rest s = ap lines (sym (append-nil bytes)) ∙ (s.all [] ∙ ap (λ h. given ++ lines h) (append-nil held))
+
 -- the lines given are lines that were read
-pub given_were_read : {r0 rest : Told} {reading : Reading} {bytes : List ℕ} {given : List Line} (input : List ℕ) → Fed r0 rest reading bytes given → r0 ≡ Some input → reading.taken ≤ input_limit → WereRead input rest given
-given_were_read {r0} {rest} {reading} {bytes} {given} input f e within =
+pub given_were_read : {r0 rest : Told} {reading : Reading} {bytes : List ℕ} {given : List Line} (input : List ℕ) → Fed r0 rest reading bytes given → r0 ≡ Some input → reading.taken ≤ input_limit → HoldsLittle reading
+    → WereRead input rest given
+given_were_read {r0} {rest} {reading} {bytes} {given} input f e within little =
     let (left, read) = was_read rest r0 bytes input f.left e in
-    let (others, p) = fed_prefix input f e in
-    let (left2, more, split, short, q) = fed_within input f e within in
-    (bytes, left, more, others, record { was_read = read; of_bytes = q; of_input = p })
+    let (others, p) = fed_prefix input f e in (
+      bytes,
+      left,
+      reading,
+      others,
+      record {
+        was_read = read;
+        within = subst (λ n. n ≤ input_limit) f.counted within;
+        of_bytes = held_of reading.finished bytes (pending reading) given rest f.covers;
+        little = little;
+        of_input = p;
+      },
+    )
+
+-- a reader that has taken nothing holds little
+pub fresh_holds_little : HoldsLittle fresh
+fresh_holds_little = record { no_lf = tt; front = omega arith; ahead = omega arith }
 
 -- before the first read no line was read
 pub none_were_read : (input : List ℕ) (rest : Told) → rest ≡ Some input → WereRead input rest []
-none_were_read input rest e = ([], input, lines [], lines input, record { was_read = record { split = refl; told = e }; of_bytes = refl; of_input = refl })
+none_were_read input rest e = (
+  [],
+  input,
+  fresh,
+  lines input,
+  record {
+    was_read = record { split = refl; told = e };
+    within = omega arith;
+    of_bytes = refl;
+    little = fresh_holds_little;
+    of_input = refl;
+  },
+)
 
 at_end_is : (rest : Told) (left : List ℕ) → IsAtEnd rest → rest ≡ Some left → rest ≡ Some []
 at_end_is None left h e = absurd (cc)

@@ -1,9 +1,9 @@
 -- How the one game of an input is read: its line, and then the end of the input.
-use Rattle.std.specs.Prelude.{◌≡◌, ◌≢◌, ◌⊎◌, ℕ, ◌≤◌, List, codes, length, Result, Ok, Err}
+use Rattle.std.specs.Prelude.{◌≡◌, ◌≢◌, ◌⊎◌, ℕ, ◌<◌, ◌≤◌, List, codes, length, Result, Ok, Err}
 use Rattle.io_edge.specs.Outside.{Told}
 use Rattle.hive_model.specs.Courses.{Course}
 use Rattle.hive_model.specs.Lines.{Line}
-use Rattle.line_feed.specs.Feed.{Reading, Ends, Gives, Holds, Takes, input_limit}
+use Rattle.line_feed.specs.Feed.{Reading, Ends, Gives, Holds, HoldsLittle, Takes, input_limit}
 use Rattle.game_text.specs.declared.faults.GameFault.{GameFault}
 use Rattle.game_text.specs.declared.faults.GameFault.TheVariants.{Memory as NoMemory}
 use Rattle.game_text.specs.declared.parsed.Parsed.{Parsed}
@@ -48,10 +48,11 @@ Lacks Memory answer = Unit {0}
 
 -- The reading
 
--- these bytes were read, and the reader is within its limit
+-- these bytes were read, and the reader is within its limit and holds little
 pub record WereTaken (bytes : List ℕ) (old new : Reading) (before after : Told) : Type 0 where
   pub takes : Takes before after old.taken new.taken bytes
   pub within : new.taken ≤ input_limit
+  pub little : HoldsLittle new
 
 -- a line was given
 abbrev pub GivesLine : List ℕ → Reading → Reading → Told → Type 0
@@ -69,20 +70,20 @@ GivesOther why bytes old new rest = (line : Line) × Gives old bytes line new re
 abbrev pub GivesNone : NoGame → List ℕ → Reading → Reading → Told → Type 0
 GivesNone (Bad text) bytes old new rest =
     ((why : List ℕ) × GivesOther why bytes old new rest × (text ≡ bad_line why)) ⊎ (Ends old bytes new rest × (text ≡ bad_line (codes "no line")))
-GivesNone ReadFault bytes old new rest = Holds old bytes new
+GivesNone ReadFault bytes old new rest = Holds old bytes new × (new.taken < input_limit)
 GivesNone InputFull bytes old new rest = Holds old bytes new × (new.taken ≡ input_limit)
 GivesNone Memory bytes old new rest = GivesLine bytes old new rest ⊎ Ends old bytes new rest
 
 -- The input did not end: a line was given, a read has failed, the limit is reached, or memory is wanting for the line that says so.
 abbrev pub GoesOn : NoGame → List ℕ → Reading → Reading → Told → Type 0
 GoesOn (Bad text) bytes old new rest = GivesLine bytes old new rest × (text ≡ bad_line (codes "more lines"))
-GoesOn ReadFault bytes old new rest = Holds old bytes new
+GoesOn ReadFault bytes old new rest = Holds old bytes new × (new.taken < input_limit)
 GoesOn InputFull bytes old new rest = Holds old bytes new × (new.taken ≡ input_limit)
 GoesOn Memory bytes old new rest = GivesLine bytes old new rest
 
 -- why the input is not one game, and what was read to know it
 abbrev pub IsNoGame : NoGame → List ℕ → Told → Type 0
 IsNoGame (Bad text) input rest = (why : List ℕ) × IsBad input rest why × (text ≡ bad_line why)
-IsNoGame ReadFault input rest = (bytes : List ℕ) × (left : List ℕ) × IsUndecided input rest bytes left
+IsNoGame ReadFault input rest = (bytes : List ℕ) × (left : List ℕ) × (length bytes < input_limit) × IsUndecided input rest bytes left
 IsNoGame InputFull input rest = (bytes : List ℕ) × (left : List ℕ) × (length bytes ≡ input_limit) × IsUndecided input rest bytes left
 IsNoGame Memory input rest = FewWereRead input rest

@@ -6,7 +6,7 @@ use Rattle.hive_model.specs.Minimax.{lines as lines_of_play}
 use Rattle.line_feed.specs.Feed.{input_limit}
 use Rattle.game_text.specs.declared.parsed.Parsed.{Parsed}
 use Rattle.hive_cli.specs.OneGame.{FewWereRead, IsAsked, IsBad, IsUndecided, bad_line, last_position}
-use Rattle.hive_cli.specs.Session.{Sides, WhereTold}
+use Rattle.hive_cli.specs.Input.{Sides, WhereTold}
 use Rattle.hive_cli.specs.declared.no_game.NoGame.{NoGame}
 use Rattle.hive_cli.specs.declared.no_game.NoGame.TheVariants.{Bad, ReadFault as NoRead, InputFull as TooMuch, Memory as NoMemory}
 use Rattle.hive_cli.specs.declared.status.Status.{Status}
@@ -67,7 +67,7 @@ CountRun plies Done before after = WhereTold before.rest (λ input. (game : Pars
 CountRun plies BadInput before after = WhereTold before.rest (λ input. (why : List ℕ) × WroteBad input before after why)
 CountRun plies ReadFault before after =
     (after.written ≡ before.written)
-    × WhereTold before.rest (λ input. (bytes : List ℕ) × (left : List ℕ) × IsUndecided input after.rest bytes left)
+    × WhereTold before.rest (λ input. (bytes : List ℕ) × (left : List ℕ) × (length bytes < input_limit) × IsUndecided input after.rest bytes left)
 CountRun plies InputFull before after =
     (after.written ≡ before.written)
     × WhereTold before.rest (λ input. (bytes : List ℕ) × (left : List ℕ) × (length bytes ≡ input_limit) × IsUndecided input after.rest bytes left)

@@ -2,12 +2,14 @@
 use Rattle.std.specs.Prelude.{◌≡◌, ◌⊎◌, ℕ, ◌<◌, false, List, length, Some, Ok}
 use Rattle.io_edge.specs.Outside.{HasCause, Rose}
 use Rattle.line_feed.specs.Feed.{input_limit}
-use Rattle.hive_model.specs.Lines.{lines}
+use Rattle.hive_model.specs.Lines.{Line, lines}
 use Rattle.game_text.specs.declared.parsed.Parsed.{Parsed}
+use Rattle.hive_cli.specs.Input.{Sides}
+use Rattle.hive_cli.specs.Service.{HasExit, last_of, output}
 use Rattle.hive_cli.specs.Count.{CountRun}
 use Rattle.hive_cli.specs.OneGame.{asked}
-use Rattle.hive_cli.specs.Replay.{ReplayRun, some_refused}
-use Rattle.hive_cli.specs.Session.{SessionRun, Sides}
+use Rattle.hive_cli.specs.Replay.{ReplayRun, answers, replays, some_refused}
+use Rattle.hive_cli.specs.Session.{SessionRun}
 use Rattle.hive_cli.specs.declared.status.Status.{Status}
 use Rattle.hive_cli.specs.declared.status.Status.TheVariants.{Done, ReadFault, WriteFault, Memory}
 
@@ -38,3 +40,13 @@ CountsAreDone =
     → (writes_before : ℕ) → (writes_after : ℕ) → HasCause (status ≡ WriteFault) writes_before writes_after → ¬ Rose writes_before writes_after
     → (input : List ℕ) → before.rest ≡ Some input → length input < input_limit → (game : Parsed) → asked (lines input) ≡ Ok game
     → (status ≡ Done) ⊎ (status ≡ Memory)
+
+-- what a replay makes of lines: it answers each of them, one after another, it has refused a line just where one of them is
+-- refused, and none of them ends it
+pub record Replays (ls : List Line) : Type 0 where
+  pub writes : output replays ls ≡ answers ls
+  pub refuses : last_of replays false ls ≡ some_refused ls
+  pub goes_on : ¬ HasExit replays false ls
+
+abbrev pub ReplaysAnswerEachLine : Type 0
+ReplaysAnswerEachLine = (ls : List Line) → Replays ls

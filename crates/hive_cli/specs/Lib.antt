@@ -1,11 +1,13 @@
 pub mod Words
 pub mod Statuses
-pub mod Output
-pub mod Session
+pub mod Input
+pub mod Service
+pub mod ServiceRun
 pub mod Rounds
-pub mod Laws
+pub mod Session
 pub mod Replay
-pub mod ReplayRounds
 pub mod OneGame
 pub mod Asking
 pub mod Count
+pub mod Run
+pub mod Laws

@@ -10,7 +10,7 @@ use Rattle.game_text.specs.declared.faults.GameFault.{GameFault}
 use Rattle.game_text.specs.declared.parsed.Parsed.{Parsed}
 use Rattle.game_text.specs.Reading.{game_of}
 use Rattle.hive_cli.specs.Replay.{reason}
-use Rattle.hive_cli.specs.Session.{IsAllRead, WereRead}
+use Rattle.hive_cli.specs.Input.{IsAllRead, WereRead}
 
 -- the position after all moves of a game
 abbrev pub last_position : Parsed → Position

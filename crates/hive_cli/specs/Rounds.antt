@@ -1,59 +1,68 @@
--- One round of a session: a line is read, answered, and its reply written.
-use Rattle.std.specs.Prelude.{◌≡◌, ◌⊎◌, ℕ, ◌<◌, ◌≤◌, List, length, take, None, Some}
+-- One round of a service: a line is read, answered, and its reply written.
+use Rattle.std.specs.Prelude.{◌≡◌, ◌⊎◌, ℕ, ◌<◌, ◌≤◌, Bool, List, length, take, None, Some, if◌then◌else◌}
 use Rattle.std.specs.declared.option.Option.{Option}
 use Rattle.io_edge.specs.Outside.{Told, behind}
 use Rattle.hive_model.specs.Lines.{Line}
-use Rattle.line_feed.specs.Feed.{Reading, Ends, Gives, Holds, Takes, input_limit}
-use Rattle.uhp_session.specs.Answers.{State, reply, next}
+use Rattle.line_feed.specs.Feed.{Reading, Ends, Gives, Holds, HoldsLittle, Takes, input_limit}
+use Rattle.hive_cli.specs.Input.{Sides}
+use Rattle.hive_cli.specs.Service.{Service}
 use Rattle.hive_cli.specs.declared.status.Status.{Status}
-use Rattle.hive_cli.specs.declared.status.Status.TheVariants.{Done, Refused, Usage, ReadFault, WriteFault, SpawnFault, BadInput, Memory, InputFull}
+use Rattle.hive_cli.specs.declared.status.Status.TheVariants.{Done, Refused, ReadFault, WriteFault, Memory, InputFull}
+use Rattle.hive_cli.specs.declared.service.Stop.{Stop}
+use Rattle.hive_cli.specs.declared.service.Stop.TheVariants.{Over, ReadFailed, Full, WriteFailed, NoMemory}
 
--- a session between two lines: what it is, its reader, and what is told of both sides
-pub record Standing : Type 0 where
-  pub session : State
+-- the status of a run that stops so, where a line was refused, or none
+abbrev pub status_of : Bool → Stop → Status
+status_of refused Over = if refused then Refused else Done
+status_of refused ReadFailed = ReadFault
+status_of refused Full = InputFull
+status_of refused WriteFailed = WriteFault
+status_of refused NoMemory = Memory
+
+-- a service between two lines: how it stands, its reader, and what is told of both sides
+pub record Standing (S : Type 0) : Type 0 where
+  pub state : S
   pub reader : Reading
-  pub rest : Told
-  pub written : Told
+  pub sides : Sides
 
--- the session answered the line, and its reply was written; or the run ends with this status
-abbrev pub Answers : Option Status → Line → State → State → Told → Told → Type 0
-Answers None line old new before after =
-    (text : List ℕ) × (reply old line ≡ Some text) × (new ≡ next old line) × (after ≡ behind before text)
-Answers (Some Done) line old new before after = (reply old line ≡ None) × (after ≡ before)
-Answers (Some WriteFault) line old new before after =
-    (text : List ℕ) × (n : ℕ) × (reply old line ≡ Some text) × (n < length text) × (after ≡ behind before (take n text))
-Answers (Some Memory) line old new before after = after ≡ before
-Answers (Some Refused) line old new before after = ⊥
-Answers (Some Usage) line old new before after = ⊥
-Answers (Some ReadFault) line old new before after = ⊥
-Answers (Some SpawnFault) line old new before after = ⊥
-Answers (Some BadInput) line old new before after = ⊥
-Answers (Some InputFull) line old new before after = ⊥
+-- the line was answered, and the reply written; or the run stops so
+abbrev pub Answers : {S : Type 0} → Service S → Option Stop → Line → S → S → Told → Told → Type 0
+Answers v None line old new before after =
+    (text : List ℕ) × (v.reply old line ≡ Some text) × (new ≡ v.next old line) × (after ≡ behind before text)
+Answers v (Some Over) line old new before after = (v.reply old line ≡ None) × (new ≡ v.next old line) × (after ≡ before)
+Answers v (Some WriteFailed) line old new before after =
+    (text : List ℕ) × (n : ℕ) × (v.reply old line ≡ Some text) × (n < length text) × (after ≡ behind before (take n text))
+Answers v (Some NoMemory) line old new before after = after ≡ before
+Answers v (Some ReadFailed) line old new before after = ⊥
+Answers v (Some Full) line old new before after = ⊥
 
 -- a line was given, and answered
-abbrev pub Serves : Option Status → List ℕ → Standing → Standing → Type 0
-Serves ended bytes old new =
-    (line : Line) × Gives old.reader bytes line new.reader new.rest × Answers ended line old.session new.session old.written new.written
+abbrev pub Serves : {S : Type 0} → Service S → Option Stop → List ℕ → Standing S → Standing S → Type 0
+Serves v stop bytes old new =
+    (line : Line) × Gives old.reader bytes line new.reader new.sides.rest × Answers v stop line old.state new.state old.sides.written new.sides.written
 
 -- no line was given: the input has ended, a read has failed, or the limit is reached
-abbrev pub Stops : Option Status → List ℕ → Standing → Standing → Type 0
-Stops None bytes old new = ⊥
-Stops (Some Done) bytes old new = Ends old.reader bytes new.reader new.rest
-Stops (Some ReadFault) bytes old new = Holds old.reader bytes new.reader
-Stops (Some InputFull) bytes old new = Holds old.reader bytes new.reader × (new.reader.taken ≡ input_limit)
-Stops (Some Refused) bytes old new = ⊥
-Stops (Some Usage) bytes old new = ⊥
-Stops (Some WriteFault) bytes old new = ⊥
-Stops (Some SpawnFault) bytes old new = ⊥
-Stops (Some BadInput) bytes old new = ⊥
-Stops (Some Memory) bytes old new = ⊥
+abbrev pub Stops : Option Stop → List ℕ → Reading → Reading → Told → Type 0
+Stops None bytes old new rest = ⊥
+Stops (Some Over) bytes old new rest = Ends old bytes new rest
+Stops (Some ReadFailed) bytes old new rest = Holds old bytes new × (new.taken < input_limit)
+Stops (Some Full) bytes old new rest = Holds old bytes new × (new.taken ≡ input_limit)
+Stops (Some WriteFailed) bytes old new rest = ⊥
+Stops (Some NoMemory) bytes old new rest = ⊥
+
+-- and nothing was answered
+pub record Rests {S : Type 0} (stop : Option Stop) (bytes : List ℕ) (old new : Standing S) : Type 0 where
+  pub stops : Stops stop bytes old.reader new.reader new.sides.rest
+  pub same : new.sides.written ≡ old.sides.written
+  pub stands : new.state ≡ old.state
 
 -- a round, in which these bytes were read
-pub record Round (ended : Option Status) (bytes : List ℕ) (old new : Standing) : Type 0 where
-  pub takes : Takes old.rest new.rest old.reader.taken new.reader.taken bytes
+pub record Round {S : Type 0} (v : Service S) (stop : Option Stop) (bytes : List ℕ) (old new : Standing S) : Type 0 where
+  pub takes : Takes old.sides.rest new.sides.rest old.reader.taken new.reader.taken bytes
   pub within : new.reader.taken ≤ input_limit
-  pub does : Serves ended bytes old new ⊎ (Stops ended bytes old new × (new.written ≡ old.written))
+  pub little : HoldsLittle new.reader
+  pub does : Serves v stop bytes old new ⊎ Rests stop bytes old new
 
 -- a round, in which some bytes were read
-abbrev pub Rounds : Option Status → Standing → Standing → Type 0
-Rounds ended old new = (bytes : List ℕ) × Round ended bytes old new
+abbrev pub Rounds : {S : Type 0} → Service S → Option Stop → Standing S → Standing S → Type 0
+Rounds v stop old new = (bytes : List ℕ) × Round v stop bytes old new

@@ -7,7 +7,7 @@ ghost use Rattle.hive_model.specs.Games.{IsGame};
 ghost use Rattle.hive_model.specs.Legal as rules;
 ghost use Rattle.game_text.specs.Reading.{game_of};
 ghost use Rattle.game_text.specs.declared.parsed.Parsed.{Parsed as AnyGame};
-ghost use Rattle.hive_cli.specs.Session.{WhereTold};
+ghost use Rattle.hive_cli.specs.Input.{WhereTold};
 ghost use Rattle.hive_cli.specs.OneGame.{IsAsked, if_open, open_game};
 ghost use Rattle.hive_cli.specs.Asking.{GivesGame, GivesNone, GoesOn, IsReplayOf, IsNoGame, Lacks, Resumes, Says, SaysFault, WereTaken};
 
@@ -138,7 +138,9 @@ pub(crate) fn read_one_game<S: Source, G: Game + Drop>(
     ensures none { IfErr result (λ e. WhereTold (S.rest input.old) (λ bytes. IsNoGame e bytes (S.rest input.new))) }
     ensures cause { HasCause (result ≡ Err NoGame.ReadFault) (S.read_faults input.old) (S.read_faults input.new) }
 {
-    let mut reader = LineReader::new(alloc)?;
+    let Ok(mut reader) = LineReader::new(alloc) else {
+        return Err(NoGame::Memory);
+    };
     let game = match first_game(alloc, &mut reader, input, room) {
         Ok(game) => game,
         Err(none) => return Err(none),

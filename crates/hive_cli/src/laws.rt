@@ -1,5 +1,5 @@
 //! Laws of the definitions, as contracts of functions that do nothing.
-ghost use Rattle.hive_cli.specs.Laws.{CountsAreDone, ReplaysAreDone, SessionsAreDone};
+ghost use Rattle.hive_cli.specs.Laws.{CountsAreDone, ReplaysAnswerEachLine, ReplaysAreDone, SessionsAreDone};
 
 /// A session whose input is shorter than 1,099,511,627,776 bytes ends with `Done`, or for want of memory, where neither the
 /// source nor the sink counted a fault.
@@ -17,4 +17,10 @@ pub fn replays_are_done()
 /// where neither the source nor the sink counted a fault.
 pub fn counts_are_done()
     ensures { CountsAreDone }
+{}
+
+/// A replay writes the answer to each line, one after another, and no line ends it. It has refused a line just where one of its lines is
+/// refused.
+pub fn replays_answer_each_line()
+    ensures { ReplaysAnswerEachLine }
 {}

@@ -1,92 +1,64 @@
-//! A replay over a source and a sink: the answer to each line is written before the next line is read.
-ghost use Rattle.std.specs.Prelude.{◌≡◌, Some};
-ghost use Rattle.io_edge.specs.Outside.{HasCause};
-ghost use Rattle.uhp_session.specs.Answers.{line_in, IsShort};
-ghost use Rattle.hive_cli.specs.Replay.{ReplayRun};
-ghost use Rattle.hive_cli.specs.ReplayRounds.{ReplayRounds, Tells};
+//! A replay as a service: each line is answered by the written form of its game, or refused.
+ghost use Rattle.std.specs.Prelude.{◌≡◌, false};
+ghost use Rattle.hive_cli.specs.Replay.{replays};
 
 use crate::answers::answer_line;
-use crate::status::Status;
-use hive_model::Game;
-use io_edge::{Sink, Source, write_all};
-use line_feed::{LineAnswer, LineReader};
-use std::alloc::Global;
-use uhp_session::LineIn;
+use crate::service::LineService;
+use hive_model::{Game, TimedList};
+use io_edge::Clock;
+use std::alloc::{AllocError, Global};
+use std::marker::{Model, PhantomData};
+use std::thread::Threads;
+use uhp_session::{LineIn, Reply};
 
-/// Writes the answer to a line, and notes whether the line is refused. Where the run ends here, the result is its status.
-fn tell<K: Sink, G: Game + Drop>(
-    alloc: Global,
-    line: LineIn<'_>,
-    output: &mut K,
-    refused: &mut bool,
-) -> Option<Status>
-    requires { IsShort (line_in line) }
-    ensures tells { Tells result (line_in line.entry) refused.old refused.new (K.written output.old) (K.written output.new) }
-    ensures cause { HasCause (result ≡ Some Status.WriteFault) (K.write_faults output.old) (K.write_faults output.new) }
-{
-    let Ok(answer) = answer_line::<G>(alloc, line) else {
-        return Some(Status::Memory);
-    };
-    *refused = *refused || answer.refused;
-    if write_all(output, answer.text.items()) {
-        None
-    } else {
-        Some(Status::WriteFault)
-    }
+/// A replay, seen as whether a line was refused, over games of this kind.
+#[derive(Drop)]
+pub(crate) struct Replay<G: Game> {
+    refused: bool,
+    games: PhantomData<G>,
 }
 
-/// Reads a line, and writes its answer. Where the run ends here, the result is its status.
-fn replay_line<S: Source, K: Sink, G: Game + Drop>(
-    alloc: Global,
-    reader: &mut LineReader,
-    input: &mut S,
-    output: &mut K,
-    refused: &mut bool,
-) -> Option<Status>
-    ensures round { ReplayRounds result
-        (record { refused = refused.old; reader = reader.old; rest = S.rest input.old; written = K.written output.old })
-        (record { refused = refused.new; reader = reader.new; rest = S.rest input.new; written = K.written output.new }) }
-    ensures reads { HasCause (result ≡ Some Status.ReadFault) (S.read_faults input.old) (S.read_faults input.new) }
-    ensures writes { HasCause (result ≡ Some Status.WriteFault) (K.write_faults output.old) (K.write_faults output.new) }
-{
-    match reader.next_line(input) {
-        LineAnswer::Line => tell::<K, G>(alloc, LineIn::Text(reader.line()), output, refused),
-        LineAnswer::TooLong => tell::<K, G>(alloc, LineIn::TooLong, output, refused),
-        LineAnswer::End => Some(if *refused {
-            Status::Refused
-        } else {
-            Status::Done
-        }),
-        LineAnswer::Failed => Some(Status::ReadFault),
-        LineAnswer::Full => Some(Status::InputFull),
-    }
+impl<G: Game> Model for Replay<G> {
+    ghost use Rattle.std.specs.Prelude.{Bool};
+
+    ghost Value = { Bool };
+
+    ghost view = { λ r. r.refused };
 }
 
-/// Writes the answer to each line before the next line is read, until the input ends.
-pub(crate) fn replay<S: Source, K: Sink, G: Game + Drop>(
-    alloc: Global,
-    input: &mut S,
-    output: &mut K,
-) -> Status
-    ensures replay { ReplayRun result
-        (record { rest = S.rest input.old; written = K.written output.old })
-        (record { rest = S.rest input.new; written = K.written output.new }) }
-    ensures reads { HasCause (result ≡ Status.ReadFault) (S.read_faults input.old) (S.read_faults input.new) }
-    ensures writes { HasCause (result ≡ Status.WriteFault) (K.write_faults output.old) (K.write_faults output.new) }
-{
-    let Ok(mut reader) = LineReader::new(alloc) else {
-        return Status::Memory;
-    };
-    let mut refused = false;
-    'lines: loop {
-        if let Some(status) = replay_line::<S, K, G>(
-            alloc,
-            &mut reader,
-            input,
-            output,
-            &mut refused,
-        ) {
-            return status;
+impl<G: Game> Replay<G> {
+    /// No line was refused yet.
+    pub(crate) fn new() -> Self
+        ensures { result ≡ false }
+    {
+        Replay {
+            refused: false,
+            games: PhantomData,
         }
+    }
+}
+
+impl<G: Game + Drop> LineService for Replay<G> {
+    ghost service = { replays };
+
+    fn preface(&self) -> &'static [u8] {
+        b""
+    }
+
+    fn answer<R: Threads + Sync, C: Clock>(
+        &mut self,
+        _rt: &R,
+        alloc: Global,
+        line: LineIn<'_>,
+        clock: &mut C,
+        timed: &mut TimedList,
+    ) -> Result<Reply, AllocError> {
+        let answer = answer_line::<G>(alloc, line)?;
+        self.refused = self.refused || answer.refused;
+        Ok(Reply::Text(answer.text))
+    }
+
+    fn has_refused(&self) -> bool {
+        self.refused
     }
 }

@@ -1,21 +1,21 @@
 //! The run: what the words of the command line ask for.
-ghost use Rattle.std.specs.Prelude.{◌≡◌, ◌≢◌, ◌⊎◌, ℕ, []};
+ghost use Rattle.std.specs.Prelude.{◌≡◌, ◌⊎◌, [], map, string_bytes};
 ghost use Rattle.io_edge.specs.Outside.{HasCause};
-ghost use Rattle.hive_cli.specs.Words.{AreCountWords, AreOfNoCommand, AreReplayWords, AreUhpWords};
-ghost use Rattle.hive_cli.specs.Count.{CountRun};
-ghost use Rattle.hive_cli.specs.Replay.{ReplayRun};
-ghost use Rattle.hive_cli.specs.Session.{SessionRun};
+ghost use Rattle.hive_cli.specs.Words.{AreOfNoCommand, IsInRange, TakeOption, Words};
+ghost use Rattle.hive_cli.specs.Run.{Never, RunOf, UsesClock, UsesSpawner};
+ghost use Rattle.hive_cli.specs.declared.words.Asked.{Asked};
 
 use crate::counts::count;
-use crate::replays::replay;
-use crate::sessions::uhp;
+use crate::replays::Replay;
+use crate::service::serve;
 use crate::status::{Outcome, Status};
-use crate::words::{are_replay_words, are_uhp_words, count_plies};
+use crate::words::{Asked, asked_of};
 use fast_game::FastGame;
-use hive_model::TimedList;
+use hive_model::{Game, TimedList};
 use io_edge::{Clock, Sink, Source, Spawner};
 use std::alloc::Global;
 use std::thread::Threads;
+use uhp_session::Session;
 
 /// The game that the program plays on.
 type Played = FastGame;
@@ -38,7 +38,8 @@ type Played = FastGame;
 /// else, it is `BadInput`, and one line that begins with `bad` says why. That line is written as soon as the fault is seen, and
 /// nothing further is read. A read that fails, a full input and want of memory end it with nothing written.
 ///
-/// Every other list of words is `Usage`, or `Memory` where memory runs out before that is known; nothing is read or written.
+/// Every other list of words is `Usage`; nothing is read or written. Where its first word is that of a command that takes an option, it
+/// is `Memory` where memory runs out before that is known.
 pub fn run<R: Threads + Sync, S: Source, K: Sink, C: Clock, P: Spawner>(
     rt: &R,
     alloc: Global,
@@ -50,58 +51,74 @@ pub fn run<R: Threads + Sync, S: Source, K: Sink, C: Clock, P: Spawner>(
 ) -> Outcome
     ensures usage { result.status ≡ Status.Usage → AreOfNoCommand words.now }
     ensures refused { AreOfNoCommand words.now → (result.status ≡ Status.Usage) ⊎ (result.status ≡ Status.Memory) }
+    ensures exact { AreOfNoCommand words.now → ¬ TakeOption (map string_bytes words.now) → result.status ≡ Status.Usage }
     ensures unread { AreOfNoCommand words.now → input.new ≡ input.old }
     ensures unwritten { AreOfNoCommand words.now → output.new ≡ output.old }
-    ensures session { AreUhpWords words.now → SessionRun result.status
-        (record { rest = S.rest input.old; written = K.written output.old })
-        (record { rest = S.rest input.new; written = K.written output.new }) }
-    ensures replay { AreReplayWords words.now → ReplayRun result.status
-        (record { rest = S.rest input.old; written = K.written output.old })
-        (record { rest = S.rest input.new; written = K.written output.new }) }
-    ensures count { (n : ℕ) → AreCountWords words.now n → CountRun n result.status
-        (record { rest = S.rest input.old; written = K.written output.old })
-        (record { rest = S.rest input.new; written = K.written output.new }) }
+    ensures untimed { AreOfNoCommand words.now → result.timed ≡ [] }
+    ensures does { (asked : Asked) → Words words.now asked → RunOf asked result.status
+        (record { sides = record { rest = S.rest input.old; written = K.written output.old };
+            last = C.last clock.old; readings = C.readings clock.old; timed = [] })
+        (record { sides = record { rest = S.rest input.new; written = K.written output.new };
+            last = C.last clock.new; readings = C.readings clock.new; timed = result.timed }) }
     ensures reads { HasCause (result.status ≡ Status.ReadFault) (S.read_faults input.old) (S.read_faults input.new) }
     ensures writes { HasCause (result.status ≡ Status.WriteFault) (K.write_faults output.old) (K.write_faults output.new) }
     ensures starts { HasCause (result.status ≡ Status.SpawnFault) (P.start_faults spawner.old) (P.start_faults spawner.new) }
-    ensures clock { clock.new ≡ clock.old }
-    ensures spawner { spawner.new ≡ spawner.old }
-    ensures timed { result.timed ≡ [] }
+    ensures clock { Never words.now UsesClock → clock.new ≡ clock.old }
+    ensures spawner { Never words.now UsesSpawner → spawner.new ≡ spawner.old }
 {
-    let mut timed = TimedList::new(alloc);
-    if are_uhp_words(words) {
-        let status = uhp::<R, S, K, C, Played>(rt, alloc, input, output, clock, &mut timed);
-        return Outcome { status, timed };
+    let timed = TimedList::new(alloc);
+    match asked_of(alloc, words) {
+        Ok(Some(asked)) => perform::<R, S, K, C, Played>(
+            rt,
+            alloc,
+            asked,
+            input,
+            output,
+            clock,
+            timed,
+        ),
+        Ok(None) => Outcome {
+            status: Status::Usage,
+            timed,
+        },
+        Err(_) => Outcome {
+            status: Status::Memory,
+            timed,
+        },
     }
-    if are_replay_words(words) {
-        let status = replay::<S, K, Played>(alloc, input, output);
-        return Outcome { status, timed };
-    }
-    let status = count_asked(alloc, words, input, output);
-    Outcome { status, timed }
 }
 
-/// Counts, where the words ask for that, and else does nothing.
-fn count_asked<S: Source, K: Sink>(
+/// Does what is asked for.
+fn perform<R: Threads + Sync, S: Source, K: Sink, C: Clock, G: Game + Drop>(
+    rt: &R,
     alloc: Global,
-    words: &[String],
+    asked: Asked,
     input: &mut S,
     output: &mut K,
-) -> Status
-    ensures usage { result ≡ Status.Usage → (n : ℕ) → ¬ AreCountWords words.now n }
-    ensures refused { ((n : ℕ) → ¬ AreCountWords words.now n) → (result ≡ Status.Usage) ⊎ (result ≡ Status.Memory) }
-    ensures unread { ((n : ℕ) → ¬ AreCountWords words.now n) → input.new ≡ input.old }
-    ensures unwritten { ((n : ℕ) → ¬ AreCountWords words.now n) → output.new ≡ output.old }
-    ensures count { (n : ℕ) → AreCountWords words.now n → CountRun n result
-        (record { rest = S.rest input.old; written = K.written output.old })
-        (record { rest = S.rest input.new; written = K.written output.new }) }
-    ensures reads { HasCause (result ≡ Status.ReadFault) (S.read_faults input.old) (S.read_faults input.new) }
-    ensures writes { HasCause (result ≡ Status.WriteFault) (K.write_faults output.old) (K.write_faults output.new) }
-    ensures starts { result ≢ Status.SpawnFault }
+    clock: &mut C,
+    mut timed: TimedList,
+) -> Outcome
+    requires range { IsInRange asked }
+    requires none { timed ≡ [] }
+    ensures does { RunOf asked result.status
+        (record { sides = record { rest = S.rest input.old; written = K.written output.old };
+            last = C.last clock.old; readings = C.readings clock.old; timed = [] })
+        (record { sides = record { rest = S.rest input.new; written = K.written output.new };
+            last = C.last clock.new; readings = C.readings clock.new; timed = result.timed }) }
+    ensures reads { HasCause (result.status ≡ Status.ReadFault) (S.read_faults input.old) (S.read_faults input.new) }
+    ensures writes { HasCause (result.status ≡ Status.WriteFault) (K.write_faults output.old) (K.write_faults output.new) }
+    ensures clock { clock.new ≡ clock.old }
 {
-    match count_plies(alloc, words) {
-        Ok(Some(plies)) => count::<S, K, Played>(alloc, plies, input, output),
-        Ok(None) => Status::Usage,
-        Err(_) => Status::Memory,
-    }
+    let status = match asked {
+        Asked::Session => {
+            let mut session: Session<G> = Session::new();
+            serve(rt, alloc, &mut session, input, output, clock, &mut timed)
+        }
+        Asked::Replay => {
+            let mut replay: Replay<G> = Replay::new();
+            serve(rt, alloc, &mut replay, input, output, clock, &mut timed)
+        }
+        Asked::Count(plies) => count::<S, K, G>(alloc, plies, input, output),
+    };
+    Outcome { status, timed }
 }

@@ -1,12 +1,12 @@
 use Rattle.std.proofs.Common.{◌≡◌, ◌-◌}
 use Rattle.line_feed.specs.Feed.{input_limit, settled}
 use Rattle.hive_cli.proofs.Progress.{Run}
-use Rattle.hive_cli.proofs.sessions.uhp.Given as goal
+use Rattle.hive_cli.proofs.service.serve.Given as goal
 
 abbrev pub invariant-lines : goal.invariant-lines
 invariant-lines g l = record {
-  run : Run (record { rest = g.S.Source.rest l.fn.input; written = g.K.Sink.written l.fn.output })
-      (record { session = l.session; reader = l.reader; rest = g.S.Source.rest l.input; written = g.K.Sink.written l.output });
+  run : Run g.V.LineService.service (record { rest = g.S.Source.rest l.fn.input; written = g.K.Sink.written l.fn.output })
+      (record { state = l.service; reader = l.reader; sides = record { rest = g.S.Source.rest l.input; written = g.K.Sink.written l.output } });
   reads : g.S.Source.read_faults l.input ≡ g.S.Source.read_faults l.fn.input;
   writes : g.K.Sink.write_faults l.output ≡ g.K.Sink.write_faults l.fn.output;
   clock : l.clock ≡ l.fn.clock;

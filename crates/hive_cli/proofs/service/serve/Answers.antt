@@ -1,0 +1,31 @@
+-- The last round ends the run.
+use Rattle.std.proofs.Common.{refl, ◌∙◌}
+use Rattle.hive_cli.proofs.Progress.{no_memory, preface_cut, run_begin, run_ends, run_on}
+use Rattle.hive_cli.proofs.service.serve.Goals as goal
+
+pub returns-in_default-clause-run : goal.returns-in_default-clause-run
+returns-in_default-clause-run g c = no_memory _ _
+
+pub returns-then-not-write_all-clause-run : goal.returns-then-not-write_all-clause-run
+returns-then-not-write_all-clause-run g c = preface_cut _ _ _ _ refl c.preface.ensures c.if-not-write_all.ensures.part
+
+pub lines-init : goal.lines-init
+lines-init g c = record {
+  run = run_begin _ _ _ _ refl c.in-Ok.ensures c.requires c.preface.ensures c.if-not-write_all.ensures.all;
+  reads = refl;
+  writes = c.if-not-write_all.ensures.cause.same (λ e. cc);
+  clock = refl;
+  timed = refl;
+}
+
+pub lines-preserved : goal.lines-preserved
+lines-preserved g c = record {
+  run = run_on c.lines.invariant.run c.in_default-serve_line.ensures.round;
+  reads = c.in_default-serve_line.ensures.reads.same (λ e. cc) ∙ c.lines.invariant.reads;
+  writes = c.in_default-serve_line.ensures.writes.same (λ e. cc) ∙ c.lines.invariant.writes;
+  clock = c.in_default-serve_line.ensures.clock ∙ c.lines.invariant.clock;
+  timed = c.in_default-serve_line.ensures.timed ∙ c.lines.invariant.timed;
+}
+
+pub returns-in-Some-clause-run : goal.returns-in-Some-clause-run
+returns-in-Some-clause-run g c = run_ends c.in-Some.stop c.has_refused.result c.status.result c.lines.invariant.run c.in-Some.ensures.round c.has_refused.ensures c.status.ensures

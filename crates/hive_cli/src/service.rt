@@ -1,0 +1,182 @@
+//! A service over a source and a sink: the reply to each line is written before the next line is read.
+ghost use Rattle.std.specs.Prelude.{◌≡◌, Some, IfOk, OnOk};
+ghost use Rattle.std.specs.Thread.{IsSync};
+ghost use Rattle.io_edge.specs.Outside.{HasCause};
+ghost use Rattle.uhp_session.specs.Answers.{line_in, text_of, IsShort};
+ghost use Rattle.hive_cli.specs.Rounds.{Answers, Rounds, status_of};
+ghost use Rattle.hive_cli.specs.Service.{Service};
+ghost use Rattle.hive_cli.specs.ServiceRun.{ServiceRun};
+
+use crate::status::Status;
+use hive_model::TimedList;
+use io_edge::{Clock, Sink, Source, write_all};
+use line_feed::{LineAnswer, LineReader};
+use std::alloc::{AllocError, Global};
+use std::thread::Threads;
+use uhp_session::{LineIn, Reply};
+
+/// A command that answers the lines of its input, one after another.
+pub(crate) trait LineService {
+    /// What it answers, and what it becomes.
+    ghost service: { Service Self };
+
+    /// What is written before the first line is read.
+    fn preface(&self) -> &'static [u8]
+        ensures { result.now ≡ service.preface };
+
+    /// Answers a line. `Exit` ends the run.
+    fn answer<R: Threads + Sync, C: Clock>(
+        &mut self,
+        rt: &R,
+        alloc: Global,
+        line: LineIn<'_>,
+        clock: &mut C,
+        timed: &mut TimedList,
+    ) -> Result<Reply, AllocError>
+        requires sync { IsSync R.row }
+        requires short { IsShort (line_in line) }
+        ensures reply { IfOk result (λ r. text_of r ≡ service.reply self.old (line_in line.entry)) }
+        ensures next { OnOk result (self.new ≡ service.next self.old (line_in line.entry)) }
+        ensures clock { clock.new ≡ clock.old }
+        ensures timed { timed.new ≡ timed.old };
+
+    /// Whether a line was refused until now, so that the run ends as `Refused`.
+    fn has_refused(&self) -> bool
+        ensures { result ≡ service.has_refused self.now };
+}
+
+/// Why a service reads no further line.
+#[derive(Clone, Copy, Debug, PartialEq, Eq)]
+pub(crate) enum Stop {
+    /// The input has ended, or a line has ended the run.
+    Over,
+    /// A read of the input has failed.
+    ReadFailed,
+    /// The input has 1,099,511,627,776 bytes or more before its end.
+    Full,
+    /// A write of the output has failed.
+    WriteFailed,
+    /// There was not enough memory.
+    NoMemory,
+}
+
+impl Stop {
+    /// The status of a run that stops so, where a line was refused, or none.
+    fn status(self, refused: bool) -> Status
+        ensures { result ≡ status_of refused self }
+    {
+        match self {
+            Stop::Over => {
+                if refused {
+                    Status::Refused
+                } else {
+                    Status::Done
+                }
+            }
+            Stop::ReadFailed => Status::ReadFault,
+            Stop::Full => Status::InputFull,
+            Stop::WriteFailed => Status::WriteFault,
+            Stop::NoMemory => Status::Memory,
+        }
+    }
+}
+
+/// Answers a line, and writes the reply; or says why the run stops.
+fn answer<R: Threads + Sync, K: Sink, C: Clock, V: LineService>(
+    rt: &R,
+    alloc: Global,
+    service: &mut V,
+    line: LineIn<'_>,
+    output: &mut K,
+    clock: &mut C,
+    timed: &mut TimedList,
+) -> Option<Stop>
+    requires { IsShort (line_in line) }
+    ensures answers { Answers V.service result (line_in line.entry) service.old service.new (K.written output.old) (K.written output.new) }
+    ensures cause { HasCause (result ≡ Some Stop.WriteFailed) (K.write_faults output.old) (K.write_faults output.new) }
+    ensures clock { clock.new ≡ clock.old }
+    ensures timed { timed.new ≡ timed.old }
+{
+    match service.answer(rt, alloc, line, clock, timed) {
+        Ok(Reply::Text(text)) => {
+            if write_all(output, text.items()) {
+                None
+            } else {
+                Some(Stop::WriteFailed)
+            }
+        }
+        Ok(Reply::Exit) => Some(Stop::Over),
+        Err(_) => Some(Stop::NoMemory),
+    }
+}
+
+/// Reads a line, answers it, and writes the reply; or says why the run stops.
+fn serve_line<R: Threads + Sync, S: Source, K: Sink, C: Clock, V: LineService>(
+    rt: &R,
+    alloc: Global,
+    service: &mut V,
+    reader: &mut LineReader,
+    input: &mut S,
+    output: &mut K,
+    clock: &mut C,
+    timed: &mut TimedList,
+) -> Option<Stop>
+    ensures round { Rounds V.service result
+        (record { state = service.old; reader = reader.old; sides = record { rest = S.rest input.old; written = K.written output.old } })
+        (record { state = service.new; reader = reader.new; sides = record { rest = S.rest input.new; written = K.written output.new } }) }
+    ensures reads { HasCause (result ≡ Some Stop.ReadFailed) (S.read_faults input.old) (S.read_faults input.new) }
+    ensures writes { HasCause (result ≡ Some Stop.WriteFailed) (K.write_faults output.old) (K.write_faults output.new) }
+    ensures clock { clock.new ≡ clock.old }
+    ensures timed { timed.new ≡ timed.old }
+{
+    let line = match reader.next_line(input) {
+        LineAnswer::Line => LineIn::Text(reader.line()),
+        LineAnswer::TooLong => LineIn::TooLong,
+        LineAnswer::End => return Some(Stop::Over),
+        LineAnswer::Failed => return Some(Stop::ReadFailed),
+        LineAnswer::Full => return Some(Stop::Full),
+    };
+    answer(rt, alloc, service, line, output, clock, timed)
+}
+
+/// Runs a service: writes its preface, and then the reply to each line before the next line is read, until a line ends the run or the
+/// input ends.
+pub(crate) fn serve<R: Threads + Sync, S: Source, K: Sink, C: Clock, V: LineService>(
+    rt: &R,
+    alloc: Global,
+    service: &mut V,
+    input: &mut S,
+    output: &mut K,
+    clock: &mut C,
+    timed: &mut TimedList,
+) -> Status
+    requires { service.old ≡ V.service.begins }
+    ensures run { ServiceRun V.service result
+        (record { rest = S.rest input.old; written = K.written output.old })
+        (record { rest = S.rest input.new; written = K.written output.new }) }
+    ensures reads { HasCause (result ≡ Status.ReadFault) (S.read_faults input.old) (S.read_faults input.new) }
+    ensures writes { HasCause (result ≡ Status.WriteFault) (K.write_faults output.old) (K.write_faults output.new) }
+    ensures clock { clock.new ≡ clock.old }
+    ensures timed { timed.new ≡ timed.old }
+{
+    let Ok(mut reader) = LineReader::new(alloc) else {
+        return Status::Memory;
+    };
+    if !write_all(output, service.preface()) {
+        return Status::WriteFault;
+    }
+    'lines: loop {
+        if let Some(stop) = serve_line(
+            rt,
+            alloc,
+            service,
+            &mut reader,
+            input,
+            output,
+            clock,
+            timed,
+        ) {
+            return stop.status(service.has_refused());
+        }
+    }
+}
