@@ -19,18 +19,19 @@ mod tests;
 use hive_cli::{Status, run};
 use io_edge::{MemSpawner, StepClock};
 use std::env::Env;
+use std::io::ErrorKind;
 use std::process::ExitCode;
 use std::thread::Threads;
 use std::{env, io};
 use streams::{InputStream, OutputStream};
 
 /// The status of a run whose words cannot be had: memory is wanting, or a word is not UTF-8.
-fn status_of(kind: io::ErrorKind) -> Status
-    ensures memory { kind ≡ io.ErrorKind.OutOfMemory → result ≡ Status.Memory }
-    ensures usage { kind ≢ io.ErrorKind.OutOfMemory → result ≡ Status.Usage }
+fn status_of(kind: ErrorKind) -> Status
+    ensures memory { kind ≡ ErrorKind.OutOfMemory → result ≡ Status.Memory }
+    ensures usage { kind ≢ ErrorKind.OutOfMemory → result ≡ Status.Usage }
 {
     match kind {
-        io::ErrorKind::OutOfMemory => Status::Memory,
+        ErrorKind::OutOfMemory => Status::Memory,
         _ => Status::Usage,
     }
 }

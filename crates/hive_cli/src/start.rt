@@ -56,10 +56,18 @@ pub fn run<R: Threads + Sync, S: Source, K: Sink, C: Clock, P: Spawner>(
     ensures unwritten { AreOfNoCommand words.now → output.new ≡ output.old }
     ensures untimed { AreOfNoCommand words.now → result.timed ≡ [] }
     ensures does { (asked : Asked) → Words words.now asked → RunOf asked result.status
-        (record { sides = record { rest = S.rest input.old; written = K.written output.old };
-            last = C.last clock.old; readings = C.readings clock.old; timed = [] })
-        (record { sides = record { rest = S.rest input.new; written = K.written output.new };
-            last = C.last clock.new; readings = C.readings clock.new; timed = result.timed }) }
+        (record {
+          sides = record { rest = S.rest input.old; written = K.written output.old };
+          last = C.last clock.old;
+          readings = C.readings clock.old;
+          timed = [];
+        })
+        (record {
+          sides = record { rest = S.rest input.new; written = K.written output.new };
+          last = C.last clock.new;
+          readings = C.readings clock.new;
+          timed = result.timed;
+        }) }
     ensures reads { HasCause (result.status ≡ Status.ReadFault) (S.read_faults input.old) (S.read_faults input.new) }
     ensures writes { HasCause (result.status ≡ Status.WriteFault) (K.write_faults output.old) (K.write_faults output.new) }
     ensures starts { HasCause (result.status ≡ Status.SpawnFault) (P.start_faults spawner.old) (P.start_faults spawner.new) }
@@ -101,10 +109,18 @@ fn perform<R: Threads + Sync, S: Source, K: Sink, C: Clock, G: Game + Drop>(
     requires range { IsInRange asked }
     requires none { timed ≡ [] }
     ensures does { RunOf asked result.status
-        (record { sides = record { rest = S.rest input.old; written = K.written output.old };
-            last = C.last clock.old; readings = C.readings clock.old; timed = [] })
-        (record { sides = record { rest = S.rest input.new; written = K.written output.new };
-            last = C.last clock.new; readings = C.readings clock.new; timed = result.timed }) }
+        (record {
+          sides = record { rest = S.rest input.old; written = K.written output.old };
+          last = C.last clock.old;
+          readings = C.readings clock.old;
+          timed = [];
+        })
+        (record {
+          sides = record { rest = S.rest input.new; written = K.written output.new };
+          last = C.last clock.new;
+          readings = C.readings clock.new;
+          timed = result.timed;
+        }) }
     ensures reads { HasCause (result.status ≡ Status.ReadFault) (S.read_faults input.old) (S.read_faults input.new) }
     ensures writes { HasCause (result.status ≡ Status.WriteFault) (K.write_faults output.old) (K.write_faults output.new) }
     ensures clock { clock.new ≡ clock.old }
