@@ -77,13 +77,7 @@ pub fn run<R: Threads + Sync, S: Source, K: Sink, C: Clock, P: Spawner>(
     let timed = TimedList::new(alloc);
     match asked_of(alloc, words) {
         Ok(Some(asked)) => perform::<R, S, K, C, Played>(
-            rt,
-            alloc,
-            asked,
-            input,
-            output,
-            clock,
-            timed,
+            rt, alloc, asked, input, output, clock, timed,
         ),
         Ok(None) => Outcome {
             status: Status::Usage,
