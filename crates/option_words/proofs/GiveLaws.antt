@@ -1,167 +1,181 @@
--- The value that the words give the one option of a command is the value that a parse of them finds.
-use Rattle.std.proofs.Common.{◌≡◌, ◌∙◌, arith, suc, not, ◌<◌, ◌++◌, ◌||◌, inl, inr, Bool, true, false, refl, sym, ap, ap₂, subst, List, [], ◌∷◌, Option, Some, None, codes, length}
-use Rattle.hive_model.specs.Lists.{IsOn}
+-- The values that the words give the options of a command are the values that a parse of them finds.
+use Rattle.std.proofs.Common.{◌≡◌, ◌∙◌, inl, inr, ◌<◌, zero, suc, not, arith, Bool, cond, true, false, refl, sym, ap, ap₂, subst, List, [], ◌∷◌, Option, Some, None, IfSome, length, map, option_map}
+use Rattle.std.specs.Prelude.{option_and_then, slice_get}
+use Rattle.std.specs.Borrow.{Bor}
+use Rattle.std.specs.List.{All, find}
 use Rattle.std.specs.Str.{bytes_eq}
-use Rattle.std.proofs.lemmas.Grind.{common_steps}
-use Rattle.clap.specs.Kinds.{Kinds}
-use Rattle.clap.specs.Simple.{built}
-use Rattle.clap.specs.Walk.{Text, nothing_held}
-use Rattle.clap.proofs.CutLemmas.{Lacks}
+use Rattle.hive_model.specs.Lists.{IsOn}
+use Rattle.hive_model.proofs.NearLaws.{map_has}
+use Rattle.hive_model.proofs.RuleLaws.{any_has, has_any, on_map}
+use Rattle.clap.specs.Faults.{built_fault}
+use Rattle.clap.specs.Simple.{App, names_of}
+use Rattle.clap.specs.Walk.{Row, Text, first_of, nothing_held, rows_after}
+use borrow.Author.Tests.{ltb-true}
 use Rattle.clap.proofs.FaultLemmas.{leaf_fault}
-use Rattle.option_words.specs.Options.{AskFor, BeginWith, GiveOne, HasNoEquals, IsItem, IsValue, Item, in_one_word, name_word}
-use Rattle.option_words.specs.Parse.{option_app, parsed, unless_fault}
-use Rattle.option_words.proofs.WalkLaws.{equal_texts, found, left, same_bytes}
-use Rattle.option_words.proofs.PlaceLaws.{Finds, HasNoDashes, Reads, one_word_finds, start, start_reads, two_words_find}
-use Rattle.option_words.proofs.FormLaws.{cut_is, lacks_more, long_is, name_word_long, name_word_whole, one_word_long, one_word_whole, value_long, value_short, value_whole, whole_is}
-
--- no `=` in the words of the items, and in those of the lexer
-no_equals_lacks : (name : Text) → HasNoEquals name → Lacks 61 name
-no_equals_lacks [] h = λ i lt. absurd (omega (arith, lt))
-no_equals_lacks (b ∷ bs) h = lacks_more b bs h.0 (no_equals_lacks bs h.1)
-
-lacks_no_equals : (name : Text) → Lacks 61 name → HasNoEquals name
-lacks_no_equals [] h = tt
-lacks_no_equals (b ∷ bs) h = (h 0 (grind (arith, common_steps)), lacks_no_equals bs (λ i lt. h (suc i) (omega (arith, lt))))
+use Rattle.clap.proofs.WalkLemmas.{both}
+use Rattle.option_words.specs.Options.{AreDifferent, AreItems, Gives, IsValue, Item, are_names, value_of, values_of}
+use Rattle.option_words.specs.Parse.{parsed, unless_fault, values_in}
+use Rattle.option_words.proofs.RuleLaws.{app_built, equal_texts, is_known, same_bytes, shape}
+use Rattle.option_words.proofs.PlaceLaws.{HasNoDashes, after, outcome}
+use Rattle.option_words.proofs.ReadLaws.{Reads, differ_bytes, items_found, row_of, walk_reads}
 
 -- ---- the parse and the walk
 
-parsed_is : (command name : Text) (words : List Text) → parsed command name words ≡ unless_fault (left command name start words) (found name start words)
+parsed_is : (command : Text) (names words : List Text) → parsed command names words ≡ option_map (values_in names) (outcome command names (after []) words)
 unfolding parsed
-parsed_is command name words = ap (λ faults. unless_fault faults (found name start words)) (leaf_fault (built (option_app command name)) nothing_held words refl)
+parsed_is command names words =
+    let faults = ap (λ a. built_fault a nothing_held words) (app_built command names) ∙ leaf_fault (record { top = shape command names; subs = [] }) nothing_held words refl in
+    let rows = ap (λ (a : App). rows_after a.top.rules (names_of a) words) (app_built command names) in
+    ap (option_map (values_in names)) (ap₂ unless_fault faults rows)
 
-unless_finds : (faults : Kinds) (o : Option Text) (v : Text) → unless_fault faults o ≡ Some v → (faults ≡ []) × (o ≡ Some v)
-unless_finds [] o v e = (refl, e)
-unless_finds (k ∷ ks) o v e = let none : None ≡ Some v = e in cc
+-- ---- the values of items
 
-parse_of : (command name v : Text) (words : List Text) → Finds command name start words v → parsed command name words ≡ Some v
-parse_of command name v words finds = parsed_is command name words ∙ ap₂ unless_fault finds.0 finds.1
-
-finds_of : (command name v : Text) (words : List Text) → parsed command name words ≡ Some v → Finds command name start words v
-finds_of command name v words e = unless_finds _ _ v (sym (parsed_is command name words) ∙ e)
-
--- ---- the words that give one option
-
-abbrev item_of : Text → Text → Item
-item_of name v = record { name = name; value = v }
-
--- The words are the command and one item, of this name and with this value.
-pub record IsOnly (words : List Text) (command name v : Text) : Type 0 where
-  pub rest : List Text
-  pub begin : words ≡ command ∷ rest
-  pub item : IsItem (item_of name v)
-  pub form : BeginWith rest (item_of name v) []
-
-pub only_item : (words : List Text) (command name v : Text) → GiveOne words command name v → IsOnly words command name v
-only_item words command name v give = go give.items give.ask give.given
+found_value : (items : List Item) (name : Text) → first_of name (map row_of items) ≡ value_of items name
+found_value [] name = refl
+found_value (item ∷ items) name = go (bytes_eq item.name name) (found_value items name)
   where
-    named : (item : Item) → IsOn (name ∷ []) item.name → name ≡ item.name
-    named item (inl is) = is
-    named item (inr none) = absurd none
+    go : (b : Bool) → first_of name (map row_of items) ≡ value_of items name
+        → option_and_then (λ (r : Row). slice_get r.values 0) (cond b (Some (row_of item)) (find (λ (r : Row). bytes_eq r.id name) (map row_of items)))
+        ≡ option_map (λ (i : Item). i.value) (cond b (Some item) (find (λ (i : Item). bytes_eq i.name name) items))
+    go true later = refl
+    go false later = later
 
-    go : (items : List Item) → AskFor words command (name ∷ []) items → IsOn items (item_of name v) → IsOnly words command name v
-    go [] ask none = absurd none
-    go (item ∷ []) ask (inr none) = absurd none
-    go (item ∷ []) ask (inl is) =
-        let form = subst (λ i. BeginWith ask.rest i ask.are_items.0) is ask.are_items.1 in
-        record {
-          rest = ask.rest;
-          begin = ask.begin;
-          item = subst IsItem is ask.are_items.2;
-          form = subst (λ others. BeginWith ask.rest (item_of name v) others) ask.are_items.3 form;
-        }
-    go (item ∷ (other ∷ items)) ask given =
-        let first = named item (ask.known item (inl refl)) in
-        let second = named other (ask.known other (inr (inl refl))) in
-        absurd (ask.once.0 other (inl refl) (sym second ∙ first))
+values_are : (items : List Item) (names : List Text) → values_in names (map row_of items) ≡ map (value_of items) names
+values_are items [] = refl
+values_are items (name ∷ names) = ap₂ (λ v vs. v ∷ vs) (found_value items name) (values_are items names)
 
-pub gives_one : (words : List Text) (command name v : Text) → IsOnly words command name v → GiveOne words command name v
-gives_one words command name v only = record {
-  items = item_of name v ∷ [];
-  ask = record {
-    rest = only.rest;
-    begin = only.begin;
-    are_items = ([], only.form, only.item, refl);
-    known = λ item on. elim on [ inl is ↦ inl (ap (λ (i : Item). i.name) is) | inr none ↦ absurd none ];
-    once = (λ other none. absurd none, tt);
-  };
-  given = inl refl;
-}
+-- an item among different ones gives its option its value
+item_gives : (items : List Item) (item : Item) → AreDifferent items → IsOn items item → value_of items item.name ≡ Some item.value
+item_gives [] item once none = absurd none
+item_gives (first ∷ items) item once (inl is) =
+    ap (λ b. option_map (λ (i : Item). i.value) (cond b (Some first) (find (λ (i : Item). bytes_eq i.name item.name) items)))
+    (ap (λ (i : Item). bytes_eq first.name i.name) (sym is) ∙ same_bytes first.name) ∙ ap (λ (i : Item). Some i.value) is
+item_gives (first ∷ items) item once (inr later) =
+    ap (λ b. option_map (λ (i : Item). i.value) (cond b (Some first) (find (λ (i : Item). bytes_eq i.name item.name) items)))
+    (differ_bytes first.name item.name (λ same. once.0 item later (sym same))) ∙ item_gives items item once.1 later
+
+-- a value that items give is that of one of them
+value_from : (items : List Item) (name v : Text) → value_of items name ≡ Some v → (item : Item) × IsOn items item × (item.value ≡ v)
+value_from [] name v none = cc
+value_from (item ∷ items) name v is = go (bytes_eq item.name name) (value_from items name v) is
+  where
+    go : (b : Bool) → (value_of items name ≡ Some v → (i : Item) × IsOn items i × (i.value ≡ v))
+        → option_map (λ (i : Item). i.value) (cond b (Some item) (find (λ (i : Item). bytes_eq i.name name) items)) ≡ Some v
+        → (i : Item) × IsOn (item ∷ items) i × (i.value ≡ v)
+    go true later here = let same : Some item.value ≡ Some v = here in (item, inl refl, cc)
+    go false later there = let found = later there in (found.0, inr found.1, found.2)
+
+item_value : (items : List Item) (words : List Text) (item : Item) → AreItems words items → IsOn items item → IsValue item.value
+item_value [] words item are none = absurd none
+item_value (first ∷ items) words item are (inl is) = subst (λ (i : Item). IsValue i.value) is are.2.value
+item_value (first ∷ items) words item are (inr later) = item_value items are.0 item are.3 later
+
+-- ---- names
+
+known_on : (names : List Text) (name : Text) → is_known names name ≡ true → IsOn names name
+known_on names name known =
+    let found = any_has (λ n. bytes_eq n name) names known in
+    subst (IsOn names) (equal_texts found.0 name found.2) found.1
+
+on_known : (names : List Text) (name : Text) → IsOn names name → is_known names name ≡ true
+on_known names name on = has_any (λ n. bytes_eq n name) names name on (same_bytes name)
+
+on_long : (names : List Text) (name : Text) → are_names names ≡ true → IsOn names name → 0 < length name
+on_long [] name all none = absurd none
+on_long (n ∷ names) name all (inl is) = subst (λ t. 0 < length t) is (ltb-true 0 (length n) (both _ _ all).0)
+on_long (n ∷ names) name all (inr later) = on_long names name (both _ _ all).1 later
 
 -- ---- both ways
 
--- Words that give the option a value have no `--` after the command, and a parse of them finds the value.
-pub given_parsed : (command name v : Text) (words rest : List Text) → 0 < length name → words ≡ command ∷ rest → IsOnly words command name v
-    → HasNoDashes rest × (parsed command name rest ≡ Some v)
-given_parsed command name v words rest more begin only = subst (λ r. HasNoDashes r × (parsed command name r ≡ Some v)) same (go only.form)
-  where
-    same : only.rest ≡ rest
-    same = let both : command ∷ only.rest ≡ command ∷ rest = sym only.begin ∙ begin in cc
+-- each value that is there is of its form
+abbrev pub AreValues : List (Option Text) → Type 0
+AreValues values = (v : Text) → IsOn values (Some v) → IsValue v
 
-    go : BeginWith only.rest (item_of name v) [] → HasNoDashes only.rest × (parsed command name only.rest ≡ Some v)
-    go (inl one) =
-        let word : Text = in_one_word (item_of name v) in
-        let whole = one_word_whole name v in
-        let finds = parse_of command name v (word ∷ []) (one_word_finds command name word v whole (one_word_long name v (no_equals_lacks name only.item.name))) in
-        subst (λ r. HasNoDashes r × (parsed command name r ≡ Some v)) (sym one) (ap (λ b. b || false) whole, finds)
-    go (inr two) =
-        let word : Text = name_word (item_of name v) in
-        let whole = name_word_whole name more in
-        let value_is = value_whole v only.item.value in
-        let finds = parse_of command name v (word ∷ (v ∷ [])) (two_words_find command name word v whole (name_word_long name more (no_equals_lacks name only.item.name))
-        value_is (value_long v only.item.value) (value_short v only.item.value)) in
-        subst (λ r. HasNoDashes r × (parsed command name r ≡ Some v)) (sym two) (ap₂ (λ a b. a || (b || false)) whole value_is, finds)
-
--- Words after the command with no `--`, in which a parse finds a value of its form, give the option that value.
-pub parsed_given : (command name v : Text) (words rest : List Text) → words ≡ command ∷ rest → HasNoDashes rest → parsed command name rest ≡ Some v → IsValue v
-    → IsOnly words command name v
-parsed_given command name v words rest begin no_dashes finds value = go (start_reads command name v rest no_dashes (finds_of command name v rest finds))
+-- The values that a parse finds are given, where they are of their form.
+pub parsed_gives : (command : Text) (names words rest : List Text) (values : List (Option Text)) → words ≡ command ∷ rest → HasNoDashes rest
+    → parsed command names rest ≡ Some values → AreValues values → Gives words command names values
+parsed_gives command names words rest values begin no_dashes finds are = go (outcome command names (after []) rest) refl (sym (parsed_is command names rest) ∙ finds)
   where
-    go : Reads name rest v → IsOnly words command name v
-    go (inl (word, is, long)) =
-        let cut = long_is word (name, Some v) long in
-        let parts = cut_is cut.0 name v cut.2 in
+    gives : (rows : List Row) → values_in names rows ≡ values → Reads names [] rest rows → Gives words command names values
+    gives rows same r =
+        let all : values ≡ map (value_of r.items) names = sym same ∙ ap (values_in names) r.found_is ∙ values_are r.items names in
+        let value : (item : Item) → IsOn r.items item → IsValue item.value = λ item on.
+        let here : IsOn (map (value_of r.items) names) (value_of r.items item.name) = on_map (value_of r.items) names item.name (known_on names item.name (r.known item on)) in
+        are item.value (subst (λ vs. IsOn vs (Some item.value)) (sym all) (subst (IsOn (map (value_of r.items) names)) (item_gives r.items item r.once on) here)) in
         record {
-          rest = rest;
-          begin = begin;
-          item = record { name = lacks_no_equals name parts.1; value = value };
-          form = inl (is ∙ ap (λ w. w ∷ []) (cut.1 ∙ ap (λ t. codes "--" ++ t) parts.0));
+          items = r.items;
+          ask = record {
+            rest = rest;
+            begin = begin;
+            are_items = r.are_items value;
+            known = λ item on. known_on names item.name (r.known item on);
+            once = r.once;
+          };
+          values_are = all;
         }
-    go (inr (word, is, long)) =
-        let cut = long_is word (name, None) long in
-        let parts = whole_is cut.0 name cut.2 in
-        record {
-          rest = rest;
-          begin = begin;
-          item = record { name = lacks_no_equals name parts.1; value = value };
-          form = inr (is ∙ ap (λ w. w ∷ (v ∷ [])) (cut.1 ∙ ap (λ t. codes "--" ++ t) parts.0));
-        }
+
+    go : (o : Option (List Row)) → outcome command names (after []) rest ≡ o → option_map (values_in names) o ≡ Some values → Gives words command names values
+    go None is none = cc
+    go (Some rows) is some = let same : Some (values_in names rows) ≡ Some values = some in gives rows (cc) (walk_reads command names rest [] rows no_dashes is)
+
+-- the same of values as the program holds them
+pub all_values : (xs : List (Option (Bor Text))) → All (λ x. IfSome x (λ t. IsValue t.now)) xs → AreValues (values_of xs)
+all_values [] all v none = absurd none
+all_values (None ∷ xs) all v (inl is) = let none : None ≡ Some v = is in cc
+all_values (None ∷ xs) all v (inr later) = all_values xs (λ k d lt. all (suc k) d (omega (arith, lt))) v later
+all_values (Some t ∷ xs) all v (inl is) = let same : Some t.now ≡ Some v = is in let texts : t.now ≡ v = cc in subst IsValue texts (all 0 (Some t) (omega arith))
+all_values (Some t ∷ xs) all v (inr later) = all_values xs (λ k d lt. all (suc k) d (omega (arith, lt))) v later
+
+pub values_all : (xs : List (Option (Bor Text))) → AreValues (values_of xs) → All (λ x. IfSome x (λ t. IsValue t.now)) xs
+values_all [] are k d lt = absurd (omega (arith, lt))
+values_all (None ∷ xs) are zero d lt = tt
+values_all (Some t ∷ xs) are zero d lt = are t.now (inl refl)
+values_all (x ∷ xs) are (suc k) d lt = values_all xs (λ v on. are v (inr on)) k d (omega (arith, lt))
 
 -- ---- the answers
 
--- words that begin with another word than the command give nothing
-pub other_command : (command name v first : Text) (words rest : List Text) → words ≡ first ∷ rest → true ≡ not (bytes_eq first command) → GiveOne words command name v → ⊥
-other_command command name v first words rest begin differs give =
-    let only = only_item words command name v give in
-    let both : first ∷ rest ≡ command ∷ only.rest = sym begin ∙ only.begin in
-    let same : first ≡ command = cc in
-    let bad : true ≡ false = differs ∙ ap (λ f. not (bytes_eq f command)) same ∙ ap not (same_bytes command) in cc
-
--- what words that give a value come to
-pub given_value : (command name v first : Text) (words rest : List Text) → 0 < length name → words ≡ first ∷ rest → GiveOne words command name v
-    → HasNoDashes rest × (parsed command name rest ≡ Some v) × IsValue v
-given_value command name v first words rest more begin give =
-    let only = only_item words command name v give in
-    let both : first ∷ rest ≡ command ∷ only.rest = sym begin ∙ only.begin in
-    let same : first ≡ command = cc in
-    let reads = given_parsed command name v words rest more (begin ∙ ap (λ f. f ∷ rest) same) only in
-    (reads.0, reads.1, only.item.value)
-
--- the value that is found after the command, where it is of its form and no word is `--`
-pub found_value : (command name v first : Text) (words rest : List Text) → words ≡ first ∷ rest → false ≡ not (bytes_eq first command) → HasNoDashes rest
-    → parsed command name rest ≡ Some v → IsValue v → GiveOne words command name v
-found_value command name v first words rest begin same no_dashes finds value =
-    gives_one words command name v (parsed_given command name v words rest (begin ∙ ap (λ f. f ∷ rest) (equal_texts first command (go (bytes_eq first command) same))) no_dashes finds value)
+same_command : (first command : Text) → false ≡ not (bytes_eq first command) → first ≡ command
+same_command first command same = equal_texts first command (go (bytes_eq first command) same)
   where
     go : (b : Bool) → false ≡ not b → b ≡ true
     go true e = refl
     go false e = cc
+
+-- the values that are found after the command, where they are of their form and no word is `--`
+pub found_gives : (command first : Text) (names words rest : List Text) (values : List (Option Text)) → words ≡ first ∷ rest → false ≡ not (bytes_eq first command)
+    → HasNoDashes rest → parsed command names rest ≡ Some values → AreValues values → Gives words command names values
+found_gives command first names words rest values begin same = parsed_gives command names words rest values (begin ∙ ap (λ f. f ∷ rest) (same_command first command same))
+
+-- What words that give values come to.
+pub record IsFound (command first : Text) (names rest : List Text) (values : List (Option Text)) : Type 0 where
+  pub command_is : first ≡ command
+  pub no_dashes : HasNoDashes rest
+  pub finds : parsed command names rest ≡ Some values
+  pub are : AreValues values
+
+pub given_found : (command first : Text) (names words rest : List Text) (values : List (Option Text)) → are_names names ≡ true → words ≡ first ∷ rest
+    → Gives words command names values → IsFound command first names rest values
+given_found command first names words rest values named begin give =
+    let ask = give.ask in
+    let both : first ∷ rest ≡ command ∷ ask.rest = sym begin ∙ ask.begin in
+    let same : ask.rest ≡ rest = cc in
+    let walk = items_found command names give.items [] ask.rest ask.are_items (λ item on. on_known names item.name (ask.known item on))
+    (λ item on. on_long names item.name named (ask.known item on)) ask.once (λ item on. refl) in
+    record {
+      command_is = cc;
+      no_dashes = subst HasNoDashes same walk.0;
+      finds = ap (parsed command names) (sym same) ∙ parsed_is command names ask.rest ∙ ap (option_map (values_in names)) walk.1
+          ∙ ap Some (values_are give.items names ∙ sym give.values_are);
+      are = λ v on.
+          let here = map_has (value_of give.items) names (Some v) (subst (λ vs. IsOn vs (Some v)) give.values_are on) in
+          let from = value_from give.items here.0 v here.2 in
+          subst IsValue from.2 (item_value give.items ask.rest from.0 ask.are_items from.1);
+    }
+
+-- words that begin with another word than the command give nothing
+pub other_command : (command first : Text) (names words rest : List Text) (values : List (Option Text)) → words ≡ first ∷ rest → true ≡ not (bytes_eq first command)
+    → Gives words command names values → ⊥
+other_command command first names words rest values begin differs give =
+    let both : first ∷ rest ≡ command ∷ give.ask.rest = sym begin ∙ give.ask.begin in
+    let same : first ≡ command = cc in
+    let bad : true ≡ false = differs ∙ ap (λ f. not (bytes_eq f command)) same ∙ ap not (same_bytes command) in cc

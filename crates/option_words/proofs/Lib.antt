@@ -1,5 +1,7 @@
+pub mod RuleLaws
 pub mod WalkLaws
 pub mod PlaceLaws
-pub mod ParserLaws
 pub mod FormLaws
+pub mod ReadLaws
 pub mod GiveLaws
+pub mod ParserLaws

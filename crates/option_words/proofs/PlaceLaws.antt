@@ -1,24 +1,31 @@
--- The walk of `clap` from each place that it can stand at, at the command with one option: what is refused, and what is found.
-use Rattle.std.proofs.Common.{◌≡◌, ◌∙◌, ◌||◌, ◌⊎◌, inl, inr, Bool, true, false, refl, sym, ap, ap₂, List, [], ◌∷◌, Option, Some, None, codes}
+-- The walk of `clap` over the words: it takes item after item, each whose name is known and was not used before.
+use Rattle.std.proofs.Common.{◌≡◌, ◌∙◌, ◌&&◌, ◌||◌, ◌⊎◌, inl, inr, cond, Bool, true, false, refl, sym, ap, ap₂, List, [], ◌∷◌, ◌++◌, Option, Some, None, codes, fold, if◌then◌else◌, nat_lt, append-nil}
 use Rattle.std.specs.List.{list_any}
+use Rattle.std.specs.Option.{option_map_or}
 use Rattle.std.specs.Str.{bytes_eq}
-use Rattle.clap.specs.Lexer.{long_of, short_of}
 use Rattle.clap.specs.Kinds.{Kinds, or_else}
-use Rattle.clap.specs.Walk.{Held, Row, Step, Text, Waiting, Walk, after_step, idle, option, subcommand_or_other, used, value, walked}
-use Rattle.clap.specs.Faults.{defaults_fault, other_fault, step_fault, turn_fault, walk_fault}
-use Rattle.clap.specs.declared.error.kind.ErrorKind.{ErrorKind}
-use Rattle.option_words.proofs.WalkLaws.{WordKind, at, found, holding, id, left, named, named_fault, named_met, no_subcommand, or_else-assoc, refused, rule, shape, stray, stray_fault, stray_met, valued, valued_fault, valued_met, word_kind}
+use Rattle.clap.specs.Lexer.{long_of}
+use Rattle.clap.specs.Walk.{Held, Row, Rule, Step, Text, Waiting, Walk, after_step, at_row, finished, has_row, idle, more_values, next, option, option_word, reading_by, settled, settled_rows, subcommand_or_other, used, used_by_id, value, walked}
+use Rattle.clap.specs.Faults.{check_fault, defaults_fault, other_fault, positional_fault, settle_fault, step_fault, turn_fault, use_fault, values_fault, walk_fault}
+use Rattle.clap.specs.declared.error.kind.ErrorKind.TheVariants.{ArgumentConflict, InvalidValue, UnknownArgument}
+use Rattle.clap.specs.declared.parser.matches.ValueSource.TheVariants.{CommandLine}
+use Rattle.option_words.specs.Parse.{unless_fault}
+use Rattle.option_words.proofs.RuleLaws.{id_known, is_known, no_check_fault, no_default, no_default_fault, no_index, rule, rules, same_bytes, shape}
+use Rattle.option_words.proofs.WalkLaws.{IsRefused, IsStray, WordKind, holding, named, named_fault, named_met, no_subcommand, refused, stray, valued, valued_fault, valued_met, word_kind}
 
--- nothing is refused, and this value is found
-abbrev pub Finds : Text → Text → Walk → List Text → Text → Type 0
-Finds command name w words v = (left command name w words ≡ []) × (found name w words ≡ Some v)
+-- a place of the walk between two words
+abbrev pub at : List Row → Option (Text × List Text) → Waiting → Walk
+at rows pending waiting = record {
+  held = holding rows pending;
+  waiting = waiting;
+  position = 1;
+  is_trailing = false;
+  stopped = None;
+}
 
-abbrev pub Fails : Text → Text → Walk → List Text → Type 0
-Fails command name w words = left command name w words ≡ [] → ⊥
-
--- from here the words come to what they come to from there
-abbrev pub Goes : Text → Text → Walk → List Text → Walk → List Text → Type 0
-Goes command name w words after rest = (left command name w words ≡ left command name after rest) × (found name w words ≡ found name after rest)
+-- a place where nothing is pending
+abbrev pub after : List Row → Walk
+after rows = at rows None idle
 
 abbrev pub HasNoDashes : List Text → Type 0
 HasNoDashes words = list_any (λ word. bytes_eq word (codes "--")) words ≡ false
@@ -27,244 +34,231 @@ pub neither : (a b : Bool) → (a || b) ≡ false → (a ≡ false) × (b ≡ fa
 neither false b e = (refl, e)
 neither true b e = (e, absurd (cc))
 
--- ---- one word
+or_else-assoc : (a b c : Kinds) → or_else (or_else a b) c ≡ or_else a (or_else b c)
+or_else-assoc [] b c = refl
+or_else-assoc (k ∷ ks) b c = refl
 
-turn : (command name : Text) (rows : List Row) (pending : Option (Text × List Text)) (waiting : Waiting) (word : Text) (faults : Kinds) (m : Held × Step)
-    → other_fault (shape command name) None word (holding rows pending) ≡ faults
-    → subcommand_or_other (rule name ∷ []) None waiting 1 word (holding rows pending) ≡ m
-    → turn_fault (shape command name) [] (at rows pending waiting) word ≡ or_else faults (step_fault (shape command name) 1 m.0 m.1)
-turn command name rows pending waiting word faults m fault met =
-    ap (λ n. or_else (other_fault (shape command name) n word (holding rows pending))
-    (step_fault (shape command name) 1 (subcommand_or_other (rule name ∷ []) n waiting 1 word (holding rows pending)).0
-    (subcommand_or_other (rule name ∷ []) n waiting 1 word (holding rows pending)).1)) (no_subcommand waiting word)
-    ∙ ap₂ (λ k m. or_else k (step_fault (shape command name) 1 m.0 m.1)) fault met
+or_else-none : (a : Kinds) → or_else a [] ≡ a
+or_else-none [] = refl
+or_else-none (k ∷ ks) = refl
 
-moved : (name : Text) (rows : List Row) (pending : Option (Text × List Text)) (waiting : Waiting) (word : Text) (m : Held × Step)
-    → subcommand_or_other (rule name ∷ []) None waiting 1 word (holding rows pending) ≡ m
-    → walked (rule name ∷ []) [] (at rows pending waiting) word ≡ after_step (rule name ∷ []) word (at rows pending waiting) m.0 m.1
-unfolding walked
-moved name rows pending waiting word m met =
-    ap (λ n. after_step (rule name ∷ []) word (at rows pending waiting) (subcommand_or_other (rule name ∷ []) n waiting 1 word (holding rows pending)).0
-    (subcommand_or_other (rule name ∷ []) n waiting 1 word (holding rows pending)).1) (no_subcommand waiting word)
-    ∙ ap (λ m. after_step (rule name ∷ []) word (at rows pending waiting) m.0 m.1) met
+-- what is found, where there is no fault before it
+abbrev pub unless : Kinds → Option (List Row) → Option (List Row)
+unless [] found = found
+unless (k ∷ ks) found = None
 
-left_step : (command name : Text) (w after : Walk) (word : Text) (rest : List Text) (faults : Kinds)
-    → turn_fault (shape command name) [] w word ≡ faults → walked (rule name ∷ []) [] w word ≡ after
-    → left command name w (word ∷ rest) ≡ or_else faults (left command name after rest)
-unfolding walk_fault
-left_step command name w after word rest faults fault walk =
-    or_else-assoc (turn_fault (shape command name) [] w word) _ _ ∙ ap₂ (λ f a. or_else f (left command name a rest)) fault walk
+unless_first : (a b : Kinds) (found : List Row) → unless_fault (or_else a b) found ≡ unless a (unless_fault b found)
+unless_first [] b found = refl
+unless_first (k ∷ ks) b found = refl
 
--- a word that is not refused leads to the next place
-goes : (command name : Text) (rows : List Row) (pending : Option (Text × List Text)) (waiting : Waiting) (word : Text) (rest : List Text) (m : Held × Step)
-    → other_fault (shape command name) None word (holding rows pending) ≡ []
-    → subcommand_or_other (rule name ∷ []) None waiting 1 word (holding rows pending) ≡ m
-    → step_fault (shape command name) 1 m.0 m.1 ≡ []
-    → Goes command name (at rows pending waiting) (word ∷ rest) (after_step (rule name ∷ []) word (at rows pending waiting) m.0 m.1) rest
-goes command name rows pending waiting word rest m fault met step = (
-  left_step command name (at rows pending waiting) _ word rest [] (turn command name rows pending waiting word [] m fault met ∙ step) (moved name rows pending waiting word m met),
-  ap (λ a. found name a rest) (moved name rows pending waiting word m met),
-)
+unless_none : (a : Kinds) → None ≡ unless a None
+unless_none [] = refl
+unless_none (k ∷ ks) = refl
 
--- a fault of the word, or of the step that it takes, is a fault of the words
-fails : (command name : Text) (rows : List Row) (pending : Option (Text × List Text)) (waiting : Waiting) (word : Text) (rest : List Text) (k : ErrorKind) (ks : Kinds)
-    → turn_fault (shape command name) [] (at rows pending waiting) word ≡ k ∷ ks → Fails command name (at rows pending waiting) (word ∷ rest)
-fails command name rows pending waiting word rest k ks fault none =
-    let shown = sym (left_step command name (at rows pending waiting) _ word rest (k ∷ ks) fault refl) ∙ none in cc
+unless_both : (a b : Kinds) (found : Option (List Row)) → unless (or_else a b) found ≡ unless a (unless b found)
+unless_both [] b found = refl
+unless_both (k ∷ ks) b found = refl
 
-word_fails : (command name : Text) (rows : List Row) (pending : Option (Text × List Text)) (waiting : Waiting) (word : Text) (rest : List Text) (k : ErrorKind) (ks : Kinds)
-    → other_fault (shape command name) None word (holding rows pending) ≡ k ∷ ks → Fails command name (at rows pending waiting) (word ∷ rest)
-word_fails command name rows pending waiting word rest k ks fault =
-    fails command name rows pending waiting word rest k ks (turn command name rows pending waiting word (k ∷ ks) _ fault refl)
+-- ---- one use of an option
 
--- where nothing waits for a value, a word that is no flag has no place
-stray_fails : (command name : Text) (rows : List Row) (pending : Option (Text × List Text)) (word : Text) (rest : List Text)
-    → other_fault (shape command name) None word (holding rows pending) ≡ []
-    → subcommand_or_other (rule name ∷ []) None idle 1 word (holding rows pending) ≡ (holding rows pending, value)
-    → Fails command name (at rows pending idle) (word ∷ rest)
-stray_fails command name rows pending word rest fault met =
-    fails command name rows pending idle word rest _ _ (turn command name rows pending idle word [] (holding rows pending, value) fault met)
+-- what an option has whose value was given
+abbrev pub row : Text → Text → Row
+row name v = record { id = name; values = v ∷ []; count = None; source = Some CommandLine; reading = reading_by (rule name) }
 
--- ---- the places: each by what was found, what is pending and what waits
+at_row_none : (id : Text) (change : Row → List Row) (missing rows : List Row) → has_row id rows ≡ false → at_row id change missing rows ≡ rows ++ missing
+at_row_none id change missing [] none = refl
+at_row_none id change missing (r ∷ rs) none =
+    let both = neither _ _ none in
+    ap (λ b. cond b (change r ++ rs) (r ∷ at_row id change missing rs)) both.0 ∙ ap (λ xs. r ∷ xs) (at_row_none id change missing rs both.1)
 
-abbrev pub start : Walk
-start = at [] None idle
+used_is : (name v : Text) (rows : List Row) → has_row name rows ≡ false → used (rule name) (v ∷ []) rows ≡ rows ++ row name v ∷ []
+used_is name v rows none =
+    let without_is : at_row name (λ _. []) [] rows ≡ rows = at_row_none name (λ _. []) [] rows none ∙ append-nil rows in
+    ap (λ xs. at_row name (more_values CommandLine (v ∷ [])) (row name v ∷ []) xs) without_is ∙ at_row_none name (more_values CommandLine (v ∷ [])) (row name v ∷ []) rows none
 
-abbrev pub given : Text → Text → List Row
-given name v = used (rule name) (v ∷ []) []
+use_passes : (name v : Text) (rows : List Row) → has_row name rows ≡ false → use_fault false (rule name) (v ∷ []) rows ≡ []
+use_passes name v rows none = ap (λ b. or_else (cond (b && true) (ArgumentConflict ∷ []) []) (values_fault (rule name) (v ∷ []))) none
 
--- the option's name was read
-abbrev pub asked : Walk
-asked = at [] (Some (id, [])) (option id)
+use_fails : (name v : Text) (rows : List Row) → has_row name rows ≡ true → use_fault false (rule name) (v ∷ []) rows ≡ ArgumentConflict ∷ []
+use_fails name v rows some = ap (λ b. or_else (cond (b && true) (ArgumentConflict ∷ []) []) (values_fault (rule name) (v ∷ []))) some
 
--- `--option=v` was read
-abbrev pub given_at : Text → Text → Walk
-given_at name v = at (given name v) None idle
+module _ (command : Text) (names : List Text) where
+  -- the faults that are left from a place on
+  abbrev pub left : Walk → List Text → Kinds
+  left w words =
+      let end = (fold (walked (rules names) []) w words).held in
+      or_else (walk_fault (shape command names) [] w words)
+      (or_else (settle_fault (rules names) false end)
+      (or_else (defaults_fault (settled (rules names) end).rows (rules names))
+      (check_fault (shape command names) (finished (rules names) end) false)))
 
--- `--option v` was read
-abbrev pub got_at : Text → Walk
-got_at v = at [] (Some (id, v ∷ [])) idle
+  -- what is found in the end
+  abbrev pub found : Walk → List Text → List Row
+  found w words = finished (rules names) (fold (walked (rules names) []) w words).held
 
-abbrev pub asked_again : Text → Text → Walk
-asked_again name v = at (given name v) (Some (id, [])) (option id)
+  -- what a walk from a place on comes to
+  abbrev pub outcome : Walk → List Text → Option (List Row)
+  outcome w words = unless_fault (left w words) (found w words)
 
-abbrev pub got_again : Text → Text → Text → Walk
-got_again name v u = at (given name v) (Some (id, u ∷ [])) idle
+  -- ---- one word
 
--- ---- the ends
+  turn : (rows : List Row) (pending : Option (Text × List Text)) (waiting : Waiting) (word : Text) (faults : Kinds) (m : Held × Step)
+      → other_fault (shape command names) None word (holding rows pending) ≡ faults
+      → subcommand_or_other (rules names) None waiting 1 word (holding rows pending) ≡ m
+      → turn_fault (shape command names) [] (at rows pending waiting) word ≡ or_else faults (step_fault (shape command names) 1 m.0 m.1)
+  turn rows pending waiting word faults m fault met =
+      ap (λ n. or_else (other_fault (shape command names) n word (holding rows pending))
+      (step_fault (shape command names) 1 (subcommand_or_other (rules names) n waiting 1 word (holding rows pending)).0
+      (subcommand_or_other (rules names) n waiting 1 word (holding rows pending)).1)) (no_subcommand waiting word)
+      ∙ ap₂ (λ k m. or_else k (step_fault (shape command names) 1 m.0 m.1)) fault met
 
-pub start_finds_none : (name : Text) → found name start [] ≡ None
-start_finds_none name = refl
+  moved : (rows : List Row) (pending : Option (Text × List Text)) (waiting : Waiting) (word : Text) (m : Held × Step)
+      → subcommand_or_other (rules names) None waiting 1 word (holding rows pending) ≡ m
+      → walked (rules names) [] (at rows pending waiting) word ≡ after_step (rules names) word (at rows pending waiting) m.0 m.1
+  unfolding walked
+  moved rows pending waiting word m met =
+      ap (λ n. after_step (rules names) word (at rows pending waiting) (subcommand_or_other (rules names) n waiting 1 word (holding rows pending)).0
+      (subcommand_or_other (rules names) n waiting 1 word (holding rows pending)).1) (no_subcommand waiting word)
+      ∙ ap (λ m. after_step (rules names) word (at rows pending waiting) m.0 m.1) met
 
-pub given_finds : (command name v : Text) → Finds command name (given_at name v) [] v
-unfolding walk_fault defaults_fault
-given_finds command name v = (refl, refl)
+  left_step : (w w' : Walk) (word : Text) (rest : List Text) (faults : Kinds)
+      → turn_fault (shape command names) [] w word ≡ faults → walked (rules names) [] w word ≡ w'
+      → left w (word ∷ rest) ≡ or_else faults (left w' rest)
+  unfolding walk_fault
+  left_step w w' word rest faults fault walk =
+      or_else-assoc (turn_fault (shape command names) [] w word) _ _ ∙ ap₂ (λ f a. or_else f (left a rest)) fault walk
 
-pub got_finds : (command name v : Text) → Finds command name (got_at v) [] v
-unfolding walk_fault defaults_fault
-got_finds command name v = (refl, refl)
+  -- a word, by the faults that it has and by what it is met as
+  steps : (rows : List Row) (pending : Option (Text × List Text)) (waiting : Waiting) (word : Text) (rest : List Text) (faults : Kinds) (m : Held × Step)
+      → other_fault (shape command names) None word (holding rows pending) ≡ faults
+      → subcommand_or_other (rules names) None waiting 1 word (holding rows pending) ≡ m
+      → outcome (at rows pending waiting) (word ∷ rest)
+      ≡ unless (or_else faults (step_fault (shape command names) 1 m.0 m.1)) (outcome (after_step (rules names) word (at rows pending waiting) m.0 m.1) rest)
+  steps rows pending waiting word rest faults m fault met =
+      ap₂ unless_fault (left_step (at rows pending waiting) _ word rest _ (turn rows pending waiting word faults m fault met) (moved rows pending waiting word m met))
+      (ap (λ a. found a rest) (moved rows pending waiting word m met))
+      ∙ unless_first _ _ _
 
-asked_ends : (command name : Text) → Fails command name asked []
-unfolding walk_fault
-asked_ends command name none = cc
+  pub refused_fails : (rows : List Row) (pending : Option (Text × List Text)) (waiting : Waiting) (word : Text) (rest : List Text) → IsRefused command names word
+      → outcome (at rows pending waiting) (word ∷ rest) ≡ None
+  refused_fails rows pending waiting word rest is = steps rows pending waiting word rest _ _ (is rows pending) refl
 
-asked_again_ends : (command name v : Text) → Fails command name (asked_again name v) []
-unfolding walk_fault
-asked_again_ends command name v none = cc
+  -- where nothing waits for a value, a word that is no flag has no place
+  pub stray_fails : (rows : List Row) (pending : Option (Text × List Text)) (word : Text) (rest : List Text) → IsStray command names word
+      → outcome (at rows pending idle) (word ∷ rest) ≡ None
+  stray_fails rows pending word rest is = steps rows pending idle word rest _ _ (is.passes rows pending) (is.met rows pending idle)
+      ∙ ap (λ a. unless (option_map_or (λ r. positional_fault (rules names) false r (holding rows pending)) a (UnknownArgument ∷ []))
+      (outcome (after_step (rules names) word (at rows pending idle) (holding rows pending) value) rest)) (no_index names 1)
 
-got_again_ends : (command name v u : Text) → Fails command name (got_again name v u) []
-unfolding walk_fault
-got_again_ends command name v u none = cc
+  valued_steps : (rows : List Row) (pending : Option (Text × List Text)) (word name v : Text) (rest : List Text) → bytes_eq word (codes "--") ≡ false
+      → is_known names name ≡ true → long_of word ≡ Some (name, Some v)
+      → outcome (at rows pending idle) (word ∷ rest) ≡ unless (settle_fault (rules names) false (holding rows pending))
+      (unless (use_fault false (rule name) (v ∷ []) (settled_rows (rules names) pending rows)) (outcome (after (used (rule name) (v ∷ []) (settled_rows (rules names) pending rows))) rest))
+  valued_steps rows pending word name v rest whole known long =
+      steps rows pending idle word rest _ _ (valued_fault command names word name v (holding rows pending) whole known long)
+      (valued_met command names word name v (holding rows pending) idle whole known long)
+      ∙ ap (λ f. unless f (outcome (after (used (rule name) (v ∷ []) (settled_rows (rules names) pending rows))) rest)) (or_else-none _)
+      ∙ unless_both (settle_fault (rules names) false (holding rows pending)) (use_fault false (rule name) (v ∷ []) (settled_rows (rules names) pending rows))
+      (outcome (after (used (rule name) (v ∷ []) (settled_rows (rules names) pending rows))) rest)
 
--- ---- the places from which all words fail
+  named_steps : (rows : List Row) (pending : Option (Text × List Text)) (word name : Text) (rest : List Text) → bytes_eq word (codes "--") ≡ false
+      → is_known names name ≡ true → long_of word ≡ Some (name, None)
+      → outcome (at rows pending idle) (word ∷ rest) ≡ unless (settle_fault (rules names) false (holding rows pending))
+      (outcome (at (settled_rows (rules names) pending rows) (Some (name, [])) (option name)) rest)
+  named_steps rows pending word name rest whole known long =
+      steps rows pending idle word rest _ _ (named_fault command names word name (holding rows pending) whole known long)
+      (named_met command names word name (holding rows pending) idle whole known long)
+      ∙ ap (λ f. unless f (outcome (at (settled_rows (rules names) pending rows) (Some (name, [])) (option name)) rest)) (or_else-none _)
 
-got_again_fails : (command name v u : Text) (words : List Text) → HasNoDashes words → Fails command name (got_again name v u) words
-got_again_fails command name v u [] h = got_again_ends command name v u
-got_again_fails command name v u (word ∷ rest) h = go (word_kind command name word whole)
-  where
-    whole : bytes_eq word (codes "--") ≡ false
-    whole = (neither _ _ h).0
+  -- ---- what is pending is used at last
 
-    go : WordKind command name word → Fails command name (got_again name v u) (word ∷ rest)
-    go (valued t long) = word_fails command name _ _ _ word rest _ _ (valued_fault command name word t (holding (given name v) (Some (id, u ∷ []))) whole long)
-    go (named long) = word_fails command name _ _ _ word rest _ _ (named_fault command name word (holding (given name v) (Some (id, u ∷ []))) whole long)
-    go (refused fault) = word_fails command name _ _ _ word rest _ _ (fault _ _)
-    go (stray fault met) = stray_fails command name (given name v) (Some (id, u ∷ [])) word rest (fault (given name v) (Some (id, u ∷ []))) (met (given name v) (Some (id, u ∷ [])) idle)
+  ends : (rows : List Row) (pending : Option (Text × List Text)) (waiting : Waiting) → outcome (at rows pending waiting) []
+      ≡ unless (settle_fault (rules names) false (holding rows pending)) (Some (settled_rows (rules names) pending rows))
+  unfolding walk_fault
+  ends rows pending waiting =
+      unless_first (settle_fault (rules names) false (holding rows pending)) _ _
+      ∙ ap (unless (settle_fault (rules names) false (holding rows pending)))
+      (ap₂ unless_fault (ap₂ or_else (no_default_fault names (settled_rows (rules names) pending rows)) (no_check_fault command names (fold _ (settled_rows (rules names) pending rows) (rules names)))) (no_default names (settled_rows (rules names) pending rows)))
 
-asked_again_fails : (command name v : Text) (words : List Text) → HasNoDashes words → Fails command name (asked_again name v) words
-asked_again_fails command name v [] h = asked_again_ends command name v
-asked_again_fails command name v (word ∷ rest) h = go (word_kind command name word whole)
-  where
-    whole : bytes_eq word (codes "--") ≡ false
-    whole = (neither _ _ h).0
+  pub end_finds : (rows : List Row) → outcome (after rows) [] ≡ Some rows
+  end_finds rows = ends rows None idle
 
-    go : WordKind command name word → Fails command name (asked_again name v) (word ∷ rest)
-    go (valued t long) = word_fails command name _ _ _ word rest _ _ (valued_fault command name word t (holding (given name v) (Some (id, []))) whole long)
-    go (named long) = word_fails command name _ _ _ word rest _ _ (named_fault command name word (holding (given name v) (Some (id, []))) whole long)
-    go (refused fault) = word_fails command name _ _ _ word rest _ _ (fault _ _)
-    go (stray fault met) =
-        let on = goes command name _ _ _ word rest _ (fault (given name v) (Some (id, []))) (met (given name v) (Some (id, [])) (option id)) refl in
-        λ none. got_again_fails command name v word rest (neither _ _ h).1 (sym on.0 ∙ none)
+  settling : (rows : List Row) (pending : Option (Text × List Text)) (words : List Text) → HasNoDashes words
+      → outcome (at rows pending idle) words ≡ unless (settle_fault (rules names) false (holding rows pending)) (outcome (after (settled_rows (rules names) pending rows)) words)
+  settling rows pending [] h = ends rows pending idle ∙ ap (unless (settle_fault (rules names) false (holding rows pending))) (sym (ends (settled_rows (rules names) pending rows) None idle))
+  settling rows pending (word ∷ rest) h = go (word_kind command names word whole)
+    where
+      whole : bytes_eq word (codes "--") ≡ false
+      whole = (neither _ _ h).0
 
--- a second use of the option, or a stray word, after `--option=v`
-given_fails : (command name v word : Text) (rest : List Text) → HasNoDashes (word ∷ rest) → Fails command name (given_at name v) (word ∷ rest)
-given_fails command name v word rest h = go (word_kind command name word whole)
-  where
-    whole : bytes_eq word (codes "--") ≡ false
-    whole = (neither _ _ h).0
+      none : outcome (at rows pending idle) (word ∷ rest) ≡ None → outcome (after (settled_rows (rules names) pending rows)) (word ∷ rest) ≡ None
+          → outcome (at rows pending idle) (word ∷ rest) ≡ unless (settle_fault (rules names) false (holding rows pending)) (outcome (after (settled_rows (rules names) pending rows)) (word ∷ rest))
+      none here there = here ∙ unless_none (settle_fault (rules names) false (holding rows pending)) ∙ ap (unless (settle_fault (rules names) false (holding rows pending))) (sym there)
 
-    go : WordKind command name word → Fails command name (given_at name v) (word ∷ rest)
-    go (valued t long) = word_fails command name _ _ _ word rest _ _ (valued_fault command name word t (holding (given name v) None) whole long)
-    go (named long) =
-        let on = goes command name _ _ _ word rest _ (named_fault command name word (holding (given name v) None) whole long)
-        (named_met name word (holding (given name v) None) idle whole long) refl in
-        λ none. asked_again_fails command name v rest (neither _ _ h).1 (sym on.0 ∙ none)
-    go (refused fault) = word_fails command name _ _ _ word rest _ _ (fault _ _)
-    go (stray fault met) = stray_fails command name (given name v) None word rest (fault (given name v) None) (met (given name v) None idle)
+      go : WordKind command names word
+          → outcome (at rows pending idle) (word ∷ rest) ≡ unless (settle_fault (rules names) false (holding rows pending)) (outcome (after (settled_rows (rules names) pending rows)) (word ∷ rest))
+      go (valued name v known long) = valued_steps rows pending word name v rest whole known long
+          ∙ ap (unless (settle_fault (rules names) false (holding rows pending))) (sym (valued_steps (settled_rows (rules names) pending rows) None word name v rest whole known long))
+      go (named name known long) = named_steps rows pending word name rest whole known long
+          ∙ ap (unless (settle_fault (rules names) false (holding rows pending))) (sym (named_steps (settled_rows (rules names) pending rows) None word name rest whole known long))
+      go (refused is) = none (refused_fails rows pending idle word rest is) (refused_fails (settled_rows (rules names) pending rows) None idle word rest is)
+      go (stray is) = none (stray_fails rows pending word rest is) (stray_fails (settled_rows (rules names) pending rows) None word rest is)
 
--- and after `--option v`
-got_fails : (command name v word : Text) (rest : List Text) → HasNoDashes (word ∷ rest) → Fails command name (got_at v) (word ∷ rest)
-got_fails command name v word rest h = go (word_kind command name word whole)
-  where
-    whole : bytes_eq word (codes "--") ≡ false
-    whole = (neither _ _ h).0
+  -- ---- one item
 
-    go : WordKind command name word → Fails command name (got_at v) (word ∷ rest)
-    go (valued t long) = word_fails command name _ _ _ word rest _ _ (valued_fault command name word t (holding [] (Some (id, v ∷ []))) whole long)
-    go (named long) =
-        let on = goes command name _ _ _ word rest _ (named_fault command name word (holding [] (Some (id, v ∷ []))) whole long)
-        (named_met name word (holding [] (Some (id, v ∷ []))) idle whole long) refl in
-        λ none. asked_again_fails command name v rest (neither _ _ h).1 (sym on.0 ∙ none)
-    go (refused fault) = word_fails command name _ _ _ word rest _ _ (fault _ _)
-    go (stray fault met) = stray_fails command name [] (Some (id, v ∷ [])) word rest (fault [] (Some (id, v ∷ []))) (met [] (Some (id, v ∷ [])) idle)
+  -- the option is used with this value, and the words go on
+  abbrev pub uses : Text → Text → List Row → List Text → Option (List Row)
+  uses name v rows rest = unless (use_fault false (rule name) (v ∷ []) rows) (outcome (after (used (rule name) (v ∷ []) rows)) rest)
 
--- ---- what is found
+  pub uses_new : (name v : Text) (rows : List Row) (rest : List Text) → has_row name rows ≡ false → uses name v rows rest ≡ outcome (after (rows ++ row name v ∷ [])) rest
+  uses_new name v rows rest none = ap₂ (λ f r. unless f (outcome (after r) rest)) (use_passes name v rows none) (used_is name v rows none)
 
--- the words are `--option=v` alone, or `--option` and v
-abbrev pub Reads : Text → List Text → Text → Type 0
-Reads name words v = ((word : Text) × (words ≡ word ∷ []) × (long_of word ≡ Some (name, Some v)))
-    ⊎ ((word : Text) × (words ≡ word ∷ (v ∷ [])) × (long_of word ≡ Some (name, None)))
+  pub uses_again : (name v : Text) (rows : List Row) (rest : List Text) → has_row name rows ≡ true → uses name v rows rest ≡ None
+  uses_again name v rows rest some = ap (λ f. unless f (outcome (after (used (rule name) (v ∷ []) rows)) rest)) (use_fails name v rows some)
 
-given_reads : (command name u word v : Text) (rest : List Text) → HasNoDashes rest → long_of word ≡ Some (name, Some u)
-    → Finds command name (given_at name u) rest v → Reads name (word ∷ rest) v
-given_reads command name u word v [] h long finds =
-    let same : Some u ≡ Some v = finds.1 in
-    inl (word, refl, long ∙ ap (λ t. Some (name, t)) same)
-given_reads command name u word v (other ∷ rest) h long finds = absurd (given_fails command name u other rest h finds.0)
+  -- `--name=v`
+  pub one_word : (rows : List Row) (word name v : Text) (rest : List Text) → bytes_eq word (codes "--") ≡ false → is_known names name ≡ true
+      → long_of word ≡ Some (name, Some v) → outcome (after rows) (word ∷ rest) ≡ uses name v rows rest
+  one_word rows word name v rest whole known long = valued_steps rows None word name v rest whole known long
 
-got_reads : (command name u word v : Text) (rest : List Text) → HasNoDashes rest → long_of word ≡ Some (name, None)
-    → Finds command name (got_at u) rest v → Reads name (word ∷ (u ∷ rest)) v
-got_reads command name u word v [] h long finds =
-    let same : Some u ≡ Some v = finds.1 in
-    inr (word, ap (λ t. word ∷ (t ∷ [])) (cc), long)
-got_reads command name u word v (other ∷ rest) h long finds = absurd (got_fails command name u other rest h finds.0)
+  -- `--name`, with which the option waits for its value
+  pub first_word : (rows : List Row) (word name : Text) (rest : List Text) → bytes_eq word (codes "--") ≡ false → is_known names name ≡ true
+      → long_of word ≡ Some (name, None) → outcome (after rows) (word ∷ rest) ≡ outcome (at rows (Some (name, [])) (option name)) rest
+  first_word rows word name rest whole known long = named_steps rows None word name rest whole known long
 
-asked_reads : (command name word v : Text) (rest : List Text) → HasNoDashes rest → long_of word ≡ Some (name, None)
-    → Finds command name asked rest v → Reads name (word ∷ rest) v
-asked_reads command name word v [] h long finds = absurd (asked_ends command name finds.0)
-asked_reads command name word v (u ∷ rest) h long finds = go (word_kind command name u whole)
-  where
-    whole : bytes_eq u (codes "--") ≡ false
-    whole = (neither _ _ h).0
+  -- and the word after it
+  pub second_word : (rows : List Row) (name v : Text) (rest : List Text) → is_known names name ≡ true → IsStray command names v → HasNoDashes rest
+      → outcome (at rows (Some (name, [])) (option name)) (v ∷ rest) ≡ uses name v rows rest
+  second_word rows name v rest known is h =
+      let held : Held = holding rows (Some (name, [])) in
+      let to : Option Rule → Walk = λ a. after_step (rules names) v (at rows (Some (name, [])) (option name)) (option_word a name v held).0 (next (option_word a name v held).1) in
+      steps rows (Some (name, [])) (option name) v rest _ _ (is.passes rows (Some (name, []))) (is.met rows (Some (name, [])) (option name))
+      ∙ ap (λ a. outcome (to a) rest) (id_known names name known)
+      ∙ ap (λ b. outcome (at rows (Some (name, v ∷ [])) (if nat_lt (if b then 1 else 0) 1 then option name else idle)) rest) (same_bytes name)
+      ∙ settling rows (Some (name, v ∷ [])) rest h
+      ∙ ap (λ a. unless (option_map_or (λ r. use_fault false r (v ∷ []) rows) a []) (outcome (after (used_by_id a (v ∷ []) rows)) rest)) (id_known names name known)
 
-    go : WordKind command name u → Reads name (word ∷ (u ∷ rest)) v
-    go (valued t at) = absurd (word_fails command name _ _ _ u rest _ _ (valued_fault command name u t (holding [] (Some (id, []))) whole at) finds.0)
-    go (named at) = absurd (word_fails command name _ _ _ u rest _ _ (named_fault command name u (holding [] (Some (id, []))) whole at) finds.0)
-    go (refused fault) = absurd (word_fails command name _ _ _ u rest _ _ (fault _ _) finds.0)
-    go (stray fault met) =
-        let on = goes command name _ _ _ u rest _ (fault [] (Some (id, []))) (met [] (Some (id, [])) (option id)) refl in
-        got_reads command name u word v rest (neither _ _ h).1 long (sym on.0 ∙ finds.0, sym on.1 ∙ finds.1)
+  -- a name alone is refused
+  pub name_ends : (rows : List Row) (name : Text) → is_known names name ≡ true → outcome (at rows (Some (name, [])) (option name)) [] ≡ None
+  name_ends rows name known = ends rows (Some (name, [])) (option name)
+      ∙ ap (λ a. unless (option_map_or (λ r. use_fault false r [] rows) a []) (Some (used_by_id a [] rows))) (id_known names name known)
 
--- where a value is found, the words are of one of the two forms
-pub start_reads : (command name v : Text) (words : List Text) → HasNoDashes words → Finds command name start words v → Reads name words v
-start_reads command name v [] h finds = let none : None ≡ Some v = finds.1 in cc
-start_reads command name v (word ∷ rest) h finds = go (word_kind command name word whole)
-  where
-    whole : bytes_eq word (codes "--") ≡ false
-    whole = (neither _ _ h).0
+  no_value : (rows : List Row) (name : Text) → is_known names name ≡ true → settle_fault (rules names) false (holding rows (Some (name, []))) ≡ InvalidValue ∷ []
+  no_value rows name known = ap (λ a. option_map_or (λ r. use_fault false r [] rows) a []) (id_known names name known)
 
-    go : WordKind command name word → Reads name (word ∷ rest) v
-    go (valued u long) =
-        let on = goes command name _ _ _ word rest _ (valued_fault command name word u (holding [] None) whole long) (valued_met name word u (holding [] None) idle whole long) refl in
-        given_reads command name u word v rest (neither _ _ h).1 long (sym on.0 ∙ finds.0, sym on.1 ∙ finds.1)
-    go (named long) =
-        let on = goes command name _ _ _ word rest _ (named_fault command name word (holding [] None) whole long) (named_met name word (holding [] None) idle whole long) refl in
-        asked_reads command name word v rest (neither _ _ h).1 long (sym on.0 ∙ finds.0, sym on.1 ∙ finds.1)
-    go (refused fault) = absurd (word_fails command name _ _ _ word rest _ _ (fault _ _) finds.0)
-    go (stray fault met) = absurd (stray_fails command name [] None word rest (fault [] None) (met [] None idle) finds.0)
+  -- and so is a flag behind the name
+  pub second_kind : (rows : List Row) (name v : Text) (rest : List Text) → is_known names name ≡ true → bytes_eq v (codes "--") ≡ false
+      → IsStray command names v ⊎ (outcome (at rows (Some (name, [])) (option name)) (v ∷ rest) ≡ None)
+  second_kind rows name v rest known whole = go (word_kind command names v whole)
+    where
+      held : Held
+      held = holding rows (Some (name, []))
 
--- `--option=v` alone finds v
-pub one_word_finds : (command name word v : Text) → bytes_eq word (codes "--") ≡ false → long_of word ≡ Some (name, Some v) → Finds command name start (word ∷ []) v
-one_word_finds command name word v whole long =
-    let on = goes command name _ _ _ word [] _ (valued_fault command name word v (holding [] None) whole long) (valued_met name word v (holding [] None) idle whole long) refl in
-    let ends = given_finds command name v in
-    (on.0 ∙ ends.0, on.1 ∙ ends.1)
-
--- `--option` and a word that is no flag find that word
-pub two_words_find : (command name word v : Text) → bytes_eq word (codes "--") ≡ false → long_of word ≡ Some (name, None)
-    → bytes_eq v (codes "--") ≡ false → long_of v ≡ None → short_of v ≡ None → Finds command name start (word ∷ (v ∷ [])) v
-two_words_find command name word v whole long v_whole v_long v_short =
-    let on = goes command name _ _ _ word (v ∷ []) _ (named_fault command name word (holding [] None) whole long) (named_met name word (holding [] None) idle whole long) refl in
-    let then = goes command name _ _ _ v [] _ (stray_fault command name v v_whole v_long v_short [] (Some (id, []))) (stray_met name v v_whole v_long v_short [] (Some (id, [])) (option id)) refl in
-    let ends = got_finds command name v in
-    (on.0 ∙ then.0 ∙ ends.0, on.1 ∙ then.1 ∙ ends.1)
+      go : WordKind command names v → IsStray command names v ⊎ (outcome (at rows (Some (name, [])) (option name)) (v ∷ rest) ≡ None)
+      go (valued other u is long) = inr (steps rows (Some (name, [])) (option name) v rest (InvalidValue ∷ []) _
+          (valued_fault command names v other u (holding rows (Some (name, []))) whole is long
+          ∙ ap (λ s. or_else s (use_fault false (rule other) (u ∷ []) (settled (rules names) (holding rows (Some (name, [])))).rows)) (no_value rows name known)) refl)
+      go (named other is long) = inr (steps rows (Some (name, [])) (option name) v rest (InvalidValue ∷ []) _
+          (named_fault command names v other (holding rows (Some (name, []))) whole is long ∙ no_value rows name known) refl)
+      go (refused is) = inr (refused_fails rows (Some (name, [])) (option name) v rest is)
+      go (stray is) = inl is

@@ -1,5 +1,8 @@
 -- The options that follow a command on the command line, each with its value.
-use Rattle.std.specs.Prelude.{◌≡◌, ◌≢◌, ◌⊎◌, ℕ, List, [], ◌∷◌, ◌++◌, codes}
+use Rattle.std.specs.Prelude.{◌≡◌, ◌≢◌, ◌⊎◌, ℕ, Bool, List, [], ◌∷◌, ◌++◌, map, find, length, nat_lt, Option, Some, None, option_map, slice_get, unwrap_or, codes}
+use Rattle.std.specs.Borrow.{Bor}
+use Rattle.std.specs.List.{list_all}
+use Rattle.std.specs.Str.{bytes_eq}
 use Rattle.hive_model.specs.Lists.{IsOn}
 
 -- the name of an option, and its value
@@ -17,7 +20,8 @@ name_word item = codes "--" ++ item.name
 
 -- Words begin with this item, in one word or in two, and then come the others.
 abbrev pub BeginWith : List (List ℕ) → Item → List (List ℕ) → Type 0
-BeginWith words item others = (words ≡ in_one_word item ∷ others) ⊎ (words ≡ name_word item ∷ (item.value ∷ others))
+BeginWith words item others =
+    (words ≡ in_one_word item ∷ others) ⊎ (words ≡ name_word item ∷ (item.value ∷ others))
 
 -- no byte is `=` (61)
 abbrev pub HasNoEquals : List ℕ → Type 0
@@ -37,23 +41,54 @@ pub record IsItem (item : Item) : Type 0 where
 -- the words are these items, one after another
 abbrev pub AreItems : List (List ℕ) → List Item → Type 0
 AreItems words [] = words ≡ []
-AreItems words (item ∷ items) = (others : List (List ℕ)) × BeginWith words item others × IsItem item × AreItems others items
+AreItems words (item ∷ items) =
+    (others : List (List ℕ)) × BeginWith words item others × IsItem item × AreItems others items
 
 -- no two items have the same name
 abbrev pub AreDifferent : List Item → Type 0
 AreDifferent [] = Unit {0}
-AreDifferent (item ∷ items) = ((other : Item) → IsOn items other → other.name ≢ item.name) × AreDifferent items
+AreDifferent (item ∷ items) =
+    ((other : Item) → IsOn items other → other.name ≢ item.name) × AreDifferent items
 
--- The words are a command and items, whose names are among the command's options, in any order, each at most once.
-pub record AskFor (words : List (List ℕ)) (command : List ℕ) (options : List (List ℕ)) (items : List Item) : Type 0 where
+-- The words are a command and items, whose names are among the command's options, in any order,
+-- each at most once.
+pub record AskFor (words : List (List ℕ)) (command : List ℕ) (options : List (List ℕ))
+    (items : List Item) : Type 0 where
   pub rest : List (List ℕ)
   pub begin : words ≡ command ∷ rest
   pub are_items : AreItems rest items
   pub known : (item : Item) → IsOn items item → IsOn options item.name
   pub once : AreDifferent items
 
--- the words are a command whose one option is required, and give that option this value
-pub record GiveOne (words : List (List ℕ)) (command option value : List ℕ) : Type 0 where
+-- the value that items give the option of this name, None where none of them has the name
+abbrev pub value_of : List Item → List ℕ → Option (List ℕ)
+value_of items name =
+    option_map (λ item. item.value) (find (λ item. bytes_eq item.name name) items)
+
+-- The words are a command with items, and these are the values of its options, in the order of the
+-- options: None is the value of an option that is not among the items.
+pub record Gives (words : List (List ℕ)) (command : List ℕ) (options : List (List ℕ))
+    (values : List (Option (List ℕ))) : Type 0 where
   pub items : List Item
-  pub ask : AskFor words command (option ∷ []) items
-  pub given : IsOn items (record { name = option; value = value })
+  pub ask : AskFor words command options items
+  pub values_are : values ≡ map (value_of items) options
+
+-- the words are a command whose one option is required, and give that option this value
+abbrev pub GiveOne : List (List ℕ) → List ℕ → List ℕ → List ℕ → Type 0
+GiveOne words command option value = Gives words command (option ∷ []) (Some value ∷ [])
+
+-- no name is empty
+abbrev pub are_names : List (List ℕ) → Bool
+are_names = list_all (λ name. nat_lt 0 (length name))
+
+-- the value at a place of the list, None past its end
+abbrev pub value_at : List (Option (List ℕ)) → ℕ → Option (List ℕ)
+value_at values index = unwrap_or (slice_get values index) None
+
+-- the texts of a program's `&[&str]` of names
+abbrev pub names_of : List (Bor (List ℕ)) → List (List ℕ)
+names_of options = map (λ option. option.now) options
+
+-- the texts of a program's `Vec<Option<&str>>` of values
+abbrev pub values_of : List (Option (Bor (List ℕ))) → List (Option (List ℕ))
+values_of values = map (option_map (λ value. value.now)) values

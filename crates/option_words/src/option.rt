@@ -1,10 +1,11 @@
-//! The value of the one option of a command.
-ghost use Rattle.std.specs.Prelude.{◌≡◌, ◌<◌, ◌↔◌, ◌||◌, List, ℕ, map, length, codes, IfOk, IfSome, IsTrue, MatchOption, string_bytes};
+//! The values of the options of a command.
+ghost use Rattle.std.specs.Prelude.{◌≡◌, ◌<◌, ◌↔◌, ◌||◌, List, ℕ, Option, All, map, length, codes, IfOk, IfSome, IsTrue, MatchOption, string_bytes};
 ghost use Rattle.std.specs.List.{list_any};
 ghost use Rattle.std.specs.Str.{bytes_eq};
-ghost use Rattle.option_words.specs.Options.{GiveOne, IsValue};
+ghost use Rattle.option_words.specs.Options.{GiveOne, Gives, IsValue, are_names, names_of};
 
-use crate::parse::parsed_value;
+use crate::given::GivenOptions;
+use crate::parse::parsed_values;
 use std::alloc::{AllocError, Global};
 
 /// Whether the word is a value: not empty, and it does not begin with `-`.
@@ -17,6 +18,13 @@ fn is_value(word: &str) -> bool
     }
 }
 
+/// Whether each word that is there is a value.
+fn are_values(words: &[Option<&str>]) -> bool
+    ensures { IsTrue result ↔ All (λ word. IfSome word (λ text. IsValue text.now)) words.now }
+{
+    words.iter().all(|word| word.is_none_or(is_value))
+}
+
 /// Whether one of the words is `--`, alone.
 fn has_dashes(words: &[String]) -> bool
     ensures { result ≡ list_any (λ word. bytes_eq (string_bytes word) (codes "--")) words.now }
@@ -24,19 +32,24 @@ fn has_dashes(words: &[String]) -> bool
     words.iter().any(|word| word.as_str() == "--")
 }
 
-/// The value of the one option of a command, which is required, where the words are of this form: the command, and then
-/// `--option=value` or `--option value`, where a value is not empty and does not begin with `-`. None where they are not: at another
-/// command, no option, another one, an abbreviated one, a second use, or any further word. An `AllocError` where memory runs out.
-pub fn one_option<'a>(
+/// The value of each of a command's options, in the order of `options`, where the words are of
+/// this form: the command, and then in any order, for each option that is given, `--option=value`
+/// or `--option value`. A value is not empty and does not begin with `-`. The options' names are
+/// not empty. None where the words are not of this form: at another command, another or an
+/// abbreviated option, a second use of one, a name with no value, or any further word. An
+/// `AllocError` where memory runs out.
+pub fn options_of<'a>(
     alloc: Global,
     words: &'a [String],
     command: &'a str,
-    option: &'a str,
-) -> Result<Option<&'a str>, AllocError>
-    requires { 0 < length option.now }
-    ensures value { IfOk result (λ o. IfSome o (λ v. GiveOne (map string_bytes words.now) command.now option.now v.now)) }
-    ensures only { IfOk result (λ o. (v : List ℕ) → GiveOne (map string_bytes words.now) command.now option.now v
-        → MatchOption o ⊥ (λ r. r.now ≡ v)) }
+    options: &[&'a str],
+) -> Result<Option<GivenOptions<'a>>, AllocError>
+    requires { IsTrue (are_names (names_of options.now)) }
+    ensures values { IfOk result (λ found. IfSome found (λ given.
+        Gives (map string_bytes words.now) command.now (names_of options.now) given)) }
+    ensures only { IfOk result (λ found. (values : List (Option (List ℕ)))
+        → Gives (map string_bytes words.now) command.now (names_of options.now) values
+        → MatchOption found ⊥ (λ given. given ≡ values)) }
 {
     let Some((first, rest)) = words.split_first() else {
         return Ok(None);
@@ -45,12 +58,34 @@ pub fn one_option<'a>(
     if first.as_str() != command || has_dashes(rest) {
         return Ok(None);
     }
-    let Some(value) = parsed_value(alloc, rest, command, option)? else {
+    let Some(values) = parsed_values(alloc, rest, command, options)? else {
         return Ok(None);
     };
     // it also takes a value that is empty or, in one word with the name, begins with `-`
-    if !is_value(value) {
+    if !are_values(values.as_slice()) {
         return Ok(None);
     }
-    Ok(Some(value))
+    Ok(Some(GivenOptions::new(values)))
+}
+
+/// The value of the one option of a command, which is required, where the words are of the form
+/// that `options_of` reads. None where they are not, and where they do not give the option. An
+/// `AllocError` where memory runs out.
+pub fn one_option<'a>(
+    alloc: Global,
+    words: &'a [String],
+    command: &'a str,
+    option: &'a str,
+) -> Result<Option<&'a str>, AllocError>
+    requires { 0 < length option.now }
+    ensures value { IfOk result (λ found. IfSome found (λ value.
+        GiveOne (map string_bytes words.now) command.now option.now value.now)) }
+    ensures only { IfOk result (λ found. (value : List ℕ)
+        → GiveOne (map string_bytes words.now) command.now option.now value
+        → MatchOption found ⊥ (λ text. text.now ≡ value)) }
+{
+    match options_of(alloc, words, command, &[option])? {
+        Some(given) => Ok(given.value(0)),
+        None => Ok(None),
+    }
 }

@@ -1,0 +1,4 @@
+pub mod WrittenLemmas
+pub mod ReadLemmas
+pub mod OneGameLemmas
+pub mod GameRunLemmas

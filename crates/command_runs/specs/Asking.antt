@@ -1,0 +1,89 @@
+-- How the one game of an input is read: its line, and then the end of the input.
+use Rattle.std.specs.Prelude.{◌≡◌, ◌≢◌, ◌⊎◌, ℕ, ◌<◌, ◌≤◌, List, codes, length, Result, Ok, Err}
+use Rattle.io_edge.specs.Outside.{Told}
+use Rattle.hive_model.specs.Courses.{Course}
+use Rattle.hive_model.specs.Lines.{Line}
+use Rattle.line_feed.specs.Feed.{Reading, Ends, Gives, Holds, HoldsLittle, Takes, input_limit}
+use Rattle.game_text.specs.declared.faults.GameFault.{GameFault}
+use Rattle.game_text.specs.declared.faults.GameFault.TheVariants.{Memory as NoMemory}
+use Rattle.game_text.specs.declared.parsed.Parsed.{Parsed}
+use Rattle.command_runs.specs.OneGame.{FewWereRead, IsBad, IsUndecided, bad_line, game_in}
+use Rattle.command_runs.specs.Reasons.{reason}
+use Rattle.command_runs.specs.declared.no_game.NoGame.{NoGame}
+use Rattle.command_runs.specs.declared.no_game.NoGame.TheVariants.{Bad, ReadFault, InputFull, Memory}
+
+-- A game
+
+-- a game under way is at the end of a game that was read
+pub record IsReplayOf (course : Course) (game : Parsed) : Type 0 where
+  pub kind : course.game_type ≡ game.game_type
+  pub made : course.made ≡ game.moves
+
+-- the answer is a game, and the game under way is at its end
+abbrev pub Resumes : Course → Result Parsed (List ℕ) → Type 0
+Resumes course answer = (game : Parsed) × (answer ≡ Ok game) × IsReplayOf course game
+
+-- No game
+
+-- the line that gives this reason is to be written, or memory is wanting
+abbrev pub Says : NoGame → List ℕ → Type 0
+Says (Bad text) why = text ≡ bad_line why
+Says ReadFault why = ⊥
+Says InputFull why = ⊥
+Says Memory why = Unit {0}
+
+-- the same for a fault of a text; want of memory is none
+abbrev pub SaysFault : NoGame → GameFault → Type 0
+SaysFault (Bad text) fault = (fault ≢ NoMemory) × (text ≡ bad_line (reason fault))
+SaysFault ReadFault fault = ⊥
+SaysFault InputFull fault = ⊥
+SaysFault Memory fault = Unit {0}
+
+-- the answer is no game, and the line with its reason is to be written; or memory is wanting
+abbrev pub Lacks : NoGame → Result Parsed (List ℕ) → Type 0
+Lacks (Bad text) answer = (why : List ℕ) × (answer ≡ Err why) × (text ≡ bad_line why)
+Lacks ReadFault answer = ⊥
+Lacks InputFull answer = ⊥
+Lacks Memory answer = Unit {0}
+
+-- The reading
+
+-- these bytes were read, and the reader is within its limit and holds little
+pub record WereTaken (bytes : List ℕ) (old new : Reading) (before after : Told) : Type 0 where
+  pub takes : Takes before after old.taken new.taken bytes
+  pub within : new.taken ≤ input_limit
+  pub little : HoldsLittle new
+
+-- a line was given
+abbrev pub GivesLine : List ℕ → Reading → Reading → Told → Type 0
+GivesLine bytes old new rest = (line : Line) × Gives old bytes line new rest
+
+-- the line that was given is a game, and the game under way is at its end
+abbrev pub GivesGame : Course → List ℕ → Reading → Reading → Told → Type 0
+GivesGame course bytes old new rest = (line : Line) × Gives old bytes line new rest × Resumes course (game_in line)
+
+-- the line that was given is no game, for this reason
+abbrev pub GivesOther : List ℕ → List ℕ → Reading → Reading → Told → Type 0
+GivesOther why bytes old new rest = (line : Line) × Gives old bytes line new rest × (game_in line ≡ Err why)
+
+-- No game was read: the line is none, there is no line, a read has failed, the limit is reached, or memory is wanting.
+abbrev pub GivesNone : NoGame → List ℕ → Reading → Reading → Told → Type 0
+GivesNone (Bad text) bytes old new rest =
+    ((why : List ℕ) × GivesOther why bytes old new rest × (text ≡ bad_line why)) ⊎ (Ends old bytes new rest × (text ≡ bad_line (codes "no line")))
+GivesNone ReadFault bytes old new rest = Holds old bytes new × (new.taken < input_limit)
+GivesNone InputFull bytes old new rest = Holds old bytes new × (new.taken ≡ input_limit)
+GivesNone Memory bytes old new rest = GivesLine bytes old new rest ⊎ Ends old bytes new rest
+
+-- The input did not end: a line was given, a read has failed, the limit is reached, or memory is wanting for the line that says so.
+abbrev pub GoesOn : NoGame → List ℕ → Reading → Reading → Told → Type 0
+GoesOn (Bad text) bytes old new rest = GivesLine bytes old new rest × (text ≡ bad_line (codes "more lines"))
+GoesOn ReadFault bytes old new rest = Holds old bytes new × (new.taken < input_limit)
+GoesOn InputFull bytes old new rest = Holds old bytes new × (new.taken ≡ input_limit)
+GoesOn Memory bytes old new rest = GivesLine bytes old new rest
+
+-- why the input is not one game, and what was read to know it
+abbrev pub IsNoGame : NoGame → List ℕ → Told → Type 0
+IsNoGame (Bad text) input rest = (why : List ℕ) × IsBad input rest why × (text ≡ bad_line why)
+IsNoGame ReadFault input rest = (bytes : List ℕ) × (left : List ℕ) × (length bytes < input_limit) × IsUndecided input rest bytes left
+IsNoGame InputFull input rest = (bytes : List ℕ) × (left : List ℕ) × (length bytes ≡ input_limit) × IsUndecided input rest bytes left
+IsNoGame Memory input rest = FewWereRead input rest

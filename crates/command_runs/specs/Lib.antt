@@ -1,0 +1,6 @@
+pub mod Statuses
+pub mod Input
+pub mod Reasons
+pub mod OneGame
+pub mod Asking
+pub mod GameRun

@@ -1,0 +1,14 @@
+//! How the run of a command ends, what it reads of its input, and the run of a command that answers one game.
+#![tactic(auto)]
+
+mod asking;
+mod bad;
+mod no_game;
+mod reasons;
+mod status;
+
+pub use asking::{is_over, read_one_game};
+pub use bad::{tell_bad, tell_none};
+pub use no_game::NoGame;
+pub use reasons::{line_for, reason_of};
+pub use status::Status;

@@ -1,0 +1,27 @@
+//! Why an input is not one game.
+ghost use Rattle.std.specs.Prelude.{◌≡◌};
+ghost use Rattle.command_runs.specs.declared.no_game.NoGame.TheVariants.{Memory};
+
+use hive_model::ReplyText;
+use std::alloc::AllocError;
+
+/// Why the input is not one line, a game that is not over.
+#[derive(Drop)]
+pub enum NoGame {
+    /// It is something else: the line that says what, its LF included.
+    Bad(ReplyText),
+    /// A read of the input has failed.
+    ReadFault,
+    /// The input has 1,099,511,627,776 bytes or more before its end.
+    InputFull,
+    /// There was not enough memory.
+    Memory,
+}
+
+impl From<AllocError> for NoGame {
+    ghost from_gives = { λ _ e. e ≡ Memory };
+
+    fn from(_error: AllocError) -> NoGame {
+        NoGame::Memory
+    }
+}

@@ -1,0 +1,41 @@
+-- The test of a program's text is the rule.
+use Rattle.std.proofs.Common.{◌≡◌, ◌↔◌, ℕ, Bool, true, false, List, [], ◌∷◌, nat_eq, refl, IsTrue, if◌then◌else◌}
+use Rattle.command_words.specs.Matches.{AreNotEmpty, IsProgram, between_spaces, in_first}
+use Rattle.command_words.specs.Programs.{begins_word, goes_on}
+
+abbrev others : List (List ℕ) → List (List ℕ)
+others [] = []
+others (word ∷ words) = words
+
+-- a byte in front of the first word makes it one that is not empty
+in_front : (b : ℕ) (words : List (List ℕ)) → AreNotEmpty (in_first b words) ↔ AreNotEmpty (others words)
+in_front b [] = (λ h. tt, λ h. (tt, tt))
+in_front b (word ∷ words) = (λ h. h.1, λ h. (tt, h))
+
+behind_front : (b : ℕ) (words : List (List ℕ)) → AreNotEmpty (others (in_first b words)) ↔ AreNotEmpty (others words)
+behind_front b [] = (λ h. h, λ h. h)
+behind_front b (word ∷ words) = (λ h. h, λ h. h)
+
+-- the test agrees with the rule where a word begins, and where one goes on
+abbrev Agree : List ℕ → Type 0
+Agree text = (IsTrue (goes_on true text) ↔ AreNotEmpty (between_spaces text)) × (IsTrue (goes_on false text) ↔ AreNotEmpty (others (between_spaces text)))
+
+agree_on : (b : ℕ) (bs : List ℕ) → Agree bs → Agree (b ∷ bs)
+agree_on b bs later = go (nat_eq b 32)
+  where
+    go : (c : Bool)
+        → (IsTrue (if c then false else goes_on false bs) ↔ AreNotEmpty (if c then [] ∷ between_spaces bs else in_first b (between_spaces bs)))
+        × (IsTrue (if c then goes_on true bs else goes_on false bs) ↔ AreNotEmpty (others (if c then [] ∷ between_spaces bs else in_first b (between_spaces bs))))
+    go true = ((λ t. absurd (cc), λ h. absurd h.0), later.0)
+    go false =
+        let on = later.1 in
+        let front = in_front b (between_spaces bs) in
+        let behind = behind_front b (between_spaces bs) in
+        ((λ t. front.1 (on.0 t), λ h. on.1 (front.0 h)), (λ t. behind.1 (on.0 t), λ h. on.1 (behind.0 h)))
+
+agree : (text : List ℕ) → Agree text
+agree [] = ((λ t. absurd (cc), λ h. absurd h.0), (λ t. tt, λ h. refl))
+agree (b ∷ bs) = agree_on b bs (agree bs)
+
+pub program_is_tested : (text : List ℕ) → IsTrue (begins_word text) ↔ IsProgram text
+program_is_tested text = (agree text).0

@@ -1,0 +1,78 @@
+use Rattle.std.proofs.Common.{◌≡◌, ◌∙◌, ap, sym, subst, ℕ, List, map, codes, Option, None, Some, MatchOption, IfSome, IsTrue, refl, true, false, option_map}
+use Rattle.std.specs.Prelude.{string_bytes}
+use Rattle.match_core.specs.declared.answers.Setup.{Setup}
+use Rattle.option_words.specs.Options.{Gives, value_at}
+use Rattle.command_words.specs.Matches.{AreMatchWords, Choices, IsProgram, IsSetupOf, match_options, match_values}
+use Rattle.command_words.proofs.GivenLemmas.{none_given, some_given}
+use Rattle.command_words.proofs.MatchLemmas.{value_read, values_read, weaker}
+use Rattle.command_words.proofs.matched.match_of.Goals as goal
+
+false_true : false ≡ true → ⊥
+false_true e = cc
+
+pub returns-in_default-clause-only : goal.returns-in_default-clause-only
+returns-in_default-clause-only c = λ s w.
+    absurd (subst (λ o. MatchOption o ⊥ (λ given. given ≡ match_values w.white w.black w.choices)) c.in_default.is (c.in_ok-given.ensures.only (match_values w.white w.black w.choices) w.give))
+
+pub returns-in_default-value-clause-only : goal.returns-in_default-value-clause-only
+returns-in_default-value-clause-only c = λ s w.
+    let values = subst (λ o. MatchOption o ⊥ (λ given. given ≡ match_values w.white w.black w.choices)) c.in-Some.is (c.in_ok-given.ensures.only (match_values w.white w.black w.choices) w.give) in
+    absurd (none_given c.value.result w.white c.in_default-value.is (c.value.ensures ∙ ap (λ given. value_at given 0) values))
+
+pub returns-in_default-value-2-clause-only : goal.returns-in_default-value-2-clause-only
+returns-in_default-value-2-clause-only c = λ s w.
+    let values = subst (λ o. MatchOption o ⊥ (λ given. given ≡ match_values w.white w.black w.choices)) c.in-Some.is (c.in_ok-given.ensures.only (match_values w.white w.black w.choices) w.give) in
+    absurd (none_given c.value-2.result w.black c.in_default-value-2.is (c.value-2.ensures ∙ ap (λ given. value_at given 1) values))
+
+pub returns-then-not-is_program-clause-only : goal.returns-then-not-is_program-clause-only
+returns-then-not-is_program-clause-only c = λ s w.
+    let values = subst (λ o. MatchOption o ⊥ (λ given. given ≡ match_values w.white w.black w.choices)) c.in-Some.is (c.in_ok-given.ensures.only (match_values w.white w.black w.choices) w.give) in
+    let white = some_given c.value.result c.in-Some-value.white w.white c.in-Some-value.is (c.value.ensures ∙ ap (λ given. value_at given 0) values) in
+    absurd (false_true (c.if-not-is_program.ensures.1 (subst IsProgram (sym white) w.white_is)))
+
+pub returns-then-not-is_program-2-clause-only : goal.returns-then-not-is_program-2-clause-only
+returns-then-not-is_program-2-clause-only c = λ s w.
+    let values = subst (λ o. MatchOption o ⊥ (λ given. given ≡ match_values w.white w.black w.choices)) c.in-Some.is (c.in_ok-given.ensures.only (match_values w.white w.black w.choices) w.give) in
+    let black = some_given c.value-2.result c.in-Some-value-2.black w.black c.in-Some-value-2.is (c.value-2.ensures ∙ ap (λ given. value_at given 1) values) in
+    absurd (false_true (c.if-not-is_program-2.ensures.1 (subst IsProgram (sym black) w.black_is)))
+
+pub returns-clause-found : goal.returns-clause-found
+returns-clause-found c =
+    let choices : Choices = record {
+      game_type = option_map (λ t. t.now) c.value-3.result;
+      depth = option_map (λ t. t.now) c.value-4.result;
+      time = option_map (λ t. t.now) c.value-5.result;
+      margin = option_map (λ t. t.now) c.value-6.result;
+      plies = option_map (λ t. t.now) c.value-7.result;
+    } in
+    let gives = rw c.in-Some.is at c.in_ok-given.ensures.values in
+    let white = value_read c.value.result c.in-Some-value.white _ c.in-Some-value.is c.value.ensures in
+    let black = value_read c.value-2.result c.in-Some-value-2.black _ c.in-Some-value-2.is c.value-2.ensures in
+    let same = values_read _ gives.items c.in-Some-value.white.now c.in-Some-value-2.black.now choices gives.values_are white black c.value-3.ensures c.value-4.ensures c.value-5.ensures c.value-6.ensures c.value-7.ensures in
+    weaker c.setup_of.result (IsSetupOf choices) (AreMatchWords c.args.words.now) (λ s is. record {
+      white = c.in-Some-value.white.now;
+      black = c.in-Some-value-2.black.now;
+      choices = choices;
+      give = subst (Gives (map string_bytes c.args.words.now) (codes "match") match_options) same gives;
+      white_is = c.if-not-is_program.ensures.0 refl;
+      black_is = c.if-not-is_program-2.ensures.0 refl;
+      setup_is = is;
+    }) c.setup_of.ensures.found
+
+pub returns-clause-only : goal.returns-clause-only
+returns-clause-only c = λ s w.
+    let values = subst (λ o. MatchOption o ⊥ (λ given. given ≡ match_values w.white w.black w.choices)) c.in-Some.is (c.in_ok-given.ensures.only (match_values w.white w.black w.choices) w.give) in
+    let choices : Choices = record {
+      game_type = option_map (λ t. t.now) c.value-3.result;
+      depth = option_map (λ t. t.now) c.value-4.result;
+      time = option_map (λ t. t.now) c.value-5.result;
+      margin = option_map (λ t. t.now) c.value-6.result;
+      plies = option_map (λ t. t.now) c.value-7.result;
+    } in
+    let at2 = c.value-3.ensures ∙ ap (λ given. value_at given 2) values in
+    let at3 = c.value-4.ensures ∙ ap (λ given. value_at given 3) values in
+    let at4 = c.value-5.ensures ∙ ap (λ given. value_at given 4) values in
+    let at5 = c.value-6.ensures ∙ ap (λ given. value_at given 5) values in
+    let at6 = c.value-7.ensures ∙ ap (λ given. value_at given 6) values in
+    let same : choices ≡ w.choices = λ j. record { game_type = at2 j; depth = at3 j; time = at4 j; margin = at5 j; plies = at6 j } in
+    c.setup_of.ensures.only s (subst (λ k. IsSetupOf k s) (sym same) w.setup_is)

@@ -1,0 +1,10 @@
+use Rattle.std.proofs.Common.{◌≡◌, ℕ, None, Some, sym, subst}
+use Rattle.hive_model.specs.Fields.{IsTimeText}
+use Rattle.command_words.proofs.setup.timed_level.Goals as goal
+
+none_some : {n : ℕ} → None ≡ Some n → ⊥
+none_some e = cc
+
+pub returns-in_err-budget-clause-only : goal.returns-in_err-budget-clause-only
+returns-in_err-budget-clause-only c = λ l (budget, is, e).
+    absurd (none_some (c.in_err-budget.ensures.only budget (subst (λ t. IsTimeText t budget) (sym c.as_bytes.ensures.value) is)))

@@ -1,0 +1,86 @@
+-- The words that ask for a match of two programs.
+use Rattle.std.specs.Prelude.{◌≡◌, ◌≢◌, ℕ, Bool, true, false, List, [], ◌∷◌, All, nat_eq, codes, map, option_map, string_bytes, Option, None, Some, if◌then◌else◌}
+use Rattle.std.specs.declared.string.String.{String}
+use Rattle.std.specs.declared.alloc.Global.{Global}
+use Rattle.hive_model.specs.declared.pieces.GameType.{GameType}
+use Rattle.hive_model.specs.Fields.{IsNumberText, IsTimeText, type_bytes}
+use Rattle.match_core.specs.declared.answers.Level.{Level}
+use Rattle.match_core.specs.declared.answers.Level.TheVariants.{Depth, Time}
+use Rattle.match_core.specs.declared.answers.Setup.{Setup}
+use Rattle.option_words.specs.Options.{Gives}
+
+-- A program and its words
+
+-- a byte in front of the first of these words
+abbrev pub in_first : ℕ → List (List ℕ) → List (List ℕ)
+in_first b [] = (b ∷ []) ∷ []
+in_first b (word ∷ words) = (b ∷ word) ∷ words
+
+-- what stands between the spaces (32) of a text
+abbrev pub between_spaces : List ℕ → List (List ℕ)
+between_spaces [] = [] ∷ []
+between_spaces (b ∷ bs) = if nat_eq b 32 then [] ∷ between_spaces bs else in_first b (between_spaces bs)
+
+abbrev pub AreSomeBytes : List ℕ → Type 0
+AreSomeBytes [] = ⊥
+AreSomeBytes (b ∷ bs) = Unit {0}
+
+abbrev pub AreNotEmpty : List (List ℕ) → Type 0
+AreNotEmpty [] = Unit {0}
+AreNotEmpty (word ∷ words) = AreSomeBytes word × AreNotEmpty words
+
+-- a program and its words, separated by single spaces, none empty
+abbrev pub IsProgram : List ℕ → Type 0
+IsProgram text = AreNotEmpty (between_spaces text)
+
+-- Options that have a default
+
+-- a number in its range, or the default where none is given
+abbrev pub IsNumberOr : Option (List ℕ) → ℕ → ℕ → ℕ → ℕ → Type 0
+IsNumberOr None least most default n = n ≡ default
+IsNumberOr (Some text) least most default n = IsNumberText text least most n
+
+-- a game type, or the base game where none is given
+abbrev pub IsTypeOr : Option (List ℕ) → GameType → Type 0
+IsTypeOr None t = t ≡ record { mosquito = false; ladybug = false; pillbug = false }
+IsTypeOr (Some text) t = text ≡ type_bytes t
+
+-- The engines are asked to a depth, to 2 where none is given; or in a time, with this margin; and never in both ways.
+abbrev pub IsLevelOf : Option (List ℕ) → Option (List ℕ) → ℕ → Level → Type 0
+IsLevelOf depth None margin level = (n : ℕ) × IsNumberOr depth 1 64 2 n × (level ≡ Depth n)
+IsLevelOf None (Some time) margin level = (budget : ℕ) × IsTimeText time budget × (level ≡ Time budget margin)
+IsLevelOf (Some depth) (Some time) margin level = ⊥
+
+-- the values of the options that have a default
+pub record Choices : Type 0 where
+  pub game_type : Option (List ℕ)
+  pub depth : Option (List ℕ)
+  pub time : Option (List ℕ)
+  pub margin : Option (List ℕ)
+  pub plies : Option (List ℕ)
+
+-- A match is played by this setup. The margin, a second where none is given, has its range where no time is given, too.
+pub record IsSetupOf (choices : Choices) (setup : Setup) : Type 0 where
+  pub kind : IsTypeOr choices.game_type setup.game_type
+  pub margin : ℕ
+  pub margin_is : IsNumberOr choices.margin 0 3600000 1000 margin
+  pub level : IsLevelOf choices.depth choices.time margin setup.level
+  pub limit : IsNumberOr choices.plies 1 1000 400 setup.limit
+
+abbrev pub match_options : List (List ℕ)
+match_options =
+    codes "white" ∷ (codes "black" ∷ (codes "type" ∷ (codes "depth" ∷ (codes "time" ∷ (codes "margin" ∷ (codes "plies" ∷ []))))))
+
+abbrev pub match_values : List ℕ → List ℕ → Choices → List (Option (List ℕ))
+match_values white black choices =
+    Some white ∷ (Some black ∷ (choices.game_type ∷ (choices.depth ∷ (choices.time ∷ (choices.margin ∷ (choices.plies ∷ []))))))
+
+-- `match` and its options, of which the programs of white and of black are required
+pub record AreMatchWords (words : List (String Global)) (setup : Setup) : Type 0 where
+  pub white : List ℕ
+  pub black : List ℕ
+  pub choices : Choices
+  pub give : Gives (map string_bytes words) (codes "match") match_options (match_values white black choices)
+  pub white_is : IsProgram white
+  pub black_is : IsProgram black
+  pub setup_is : IsSetupOf choices setup

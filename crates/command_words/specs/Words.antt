@@ -1,0 +1,83 @@
+-- The words of the command line, and what they ask for.
+use Rattle.std.specs.Prelude.{◌≡◌, ◌⊎◌, ℕ, ◌-◌, ◌^◌, ◌≤◌, List, [], ◌∷◌, map, codes, string_bytes, Some, IsTrue}
+use Rattle.std.specs.declared.string.String.{String}
+use Rattle.std.specs.declared.alloc.Global.{Global}
+use Rattle.hive_model.specs.Fields.{IsNumberText}
+use Rattle.match_core.specs.Keeps.{IsSetup}
+use Rattle.option_words.specs.Options.{GiveOne, Gives}
+use Rattle.command_words.specs.declared.asked.Asked.{Asked}
+use Rattle.command_words.specs.declared.asked.Asked.TheVariants.{Session, Replay, Count, Grow, Certify, Check, Solve, Verify, Match}
+use Rattle.command_words.specs.declared.name.Name.{Name}
+use Rattle.command_words.specs.declared.name.Name.TheVariants.{Uhp, Replay as ReplayName, Count as CountName, Grow as GrowName, Certify as CertifyName, Check as CheckName, Solve as SolveName, Verify as VerifyName, Match as MatchName}
+use Rattle.command_words.specs.Matches.{AreMatchWords}
+use Rattle.command_words.specs.Names.{name_text, named, takes_option}
+
+-- the name of a command, alone
+abbrev pub AreAlone : List (String Global) → Name → Type 0
+AreAlone words name = map string_bytes words ≡ name_text name ∷ []
+
+-- the words that ask for a session: none, or `uhp` alone
+abbrev pub AreUhpWords : List (String Global) → Type 0
+AreUhpWords words = (map string_bytes words ≡ []) ⊎ AreAlone words Uhp
+
+-- a command and its one option, a number from `least` to `most`
+pub record AreNumbered (words : List (String Global)) (command option : List ℕ) (least most n : ℕ) : Type 0 where
+  pub value : List ℕ
+  pub give : GiveOne (map string_bytes words) command option value
+  pub number : IsNumberText value least most n
+
+-- a seed, which is any number below 2 to the power 64, and a number of plies from 1 to 1,000
+pub record AreGrowth (seed_text plies_text : List ℕ) (seed plies : ℕ) : Type 0 where
+  pub seed_is : IsNumberText seed_text 0 (2 ^ 64 - 1) seed
+  pub plies_is : IsNumberText plies_text 1 1000 plies
+
+-- `grow` and the options `seed` and `plies`, both required
+pub record AreGrowWords (words : List (String Global)) (seed plies : ℕ) : Type 0 where
+  pub seed_text : List ℕ
+  pub plies_text : List ℕ
+  pub give : Gives (map string_bytes words) (codes "grow") (codes "seed" ∷ (codes "plies" ∷ [])) (Some seed_text ∷ (Some plies_text ∷ []))
+  pub growth : AreGrowth seed_text plies_text seed plies
+
+-- the words ask for this
+abbrev pub Words : List (String Global) → Asked → Type 0
+Words words Session = AreUhpWords words
+Words words Replay = AreAlone words ReplayName
+Words words (Count plies) = AreNumbered words (codes "count") (codes "plies") 1 8 plies
+Words words (Grow seed plies) = AreGrowWords words seed plies
+Words words (Certify depth) = AreNumbered words (codes "certify") (codes "depth") 1 64 depth
+Words words Check = AreAlone words CheckName
+Words words (Solve plies) = AreNumbered words (codes "solve") (codes "plies") 1 16 plies
+Words words Verify = AreAlone words VerifyName
+Words words (Match setup) = AreMatchWords words setup
+
+-- the words ask for nothing that the program does
+abbrev pub AreOfNoCommand : List (String Global) → Type 0
+AreOfNoCommand words = (asked : Asked) → ¬ Words words asked
+
+-- the command that is asked for
+abbrev pub name_of : Asked → Name
+name_of Session = Uhp
+name_of Replay = ReplayName
+name_of (Count plies) = CountName
+name_of (Grow seed plies) = GrowName
+name_of (Certify depth) = CertifyName
+name_of Check = CheckName
+name_of (Solve plies) = SolveName
+name_of Verify = VerifyName
+name_of (Match setup) = MatchName
+
+-- the first word names a command that takes an option
+abbrev pub TakeOption : List (List ℕ) → Type 0
+TakeOption words = (name : Name) × (named words ≡ Some name) × IsTrue (takes_option name)
+
+-- the numbers that are asked for are in their ranges
+abbrev pub IsInRange : Asked → Type 0
+IsInRange Session = Unit {0}
+IsInRange Replay = Unit {0}
+IsInRange (Count plies) = (1 ≤ plies) × (plies ≤ 8)
+IsInRange (Grow seed plies) = (1 ≤ plies) × (plies ≤ 1000)
+IsInRange (Certify depth) = (1 ≤ depth) × (depth ≤ 64)
+IsInRange Check = Unit {0}
+IsInRange (Solve plies) = (1 ≤ plies) × (plies ≤ 16)
+IsInRange Verify = Unit {0}
+IsInRange (Match setup) = IsSetup setup

@@ -1,0 +1,85 @@
+//! The match that the words ask for: its two programs, and how it is played.
+ghost use Rattle.std.specs.Prelude.{◌≡◌, ◌<◌, ◌↔◌, Some, length, IfOk, IfSome, IsTrue};
+ghost use Rattle.match_core.specs.declared.answers.Setup.{Setup as AnySetup};
+ghost use Rattle.command_words.specs.Matches.{AreMatchWords, IsProgram};
+
+use crate::program::{begins_words, words_of};
+use crate::setup::setup_of;
+use match_core::Setup;
+use option_words::{GivenOptions, options_of};
+use std::alloc::{AllocError, Global};
+
+/// The options of a match, in the order in which their values are asked for.
+const OPTIONS: [&str; 7] = ["white", "black", "type", "depth", "time", "margin", "plies"];
+
+/// Whether a text is a program and its words.
+fn is_program(text: &str) -> bool
+    ensures { IsTrue result ↔ IsProgram text.now }
+{
+    begins_words(text.as_bytes())
+}
+
+/// How the match is played that the words ask for: `match` and its options, of which the programs of white and of black are required.
+/// None where they ask for none; an `AllocError` where memory runs out before that is known.
+pub(crate) fn match_of(alloc: Global, words: &[String]) -> Result<Option<Setup>, AllocError>
+    ensures found { IfOk result (λ o. IfSome o (λ s. AreMatchWords words.now s)) }
+    ensures only { IfOk result (λ o. (s : AnySetup) → AreMatchWords words.now s → o ≡ Some s) }
+{
+    let Some(given) = options_of(alloc, words, "match", &OPTIONS)? else {
+        return Ok(None);
+    };
+    let Some(white) = given.value(0) else {
+        return Ok(None);
+    };
+    let Some(black) = given.value(1) else {
+        return Ok(None);
+    };
+    if !is_program(white) {
+        return Ok(None);
+    }
+    if !is_program(black) {
+        return Ok(None);
+    }
+    Ok(setup_of(
+        given.value(2),
+        given.value(3),
+        given.value(4),
+        given.value(5),
+        given.value(6),
+    ))
+}
+
+/// A program with its words for each side, each of one word at least.
+#[derive(Drop)]
+pub struct Programs {
+    pub white: Vec<String>,
+    pub black: Vec<String>,
+}
+
+/// The programs of two texts.
+fn programs_in(alloc: Global, white: &str, black: &str) -> Result<Programs, AllocError>
+    ensures white { IfOk result (λ p. 0 < length p.white.items) }
+    ensures black { IfOk result (λ p. 0 < length p.black.items) }
+{
+    let white = words_of(alloc, white)?;
+    let black = words_of(alloc, black)?;
+    Ok(Programs { white, black })
+}
+
+/// The programs of the match that the words ask for.
+pub fn programs_of(alloc: Global, words: &[String]) -> Result<Programs, AllocError>
+    requires { (setup : AnySetup) × AreMatchWords words.now setup }
+    ensures white { IfOk result (λ p. 0 < length p.white.items) }
+    ensures black { IfOk result (λ p. 0 < length p.black.items) }
+{
+    let Some(given) = options_of(alloc, words, "match", &OPTIONS)? else {
+        unreachable!();
+    };
+    let Some(white) = given.value(0) else {
+        unreachable!();
+    };
+    let Some(black) = given.value(1) else {
+        unreachable!();
+    };
+    programs_in(alloc, white, black)
+}

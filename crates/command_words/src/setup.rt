@@ -1,0 +1,96 @@
+//! How a match is played: the options that have a default.
+ghost use Rattle.std.specs.Prelude.{◌≡◌, ℕ, None, Some, IfSome, option_map};
+ghost use Rattle.hive_model.specs.declared.pieces.GameType.{GameType as AnyType};
+ghost use Rattle.match_core.specs.declared.answers.Level.{Level as AnyLevel};
+ghost use Rattle.match_core.specs.declared.answers.Setup.{Setup as AnySetup};
+ghost use Rattle.command_words.specs.Matches.{IsLevelOf, IsNumberOr, IsSetupOf, IsTypeOr};
+
+use hive_model::GameType;
+use match_core::{Level, Setup};
+use move_text::{read_number, read_time, read_type};
+
+/// The number from `least` to `most` that a text is, or the default where there is no text.
+fn number_or(text: Option<&str>, least: u64, most: u64, default: u64) -> Option<u64>
+    ensures found { IfSome result (λ n. IsNumberOr (option_map (λ t. t.now) text.entry) least most default n) }
+    ensures only { (n : ℕ) → IsNumberOr (option_map (λ t. t.now) text.entry) least most default n → result ≡ Some n }
+{
+    match text {
+        Some(text) => read_number(text.as_bytes(), least, most),
+        None => Some(default),
+    }
+}
+
+/// The game type that a text is, or the base game where there is no text.
+fn type_or(text: Option<&str>) -> Option<GameType>
+    ensures found { IfSome result (λ t. IsTypeOr (option_map (λ t. t.now) text.entry) t) }
+    ensures only { (t : AnyType) → IsTypeOr (option_map (λ t. t.now) text.entry) t → result ≡ Some t }
+{
+    match text {
+        Some(text) => read_type(text.as_bytes()),
+        None => Some(GameType {
+            mosquito: false,
+            ladybug: false,
+            pillbug: false,
+        }),
+    }
+}
+
+/// That the engines are asked in the time that a text is.
+fn timed_level(time: &str, margin: u64) -> Option<Level>
+    ensures found { IfSome result (λ l. IsLevelOf None (Some time.now) margin l) }
+    ensures only { (l : AnyLevel) → IsLevelOf None (Some time.now) margin l → result ≡ Some l }
+{
+    let budget = read_time(time.as_bytes())?;
+    Some(Level::Time { budget, margin })
+}
+
+/// How the engines are asked, where at most one of depth and time is given.
+fn level_of(depth: Option<&str>, time: Option<&str>, margin: u64) -> Option<Level>
+    ensures found { IfSome result (λ l. IsLevelOf (option_map (λ t. t.now) depth.entry) (option_map (λ t. t.now) time.entry) margin l) }
+    ensures only { (l : AnyLevel) → IsLevelOf (option_map (λ t. t.now) depth.entry) (option_map (λ t. t.now) time.entry) margin l → result ≡ Some l }
+{
+    match (depth, time) {
+        (depth, None) => {
+            let depth = number_or(depth, 1, 64, 2)?;
+            Some(Level::Depth {
+                depth: depth as u32,
+            })
+        }
+        (None, Some(time)) => timed_level(time, margin),
+        (Some(_), Some(_)) => None,
+    }
+}
+
+/// The setup of a match, of the values of the options that have a default.
+pub(crate) fn setup_of(
+    game_type: Option<&str>,
+    depth: Option<&str>,
+    time: Option<&str>,
+    margin: Option<&str>,
+    plies: Option<&str>,
+) -> Option<Setup>
+    ensures found { IfSome result (λ s. IsSetupOf (record {
+      game_type = option_map (λ t. t.now) game_type.entry;
+      depth = option_map (λ t. t.now) depth.entry;
+      time = option_map (λ t. t.now) time.entry;
+      margin = option_map (λ t. t.now) margin.entry;
+      plies = option_map (λ t. t.now) plies.entry;
+    }) s) }
+    ensures only { (s : AnySetup) → IsSetupOf (record {
+      game_type = option_map (λ t. t.now) game_type.entry;
+      depth = option_map (λ t. t.now) depth.entry;
+      time = option_map (λ t. t.now) time.entry;
+      margin = option_map (λ t. t.now) margin.entry;
+      plies = option_map (λ t. t.now) plies.entry;
+    }) s → result ≡ Some s }
+{
+    let game_type = type_or(game_type)?;
+    let margin = number_or(margin, 0, 3_600_000, 1000)?;
+    let level = level_of(depth, time, margin)?;
+    let limit = number_or(plies, 1, 1000, 400)?;
+    Some(Setup {
+        game_type,
+        level,
+        limit: limit as u32,
+    })
+}
