@@ -17,7 +17,7 @@ ghost use Rattle.deepening.specs.Shares.{turns_share};
 
 use hive_model::{Best, Game, Move, MoveStack};
 use io_edge::Clock;
-use search_core::{Tried, Window, first_choice, keep_found, kept_hint, reply};
+use search_core::{Tried, Window, keep_found, kept_hint, reply, root_choice};
 use ticker::Ticker;
 use value_table::ValueTable;
 
@@ -70,7 +70,7 @@ pub(crate) fn best_reply<G: Game, C: Clock>(
     let key = game.key();
     let level = stack.levels();
     game.list(stack);
-    let hint = first_choice(kept_hint(table, &key), game, table, stack, level);
+    let hint = root_choice(kept_hint(table, &key), game, table, stack, level);
     let found = try_all(game, level, depth, hint, stack, table, ticker, clock);
     stack.drop_level();
     let top = found?;

@@ -16,7 +16,7 @@ pub fn kept_hint(table: &ValueTable, key: &Key) -> Option<u32> {
 }
 
 /// The place, in a list of the game's legal moves, of the move to try first: the hint, else the move that last cut off after as many
-/// plies, if it is in the list, else the first move that goes beside the other side's queen from elsewhere.
+/// plies, if it is in the list.
 pub fn first_choice<G: Game>(
     hint: Option<u32>,
     game: &G,
@@ -29,11 +29,23 @@ pub fn first_choice<G: Game>(
     if hint.is_some() {
         return hint;
     }
-    if let Some(cut) = table.last_cut(game.plies()) {
-        let place = place_of(stack, level, &cut);
-        if place.is_some() {
-            return place;
-        }
+    let cut = table.last_cut(game.plies())?;
+    place_of(stack, level, &cut)
+}
+
+/// The same at a root, where the first move that goes beside the other side's queen from elsewhere is tried if nothing else names one.
+pub fn root_choice<G: Game>(
+    hint: Option<u32>,
+    game: &G,
+    table: &ValueTable,
+    stack: &MoveStack,
+    level: u32,
+) -> Option<u32>
+    requires { level < length stack.now.lists }
+{
+    let choice = first_choice(hint, game, table, stack, level);
+    if choice.is_some() {
+        return choice;
     }
     toward_queen(game, stack, level)
 }

@@ -1,13 +1,14 @@
 -- The best move is a legal move, and there is one.
-use Rattle.std.proofs.Common.{◌≡◌, ℕ, ap}
+use Rattle.std.proofs.Common.{◌≡◌, ℕ, ap, subst}
 use Rattle.std.specs.Prelude.{Some}
 use Rattle.hive_model.specs.declared.places.Move.{Move}
 use Rattle.hive_model.specs.Legal.{moves}
+use Rattle.hive_model.specs.Courses.{Course, position}
 use Rattle.hive_model.specs.Lists.{IsOn}
 use Rattle.hive_model.specs.Minimax.{IsInner, IsBest, best}
 use Rattle.hive_model.specs.Positions.{Position}
 use Rattle.search_laws.proofs.BestLaws.{best-exists, best-is}
-use Rattle.uhp_session.specs.Answers.{reached, text_of_best}
+use Rattle.uhp_session.specs.Answers.{Begun, reached, text_of_best}
 use Rattle.uhp_session.specs.Laws.{BestMovesAreNamed}
 use Rattle.uhp_session.proofs.ListLaws.{got_on}
 
@@ -19,3 +20,7 @@ best_named g depth goes_on some =
     let inner : IsInner (reached g) depth = record { deep = some; open_ = goes_on } in
     let found = best-exists (reached g) depth inner in
     (found.0, best-is (reached g) depth found.0 found.1, ap (text_of_best (reached g).board) found.1)
+
+-- the same of a course with the game's type and moves
+pub best_on_course : (c : Course) (g : Begun) (depth : ℕ) (m : Move) → position c ≡ reached g → best (position c) depth ≡ Some m → IsOn (moves (reached g)) m
+best_on_course c g depth m same e = subst (λ p. IsOn (moves p) m) same (best_on (position c) depth m e)

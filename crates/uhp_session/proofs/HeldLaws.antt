@@ -27,7 +27,7 @@ use Rattle.uhp_words.specs.Reading.{command_of}
 use Rattle.uhp_words.specs.Spans.{bytes_at}
 use Rattle.uhp_session.specs.Answers.{Begun, State, Answer, reached, refuse, go_on, in_game, begin, make, play, list, undo, set_table, set_workers, set, get, best_line, while_on, or_base, command_answer, words_answer, after_of, next}
 use Rattle.uhp_session.specs.Laws.{HoldsGame, SessionsHoldGames}
-use Rattle.uhp_session.proofs.ReplyLaws.{get_keeps, list_keeps, best_keeps, time_keeps, line_game, line_few}
+use Rattle.uhp_session.proofs.ReplyLaws.{get_keeps, list_keeps, best_keeps, line_game, line_few}
 
 abbrev Holds : State → Answer → Type 0
 Holds s a = HoldsGame (after_of s a).game
@@ -98,26 +98,26 @@ set_holds s name value h = go (bytes_eq name (codes "Table")) (bytes_eq name (co
     go false true = workers (number_at value 1 16)
     go false false = h
 
-command_holds : (s : State) (line : List ℕ) (c : Command) → HoldsGame s.game → Holds s (command_answer s line c)
-command_holds s line Info h = h
-command_holds s line (NewGame part) h = begin_holds s (or_base (bytes_at line part)) (game_of (or_base (bytes_at line part))) refl h
-command_holds s line (Play part) h = in_holds s s.game (play s (bytes_at line part)) refl h (λ g e. play_holds s (bytes_at line part) g h (subst HoldsGame e h))
-command_holds s line Pass h = in_holds s s.game (play s (codes "pass")) refl h (λ g e. play_holds s (codes "pass") g h (subst HoldsGame e h))
-command_holds s line ValidMoves h = kept s (while_on s (list s)) (list_keeps s) h
-command_holds s line (BestDepth depth) h = kept s (while_on s (best_line s depth)) (best_keeps s depth) h
-command_holds s line (BestTime budget) h = kept s (while_on s (λ g. refuse s (codes "err 20 not built"))) (time_keeps s) h
-command_holds s line (Undo plies) h = in_holds s s.game (undo s plies) refl h (λ g e. undo_holds s plies g h (subst HoldsGame e h))
-command_holds s line Options h = h
-command_holds s line (OptionGet name) h = kept s (get s (bytes_at line name)) (get_keeps s (bytes_at line name)) h
-command_holds s line (OptionSet name value) h = set_holds s (bytes_at line name) (bytes_at line value) h
-command_holds s line Exit h = h
+command_holds : (s : State) (line : List ℕ) (d : ℕ) (c : Command) → HoldsGame s.game → Holds s (command_answer s line d c)
+command_holds s line d Info h = h
+command_holds s line d (NewGame part) h = begin_holds s (or_base (bytes_at line part)) (game_of (or_base (bytes_at line part))) refl h
+command_holds s line d (Play part) h = in_holds s s.game (play s (bytes_at line part)) refl h (λ g e. play_holds s (bytes_at line part) g h (subst HoldsGame e h))
+command_holds s line d Pass h = in_holds s s.game (play s (codes "pass")) refl h (λ g e. play_holds s (codes "pass") g h (subst HoldsGame e h))
+command_holds s line d ValidMoves h = kept s (while_on s (list s)) (list_keeps s) h
+command_holds s line d (BestDepth depth) h = kept s (while_on s (best_line s depth)) (best_keeps s depth) h
+command_holds s line d (BestTime budget) h = kept s (while_on s (best_line s d)) (best_keeps s d) h
+command_holds s line d (Undo plies) h = in_holds s s.game (undo s plies) refl h (λ g e. undo_holds s plies g h (subst HoldsGame e h))
+command_holds s line d Options h = h
+command_holds s line d (OptionGet name) h = kept s (get s (bytes_at line name)) (get_keeps s (bytes_at line name)) h
+command_holds s line d (OptionSet name value) h = set_holds s (bytes_at line name) (bytes_at line value) h
+command_holds s line d Exit h = h
 
-words_holds : (s : State) (line : List ℕ) (r : Result Command CommandFault) → HoldsGame s.game → Holds s (words_answer s line r)
-words_holds s line (Ok c) h = command_holds s line c h
-words_holds s line (Err Unknown) h = h
-words_holds s line (Err Arguments) h = h
+words_holds : (s : State) (line : List ℕ) (d : ℕ) (r : Result Command CommandFault) → HoldsGame s.game → Holds s (words_answer s line d r)
+words_holds s line d (Ok c) h = command_holds s line d c h
+words_holds s line d (Err Unknown) h = h
+words_holds s line d (Err Arguments) h = h
 
 pub holds_games : SessionsHoldGames
 unfolding next
-holds_games s (TextLine bytes) h = words_holds s bytes (command_of bytes) h
+holds_games s (TextLine bytes) h = words_holds s bytes 1 (command_of bytes) h
 holds_games s LongLine h = h

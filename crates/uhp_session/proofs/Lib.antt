@@ -5,3 +5,5 @@ pub mod RefusalLaws
 pub mod HeldLaws
 pub mod BestLaws
 pub mod OptionLaws
+mod DepthLaws
+mod TeamLaws

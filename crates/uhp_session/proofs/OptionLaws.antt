@@ -70,26 +70,26 @@ undo_alike s t plies same g = go (nat_lt (length g.made) plies)
     go true = (refl, same)
     go false = (refl, refl)
 
-command_alike : (s t : State) (line : List ℕ) (c : Command) → s.game ≡ t.game → ¬ IsOfOptions (Ok c) → Alike s t (command_answer s line c) (command_answer t line c)
-command_alike s t line Info same other = (refl, same)
-command_alike s t line (NewGame part) same other = begin_alike s t (game_of (or_base (bytes_at line part))) same
-command_alike s t line (Play part) same other = in_alike s t (play s (bytes_at line part)) (play t (bytes_at line part)) same (play_alike s t (bytes_at line part) same)
-command_alike s t line Pass same other = in_alike s t (play s (codes "pass")) (play t (codes "pass")) same (play_alike s t (codes "pass") same)
-command_alike s t line ValidMoves same other = while_alike s t (list s) (list t) same (λ g. (refl, same))
-command_alike s t line (BestDepth depth) same other = while_alike s t (best_line s depth) (best_line t depth) same (λ g. (refl, same))
-command_alike s t line (BestTime budget) same other = while_alike s t (λ g. refuse s (codes "err 20 not built")) (λ g. refuse t (codes "err 20 not built")) same (λ g. (refl, same))
-command_alike s t line (Undo plies) same other = in_alike s t (undo s plies) (undo t plies) same (undo_alike s t plies same)
-command_alike s t line Options same other = absurd (other tt)
-command_alike s t line (OptionGet name) same other = absurd (other tt)
-command_alike s t line (OptionSet name value) same other = absurd (other tt)
-command_alike s t line Exit same other = (refl, same)
+command_alike : (s t : State) (line : List ℕ) (d : ℕ) (c : Command) → s.game ≡ t.game → ¬ IsOfOptions (Ok c) → Alike s t (command_answer s line d c) (command_answer t line d c)
+command_alike s t line d Info same other = (refl, same)
+command_alike s t line d (NewGame part) same other = begin_alike s t (game_of (or_base (bytes_at line part))) same
+command_alike s t line d (Play part) same other = in_alike s t (play s (bytes_at line part)) (play t (bytes_at line part)) same (play_alike s t (bytes_at line part) same)
+command_alike s t line d Pass same other = in_alike s t (play s (codes "pass")) (play t (codes "pass")) same (play_alike s t (codes "pass") same)
+command_alike s t line d ValidMoves same other = while_alike s t (list s) (list t) same (λ g. (refl, same))
+command_alike s t line d (BestDepth depth) same other = while_alike s t (best_line s depth) (best_line t depth) same (λ g. (refl, same))
+command_alike s t line d (BestTime budget) same other = while_alike s t (best_line s d) (best_line t d) same (λ g. (refl, same))
+command_alike s t line d (Undo plies) same other = in_alike s t (undo s plies) (undo t plies) same (undo_alike s t plies same)
+command_alike s t line d Options same other = absurd (other tt)
+command_alike s t line d (OptionGet name) same other = absurd (other tt)
+command_alike s t line d (OptionSet name value) same other = absurd (other tt)
+command_alike s t line d Exit same other = (refl, same)
 
-words_alike : (s t : State) (line : List ℕ) (r : Result Command CommandFault) → s.game ≡ t.game → ¬ IsOfOptions r → Alike s t (words_answer s line r) (words_answer t line r)
-words_alike s t line (Ok c) same other = command_alike s t line c same other
-words_alike s t line (Err Unknown) same other = (refl, same)
-words_alike s t line (Err Arguments) same other = (refl, same)
+words_alike : (s t : State) (line : List ℕ) (d : ℕ) (r : Result Command CommandFault) → s.game ≡ t.game → ¬ IsOfOptions r → Alike s t (words_answer s line d r) (words_answer t line d r)
+words_alike s t line d (Ok c) same other = command_alike s t line d c same other
+words_alike s t line d (Err Unknown) same other = (refl, same)
+words_alike s t line d (Err Arguments) same other = (refl, same)
 
 pub change_no_answer : OptionsChangeNoAnswer
 unfolding reply next
-change_no_answer s t (TextLine bytes) same other = words_alike s t bytes (command_of bytes) same other
-change_no_answer s t LongLine same other = (refl, same)
+change_no_answer s t (TextLine bytes) depth same other = ((words_alike s t bytes depth (command_of bytes) same other).0, (words_alike s t bytes 1 (command_of bytes) same other).1)
+change_no_answer s t LongLine depth same other = (refl, same)

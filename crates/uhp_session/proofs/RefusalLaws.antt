@@ -22,7 +22,8 @@ use Rattle.uhp_words.specs.Reading.{command_of}
 use Rattle.uhp_words.specs.Spans.{bytes_at}
 use Rattle.uhp_session.specs.Answers.{Begun, State, Answer, reached, refuse, go_on, in_game, begin, make, play, undo, set_table, set_workers, set, table_line, workers_line, or_base, command_answer, words_answer, after_of, next}
 use Rattle.uhp_session.specs.Laws.{IsRefusal, RefusalsChangeNothing}
-use Rattle.uhp_session.proofs.ReplyLaws.{get_keeps, list_keeps, best_keeps, time_keeps}
+use Rattle.uhp_session.proofs.DepthLaws.{depth_kept}
+use Rattle.uhp_session.proofs.ReplyLaws.{get_keeps, list_keeps, best_keeps}
 
 abbrev Keeps : State → Answer → Type 0
 Keeps s a = IsRefusal a → after_of s a ≡ s
@@ -105,26 +106,26 @@ set_keeps s name value = go (bytes_eq name (codes "Table")) (bytes_eq name (code
     go false true = workers_keeps s (number_at value 1 16)
     go false false = λ h. refl
 
-command_keeps : (s : State) (line : List ℕ) (c : Command) → Keeps s (command_answer s line c)
-command_keeps s line Info = λ h. refl
-command_keeps s line (NewGame part) = begin_keeps s (game_of (or_base (bytes_at line part)))
-command_keeps s line (Play part) = in_keeps s s.game (play s (bytes_at line part)) (play_keeps s (bytes_at line part))
-command_keeps s line Pass = in_keeps s s.game (play s (codes "pass")) (play_keeps s (codes "pass"))
-command_keeps s line ValidMoves = λ h. sym (list_keeps s)
-command_keeps s line (BestDepth depth) = λ h. sym (best_keeps s depth)
-command_keeps s line (BestTime budget) = λ h. sym (time_keeps s)
-command_keeps s line (Undo plies) = in_keeps s s.game (undo s plies) (undo_keeps s plies)
-command_keeps s line Options = λ h. refl
-command_keeps s line (OptionGet name) = λ h. sym (get_keeps s (bytes_at line name))
-command_keeps s line (OptionSet name value) = set_keeps s (bytes_at line name) (bytes_at line value)
-command_keeps s line Exit = λ h. refl
+command_keeps : (s : State) (line : List ℕ) (d : ℕ) (c : Command) → Keeps s (command_answer s line d c)
+command_keeps s line d Info = λ h. refl
+command_keeps s line d (NewGame part) = begin_keeps s (game_of (or_base (bytes_at line part)))
+command_keeps s line d (Play part) = in_keeps s s.game (play s (bytes_at line part)) (play_keeps s (bytes_at line part))
+command_keeps s line d Pass = in_keeps s s.game (play s (codes "pass")) (play_keeps s (codes "pass"))
+command_keeps s line d ValidMoves = λ h. sym (list_keeps s)
+command_keeps s line d (BestDepth depth) = λ h. sym (best_keeps s depth)
+command_keeps s line d (BestTime budget) = λ h. sym (best_keeps s d)
+command_keeps s line d (Undo plies) = in_keeps s s.game (undo s plies) (undo_keeps s plies)
+command_keeps s line d Options = λ h. refl
+command_keeps s line d (OptionGet name) = λ h. sym (get_keeps s (bytes_at line name))
+command_keeps s line d (OptionSet name value) = set_keeps s (bytes_at line name) (bytes_at line value)
+command_keeps s line d Exit = λ h. refl
 
-words_keeps : (s : State) (line : List ℕ) (r : Result Command CommandFault) → Keeps s (words_answer s line r)
-words_keeps s line (Ok c) = command_keeps s line c
-words_keeps s line (Err Unknown) = λ h. refl
-words_keeps s line (Err Arguments) = λ h. refl
+words_keeps : (s : State) (line : List ℕ) (d : ℕ) (r : Result Command CommandFault) → Keeps s (words_answer s line d r)
+words_keeps s line d (Ok c) = command_keeps s line d c
+words_keeps s line d (Err Unknown) = λ h. refl
+words_keeps s line d (Err Arguments) = λ h. refl
 
 pub changes_nothing : RefusalsChangeNothing
 unfolding next
-changes_nothing s (TextLine bytes) = words_keeps s bytes (command_of bytes)
-changes_nothing s LongLine = λ h. refl
+changes_nothing s (TextLine bytes) depth = λ h. sym (depth_kept s bytes depth 1 (command_of bytes)) ∙ words_keeps s bytes depth (command_of bytes) h
+changes_nothing s LongLine depth = λ h. refl

@@ -43,6 +43,3 @@ list_keeps s = while_keeps s (list s) (λ g. refl)
 
 pub best_keeps : (s : State) (depth : ℕ) → s ≡ after_of s (while_on s (best_line s depth))
 best_keeps s depth = while_keeps s (best_line s depth) (λ g. refl)
-
-pub time_keeps : (s : State) → s ≡ after_of s (while_on s (λ g. refuse s (codes "err 20 not built")))
-time_keeps s = while_keeps s (λ g. refuse s (codes "err 20 not built")) (λ g. refl)

@@ -188,30 +188,31 @@ set s name value =
 
 -- The table
 
--- the answer to a command; the parts that it names are those of the line
-abbrev pub command_answer : State → List ℕ → Command → Answer
-command_answer s line Info = Says (codes "id HiveReferee 1.0" ∷ (codes "Mosquito;Ladybug;Pillbug" ∷ [])) s
-command_answer s line (NewGame part) = begin s (game_of (or_base (bytes_at line part)))
-command_answer s line (Play part) = in_game s s.game (play s (bytes_at line part))
-command_answer s line Pass = in_game s s.game (play s (codes "pass"))
-command_answer s line ValidMoves = while_on s (list s)
-command_answer s line (BestDepth depth) = while_on s (best_line s depth)
-command_answer s line (BestTime budget) = while_on s (λ g. refuse s (codes "err 20 not built"))
-command_answer s line (Undo plies) = in_game s s.game (undo s plies)
-command_answer s line Options = Says (table_line s.table ∷ (workers_line s.workers ∷ [])) s
-command_answer s line (OptionGet name) = get s (bytes_at line name)
-command_answer s line (OptionSet name value) = set s (bytes_at line name) (bytes_at line value)
-command_answer s line Exit = Leaves
+-- The answer to a command; the parts that it names are those of the line. The depth is that which a search for a time has completed,
+-- and serves `bestmove time` alone.
+abbrev pub command_answer : State → List ℕ → ℕ → Command → Answer
+command_answer s line depth Info = Says (codes "id HiveReferee 1.0" ∷ (codes "Mosquito;Ladybug;Pillbug" ∷ [])) s
+command_answer s line depth (NewGame part) = begin s (game_of (or_base (bytes_at line part)))
+command_answer s line depth (Play part) = in_game s s.game (play s (bytes_at line part))
+command_answer s line depth Pass = in_game s s.game (play s (codes "pass"))
+command_answer s line depth ValidMoves = while_on s (list s)
+command_answer s line depth (BestDepth plies) = while_on s (best_line s plies)
+command_answer s line depth (BestTime budget) = while_on s (best_line s depth)
+command_answer s line depth (Undo plies) = in_game s s.game (undo s plies)
+command_answer s line depth Options = Says (table_line s.table ∷ (workers_line s.workers ∷ [])) s
+command_answer s line depth (OptionGet name) = get s (bytes_at line name)
+command_answer s line depth (OptionSet name value) = set s (bytes_at line name) (bytes_at line value)
+command_answer s line depth Exit = Leaves
 
-abbrev pub words_answer : State → List ℕ → Result Command CommandFault → Answer
-words_answer s line (Ok command) = command_answer s line command
-words_answer s line (Err Unknown) = refuse s (codes "err 1 unknown command")
-words_answer s line (Err Arguments) = refuse s (codes "err 2 wrong arguments")
+abbrev pub words_answer : State → List ℕ → ℕ → Result Command CommandFault → Answer
+words_answer s line depth (Ok command) = command_answer s line depth command
+words_answer s line depth (Err Unknown) = refuse s (codes "err 1 unknown command")
+words_answer s line depth (Err Arguments) = refuse s (codes "err 2 wrong arguments")
 
--- the answer of a session to a line
-abbrev pub answer : State → Line → Answer
-answer s (TextLine bytes) = words_answer s bytes (command_of bytes)
-answer s LongLine = refuse s (codes "err 10 line too long")
+-- the answer of a session to a line, at the depth that its search for a time, if it asks for one, has completed
+abbrev pub answer : State → Line → ℕ → Answer
+answer s (TextLine bytes) depth = words_answer s bytes depth (command_of bytes)
+answer s LongLine depth = refuse s (codes "err 10 line too long")
 
 -- Replies
 
@@ -230,12 +231,12 @@ after_of s (Says lines after) = after
 after_of s Leaves = s
 
 -- the reply to a line, or none where the run ends
-unfoldable pub reply : State → Line → Option (List ℕ)
-reply s line = reply_of (answer s line)
+unfoldable pub reply : State → Line → ℕ → Option (List ℕ)
+reply s line depth = reply_of (answer s line depth)
 
--- the session after a line
+-- the session after a line; a search leaves it as it is, whatever its depth
 unfoldable pub next : State → Line → State
-next s line = after_of s (answer s line)
+next s line = after_of s (answer s line 1)
 
 -- A line that is handed to a session, and the reply
 

@@ -10,7 +10,8 @@ use Rattle.uhp_words.specs.declared.command.Command.{Command}
 use Rattle.uhp_words.specs.declared.command.Command.TheVariants.{Options, OptionGet, OptionSet}
 use Rattle.uhp_words.specs.declared.command.CommandFault.{CommandFault}
 use Rattle.uhp_words.specs.Reading.{command_of}
-use Rattle.uhp_session.specs.Answers.{Begun, State, Answer, Says, Leaves, reached, best_text, answer, reply, next}
+use Rattle.uhp_session.specs.Answers.{Begun, State, Answer, Says, Leaves, reached, best_text, after_of, answer, reply, next}
+use Rattle.uhp_session.specs.Searches.{asks}
 
 -- the first line of the answer begins with `err ` or with `invalidmove `
 abbrev pub IsRefusal : Answer → Type 0
@@ -20,7 +21,7 @@ IsRefusal Leaves = ⊥
 
 -- a refusal leaves the session as it was
 abbrev pub RefusalsChangeNothing : Type 0
-RefusalsChangeNothing = (s : State) (line : Line) → IsRefusal (answer s line) → next s line ≡ s
+RefusalsChangeNothing = (s : State) (line : Line) (depth : ℕ) → IsRefusal (answer s line depth) → next s line ≡ s
 
 -- the game, if one was begun, has at most 5,000 moves, each legal in the position before it
 abbrev pub HoldsGame : Option Begun → Type 0
@@ -31,8 +32,8 @@ HoldsGame (Some g) = IsGame g.game_type g.made × (length g.made ≤ 5000)
 abbrev pub SessionsHoldGames : Type 0
 SessionsHoldGames = (s : State) (line : Line) → HoldsGame s.game → HoldsGame (next s line).game
 
--- In a game that is not over the text that `bestmove depth` answers is that of a legal move, at every depth from 1 on: of the
--- first of those that are worth most at that depth.
+-- In a game that is not over the text that `bestmove` answers is that of a legal move, at every depth from 1 on: of the first of
+-- those that are worth most at that depth.
 abbrev pub BestMovesAreNamed : Type 0
 BestMovesAreNamed =
     (g : Begun) (depth : ℕ) → is_over (reached g) ≡ false → 1 ≤ depth
@@ -54,4 +55,13 @@ AsksOptions LongLine = ⊥
 -- same reply, and they are of the same game afterwards.
 abbrev pub OptionsChangeNoAnswer : Type 0
 OptionsChangeNoAnswer =
-    (s t : State) (line : Line) → s.game ≡ t.game → ¬ AsksOptions line → (reply s line ≡ reply t line) × ((next s line).game ≡ (next t line).game)
+    (s t : State) (line : Line) (depth : ℕ) → s.game ≡ t.game → ¬ AsksOptions line
+    → (reply s line depth ≡ reply t line depth) × ((next s line).game ≡ (next t line).game)
+
+-- The depth of a search shows in the reply to the line that asks for it and in no other, and in no session after a line.
+pub record ServesSearches (s : State) (line : Line) (depth other : ℕ) : Type 0 where
+  pub reply_same : asks s line ≡ None → reply s line depth ≡ reply s line other
+  pub after_same : after_of s (answer s line depth) ≡ next s line
+
+abbrev pub DepthsServeSearches : Type 0
+DepthsServeSearches = (s : State) (line : Line) (depth other : ℕ) → ServesSearches s line depth other

@@ -11,16 +11,21 @@ ghost use Rattle.hive_model.specs.Strings.{string};
 ghost use Rattle.hive_model.specs.Stack.{with_level};
 ghost use Rattle.move_text.specs.Moves.{move_of};
 ghost use Rattle.uhp_session.specs.Answers.{Begun, reached, text_of, ended, joined, best_text};
+ghost use Rattle.uhp_session.specs.Searches.{HasTold};
 
 use crate::lines::Reply;
 use crate::lists::joined_moves;
 use crate::says::{close, say};
+use crate::workers::{Team, best_by};
 use deepening::Searcher;
 use game_text::{MoveTexts, played, texts_of};
-use hive_model::{Game, GameType, Move, MoveList, MoveStack, ReplyText, State};
+use hive_model::{Game, GameType, Move, MoveList, MoveStack, ReplyText, State, TimedList};
+use io_edge::Clock;
 use move_text::{MoveFault, read_move, write_move};
+use root_share::Gate;
 use std::alloc::{AllocError, Global};
 use std::marker::Model;
+use std::thread::Threads;
 
 /// A game that was begun, seen as its type and its moves, with the written texts of the moves.
 #[derive(Drop)]
@@ -193,41 +198,75 @@ impl<G: Game + Drop> Current<G> {
         close(joined_moves(alloc, &self.game, &stack)?)
     }
 
-    /// The first legal move that is worth most, so many plies deep, sought with a table of so many entries. The game is as before,
-    /// after want of memory too.
-    fn best(&mut self, alloc: Global, entries: u32, depth: u32) -> Result<Move, AllocError>
+    /// The first legal move that is worth most, so many plies deep. The game and the searcher are as before, after want of memory too.
+    fn best(&mut self, searcher: &mut Searcher, depth: u32) -> Result<Move, AllocError>
         requires goes_on { is_over (reached self.old) ≡ false }
-        requires some { 1 ≤ entries }
-        requires few { entries ≤ 1048576 }
+        requires prepared { 64 ≤ searcher.old }
         requires deep { 1 ≤ depth }
         requires bound { depth ≤ 64 }
         ensures best { IfOk result (λ m. best (reached self.old) depth ≡ Some m) }
         ensures same { self.new ≡ self.old }
+        ensures searcher { searcher.new ≡ searcher.old }
     {
-        let mut searcher = Searcher::prepare(alloc, entries, depth)?;
         self.game.reserve(depth)?;
         let found = searcher.best_at(&mut self.game, depth);
         Ok(found.best)
     }
 
-    /// The best move, and `ok`. The game is as before, after want of memory too.
+    /// The best move, and `ok`. The game and the searcher are as before, after want of memory too.
     pub(crate) fn tell_best(
         &mut self,
         alloc: Global,
-        entries: u32,
+        searcher: &mut Searcher,
         depth: u32,
     ) -> Result<Reply, AllocError>
         requires goes_on { is_over (reached self.old) ≡ false }
-        requires some { 1 ≤ entries }
-        requires few { entries ≤ 1048576 }
+        requires prepared { 64 ≤ searcher.old }
         requires deep { 1 ≤ depth }
         requires bound { depth ≤ 64 }
         ensures reply { IfOk result (λ r. text_of r ≡ Some (ended (best_text self.old depth ∷ (codes "ok" ∷ [])))) }
         ensures same { self.new ≡ self.old }
+        ensures searcher { searcher.new ≡ searcher.old }
     {
-        let found = self.best(alloc, entries, depth)?;
+        let found = self.best(searcher, depth)?;
+        self.tell_move(alloc, found)
+    }
+
+    /// The best move of the last depth that a search completes within the budget, in milliseconds, and `ok`; an entry that tells of the
+    /// search is appended to the list. The game and the searcher are as before, and after want of memory the list too.
+    pub(crate) fn tell_best_in<C: Clock>(
+        &mut self,
+        alloc: Global,
+        searcher: &mut Searcher,
+        budget: u64,
+        clock: &mut C,
+        timed: &mut TimedList,
+    ) -> Result<Reply, AllocError>
+        requires goes_on { is_over (reached self.old) ≡ false }
+        requires prepared { 64 ≤ searcher.old }
+        requires budget { budget ≤ 359999000 }
+        ensures told { IfOk result (λ r. HasTold (record { budget = budget; position = reached self.old }) self.old (text_of r)
+            (record { last = C.last clock.old; readings = C.readings clock.old; timed = timed.old })
+            (record { last = C.last clock.new; readings = C.readings clock.new; timed = timed.new })) }
+        ensures same { self.new ≡ self.old }
+        ensures searcher { searcher.new ≡ searcher.old }
+        ensures memory { OnErr result (timed.new ≡ timed.old) }
+        ensures later { C.last clock.old ≤ C.last clock.new }
+    {
+        self.game.reserve(64)?;
+        let (found, entry) = searcher.best_in(&mut self.game, budget, clock);
+        let reply = self.tell_move(alloc, found.best)?;
+        timed.push(entry)?;
+        Ok(reply)
+    }
+
+    /// A legal move, written, and `ok`.
+    fn tell_move(&self, alloc: Global, m: Move) -> Result<Reply, AllocError>
+        requires { IsOn (moves (reached self.now)) m }
+        ensures { IfOk result (λ r. text_of r ≡ Some (ended (text (reached self.now).board m ∷ (codes "ok" ∷ [])))) }
+    {
         let _state = self.game.state();
-        let written = write_move(&self.game, found);
+        let written = write_move(&self.game, m);
         say(alloc, written.as_bytes())
     }
 
@@ -238,5 +277,32 @@ impl<G: Game + Drop> Current<G> {
         ensures same { self.new ≡ self.old }
     {
         self.game.list(out)
+    }
+}
+
+impl<G: Game + Send + Drop> Current<G> {
+    /// The best move, found by a team, and `ok`. The game is as before, after want of memory too.
+    pub(crate) fn tell_best_by<R: Threads + Sync, T: Gate + Sync>(
+        &self,
+        rt: &R,
+        alloc: Global,
+        team: Team,
+        depth: u32,
+        gate: &T,
+    ) -> Result<Reply, AllocError>
+        requires goes_on { is_over (reached self.now) ≡ false }
+        requires workers { 1 ≤ team.workers }
+        requires few { team.workers ≤ 16 }
+        requires entries { 1 ≤ team.entries }
+        requires large { team.entries ≤ 1048576 }
+        requires some { 1 ≤ depth }
+        requires deep { depth ≤ 64 }
+        ensures { IfOk result (λ r. text_of r ≡ Some (ended (best_text self.now depth ∷ (codes "ok" ∷ [])))) }
+    {
+        let _state = self.game.state();
+        let moves = first_moves(alloc, &self.game, self.game.plies())?;
+        let game_type = self.game.game_type();
+        let found = best_by::<R, G, T>(rt, alloc, game_type, moves.items(), team, depth, gate)?;
+        self.tell_move(alloc, found)
     }
 }

@@ -1,6 +1,6 @@
 //! The laws of sessions. They have no code: a function here has its law as its contract, and an empty body.
 
-ghost use Rattle.uhp_session.specs.Laws.{RefusalsChangeNothing, SessionsHoldGames, BestMovesAreNamed, OptionsChangeNoAnswer};
+ghost use Rattle.uhp_session.specs.Laws.{RefusalsChangeNothing, SessionsHoldGames, BestMovesAreNamed, OptionsChangeNoAnswer, DepthsServeSearches};
 
 /// Where the first line of the answer begins with `err ` or `invalidmove `, the session is afterwards as it was before.
 pub fn refusals_change_nothing()
@@ -13,8 +13,8 @@ pub fn sessions_hold_games()
     ensures { SessionsHoldGames }
 {}
 
-/// In a game that is not over `bestmove depth` names a legal move, at every depth from 1 on: the first of those that are worth most
-/// at that depth.
+/// In a game that is not over `bestmove` names a legal move, at every depth from 1 on: the first of those that are worth most at that
+/// depth.
 pub fn best_moves_are_named()
     ensures { BestMovesAreNamed }
 {}
@@ -23,4 +23,10 @@ pub fn best_moves_are_named()
 /// same reply, and they are of the same game afterwards.
 pub fn options_change_no_answer()
     ensures { OptionsChangeNoAnswer }
+{}
+
+/// The depth that a search for a time completed shows in the reply to the line that asks for it and in no other, and in no session
+/// after a line.
+pub fn depths_serve_searches()
+    ensures { DepthsServeSearches }
 {}

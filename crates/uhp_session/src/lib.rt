@@ -9,9 +9,14 @@ mod options;
 mod refusals;
 mod says;
 mod session;
+mod workers;
 
 pub use laws::{
-    best_moves_are_named, options_change_no_answer, refusals_change_nothing, sessions_hold_games,
+    best_moves_are_named, depths_serve_searches, options_change_no_answer, refusals_change_nothing,
+    sessions_hold_games,
 };
 pub use lines::{LineIn, Reply};
 pub use session::Session;
+
+#[cfg(test)]
+mod tests;

@@ -1,10 +1,11 @@
 //! A session over any game.
 
-ghost use Rattle.std.specs.Prelude.{◌≡◌, ◌≤◌, [], ◌∷◌, length, codes, IfOk, OnOk, OnErr};
+ghost use Rattle.std.specs.Prelude.{◌≡◌, ◌≤◌, length, None, Ok, IfOk, IfSome, OnOk, OnErr};
 ghost use Rattle.game_text.specs.Reading.{game_of};
 ghost use Rattle.uhp_words.specs.Grammar.{IsCommand, AreWithin};
 ghost use Rattle.uhp_words.specs.Reading.{command_of};
-ghost use Rattle.uhp_session.specs.Answers.{fresh, reply, next, line_in, text_of, IsShort, reply_of, after_of, refuse, words_answer, command_answer, get, set, go_on, with_game, or_base, begin, in_game, play, while_on, list, best_line, undo};
+ghost use Rattle.uhp_session.specs.Answers.{fresh, reply, next, line_in, text_of, IsShort, reply_of, after_of, words_answer, command_answer, get, set, go_on, with_game, or_base, begin, in_game, play, while_on, list, best_line, undo};
+ghost use Rattle.uhp_session.specs.Searches.{IsAnswered, IsUntimed, asks, command_search, search_in};
 
 use crate::current::Current;
 use crate::lines::{LineIn, Reply};
@@ -12,9 +13,12 @@ use crate::lists::joined_moves;
 use crate::options::{number_in, tell_options, tell_table, tell_workers};
 use crate::refusals::{refuse_game, refuse_move};
 use crate::says::{close, say};
+use crate::workers::{Team, taken};
+use deepening::Searcher;
 use game_text::read_game;
 use hive_model::{Game, MoveStack, TimedList};
 use io_edge::Clock;
+use root_share::Gate;
 use std::alloc::{AllocError, Global};
 use std::marker::Model;
 use std::thread::Threads;
@@ -26,17 +30,18 @@ pub struct Session<G: Game> {
     game: Option<Current<G>>,
     table: u32,
     workers: u32,
+    searcher: Option<Searcher>,
 }
 
 impl<G: Game> Model for Session<G> {
-    ghost use Rattle.std.specs.Prelude.{◌≤◌};
+    ghost use Rattle.std.specs.Prelude.{◌≡◌, ◌≤◌, IfSome};
     ghost use Rattle.uhp_session.specs.Answers.{State};
 
     ghost Value = { State };
 
     ghost view = { λ s. record { game = s.game; table = s.table; workers = s.workers } };
 
-    ghost invariant = { λ s. (1 ≤ s.table) × (s.table ≤ 1048576) × (1 ≤ s.workers) × (s.workers ≤ 16) };
+    ghost invariant = { λ s. (1 ≤ s.table) × (s.table ≤ 1048576) × (1 ≤ s.workers) × (s.workers ≤ 16) × IfSome s.searcher (λ n. n ≡ 64) };
 }
 
 /// The text of a new game: no text stands for the base game.
@@ -48,7 +53,7 @@ fn or_base(text: &[u8]) -> &[u8]
     if text.is_empty() { b"Base" } else { text }
 }
 
-impl<G: Game + Drop> Session<G> {
+impl<G: Game + Send + Drop> Session<G> {
     /// No game, and the options at their defaults.
     pub fn new() -> Session<G>
         ensures { result ≡ fresh }
@@ -57,6 +62,7 @@ impl<G: Game + Drop> Session<G> {
             game: None,
             table: 65536,
             workers: 1,
+            searcher: None,
         }
     }
 
@@ -64,57 +70,112 @@ impl<G: Game + Drop> Session<G> {
     ///
     /// `info` tells who the engine is. `newgame` begins the game of a game string, or of no text the base game; `play` and `pass`
     /// play a move, and `undo` takes moves back: each is answered by the game string after it. `validmoves` lists the legal moves.
-    /// `bestmove depth` names the first legal move of the greatest minimax value, so many plies deep; `bestmove time` is not built.
+    /// `bestmove depth` names the first legal move of the greatest minimax value, so many plies deep; `bestmove time` the same
+    /// at the last depth that it completes within the time, 1 at least, and an entry that tells of this search is appended to the list.
+    /// The option Workers says how many threads `bestmove depth` may use; each calls the gate before each move of the root.
     /// `options` tells the options, gets one or sets one, and they outlive a new game. No other answer depends on them.
     ///
     /// A line that is too long, no command or of wrong arguments is refused. So is a command with no game, with a game that is over
     /// or has 5,000 plies, with a text that is no game, a move that is unreadable or not legal, more plies to take back than were
     /// played, no such option and a value out of range. A refusal is a line that begins with `err ` or `invalidmove `, and changes
     /// nothing. After want of memory the session is as before.
-    #[tactic(auto, unfolding(crate::specs::Answers::reply, crate::specs::Answers::next))]
-    pub fn command<R: Threads + Sync, C: Clock>(
+    #[tactic(auto, unfolding(crate::specs::Answers::reply, crate::specs::Answers::next, crate::specs::Searches::asks))]
+    pub fn command<R: Threads + Sync, C: Clock, T: Gate + Sync>(
         &mut self,
-        _rt: &R,
+        rt: &R,
         alloc: Global,
         line: LineIn<'_>,
         clock: &mut C,
         timed: &mut TimedList,
+        gate: &T,
     ) -> Result<Reply, AllocError>
         requires { IsShort (line_in line) }
-        ensures reply { IfOk result (λ r. text_of r ≡ reply self.old (line_in line.entry)) }
+        ensures reply { IfOk result (λ r. IsAnswered (asks self.old (line_in line.entry)) (reply self.old (line_in line.entry)) (text_of r)
+            (record { last = C.last clock.old; readings = C.readings clock.old; timed = timed.old })
+            (record { last = C.last clock.new; readings = C.readings clock.new; timed = timed.new })) }
         ensures next { OnOk result (self.new ≡ next self.old (line_in line.entry)) }
         ensures err { OnErr result (self.new ≡ self.old) }
-        ensures clock { clock.new ≡ clock.old }
-        ensures timed { timed.new ≡ timed.old }
+        ensures memory { OnErr result (timed.new ≡ timed.old) }
+        ensures later { C.last clock.old ≤ C.last clock.new }
     {
         match line {
-            LineIn::Text(bytes) => self.answer(alloc, bytes),
+            LineIn::Text(bytes) => self.answer(rt, alloc, bytes, clock, timed, gate),
             LineIn::TooLong => say(alloc, b"err 10 line too long"),
         }
     }
 
     /// Answers a line that is not too long.
-    fn answer(&mut self, alloc: Global, line: &[u8]) -> Result<Reply, AllocError>
-        requires { length line.now ≤ 65536 }
-        ensures reply { IfOk result (λ r. text_of r ≡ reply_of (words_answer self.old line.now (command_of line.now))) }
-        ensures next { OnOk result (self.new ≡ after_of self.old (words_answer self.old line.now (command_of line.now))) }
+    fn answer<R: Threads + Sync, C: Clock, T: Gate + Sync>(
+        &mut self,
+        rt: &R,
+        alloc: Global,
+        line: &[u8],
+        clock: &mut C,
+        timed: &mut TimedList,
+        gate: &T,
+    ) -> Result<Reply, AllocError>
+        requires short { length line.now ≤ 65536 }
+        ensures reply { IfOk result (λ r. IsAnswered (command_search self.old (command_of line.now))
+            (λ depth. reply_of (words_answer self.old line.now depth (command_of line.now))) (text_of r)
+            (record { last = C.last clock.old; readings = C.readings clock.old; timed = timed.old })
+            (record { last = C.last clock.new; readings = C.readings clock.new; timed = timed.new })) }
+        ensures next { OnOk result (self.new ≡ after_of self.old (words_answer self.old line.now 1 (command_of line.now))) }
         ensures err { OnErr result (self.new ≡ self.old) }
+        ensures memory { OnErr result (timed.new ≡ timed.old) }
+        ensures later { C.last clock.old ≤ C.last clock.new }
     {
         match read_command(line) {
-            Ok(command) => self.perform(alloc, line, command),
+            Ok(command) => self.perform(rt, alloc, line, command, clock, timed, gate),
             Err(CommandFault::Unknown) => say(alloc, b"err 1 unknown command"),
             Err(CommandFault::Arguments) => say(alloc, b"err 2 wrong arguments"),
         }
     }
 
     /// Answers a command, which names parts of its line.
-    #[tactic(auto, using(crate::proofs::ReplyLaws::get_keeps, crate::proofs::ReplyLaws::list_keeps, crate::proofs::ReplyLaws::best_keeps, crate::proofs::ReplyLaws::time_keeps))]
-    fn perform(&mut self, alloc: Global, line: &[u8], command: Command) -> Result<Reply, AllocError>
+    fn perform<R: Threads + Sync, C: Clock, T: Gate + Sync>(
+        &mut self,
+        rt: &R,
+        alloc: Global,
+        line: &[u8],
+        command: Command,
+        clock: &mut C,
+        timed: &mut TimedList,
+        gate: &T,
+    ) -> Result<Reply, AllocError>
         requires short { length line.now ≤ 65536 }
         requires within { AreWithin line.now command }
         requires reads { IsCommand line.now command }
-        ensures reply { IfOk result (λ r. text_of r ≡ reply_of (command_answer self.old line.now command)) }
-        ensures next { OnOk result (self.new ≡ after_of self.old (command_answer self.old line.now command)) }
+        ensures reply { IfOk result (λ r. IsAnswered (command_search self.old (Ok command))
+            (λ depth. reply_of (command_answer self.old line.now depth command)) (text_of r)
+            (record { last = C.last clock.old; readings = C.readings clock.old; timed = timed.old })
+            (record { last = C.last clock.new; readings = C.readings clock.new; timed = timed.new })) }
+        ensures next { OnOk result (self.new ≡ after_of self.old (command_answer self.old line.now 1 command)) }
+        ensures err { OnErr result (self.new ≡ self.old) }
+        ensures memory { OnErr result (timed.new ≡ timed.old) }
+        ensures later { C.last clock.old ≤ C.last clock.new }
+    {
+        match command {
+            Command::BestTime { budget } => self.best_in(alloc, budget, clock, timed),
+            other => self.perform_at_once(rt, alloc, line, other, gate),
+        }
+    }
+
+    /// Answers a command that asks for no search for a time.
+    #[tactic(auto, using(crate::proofs::ReplyLaws::get_keeps, crate::proofs::ReplyLaws::list_keeps, crate::proofs::ReplyLaws::best_keeps))]
+    fn perform_at_once<R: Threads + Sync, T: Gate + Sync>(
+        &mut self,
+        rt: &R,
+        alloc: Global,
+        line: &[u8],
+        command: Command,
+        gate: &T,
+    ) -> Result<Reply, AllocError>
+        requires short { length line.now ≤ 65536 }
+        requires within { AreWithin line.now command }
+        requires reads { IsCommand line.now command }
+        requires untimed { IsUntimed command }
+        ensures reply { IfOk result (λ r. text_of r ≡ reply_of (command_answer self.old line.now 0 command)) }
+        ensures next { OnOk result (self.new ≡ after_of self.old (command_answer self.old line.now 1 command)) }
         ensures err { OnErr result (self.new ≡ self.old) }
     {
         match command {
@@ -123,8 +184,8 @@ impl<G: Game + Drop> Session<G> {
             Command::Play { text } => self.play(alloc, part(line, text)),
             Command::Pass => self.play(alloc, b"pass"),
             Command::ValidMoves => self.list(alloc),
-            Command::BestDepth { depth } => self.best(alloc, depth),
-            Command::BestTime { .. } => self.best_in_time(alloc),
+            Command::BestDepth { depth } => self.best(rt, alloc, depth, gate),
+            Command::BestTime { .. } => unreachable!(),
             Command::Undo { plies } => self.undo(alloc, plies),
             Command::Options => tell_options(alloc, self.table, self.workers),
             Command::OptionGet { name } => self.tell_option(alloc, part(line, name)),
@@ -162,6 +223,7 @@ impl<G: Game + Drop> Session<G> {
             };
             let reply = tell_table(alloc, entries as u32)?;
             self.table = entries as u32;
+            self.searcher = None;
             return Ok(reply);
         }
         if name == b"Workers".as_slice() {
@@ -170,6 +232,7 @@ impl<G: Game + Drop> Session<G> {
             };
             let reply = tell_workers(alloc, workers as u32)?;
             self.workers = workers as u32;
+            self.searcher = None;
             return Ok(reply);
         }
         say(alloc, b"err 9 no such option")
@@ -242,12 +305,54 @@ impl<G: Game + Drop> Session<G> {
         game.tell_moves(alloc)
     }
 
-    /// The best move, so many plies deep. Each of the workers has its share of the option Table, at least one entry.
-    fn best(&mut self, alloc: Global, depth: u32) -> Result<Reply, AllocError>
+    /// The best move, so many plies deep. Several workers search it beside each other; each of them has its share of the option Table, at
+    /// least one entry. One worker goes on with the searcher of the session.
+    fn best<R: Threads + Sync, T: Gate + Sync>(
+        &mut self,
+        rt: &R,
+        alloc: Global,
+        depth: u32,
+        gate: &T,
+    ) -> Result<Reply, AllocError>
         requires some { 1 ≤ depth }
         requires deep { depth ≤ 64 }
         ensures reply { IfOk result (λ r. text_of r ≡ reply_of (while_on self.old (best_line self.old depth))) }
         ensures same { self.new ≡ self.old }
+    {
+        let team = Team {
+            workers: self.workers,
+            entries: (self.table / self.workers).max(1),
+        };
+        let Some(game) = &mut self.game else {
+            return say(alloc, b"err 3 no game");
+        };
+        if game.is_over() {
+            return say(alloc, b"err 8 game over");
+        }
+        if team.workers > 1 {
+            return game.tell_best_by(rt, alloc, team, depth, gate);
+        }
+        let mut searcher = taken(&mut self.searcher, alloc, team.entries)?;
+        let reply = game.tell_best(alloc, &mut searcher, depth);
+        self.searcher = Some(searcher);
+        reply
+    }
+
+    /// The best move of the last depth that is completed within the budget, in milliseconds.
+    fn best_in<C: Clock>(
+        &mut self,
+        alloc: Global,
+        budget: u64,
+        clock: &mut C,
+        timed: &mut TimedList,
+    ) -> Result<Reply, AllocError>
+        requires { budget ≤ 359999000 }
+        ensures reply { IfOk result (λ r. IsAnswered (search_in self.old.game budget) (λ depth. reply_of (while_on self.old (best_line self.old depth))) (text_of r)
+            (record { last = C.last clock.old; readings = C.readings clock.old; timed = timed.old })
+            (record { last = C.last clock.new; readings = C.readings clock.new; timed = timed.new })) }
+        ensures same { self.new ≡ self.old }
+        ensures memory { OnErr result (timed.new ≡ timed.old) }
+        ensures later { C.last clock.old ≤ C.last clock.new }
     {
         let entries = (self.table / self.workers).max(1);
         let Some(game) = &mut self.game else {
@@ -256,20 +361,10 @@ impl<G: Game + Drop> Session<G> {
         if game.is_over() {
             return say(alloc, b"err 8 game over");
         }
-        game.tell_best(alloc, entries, depth)
-    }
-
-    /// A search for a time is not built.
-    fn best_in_time(&self, alloc: Global) -> Result<Reply, AllocError>
-        ensures { IfOk result (λ r. text_of r ≡ reply_of (while_on self.now (λ g. refuse self.now (codes "err 20 not built")))) }
-    {
-        let Some(game) = &self.game else {
-            return say(alloc, b"err 3 no game");
-        };
-        if game.is_over() {
-            return say(alloc, b"err 8 game over");
-        }
-        say(alloc, b"err 20 not built")
+        let mut searcher = taken(&mut self.searcher, alloc, entries)?;
+        let reply = game.tell_best_in(alloc, &mut searcher, budget, clock, timed);
+        self.searcher = Some(searcher);
+        reply
     }
 
     /// Takes the last plies back, so many.

@@ -6,7 +6,7 @@ ghost use Rattle.hive_model.specs.Places.{IsWithin};
 ghost use Rattle.fast_game.specs.Small.{IsSmall};
 
 use bug_moves::reach;
-use gates::climb_ok;
+use gates::{climb_ok, slide_ok};
 use hive_model::{Board, Kind, Piece, Place, PlaceList};
 use mosquito_moves::mosquito_reach;
 use std::alloc::{AllocError, Global};
@@ -130,9 +130,13 @@ fn through_a_gate(rt: HostRuntime) -> Result<(), Fail> {
     stand(&mut board, 15, Place { q: 0, r: 1 });
     stand(&mut board, 3, Place { q: 0, r: 1 });
     assert!(rt; !climb_ok(&board, ORIGIN, Place { q: 1, r: 0 }));
+    assert!(rt; !slide_ok(&board, ORIGIN, Place { q: 1, r: 0 }));
+    assert!(rt; !slide_ok(&board, ORIGIN, Place { q: -1, r: 0 }));
+    assert!(rt; slide_ok(&board, ORIGIN, Place { q: 0, r: -1 }));
     stand(&mut board, 8, ORIGIN);
     stand(&mut board, 18, ORIGIN);
     assert!(rt; climb_ok(&board, ORIGIN, Place { q: 1, r: 0 }));
+    assert!(rt; !slide_ok(&board, ORIGIN, Place { q: 0, r: -1 }));
     Ok(())
 }
 

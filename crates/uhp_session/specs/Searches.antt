@@ -1,0 +1,79 @@
+-- Searches for a time: what a line asks for, what an entry tells of the search that answered it, and what the answer took.
+use Rattle.std.specs.Prelude.{◌≡◌, ℕ, ◌+◌, ◌<◌, ◌≤◌, List, [], ◌∷◌, ◌++◌, Option, Some, None, Result, Ok, codes, if◌then◌else◌}
+use Rattle.hive_model.specs.declared.answers.Timed.{Timed}
+use Rattle.hive_model.specs.Positions.{Position}
+use Rattle.hive_model.specs.Legal.{is_over}
+use Rattle.hive_model.specs.Lines.{Line, Text as TextLine, TooLong as LongLine}
+use Rattle.hive_model.specs.Minimax.{reads}
+use Rattle.uhp_words.specs.declared.command.Command.{Command}
+use Rattle.uhp_words.specs.declared.command.Command.TheVariants.{BestTime}
+use Rattle.uhp_words.specs.declared.command.CommandFault.{CommandFault}
+use Rattle.uhp_words.specs.Reading.{command_of}
+use Rattle.uhp_session.specs.Answers.{Begun, State, reached, best_text, ended}
+
+-- What a line asks for
+
+-- a search for a time: its budget in milliseconds, and the position that is asked about
+pub record Search : Type 0 where
+  pub budget : ℕ
+  pub position : Position
+
+-- a search with this budget, where a game was begun that is not over
+abbrev pub search_in : Option Begun → ℕ → Option Search
+search_in None budget = None
+search_in (Some g) budget = if is_over (reached g) then None else Some (record { budget = budget; position = reached g })
+
+abbrev pub command_search : State → Result Command CommandFault → Option Search
+command_search s (Ok (BestTime budget)) = search_in s.game budget
+command_search s _ = None
+
+-- the command is no search for a time
+abbrev pub IsUntimed : Command → Type 0
+IsUntimed (BestTime budget) = ⊥
+IsUntimed _ = Unit {0}
+
+-- the search for a time that a line asks for, if it asks for one that is not refused
+unfoldable pub asks : State → Line → Option Search
+asks s (TextLine bytes) = command_search s (command_of bytes)
+asks s LongLine = None
+
+-- What its answer tells
+
+-- The entry tells of this search: it has its budget, and a depth from 1 to 64, which is below 64 only where the time was over.
+pub record IsToldOf (asked : Search) (entry : Timed) : Type 0 where
+  pub budget : entry.budget ≡ asked.budget
+  pub low : 1 ≤ entry.depth
+  pub high : entry.depth ≤ 64
+  pub late : entry.depth < 64 → entry.started + entry.budget ≤ entry.stopped
+  pub order : entry.started ≤ entry.stopped
+
+-- the clock's last reading, how often it was read, and an entry for each search for a time that was answered
+pub record Times : Type 0 where
+  pub last : ℕ
+  pub readings : ℕ
+  pub timed : List Timed
+
+-- the clock was not read, and no search for a time was answered
+pub record TakesNoTime (before after : Times) : Type 0 where
+  pub last : after.last ≡ before.last
+  pub readings : after.readings ≡ before.readings
+  pub timed : after.timed ≡ before.timed
+
+-- a search was answered, and an entry that tells of it was appended
+pub record Searched (asked : Search) (entry : Timed) (before after : Times) : Type 0 where
+  pub appended : after.timed ≡ before.timed ++ entry ∷ []
+  pub told : IsToldOf asked entry
+  pub began : before.last ≤ entry.started
+  pub stopped : entry.stopped ≡ after.last
+  pub few : after.readings ≤ before.readings + reads asked.position entry.depth
+
+-- A line that asks for this search, or for none, was answered so: at the depth of the search's entry, or without taking time.
+abbrev pub IsAnswered : Option Search → (ℕ → Option (List ℕ)) → Option (List ℕ) → Times → Times → Type 0
+IsAnswered None reply answer before after = (answer ≡ reply 0) × TakesNoTime before after
+IsAnswered (Some asked) reply answer before after =
+    (entry : Timed) × (answer ≡ reply entry.depth) × Searched asked entry before after
+
+-- the best move of this game at the depth of an entry was told, and the entry tells of this search
+abbrev pub HasTold : Search → Begun → Option (List ℕ) → Times → Times → Type 0
+HasTold asked g answer before after =
+    (entry : Timed) × (answer ≡ Some (ended (best_text g entry.depth ∷ (codes "ok" ∷ [])))) × Searched asked entry before after
