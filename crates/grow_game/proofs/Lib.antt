@@ -1,0 +1,3 @@
+pub mod GrowLaws
+pub mod PlyLaws
+pub mod TurnLaws

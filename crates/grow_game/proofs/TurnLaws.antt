@@ -1,0 +1,225 @@
+-- One turn of each loop over plies, over plain values.
+use Rattle.std.proofs.Common.{◌≡◌, ℕ, ◌+◌, ◌-◌, ◌<◌, ◌≤◌, false, true, List, [], ◌∷◌, ◌++◌, length, length-append, append_assoc, take, drop, refl, sym, ◌∙◌, ap, subst, arith, Some}
+use Rattle.std.specs.List.{slice_get}
+use Rattle.std.proofs.lemmas.List.{append-nil}
+use Rattle.std.proofs.Math.Seq.{take-length}
+use Rattle.hive_model.specs.declared.places.Move.{Move}
+use Rattle.hive_model.specs.Lists.{IsOn}
+use Rattle.hive_model.specs.Positions.{Position, opening}
+use Rattle.hive_model.specs.Legal.{is_over, moves}
+use Rattle.hive_model.specs.Games.{after, replay, AreLegal}
+use Rattle.hive_model.specs.Keys.{key}
+use Rattle.hive_model.specs.Courses.{Course, position, with_move, without_last}
+use Rattle.search_laws.proofs.CourseLaws.{take-all_but_last, position-with_move, replay-append}
+use Rattle.search_laws.proofs.LoopLaws.{drop-at, drop-all}
+use Rattle.grow_game.specs.declared.plies.Ply.{Ply}
+use Rattle.grow_game.specs.Growing.{seeded, word, next_state, drawn, grown, choices}
+use Rattle.grow_game.specs.Plies.{moves_of, AreKeyed}
+use Rattle.grow_game.specs.Made.{AreMade}
+use Rattle.grow_game.proofs.GrowLaws.{grown-none, grown-legal, grown-over, grown-drawn, choices-none, choices-append}
+use Rattle.grow_game.proofs.PlyLaws.{moves_of-append, taken_next, keyed-append, keyed-at}
+
+-- ---- plies that are taken back
+
+-- so many of the plies stand, the others were taken back and counted
+pub record AreBack (from : Course) (ts : List Ply) (i : ℕ) (now : Course) (count : ℕ) : Type 0 where
+  pub kind : now.game_type ≡ from.game_type
+  pub made : now.made ≡ moves_of (take i ts)
+  pub undone : count + i ≡ length ts
+  pub spare : now.spare + i ≡ from.spare + length ts
+
+pub back-none : (from : Course) (ts : List Ply) → from.made ≡ moves_of ts → AreBack from ts (length ts) from 0
+back-none from ts made = record {
+  kind = refl;
+  made = made ∙ ap moves_of (sym (take-length ts));
+  undone = omega arith;
+  spare = refl;
+}
+
+last-made : (from now : Course) (ts : List Ply) (i n : ℕ) (t : Ply) → 0 < i → AreBack from ts i now n → slice_get ts (i - 1) ≡ Some t →
+    now.made ≡ moves_of (take (i - 1) ts) ++ t.m ∷ []
+last-made from now ts i n t some turn here =
+    let up : i ≡ i - 1 + 1 = omega (arith, some) in
+    turn.made ∙ ap (λ k. moves_of (take k ts)) up ∙ ap moves_of (taken_next ts (i - 1) t here) ∙ moves_of-append (take (i - 1) ts) t
+
+pub back-some : (from now : Course) (ts : List Ply) (i n : ℕ) (t : Ply) → 0 < i → AreBack from ts i now n → slice_get ts (i - 1) ≡ Some t → 1 ≤ length now.made
+back-some from now ts i n t some turn here =
+    omega (arith, ap length (last-made from now ts i n t some turn here), length-append (moves_of (take (i - 1) ts)) (t.m ∷ []))
+
+shorter : (from now next : Course) (ts : List Ply) (i n : ℕ) (t : Ply) → 0 < i → AreBack from ts i now n → slice_get ts (i - 1) ≡ Some t →
+    next ≡ without_last now → next.made ≡ moves_of (take (i - 1) ts)
+shorter from now next ts i n t some turn here back =
+    ap (λ (c : Course). c.made) back ∙ ap (λ (ms : List Move). take (length ms - 1) ms) (last-made from now ts i n t some turn here)
+    ∙ take-all_but_last (moves_of (take (i - 1) ts)) t.m
+
+pub back-step : (from now next : Course) (ts : List Ply) (i n : ℕ) (t : Ply) → 0 < i → AreBack from ts i now n → slice_get ts (i - 1) ≡ Some t →
+    next ≡ without_last now → AreBack from ts (i - 1) next (n + 1)
+back-step from now next ts i n t some turn here back =
+    let more : next.spare ≡ now.spare + 1 = ap (λ (c : Course). c.spare) back in
+    record {
+      kind = ap (λ (c : Course). c.game_type) back ∙ turn.kind;
+      made = shorter from now next ts i n t some turn here back;
+      undone = omega (arith, turn.undone, some);
+      spare = omega (arith, turn.spare, more, some);
+    }
+
+-- the key that stood before the ply stands again
+pub back-key : (from now next : Course) (ts : List Ply) (i n : ℕ) (t : Ply) → AreKeyed (opening from.game_type) ts → 0 < i → AreBack from ts i now n →
+    slice_get ts (i - 1) ≡ Some t → next ≡ without_last now → key (position next) ≡ t.before
+back-key from now next ts i n t keyed some turn here back =
+    let kind : next.game_type ≡ from.game_type = ap (λ (c : Course). c.game_type) back ∙ turn.kind in
+    ap (λ k. key (replay (opening k) next.made)) kind
+    ∙ ap (λ (ms : List Move). key (replay (opening from.game_type) ms)) (shorter from now next ts i n t some turn here back)
+    ∙ sym (keyed-at (opening from.game_type) ts (i - 1) t keyed here)
+
+pub back-all : (from now : Course) (ts : List Ply) (i n : ℕ) → AreBack from ts i now n → i ≤ 0 → now.made ≡ []
+back-all from now ts i n turn past =
+    let none : i ≡ 0 = omega (arith, past) in
+    turn.made ∙ ap (λ k. moves_of (take k ts)) none ∙ ap moves_of (nothing ts)
+  where
+    nothing : (ts : List Ply) → take 0 ts ≡ []
+    nothing [] = refl
+    nothing (t ∷ ts) = refl
+
+-- ---- plies that are played again
+
+-- so many of the plies were played again, the others can be
+pub record AreForward (from : Course) (ts : List Ply) (i : ℕ) (now : Course) : Type 0 where
+  pub kind : now.game_type ≡ from.game_type
+  pub made : now.made ++ moves_of (drop i ts) ≡ from.made ++ moves_of ts
+  pub legal : AreLegal (position now) (moves_of (drop i ts))
+  pub spare : now.spare + i ≡ from.spare
+
+pub forward-none : (from : Course) (ts : List Ply) → AreLegal (position from) (moves_of ts) → AreForward from ts 0 from
+forward-none from ts legal = record {
+  kind = refl;
+  made = ap (λ (r : List Ply). from.made ++ moves_of r) (all ts);
+  legal = subst (λ (r : List Ply). AreLegal (position from) (moves_of r)) (sym (all ts)) legal;
+  spare = omega arith;
+}
+  where
+    all : (ts : List Ply) → drop 0 ts ≡ ts
+    all [] = refl
+    all (k ∷ ts) = refl
+
+pub forward-legal : (from now : Course) (ts : List Ply) (i : ℕ) (t : Ply) → AreForward from ts i now → slice_get ts i ≡ Some t → IsOn (moves (position now)) t.m
+forward-legal from now ts i t turn here =
+    let legal : AreLegal (position now) (t.m ∷ moves_of (drop (i + 1) ts)) =
+    subst (λ (r : List Ply). AreLegal (position now) (moves_of r)) (drop-at ts i t here) turn.legal in
+    legal.0
+
+pub forward-step : (from now next : Course) (ts : List Ply) (i : ℕ) (t : Ply) → AreForward from ts i now → slice_get ts i ≡ Some t → 1 ≤ now.spare →
+    next ≡ with_move now t.m → AreForward from ts (i + 1) next
+forward-step from now next ts i t turn here room moved =
+    let legal : AreLegal (position now) (t.m ∷ moves_of (drop (i + 1) ts)) =
+    subst (λ (r : List Ply). AreLegal (position now) (moves_of r)) (drop-at ts i t here) turn.legal in
+    let behind : position next ≡ after (position now) t.m = ap position moved ∙ position-with_move now t.m in
+    let less : next.spare ≡ now.spare - 1 = ap (λ (c : Course). c.spare) moved in
+    record {
+      kind = ap (λ (c : Course). c.game_type) moved ∙ turn.kind;
+      made = ap (λ (c : Course). c.made ++ moves_of (drop (i + 1) ts)) moved ∙ append_assoc now.made (t.m ∷ []) (moves_of (drop (i + 1) ts))
+          ∙ ap (λ (r : List Ply). now.made ++ moves_of r) (sym (drop-at ts i t here)) ∙ turn.made;
+      legal = subst (λ (p : Position). AreLegal p (moves_of (drop (i + 1) ts))) (sym behind) legal.1;
+      spare = omega (arith, turn.spare, less, room);
+    }
+
+pub forward-all : (from now : Course) (ts : List Ply) (i : ℕ) → AreForward from ts i now → length ts ≤ i → now.made ≡ from.made ++ moves_of ts
+forward-all from now ts i turn past =
+    sym (append-nil now.made) ∙ ap (λ (r : List Ply). now.made ++ moves_of r) (sym (drop-all ts i past)) ∙ turn.made
+
+-- ---- plies that are drawn
+
+-- so many plies of the seed were played, and the generator in this state makes the others
+pub record AreGrowing (seed plies : ℕ) (from now : Course) (state i : ℕ) (made : List Ply) (sum : ℕ) : Type 0 where
+  pub kind : now.game_type ≡ from.game_type
+  pub moves : now.made ≡ moves_of made
+  pub here : position now ≡ replay (position from) (moves_of made)
+  pub rest : moves_of made ++ grown state (plies - i) (position now) ≡ grown (seeded seed) plies (position from)
+  pub keyed : AreKeyed (position from) made
+  pub chosen : sum ≡ choices (position from) (moves_of made)
+  pub count : length made ≡ i
+  pub spare : now.spare + i ≡ from.spare
+
+pub growing-none : (seed plies : ℕ) (from now : Course) (state : ℕ) → from.made ≡ [] → now ≡ from → state ≡ seeded seed → AreGrowing seed plies from now state 0 [] 0
+growing-none seed plies from now state fresh same begun = record {
+  kind = ap (λ (c : Course). c.game_type) same;
+  moves = ap (λ (c : Course). c.made) same ∙ fresh;
+  here = ap position same;
+  rest = ap (λ s. grown s (plies - 0) (position now)) begun ∙ ap (λ n. grown (seeded seed) n (position now)) (whole plies)
+      ∙ ap (λ (c : Course). grown (seeded seed) plies (position c)) same;
+  keyed = tt;
+  chosen = sym (choices-none (position from));
+  count = refl;
+  spare = omega (arith, ap (λ (c : Course). c.spare) same);
+}
+  where
+    whole : (n : ℕ) → n - 0 ≡ n
+    whole n = omega arith
+
+-- a ply more, drawn by the generator's next word
+pub growing-step : (seed plies : ℕ) (from now next : Course) (state i : ℕ) (made : List Ply) (sum more : ℕ) (t : Ply) → AreGrowing seed plies from now state i made sum →
+    i < plies → is_over (position now) ≡ false → drawn (word state) (moves (position now)) ≡ Some t.m → t.before ≡ key (position now) → 1 ≤ now.spare →
+    next ≡ with_move now t.m → more ≡ length (moves (position now)) → AreGrowing seed plies from next (next_state state) (i + 1) (made ++ t ∷ []) (sum + more)
+growing-step seed plies from now next state i made sum more t turn left goes_on draws before room moved many =
+    let start = position from in
+    let behind : position next ≡ after (position now) t.m = ap position moved ∙ position-with_move now t.m in
+    let longer : moves_of (made ++ t ∷ []) ≡ moves_of made ++ t.m ∷ [] = moves_of-append made t in
+    let less : next.spare ≡ now.spare - 1 = ap (λ (c : Course). c.spare) moved in
+    let fewer : plies - i - 1 ≡ plies - (i + 1) = omega arith in
+    let rest : grown state (plies - i) (position now) ≡ t.m ∷ grown (next_state state) (plies - (i + 1)) (position next) =
+    grown-drawn state (plies - i) (position now) t.m (omega (arith, left)) goes_on draws
+    ∙ ap (λ n. t.m ∷ grown (next_state state) n (after (position now) t.m)) fewer
+    ∙ ap (λ (p : Position). t.m ∷ grown (next_state state) (plies - (i + 1)) p) (sym behind) in
+    let all = grown (next_state state) (plies - (i + 1)) (position next) in
+    let place : length (moves (position now)) ≡ length (moves (replay start (moves_of made))) = ap (λ (p : Position). length (moves p)) turn.here in
+    record {
+      kind = ap (λ (c : Course). c.game_type) moved ∙ turn.kind;
+      moves = ap (λ (c : Course). c.made) moved ∙ ap (λ (ms : List Move). ms ++ t.m ∷ []) turn.moves ∙ sym longer;
+      here = behind ∙ ap (λ (p : Position). after p t.m) turn.here ∙ sym (replay-append start (moves_of made) t.m) ∙ ap (replay start) (sym longer);
+      rest = ap (λ (ms : List Move). ms ++ all) longer ∙ append_assoc (moves_of made) (t.m ∷ []) all ∙ ap (λ (ms : List Move). moves_of made ++ ms) (sym rest) ∙ turn.rest;
+      keyed = keyed-append start made t turn.keyed (before ∙ ap key turn.here);
+      chosen = omega (arith, turn.chosen, many, place, choices-append start (moves_of made) t.m, ap (choices start) longer);
+      count = omega (arith, turn.count, length-append made (t ∷ []));
+      spare = omega (arith, turn.spare, less, room);
+    }
+
+ended : (seed plies : ℕ) (from now : Course) (state i : ℕ) (made : List Ply) (sum : ℕ) → AreGrowing seed plies from now state i made sum →
+    grown state (plies - i) (position now) ≡ [] → AreMade seed plies from now made sum
+ended seed plies from now state i made sum turn none = record {
+  kind = turn.kind;
+  moves = turn.moves;
+  grown = sym (append-nil (moves_of made)) ∙ ap (λ (ms : List Move). moves_of made ++ ms) (sym none) ∙ turn.rest;
+  keyed = turn.keyed;
+  chosen = turn.chosen;
+  spare = omega (arith, turn.spare, turn.count);
+}
+
+-- the game is over
+pub growing-over : (seed plies : ℕ) (from now : Course) (state i : ℕ) (made : List Ply) (sum : ℕ) → AreGrowing seed plies from now state i made sum →
+    is_over (position now) ≡ true → AreMade seed plies from now made sum
+growing-over seed plies from now state i made sum turn over =
+    ended seed plies from now state i made sum turn (grown-over state (plies - i) (position now) over)
+
+-- no ply is left
+pub growing-all : (seed plies : ℕ) (from now : Course) (state i : ℕ) (made : List Ply) (sum : ℕ) → AreGrowing seed plies from now state i made sum →
+    plies ≤ i → AreMade seed plies from now made sum
+growing-all seed plies from now state i made sum turn past =
+    let none : plies - i ≡ 0 = omega (arith, past) in
+    ended seed plies from now state i made sum turn (ap (λ n. grown state n (position now)) none ∙ grown-none state (position now))
+
+-- ---- all plies
+
+begins : (c : Course) → c.made ≡ [] → position c ≡ opening c.game_type
+begins c none = ap (λ (ms : List Move). replay (opening c.game_type) ms) none
+
+pub made-keyed : (seed plies : ℕ) (from to : Course) (made : List Ply) (sum : ℕ) → AreMade seed plies from to made sum → from.made ≡ [] →
+    AreKeyed (opening to.game_type) made
+made-keyed seed plies from to made sum turn fresh =
+    subst (λ (p : Position). AreKeyed p made) (begins from fresh ∙ ap opening (sym turn.kind)) turn.keyed
+
+pub made-legal : (seed plies : ℕ) (from to back : Course) (made : List Ply) (sum : ℕ) → AreMade seed plies from to made sum → from.made ≡ [] →
+    back.game_type ≡ to.game_type → back.made ≡ [] → AreLegal (position back) (moves_of made)
+made-legal seed plies from to back made sum turn fresh kind none =
+    let legal : AreLegal (position from) (moves_of made) = subst (AreLegal (position from)) (sym turn.grown) (grown-legal (seeded seed) plies (position from)) in
+    let same : position from ≡ position back = begins from fresh ∙ ap opening (sym turn.kind ∙ sym kind) ∙ sym (begins back none) in
+    subst (λ (p : Position). AreLegal p (moves_of made)) same legal

@@ -1,0 +1,4 @@
+pub mod Growing
+pub mod Plies
+pub mod Made
+pub mod Laws

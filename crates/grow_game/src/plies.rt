@@ -1,0 +1,60 @@
+//! Plies that were played: they are taken back, and played again.
+
+ghost use Rattle.std.specs.Prelude.{◌≡◌, ◌+◌, ◌++◌, ◌^◌, ◌<◌, ◌≤◌, [], length, IsTrue, ◌↔◌};
+ghost use Rattle.hive_model.specs.Courses.{position, without_last};
+ghost use Rattle.hive_model.specs.Games.{AreLegal};
+ghost use Rattle.hive_model.specs.Positions.{opening};
+ghost use Rattle.hive_model.specs.Keys.{key};
+ghost use Rattle.grow_game.specs.Plies.{moves_of, AreKeyed};
+
+use hive_model::{Game, Key, Move};
+
+/// A ply that was played: the key that stood before it, and its move.
+#[derive(Drop)]
+pub struct Ply {
+    pub before: Key,
+    pub m: Move,
+}
+
+/// Takes the last ply back, and says whether the key is then this one.
+fn comes_back<G: Game>(game: &mut G, before: &Key) -> bool
+    requires { 1 ≤ length (G.course game.old).made }
+    ensures game { G.course game.new ≡ without_last (G.course game.old) }
+    ensures same { IsTrue result ↔ (key (position (G.course game.new)) ≡ before.now) }
+{
+    game.undo();
+    game.key() == *before
+}
+
+/// Takes all plies of the game back, one after another from the last, and counts those after which
+/// the key is again the one that stood before the ply.
+pub fn undo_all<G: Game>(game: &mut G, plies: &[Ply]) -> u32
+    requires made { (G.course game.old).made ≡ moves_of plies.now }
+    requires keyed { AreKeyed (opening (G.course game.old).game_type) plies.now }
+    requires few { length plies.now < 2 ^ 32 }
+    ensures undone { result ≡ length plies.now }
+    ensures kind { (G.course game.new).game_type ≡ (G.course game.old).game_type }
+    ensures none { (G.course game.new).made ≡ [] }
+    ensures spare { (G.course game.new).spare ≡ (G.course game.old).spare + length plies.now }
+{
+    let mut undone = 0;
+    for i in (0..plies.len()).rev() {
+        if comes_back(game, &plies[i].before) {
+            undone += 1;
+        }
+    }
+    undone
+}
+
+/// Plays the moves of these plies, one after another.
+pub fn play_all<G: Game>(game: &mut G, plies: &[Ply])
+    requires legal { AreLegal (position (G.course game.old)) (moves_of plies.now) }
+    requires spare { length plies.now ≤ (G.course game.old).spare }
+    ensures kind { (G.course game.new).game_type ≡ (G.course game.old).game_type }
+    ensures made { (G.course game.new).made ≡ (G.course game.old).made ++ moves_of plies.now }
+    ensures spare { (G.course game.new).spare + length plies.now ≡ (G.course game.old).spare }
+{
+    for ply in plies {
+        game.play(ply.m.again());
+    }
+}
