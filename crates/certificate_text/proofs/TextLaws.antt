@@ -1,11 +1,12 @@
 -- What stands behind a word, and what the reading of one line answers.
-use Rattle.std.proofs.Common.{◌≡◌, ◌≢◌, ℕ, suc, ◌+◌, ◌≤◌, Bool, true, false, List, [], ◌∷◌, ◌++◌, drop, length, refl, sym, ap, subst, arith, ◌∙◌, Option, Some, None, inl, inr, ◌⊎◌, Bor}
-use Rattle.std.specs.Prelude.{⊤, map, nat_eq, if◌then◌else◌, MatchOption, Result, Ok, Err, ℤ, pos, neg_ℤ}
+use Rattle.std.proofs.Common.{◌≡◌, ◌≢◌, ℕ, ◌+◌, Bool, true, false, List, [], ◌∷◌, ◌++◌, drop, length, refl, sym, ap, subst, arith, ◌∙◌, Option, Some, None, inl, inr, ◌⊎◌, Bor}
+use Rattle.std.specs.Prelude.{map, nat_eq, if◌then◌else◌, MatchOption, Result, Ok, Err, ℤ}
 use Rattle.std.specs.Option.{option_map}
 use Rattle.std.proofs.lemmas.Bool.{eq-eqb, eqb-true}
 use Rattle.hive_model.specs.Lines.{Line, Text, TooLong, ToldLines, NoneAhead, LongAhead}
 use Rattle.io_edge.specs.Outside.{Told, in_front}
-use Rattle.line_feed.specs.Feed.{Reading}
+use Rattle.line_feed.specs.Feed.{Reading, Takes}
+use Rattle.std.proofs.lemmas.List.{length-append}
 use Rattle.line_feed.specs.Ahead.{ahead_of, lines_left}
 use Rattle.strategy_check.specs.Items.{IsAtEnd}
 use Rattle.game_text.specs.Turns.{behind_word}
@@ -16,7 +17,7 @@ use Rattle.certificate_text.specs.declared.head.Head.{Head}
 use Rattle.certificate_text.specs.declared.head.HeadFault.{HeadFault}
 use Rattle.certificate_text.specs.declared.head.HeadFault.TheVariants.{BadLine, BadGame, ReadFault, InputFull, Memory}
 use Rattle.certificate_text.specs.Text.{HeadRead, or_bad, or_bad_game, with_line, with_game, version_at, depth_at, move_at, value_at, head_of, index_in}
-use Rattle.certificate_text.specs.Heads.{TakesLine, Parses, ReadsHead}
+use Rattle.certificate_text.specs.Heads.{TakesLine, Parses, ReadsGame, ReadsHead, in_all}
 
 -- ---- words
 
@@ -55,7 +56,8 @@ pub long-ahead : (old new : ToldLines) → old ≡ option_map (λ left. TooLong 
 long-ahead old None e = subst LongAhead (sym e) tt
 long-ahead old (Some more) e = subst LongAhead (sym e) (more, refl)
 
-takes-line : (line : List ℕ) (lines : List Line) (old later : ToldLines) → old ≡ Some lines → old ≡ option_map (λ left. Text line ∷ left) later →
+-- the line that was taken was the first
+pub takes-line : (line : List ℕ) (lines : List Line) (old later : ToldLines) → old ≡ Some lines → old ≡ option_map (λ left. Text line ∷ left) later →
     (later ≡ Some (drop 1 lines)) × (lines ≡ Text line ∷ drop 1 lines)
 takes-line line lines old None told e = absurd (cc)
 takes-line line lines old (Some rest) told e = let same : lines ≡ Text line ∷ rest = cc in (ap (λ ls. Some (drop 1 ls)) (sym same), subst (λ ls. ls ≡ Text line ∷ drop 1 ls) (sym same) refl)
@@ -92,6 +94,14 @@ module _ (lines : List Line) (old later : ToldLines) (told : old ≡ Some lines)
   parses-bad_game line fault took found next =
       let t = takes-line line lines old later told took in
       ap (λ ls. with_game ls next) t.1 ∙ ap (λ o. or_bad_game o (drop 1 lines) next) found
+
+  pub parses-read : (line : List ℕ) (r : Result Parsed HeadFault) → old ≡ option_map (λ left. Text line ∷ left) later → ReadsGame r (game_of line) → Parses r (with_game lines) lines later
+  parses-read line (Ok g) took read = parses-game line g took read
+  parses-read line (Err (BadLine n)) took never = absurd never
+  parses-read line (Err (BadGame fault)) took read = parses-bad_game line fault took read.0
+  parses-read line (Err ReadFault) took never = absurd never
+  parses-read line (Err InputFull) took never = absurd never
+  parses-read line (Err Memory) took read = tt
 
   no-game : (NoneAhead (Some lines) ⊎ LongAhead (Some lines)) → (next : Parsed → List Line → HeadRead) → with_game lines next ≡ Err (BadLine 2)
   no-game (inl e) next = ap (λ ls. with_game ls next) e
@@ -156,6 +166,18 @@ drop-five (a ∷ (b ∷ (c ∷ (d ∷ (e ∷ ls))))) = refl
 
 pub head-read : (read : HeadRead) (lines : List Line) (head : Head) (after : ToldLines) → GoesOn read (λ rest. Ok head) (drop 1 (drop 1 (drop 1 (drop 1 (drop 1 lines))))) after → ReadsHead (Ok head) read lines after
 head-read read lines head after so = (so.1, so.0 ∙ ap (λ ls. Some ls) (drop-five lines))
+
+-- ---- bytes
+
+-- what a reader takes leaves its source
+pub all-same : (old new : Reading) (r0 r1 : Told) (bytes : List ℕ) → Takes r0 r1 old.taken new.taken bytes → in_all new r1 ≡ in_all old r0
+all-same old new r0 None bytes t = ap (in_all old) (sym t.left)
+all-same old new r0 (Some left) bytes t =
+    let before = old.taken in
+    let counted = t.counted in
+    let whole : length (bytes ++ left) ≡ length bytes + length left = length-append bytes left in
+    let same : new.taken + length left ≡ before + length (bytes ++ left) = omega (arith, counted, whole) in
+    ap (λ n. Some n) same ∙ ap (in_all old) (sym t.left)
 
 -- ---- lines of indices
 

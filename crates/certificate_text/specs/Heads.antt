@@ -1,13 +1,22 @@
 -- What the parts of the reading of a head answer.
-use Rattle.std.specs.Prelude.{◌≡◌, ℕ, ◌+◌, ◌≤◌, ◌⊎◌, ⊤, List, ◌∷◌, length, drop, Option, Some, Result, Ok, Err}
+use Rattle.std.specs.Prelude.{◌≡◌, ◌≢◌, ℕ, ◌+◌, ◌≤◌, ◌⊎◌, ⊤, List, ◌∷◌, length, drop, Option, Some, Result, Ok, Err}
+use Rattle.io_edge.specs.Outside.{Told}
+use Rattle.line_feed.specs.Feed.{Reading}
 use Rattle.std.specs.Option.{option_map}
 use Rattle.hive_model.specs.Lines.{Line, Text, ToldLines, NoneAhead, LongAhead}
 use Rattle.hive_model.specs.Games.{IsGame}
+use Rattle.game_text.specs.declared.faults.GameFault.{GameFault}
+use Rattle.game_text.specs.declared.faults.GameFault.TheVariants.{Memory as NoMemory}
+use Rattle.game_text.specs.declared.parsed.Parsed.{Parsed}
 use Rattle.search_laws.specs.Laws.{IsSmall}
 use Rattle.certificate_text.specs.declared.head.Head.{Head}
 use Rattle.certificate_text.specs.declared.head.HeadFault.{HeadFault}
 use Rattle.certificate_text.specs.declared.head.HeadFault.TheVariants.{BadLine, BadGame, ReadFault, InputFull, Memory}
 use Rattle.certificate_text.specs.Text.{HeadRead}
+
+-- how many bytes a reader has taken and its source is yet to give, where that is told
+abbrev pub in_all : Reading → Told → Option ℕ
+in_all reader rest = option_map (λ left. reader.taken + length left) rest
 
 -- the next line was taken; or it is missing or too long, which is the fault of the line of this number
 abbrev pub TakesLine : Result ⊤ HeadFault → ℕ → List ℕ → ToldLines → ToldLines → Type 0
@@ -17,6 +26,15 @@ TakesLine (Err (BadGame fault)) n last old new = ⊥
 TakesLine (Err ReadFault) n last old new = ⊤
 TakesLine (Err InputFull) n last old new = ⊤
 TakesLine (Err Memory) n last old new = ⊥
+
+-- the game of a line, or what is wrong with it, unless memory is wanting
+abbrev pub ReadsGame : Result Parsed HeadFault → Result Parsed GameFault → Type 0
+ReadsGame (Ok game) read = read ≡ Ok game
+ReadsGame (Err (BadLine n)) read = ⊥
+ReadsGame (Err (BadGame fault)) read = (read ≡ Err fault) × (fault ≢ NoMemory)
+ReadsGame (Err ReadFault) read = ⊥
+ReadsGame (Err InputFull) read = ⊥
+ReadsGame (Err Memory) read = ⊤
 
 -- What a part of the reading answers where just these lines were to come: what the definition goes on with, from the lines that are
 -- to come now; or its fault.

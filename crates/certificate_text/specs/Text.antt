@@ -1,6 +1,6 @@
 -- Certificates as texts. Five lines are the head: `hive-certificate ` and the version; a game; `depth ` and a number from 1 to 64;
 -- `move ` and a move text; `value ` and a whole number. On each line behind them stands an index.
-use Rattle.std.specs.Prelude.{ℕ, Bool, List, [], ◌∷◌, ◌++◌, codes, decimal, ℤ, pos, neg_ℤ, nat_eq, Option, Some, None, Result, Ok, Err, option_map, if◌then◌else◌}
+use Rattle.std.specs.Prelude.{ℕ, List, [], ◌∷◌, ◌++◌, codes, decimal, ℤ, pos, neg_ℤ, Option, Some, None, Result, Ok, Err, option_map}
 use Rattle.std.specs.Fmt.{signed_decimal}
 use Rattle.hive_model.specs.declared.pieces.GameType.{GameType}
 use Rattle.hive_model.specs.declared.places.Move.{Move}

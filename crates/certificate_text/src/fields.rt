@@ -16,7 +16,7 @@ ghost use Rattle.certificate_text.specs.Text.{
 use move_text::read_number;
 
 /// What stands behind a word with which the text begins.
-fn behind<'a>(text: &'a [u8], word: &[u8]) -> Option<&'a [u8]>
+pub fn behind<'a>(text: &'a [u8], word: &[u8]) -> Option<&'a [u8]>
     ensures found { MatchOption result
         (behind_word word.now text.now ≡ None)
         (λ rest. behind_word word.now text.now ≡ Some rest.now) }
@@ -25,8 +25,8 @@ fn behind<'a>(text: &'a [u8], word: &[u8]) -> Option<&'a [u8]>
     text.strip_prefix(word)
 }
 
-/// The number in this range that the text is.
-fn number_at(text: &[u8], least: u64, most: u64) -> Option<u64>
+/// The number in this range that the text is, without a leading zero.
+pub fn number_at(text: &[u8], least: u64, most: u64) -> Option<u64>
     ensures value { result ≡ number_at text.now least most }
     ensures range { IfSome result (λ n. (least ≤ n) × (n ≤ most)) }
 {

@@ -6,6 +6,7 @@ ghost use Rattle.line_feed.specs.Feed.{input_limit};
 ghost use Rattle.line_feed.specs.Ahead.{ahead_of};
 ghost use Rattle.hive_model.specs.Lines.{Line as AnyLine};
 ghost use Rattle.hive_model.specs.Games.{IsGame};
+ghost use Rattle.game_text.specs.Reading.{game_of};
 ghost use Rattle.game_text.specs.declared.faults.GameFault.{GameFault as AnyFault};
 ghost use Rattle.search_laws.specs.Laws.{IsSmall};
 ghost use Rattle.certificate_text.specs.Text.{
@@ -17,7 +18,7 @@ ghost use Rattle.certificate_text.specs.Text.{
   with_game,
   head_of,
 };
-ghost use Rattle.certificate_text.specs.Heads.{IsHead, Parses, ReadsHead, TakesLine};
+ghost use Rattle.certificate_text.specs.Heads.{IsHead, Parses, ReadsGame, ReadsHead, TakesLine, in_all};
 
 use crate::fields::{depth_at, move_at, value_at, version_at};
 use game_text::{GameFault, Parsed, read_game};
@@ -52,13 +53,22 @@ pub enum HeadFault {
     Memory,
 }
 
-/// Takes the next line, which has this number.
-fn next_text<S: Source>(reader: &mut LineReader, source: &mut S, line: u32) -> Result<(), HeadFault>
+/// Takes the next line, which has this number in the text.
+///
+/// # Errors
+///
+/// A line that is missing or too long, a failed read, and a reader that takes no more.
+pub fn next_text<S: Source>(
+    reader: &mut LineReader,
+    source: &mut S,
+    line: u32,
+) -> Result<(), HeadFault>
     ensures told { TakesLine result line reader.new.last (ahead_of reader.old (S.rest source.old)) (ahead_of reader.new (S.rest source.new)) }
     ensures fits { IfOk result (λ done. length reader.new.last ≤ 65536) }
     ensures no_game { (fault : AnyFault) → result ≢ Err (HeadFault.BadGame fault) }
     ensures full { result ≡ Err HeadFault.InputFull → reader.new.taken ≡ input_limit }
     ensures cause { HasCause (result ≡ Err HeadFault.ReadFault) (S.read_faults source.old) (S.read_faults source.new) }
+    ensures bytes { in_all reader.new (S.rest source.new) ≡ in_all reader.old (S.rest source.old) }
 {
     match reader.next_line(source) {
         LineAnswer::Line => Ok(()),
@@ -80,6 +90,7 @@ fn read_version<S: Source>(
     ensures no_game { (fault : AnyFault) → result ≢ Err (HeadFault.BadGame fault) }
     ensures full { result ≡ Err HeadFault.InputFull → reader.new.taken ≡ input_limit }
     ensures cause { HasCause (result ≡ Err HeadFault.ReadFault) (S.read_faults source.old) (S.read_faults source.new) }
+    ensures bytes { in_all reader.new (S.rest source.new) ≡ in_all reader.old (S.rest source.old) }
 {
     if let Err(fault) = next_text(reader, source, 1) {
         return Err(fault);
@@ -87,6 +98,26 @@ fn read_version<S: Source>(
     match version_at(reader.line(), newest) {
         Some(version) => Ok(version),
         None => Err(HeadFault::BadLine { line: 1 }),
+    }
+}
+
+/// The game that a line is, played on a game of the kind G that is made for it.
+///
+/// # Errors
+///
+/// What is wrong with the line as a game, and want of memory.
+pub fn game_in<G: Game + Drop>(alloc: Global, line: &[u8]) -> Result<Parsed, HeadFault>
+    requires { length line.now ≤ 65536 }
+    ensures read { ReadsGame result (game_of line.now) }
+    ensures game { IfOk result (λ g. IsGame g.game_type g.moves × (length g.moves ≤ 5000)) }
+    ensures fault { (fault : AnyFault) → result ≡ Err (HeadFault.BadGame fault) → fault ≢ GameFault.Memory }
+    ensures no_read { result ≢ Err HeadFault.ReadFault }
+    ensures no_full { result ≢ Err HeadFault.InputFull }
+{
+    match read_game::<G>(alloc, line) {
+        Ok(game) => Ok(game),
+        Err(GameFault::Memory) => Err(HeadFault::Memory),
+        Err(fault) => Err(HeadFault::BadGame { fault }),
     }
 }
 
@@ -102,15 +133,12 @@ fn read_game_line<G: Game + Drop, S: Source>(
     ensures fault { (fault : AnyFault) → result ≡ Err (HeadFault.BadGame fault) → fault ≢ GameFault.Memory }
     ensures full { result ≡ Err HeadFault.InputFull → reader.new.taken ≡ input_limit }
     ensures cause { HasCause (result ≡ Err HeadFault.ReadFault) (S.read_faults source.old) (S.read_faults source.new) }
+    ensures bytes { in_all reader.new (S.rest source.new) ≡ in_all reader.old (S.rest source.old) }
 {
     if let Err(fault) = next_text(reader, source, 2) {
         return Err(fault);
     }
-    match read_game::<G>(alloc, reader.line()) {
-        Ok(game) => Ok(game),
-        Err(GameFault::Memory) => Err(HeadFault::Memory),
-        Err(fault) => Err(HeadFault::BadGame { fault }),
-    }
+    game_in::<G>(alloc, reader.line())
 }
 
 /// The depth, of the third line.
@@ -121,6 +149,7 @@ fn read_depth<S: Source>(reader: &mut LineReader, source: &mut S) -> Result<u32,
     ensures no_game { (fault : AnyFault) → result ≢ Err (HeadFault.BadGame fault) }
     ensures full { result ≡ Err HeadFault.InputFull → reader.new.taken ≡ input_limit }
     ensures cause { HasCause (result ≡ Err HeadFault.ReadFault) (S.read_faults source.old) (S.read_faults source.new) }
+    ensures bytes { in_all reader.new (S.rest source.new) ≡ in_all reader.old (S.rest source.old) }
 {
     if let Err(fault) = next_text(reader, source, 3) {
         return Err(fault);
@@ -152,6 +181,7 @@ fn read_claim_text<S: Source>(
     ensures no_game { (fault : AnyFault) → result ≢ Err (HeadFault.BadGame fault) }
     ensures full { result ≡ Err HeadFault.InputFull → reader.new.taken ≡ input_limit }
     ensures cause { HasCause (result ≡ Err HeadFault.ReadFault) (S.read_faults source.old) (S.read_faults source.new) }
+    ensures bytes { in_all reader.new (S.rest source.new) ≡ in_all reader.old (S.rest source.old) }
 {
     if let Err(fault) = next_text(reader, source, 4) {
         return Err(fault);
@@ -173,6 +203,7 @@ fn read_value<S: Source>(reader: &mut LineReader, source: &mut S) -> Result<i32,
     ensures no_game { (fault : AnyFault) → result ≢ Err (HeadFault.BadGame fault) }
     ensures full { result ≡ Err HeadFault.InputFull → reader.new.taken ≡ input_limit }
     ensures cause { HasCause (result ≡ Err HeadFault.ReadFault) (S.read_faults source.old) (S.read_faults source.new) }
+    ensures bytes { in_all reader.new (S.rest source.new) ≡ in_all reader.old (S.rest source.old) }
 {
     if let Err(fault) = next_text(reader, source, 5) {
         return Err(fault);
@@ -203,6 +234,7 @@ pub fn read_head<G: Game + Drop, S: Source>(
     ensures fault { (fault : AnyFault) → result ≡ Err (HeadFault.BadGame fault) → fault ≢ GameFault.Memory }
     ensures full { result ≡ Err HeadFault.InputFull → reader.new.taken ≡ input_limit }
     ensures cause { HasCause (result ≡ Err HeadFault.ReadFault) (S.read_faults source.old) (S.read_faults source.new) }
+    ensures bytes { in_all reader.new (S.rest source.new) ≡ in_all reader.old (S.rest source.old) }
 {
     let version = match read_version(reader, source, newest) {
         Ok(version) => version,

@@ -5,5 +5,6 @@ mod fields;
 mod head;
 mod lines;
 
-pub use head::{Head, HeadFault, read_head};
+pub use fields::{behind, number_at};
+pub use head::{Head, HeadFault, game_in, next_text, read_head};
 pub use lines::LineIndices;

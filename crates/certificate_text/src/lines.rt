@@ -5,6 +5,7 @@ ghost use Rattle.std.specs.Option.{option_map};
 ghost use Rattle.line_feed.specs.Feed.{input_limit};
 ghost use Rattle.line_feed.specs.Ahead.{ahead_of};
 ghost use Rattle.certificate_text.specs.Text.{index_in};
+ghost use Rattle.certificate_text.specs.Heads.{in_all};
 
 use crate::fields::index_at;
 use io_edge::Source;
@@ -12,6 +13,7 @@ use line_feed::{LineAnswer, LineReader};
 use strategy_check::{IndexAnswer, Indices};
 
 /// The indices on the lines to come of a reader and its source, which it borrows. A line that is too long or is no index is a bad item.
+#[derive(Drop)]
 pub struct LineIndices<'a, 'b, S: Source> {
     reader: &'a mut LineReader,
     source: &'b mut S,
@@ -51,7 +53,10 @@ impl<S: Source> Indices for LineIndices<'_, '_, S> {
 
     ghost count = { λ s. s.lines };
 
-    ghost lenders = { λ s. s.reader.ghost_name ∷ s.source.ghost_name ∷ [] };
+    ghost lenders = { λ s. record {
+      references = s.reader.ghost_name ∷ s.source.ghost_name ∷ [];
+      bytes = in_all s.reader.now (S.rest s.source.now);
+    } };
 
     fn take(&mut self) -> IndexAnswer {
         match self.reader.next_line(self.source) {

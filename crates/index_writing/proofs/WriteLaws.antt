@@ -1,17 +1,17 @@
 -- What is written piece by piece, and the least indices of a node.
-use Rattle.std.proofs.Common.{◌≡◌, ℕ, zero, suc, ◌+◌, ◌-◌, ◌<◌, ◌≤◌, Bool, true, false, cond, List, [], ◌∷◌, ◌++◌, length, take, drop, refl, sym, ap, subst, arith, ◌∙◌, Option, Some, None, inl, inr}
+use Rattle.std.proofs.Common.{◌≡◌, ℕ, zero, suc, ◌+◌, ◌-◌, ◌<◌, ◌≤◌, Bool, true, false, cond, List, [], ◌∷◌, ◌++◌, length, take, drop, refl, sym, ap, subst, arith, ◌∙◌, Some, None, inl, inr}
 use Rattle.std.specs.Prelude.{◌+ℤ◌}
 use Rattle.search_laws.proofs.LoopLaws.{drop-at, drop-all}
-use Rattle.std.specs.Prelude.{ℤ, pos, neg_ℤ, ◌-ℤ◌, ◌<ℤ◌, ◌≤ℤ◌, int_le, slice_get}
+use Rattle.std.specs.Prelude.{ℤ, pos, neg_ℤ, ◌-ℤ◌, ◌≤ℤ◌, slice_get}
 use Rattle.std.specs.List.{flat_map, position_from}
 use Rattle.std.proofs.lemmas.Grind.{flat_map-append}
-use Rattle.std.proofs.lemmas.List.{take-append-le, append-nil}
+use Rattle.std.proofs.lemmas.List.{take-append-le, append-nil, length-append}
 use Rattle.std.proofs.Math.Seq.{take-append-add}
 use Rattle.io_edge.specs.Outside.{Told, behind}
 use Rattle.io_edge.proofs.Told.{behind-behind}
 use Rattle.hive_model.specs.declared.places.Move.{Move}
 use Rattle.hive_model.specs.Positions.{Position}
-use Rattle.hive_model.specs.Legal.{moves, is_over}
+use Rattle.hive_model.specs.Legal.{moves}
 use Rattle.hive_model.specs.Games.{after}
 use Rattle.hive_model.specs.Courses.{Course, position, with_move}
 use Rattle.hive_model.specs.Minimax.{IsInner, value}
@@ -44,17 +44,22 @@ pub wrote-then : (r : Bool) (s t : List ℕ) (a b c : Told) → Wrote true s a b
 wrote-then true s t a b c first then_ = then_ ∙ ap (λ z. behind z t) first ∙ behind-behind a s t
 wrote-then false s t a b c first then_ = (
   length s + then_.0,
-  then_.1 ∙ ap (λ z. behind z (take then_.0 t)) first ∙ behind-behind a s (take then_.0 t) ∙ ap (behind a) (sym (take-append-add s t then_.0)),
+  more then_.1,
+  then_.2 ∙ ap (λ z. behind z (take then_.0 t)) first ∙ behind-behind a s (take then_.0 t) ∙ ap (behind a) (sym (take-append-add s t then_.0)),
 )
+  where
+    more : then_.0 < length t → length s + then_.0 < length (s ++ t)
+    more less = rw (length-append s t) (omega (arith, less))
 
--- a cut in the first piece is a cut in the whole: at most its length counts
-cut-in : (s t : List ℕ) (n : ℕ) → (k : ℕ) × (take k (s ++ t) ≡ take n s)
-cut-in s t zero = (0, refl)
-cut-in [] t (suc n) = (0, refl)
-cut-in (x ∷ s) t (suc n) = let c = cut-in s t n in (suc c.0, ap (λ l. x ∷ l) c.1)
-
+-- a cut in the first piece is a cut in the whole
 pub wrote-stop : (s t : List ℕ) (a b : Told) → Wrote false s a b → Wrote false (s ++ t) a b
-wrote-stop s t a b h = let c = cut-in s t h.0 in (c.0, h.1 ∙ ap (behind a) (sym c.1))
+wrote-stop s t a b h = (h.0, longer h.1, h.2 ∙ ap (behind a) (sym (take-append-le h.0 s t (within h.1))))
+  where
+    longer : h.0 < length s → h.0 < length (s ++ t)
+    longer less = rw (length-append s t) (omega (arith, less))
+
+    within : h.0 < length s → h.0 ≤ length s
+    within less = omega (arith, less)
 
 pub wrote-nothing : (a : Told) → Wrote true [] a a
 wrote-nothing None = refl
@@ -237,7 +242,7 @@ leaf-written p d c a leaf = wrote-as true _ _ a a (sym (ap index_lines (least-le
 
 pub index-written : (r : Bool) (bytes line : List ℕ) (a b : Told) → bytes ≡ line → OnTrue r (b ≡ behind a bytes) → OnFalse r ((n : ℕ) × (n < length bytes) × (b ≡ behind a (take n bytes))) → Wrote r line a b
 index-written true bytes line a b e all part = all ∙ ap (behind a) e
-index-written false bytes line a b e all part = (part.0, part.2 ∙ ap (λ s. behind a (take part.0 s)) e)
+index-written false bytes line a b e all part = (part.0, subst (λ (s : List ℕ). part.0 < length s) e part.1, part.2 ∙ ap (λ s. behind a (take part.0 s)) e)
 
 -- the first move that keeps to the limit, as the code finds it
 pub find-step : (p : Position) (e : ℕ) (c : Limit) (i : ℕ) (m : Move) → slice_get (moves p) i ≡ Some m → first_kept p e c (moves p) ≡ position_from (keeps_below p e c) i (drop i (moves p)) → keeps_below p e c m ≡ false →

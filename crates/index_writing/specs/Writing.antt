@@ -1,5 +1,5 @@
 -- What is written of indices, and which move of a list comes first.
-use Rattle.std.specs.Prelude.{◌≡◌, ℕ, Bool, true, false, List, take, Option}
+use Rattle.std.specs.Prelude.{◌≡◌, ◌<◌, ℕ, Bool, true, false, List, length, take, Option}
 use Rattle.std.specs.List.{flat_map, position_from}
 use Rattle.io_edge.specs.Outside.{Told, behind}
 use Rattle.hive_model.specs.declared.places.Move.{Move}
@@ -15,10 +15,10 @@ use Rattle.certificate_text.specs.Text.{index_line}
 abbrev pub index_lines : List ℕ → List ℕ
 index_lines indices = flat_map index_line indices
 
--- these bytes were written; or, where a write failed, their first n
+-- these bytes were written; or, where a write failed, their first n and not all
 abbrev pub Wrote : Bool → List ℕ → Told → Told → Type 0
 Wrote true bytes old new = new ≡ behind old bytes
-Wrote false bytes old new = (n : ℕ) × (new ≡ behind old (take n bytes))
+Wrote false bytes old new = (n : ℕ) × (n < length bytes) × (new ≡ behind old (take n bytes))
 
 -- the lines of the least indices that show a limit behind each of the moves
 abbrev pub lines_below : Position → ℕ → Limit → List Move → List ℕ

@@ -2,9 +2,8 @@ use mir.Syntax.{w32}
 use mir.Val.{SFits}
 use Rattle.std.proofs.lemmas.Int.{to_z-of_z}
 use Rattle.certificate_text.specs.Heads.{ReadsHead}
-use Rattle.std.proofs.Common.{rules, subst, to_z, of_z, ◌≡◌, refl, sym, ap, ◌∙◌, drop, Some}
-use Rattle.std.specs.Prelude.{List, Ok}
-use Rattle.hive_model.specs.Lines.{Line}
+use Rattle.std.proofs.Common.{rules, subst, to_z, of_z, ◌≡◌, sym, drop}
+use Rattle.std.specs.Prelude.{Ok}
 use Rattle.line_feed.specs.Ahead.{ahead_of}
 use Rattle.certificate_text.specs.Text.{version_at, depth_at, move_at, value_at, with_line, with_game, head_of}
 use Rattle.certificate_text.proofs.TextLaws.{from_game, from_depth, from_text, from_value, head_is, GoesOn, head-begins, goes-on, ends-here, head-read}

@@ -1,6 +1,6 @@
 use mir.Syntax.{w32}
 use mir.Val.{SFits}
-use Rattle.std.proofs.Common.{rules, ◌≡◌, to_z, of_z, ◌∙◌, ap, sym, Some}
+use Rattle.std.proofs.Common.{rules, to_z, of_z, ◌∙◌, ap, sym, Some}
 use Rattle.std.proofs.lemmas.Int.{to_z-of_z}
 use Rattle.certificate_text.specs.Text.{value_at}
 use Rattle.certificate_text.proofs.TextLaws.{parses-some}

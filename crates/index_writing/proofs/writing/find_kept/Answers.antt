@@ -1,9 +1,9 @@
-use Rattle.std.proofs.Common.{rules, ◌≡◌, Some, true, false, length, ◌∙◌, ap, sym, arith}
+use Rattle.std.proofs.Common.{rules, ◌≡◌, Some, true, false, ◌∙◌, ap, sym}
 use Rattle.std.specs.List.{slice_get}
 use Rattle.hive_model.specs.Legal.{moves}
 use Rattle.hive_model.specs.Courses.{position, Course}
 use Rattle.search_laws.proofs.LoopLaws.{on-at}
-use Rattle.index_writing.proofs.WriteLaws.{find-step, find-met, find-past, kept-at}
+use Rattle.index_writing.proofs.WriteLaws.{find-step, find-met, kept-at}
 use Rattle.index_writing.proofs.writing.find_kept.Goals as goal
 
 pub loop-i-preserved : goal.loop-i-preserved

@@ -1,0 +1,151 @@
+-- What an accepted text says, and which texts are accepted.
+use Rattle.std.proofs.Common.{◌≡◌, ℕ, ◌≤◌, Bool, true, false, List, drop, map, refl, sym, ap, subst, ◌∙◌, Option, Some}
+use Rattle.std.specs.Prelude.{Result, Ok, Err, ℤ, if◌then◌else◌}
+use Rattle.hive_model.specs.declared.pieces.GameType.{GameType}
+use Rattle.hive_model.specs.declared.places.Move.{Move}
+use Rattle.hive_model.specs.Positions.{Position, opening}
+use Rattle.hive_model.specs.Courses.{Course}
+use Rattle.hive_model.specs.Legal.{is_over}
+use Rattle.hive_model.specs.Games.{replay}
+use Rattle.hive_model.specs.Denotes.{Denotes}
+use Rattle.hive_model.specs.Lines.{Line, lines, ToldLines}
+use Rattle.hive_model.specs.Minimax.{IsInner, best, value}
+use Rattle.search_laws.proofs.MinimaxLaws.{value-fits}
+use Rattle.move_text.specs.declared.faults.MoveFault.{MoveFault}
+use Rattle.move_text.proofs.MoveLaws.{of_denotes}
+use Rattle.game_text.proofs.ReadLaws.{kind_here}
+use Rattle.claim_walks.specs.Walks.{Outcome, Left, Fault, Halt}
+use Rattle.strategy_check.specs.declared.answers.Why.{Why}
+use Rattle.strategy_check.specs.Trace.{Steps, checked}
+use Rattle.strategy_check.proofs.TakenLaws.{accepted-indices}
+use Rattle.strategy_check.proofs.TraceLaws.{holds-sound}
+use Rattle.certificate_text.specs.declared.head.Head.{Head}
+use Rattle.certificate_text.specs.declared.head.HeadFault.{HeadFault}
+use Rattle.certificate_text.specs.declared.head.HeadFault.TheVariants.{BadLine as LineFault, BadGame as NoGame, ReadFault as NoRead, InputFull as IsFull, Memory as NoMemory}
+use Rattle.certificate_text.specs.Text.{HeadRead, head_of, index_in}
+use Rattle.certificate_text.specs.Heads.{ReadsHead}
+use Rattle.strategy_make.specs.Making.{certificate, least_indices}
+use Rattle.strategy_make.specs.Laws.{MayClaim, claimed}
+use Rattle.strategy_make.proofs.MakeLaws.{best-on}
+use Rattle.strategy_make.proofs.ReadLaws.{heads, indices, least-hold, legal-text, move-text}
+use Rattle.io_edge.specs.Outside.{behind}
+use Rattle.text_verdicts.proofs.AskedLaws.{asked-open}
+use Rattle.text_verdicts.specs.declared.verdict.Verdict.{Verdict}
+use Rattle.text_verdicts.specs.declared.verdict.Verdict.TheVariants.{Accepted, GameOver}
+use Rattle.text_verdicts.specs.declared.verdict.Unread.{Unread}
+use Rattle.text_verdicts.specs.Reading.{Judges, of_fault}
+use Rattle.text_verdicts.specs.Verdicts.{of_walk}
+use Rattle.certificate_commands.specs.Verdicts.{claimed_move, end_of, of_claim, of_head, of_items, of_move, verdict}
+use Rattle.certificate_commands.specs.Laws.{AcceptedIsTrue, CertificatesAreAccepted, CertifiedIsAccepted, HeldIsAccepted, IsTrueClaim, MayCertify}
+use Rattle.certificate_commands.proofs.HeadLaws.{head-depth}
+
+pub verdict-is : (ls : List Line) (r : HeadRead) → head_of 1 ls ≡ r → verdict ls ≡ of_head r (drop 5 ls)
+unfolding verdict
+verdict-is ls r e = ap (λ h. of_head h (drop 5 ls)) e
+
+-- where there is no head
+of-fault : (ls : List Line) (fault : HeadFault) (later : ToldLines) → (let r : HeadRead = Err fault in ReadsHead r (head_of 1 ls) ls later) → Judges (of_fault fault) (verdict ls)
+of-fault ls (LineFault n) later h = verdict-is ls (Err (LineFault n)) h
+of-fault ls (NoGame fault) later h = verdict-is ls (Err (NoGame fault)) h
+of-fault ls NoRead later h = tt
+of-fault ls IsFull later h = tt
+of-fault ls NoMemory later h = tt
+
+pub fault-judges : (ls : List Line) (fault : HeadFault) (result : Result Verdict Unread) (later : ToldLines) → result ≡ of_fault fault →
+    (let r : HeadRead = Err fault in ReadsHead r (head_of 1 ls) ls later) → Judges result (verdict ls)
+fault-judges ls fault result later e h = subst (λ (r : Result Verdict Unread). Judges r (verdict ls)) (sym e) (of-fault ls fault later h)
+
+-- ---- what is accepted is true
+
+walk-true : (p : Position) (d : ℕ) (m : Move) (v : ℤ) (items : List (Option ℕ)) (o : Outcome Steps Why) → IsInner p d → checked p d m v items ≡ o → of_walk 5 o ≡ Accepted → (best p d ≡ Some m) × (value p d ≡ v)
+walk-true p d m v items (Left s) inner e h = let (taken, is, holds) = accepted-indices p d m v items s e in holds-sound p d m v taken inner holds
+walk-true p d m v items (Fault why n) inner e h = cc
+walk-true p d m v items (Halt n) inner e h = cc
+
+-- the text of the claimed move denotes one, which is the best one, and is worth what is claimed
+abbrev Claims : Head → Type 0
+Claims head = (m : Move) × (claimed_move head ≡ Ok m) × (best (end_of head) head.depth ≡ Some m) × (value (end_of head) head.depth ≡ head.value)
+
+move-true : (head : Head) (items : List (Option ℕ)) (r : Result Move MoveFault) → IsInner (end_of head) head.depth → claimed_move head ≡ r → of_move (end_of head) head.depth r head.value items ≡ Accepted → Claims head
+move-true head items (Err fault) inner e h = cc
+move-true head items (Ok m) inner e h =
+    let t = walk-true (end_of head) head.depth m head.value items (checked (end_of head) head.depth m head.value items) inner refl h in (m, e, t.0, t.1)
+
+claim-true : (head : Head) (rest : List Line) (over : Bool) → 1 ≤ head.depth → is_over (end_of head) ≡ over → of_claim head rest ≡ Accepted → Claims head
+claim-true head rest true some e h = let same : of_claim head rest ≡ GameOver = rw e refl in cc
+claim-true head rest false some e h =
+    let same : of_claim head rest ≡ of_move (end_of head) head.depth (claimed_move head) head.value (map index_in rest) = rw e refl in
+    move-true head (map index_in rest) (claimed_move head) (record { deep = some; open_ = e }) refl (sym same ∙ h)
+
+pub accepted-true : AcceptedIsTrue
+accepted-true = λ ls h. go ls (head_of 1 ls) refl (sym (verdict-is ls (head_of 1 ls) refl) ∙ h)
+  where
+    go : (ls : List Line) (r : HeadRead) → head_of 1 ls ≡ r → of_head r (drop 5 ls) ≡ Accepted → (head : Head) × (m : Move) × IsTrueClaim ls head m
+    go ls (Ok head) e h =
+        let (m, denotes, first, worth) = claim-true head (drop 5 ls) (is_over (end_of head)) (head-depth 1 ls head e) refl h in
+        (head, m, record { has_head = e; denotes = denotes; is_best = first; is_worth = worth })
+    go ls (Err (LineFault n)) e h = cc
+    go ls (Err (NoGame fault)) e h = cc
+    go ls (Err NoRead) e h = cc
+    go ls (Err IsFull) e h = cc
+    go ls (Err NoMemory) e h = cc
+
+-- ---- what holds is accepted
+
+if-open : (over : Bool) (v : Verdict) → over ≡ false → (if over then GameOver else v) ≡ v
+if-open true v e = cc
+if-open false v e = refl
+
+pub held-accepted : HeldIsAccepted
+held-accepted = λ ls head m indices h.
+    let p : Position = end_of head in
+    verdict-is ls (Ok head) h.has_head
+    ∙ if-open (is_over p) (of_move p head.depth (claimed_move head) head.value (map index_in (drop 5 ls))) h.open_
+    ∙ ap (λ r. of_move p head.depth r head.value (map index_in (drop 5 ls))) h.denotes
+    ∙ ap (of_items p head.depth m head.value) h.are_indices
+    ∙ ap (of_walk 5) h.hold.1
+
+-- the written text of a legal move denotes it
+named : (t : GameType) (ms : List Move) (d : ℕ) (m : Move) (v : ℤ) → MayClaim t ms d m v → claimed_move (claimed t ms d m v) ≡ Ok m
+named t ms d m v may =
+    let course : Course = record { game_type = t; made = ms; spare = 0 } in
+    of_denotes t (replay (opening t) ms).board (move-text t ms m) m
+    (subst (λ (k : GameType). Denotes k (replay (opening t) ms).board (move-text t ms m) m) (kind_here course) (legal-text t ms m may.game may.few may.legal))
+
+pub certificate-accepted : CertificatesAreAccepted
+certificate-accepted = λ t ms depth m h.
+    let p : Position = replay (opening t) ms in
+    let v : ℤ = value p depth in
+    let may : MayClaim t ms depth m v = record {
+      game = h.game;
+      few = h.few;
+      legal = best-on p depth m h.is_best;
+      some = h.some;
+      deep = h.deep;
+      small = value-fits p depth v h.deep refl;
+    } in
+    held-accepted (lines (certificate t ms depth m v)) (claimed t ms depth m v) m (least_indices p depth m v) (record {
+      has_head = heads t ms depth m v may;
+      open_ = h.open_;
+      denotes = named t ms depth m v may;
+      are_indices = indices t ms depth m v may;
+      hold = least-hold p depth m (record { deep = h.some; open_ = h.open_ }) h.is_best;
+    })
+
+pub certified-accepted : CertifiedIsAccepted
+certified-accepted = λ depth some deep before after run input told none.
+    let (game, text, wrote) = run input told in
+    let (m, is) = wrote.answer in
+    let here = asked-open (lines input) game wrote.is_asked.asks in
+    let may : MayCertify game.game_type game.moves depth m = record {
+      game = here.legal;
+      few = here.few;
+      open_ = here.goes_on;
+      some = some;
+      deep = deep;
+      is_best = is.is_best;
+    } in (
+      text,
+      wrote.wrote ∙ ap (λ w. behind w text) none,
+      ap (λ x. verdict (lines x)) is.is_text ∙ certificate-accepted game.game_type game.moves depth m may,
+    )

@@ -1,0 +1,3 @@
+pub mod CertifyLaws
+pub mod HeadLaws
+pub mod CheckLaws

@@ -1,0 +1,109 @@
+-- Laws of certificates that are written and checked.
+use Rattle.std.specs.Prelude.{◌≡◌, ◌⊎◌, ℕ, ◌<◌, ◌≤◌, false, List, [], length, map, drop, Some, Ok}
+use Rattle.io_edge.specs.Outside.{HasCause, Rose}
+use Rattle.line_feed.specs.Feed.{input_limit}
+use Rattle.hive_model.specs.declared.pieces.GameType.{GameType}
+use Rattle.hive_model.specs.declared.places.Move.{Move}
+use Rattle.hive_model.specs.Positions.{opening}
+use Rattle.hive_model.specs.Legal.{is_over}
+use Rattle.hive_model.specs.Games.{IsGame, replay}
+use Rattle.hive_model.specs.Lines.{Line, lines}
+use Rattle.hive_model.specs.Minimax.{best, value}
+use Rattle.game_text.specs.declared.parsed.Parsed.{Parsed}
+use Rattle.strategy_check.specs.Trace.{Holds}
+use Rattle.certificate_text.specs.declared.head.Head.{Head}
+use Rattle.certificate_text.specs.Text.{head_of, index_in}
+use Rattle.strategy_make.specs.Making.{certificate}
+use Rattle.command_runs.specs.Input.{Sides, WhereTold}
+use Rattle.command_runs.specs.OneGame.{asked}
+use Rattle.command_runs.specs.declared.status.Status.{Status}
+use Rattle.command_runs.specs.declared.status.Status.TheVariants.{Done, ReadFault, WriteFault, Memory}
+use Rattle.text_verdicts.specs.declared.verdict.Verdict.TheVariants.{Accepted}
+use Rattle.certificate_commands.specs.Certifying.{CertifyRun}
+use Rattle.certificate_commands.specs.Verdicts.{CheckRun, claimed_move, end_of, verdict}
+
+-- the lines have a head, and its claim is true: its text denotes the best move at the end of its
+-- game, at its depth, and its value is what that position is worth
+pub record IsTrueClaim (ls : List Line) (head : Head) (m : Move) : Type 0 where
+  pub has_head : head_of 1 ls ≡ Ok head
+  pub denotes : claimed_move head ≡ Ok m
+  pub is_best : best (end_of head) head.depth ≡ Some m
+  pub is_worth : value (end_of head) head.depth ≡ head.value
+
+-- the claim of a text that is accepted is true
+abbrev pub AcceptedIsTrue : Type 0
+AcceptedIsTrue =
+    (ls : List Line) → verdict ls ≡ Accepted
+    → (head : Head) × (m : Move) × IsTrueClaim ls head m
+
+-- so where a check is done, the claim is true
+abbrev pub CheckedIsTrue : Type 0
+CheckedIsTrue =
+    (before : Sides) → (after : Sides) → CheckRun Done before after
+    → WhereTold before.rest (λ input. (head : Head) × (m : Move) × IsTrueClaim (lines input) head m)
+
+-- the lines are a head, whose game is not over, and indices that hold of its claim
+pub record HoldsOf (ls : List Line) (head : Head) (m : Move) (indices : List ℕ) : Type 0 where
+  pub has_head : head_of 1 ls ≡ Ok head
+  pub open_ : is_over (end_of head) ≡ false
+  pub denotes : claimed_move head ≡ Ok m
+  pub are_indices : map index_in (drop 5 ls) ≡ map (λ i. Some i) indices
+  pub hold : Holds (end_of head) head.depth m head.value indices
+
+-- such lines are accepted
+abbrev pub HeldIsAccepted : Type 0
+HeldIsAccepted =
+    (ls : List Line) → (head : Head) → (m : Move) → (indices : List ℕ)
+    → HoldsOf ls head m indices → verdict ls ≡ Accepted
+
+-- a game of at most 5,000 moves that is not over, and its best move at a depth from 1 to 64
+pub record MayCertify (t : GameType) (ms : List Move) (depth : ℕ) (m : Move) : Type 0 where
+  pub game : IsGame t ms
+  pub few : length ms ≤ 5000
+  pub open_ : is_over (replay (opening t) ms) ≡ false
+  pub some : 1 ≤ depth
+  pub deep : depth ≤ 64
+  pub is_best : best (replay (opening t) ms) depth ≡ Some m
+
+-- the certificate that is written of it is accepted
+abbrev pub CertificatesAreAccepted : Type 0
+CertificatesAreAccepted =
+    (t : GameType) → (ms : List Move) → (depth : ℕ) → (m : Move) → MayCertify t ms depth m
+    → verdict (lines (certificate t ms depth m (value (replay (opening t) ms) depth))) ≡ Accepted
+
+-- so what `certify` writes where it is done is accepted
+abbrev pub CertifiedIsAccepted : Type 0
+CertifiedIsAccepted =
+    (depth : ℕ) → 1 ≤ depth → depth ≤ 64 → (before : Sides) → (after : Sides)
+    → CertifyRun depth Done before after
+    → (input : List ℕ) → before.rest ≡ Some input → before.written ≡ Some []
+    → (text : List ℕ) × (after.written ≡ Some text) × (verdict (lines text) ≡ Accepted)
+
+-- Where neither count of faults rose, the answer to an input that is exactly one line, a game that
+-- is not over, is done, unless memory is wanting.
+abbrev pub CertifiesAreDone : Type 0
+CertifiesAreDone =
+    (depth : ℕ) → (status : Status) → (before : Sides) → (after : Sides)
+    → CertifyRun depth status before after
+    → (reads_before : ℕ) → (reads_after : ℕ)
+    → HasCause (status ≡ ReadFault) reads_before reads_after → ¬ Rose reads_before reads_after
+    → (writes_before : ℕ) → (writes_after : ℕ)
+    → HasCause (status ≡ WriteFault) writes_before writes_after
+    → ¬ Rose writes_before writes_after
+    → (input : List ℕ) → before.rest ≡ Some input → length input < input_limit
+    → (game : Parsed) → asked (lines input) ≡ Ok game
+    → (status ≡ Done) ⊎ (status ≡ Memory)
+
+-- The same of a check of an input below the limit that is accepted.
+abbrev pub ChecksAreDone : Type 0
+ChecksAreDone =
+    (status : Status) → (before : Sides) → (after : Sides)
+    → CheckRun status before after
+    → (reads_before : ℕ) → (reads_after : ℕ)
+    → HasCause (status ≡ ReadFault) reads_before reads_after → ¬ Rose reads_before reads_after
+    → (writes_before : ℕ) → (writes_after : ℕ)
+    → HasCause (status ≡ WriteFault) writes_before writes_after
+    → ¬ Rose writes_before writes_after
+    → (input : List ℕ) → before.rest ≡ Some input → length input < input_limit
+    → verdict (lines input) ≡ Accepted
+    → (status ≡ Done) ⊎ (status ≡ Memory)

@@ -1,0 +1,22 @@
+use Rattle.std.proofs.Common.{◌≡◌, ◌∙◌, ap}
+use Rattle.std.specs.Prelude.{Some, slice_get}
+use Rattle.hive_model.specs.Legal.{moves}
+use Rattle.hive_model.specs.Courses.{position, Course}
+use Rattle.claim_walks.specs.Walks.{place_of}
+use Rattle.strategy_make.proofs.MakeLaws.{level-place, place-some, place-at}
+use Rattle.strategy_make.proofs.roots.write_least.Goals as goal
+
+pub unwrap-place-requires : goal.unwrap-place-requires
+unwrap-place-requires g c =
+    let p = position (g.G.Game.course c.args.game.now) in
+    let m = c.args.best.now.best in
+    let is : c.find_move.result ≡ place_of m (moves p) = level-place _ c.list.new.out (moves p) c.levels-level.result m c.find_move.result c.list.ensures.listed c.levels-level.ensures c.find_move.ensures in
+    place-some m (moves p) c.find_move.result is c.requires.legal
+
+pub write_root-written-requires-clause-place : goal.write_root-written-requires-clause-place
+write_root-written-requires-clause-place g c =
+    let p = position (g.G.Game.course c.args.game.now) in
+    let m = c.args.best.now.best in
+    let is : c.find_move.result ≡ place_of m (moves p) = level-place _ c.list.new.out (moves p) c.levels-level.result m c.find_move.result c.list.ensures.listed c.levels-level.ensures c.find_move.ensures in
+    let here : slice_get (moves p) c.unwrap-place.result ≡ Some m = place-at m (moves p) c.find_move.result c.unwrap-place.result is c.unwrap-place.ensures in
+    ap (λ (h : Course). slice_get (moves (position h)) c.unwrap-place.result) c.list.ensures.same ∙ here

@@ -1,0 +1,48 @@
+-- The text of the certificate of a best move.
+use Rattle.std.specs.Prelude.{◌≡◌, ℕ, ◌-◌, ◌<◌, List, [], ◌++◌, length, take, ℤ, Option, Some, None, Result, Ok, Err}
+use Rattle.io_edge.specs.Outside.{Told, behind}
+use Rattle.hive_model.specs.declared.pieces.GameType.{GameType}
+use Rattle.hive_model.specs.declared.places.Move.{Move}
+use Rattle.hive_model.specs.declared.answers.Best.{Best}
+use Rattle.hive_model.specs.Positions.{Position, opening}
+use Rattle.hive_model.specs.Legal.{moves}
+use Rattle.hive_model.specs.Games.{replay}
+use Rattle.hive_model.specs.Courses.{Course, position}
+use Rattle.hive_model.specs.Minimax.{value, best}
+use Rattle.claim_walks.specs.Walks.{place_of}
+use Rattle.strategy_check.specs.Least.{least_moves}
+use Rattle.certificate_text.specs.Text.{head_text}
+use Rattle.index_writing.specs.Writing.{index_lines}
+use Rattle.strategy_make.specs.declared.fault.MakeFault.{MakeFault}
+use Rattle.strategy_make.specs.declared.fault.MakeFault.TheVariants.{WriteFault, Memory}
+
+-- with the place of the move among the legal moves, if it is there
+abbrev pub least_at : Position → ℕ → Move → ℤ → Option ℕ → List ℕ
+least_at p d m v None = []
+least_at p d m v (Some k) = least_moves p (d - 1) k m v
+
+-- the least indices that show a legal move to be the best one of a position, with so many plies
+-- searched, and to be worth so much
+abbrev pub least_indices : Position → ℕ → Move → ℤ → List ℕ
+least_indices p d m v = least_at p d m v (place_of m (moves p))
+
+-- the certificate that a game's best move at a depth is this one, and that it is worth so much: the
+-- head, and the least indices
+unfoldable pub certificate : GameType → List Move → ℕ → Move → ℤ → List ℕ
+certificate t ms d m v =
+    head_text 1 t ms d m v ++ index_lines (least_indices (replay (opening t) ms) d m v)
+
+-- the certificate of this move, if there is one, and of what the game's position is worth
+abbrev pub certificate_of : Course → ℕ → Option Move → List ℕ
+certificate_of c d None = []
+certificate_of c d (Some m) = certificate c.game_type c.made d m (value (position c) d)
+
+-- What was written, by the answer: the certificate of the move and the worth that are answered; where
+-- a write failed the first n bytes of that of the best move, and not all; where memory was wanting
+-- nothing.
+abbrev pub Makes : Result Best MakeFault → Course → ℕ → Told → Told → Type 0
+Makes (Ok b) c d old new = new ≡ behind old (certificate c.game_type c.made d b.best b.value)
+Makes (Err WriteFault) c d old new =
+    (n : ℕ) × (n < length (certificate_of c d (best (position c) d)))
+    × (new ≡ behind old (take n (certificate_of c d (best (position c) d))))
+Makes (Err Memory) c d old new = new ≡ old

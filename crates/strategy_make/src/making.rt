@@ -1,0 +1,64 @@
+//! Writing the certificate of a game's best move.
+
+ghost use Rattle.std.specs.Prelude.{◌≡◌, ◌≤◌, Some, Err, IfOk, false, length};
+ghost use Rattle.io_edge.specs.Outside.{HasCause};
+ghost use Rattle.hive_model.specs.Legal.{is_over};
+ghost use Rattle.hive_model.specs.Minimax.{value, best};
+ghost use Rattle.hive_model.specs.Courses.{position};
+ghost use Rattle.strategy_make.specs.Making.{Makes};
+ghost use Rattle.strategy_make.specs.Laws.{MayClaim};
+
+use crate::fault::MakeFault;
+use crate::head::head_of;
+use crate::roots::write_least;
+use deepening::Searcher;
+use hive_model::{Best, Game, MoveStack};
+use io_edge::{Sink, write_all};
+use std::alloc::Global;
+
+/// Writes the certificate of the game's best move at a depth, from 1 to the depth that the searcher
+/// is prepared for: the five lines of the head, and the least indices, each on a line of its own. The
+/// answer is that move, and what it is worth. The game is not over, has room for as many plies, and
+/// has at most 5,000; it is as before, and so is the searcher.
+///
+/// # Errors
+///
+/// A failed write: a front of that certificate was written. Want of memory: nothing was written.
+pub fn make<G: Game + Drop, K: Sink>(
+    alloc: Global,
+    searcher: &mut Searcher,
+    game: &mut G,
+    depth: u32,
+    sink: &mut K,
+) -> Result<Best, MakeFault>
+    requires goes_on { is_over (position (G.course game.old)) ≡ false }
+    requires some { 1 ≤ depth }
+    requires deep { depth ≤ 64 }
+    requires prepared { depth ≤ searcher.old }
+    requires spare { depth ≤ (G.course game.old).spare }
+    requires few { length (G.course game.old).made ≤ 5000 }
+    ensures first { IfOk result (λ b. best (position (G.course game.old)) depth ≡ Some b.best) }
+    ensures worth { IfOk result (λ b. b.value ≡ value (position (G.course game.old)) depth) }
+    ensures claim { IfOk result (λ b. MayClaim
+        (G.course game.old).game_type (G.course game.old).made depth b.best b.value) }
+    ensures written { Makes result (G.course game.old) depth (K.written sink.old) (K.written sink.new) }
+    ensures cause { HasCause (result ≡ Err MakeFault.WriteFault)
+        (K.write_faults sink.old) (K.write_faults sink.new) }
+    ensures game { G.course game.new ≡ G.course game.old }
+    ensures searcher { searcher.new ≡ searcher.old }
+{
+    let best = searcher.best_at(game, depth);
+    let Ok(head) = head_of(alloc, game, depth, &best) else {
+        return Err(MakeFault::Memory);
+    };
+    let Ok(mut stack) = MoveStack::new(alloc, depth) else {
+        return Err(MakeFault::Memory);
+    };
+    if !write_all(sink, head.items()) {
+        return Err(MakeFault::WriteFault);
+    }
+    if !write_least(searcher, game, depth, &best, &mut stack, sink) {
+        return Err(MakeFault::WriteFault);
+    }
+    Ok(best)
+}

@@ -1,0 +1,98 @@
+//! Writing the least indices that show which move is best.
+
+ghost use Rattle.std.specs.Prelude.{◌≡◌, ◌-◌, ◌<◌, ◌≤◌, length, slice_get, Some, false};
+ghost use Rattle.io_edge.specs.Outside.{HasCause};
+ghost use Rattle.hive_model.specs.Lists.{IsOn};
+ghost use Rattle.hive_model.specs.Legal.{moves};
+ghost use Rattle.hive_model.specs.Minimax.{IsInner};
+ghost use Rattle.hive_model.specs.Courses.{position};
+ghost use Rattle.hive_model.specs.Stack.{level_of};
+ghost use Rattle.search_laws.specs.Laws.{IsSmall};
+ghost use Rattle.strategy_check.specs.Least.{least_moves};
+ghost use Rattle.index_writing.specs.Writing.{Wrote, index_lines};
+ghost use Rattle.strategy_make.specs.Making.{least_indices};
+
+use claim_walks::Limit;
+use hive_model::{Best, Game, MoveStack};
+use index_writing::{Judge, write_child, write_moves};
+use io_edge::Sink;
+use strategy_check::find_move;
+
+/// Writes the least indices that show that the move at a place of the level is the best one, with
+/// `depth` plies left behind it, and what it is worth.
+fn write_root<G: Game, J: Judge, K: Sink>(
+    judge: &mut J,
+    game: &mut G,
+    level: u32,
+    place: u32,
+    depth: u32,
+    best: &Best,
+    stack: &mut MoveStack,
+    sink: &mut K,
+) -> bool
+    requires deep { depth < 64 }
+    requires ready { depth ≤ J.prepared judge.old }
+    requires small { IsSmall 1000064 best.now.value }
+    requires spare { depth < (G.course game.old).spare }
+    requires room { depth ≤ stack.old.free }
+    requires level { level < length stack.old.lists }
+    requires listed { level_of stack.old level ≡ moves (position (G.course game.old)) }
+    requires place { slice_get (moves (position (G.course game.old))) place ≡ Some best.now.best }
+    ensures wrote { Wrote result
+        (index_lines (least_moves (position (G.course game.old)) depth place best.now.best best.now.value))
+        (K.written sink.old) (K.written sink.new) }
+    ensures cause { HasCause (result ≡ false) (K.write_faults sink.old) (K.write_faults sink.new) }
+    ensures game { G.course game.new ≡ G.course game.old }
+    ensures same { J.prepared judge.new ≡ J.prepared judge.old }
+    ensures stack { stack.new ≡ stack.old }
+{
+    let count = stack.level_len(level);
+    let less = Limit::AtLeast(1 - best.value);
+    let most = Limit::AtMost(-best.value);
+    let least = Limit::AtLeast(-best.value);
+    if !write_moves(judge, game, level, 0, place, depth, less, stack, sink) {
+        return false;
+    }
+    if !write_child(judge, game, best.best, depth, most, stack, sink) {
+        return false;
+    }
+    if !write_child(judge, game, best.best, depth, least, stack, sink) {
+        return false;
+    }
+    let from = place + 1;
+    write_moves(judge, game, level, from, count, depth, least, stack, sink)
+}
+
+/// Writes the least indices that show that a legal move is the best one, with `depth` plies searched,
+/// and what it is worth. The game is not over. Game and stack are as before. The answer is whether all
+/// was written.
+pub(crate) fn write_least<G: Game, J: Judge, K: Sink>(
+    judge: &mut J,
+    game: &mut G,
+    depth: u32,
+    best: &Best,
+    stack: &mut MoveStack,
+    sink: &mut K,
+) -> bool
+    requires deep { depth ≤ 64 }
+    requires inner { IsInner (position (G.course game.old)) depth }
+    requires ready { depth ≤ J.prepared judge.old }
+    requires small { IsSmall 1000064 best.now.value }
+    requires legal { IsOn (moves (position (G.course game.old))) best.now.best }
+    requires spare { depth ≤ (G.course game.old).spare }
+    requires room { depth ≤ stack.old.free }
+    ensures wrote { Wrote result
+        (index_lines (least_indices (position (G.course game.old)) depth best.now.best best.now.value))
+        (K.written sink.old) (K.written sink.new) }
+    ensures cause { HasCause (result ≡ false) (K.write_faults sink.old) (K.write_faults sink.new) }
+    ensures game { G.course game.new ≡ G.course game.old }
+    ensures same { J.prepared judge.new ≡ J.prepared judge.old }
+    ensures stack { stack.new ≡ stack.old }
+{
+    let level = stack.levels();
+    game.list(stack);
+    let place = find_move(level, best.best, stack).unwrap();
+    let written = write_root(judge, game, level, place, depth - 1, best, stack, sink);
+    stack.drop_level();
+    written
+}

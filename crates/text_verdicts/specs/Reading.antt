@@ -1,0 +1,41 @@
+-- What the parts of a check answer.
+use Rattle.std.specs.Prelude.{◌≡◌, ⊤, ◌⊎◌, Result, Ok, Err}
+use Rattle.io_edge.specs.Outside.{Told}
+use Rattle.certificate_text.specs.declared.head.HeadFault.{HeadFault}
+use Rattle.certificate_text.specs.declared.head.HeadFault.TheVariants.{BadLine as LineFault, BadGame as NoGame, ReadFault as NoRead, InputFull as IsFull, Memory as NoMemory}
+use Rattle.command_runs.specs.GameRun.{WritesAs}
+use Rattle.command_runs.specs.declared.status.Status.{Status}
+use Rattle.command_runs.specs.declared.status.Status.TheVariants.{Memory, ReadFault as ReadFailed, InputFull as InputIsFull}
+use Rattle.text_verdicts.specs.declared.verdict.Verdict.{Verdict}
+use Rattle.text_verdicts.specs.declared.verdict.Verdict.TheVariants.{BadLine, BadGame}
+use Rattle.text_verdicts.specs.declared.verdict.Unread.{Unread}
+use Rattle.text_verdicts.specs.declared.verdict.Unread.TheVariants.{ReadFault, InputFull, Memory as WantsMemory}
+use Rattle.text_verdicts.specs.Verdicts.{verdict_line, status_of}
+
+-- the verdict where there is no head, unless the text could not be read
+abbrev pub of_fault : HeadFault → Result Verdict Unread
+of_fault (LineFault n) = Ok (BadLine n)
+of_fault (NoGame fault) = Ok (BadGame fault)
+of_fault NoRead = Err ReadFault
+of_fault IsFull = Err InputFull
+of_fault NoMemory = Err WantsMemory
+
+-- the answer is this verdict, unless the text could not be read
+abbrev pub Judges : Result Verdict Unread → Verdict → Type 0
+Judges (Ok v) verdict = verdict ≡ v
+Judges (Err ReadFault) verdict = ⊤
+Judges (Err InputFull) verdict = ⊤
+Judges (Err WantsMemory) verdict = ⊤
+
+-- the line of a verdict was written, or a part of it; or memory was wanting and nothing was written
+abbrev pub TellsVerdict : Verdict → Status → Told → Told → Type 0
+TellsVerdict v status before after =
+    ((status ≡ Memory) × (after ≡ before))
+    ⊎ WritesAs (verdict_line v) (status_of v) status before after
+
+-- the same of an answer; where the text could not be read nothing was written
+abbrev pub TellsJudged : Result Verdict Unread → Status → Told → Told → Type 0
+TellsJudged (Ok v) status before after = TellsVerdict v status before after
+TellsJudged (Err ReadFault) status before after = (status ≡ ReadFailed) × (after ≡ before)
+TellsJudged (Err InputFull) status before after = (status ≡ InputIsFull) × (after ≡ before)
+TellsJudged (Err WantsMemory) status before after = (status ≡ Memory) × (after ≡ before)

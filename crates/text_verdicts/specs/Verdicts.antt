@@ -1,0 +1,48 @@
+-- What is made of the walk of a text's indices, and how a verdict is told.
+use Rattle.std.specs.Prelude.{ℕ, ◌+◌, List, [], ◌∷◌, ◌++◌, codes, decimal}
+use Rattle.claim_walks.specs.Walks.{Outcome, Left, Fault, Halt}
+use Rattle.claim_walks.specs.Follows.{held}
+use Rattle.strategy_check.specs.Trace.{Steps}
+use Rattle.strategy_check.specs.declared.answers.Why.{Why}
+use Rattle.strategy_check.specs.declared.answers.Why.TheVariants.{NoSuchMove, BadIndex, LeafFails, TooShort, Rest}
+use Rattle.command_runs.specs.OneGame.{bad_line}
+use Rattle.command_runs.specs.Reasons.{reason}
+use Rattle.command_runs.specs.declared.status.Status.{Status}
+use Rattle.command_runs.specs.declared.status.Status.TheVariants.{Done, Refused as IsRefused, BadInput}
+use Rattle.text_verdicts.specs.declared.verdict.Verdict.{Verdict}
+use Rattle.text_verdicts.specs.declared.verdict.Verdict.TheVariants.{Accepted, Refused, BadLine, BadGame, GameOver}
+
+-- The walk of the indices behind a head of so many lines. The index before which n were taken
+-- stands on the line n + 1 behind the head, and no count goes beyond the greatest u64.
+abbrev pub of_walk : ℕ → Outcome Steps Why → Verdict
+of_walk head (Left s) = Accepted
+of_walk head (Fault why n) = Refused (held n) why
+of_walk head (Halt n) = BadLine (held (n + 1 + head))
+
+-- What is written
+
+abbrev pub why_word : Why → List ℕ
+why_word NoSuchMove = codes "move "
+why_word BadIndex = codes "index "
+why_word LeafFails = codes "leaf "
+why_word TooShort = codes "short "
+why_word Rest = codes "rest "
+
+-- a line of two parts
+abbrev pub line_of : List ℕ → List ℕ → List ℕ
+line_of start text = start ++ (text ++ 10 ∷ [])
+
+abbrev pub verdict_line : Verdict → List ℕ
+verdict_line Accepted = line_of (codes "accepted") []
+verdict_line (Refused place why) = line_of (codes "refused ") (why_word why ++ decimal place)
+verdict_line (BadLine n) = bad_line (codes "line " ++ decimal n)
+verdict_line (BadGame fault) = bad_line (reason fault)
+verdict_line GameOver = bad_line (codes "game over")
+
+-- the status with which a check ends
+abbrev pub status_of : Verdict → Status
+status_of Accepted = Done
+status_of (Refused place why) = IsRefused
+status_of (BadLine n) = BadInput
+status_of (BadGame fault) = BadInput
+status_of GameOver = BadInput

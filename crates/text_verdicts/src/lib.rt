@@ -1,0 +1,14 @@
+//! What a text that is checked is worth, the line that says so, and the run of a command that
+//! checks one.
+#![tactic(auto)]
+
+mod laws;
+mod told;
+mod verdict;
+
+pub use laws::accepted_texts_are_done;
+pub use told::tell_judged;
+pub use verdict::{Unread, Verdict, fault_verdict, verdict_of};
+
+#[cfg(test)]
+mod tests;

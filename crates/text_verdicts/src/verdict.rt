@@ -1,0 +1,76 @@
+//! What a text that is checked is worth.
+
+ghost use Rattle.std.specs.Prelude.{◌≡◌, ◌↔◌, Err};
+ghost use Rattle.claim_walks.specs.Walks.{Outcome};
+ghost use Rattle.strategy_check.specs.Trace.{Steps};
+ghost use Rattle.strategy_check.specs.declared.answers.Why.{Why as AnyWhy};
+ghost use Rattle.strategy_check.specs.Checks.{Answers, CountsBad};
+ghost use Rattle.text_verdicts.specs.Verdicts.{of_walk};
+ghost use Rattle.text_verdicts.specs.Reading.{Judges, of_fault};
+
+use certificate_text::HeadFault;
+use game_text::GameFault;
+use strategy_check::{Checked, Halt, Why};
+
+/// What a text is worth: a head of so many lines, which makes a claim, and behind it indices that
+/// are to show it.
+#[derive(Clone, Copy, Debug, PartialEq, Eq)]
+pub enum Verdict {
+    /// It shows that its claim is true.
+    Accepted,
+    /// The first fault of its claim or its indices, and how many indices were taken before it, at
+    /// most the greatest u64; a bad index counts as taken.
+    Refused { place: u64, why: Why },
+    /// The first line that is missing, too long or not of its form, counted from 1.
+    BadLine { line: u64 },
+    /// What is wrong with the second line as a game. It is never want of memory.
+    BadGame { fault: GameFault },
+    /// The game is over.
+    GameOver,
+}
+
+/// Why a text could not be read.
+#[derive(Clone, Copy, Debug, PartialEq, Eq)]
+pub enum Unread {
+    /// A read of the input has failed.
+    ReadFault,
+    /// The input has 1,099,511,627,776 bytes or more before its end.
+    InputFull,
+    /// There was not enough memory.
+    Memory,
+}
+
+/// The verdict where there is no head.
+pub fn fault_verdict(fault: HeadFault) -> Result<Verdict, Unread>
+    ensures is { result ≡ of_fault fault }
+    ensures failed { (result ≡ Err Unread.ReadFault) ↔ (fault ≡ HeadFault.ReadFault) }
+    ensures full { result ≡ Err Unread.InputFull → fault ≡ HeadFault.InputFull }
+{
+    match fault {
+        HeadFault::BadLine { line } => Ok(Verdict::BadLine { line: line as u64 }),
+        HeadFault::BadGame { fault } => Ok(Verdict::BadGame { fault }),
+        HeadFault::ReadFault => Err(Unread::ReadFault),
+        HeadFault::InputFull => Err(Unread::InputFull),
+        HeadFault::Memory => Err(Unread::Memory),
+    }
+}
+
+/// What the answer of a check means, where so many lines were taken behind a head of so many.
+pub fn verdict_of(checked: Checked, head: u32, lines: u64) -> Result<Verdict, Unread>
+    ensures judges { (o : Outcome Steps AnyWhy) → Answers o checked → CountsBad o checked lines
+        → Judges result (of_walk head o) }
+    ensures failed { (result ≡ Err Unread.ReadFault) ↔ (checked ≡ Checked.Halted Halt.Failed) }
+    ensures full { result ≡ Err Unread.InputFull → checked ≡ Checked.Halted Halt.Full }
+{
+    match checked {
+        Checked::Accepted => Ok(Verdict::Accepted),
+        Checked::Refused { place, why } => Ok(Verdict::Refused { place, why }),
+        Checked::Halted { answer: Halt::Bad } => Ok(Verdict::BadLine {
+            line: lines.saturating_add(head as u64),
+        }),
+        Checked::Halted {
+            answer: Halt::Failed,
+        } => Err(Unread::ReadFault),
+        Checked::Halted { answer: Halt::Full } => Err(Unread::InputFull),
+    }
+}
