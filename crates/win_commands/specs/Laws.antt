@@ -1,0 +1,84 @@
+-- Laws of forced wins that are told and checked.
+use Rattle.std.specs.Prelude.{◌≡◌, ◌⊎◌, ℕ, ◌<◌, ◌≤◌, false, List, [], length, Some, Ok}
+use Rattle.io_edge.specs.Outside.{HasCause, Rose}
+use Rattle.line_feed.specs.Feed.{input_limit}
+use Rattle.hive_model.specs.declared.pieces.GameType.{GameType}
+use Rattle.hive_model.specs.declared.places.Move.{Move}
+use Rattle.hive_model.specs.Positions.{opening}
+use Rattle.hive_model.specs.Legal.{is_over}
+use Rattle.hive_model.specs.Games.{IsGame, replay}
+use Rattle.hive_model.specs.Lines.{Line, lines}
+use Rattle.game_text.specs.declared.parsed.Parsed.{Parsed}
+use Rattle.command_runs.specs.Input.{Sides, WhereTold}
+use Rattle.command_runs.specs.OneGame.{asked, last_position}
+use Rattle.command_runs.specs.declared.status.Status.{Status}
+use Rattle.command_runs.specs.declared.status.Status.TheVariants.{Done, ReadFault, WriteFault, Memory}
+use Rattle.win_commands.specs.declared.head.Head.{Head}
+use Rattle.text_verdicts.specs.declared.verdict.Verdict.TheVariants.{Accepted}
+use Rattle.win_commands.specs.Text.{is_forced, solution_text}
+use Rattle.win_commands.specs.Verdicts.{head_of, verdict}
+use Rattle.win_commands.specs.Runs.{SolveRun, VerifyRun}
+
+-- the lines have a head, and its answer is the true one for its game
+pub record IsTrueText (ls : List Line) (head : Head) : Type 0 where
+  pub has_head : head_of ls ≡ Ok head
+  pub is_true : is_forced (last_position head.game) head.plies ≡ head.answer
+
+-- the answer of a text that is accepted is the true one
+abbrev pub AcceptedIsTrue : Type 0
+AcceptedIsTrue = (ls : List Line) → verdict ls ≡ Accepted → (head : Head) × IsTrueText ls head
+
+-- so where a check is done, the answer is the true one
+abbrev pub VerifiedIsTrue : Type 0
+VerifiedIsTrue =
+    (before : Sides) → (after : Sides) → VerifyRun Done before after
+    → WhereTold before.rest (λ input. (head : Head) × IsTrueText (lines input) head)
+
+-- Where neither count of faults rose, the answer to an input that is exactly one line, a game that
+-- is not over, is done, unless memory is wanting.
+abbrev pub SolvesAreDone : Type 0
+SolvesAreDone =
+    (plies : ℕ) → (status : Status) → (before : Sides) → (after : Sides)
+    → SolveRun plies status before after
+    → (reads_before : ℕ) → (reads_after : ℕ)
+    → HasCause (status ≡ ReadFault) reads_before reads_after → ¬ Rose reads_before reads_after
+    → (writes_before : ℕ) → (writes_after : ℕ)
+    → HasCause (status ≡ WriteFault) writes_before writes_after → ¬ Rose writes_before writes_after
+    → (input : List ℕ) → before.rest ≡ Some input → length input < input_limit
+    → (game : Parsed) → asked (lines input) ≡ Ok game
+    → (status ≡ Done) ⊎ (status ≡ Memory)
+
+-- The same of a check of an input below the limit that is accepted.
+abbrev pub VerifiesAreDone : Type 0
+VerifiesAreDone =
+    (status : Status) → (before : Sides) → (after : Sides) → VerifyRun status before after
+    → (reads_before : ℕ) → (reads_after : ℕ)
+    → HasCause (status ≡ ReadFault) reads_before reads_after → ¬ Rose reads_before reads_after
+    → (writes_before : ℕ) → (writes_after : ℕ)
+    → HasCause (status ≡ WriteFault) writes_before writes_after → ¬ Rose writes_before writes_after
+    → (input : List ℕ) → before.rest ≡ Some input → length input < input_limit
+    → verdict (lines input) ≡ Accepted
+    → (status ≡ Done) ⊎ (status ≡ Memory)
+
+-- what a solution may be asked about: a game of at most 5,000 moves that is not over, and 1 to 16
+-- plies
+pub record MayAsk (t : GameType) (ms : List Move) (plies : ℕ) : Type 0 where
+  pub game : IsGame t ms
+  pub few : length ms ≤ 5000
+  pub open_ : is_over (replay (opening t) ms) ≡ false
+  pub some : 1 ≤ plies
+  pub short : plies ≤ 16
+
+-- the solution that is written of it is accepted
+abbrev pub SolutionsAreAccepted : Type 0
+SolutionsAreAccepted =
+    (t : GameType) (ms : List Move) (plies : ℕ) → MayAsk t ms plies
+    → verdict (lines (solution_text t ms plies)) ≡ Accepted
+
+-- so what a run writes that ends as done is accepted
+abbrev pub SolvedIsAccepted : Type 0
+SolvedIsAccepted =
+    (plies : ℕ) → 1 ≤ plies → plies ≤ 16 → (before : Sides) → (after : Sides)
+    → SolveRun plies Done before after
+    → (input : List ℕ) → before.rest ≡ Some input → before.written ≡ Some []
+    → (text : List ℕ) × (after.written ≡ Some text) × (verdict (lines text) ≡ Accepted)

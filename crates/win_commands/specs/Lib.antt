@@ -1,0 +1,5 @@
+pub mod Text
+pub mod Verdicts
+pub mod Reading
+pub mod Runs
+pub mod Laws

@@ -1,0 +1,16 @@
+-- What the commands write and read, by the status with which they end.
+use Rattle.std.specs.Prelude.{ℕ}
+use Rattle.command_runs.specs.Input.{Sides}
+use Rattle.command_runs.specs.GameRun.{GameRun}
+use Rattle.command_runs.specs.declared.status.Status.{Status}
+use Rattle.text_verdicts.specs.Runs.{VerdictRun}
+use Rattle.win_commands.specs.Text.{solution_of}
+use Rattle.win_commands.specs.Verdicts.{verdict}
+
+-- one game is answered by the least solution of the true answer
+abbrev pub SolveRun : ℕ → Status → Sides → Sides → Type 0
+SolveRun plies status before after = GameRun (solution_of plies) status before after
+
+-- a check writes the line of the verdict on the lines of the input
+abbrev pub VerifyRun : Status → Sides → Sides → Type 0
+VerifyRun status before after = VerdictRun verdict status before after

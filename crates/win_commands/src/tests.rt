@@ -1,0 +1,274 @@
+//! Solutions that are written, and texts that are checked.
+
+use crate::{solve, verify};
+use command_runs::Status;
+use fast_game::FastGame;
+use io_edge::{MemSink, MemSource};
+use std::alloc::{AllocError, Global};
+use std::process::Abort;
+use std::test::Fail;
+
+/// The least solution of the opening of the base game within two plies.
+const OPENING: &str = "hive-solution 1\nBase;NotStarted;White[1]\nplies 2\nanswer no\n0\n0\n0\n0\n";
+
+/// A game whose side to move wins with its next move.
+const WON: &str =
+    "Base;InProgress;White[7];wS1;bS1 wS1-;wQ /wS1;bQ bS1-;wQ /bS1;bQ wQ-;wG1 -wS1;bG1 bS1-;wB1 /wQ;bB1 bQ-;wA1 -wB1;bA1 /bB1";
+
+/// A finished game.
+const DRAWN: &str =
+    "Base;Draw;Black[7];wS1;bS1 wS1-;wQ /wS1;bQ bS1-;wQ wS1\\;bQ bS1\\;wG1 -wQ;bG1 bS1-;wB1 wG1\\;bB1 bQ-;wA1 -wB1;bA1 bQ\\;wA1 wQ\\";
+
+/// What is asked for: a solution within one ply or two, or a check.
+#[derive(Clone, Copy, Debug)]
+enum Asked {
+    OnePly,
+    TwoPlies,
+    Verify,
+}
+
+/// The numbers, from 1, of the read and of the write that fail (0: none fails).
+#[derive(Clone, Copy, Debug)]
+struct Failing {
+    read: u64,
+    write: u64,
+}
+
+/// No call fails.
+const NONE: Failing = Failing { read: 0, write: 0 };
+
+/// Runs a command in memory, and compares the status and all that was written.
+fn expect_run<R: Abort>(
+    rt: &R,
+    alloc: Global,
+    asked: Asked,
+    input: &[u8],
+    pieces: &[usize],
+    failing: Failing,
+    status: Status,
+    written: &str,
+) -> Result<(), AllocError> {
+    let bytes = Vec::from_slice(alloc, input)?;
+    let reads = Vec::from_slice(alloc, &[failing.read])?;
+    let writes = Vec::from_slice(alloc, &[failing.write])?;
+    let mut source = MemSource::new(bytes, Vec::from_slice(alloc, pieces)?, reads);
+    let mut sink = MemSink::new(alloc, Vec::from_slice(alloc, pieces)?, writes);
+    let ended = match asked {
+        Asked::OnePly => solve::<MemSource, MemSink, FastGame>(alloc, 1, &mut source, &mut sink),
+        Asked::TwoPlies => solve::<MemSource, MemSink, FastGame>(alloc, 2, &mut source, &mut sink),
+        Asked::Verify => verify::<MemSource, MemSink, FastGame>(alloc, &mut source, &mut sink),
+    };
+    assert_eq!(rt;
+        ended,
+        status,
+        "{asked:?}, pieces of {pieces:?}, {failing:?}"
+    );
+    assert_eq!(rt;
+        sink.bytes(),
+        written.as_bytes(),
+        "{asked:?}, pieces of {pieces:?}, {failing:?}"
+    );
+    Ok(())
+}
+
+/// Runs a command, in which no call fails, in pieces of one byte, of seven, and without bound.
+fn expect_answer<R: Abort>(
+    rt: &R,
+    alloc: Global,
+    asked: Asked,
+    input: &[u8],
+    status: Status,
+    written: &str,
+) -> Result<(), AllocError> {
+    for pieces in [[1].as_slice(), [7].as_slice(), [].as_slice()] {
+        expect_run(rt, alloc, asked, input, pieces, NONE, status, written)?;
+    }
+    Ok(())
+}
+
+/// A head for the opening of the base game within two plies, with this answer, and these lines
+/// behind it.
+fn text_of(alloc: Global, answer: &str, rest: &str) -> Result<Vec<u8>, AllocError> {
+    let mut text = Vec::from_slice(alloc, b"hive-solution 1\nBase\nplies 2\nanswer ")?;
+    text.extend_from_slice(answer.as_bytes())?;
+    text.push(b'\n')?;
+    text.extend_from_slice(rest.as_bytes())?;
+    Ok(text)
+}
+
+#[test]
+fn solutions_are_written(rt: HostRuntime) -> Result<(), Fail> {
+    for (asked, written) in [
+        (
+            Asked::OnePly,
+            "hive-solution 1\nBase;NotStarted;White[1]\nplies 1\nanswer no\n",
+        ),
+        (Asked::TwoPlies, OPENING),
+    ] {
+        expect_answer(
+            &rt,
+            rt.alloc(),
+            asked,
+            b"Base\n".as_slice(),
+            Status::Done,
+            written,
+        )?;
+    }
+    Ok(())
+}
+
+#[test]
+fn a_win_is_told_by_one_index(rt: HostRuntime) -> Result<(), Fail> {
+    let mut text = Vec::from_slice(rt.alloc(), b"hive-solution 1\n")?;
+    text.extend_from_slice(WON.as_bytes())?;
+    text.extend_from_slice(b"\nplies 1\nanswer yes\n35\n".as_slice())?;
+    let Ok(written) = str::from_utf8(text.as_slice()) else {
+        return Ok(());
+    };
+    expect_answer(
+        &rt,
+        rt.alloc(),
+        Asked::OnePly,
+        WON.as_bytes(),
+        Status::Done,
+        written,
+    )?;
+    expect_answer(
+        &rt,
+        rt.alloc(),
+        Asked::Verify,
+        text.as_slice(),
+        Status::Done,
+        "accepted\n",
+    )?;
+    Ok(())
+}
+
+#[test]
+fn input_that_is_no_game_is_named(rt: HostRuntime) -> Result<(), Fail> {
+    for (input, written) in [
+        ("", "bad no line\n"),
+        ("Base;NotStarted;White[2]\n", "bad other turn\n"),
+        (DRAWN, "bad game over\n"),
+        ("Base\nBase\n", "bad more lines\n"),
+    ] {
+        expect_answer(
+            &rt,
+            rt.alloc(),
+            Asked::OnePly,
+            input.as_bytes(),
+            Status::BadInput,
+            written,
+        )?;
+    }
+    Ok(())
+}
+
+#[test]
+fn indices_are_checked(rt: HostRuntime) -> Result<(), Fail> {
+    expect_answer(
+        &rt,
+        rt.alloc(),
+        Asked::Verify,
+        OPENING.as_bytes(),
+        Status::Done,
+        "accepted\n",
+    )?;
+    for (answer, rest, status, written) in [
+        ("no", "0\n0\n0\n0", Status::Done, "accepted\n"),
+        ("no", "0\n0\n0\n", Status::Refused, "refused short 3\n"),
+        ("no", "24\n0\n0\n0\n", Status::Refused, "refused index 1\n"),
+        ("no", "0\n0\n0\n0\n0\n", Status::Refused, "refused rest 4\n"),
+        ("yes", "4\n", Status::Refused, "refused index 1\n"),
+        ("yes", "0\n", Status::Refused, "refused leaf 1\n"),
+        ("no", "0\n00\n0\n0\n", Status::BadInput, "bad line 6\n"),
+        ("no", "0\n0\n0\n5488\n", Status::BadInput, "bad line 8\n"),
+        ("maybe", "0\n", Status::BadInput, "bad line 4\n"),
+    ] {
+        let text = text_of(rt.alloc(), answer, rest)?;
+        expect_answer(
+            &rt,
+            rt.alloc(),
+            Asked::Verify,
+            text.as_slice(),
+            status,
+            written,
+        )?;
+    }
+    Ok(())
+}
+
+#[test]
+fn heads_are_checked_line_by_line(rt: HostRuntime) -> Result<(), Fail> {
+    for (input, written) in [
+        ("", "bad line 1\n"),
+        ("hive-solution 2\n", "bad line 1\n"),
+        ("hive-certificate 1\n", "bad line 1\n"),
+        ("hive-solution 1\n", "bad line 2\n"),
+        ("hive-solution 1\nbase\n", "bad malformed part 1\n"),
+        ("hive-solution 1\nBase\nplies 0\n", "bad line 3\n"),
+        (
+            "hive-solution 1\nBase\nplies 17\nanswer no\n",
+            "bad line 3\n",
+        ),
+        ("hive-solution 1\nBase\nplies 16\n", "bad line 4\n"),
+    ] {
+        expect_answer(
+            &rt,
+            rt.alloc(),
+            Asked::Verify,
+            input.as_bytes(),
+            Status::BadInput,
+            written,
+        )?;
+    }
+    Ok(())
+}
+
+#[test]
+fn no_answer_is_about_a_finished_game(rt: HostRuntime) -> Result<(), Fail> {
+    let mut text = Vec::from_slice(rt.alloc(), b"hive-solution 1\n")?;
+    text.extend_from_slice(DRAWN.as_bytes())?;
+    text.extend_from_slice(b"\nplies 1\nanswer no\n".as_slice())?;
+    expect_answer(
+        &rt,
+        rt.alloc(),
+        Asked::Verify,
+        text.as_slice(),
+        Status::BadInput,
+        "bad game over\n",
+    )?;
+    Ok(())
+}
+
+#[test]
+fn a_failed_call_ends_a_run(rt: HostRuntime) -> Result<(), Fail> {
+    let read = Failing { read: 2, write: 0 };
+    let write = Failing { read: 0, write: 2 };
+    for (asked, input, written) in [
+        (Asked::TwoPlies, "Base\n", "hive-so"),
+        (Asked::Verify, OPENING, "accepte"),
+    ] {
+        expect_run(
+            &rt,
+            rt.alloc(),
+            asked,
+            input.as_bytes(),
+            &[1],
+            read,
+            Status::ReadFault,
+            "",
+        )?;
+        expect_run(
+            &rt,
+            rt.alloc(),
+            asked,
+            input.as_bytes(),
+            &[7],
+            write,
+            Status::WriteFault,
+            written,
+        )?;
+    }
+    Ok(())
+}

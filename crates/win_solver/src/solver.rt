@@ -1,0 +1,96 @@
+//! Whether the side to move can force a win, and the indices that show it.
+
+ghost use Rattle.std.specs.Prelude.{◌≡◌, ◌≤◌, IfOk, false};
+ghost use Rattle.io_edge.specs.Outside.{HasCause};
+ghost use Rattle.hive_model.specs.Courses.{position};
+ghost use Rattle.index_writing.specs.Writing.{Wrote, index_lines};
+ghost use Rattle.win_solver.specs.Force.{force};
+ghost use Rattle.win_solver.specs.Solution.{least_solution};
+
+use crate::solutions::answer_limit;
+use deepening::Searcher;
+use hive_model::{Game, MoveStack};
+use index_writing::{Judge, write_indices};
+use io_edge::Sink;
+use std::alloc::{AllocError, Global};
+use std::marker::Model;
+
+/// What is needed to tell forced wins, made once: a search with its table of what was found, and
+/// room for the lists of moves of as many plies as it is prepared for. It is seen as that number of
+/// plies, from 1 to 16.
+#[derive(Drop)]
+pub struct Solver {
+    searcher: Searcher,
+    stack: MoveStack,
+}
+
+impl Model for Solver {
+    ghost use Rattle.std.specs.Prelude.{◌≡◌, ◌≤◌, ℕ};
+
+    ghost Value = { ℕ };
+
+    ghost view = { λ s. s.searcher };
+
+    ghost invariant = { λ s. (s.searcher ≡ s.stack.free) × (s.searcher ≤ 16) };
+}
+
+impl Solver {
+    /// A solver for up to so many plies, from 1 to 16, with a table of at most `entries` positions,
+    /// from 1 to 1,048,576.
+    pub fn prepare(alloc: Global, entries: u32, plies: u32) -> Result<Solver, AllocError>
+        requires entries { 1 ≤ entries }
+        requires few { entries ≤ 1048576 }
+        requires some { 1 ≤ plies }
+        requires short { plies ≤ 16 }
+        ensures { IfOk result (λ s. s ≡ plies) }
+    {
+        let searcher = Searcher::prepare(alloc, entries, plies)?;
+        let stack = MoveStack::new(alloc, plies)?;
+        Ok(Solver { searcher, stack })
+    }
+
+    /// Whether the side to move can force a win within so many plies, up to the prepared number.
+    /// The game has room for as many. Game and solver are as before.
+    pub fn solve<G: Game>(&mut self, game: &mut G, plies: u32) -> bool
+        requires prepared { plies ≤ self.old }
+        requires spare { plies ≤ (G.course game.old).spare }
+        ensures answer { result
+            ≡ force (position (G.course game.old)) plies (position (G.course game.old)).side }
+        ensures game { G.course game.new ≡ G.course game.old }
+        ensures solver { self.new ≡ self.old }
+    {
+        self.searcher.is_kept(game, plies, answer_limit(true))
+    }
+
+    /// Writes the least indices that show whether the side to move can force a win within so many
+    /// plies, up to the prepared number, one a line. The game has room for as many plies. Game and
+    /// solver are as before. The answer is whether all was written.
+    pub fn write_indices<G: Game, K: Sink>(
+        &mut self,
+        game: &mut G,
+        plies: u32,
+        sink: &mut K,
+    ) -> bool
+        requires prepared { plies ≤ self.old }
+        requires spare { plies ≤ (G.course game.old).spare }
+        ensures wrote { Wrote result
+            (index_lines (least_solution (position (G.course game.old)) plies
+            (position (G.course game.old)).side
+            (force (position (G.course game.old)) plies (position (G.course game.old)).side)))
+            (K.written sink.old) (K.written sink.new) }
+        ensures cause { HasCause (result ≡ false)
+            (K.write_faults sink.old) (K.write_faults sink.new) }
+        ensures game { G.course game.new ≡ G.course game.old }
+        ensures solver { self.new ≡ self.old }
+    {
+        let limit = answer_limit(self.solve(game, plies));
+        write_indices(
+            &mut self.searcher,
+            game,
+            plies,
+            limit,
+            &mut self.stack,
+            sink,
+        )
+    }
+}
