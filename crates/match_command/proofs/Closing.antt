@@ -1,0 +1,117 @@
+-- A match that was run over two links, and what is told of it once both are closed.
+use Rattle.std.proofs.Common.{◌≡◌, ◌⊎◌, ℕ, ◌+◌, ◌<◌, List, [], ◌∷◌, ◌++◌, None, Some, Ok, Err, inl, inr, refl, ap, sym, ◌∙◌, arith, append_assoc}
+use Rattle.std.specs.declared.option.Option.{Option}
+use Rattle.std.specs.declared.result.Result.{Result}
+use Rattle.std.specs.Result.{IfOk}
+use Rattle.io_edge.specs.Outside.{Told, ToldLists, Rose, behind}
+use Rattle.hive_model.specs.declared.pieces.Colour.TheVariants.{White, Black}
+use Rattle.match_core.specs.declared.answers.Setup.{Setup}
+use Rattle.match_core.specs.declared.answers.Verdict.{Verdict}
+use Rattle.match_core.specs.Standing.{Standing}
+use Rattle.match_runner.specs.Turns.{Watch}
+use Rattle.match_runner.specs.Runs.{BrokeOnly, HasBroken, IsFrontSent, IsLate}
+use Rattle.match_command.specs.Match.{AreFronts, AreSent, Gains, IsBroke, IsPlayedBy, Means, means, sent_in}
+use Rattle.match_command.specs.Texts.{match_text}
+use Rattle.match_command.specs.Wires.{ClosesTwo, CountsEither, HasFailed, IsFresh, PlayedOver, RanOver, Wire}
+
+-- What was counted
+
+-- a link that has failed has counted it
+failed : (w0 w : Wire) → IsFresh w0.reads w0.writes → HasFailed w0 w → 0 < w.reads + w.writes
+failed w0 w f (inl (inl x)) = omega (arith, x)
+failed w0 w f (inl (inr x)) = omega (arith, x)
+failed w0 w f (inr (inl x)) = omega (arith, x)
+failed w0 w f (inr (inr x)) = omega (arith, x)
+
+-- a side that broke was counted
+broke_counted : {white black rose : Type 0} (t : Standing) → BrokeOnly t white black → (white → rose) → (black → rose) → IsBroke t.verdict → rose
+broke_counted t b w k (White, e) = w (b.white e)
+broke_counted t b w k (Black, e) = k (b.black e)
+
+-- What was sent
+
+some-told : {X : Type 0} {x y : X} → Some x ≡ Some y → x ≡ y
+some-told e = cc
+
+-- two closes append what was written to both
+gains_of : (before after : ToldLists) (w b : Told) (x y : List ℕ) (claim : List ℕ → List ℕ → Type 0) → ClosesTwo before after w b → w ≡ Some x → b ≡ Some y → claim x y → Gains before after claim
+gains_of before None w b x y claim closes e f h = tt
+gains_of None (Some after) w b x y claim (None, c, d) e f h = d
+gains_of None (Some after) w b x y claim (Some mid, c, d) e f h = c
+gains_of (Some before) (Some after) w b x y claim (None, c, d) e f h = absurd d
+gains_of (Some before) (Some after) w b x y claim (Some mid, (p, pe, pm), (q, qe, qm)) e f h =
+    let px : p ≡ x = some-told (sym pe ∙ e) in
+    let qy : q ≡ y = some-told (sym qe ∙ f) in
+    let at : after ≡ (before ++ x ∷ []) ++ y ∷ [] = qm ∙ (ap (λ m. m ++ q ∷ []) pm ∙ (ap (λ p. (before ++ p ∷ []) ++ q ∷ []) px ∙ ap (λ q. (before ++ x ∷ []) ++ q ∷ []) qy)) in (
+      x,
+      y,
+      at ∙ append_assoc before (x ∷ []) (y ∷ []),
+      h,
+    )
+
+-- what was written behind nothing
+from_none : (old new : Told) (bytes : List ℕ) → old ≡ Some [] → new ≡ behind old bytes → new ≡ Some bytes
+from_none old new bytes e f = f ∙ ap (λ o. behind o bytes) e
+
+parts_gained : (setup : Setup) (white black : List ℕ) (before after : ToldLists) (w0 w b0 b : Told) → ClosesTwo before after w b → w0 ≡ Some [] → b0 ≡ Some []
+    → IsFrontSent w0 w (sent_in setup white black White) → IsFrontSent b0 b (sent_in setup white black Black) → Gains before after (AreFronts setup white black)
+parts_gained setup white black before after w0 w b0 b closes e f (x, xe, xf) (y, ye, yf) =
+    gains_of before after w b x y (AreFronts setup white black) closes (from_none w0 w x e xe) (from_none b0 b y f ye) (record { white_got = xf; black_got = yf })
+
+all_gained : (setup : Setup) (white black : List ℕ) (before after : ToldLists) (w0 w b0 b : Told) → ClosesTwo before after w b → w0 ≡ Some [] → b0 ≡ Some []
+    → w ≡ behind w0 (sent_in setup white black White) → b ≡ behind b0 (sent_in setup white black Black) → Gains before after (AreSent setup white black)
+all_gained setup white black before after w0 w b0 b closes e f x y =
+    gains_of before after w b (sent_in setup white black White) (sent_in setup white black Black) (AreSent setup white black) closes (from_none w0 w (sent_in setup white black White) e x) (from_none b0 b (sent_in setup white black Black) f y)
+    (record { white_got = refl; black_got = refl })
+
+-- The verdict
+
+verdict_part : {whole white black rose : Type 0} (v : Option Verdict) → (white → rose) → (black → rose) → whole ⊎ (IsLate v ⊎ (HasBroken v White white ⊎ HasBroken v Black black)) → whole ⊎ (IsLate v ⊎ (IsBroke v × rose))
+verdict_part v w b (inl x) = inl x
+verdict_part v w b (inr (inl x)) = inr (inl x)
+verdict_part v w b (inr (inr (inl x))) = inr (inr ((White, x.0), w x.1))
+verdict_part v w b (inr (inr (inr x))) = inr (inr ((Black, x.0), b x.1))
+
+-- The match
+
+-- by the links' bytes
+played_by_links : (setup : Setup) (t : Standing) (w0 w b0 b : Wire) (r0 r : Watch) (to_come to_come_now sent sent_now : ToldLists) (starts starts_now faults faults_now : ℕ) → RanOver setup t w0 w b0 b r0 r
+    → (HasFailed w0 w → Rose faults faults_now) → (HasFailed b0 b → Rose faults faults_now) → ClosesTwo sent sent_now w.written b.written
+    → (white black : List ℕ) → w0.rest ≡ Some white → b0.rest ≡ Some black → w0.written ≡ Some [] → b0.written ≡ Some []
+    → IsPlayedBy setup white black t (means r0.last r0.readings to_come sent starts faults) (means r.last r.readings to_come_now sent_now starts_now faults_now)
+played_by_links setup t w0 w b0 b r0 r to_come to_come_now sent sent_now starts starts_now faults faults_now ran white_counted black_counted closes white black wr br ww bw = record {
+  part =
+      let f = ran.front white black wr br in record {
+        moves = f.moves;
+        verdict = verdict_part t.verdict white_counted black_counted (ran.verdict white black wr br);
+        gains = parts_gained setup white black sent sent_now w0.written w.written b0.written b.written closes ww bw f.to_white f.to_black;
+      };
+  whole = λ calm in_time.
+      let m = ran.told white black wr br (λ x. calm (white_counted x)) (λ x. calm (black_counted x)) in_time in record {
+        moves = m.moves;
+        verdict = m.verdict;
+        gains = all_gained setup white black sent sent_now w0.written w.written b0.written b.written closes ww bw m.to_white m.to_black;
+      };
+}
+
+-- the match that was run, once both links are closed
+pub played_over : (setup : Setup) (t : Standing) (w0 w b0 b : Wire) (r0 r : Watch) (to_come to_come_now sent sent_now : ToldLists) (starts starts_now faults faults_now : ℕ) → IsFresh w0.reads w0.writes → IsFresh b0.reads b0.writes → RanOver setup t w0 w b0 b r0 r
+    → CountsEither (w.reads + w.writes) (b.reads + b.writes) faults faults_now → ClosesTwo sent sent_now w.written b.written
+    → PlayedOver setup t w0 b0 (means r0.last r0.readings to_come sent starts faults) (means r.last r.readings to_come_now sent_now starts_now faults_now)
+played_over setup t w0 w b0 b r0 r to_come to_come_now sent sent_now starts starts_now faults faults_now wf bf ran counts closes =
+    let white : HasFailed w0 w → Rose faults faults_now = λ x. counts.white (failed w0 w wf x) in
+    let black : HasFailed b0 b → Rose faults faults_now = λ x. counts.black (failed b0 b bf x) in
+    record {
+      judged = ran.judged;
+      same = ran.same;
+      readings = ran.readings;
+      late = ran.late;
+      broke = broke_counted t ran.broke white black;
+      by_links = played_by_links setup t w0 w b0 b r0 r to_come to_come_now sent sent_now starts starts_now faults faults_now ran white black closes;
+    }
+
+-- the text tells the match that was played
+pub told_match : {X : Type 0} (o : Result (List ℕ) X) (setup : Setup) (t : Standing) (w b : Wire) (before after : Means) → IfOk o (λ text. text ≡ match_text setup t) → PlayedOver setup t w b before after
+    → IfOk o (λ text. (t : Standing) × (text ≡ match_text setup t) × PlayedOver setup t w b before after)
+told_match (Ok text) setup t w b before after e p = (t, e, p)
+told_match (Err x) setup t w b before after e p = tt

@@ -1,0 +1,3 @@
+pub mod SameSetup
+pub mod Closing
+pub mod Starting

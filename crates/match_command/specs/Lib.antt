@@ -1,0 +1,4 @@
+pub mod Texts
+pub mod Match
+pub mod Wires
+pub mod Laws

@@ -1,0 +1,194 @@
+-- What a match of two programs writes, plays, sends and counts, by the status with which it ends.
+use Rattle.std.specs.Prelude.{◌≡◌, ◌⊎◌, ℕ, ◌+◌, ◌*◌, ◌<◌, ◌≤◌, List, [], ◌∷◌, ◌++◌, length, take, Option, Some, None}
+use Rattle.io_edge.specs.Outside.{Told, ToldLists, Collects, Rose, behind}
+use Rattle.hive_model.specs.declared.pieces.Colour.{Colour}
+use Rattle.hive_model.specs.declared.pieces.Colour.TheVariants.{White, Black}
+use Rattle.hive_model.specs.Lines.{lines}
+use Rattle.command_runs.specs.declared.status.Status.{Status}
+use Rattle.command_runs.specs.declared.status.Status.TheVariants.{Done, Refused, Usage, ReadFault, WriteFault, SpawnFault, BadInput, Memory, InputFull}
+use Rattle.match_core.specs.declared.answers.Setup.{Setup}
+use Rattle.match_core.specs.declared.answers.Cause.TheVariants.{Broke}
+use Rattle.match_core.specs.declared.answers.Verdict.{Verdict}
+use Rattle.match_core.specs.declared.answers.Verdict.TheVariants.{Forfeit}
+use Rattle.match_core.specs.Standing.{Standing, start, match_after}
+use Rattle.match_core.specs.Fairness.{sent}
+use Rattle.match_core.specs.Plays.{joined, match_of}
+use Rattle.match_core.specs.Feeds.{IsFront}
+use Rattle.match_runner.specs.Runs.{IsJudged, IsLate, LateIn}
+use Rattle.match_command.specs.Texts.{match_text}
+
+-- What a run can change
+
+-- what a match is played with: the clock's last reading and how often it was read; what the
+-- programs to come will say and what was written to those that were closed, where it is told; how
+-- often a start failed, and how many closed programs had failed
+pub record Means : Type 0 where
+  pub last : ℕ
+  pub readings : ℕ
+  pub to_come : ToldLists
+  pub sent : ToldLists
+  pub start_faults : ℕ
+  pub engine_faults : ℕ
+
+abbrev pub means : ℕ → ℕ → ToldLists → ToldLists → ℕ → ℕ → Means
+means last readings to_come sent start_faults engine_faults = record {
+  last = last;
+  readings = readings;
+  to_come = to_come;
+  sent = sent;
+  start_faults = start_faults;
+  engine_faults = engine_faults;
+}
+
+-- all that a run can change: what was written, and what the match is played with
+pub record Scene : Type 0 where
+  pub written : Told
+  pub means : Means
+
+abbrev pub scene : Told → Means → Scene
+scene written means = record { written = written; means = means }
+
+-- The match of two programs
+
+-- how it stands at its end where they say this
+abbrev pub end_of : Setup → List ℕ → List ℕ → Standing
+end_of setup white black = match_after setup (match_of setup (lines white) (lines black))
+
+-- the bytes that are sent to a side in it
+abbrev pub sent_in : Setup → List ℕ → List ℕ → Colour → List ℕ
+sent_in setup white black side =
+    joined (sent (start setup) (match_of setup (lines white) (lines black)) side)
+
+-- What was played
+
+-- a side broke
+abbrev pub IsBroke : Option Verdict → Type 0
+IsBroke verdict = (side : Colour) × (verdict ≡ Some (Forfeit side Broke))
+
+-- where it is told after the run what was sent, it gained just two items: what white's program got,
+-- and then what black's got
+abbrev pub Gains : ToldLists → ToldLists → (List ℕ → List ℕ → Type 0) → Type 0
+Gains before None claim = Unit {0}
+Gains None (Some after) claim = ⊥
+Gains (Some before) (Some after) claim =
+    (white : List ℕ)
+    × (black : List ℕ)
+    × (after ≡ before ++ white ∷ (black ∷ []))
+    × claim white black
+
+-- what each program got is all that it is sent in their match
+pub record AreSent (setup : Setup) (white black to_white to_black : List ℕ) : Type 0 where
+  pub white_got : to_white ≡ sent_in setup white black White
+  pub black_got : to_black ≡ sent_in setup white black Black
+
+-- what each program got is a front of what it is sent in their match
+pub record AreFronts (setup : Setup) (white black to_white to_black : List ℕ) : Type 0 where
+  pub white_got : IsFront to_white (sent_in setup white black White)
+  pub black_got : IsFront to_black (sent_in setup white black Black)
+
+-- moves, verdict and bytes sent are those of the match of these programs
+pub record IsWhole
+    (setup : Setup) (white black : List ℕ) (t : Standing) (before after : Means) : Type 0 where
+  pub moves : t.moves ≡ (end_of setup white black).moves
+  pub verdict : t.verdict ≡ (end_of setup white black).verdict
+  pub gains : Gains before.sent after.sent (AreSent setup white black)
+
+-- the verdict is this, or an answer was late, or a side broke and a program's failure was counted
+abbrev pub IsVerdict : Option Verdict → Option Verdict → Means → Means → Type 0
+IsVerdict full verdict before after =
+    (verdict ≡ full)
+    ⊎ (IsLate verdict
+    ⊎ (IsBroke verdict × Rose before.engine_faults after.engine_faults))
+
+-- moves and bytes sent are the first ones of the match of these programs, and the verdict is its
+-- verdict, or an answer was late, or a side broke
+pub record IsPart
+    (setup : Setup) (white black : List ℕ) (t : Standing) (before after : Means) : Type 0 where
+  pub moves : IsFront t.moves (end_of setup white black).moves
+  pub verdict : IsVerdict (end_of setup white black).verdict t.verdict before after
+  pub gains : Gains before.sent after.sent (AreFronts setup white black)
+
+-- what was played and sent where the two programs say this: always a part of their match, and the
+-- whole of it where no program's failure was counted and no answer was late
+pub record IsPlayedBy
+    (setup : Setup) (white black : List ℕ) (t : Standing) (before after : Means) : Type 0 where
+  pub part : IsPart setup white black t before after
+  pub whole :
+      ¬ Rose before.engine_faults after.engine_faults
+      → ¬ IsLate t.verdict
+      → IsWhole setup white black t before after
+
+-- of the programs to come the first two were started, as white and as black, and played; no others
+-- were started
+pub record StartsTwoOf
+    (all : List (List ℕ)) (setup : Setup) (t : Standing) (before after : Means) : Type 0 where
+  pub white : List ℕ
+  pub black : List ℕ
+  pub others : List (List ℕ)
+  pub first_two : all ≡ white ∷ (black ∷ others)
+  pub left : after.to_come ≡ Some others
+  pub played : IsPlayedBy setup white black t before after
+
+-- a match was played to its verdict, and stands so
+pub record Played (setup : Setup) (t : Standing) (before after : Means) : Type 0 where
+  pub judged : IsJudged t
+  pub same : t.setup ≡ setup
+  pub readings : after.readings ≤ before.readings + (2 * length t.moves + 2)
+  pub late : LateIn t.verdict before.last after.last
+  pub broke : IsBroke t.verdict → Rose before.engine_faults after.engine_faults
+  pub programs :
+      (all : List (List ℕ))
+      → before.to_come ≡ Some all
+      → StartsTwoOf all setup t before after
+
+-- The run
+
+-- the two lines of a match that was played were written
+pub record Tells (setup : Setup) (t : Standing) (before after : Scene) : Type 0 where
+  pub played : Played setup t before.means after.means
+  pub wrote : after.written ≡ behind before.written (match_text setup t)
+
+-- of the two lines of a match that was played the first n bytes were written, and not all
+pub record TellsPart (setup : Setup) (t : Standing) (n : ℕ) (before after : Scene) : Type 0 where
+  pub played : Played setup t before.means after.means
+  pub cut : n < length (match_text setup t)
+  pub wrote : after.written ≡ behind before.written (take n (match_text setup t))
+
+-- where it is told what was to come, no program got a byte: none was closed, or one to which
+-- nothing was written
+abbrev pub SendsNothing : ToldLists → ToldLists → ToldLists → Type 0
+SendsNothing to_come sent sent_now =
+    (coming : List (List ℕ))
+    → to_come ≡ Some coming
+    → (sent_now ≡ sent) ⊎ Collects sent sent_now (Some [])
+
+-- no match was begun: nothing was written, no program got a byte, and the clock was not read
+pub record NotBegun (before after : Scene) : Type 0 where
+  pub written : after.written ≡ before.written
+  pub unsent : SendsNothing before.means.to_come before.means.sent after.means.sent
+  pub last : after.means.last ≡ before.means.last
+  pub readings : after.means.readings ≡ before.means.readings
+
+-- What was written and played where a match of two programs ends with this status. Where memory is
+-- wanting nothing was written. Five statuses are not its own.
+abbrev pub MatchRun : Setup → Status → Scene → Scene → Type 0
+MatchRun setup Done before after = (t : Standing) × Tells setup t before after
+MatchRun setup WriteFault before after = (t : Standing) × (n : ℕ) × TellsPart setup t n before after
+MatchRun setup SpawnFault before after = NotBegun before after
+MatchRun setup Memory before after = after.written ≡ before.written
+MatchRun setup Refused before after = ⊥
+MatchRun setup Usage before after = ⊥
+MatchRun setup ReadFault before after = ⊥
+MatchRun setup BadInput before after = ⊥
+MatchRun setup InputFull before after = ⊥
+
+-- no program that was started is left open: where it is told, as many were closed as were taken
+-- from those to come
+abbrev pub NoneIsOpen : Means → Means → Type 0
+NoneIsOpen before after =
+    (coming later opened closed : List (List ℕ))
+    → before.to_come ≡ Some coming
+    → after.to_come ≡ Some later
+    → before.sent ≡ Some opened
+    → after.sent ≡ Some closed
+    → length coming + length opened ≡ length later + length closed

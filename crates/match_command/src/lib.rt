@@ -1,0 +1,13 @@
+//! A match of two programs, from their start to the two lines that tell it.
+#![tactic(auto)]
+
+mod engines;
+mod laws;
+mod playing;
+mod texts;
+
+pub use laws::matches_are_done;
+pub use playing::play_match;
+
+#[cfg(test)]
+mod tests;

@@ -1,0 +1,165 @@
+//! The command: both programs are started, the match is played, and its two lines are written.
+ghost use Rattle.std.specs.Prelude.{◌≡◌, ◌<◌, ◌≤◌, length, IfOk, IsErrOf};
+ghost use Rattle.io_edge.specs.Outside.{HasCause, Told};
+ghost use Rattle.match_core.specs.Keeps.{IsSetup};
+ghost use Rattle.match_core.specs.Standing.{Standing};
+ghost use Rattle.match_command.specs.Texts.{match_text};
+ghost use Rattle.match_command.specs.Match.{MatchRun, NoneIsOpen, Played, SendsNothing, means, scene};
+ghost use Rattle.match_command.specs.Wires.{wire, ClosesTwo, IsFresh, PlayedOver};
+
+use crate::engines::{close_both, run_over, start_both};
+use crate::texts::tell_match;
+use command_runs::Status;
+use hive_model::{Game, ReplyText};
+use io_edge::{Clock, Sink, Spawner, StartFault, write_all};
+use match_core::{Referee, Setup};
+use std::alloc::{AllocError, Global};
+
+/// Plays a match of two programs that were started, and closes both, white's first: the two lines
+/// that tell it.
+fn play_and_close<P: Spawner, C: Clock, G: Game + Drop>(
+    alloc: Global,
+    mut white: P::Engine,
+    mut black: P::Engine,
+    setup: Setup,
+    clock: &mut C,
+    spawner: &mut P,
+) -> Result<ReplyText, AllocError>
+    requires setup { IsSetup setup }
+    requires white_fresh { IsFresh (P.Engine.read_faults white) (P.Engine.write_faults white) }
+    requires black_fresh { IsFresh (P.Engine.read_faults black) (P.Engine.write_faults black) }
+    ensures played { IfOk result (λ text. (t : Standing)
+        × (text ≡ match_text setup t)
+        × PlayedOver setup t
+        (wire (P.Engine.rest white) (P.Engine.written white)
+        (P.Engine.read_faults white) (P.Engine.write_faults white))
+        (wire (P.Engine.rest black) (P.Engine.written black)
+        (P.Engine.read_faults black) (P.Engine.write_faults black))
+        (means (C.last clock.old) (C.readings clock.old)
+        (P.to_come spawner.old) (P.sent spawner.old)
+        (P.start_faults spawner.old) (P.engine_faults spawner.old))
+        (means (C.last clock.new) (C.readings clock.new)
+        (P.to_come spawner.new) (P.sent spawner.new)
+        (P.start_faults spawner.new) (P.engine_faults spawner.new))) }
+    ensures closes { (w : Told) × (b : Told)
+        × ClosesTwo (P.sent spawner.old) (P.sent spawner.new) w b }
+    ensures starts { P.start_faults spawner.new ≡ P.start_faults spawner.old }
+    ensures to_come { P.to_come spawner.new ≡ P.to_come spawner.old }
+    ensures later { C.last clock.old ≤ C.last clock.new }
+{
+    let referee: Result<Referee<G>, AllocError> = run_over(
+        alloc, &mut white, &mut black, clock, setup,
+    );
+    close_both(white, black, spawner);
+    match referee {
+        Ok(referee) => tell_match(alloc, setup, &referee),
+        Err(fault) => Err(fault),
+    }
+}
+
+/// Starts both programs, plays their match and closes them: the two lines that tell it. For want of
+/// memory `Memory` is answered, wherever it was wanting.
+fn play<P: Spawner, C: Clock, G: Game + Drop>(
+    alloc: Global,
+    white: &[String],
+    black: &[String],
+    setup: Setup,
+    clock: &mut C,
+    spawner: &mut P,
+) -> Result<ReplyText, StartFault>
+    requires setup { IsSetup setup }
+    requires white_some { 0 < length white.now }
+    requires black_some { 0 < length black.now }
+    ensures played { IfOk result (λ text. (t : Standing)
+        × (text ≡ match_text setup t)
+        × Played setup t
+        (means (C.last clock.old) (C.readings clock.old)
+        (P.to_come spawner.old) (P.sent spawner.old)
+        (P.start_faults spawner.old) (P.engine_faults spawner.old))
+        (means (C.last clock.new) (C.readings clock.new)
+        (P.to_come spawner.new) (P.sent spawner.new)
+        (P.start_faults spawner.new) (P.engine_faults spawner.new))) }
+    ensures closed { NoneIsOpen
+        (means (C.last clock.old) (C.readings clock.old)
+        (P.to_come spawner.old) (P.sent spawner.old)
+        (P.start_faults spawner.old) (P.engine_faults spawner.old))
+        (means (C.last clock.new) (C.readings clock.new)
+        (P.to_come spawner.new) (P.sent spawner.new)
+        (P.start_faults spawner.new) (P.engine_faults spawner.new)) }
+    ensures unsent { IsErrOf result StartFault.Failed → SendsNothing
+        (P.to_come spawner.old) (P.sent spawner.old) (P.sent spawner.new) }
+    ensures unread { IsErrOf result StartFault.Failed → clock.new ≡ clock.old }
+    ensures cause { HasCause (IsErrOf result StartFault.Failed)
+        (P.start_faults spawner.old) (P.start_faults spawner.new) }
+    ensures later { C.last clock.old ≤ C.last clock.new }
+{
+    match start_both(white, black, spawner) {
+        Ok((white, black)) => {
+            match play_and_close::<P, C, G>(alloc, white, black, setup, clock, spawner) {
+                Ok(text) => Ok(text),
+                Err(_) => Err(StartFault::Memory),
+            }
+        }
+        Err(fault) => Err(fault),
+    }
+}
+
+/// Plays a match of two programs and tells it.
+///
+/// White's program is started, then black's: each is the one that the first word names, with the
+/// other words as its arguments. The match is run to its verdict, white's engine is closed, then
+/// black's, and two lines are written: the game string of the moves that were played, and the
+/// verdict. Each engine that was started is closed before the call returns, whatever happens.
+///
+/// A setup has a limit of 1 to 1,000 plies. It has a depth from 1 to 64, or a time of whole seconds
+/// below 100 hours and a margin of at most an hour. Each list of words has at least one.
+///
+/// `Done` says that both lines were written. `WriteFault` says that a write has failed: of the two
+/// lines only a front, and not all, was written. `SpawnFault` says that a program did not start,
+/// and `Memory` that memory was wanting: nothing was written. No other status is answered.
+pub fn play_match<P: Spawner, K: Sink, C: Clock, G: Game + Drop>(
+    alloc: Global,
+    white: &[String],
+    black: &[String],
+    setup: Setup,
+    output: &mut K,
+    clock: &mut C,
+    spawner: &mut P,
+) -> Status
+    requires setup { IsSetup setup }
+    requires white_some { 0 < length white.now }
+    requires black_some { 0 < length black.now }
+    ensures run { MatchRun setup result
+        (scene (K.written output.old)
+        (means (C.last clock.old) (C.readings clock.old)
+        (P.to_come spawner.old) (P.sent spawner.old)
+        (P.start_faults spawner.old) (P.engine_faults spawner.old)))
+        (scene (K.written output.new)
+        (means (C.last clock.new) (C.readings clock.new)
+        (P.to_come spawner.new) (P.sent spawner.new)
+        (P.start_faults spawner.new) (P.engine_faults spawner.new))) }
+    ensures closed { NoneIsOpen
+        (means (C.last clock.old) (C.readings clock.old)
+        (P.to_come spawner.old) (P.sent spawner.old)
+        (P.start_faults spawner.old) (P.engine_faults spawner.old))
+        (means (C.last clock.new) (C.readings clock.new)
+        (P.to_come spawner.new) (P.sent spawner.new)
+        (P.start_faults spawner.new) (P.engine_faults spawner.new)) }
+    ensures writes { HasCause (result ≡ Status.WriteFault)
+        (K.write_faults output.old) (K.write_faults output.new) }
+    ensures starts { HasCause (result ≡ Status.SpawnFault)
+        (P.start_faults spawner.old) (P.start_faults spawner.new) }
+    ensures later { C.last clock.old ≤ C.last clock.new }
+{
+    match play::<P, C, G>(alloc, white, black, setup, clock, spawner) {
+        Ok(text) => {
+            if write_all(output, text.items()) {
+                Status::Done
+            } else {
+                Status::WriteFault
+            }
+        }
+        Err(StartFault::Failed) => Status::SpawnFault,
+        Err(StartFault::Memory) => Status::Memory,
+    }
+}
