@@ -1,8 +1,8 @@
 -- What is said on standard error.
 use Rattle.std.specs.Prelude.{ℕ, List, codes, None, Some}
 use Rattle.std.specs.declared.option.Option.{Option}
-use Rattle.hive_cli.specs.declared.status.Status.{Status}
-use Rattle.hive_cli.specs.declared.status.Status.TheVariants.{Done, Refused, Usage, ReadFault, WriteFault, SpawnFault, BadInput, Memory, InputFull}
+use Rattle.command_runs.specs.declared.status.Status.{Status}
+use Rattle.command_runs.specs.declared.status.Status.TheVariants.{Done, Refused, Usage, ReadFault, WriteFault, SpawnFault, BadInput, Memory, InputFull}
 
 -- the line that says why a run with this status could not be done, or none where it was
 abbrev pub complaint : Status → Option (List ℕ)

@@ -4,7 +4,7 @@
 #![tactic(auto)]
 
 ghost use Rattle.std.specs.Prelude.{◌≡◌, ◌≢◌, ◌⊎◌, drop, map, option_map, string_bytes};
-ghost use Rattle.hive_cli.specs.Words.{AreOfNoCommand, TakeOption};
+ghost use Rattle.command_words.specs.Words.{AreOfNoCommand, TakeOption};
 ghost use Rattle.hive.specs.Complaints.{complaint};
 
 mod engines;
@@ -17,12 +17,13 @@ mod system_tests;
 mod tests;
 
 use hive_cli::{Status, run};
-use io_edge::{MemSpawner, StepClock};
+use machine_clock::MachineClock;
+use programs::Programs;
 use std::env::Env;
 use std::io::ErrorKind;
-use std::process::ExitCode;
+use std::process::{ExitCode, Processes};
 use std::thread::Threads;
-use std::{env, io};
+use std::{env, io, time};
 use streams::{InputStream, OutputStream};
 
 /// The status of a run whose words cannot be had: memory is wanting, or a word is not UTF-8.
@@ -53,8 +54,8 @@ fn words<R: Env + AllocGlobal>(rt: &R) -> Result<Vec<String>, Status> {
     Ok(without_name(words))
 }
 
-/// Runs over standard input and output, with no engine to start.
-fn run_on_streams<R: Input + Print + AllocGlobal + Threads + Sync>(
+/// Runs over standard input and output, the machine's clock, and programs of the system.
+fn run_on_streams<R: Input + Print + AllocGlobal + Threads + Sync + time::Clock + Processes>(
     rt: &R,
     words: &[String],
 ) -> Status
@@ -64,8 +65,8 @@ fn run_on_streams<R: Input + Print + AllocGlobal + Threads + Sync>(
 {
     let mut input = InputStream::new(rt.reader());
     let mut output = OutputStream::new(io::writer(rt));
-    let mut clock = StepClock::new(0, 1);
-    let mut spawner = MemSpawner::new(rt.alloc(), Vec::new(rt.alloc()), Vec::new(rt.alloc()));
+    let mut clock = MachineClock::new(rt);
+    let mut spawner = Programs::new(rt, rt.alloc());
     let outcome = run(
         rt,
         rt.alloc(),

@@ -1,24 +1,19 @@
 -- The counts written so far, and how a count ends.
-use Rattle.std.proofs.Common.{◌≡◌, ◌≤◌, ◌<◌, ◌⊎◌, ℕ, zero, suc, ◌+◌, ◌-◌, List, [], ◌∷◌, ◌++◌, length, take, ap, sym, ◌∙◌, subst, inl, inr, arith, add-zero, append_assoc, length-append}
-use Rattle.std.specs.Prelude.{Result, Ok, Err}
+use Rattle.std.proofs.Common.{◌≡◌, ◌≤◌, ◌<◌, ℕ, zero, suc, ◌+◌, ◌-◌, List, [], ◌∷◌, ◌++◌, length, take, ap, sym, ◌∙◌, subst, arith, add-zero, append_assoc, length-append}
 use Rattle.std.proofs.lemmas.List.{append-nil, take-append-le}
 use Rattle.io_edge.specs.Outside.{Told, behind}
 use Rattle.hive_model.specs.Courses.{Course, position}
-use Rattle.hive_model.specs.Lines.{Line, lines}
 use Rattle.hive_model.specs.Minimax.{lines as lines_of_play}
-use Rattle.hive_model.specs.Positions.{Position, opening}
-use Rattle.hive_model.specs.Games.{replay}
+use Rattle.hive_model.specs.Positions.{Position}
 use Rattle.game_text.specs.declared.parsed.Parsed.{Parsed}
-use Rattle.hive_cli.specs.Input.{Sides, WhereTold}
-use Rattle.hive_cli.specs.OneGame.{IsAsked, and_no_more, asked, last_position, game_in}
-use Rattle.hive_cli.specs.Asking.{IsReplayOf, IsNoGame}
-use Rattle.hive_cli.specs.Count.{CountRun, WritesAs, TellsNone, count_line, count_line_of, count_text}
-use Rattle.hive_cli.specs.declared.status.Status.{Status}
-use Rattle.hive_cli.specs.declared.status.Status.TheVariants.{Done, BadInput, Memory}
-use Rattle.hive_cli.specs.declared.no_game.NoGame.{NoGame}
-use Rattle.hive_cli.specs.declared.no_game.NoGame.TheVariants.{Bad, ReadFault as NoRead, InputFull as TooMuch, Memory as NoMemory}
-use Rattle.hive_cli.proofs.OneGameLemmas.{all_were_read}
-use Rattle.hive_cli.proofs.ReplyLemmas.{on_written}
+use Rattle.command_runs.specs.Input.{Sides, WhereTold}
+use Rattle.command_runs.specs.OneGame.{IsAsked}
+use Rattle.command_runs.specs.Asking.{IsReplayOf}
+use Rattle.command_runs.specs.GameRun.{WritesAnswer}
+use Rattle.command_runs.specs.declared.status.Status.{Status}
+use Rattle.command_runs.proofs.WrittenLemmas.{on_written}
+use Rattle.command_runs.proofs.GameRunLemmas.{end_is, game_run}
+use Rattle.hive_cli.specs.Count.{CountRun, count_line, count_line_of, count_text, counts_of}
 
 -- The lines
 
@@ -71,47 +66,8 @@ count_cut p n plies lists line w0 w1 w2 low high is count before (k, less, wrote
 
 -- The run
 
--- the input was bad
-bad_run : (plies : ℕ) (status : Status) (before after : Sides) (text : List ℕ) → WhereTold before.rest (λ input. IsNoGame (Bad text) input after.rest)
-    → WritesAs text BadInput status before.written after.written → CountRun plies status before after
-bad_run plies status before after text none (inl (e, wrote)) = subst (λ s. CountRun plies s before after) (sym e) (λ input told.
-    let (why, bad, is) = none input told in (why, record { bad = bad; wrote = wrote ∙ ap (behind before.written) is }))
-bad_run plies status before after text none (inr (e, (n, less, wrote))) = subst (λ s. CountRun plies s before after) (sym e) (λ input told.
-    let (why, bad, is) = none input told in (text, n, record { is_text = inl (why, bad, is); cut = less; wrote = wrote }))
-
--- the input was not one game
-pub none_run : (plies : ℕ) (none : NoGame) (status : Status) (before after : Sides) → WhereTold before.rest (λ input. IsNoGame none input after.rest) → TellsNone none status before.written after.written
-    → CountRun plies status before after
-none_run plies (Bad text) status before after none told = bad_run plies status before after text none told
-none_run plies NoRead status before after none (e, same) = subst (λ s. CountRun plies s before after) (sym e) (same, none)
-none_run plies TooMuch status before after none (e, same) = subst (λ s. CountRun plies s before after) (sym e) (same, none)
-none_run plies NoMemory status before after none (e, same) = subst (λ s. CountRun plies s before after) (sym e) (same, none)
-
-more_lines : (r : Result Parsed (List ℕ)) (line : Line) (others : List Line) (game : Parsed) → and_no_more r (line ∷ others) ≡ Ok game → ⊥
-more_lines (Ok other) line others game e = cc
-more_lines (Err why) line others game e = cc
-
--- a game is asked for by one line
-asked_by_one : (ls : List Line) (game : Parsed) → asked ls ≡ Ok game → length ls ≤ 2
-asked_by_one [] game e = omega arith
-asked_by_one (line ∷ []) game e = omega arith
-asked_by_one (line ∷ (other ∷ others)) game e = absurd (more_lines (game_in line) other others game e)
-
-end_is : (c : Course) (game : Parsed) → IsReplayOf c game → position c ≡ last_position game
-end_is c game end = λ j. replay (opening (end.kind j)) (end.made j)
-
--- the input was one game
+-- the input was one game, and its counts were written
 pub counts_run : (plies : ℕ) (status : Status) (before after : Sides) (c : Course) → WhereTold before.rest (λ input. (game : Parsed) × IsAsked input after.rest game × IsReplayOf c game)
-    → ((status ≡ Memory) × (after.written ≡ before.written)) ⊎ WritesAs (count_text (position c) plies) Done status before.written after.written → CountRun plies status before after
-counts_run plies status before after c given (inl (e, same)) = subst (λ s. CountRun plies s before after) (sym e) (
-  same,
-  λ input told. let (game, is, end) = given input told in (lines input, all_were_read is.over, asked_by_one (lines input) game is.asks),
-)
-counts_run plies status before after c given (inr (inl (e, wrote))) = subst (λ s. CountRun plies s before after) (sym e) (λ input told.
-    let (game, is, end) = given input told in (game, record { is_asked = is; wrote = wrote ∙ ap (λ p. behind before.written (count_text p plies)) (end_is c game end) }))
-counts_run plies status before after c given (inr (inr (e, (n, less, wrote)))) = subst (λ s. CountRun plies s before after) (sym e) (λ input told.
-    let (game, is, end) = given input told in (
-      count_text (position c) plies,
-      n,
-      record { is_text = inr (game, is, ap (λ p. count_text p plies) (end_is c game end)); cut = less; wrote = wrote },
-    ))
+    → WritesAnswer (count_text (position c) plies) status before.written after.written → CountRun plies status before after
+counts_run plies status before after c given told =
+    game_run (counts_of plies) status before after c (count_text (position c) plies) given (λ game end. ap (λ p. count_text p plies) (end_is c game end)) told

@@ -4,14 +4,14 @@ use Rattle.std.specs.List.{list_any}
 use Rattle.io_edge.specs.Outside.{HasCause, Rose}
 use Rattle.hive_model.specs.Lines.{Line, lines}
 use Rattle.line_feed.specs.Feed.{input_limit}
-use Rattle.hive_cli.specs.Input.{Sides}
-use Rattle.hive_cli.specs.Service.{HasExit, Service, joined, last_of, output, replies}
-use Rattle.hive_cli.specs.ServiceRun.{ServiceRun}
+use Rattle.hive_cli.specs.Times.{depths}
+use Rattle.hive_cli.specs.Service.{HasExit, Service, joined, last_of, replies, searches}
+use Rattle.hive_cli.specs.ServiceRun.{EndsAs, Scene}
 use Rattle.hive_cli.specs.Session.{session}
-use Rattle.hive_cli.specs.Replay.{answers, refuses, replay_answer, replays, some_refused}
+use Rattle.hive_cli.specs.Replay.{refuses, replay_answer, replays}
 use Rattle.hive_cli.specs.Laws.{Replays, ReplaysAreDone, SessionsAreDone}
-use Rattle.hive_cli.specs.declared.status.Status.{Status}
-use Rattle.hive_cli.specs.declared.status.Status.TheVariants.{Done, Refused, Usage, ReadFault, WriteFault, SpawnFault, BadInput, Memory, InputFull}
+use Rattle.command_runs.specs.declared.status.Status.{Status}
+use Rattle.command_runs.specs.declared.status.Status.TheVariants.{Done, Refused, Usage, ReadFault, WriteFault, SpawnFault, BadInput, Memory, InputFull}
 
 -- Services
 
@@ -25,33 +25,33 @@ not_full input bytes left split full below =
     omega (arith, e, full, below)
 
 -- the run of a service that refuses no line of an input below the limit
-pub service_is_done : {S : Type 0} (v : Service S) (status : Status) (before after : Sides) → ServiceRun v status before after
+ends_done : {S : Type 0} (v : Service S) (status : Status) (before after : Scene) → EndsAs v status before after
     → (reads_before reads_after : ℕ) → HasCause (status ≡ ReadFault) reads_before reads_after → ¬ Rose reads_before reads_after
     → (writes_before writes_after : ℕ) → HasCause (status ≡ WriteFault) writes_before writes_after → ¬ Rose writes_before writes_after
-    → (input : List ℕ) → before.rest ≡ Some input → length input < input_limit → v.has_refused (last_of v v.begins (lines input)) ≡ false
+    → (input : List ℕ) → before.sides.rest ≡ Some input → length input < input_limit → ((left : List ℕ) → v.has_refused (last_of v v.begins left (lines input)) ≡ false)
     → (status ≡ Done) ⊎ (status ≡ Memory)
-service_is_done v Done before after run rb ra rc rn wb wa wc wn input told below none = inl refl
-service_is_done v Memory before after run rb ra rc rn wb wa wc wn input told below none = inr refl
-service_is_done v Refused before after (last, refused, ends) rb ra rc rn wb wa wc wn input told below none =
-    absurd (both (v.has_refused last) refused (ap v.has_refused (sym (ends input told).stands) ∙ none))
-service_is_done v ReadFault before after run rb ra rc rn wb wa wc wn input told below none = absurd (rn (rc.rose refl))
-service_is_done v WriteFault before after run rb ra rc rn wb wa wc wn input told below none = absurd (wn (wc.rose refl))
-service_is_done v InputFull before after run rb ra rc rn wb wa wc wn input told below none =
-    let (bytes, left, full, wrote) = run input told in absurd (not_full input bytes left wrote.was_read.split full below)
-service_is_done v Usage before after run rb ra rc rn wb wa wc wn input told below none = absurd run
-service_is_done v SpawnFault before after run rb ra rc rn wb wa wc wn input told below none = absurd run
-service_is_done v BadInput before after run rb ra rc rn wb wa wc wn input told below none = absurd run
+ends_done v Done before after run rb ra rc rn wb wa wc wn input told below none = inl refl
+ends_done v Memory before after run rb ra rc rn wb wa wc wn input told below none = inr refl
+ends_done v Refused before after (last, refused, ends) rb ra rc rn wb wa wc wn input told below none =
+    let (entries, wrote) = ends input told in absurd (both (v.has_refused last) refused (ap v.has_refused (sym wrote.stands) ∙ none (depths entries)))
+ends_done v ReadFault before after run rb ra rc rn wb wa wc wn input told below none = absurd (rn (rc.rose refl))
+ends_done v WriteFault before after run rb ra rc rn wb wa wc wn input told below none = absurd (wn (wc.rose refl))
+ends_done v InputFull before after run rb ra rc rn wb wa wc wn input told below none =
+    let (entries, bytes, left, full, wrote) = run input told in absurd (not_full input bytes left wrote.was_read.split full below)
+ends_done v Usage before after run rb ra rc rn wb wa wc wn input told below none = absurd run
+ends_done v SpawnFault before after run rb ra rc rn wb wa wc wn input told below none = absurd run
+ends_done v BadInput before after run rb ra rc rn wb wa wc wn input told below none = absurd run
 
 pub sessions_done : SessionsAreDone
 sessions_done = λ status before after run rb ra rc rn wb wa wc wn input told below.
-    service_is_done session status before after run rb ra rc rn wb wa wc wn input told below refl
+    ends_done session status before after run.ends rb ra rc rn wb wa wc wn input told below (λ left. refl)
 
 -- Replays
 
 -- the replies to lines are their answers
-replay_replies : (b : Bool) (ls : List Line) → replies replays b ls ≡ map replay_answer ls
-replay_replies b [] = refl
-replay_replies b (line ∷ ls) = ap (λ ts. replay_answer line ∷ ts) (replay_replies (b || refuses line) ls)
+replay_replies : (b : Bool) (left : List ℕ) (ls : List Line) → replies replays b left ls ≡ map replay_answer ls
+replay_replies b left [] = refl
+replay_replies b left (line ∷ ls) = ap (λ ts. replay_answer line ∷ ts) (replay_replies (b || refuses line) left ls)
 
 or_false : (b : Bool) → b ≡ (b || false)
 or_false true = refl
@@ -62,22 +62,28 @@ or_or true b c = refl
 or_or false b c = refl
 
 -- a line was refused before, or is among these
-replay_last : (b : Bool) (ls : List Line) → last_of replays b ls ≡ (b || list_any refuses ls)
-replay_last b [] = or_false b
-replay_last b (line ∷ ls) = replay_last (b || refuses line) ls ∙ or_or b (refuses line) (list_any refuses ls)
+replay_last : (b : Bool) (left : List ℕ) (ls : List Line) → last_of replays b left ls ≡ (b || list_any refuses ls)
+replay_last b left [] = or_false b
+replay_last b left (line ∷ ls) = replay_last (b || refuses line) left ls ∙ or_or b (refuses line) (list_any refuses ls)
 
 -- no line ends a replay
-replay_open : (b : Bool) (ls : List Line) → ¬ HasExit replays b ls
-replay_open b [] = λ h. h
-replay_open b (line ∷ ls) = replay_open (b || refuses line) ls
+replay_open : (b : Bool) (left : List ℕ) (ls : List Line) → ¬ HasExit replays b left ls
+replay_open b left [] = λ h. h
+replay_open b left (line ∷ ls) = replay_open (b || refuses line) left ls
 
-pub replay_of_lines : (ls : List Line) → Replays ls
-replay_of_lines ls = record {
-  writes = ap joined (replay_replies false ls);
-  refuses = replay_last false ls;
-  goes_on = replay_open false ls;
+-- no line asks for a search
+replay_asks : (b : Bool) (left : List ℕ) (ls : List Line) → searches replays b left ls ≡ []
+replay_asks b left [] = refl
+replay_asks b left (line ∷ ls) = replay_asks (b || refuses line) left ls
+
+pub replay_of_lines : (left : List ℕ) (ls : List Line) → Replays left ls
+replay_of_lines left ls = record {
+  writes = ap joined (replay_replies false left ls);
+  refuses = replay_last false left ls;
+  goes_on = replay_open false left ls;
+  asks = replay_asks false left ls;
 }
 
 pub replays_done : ReplaysAreDone
 replays_done = λ status before after run rb ra rc rn wb wa wc wn input told below none.
-    service_is_done replays status before after run rb ra rc rn wb wa wc wn input told below ((replay_of_lines (lines input)).refuses ∙ none)
+    ends_done replays status before after run.ends rb ra rc rn wb wa wc wn input told below (λ left. (replay_of_lines left (lines input)).refuses ∙ none)

@@ -2,10 +2,10 @@
 use Rattle.std.proofs.Common.{◌≡◌, ◌↔◌, ℕ, List, [], ◌∷◌, ◌++◌, refl, ap, sym, ◌∙◌, append_assoc, None, Some, subst}
 use Rattle.std.specs.declared.option.Option.{Option}
 use Rattle.std.proofs.lemmas.List.{append-nil}
-use Rattle.io_edge.specs.Outside.{Told, behind}
-use Rattle.io_edge.proofs.Told.{behind-behind}
 use Rattle.hive_model.specs.Lines.{Line}
-use Rattle.hive_cli.specs.Service.{HasExit, Service, ends_at, ends_or, joined, last_of, replies, with_reply}
+use Rattle.uhp_session.specs.Searches.{Search}
+use Rattle.hive_cli.specs.Service.{HasExit, Service, depths_after, ends_at, ends_or, joined, last_of, replies, reply_at, searches, with_reply}
+use Rattle.hive_cli.proofs.TimeLemmas.{Uses}
 
 -- Texts
 
@@ -13,77 +13,140 @@ pub joined-append : (xs ys : List (List ℕ)) → joined (xs ++ ys) ≡ joined x
 joined-append [] ys = refl
 joined-append (x ∷ xs) ys = ap (λ z. x ++ z) (joined-append xs ys) ∙ sym (append_assoc x (joined xs) (joined ys))
 
--- nothing was written
-pub behind_none : (w : Told) → w ≡ behind w []
-behind_none None = refl
-behind_none (Some w) = ap Some (sym (append-nil w))
-
--- more was written
-pub on_written : (w0 w w2 : Told) (front text : List ℕ) → w ≡ behind w0 front → w2 ≡ behind w text → w2 ≡ behind w0 (front ++ text)
-on_written w0 w w2 front text e f = f ∙ (ap (λ z. behind z text) e ∙ behind-behind w0 front text)
-
 -- Lines
 
--- These texts are the replies to these lines, none of which ends the run, and the service goes on from here.
-pub record Replied {S : Type 0} (v : Service S) (start now : S) (given : List Line) (written : List (List ℕ)) : Type 0 where
-  pub goes_on : (more : List Line) → replies v start (given ++ more) ≡ written ++ replies v now more
-  pub exits : (more : List Line) → HasExit v start (given ++ more) ↔ HasExit v now more
-  pub stands : (more : List Line) → last_of v start (given ++ more) ≡ last_of v now more
+-- These texts are the replies to these lines at these depths, none of which ends the run, these are the searches that they ask for,
+-- and the service goes on from here.
+pub record Replied {S : Type 0} (v : Service S) (start now : S) (given : List Line) (written : List (List ℕ)) (told : List ℕ) (asked : List Search) : Type 0 where
+  pub goes_on : (later : List ℕ) (more : List Line) → replies v start (told ++ later) (given ++ more) ≡ written ++ replies v now later more
+  pub exits : (later : List ℕ) (more : List Line) → HasExit v start (told ++ later) (given ++ more) ↔ HasExit v now later more
+  pub stands : (later : List ℕ) (more : List Line) → last_of v start (told ++ later) (given ++ more) ≡ last_of v now later more
+  pub asks : (later : List ℕ) (more : List Line) → searches v start (told ++ later) (given ++ more) ≡ asked ++ searches v now later more
 
 -- no line was given yet
-pub replied_begin : {S : Type 0} (v : Service S) (s : S) → Replied v s s [] []
-replied_begin v s = record { goes_on = λ more. refl; exits = λ more. (λ h. h, λ h. h); stands = λ more. refl }
-
--- a reply does not end the run
-goes_on_after : (o : Option (List ℕ)) (text : List ℕ) (later : Type 0) → o ≡ Some text → ends_or o later ↔ later
-goes_on_after None text later e = absurd (cc)
-goes_on_after (Some x) text later e = (λ h. h, λ h. h)
-
--- a line more was answered
-pub replied_on : {S : Type 0} (v : Service S) (start now : S) (given : List Line) (written : List (List ℕ)) (line : Line) (text : List ℕ) → Replied v start now given written → v.reply now line ≡ Some text
-    → Replied v start (v.next now line) (given ++ line ∷ []) (written ++ text ∷ [])
-replied_on v start now given written line text r e = record {
-  goes_on = λ more.
-      ap (replies v start) (append_assoc given (line ∷ []) more)
-      ∙ (r.goes_on (line ∷ more) ∙ (ap (λ o. written ++ with_reply o (replies v (v.next now line) more)) e ∙ sym (append_assoc written (text ∷ []) (replies v (v.next now line) more))));
-  exits = λ more.
-      let here : HasExit v now (line ∷ more) ↔ HasExit v (v.next now line) more = goes_on_after (v.reply now line) text (HasExit v (v.next now line) more) e in
-      let all : HasExit v start (given ++ (line ∷ more)) ↔ HasExit v now (line ∷ more) = r.exits (line ∷ more) in
-      let same : (given ++ line ∷ []) ++ more ≡ given ++ (line ∷ more) = append_assoc given (line ∷ []) more in
-      (λ h. here.0 (all.0 (subst (HasExit v start) same h)), λ h. subst (HasExit v start) (sym same) (all.1 (here.1 h)));
-  stands = λ more.
-      ap (last_of v start) (append_assoc given (line ∷ []) more)
-      ∙ (r.stands (line ∷ more) ∙ ap (λ o. ends_at o (v.next now line) (last_of v (v.next now line) more)) e);
+pub replied_begin : {S : Type 0} (v : Service S) (s : S) → Replied v s s [] [] [] []
+replied_begin v s = record {
+  goes_on = λ later more. refl;
+  exits = λ later more. (λ h. h, λ h. h);
+  stands = λ later more. refl;
+  asks = λ later more. refl;
 }
 
+-- One line
+
+-- the line is the next that is given, it takes this depth, and this is the reply at it
+pub record Next {S : Type 0} (v : Service S) (now : S) (line : Line) (answer : Option (List ℕ)) (mine : List Search) (own : List ℕ) (depth : ℕ) : Type 0 where
+  pub uses : Uses (v.asks now line) mine own depth
+  pub is : v.reply now line depth ≡ answer
+
+-- that is its reply, whatever depths are left
+reply_is : {S : Type 0} {v : Service S} {now : S} {line : Line} {answer : Option (List ℕ)} {mine : List Search} {own : List ℕ} {depth : ℕ} → Next v now line answer mine own depth → (later : List ℕ)
+    → reply_at v now (own ++ later) line ≡ answer
+reply_is {S} {v} {now} {line} n later = ap (v.reply now line) (n.uses.takes later) ∙ n.is
+
+with_next : {S : Type 0} {v : Service S} {now : S} {line : Line} {answer : Option (List ℕ)} {mine : List Search} {own : List ℕ} {depth : ℕ} → Next v now line answer mine own depth → (later : List ℕ) (more : List Line)
+    → replies v now (own ++ later) (line ∷ more) ≡ with_reply answer (replies v (v.next now line) later more)
+with_next {S} {v} {now} {line} {answer} {mine} {own} n later more =
+    ap (λ o. with_reply o (replies v (v.next now line) (depths_after (v.asks now line) (own ++ later)) more)) (reply_is n later)
+    ∙ ap (λ left. with_reply answer (replies v (v.next now line) left more)) (n.uses.leaves later)
+
+last_at : {S : Type 0} {v : Service S} {now : S} {line : Line} {answer : Option (List ℕ)} {mine : List Search} {own : List ℕ} {depth : ℕ} → Next v now line answer mine own depth → (later : List ℕ) (more : List Line)
+    → last_of v now (own ++ later) (line ∷ more) ≡ ends_at answer (v.next now line) (last_of v (v.next now line) later more)
+last_at {S} {v} {now} {line} {answer} {mine} {own} n later more =
+    ap (λ o. ends_at o (v.next now line) (last_of v (v.next now line) (depths_after (v.asks now line) (own ++ later)) more)) (reply_is n later)
+    ∙ ap (λ left. ends_at answer (v.next now line) (last_of v (v.next now line) left more)) (n.uses.leaves later)
+
+asks_at : {S : Type 0} {v : Service S} {now : S} {line : Line} {answer : Option (List ℕ)} {mine : List Search} {own : List ℕ} {depth : ℕ} → Next v now line answer mine own depth → (later : List ℕ) (more : List Line)
+    → searches v now (own ++ later) (line ∷ more) ≡ mine ++ ends_at answer [] (searches v (v.next now line) later more)
+asks_at {S} {v} {now} {line} {answer} {mine} {own} n later more =
+    n.uses.asks _
+    ∙ (ap (λ o. mine ++ ends_at o [] (searches v (v.next now line) (depths_after (v.asks now line) (own ++ later)) more)) (reply_is n later)
+    ∙ ap (λ left. mine ++ ends_at answer [] (searches v (v.next now line) left more)) (n.uses.leaves later))
+
+exit_at : {S : Type 0} {v : Service S} {now : S} {line : Line} {answer : Option (List ℕ)} {mine : List Search} {own : List ℕ} {depth : ℕ} → Next v now line answer mine own depth → (later : List ℕ) (more : List Line)
+    → HasExit v now (own ++ later) (line ∷ more) ↔ ends_or answer (HasExit v (v.next now line) later more)
+exit_at {S} {v} {now} {line} {answer} {mine} {own} n later more = (
+  λ h. subst (λ left. ends_or answer (HasExit v (v.next now line) left more)) (n.uses.leaves later)
+      (subst (λ o. ends_or o (HasExit v (v.next now line) (depths_after (v.asks now line) (own ++ later)) more)) (reply_is n later) h),
+  λ h. subst (λ o. ends_or o (HasExit v (v.next now line) (depths_after (v.asks now line) (own ++ later)) more)) (sym (reply_is n later))
+      (subst (λ left. ends_or answer (HasExit v (v.next now line) left more)) (sym (n.uses.leaves later)) h),
+)
+
+-- After a line more
+
+-- a line more was answered
+pub replied_on : {S : Type 0} (v : Service S) (start now : S) (given : List Line) (written : List (List ℕ)) (told : List ℕ) (asked : List Search) (line : Line) (text : List ℕ) (mine : List Search) (own : List ℕ) (depth : ℕ)
+    → Replied v start now given written told asked → Next v now line (Some text) mine own depth → Replied v start (v.next now line) (given ++ line ∷ []) (written ++ text ∷ []) (told ++ own) (asked ++ mine)
+replied_on v start now given written told asked line text mine own depth r n = record {
+  goes_on = λ later more.
+      along (replies v start) later more
+      ∙ (r.goes_on (own ++ later) (line ∷ more) ∙ (ap (λ ts. written ++ ts) (with_next n later more) ∙ sym (append_assoc written (text ∷ []) (replies v (v.next now line) later more))));
+  exits = λ later more.
+      let here = exit_at n later more in
+      let all = r.exits (own ++ later) (line ∷ more) in (
+        λ h. here.0 (all.0 (subst (λ ls. HasExit v start (told ++ (own ++ later)) ls) (append_assoc given (line ∷ []) more) (subst (λ ds. HasExit v start ds ((given ++ line ∷ []) ++ more)) (append_assoc told own later) h))),
+        λ h. subst (λ ds. HasExit v start ds ((given ++ line ∷ []) ++ more)) (sym (append_assoc told own later)) (subst (λ ls. HasExit v start (told ++ (own ++ later)) ls) (sym (append_assoc given (line ∷ []) more)) (all.1 (here.1 h))),
+      );
+  stands = λ later more. along (last_of v start) later more ∙ (r.stands (own ++ later) (line ∷ more) ∙ last_at n later more);
+  asks = λ later more.
+      along (searches v start) later more
+      ∙ (r.asks (own ++ later) (line ∷ more) ∙ (ap (λ ss. asked ++ ss) (asks_at n later more) ∙ sym (append_assoc asked mine (searches v (v.next now line) later more))));
+}
+  where
+    along : {A : Type 0} (f : List ℕ → List Line → A) (later : List ℕ) (more : List Line) → f ((told ++ own) ++ later) ((given ++ line ∷ []) ++ more) ≡ f (told ++ (own ++ later)) (given ++ (line ∷ more))
+    along f later more = ap (λ ds. f ds ((given ++ line ∷ []) ++ more)) (append_assoc told own later) ∙ ap (f (told ++ (own ++ later))) (append_assoc given (line ∷ []) more)
+
+-- The lines so far
+
+-- with no depths and no lines more
+no_more : {A : Type 0} (f : List ℕ → List Line → A) (told : List ℕ) (given : List Line) → f told given ≡ f (told ++ []) (given ++ [])
+no_more f told given = ap (λ ds. f ds given) (sym (append-nil told)) ∙ ap (f (told ++ [])) (sym (append-nil given))
+
 -- the replies to the lines so far
-pub replied_texts : {S : Type 0} {v : Service S} {start now : S} {given : List Line} {written : List (List ℕ)} → Replied v start now given written → replies v start given ≡ written
-replied_texts {S} {v} {start} {now} {given} {written} r = ap (replies v start) (sym (append-nil given)) ∙ (r.goes_on [] ∙ append-nil written)
+pub replied_texts : {S : Type 0} {v : Service S} {start now : S} {given : List Line} {written : List (List ℕ)} {told : List ℕ} {asked : List Search} → Replied v start now given written told asked → replies v start told given ≡ written
+replied_texts {S} {v} {start} {now} {given} {written} {told} r = no_more (replies v start) told given ∙ (r.goes_on [] [] ∙ append-nil written)
 
 -- none of the lines so far ends the run
-pub replied_open : {S : Type 0} {v : Service S} {start now : S} {given : List Line} {written : List (List ℕ)} → Replied v start now given written → ¬ HasExit v start given
-replied_open {S} {v} {start} {now} {given} {written} r = λ h. (r.exits []).0 (subst (HasExit v start) (sym (append-nil given)) h)
+pub replied_open : {S : Type 0} {v : Service S} {start now : S} {given : List Line} {written : List (List ℕ)} {told : List ℕ} {asked : List Search} → Replied v start now given written told asked → ¬ HasExit v start told given
+replied_open {S} {v} {start} {now} {given} {written} {told} r =
+    λ h. (r.exits [] []).0 (subst (λ ls. HasExit v start (told ++ []) ls) (sym (append-nil given)) (subst (λ ds. HasExit v start ds given) (sym (append-nil told)) h))
 
 -- the service stands here after the lines so far
-pub replied_last : {S : Type 0} {v : Service S} {start now : S} {given : List Line} {written : List (List ℕ)} → Replied v start now given written → last_of v start given ≡ now
-replied_last {S} {v} {start} {now} {given} {written} r = ap (last_of v start) (sym (append-nil given)) ∙ r.stands []
+pub replied_last : {S : Type 0} {v : Service S} {start now : S} {given : List Line} {written : List (List ℕ)} {told : List ℕ} {asked : List Search} → Replied v start now given written told asked → last_of v start told given ≡ now
+replied_last {S} {v} {start} {now} {given} {written} {told} r = no_more (last_of v start) told given ∙ r.stands [] []
 
-exit_here : (o : Option (List ℕ)) (later : Type 0) → o ≡ None → ends_or o later
-exit_here None later e = tt
-exit_here (Some text) later e = absurd (cc)
+-- the searches that the lines so far ask for
+pub replied_asks : {S : Type 0} {v : Service S} {start now : S} {given : List Line} {written : List (List ℕ)} {told : List ℕ} {asked : List Search} → Replied v start now given written told asked → searches v start told given ≡ asked
+replied_asks {S} {v} {start} {now} {given} {written} {told} {asked} r = no_more (searches v start) told given ∙ (r.asks [] [] ∙ append-nil asked)
+
+-- The line that ends the run
+
+-- with no depths more than its own
+its_own : {A : Type 0} (f : List ℕ → A) (told own : List ℕ) → f (told ++ own) ≡ f (told ++ (own ++ []))
+its_own f told own = ap (λ ds. f (told ++ ds)) (sym (append-nil own))
 
 -- the next line ends the run
-pub replied_exit : {S : Type 0} {v : Service S} {start now : S} {given : List Line} {written : List (List ℕ)} (line : Line) → Replied v start now given written → v.reply now line ≡ None → HasExit v start (given ++ line ∷ [])
-replied_exit {S} {v} {start} {now} {given} {written} line r e = (r.exits (line ∷ [])).1 (exit_here (v.reply now line) (HasExit v (v.next now line) []) e)
+pub replied_exit : {S : Type 0} {v : Service S} {start now : S} {given : List Line} {written : List (List ℕ)} {told : List ℕ} {asked : List Search} (line : Line) {mine : List Search} {own : List ℕ} {depth : ℕ}
+    → Replied v start now given written told asked → Next v now line None mine own depth → HasExit v start (told ++ own) (given ++ line ∷ [])
+replied_exit {S} {v} {start} {now} {given} {written} {told} {asked} line {mine} {own} r n =
+    subst (λ ds. HasExit v start (told ++ ds) (given ++ line ∷ [])) (append-nil own) ((r.exits (own ++ []) (line ∷ [])).1 ((exit_at n [] []).1 tt))
 
 -- and no line after it is answered
-pub replied_exit_all : {S : Type 0} {v : Service S} {start now : S} {given : List Line} {written : List (List ℕ)} (line : Line) (others : List Line) → Replied v start now given written → v.reply now line ≡ None
-    → replies v start (given ++ (line ∷ others)) ≡ written
-replied_exit_all {S} {v} {start} {now} {given} {written} line others r e =
-    r.goes_on (line ∷ others) ∙ (ap (λ o. written ++ with_reply o (replies v (v.next now line) others)) e ∙ append-nil written)
+pub replied_exit_all : {S : Type 0} {v : Service S} {start now : S} {given : List Line} {written : List (List ℕ)} {told : List ℕ} {asked : List Search} (line : Line) (others : List Line) {mine : List Search} {own : List ℕ} {depth : ℕ}
+    → Replied v start now given written told asked → Next v now line None mine own depth → replies v start (told ++ own) (given ++ (line ∷ others)) ≡ written
+replied_exit_all {S} {v} {start} {now} {given} {written} {told} {asked} line others {mine} {own} r n =
+    its_own (λ ds. replies v start ds (given ++ (line ∷ others))) told own
+    ∙ (r.goes_on (own ++ []) (line ∷ others) ∙ (ap (λ ts. written ++ ts) (with_next n [] others) ∙ append-nil written))
 
 -- the service stands so where that line was answered
-pub replied_exit_last : {S : Type 0} {v : Service S} {start now : S} {given : List Line} {written : List (List ℕ)} (line : Line) (others : List Line) → Replied v start now given written → v.reply now line ≡ None
-    → last_of v start (given ++ (line ∷ others)) ≡ v.next now line
-replied_exit_last {S} {v} {start} {now} {given} {written} line others r e =
-    r.stands (line ∷ others) ∙ ap (λ o. ends_at o (v.next now line) (last_of v (v.next now line) others)) e
+pub replied_exit_last : {S : Type 0} {v : Service S} {start now : S} {given : List Line} {written : List (List ℕ)} {told : List ℕ} {asked : List Search} (line : Line) (others : List Line) {mine : List Search} {own : List ℕ} {depth : ℕ}
+    → Replied v start now given written told asked → Next v now line None mine own depth → last_of v start (told ++ own) (given ++ (line ∷ others)) ≡ v.next now line
+replied_exit_last {S} {v} {start} {now} {given} {written} {told} {asked} line others {mine} {own} r n =
+    its_own (λ ds. last_of v start ds (given ++ (line ∷ others))) told own ∙ (r.stands (own ++ []) (line ∷ others) ∙ last_at n [] others)
+
+-- and it may have asked for a search, the last one
+pub replied_exit_asks : {S : Type 0} {v : Service S} {start now : S} {given : List Line} {written : List (List ℕ)} {told : List ℕ} {asked : List Search} (line : Line) (others : List Line) {mine : List Search} {own : List ℕ} {depth : ℕ}
+    → Replied v start now given written told asked → Next v now line None mine own depth → searches v start (told ++ own) (given ++ (line ∷ others)) ≡ asked ++ mine
+replied_exit_asks {S} {v} {start} {now} {given} {written} {told} {asked} line others {mine} {own} r n =
+    its_own (λ ds. searches v start ds (given ++ (line ∷ others))) told own
+    ∙ (r.asks (own ++ []) (line ∷ others) ∙ ap (λ ss. asked ++ ss) (asks_at n [] others ∙ append-nil mine))

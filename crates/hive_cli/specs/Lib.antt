@@ -1,13 +1,9 @@
-pub mod Words
-pub mod Statuses
-pub mod Input
+pub mod Times
 pub mod Service
 pub mod ServiceRun
 pub mod Rounds
 pub mod Session
 pub mod Replay
-pub mod OneGame
-pub mod Asking
 pub mod Count
 pub mod Run
 pub mod Laws

@@ -1,28 +1,17 @@
 -- A replay as a service: each line, a game string, is answered by the written form of its game, or refused. And its run.
-use Rattle.std.specs.Prelude.{ℕ, Bool, true, false, ◌||◌, List, [], ◌∷◌, ◌++◌, map, codes, decimal, Result, Ok, Err, Some}
+use Rattle.std.specs.Prelude.{ℕ, Bool, true, false, ◌||◌, List, [], ◌∷◌, ◌++◌, map, codes, Result, Ok, Err, Some, None}
 use Rattle.std.specs.List.{list_any}
 use Rattle.hive_model.specs.Lines.{Line, Text, TooLong as LongLine}
 use Rattle.hive_model.specs.Strings.{string}
 use Rattle.game_text.specs.declared.faults.GameFault.{GameFault}
-use Rattle.game_text.specs.declared.faults.GameFault.TheVariants.{Malformed, TooLong as TooManyPlies, BadMove, IllegalMove, OtherState, OtherTurn, Memory as NoMemory}
 use Rattle.game_text.specs.declared.parsed.Parsed.{Parsed}
 use Rattle.game_text.specs.Reading.{game_of}
-use Rattle.hive_cli.specs.Input.{Sides}
+use Rattle.command_runs.specs.Reasons.{reason}
 use Rattle.hive_cli.specs.Service.{Service, joined}
-use Rattle.hive_cli.specs.ServiceRun.{ServiceRun}
-use Rattle.hive_cli.specs.declared.status.Status.{Status}
+use Rattle.hive_cli.specs.ServiceRun.{Scene, ServiceRun}
+use Rattle.command_runs.specs.declared.status.Status.{Status}
 
 -- The answer to a line
-
--- why a text is no game (want of memory is no fault of the text)
-abbrev pub reason : GameFault → List ℕ
-reason (Malformed part) = codes "malformed part " ++ decimal part
-reason TooManyPlies = codes "too many plies"
-reason (BadMove number fault) = codes "illegal move " ++ decimal number
-reason (IllegalMove number) = codes "illegal move " ++ decimal number
-reason OtherState = codes "other state"
-reason OtherTurn = codes "other turn"
-reason NoMemory = []
 
 -- the line that refuses a line for this reason
 abbrev pub refusal : List ℕ → List ℕ
@@ -57,16 +46,18 @@ some_refused ls = list_any refuses ls
 
 -- The run
 
--- Nothing before the first line, and the answer to each; it counts whether a line was refused. No line ends the run.
+-- Nothing before the first line, and the answer to each; it counts whether a line was refused. No line
+-- ends the run, and none asks for a search.
 abbrev pub replays : Service Bool
 replays = record {
   begins = false;
   preface = [];
-  reply = λ refused line. Some (replay_answer line);
+  asks = λ refused line. None;
+  reply = λ refused line depth. Some (replay_answer line);
   next = λ refused line. refused || refuses line;
   has_refused = λ refused. refused;
 }
 
 -- what was written and read where a replay ends with this status
-abbrev pub ReplayRun : Status → Sides → Sides → Type 0
+abbrev pub ReplayRun : Status → Scene → Scene → Type 0
 ReplayRun status before after = ServiceRun replays status before after

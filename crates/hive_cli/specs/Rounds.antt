@@ -4,10 +4,11 @@ use Rattle.std.specs.declared.option.Option.{Option}
 use Rattle.io_edge.specs.Outside.{Told, behind}
 use Rattle.hive_model.specs.Lines.{Line}
 use Rattle.line_feed.specs.Feed.{Reading, Ends, Gives, Holds, HoldsLittle, Takes, input_limit}
-use Rattle.hive_cli.specs.Input.{Sides}
+use Rattle.uhp_session.specs.Searches.{IsAnswered, TakesNoTime, Times}
 use Rattle.hive_cli.specs.Service.{Service}
-use Rattle.hive_cli.specs.declared.status.Status.{Status}
-use Rattle.hive_cli.specs.declared.status.Status.TheVariants.{Done, Refused, ReadFault, WriteFault, Memory, InputFull}
+use Rattle.hive_cli.specs.ServiceRun.{Scene}
+use Rattle.command_runs.specs.declared.status.Status.{Status}
+use Rattle.command_runs.specs.declared.status.Status.TheVariants.{Done, Refused, ReadFault, WriteFault, Memory, InputFull}
 use Rattle.hive_cli.specs.declared.service.Stop.{Stop}
 use Rattle.hive_cli.specs.declared.service.Stop.TheVariants.{Over, ReadFailed, Full, WriteFailed, NoMemory}
 
@@ -19,27 +20,48 @@ status_of refused Full = InputFull
 status_of refused WriteFailed = WriteFault
 status_of refused NoMemory = Memory
 
--- a service between two lines: how it stands, its reader, and what is told of both sides
+-- a service between two lines: how it stands, its reader, what is told of both sides, and its times
 pub record Standing (S : Type 0) : Type 0 where
   pub state : S
   pub reader : Reading
-  pub sides : Sides
+  pub scene : Scene
 
--- the line was answered, and the reply written; or the run stops so
-abbrev pub Answers : {S : Type 0} → Service S → Option Stop → Line → S → S → Told → Told → Type 0
-Answers v None line old new before after =
-    (text : List ℕ) × (v.reply old line ≡ Some text) × (new ≡ v.next old line) × (after ≡ behind before text)
-Answers v (Some Over) line old new before after = (v.reply old line ≡ None) × (new ≡ v.next old line) × (after ≡ before)
-Answers v (Some WriteFailed) line old new before after =
-    (text : List ℕ) × (n : ℕ) × (v.reply old line ≡ Some text) × (n < length text) × (after ≡ behind before (take n text))
-Answers v (Some NoMemory) line old new before after = after ≡ before
-Answers v (Some ReadFailed) line old new before after = ⊥
-Answers v (Some Full) line old new before after = ⊥
+-- so is the line answered by a service that stands so
+abbrev pub IsReply : {S : Type 0} → Service S → S → Line → Option (List ℕ) → Times → Times → Type 0
+IsReply v s line answer before after = IsAnswered (v.asks s line) (v.reply s line) answer before after
+
+-- the service has answered a line so, and goes on from here
+pub record Replies {S : Type 0} (v : Service S) (line : Line) (answer : Option (List ℕ)) (old new : S)
+    (before after : Times) : Type 0 where
+  pub answered : IsReply v old line answer before after
+  pub next : new ≡ v.next old line
+
+-- there was not enough memory for the answer to a line: the clock may have been read, and no entry was
+-- appended
+pub record IsUnanswered (before after : Times) : Type 0 where
+  pub later : before.last ≤ after.last
+  pub timed : after.timed ≡ before.timed
+
+-- The line was answered, and the reply written; or the run stops so. This is what the sink has taken
+-- before and after, and these are the times.
+abbrev pub Answers : {S : Type 0} → Service S → Option Stop → Line → S → S → Told → Told → Times → Times → Type 0
+Answers v None line old new before after from to =
+    (text : List ℕ) × Replies v line (Some text) old new from to × (after ≡ behind before text)
+Answers v (Some Over) line old new before after from to =
+    Replies v line None old new from to × (after ≡ before)
+Answers v (Some WriteFailed) line old new before after from to =
+    (text : List ℕ) × (n : ℕ) × Replies v line (Some text) old new from to
+    × (n < length text) × (after ≡ behind before (take n text))
+Answers v (Some NoMemory) line old new before after from to = IsUnanswered from to × (after ≡ before)
+Answers v (Some ReadFailed) line old new before after from to = ⊥
+Answers v (Some Full) line old new before after from to = ⊥
 
 -- a line was given, and answered
 abbrev pub Serves : {S : Type 0} → Service S → Option Stop → List ℕ → Standing S → Standing S → Type 0
 Serves v stop bytes old new =
-    (line : Line) × Gives old.reader bytes line new.reader new.sides.rest × Answers v stop line old.state new.state old.sides.written new.sides.written
+    (line : Line) × Gives old.reader bytes line new.reader new.scene.sides.rest
+    × Answers v stop line old.state new.state old.scene.sides.written new.scene.sides.written
+    old.scene.times new.scene.times
 
 -- no line was given: the input has ended, a read has failed, or the limit is reached
 abbrev pub Stops : Option Stop → List ℕ → Reading → Reading → Told → Type 0
@@ -52,13 +74,15 @@ Stops (Some NoMemory) bytes old new rest = ⊥
 
 -- and nothing was answered
 pub record Rests {S : Type 0} (stop : Option Stop) (bytes : List ℕ) (old new : Standing S) : Type 0 where
-  pub stops : Stops stop bytes old.reader new.reader new.sides.rest
-  pub same : new.sides.written ≡ old.sides.written
+  pub stops : Stops stop bytes old.reader new.reader new.scene.sides.rest
+  pub same : new.scene.sides.written ≡ old.scene.sides.written
   pub stands : new.state ≡ old.state
+  pub time : TakesNoTime old.scene.times new.scene.times
 
 -- a round, in which these bytes were read
 pub record Round {S : Type 0} (v : Service S) (stop : Option Stop) (bytes : List ℕ) (old new : Standing S) : Type 0 where
-  pub takes : Takes old.sides.rest new.sides.rest old.reader.taken new.reader.taken bytes
+  pub takes :
+      Takes old.scene.sides.rest new.scene.sides.rest old.reader.taken new.reader.taken bytes
   pub within : new.reader.taken ≤ input_limit
   pub little : HoldsLittle new.reader
   pub does : Serves v stop bytes old new ⊎ Rests stop bytes old new

@@ -1,16 +1,44 @@
 -- A service: a command that answers the lines of its input, one after another. What it writes for them.
-use Rattle.std.specs.Prelude.{ℕ, Bool, List, [], ◌∷◌, ◌++◌, None, Some}
-use Rattle.std.specs.declared.option.Option.{Option}
+use Rattle.std.specs.Prelude.{ℕ, Bool, List, [], ◌∷◌, ◌++◌, Option, None, Some}
 use Rattle.hive_model.specs.Lines.{Line}
+use Rattle.uhp_session.specs.Searches.{Search}
 
--- How a service begins, what it writes before the first line is read, its reply to a line (none where the run ends there), how it
--- stands after a line, and whether it has refused a line until then.
+-- How a service begins, what it writes before the first line is read, the search for a time that a
+-- line asks for, if it asks for one, its reply to a line at the depth which that search has completed
+-- (none where the run ends there), how it stands after a line, and whether it has refused a line
+-- until then. A line that asks for no search has no use for the depth.
 pub record Service (S : Type 0) : Type 0 where
   pub begins : S
   pub preface : List ℕ
-  pub reply : S → Line → Option (List ℕ)
+  pub asks : S → Line → Option Search
+  pub reply : S → Line → ℕ → Option (List ℕ)
   pub next : S → Line → S
   pub has_refused : S → Bool
+
+-- Depths
+
+-- The depth for a line: a line that asks for a search takes the first of those that are left, and 0
+-- where none is. Any other line is given 0.
+abbrev pub depth_for : Option Search → List ℕ → ℕ
+depth_for None left = 0
+depth_for (Some asked) [] = 0
+depth_for (Some asked) (depth ∷ left) = depth
+
+-- the depths that are left for the lines after it
+abbrev pub depths_after : Option Search → List ℕ → List ℕ
+depths_after None left = left
+depths_after (Some asked) [] = []
+depths_after (Some asked) (depth ∷ left) = left
+
+-- the depths that are left after a line, where a service stands so
+abbrev pub left_after : {S : Type 0} → Service S → S → List ℕ → Line → List ℕ
+left_after v s left line = depths_after (v.asks s line) left
+
+-- the reply to a line, where these depths are left
+abbrev pub reply_at : {S : Type 0} → Service S → S → List ℕ → Line → Option (List ℕ)
+reply_at v s left line = v.reply s line (depth_for (v.asks s line) left)
+
+-- Replies
 
 -- texts, one after another
 abbrev pub joined : List (List ℕ) → List ℕ
@@ -22,18 +50,21 @@ abbrev pub with_reply : Option (List ℕ) → List (List ℕ) → List (List ℕ
 with_reply None others = []
 with_reply (Some text) others = text ∷ others
 
--- the replies to lines in order, up to the line that ends the run
-abbrev pub replies : {S : Type 0} → Service S → S → List Line → List (List ℕ)
-replies v s [] = []
-replies v s (line ∷ ls) = with_reply (v.reply s line) (replies v (v.next s line) ls)
+-- the replies to lines in order, up to the line that ends the run, where these depths are left
+abbrev pub replies : {S : Type 0} → Service S → S → List ℕ → List Line → List (List ℕ)
+replies v s left [] = []
+replies v s left (line ∷ ls) =
+    with_reply (reply_at v s left line) (replies v (v.next s line) (left_after v s left line) ls)
 
 -- what is written before the first line is read, and then the replies
-abbrev pub texts : {S : Type 0} → Service S → List Line → List (List ℕ)
-texts v ls = v.preface ∷ replies v v.begins ls
+abbrev pub texts : {S : Type 0} → Service S → List ℕ → List Line → List (List ℕ)
+texts v left ls = v.preface ∷ replies v v.begins left ls
 
 -- all that is written for these lines
-abbrev pub output : {S : Type 0} → Service S → List Line → List ℕ
-output v ls = joined (texts v ls)
+abbrev pub output : {S : Type 0} → Service S → List ℕ → List Line → List ℕ
+output v left ls = joined (texts v left ls)
+
+-- The end
 
 -- the run ends here, or else later
 abbrev pub ends_or : Option (List ℕ) → Type 0 → Type 0
@@ -41,15 +72,33 @@ ends_or None later = Unit {0}
 ends_or (Some text) later = later
 
 -- some line of these ends the run
-abbrev pub HasExit : {S : Type 0} → Service S → S → List Line → Type 0
-HasExit v s [] = ⊥
-HasExit v s (line ∷ ls) = ends_or (v.reply s line) (HasExit v (v.next s line) ls)
+abbrev pub HasExit : {S : Type 0} → Service S → S → List ℕ → List Line → Type 0
+HasExit v s left [] = ⊥
+HasExit v s left (line ∷ ls) =
+    ends_or (reply_at v s left line) (HasExit v (v.next s line) (left_after v s left line) ls)
 
-abbrev pub ends_at : {S : Type 0} → Option (List ℕ) → S → S → S
+-- what holds here where the run ends, and else what holds later
+abbrev pub ends_at : {A : Type 0} → Option (List ℕ) → A → A → A
 ends_at None here later = here
 ends_at (Some text) here later = later
 
 -- how the service stands after these lines, or after the first of them that ends the run
-abbrev pub last_of : {S : Type 0} → Service S → S → List Line → S
-last_of v s [] = s
-last_of v s (line ∷ ls) = ends_at (v.reply s line) (v.next s line) (last_of v (v.next s line) ls)
+abbrev pub last_of : {S : Type 0} → Service S → S → List ℕ → List Line → S
+last_of v s left [] = s
+last_of v s left (line ∷ ls) =
+    ends_at (reply_at v s left line) (v.next s line)
+    (last_of v (v.next s line) (left_after v s left line) ls)
+
+-- Searches
+
+-- a search, if one is asked for, and then the others
+abbrev pub with_search : Option Search → List Search → List Search
+with_search None others = others
+with_search (Some asked) others = asked ∷ others
+
+-- the searches that these lines ask for, up to the line that ends the run
+abbrev pub searches : {S : Type 0} → Service S → S → List ℕ → List Line → List Search
+searches v s left [] = []
+searches v s left (line ∷ ls) =
+    with_search (v.asks s line)
+    (ends_at (reply_at v s left line) [] (searches v (v.next s line) (left_after v s left line) ls))

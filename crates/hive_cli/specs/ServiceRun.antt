@@ -1,61 +1,122 @@
--- What the run of a service writes and reads, by the status with which it ends.
-use Rattle.std.specs.Prelude.{◌≡◌, ◌⊎◌, ℕ, ◌<◌, Bool, true, false, List, [], ◌∷◌, ◌++◌, length, take}
+-- What the run of a service writes and reads, and the time that it takes, by the status with which it
+-- ends.
+use Rattle.std.specs.Prelude.{◌≡◌, ◌⊎◌, ℕ, ◌<◌, ◌≤◌, Bool, true, false, List, [], ◌∷◌, ◌++◌, length, take}
 use Rattle.io_edge.specs.Outside.{Told, behind}
+use Rattle.hive_model.specs.declared.answers.Timed.{Timed}
 use Rattle.hive_model.specs.Lines.{Line, lines, whole_lines}
 use Rattle.line_feed.specs.Feed.{input_limit}
 use Rattle.line_feed.specs.SoFar.{WasRead}
-use Rattle.hive_cli.specs.Input.{IsAllRead, Sides, WereRead, WhereTold}
-use Rattle.hive_cli.specs.Service.{HasExit, Service, joined, last_of, output, texts}
-use Rattle.hive_cli.specs.declared.status.Status.{Status}
-use Rattle.hive_cli.specs.declared.status.Status.TheVariants.{Done, Refused, Usage, ReadFault, WriteFault, SpawnFault, BadInput, Memory, InputFull}
+use Rattle.command_runs.specs.Input.{IsAllRead, Sides, WereRead, WhereTold}
+use Rattle.hive_cli.specs.Service.{HasExit, Service, joined, last_of, output, searches, texts}
+use Rattle.uhp_session.specs.Searches.{Times}
+use Rattle.hive_cli.specs.Times.{AreTold, TellsOf, depths}
+use Rattle.command_runs.specs.declared.status.Status.{Status}
+use Rattle.command_runs.specs.declared.status.Status.TheVariants.{Done, Refused, Usage, ReadFault, WriteFault, SpawnFault, BadInput, Memory, InputFull}
+
+-- all that a run can change: what is told of both sides, and its times
+pub record Scene : Type 0 where
+  pub sides : Sides
+  pub times : Times
+
+-- The searches that these lines ask for were answered, and these entries tell of them.
+abbrev pub TellsOfLines : {S : Type 0} → Service S → List Line → List Timed → Scene → Scene → Type 0
+TellsOfLines v ls entries before after =
+    TellsOf (searches v v.begins (depths entries) ls) entries before.times after.times
 
 -- some line that was read ends the run
-abbrev pub ExitWasRead : {S : Type 0} → Service S → List ℕ → Told → Type 0
-ExitWasRead v input rest = (read : List Line) × WereRead input rest read × HasExit v v.begins read
+abbrev pub ExitWasRead : {S : Type 0} → Service S → List ℕ → List ℕ → Told → Type 0
+ExitWasRead v left input rest =
+    (read : List Line) × WereRead input rest read × HasExit v v.begins left read
 
--- All of the output for the lines of the input was written, and the input was read to its end, or to the line that ends the run.
--- The service stands so then.
-pub record WroteAll {S : Type 0} (v : Service S) (input : List ℕ) (before after : Sides) (last : S) : Type 0 where
-  pub wrote : after.written ≡ behind before.written (output v (lines input))
-  pub stands : last_of v v.begins (lines input) ≡ last
-  pub over : IsAllRead input after.rest ⊎ ExitWasRead v input after.rest
+-- All of the output for the lines of the input was written, at the depths of these entries, which
+-- tell of the searches of these lines. The input was read to its end, or to the line that ends the
+-- run. The service stands so then.
+pub record WroteAll {S : Type 0} (v : Service S) (input : List ℕ) (entries : List Timed)
+    (before after : Scene) (last : S) : Type 0 where
+  pub wrote : after.sides.written ≡ behind before.sides.written (output v (depths entries) (lines input))
+  pub tells : TellsOfLines v (lines input) entries before after
+  pub stands : last_of v v.begins (depths entries) (lines input) ≡ last
+  pub over : IsAllRead input after.sides.rest ⊎ ExitWasRead v (depths entries) input after.sides.rest
 
--- The bytes that have left the source are these. None of their lines that end in LF ends the run, and the output for these lines was written.
-pub record WroteWhole {S : Type 0} (v : Service S) (input : List ℕ) (before after : Sides) (bytes left : List ℕ) : Type 0 where
-  pub was_read : WasRead input after.rest bytes left
-  pub goes_on : ¬ HasExit v v.begins (whole_lines bytes)
-  pub wrote : after.written ≡ behind before.written (output v (whole_lines bytes))
+-- The bytes that have left the source are these. None of their lines that end in LF ends the run, the
+-- output for these lines was written, and the entries tell of their searches.
+pub record WroteWhole {S : Type 0} (v : Service S) (input : List ℕ) (entries : List Timed)
+    (before after : Scene) (bytes left : List ℕ) : Type 0 where
+  pub was_read : WasRead input after.sides.rest bytes left
+  pub goes_on : ¬ HasExit v v.begins (depths entries) (whole_lines bytes)
+  pub wrote :
+      after.sides.written ≡ behind before.sides.written (output v (depths entries) (whole_lines bytes))
+  pub tells : TellsOfLines v (whole_lines bytes) entries before after
 
--- The output for lines that were read, none of which ends the run, is what comes before the first of them and a reply to each. Of
--- these texts all but the last were written whole, and of the last its first n bytes, and not all.
-pub record WroteFront {S : Type 0} (v : Service S) (input : List ℕ) (before after : Sides) (read : List Line) (whole : List (List ℕ)) (last : List ℕ) (n : ℕ) : Type 0 where
-  pub were_read : WereRead input after.rest read
-  pub goes_on : ¬ HasExit v v.begins read
-  pub are_texts : texts v read ≡ whole ++ last ∷ []
+-- The output for lines that were read, none of which ends the run, is what comes before the first of
+-- them and a reply to each. Of these texts all but the last were written whole, and of the last its
+-- first n bytes, and not all. All these lines were answered, and the entries tell of their searches.
+pub record WroteFront {S : Type 0} (v : Service S) (input : List ℕ) (entries : List Timed)
+    (before after : Scene) (read : List Line) (whole : List (List ℕ)) (last : List ℕ) (n : ℕ) : Type 0 where
+  pub were_read : WereRead input after.sides.rest read
+  pub goes_on : ¬ HasExit v v.begins (depths entries) read
+  pub are_texts : texts v (depths entries) read ≡ whole ++ last ∷ []
   pub cut : n < length last
-  pub wrote : after.written ≡ behind before.written (joined whole ++ take n last)
+  pub wrote : after.sides.written ≡ behind before.sides.written (joined whole ++ take n last)
+  pub tells : TellsOfLines v read entries before after
 
--- whole texts were written: the first n of those for lines that were read
-pub record WroteTexts {S : Type 0} (v : Service S) (input : List ℕ) (before after : Sides) (read : List Line) (n : ℕ) : Type 0 where
-  pub were_read : WereRead input after.rest read
-  pub wrote : after.written ≡ behind before.written (joined (take n (texts v read)))
+-- Of the lines that were read the first were answered. Whole texts were written, the first n of those
+-- for these lines, and the entries tell of their searches. The clock may have been read for a search
+-- that has no entry.
+pub record WroteTexts {S : Type 0} (v : Service S) (input : List ℕ) (entries : List Timed)
+    (before after : Scene) (answered others : List Line) (n : ℕ) : Type 0 where
+  pub were_read : WereRead input after.sides.rest (answered ++ others)
+  pub wrote :
+      after.sides.written
+      ≡ behind before.sides.written (joined (take n (texts v (depths entries) answered)))
+  pub appended : after.times.timed ≡ before.times.timed ++ entries
+  pub told :
+      AreTold (searches v v.begins (depths entries) answered) before.times.last entries after.times.last
+
+-- The ends of a run
 
 -- the run came to its end, where the service has refused a line, or none
-abbrev pub RunsToEnd : {S : Type 0} → Service S → Bool → Sides → Sides → Type 0
+abbrev pub RunsToEnd : {S : Type 0} → Service S → Bool → Scene → Scene → Type 0
 RunsToEnd {S} v refused before after =
-    (last : S) × (v.has_refused last ≡ refused) × WhereTold before.rest (λ input. WroteAll v input before after last)
+    (last : S) × (v.has_refused last ≡ refused)
+    × WhereTold before.sides.rest
+    (λ input. (entries : List Timed) × WroteAll v input entries before after last)
 
--- What was written and read where the run of a service ends with this status. Three statuses are not a service's.
-abbrev pub ServiceRun : {S : Type 0} → Service S → Status → Sides → Sides → Type 0
-ServiceRun v Done before after = RunsToEnd v false before after
-ServiceRun v Refused before after = RunsToEnd v true before after
-ServiceRun v ReadFault before after =
-    WhereTold before.rest (λ input. (bytes : List ℕ) × (left : List ℕ) × (length bytes < input_limit) × WroteWhole v input before after bytes left)
-ServiceRun v InputFull before after =
-    WhereTold before.rest (λ input. (bytes : List ℕ) × (left : List ℕ) × (length bytes ≡ input_limit) × WroteWhole v input before after bytes left)
-ServiceRun v WriteFault before after =
-    WhereTold before.rest (λ input. (read : List Line) × (whole : List (List ℕ)) × (last : List ℕ) × (n : ℕ) × WroteFront v input before after read whole last n)
-ServiceRun v Memory before after = WhereTold before.rest (λ input. (read : List Line) × (n : ℕ) × WroteTexts v input before after read n)
-ServiceRun v Usage before after = ⊥
-ServiceRun v SpawnFault before after = ⊥
-ServiceRun v BadInput before after = ⊥
+-- a read has failed, or the limit was reached: the bytes that were read are so many
+abbrev pub RunsWhile : {S : Type 0} → Service S → (ℕ → Type 0) → Scene → Scene → Type 0
+RunsWhile v many before after =
+    WhereTold before.sides.rest (λ input.
+    (entries : List Timed) × (bytes : List ℕ) × (left : List ℕ) × many (length bytes)
+    × WroteWhole v input entries before after bytes left)
+
+-- a write has failed
+abbrev pub RunsToCut : {S : Type 0} → Service S → Scene → Scene → Type 0
+RunsToCut v before after =
+    WhereTold before.sides.rest (λ input.
+    (entries : List Timed) × (read : List Line) × (whole : List (List ℕ)) × (last : List ℕ) × (n : ℕ)
+    × WroteFront v input entries before after read whole last n)
+
+-- memory was wanting
+abbrev pub RunsToWant : {S : Type 0} → Service S → Scene → Scene → Type 0
+RunsToWant v before after =
+    WhereTold before.sides.rest (λ input.
+    (entries : List Timed) × (answered : List Line) × (others : List Line) × (n : ℕ)
+    × WroteTexts v input entries before after answered others n)
+
+-- What was written and read, and which searches were answered, where the run of a service ends with
+-- this status. Three statuses are not a service's.
+abbrev pub EndsAs : {S : Type 0} → Service S → Status → Scene → Scene → Type 0
+EndsAs v Done before after = RunsToEnd v false before after
+EndsAs v Refused before after = RunsToEnd v true before after
+EndsAs v ReadFault before after = RunsWhile v (λ many. many < input_limit) before after
+EndsAs v InputFull before after = RunsWhile v (λ many. many ≡ input_limit) before after
+EndsAs v WriteFault before after = RunsToCut v before after
+EndsAs v Memory before after = RunsToWant v before after
+EndsAs v Usage before after = ⊥
+EndsAs v SpawnFault before after = ⊥
+EndsAs v BadInput before after = ⊥
+
+-- The run of a service that ends with this status. The clock's last reading never falls.
+pub record ServiceRun {S : Type 0} (v : Service S) (status : Status) (before after : Scene) : Type 0 where
+  pub ends : EndsAs v status before after
+  pub later : before.times.last ≤ after.times.last

@@ -4,9 +4,10 @@ ghost use Rattle.hive_model.specs.Games.{IsGame};
 ghost use Rattle.hive_model.specs.Strings.{string};
 ghost use Rattle.game_text.specs.Reading.{game_of};
 ghost use Rattle.uhp_session.specs.Answers.{line_in, IsShort};
-ghost use Rattle.hive_cli.specs.Replay.{game_answer, is_fault, reason, refusal, refuses, replay_answer};
+ghost use Rattle.command_runs.specs.Reasons.{reason};
+ghost use Rattle.hive_cli.specs.Replay.{game_answer, is_fault, refusal, refuses, replay_answer};
 
-use crate::reasons::{line_for, reason_of};
+use command_runs::{line_for, reason_of};
 use game_text::{GameFault, played, read_game, write_game};
 use hive_model::{Game, GameType, Move, ReplyText};
 use std::alloc::{AllocError, Global};

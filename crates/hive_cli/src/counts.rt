@@ -1,15 +1,14 @@
 //! How many lists of legal moves the game of the input can go on with.
-ghost use Rattle.std.specs.Prelude.{◌≡◌, ◌⊎◌, ℕ, ◌<◌, ◌≤◌, false, length, take};
+ghost use Rattle.std.specs.Prelude.{◌≡◌, ℕ, ◌<◌, ◌≤◌, false, length, take};
 ghost use Rattle.std.specs.Bool.{OnTrue, OnFalse};
 ghost use Rattle.io_edge.specs.Outside.{HasCause, behind};
 ghost use Rattle.hive_model.specs.Courses.{position};
 ghost use Rattle.hive_model.specs.Minimax.{lines};
-ghost use Rattle.hive_cli.specs.Count.{CountRun, WritesAs, TellsNone, count_line_of, count_text};
+ghost use Rattle.command_runs.specs.GameRun.{WritesAnswer};
+ghost use Rattle.hive_cli.specs.Count.{CountRun, count_line_of, count_text};
 
-use crate::asking::read_one_game;
-use crate::no_game::NoGame;
-use crate::status::Status;
 use arrayvec::ArrayString;
+use command_runs::{Status, read_one_game, tell_none};
 use hive_model::{Game, MoveStack};
 use io_edge::{Sink, Source, write_all};
 use itoa::Buffer;
@@ -64,8 +63,7 @@ fn tell_counts<K: Sink, G: Game + Drop>(
     requires some { 1 ≤ plies }
     requires few { plies ≤ 8 }
     requires spare { plies ≤ (G.course game).spare }
-    ensures told { ((result ≡ Status.Memory) × (K.written output.new ≡ K.written output.old))
-        ⊎ WritesAs (count_text (position (G.course game)) plies) Status.Done result (K.written output.old) (K.written output.new) }
+    ensures told { WritesAnswer (count_text (position (G.course game)) plies) result (K.written output.old) (K.written output.new) }
     ensures cause { HasCause (result ≡ Status.WriteFault) (K.write_faults output.old) (K.write_faults output.new) }
 {
     let Ok(mut stack) = MoveStack::new(alloc, plies) else {
@@ -75,31 +73,6 @@ fn tell_counts<K: Sink, G: Game + Drop>(
         Status::Done
     } else {
         Status::WriteFault
-    }
-}
-
-/// Writes a line that says why the input is bad.
-fn tell_bad<K: Sink>(line: &[u8], output: &mut K) -> Status
-    ensures told { WritesAs line.now Status.BadInput result (K.written output.old) (K.written output.new) }
-    ensures cause { HasCause (result ≡ Status.WriteFault) (K.write_faults output.old) (K.write_faults output.new) }
-{
-    if write_all(output, line) {
-        Status::BadInput
-    } else {
-        Status::WriteFault
-    }
-}
-
-/// Writes the line that says why the input is not one game, where that is its fault.
-fn tell_none<K: Sink>(none: NoGame, output: &mut K) -> Status
-    ensures told { TellsNone none result (K.written output.old) (K.written output.new) }
-    ensures cause { HasCause (result ≡ Status.WriteFault) (K.write_faults output.old) (K.write_faults output.new) }
-{
-    match none {
-        NoGame::Bad(line) => tell_bad(line.items(), output),
-        NoGame::ReadFault => Status::ReadFault,
-        NoGame::InputFull => Status::InputFull,
-        NoGame::Memory => Status::Memory,
     }
 }
 

@@ -2,22 +2,19 @@
 #![tactic(auto)]
 
 mod answers;
-mod asking;
 mod counts;
 mod laws;
-mod no_game;
-mod reasons;
+mod outcome;
 mod replays;
 mod service;
 mod sessions;
 mod start;
-mod status;
-mod words;
 
+pub use command_runs::Status;
+pub use command_words::Asked;
 pub use laws::{counts_are_done, replays_answer_each_line, replays_are_done, sessions_are_done};
+pub use outcome::Outcome;
 pub use start::run;
-pub use status::{Outcome, Status};
-pub use words::Asked;
 
 #[cfg(test)]
 mod tests;

@@ -41,6 +41,8 @@ impl<G: Game> Replay<G> {
 impl<G: Game + Drop> LineService for Replay<G> {
     ghost service = { replays };
 
+    ghost takes_time = { false };
+
     fn preface(&self) -> &'static [u8] {
         b""
     }

@@ -1,13 +1,13 @@
 //! A service over a source and a sink: the reply to each line is written before the next line is read.
-ghost use Rattle.std.specs.Prelude.{◌≡◌, Some, IfOk, OnOk};
+ghost use Rattle.std.specs.Prelude.{◌≡◌, ◌≤◌, Bool, false, Some, IfOk, OnOk, OnErr};
 ghost use Rattle.std.specs.Thread.{IsSync};
 ghost use Rattle.io_edge.specs.Outside.{HasCause};
 ghost use Rattle.uhp_session.specs.Answers.{line_in, text_of, IsShort};
-ghost use Rattle.hive_cli.specs.Rounds.{Answers, Rounds, status_of};
+ghost use Rattle.hive_cli.specs.Rounds.{Answers, IsReply, Rounds, status_of};
 ghost use Rattle.hive_cli.specs.Service.{Service};
 ghost use Rattle.hive_cli.specs.ServiceRun.{ServiceRun};
 
-use crate::status::Status;
+use command_runs::Status;
 use hive_model::TimedList;
 use io_edge::{Clock, Sink, Source, write_all};
 use line_feed::{LineAnswer, LineReader};
@@ -20,11 +20,17 @@ pub(crate) trait LineService {
     /// What it answers, and what it becomes.
     ghost service: { Service Self };
 
+    /// Whether it may read the clock and append entries.
+    ghost takes_time: { Bool };
+
     /// What is written before the first line is read.
     fn preface(&self) -> &'static [u8]
         ensures { result.now ≡ service.preface };
 
     /// Answers a line. `Exit` ends the run.
+    ///
+    /// Where the line asks for a search for a time, one entry that tells of it is appended, and the reply is that at the entry's
+    /// depth. Where it asks for none, the clock is not read. After want of memory no entry is appended.
     fn answer<R: Threads + Sync, C: Clock>(
         &mut self,
         rt: &R,
@@ -35,10 +41,14 @@ pub(crate) trait LineService {
     ) -> Result<Reply, AllocError>
         requires sync { IsSync R.row }
         requires short { IsShort (line_in line) }
-        ensures reply { IfOk result (λ r. text_of r ≡ service.reply self.old (line_in line.entry)) }
+        ensures reply { IfOk result (λ r. IsReply service self.old (line_in line.entry) (text_of r)
+            (record { last = C.last clock.old; readings = C.readings clock.old; timed = timed.old })
+            (record { last = C.last clock.new; readings = C.readings clock.new; timed = timed.new })) }
         ensures next { OnOk result (self.new ≡ service.next self.old (line_in line.entry)) }
-        ensures clock { clock.new ≡ clock.old }
-        ensures timed { timed.new ≡ timed.old };
+        ensures memory { OnErr result (timed.new ≡ timed.old) }
+        ensures later { C.last clock.old ≤ C.last clock.new }
+        ensures clock { takes_time ≡ false → clock.new ≡ clock.old }
+        ensures timed { takes_time ≡ false → timed.new ≡ timed.old };
 
     /// Whether a line was refused until now, so that the run ends as `Refused`.
     fn has_refused(&self) -> bool
@@ -92,10 +102,12 @@ fn answer<R: Threads + Sync, K: Sink, C: Clock, V: LineService>(
     timed: &mut TimedList,
 ) -> Option<Stop>
     requires { IsShort (line_in line) }
-    ensures answers { Answers V.service result (line_in line.entry) service.old service.new (K.written output.old) (K.written output.new) }
+    ensures answers { Answers V.service result (line_in line.entry) service.old service.new (K.written output.old) (K.written output.new)
+        (record { last = C.last clock.old; readings = C.readings clock.old; timed = timed.old })
+        (record { last = C.last clock.new; readings = C.readings clock.new; timed = timed.new }) }
     ensures cause { HasCause (result ≡ Some Stop.WriteFailed) (K.write_faults output.old) (K.write_faults output.new) }
-    ensures clock { clock.new ≡ clock.old }
-    ensures timed { timed.new ≡ timed.old }
+    ensures clock { V.takes_time ≡ false → clock.new ≡ clock.old }
+    ensures timed { V.takes_time ≡ false → timed.new ≡ timed.old }
 {
     match service.answer(rt, alloc, line, clock, timed) {
         Ok(Reply::Text(text)) => {
@@ -122,12 +134,26 @@ fn serve_line<R: Threads + Sync, S: Source, K: Sink, C: Clock, V: LineService>(
     timed: &mut TimedList,
 ) -> Option<Stop>
     ensures round { Rounds V.service result
-        (record { state = service.old; reader = reader.old; sides = record { rest = S.rest input.old; written = K.written output.old } })
-        (record { state = service.new; reader = reader.new; sides = record { rest = S.rest input.new; written = K.written output.new } }) }
+        (record {
+          state = service.old;
+          reader = reader.old;
+          scene = record {
+            sides = record { rest = S.rest input.old; written = K.written output.old };
+            times = record { last = C.last clock.old; readings = C.readings clock.old; timed = timed.old };
+          };
+        })
+        (record {
+          state = service.new;
+          reader = reader.new;
+          scene = record {
+            sides = record { rest = S.rest input.new; written = K.written output.new };
+            times = record { last = C.last clock.new; readings = C.readings clock.new; timed = timed.new };
+          };
+        }) }
     ensures reads { HasCause (result ≡ Some Stop.ReadFailed) (S.read_faults input.old) (S.read_faults input.new) }
     ensures writes { HasCause (result ≡ Some Stop.WriteFailed) (K.write_faults output.old) (K.write_faults output.new) }
-    ensures clock { clock.new ≡ clock.old }
-    ensures timed { timed.new ≡ timed.old }
+    ensures clock { V.takes_time ≡ false → clock.new ≡ clock.old }
+    ensures timed { V.takes_time ≡ false → timed.new ≡ timed.old }
 {
     let line = match reader.next_line(input) {
         LineAnswer::Line => LineIn::Text(reader.line()),
@@ -152,12 +178,18 @@ pub(crate) fn serve<R: Threads + Sync, S: Source, K: Sink, C: Clock, V: LineServ
 ) -> Status
     requires { service.old ≡ V.service.begins }
     ensures run { ServiceRun V.service result
-        (record { rest = S.rest input.old; written = K.written output.old })
-        (record { rest = S.rest input.new; written = K.written output.new }) }
+        (record {
+          sides = record { rest = S.rest input.old; written = K.written output.old };
+          times = record { last = C.last clock.old; readings = C.readings clock.old; timed = timed.old };
+        })
+        (record {
+          sides = record { rest = S.rest input.new; written = K.written output.new };
+          times = record { last = C.last clock.new; readings = C.readings clock.new; timed = timed.new };
+        }) }
     ensures reads { HasCause (result ≡ Status.ReadFault) (S.read_faults input.old) (S.read_faults input.new) }
     ensures writes { HasCause (result ≡ Status.WriteFault) (K.write_faults output.old) (K.write_faults output.new) }
-    ensures clock { clock.new ≡ clock.old }
-    ensures timed { timed.new ≡ timed.old }
+    ensures clock { V.takes_time ≡ false → clock.new ≡ clock.old }
+    ensures timed { V.takes_time ≡ false → timed.new ≡ timed.old }
 {
     let Ok(mut reader) = LineReader::new(alloc) else {
         return Status::Memory;

@@ -1,9 +1,12 @@
 //! A session as a service: the greeting, and then the reply to each line.
+ghost use Rattle.std.specs.Prelude.{true};
 ghost use Rattle.hive_cli.specs.Session.{session};
 
 use crate::service::LineService;
-use hive_model::{Game, TimedList};
+use fast_game::FastGame;
+use hive_model::TimedList;
 use io_edge::Clock;
+use root_share::FreeGate;
 use std::alloc::{AllocError, Global};
 use std::thread::Threads;
 use uhp_session::{LineIn, Reply, Session};
@@ -11,8 +14,10 @@ use uhp_session::{LineIn, Reply, Session};
 /// What is written before the first line is read.
 const GREETING: &[u8] = b"id HiveReferee 1.0\nMosquito;Ladybug;Pillbug\nok\n";
 
-impl<G: Game + Drop> LineService for Session<G> {
+impl LineService for Session<FastGame> {
     ghost service = { session };
+
+    ghost takes_time = { true };
 
     fn preface(&self) -> &'static [u8] {
         GREETING
@@ -26,7 +31,7 @@ impl<G: Game + Drop> LineService for Session<G> {
         clock: &mut C,
         timed: &mut TimedList,
     ) -> Result<Reply, AllocError> {
-        self.command(rt, alloc, line, clock, timed)
+        self.command(rt, alloc, line, clock, timed, &FreeGate)
     }
 
     fn has_refused(&self) -> bool {

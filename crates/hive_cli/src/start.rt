@@ -1,21 +1,30 @@
 //! The run: what the words of the command line ask for.
 ghost use Rattle.std.specs.Prelude.{◌≡◌, ◌⊎◌, [], map, string_bytes};
 ghost use Rattle.io_edge.specs.Outside.{HasCause};
-ghost use Rattle.hive_cli.specs.Words.{AreOfNoCommand, IsInRange, TakeOption, Words};
-ghost use Rattle.hive_cli.specs.Run.{Never, RunOf, UsesClock, UsesSpawner};
-ghost use Rattle.hive_cli.specs.declared.words.Asked.{Asked};
+ghost use Rattle.command_words.specs.Words.{AreOfNoCommand, IsInRange, TakeOption, Words};
+ghost use Rattle.command_words.specs.Matches.{AreMatchWords};
+ghost use Rattle.match_command.specs.Match.{MatchRun, NoneIsOpen, means, scene};
+ghost use Rattle.match_core.specs.Keeps.{IsSetup};
+ghost use Rattle.hive_cli.specs.Run.{Engines, IsNoMatch, Never, RunOf, UsesClock, UsesSpawner};
+ghost use Rattle.command_words.specs.declared.asked.Asked.{Asked};
 
 use crate::counts::count;
+use crate::outcome::Outcome;
 use crate::replays::Replay;
 use crate::service::serve;
-use crate::status::{Outcome, Status};
-use crate::words::{Asked, asked_of};
+use certificate_commands::{certify, check};
+use command_runs::Status;
+use command_words::{Asked, asked_of, programs_of};
 use fast_game::FastGame;
+use grow_command::grow;
 use hive_model::{Game, TimedList};
 use io_edge::{Clock, Sink, Source, Spawner};
+use match_command::play_match;
+use match_core::Setup;
 use std::alloc::Global;
 use std::thread::Threads;
 use uhp_session::Session;
+use win_commands::{solve, verify};
 
 /// The game that the program plays on.
 type Played = FastGame;
@@ -26,6 +35,12 @@ type Played = FastGame;
 /// to each line of the input before the next line is read, until a line ends the run or the input ends. It is `Done` then.
 /// The first read or write that fails ends it with `ReadFault` or `WriteFault`, an input of 1,099,511,627,776 bytes or more
 /// with `InputFull`, and want of memory with `Memory`; what was written until then stays.
+///
+/// A line of a session may ask for the best move in a time. It is answered at the last depth, from 1 to 64, that its search has
+/// completed, and one entry of `timed` tells of it: the line's budget, that depth, and the first and the last reading of the clock.
+/// The entries stand in the order of these lines, and the searches do not overlap. Fewer than 64 plies are searched only where the
+/// budget was over at the last reading. The clock is read for nothing else. Where memory was wanting, the search of the last
+/// line has no entry.
 ///
 /// The word `replay` asks for a replay: each line of the input is answered by one line before the next line is read. Where it is
 /// a game string, of a finished game too, the answer is the written form of its game, and else `refused` and why. The run goes on
@@ -57,16 +72,28 @@ pub fn run<R: Threads + Sync, S: Source, K: Sink, C: Clock, P: Spawner>(
     ensures untimed { AreOfNoCommand words.now → result.timed ≡ [] }
     ensures does { (asked : Asked) → Words words.now asked → RunOf asked result.status
         (record {
-          sides = record { rest = S.rest input.old; written = K.written output.old };
-          last = C.last clock.old;
-          readings = C.readings clock.old;
-          timed = [];
+          scene = record {
+            sides = record { rest = S.rest input.old; written = K.written output.old };
+            times = record { last = C.last clock.old; readings = C.readings clock.old; timed = [] };
+          };
+          engines = record {
+            to_come = P.to_come spawner.old;
+            sent = P.sent spawner.old;
+            start_faults = P.start_faults spawner.old;
+            engine_faults = P.engine_faults spawner.old;
+          };
         })
         (record {
-          sides = record { rest = S.rest input.new; written = K.written output.new };
-          last = C.last clock.new;
-          readings = C.readings clock.new;
-          timed = result.timed;
+          scene = record {
+            sides = record { rest = S.rest input.new; written = K.written output.new };
+            times = record { last = C.last clock.new; readings = C.readings clock.new; timed = result.timed };
+          };
+          engines = record {
+            to_come = P.to_come spawner.new;
+            sent = P.sent spawner.new;
+            start_faults = P.start_faults spawner.new;
+            engine_faults = P.engine_faults spawner.new;
+          };
         }) }
     ensures reads { HasCause (result.status ≡ Status.ReadFault) (S.read_faults input.old) (S.read_faults input.new) }
     ensures writes { HasCause (result.status ≡ Status.WriteFault) (K.write_faults output.old) (K.write_faults output.new) }
@@ -76,8 +103,8 @@ pub fn run<R: Threads + Sync, S: Source, K: Sink, C: Clock, P: Spawner>(
 {
     let timed = TimedList::new(alloc);
     match asked_of(alloc, words) {
-        Ok(Some(asked)) => perform::<R, S, K, C, Played>(
-            rt, alloc, asked, input, output, clock, timed,
+        Ok(Some(asked)) => perform::<R, S, K, C, P, Played>(
+            rt, alloc, words, asked, input, output, clock, spawner, timed,
         ),
         Ok(None) => Outcome {
             status: Status::Usage,
@@ -90,8 +117,97 @@ pub fn run<R: Threads + Sync, S: Source, K: Sink, C: Clock, P: Spawner>(
     }
 }
 
-/// Does what is asked for.
-fn perform<R: Threads + Sync, S: Source, K: Sink, C: Clock, G: Game + Drop>(
+/// Plays the match that the words ask for, by this setup.
+fn matched<K: Sink, C: Clock, P: Spawner, G: Game + Drop>(
+    alloc: Global,
+    words: &[String],
+    setup: Setup,
+    output: &mut K,
+    clock: &mut C,
+    spawner: &mut P,
+) -> Status
+    requires words { AreMatchWords words.now setup }
+    requires setup { IsSetup setup }
+    ensures run { MatchRun setup result
+        (scene (K.written output.old) (means (C.last clock.old) (C.readings clock.old) (P.to_come spawner.old) (P.sent spawner.old) (P.start_faults spawner.old) (P.engine_faults spawner.old)))
+        (scene (K.written output.new) (means (C.last clock.new) (C.readings clock.new) (P.to_come spawner.new) (P.sent spawner.new) (P.start_faults spawner.new) (P.engine_faults spawner.new))) }
+    ensures closed { NoneIsOpen
+        (means (C.last clock.old) (C.readings clock.old) (P.to_come spawner.old) (P.sent spawner.old) (P.start_faults spawner.old) (P.engine_faults spawner.old))
+        (means (C.last clock.new) (C.readings clock.new) (P.to_come spawner.new) (P.sent spawner.new) (P.start_faults spawner.new) (P.engine_faults spawner.new)) }
+    ensures writes { HasCause (result ≡ Status.WriteFault) (K.write_faults output.old) (K.write_faults output.new) }
+    ensures starts { HasCause (result ≡ Status.SpawnFault) (P.start_faults spawner.old) (P.start_faults spawner.new) }
+{
+    let Ok(programs) = programs_of(alloc, words) else {
+        return Status::Memory;
+    };
+    play_match::<P, K, C, G>(
+        alloc,
+        programs.white.as_slice(),
+        programs.black.as_slice(),
+        setup,
+        output,
+        clock,
+        spawner,
+    )
+}
+
+/// Does what the words ask for.
+fn perform<R: Threads + Sync, S: Source, K: Sink, C: Clock, P: Spawner, G: Game + Send + Drop>(
+    rt: &R,
+    alloc: Global,
+    words: &[String],
+    asked: Asked,
+    input: &mut S,
+    output: &mut K,
+    clock: &mut C,
+    spawner: &mut P,
+    timed: TimedList,
+) -> Outcome
+    requires asked { Words words.now asked }
+    requires range { IsInRange asked }
+    requires none { timed ≡ [] }
+    ensures does { RunOf asked result.status
+        (record {
+          scene = record {
+            sides = record { rest = S.rest input.old; written = K.written output.old };
+            times = record { last = C.last clock.old; readings = C.readings clock.old; timed = [] };
+          };
+          engines = record {
+            to_come = P.to_come spawner.old;
+            sent = P.sent spawner.old;
+            start_faults = P.start_faults spawner.old;
+            engine_faults = P.engine_faults spawner.old;
+          };
+        })
+        (record {
+          scene = record {
+            sides = record { rest = S.rest input.new; written = K.written output.new };
+            times = record { last = C.last clock.new; readings = C.readings clock.new; timed = result.timed };
+          };
+          engines = record {
+            to_come = P.to_come spawner.new;
+            sent = P.sent spawner.new;
+            start_faults = P.start_faults spawner.new;
+            engine_faults = P.engine_faults spawner.new;
+          };
+        }) }
+    ensures reads { HasCause (result.status ≡ Status.ReadFault) (S.read_faults input.old) (S.read_faults input.new) }
+    ensures writes { HasCause (result.status ≡ Status.WriteFault) (K.write_faults output.old) (K.write_faults output.new) }
+    ensures starts { HasCause (result.status ≡ Status.SpawnFault) (P.start_faults spawner.old) (P.start_faults spawner.new) }
+    ensures clock { ¬ UsesClock asked → clock.new ≡ clock.old }
+    ensures spawner { ¬ UsesSpawner asked → spawner.new ≡ spawner.old }
+{
+    match asked {
+        Asked::Match(setup) => Outcome {
+            status: matched::<K, C, P, G>(alloc, words, setup, output, clock, spawner),
+            timed,
+        },
+        other => perform_alone::<R, S, K, C, G>(rt, alloc, other, input, output, clock, timed),
+    }
+}
+
+/// Does what is asked for, if it is no match.
+fn perform_alone<R: Threads + Sync, S: Source, K: Sink, C: Clock, G: Game + Send + Drop>(
     rt: &R,
     alloc: Global,
     asked: Asked,
@@ -100,28 +216,31 @@ fn perform<R: Threads + Sync, S: Source, K: Sink, C: Clock, G: Game + Drop>(
     clock: &mut C,
     mut timed: TimedList,
 ) -> Outcome
+    requires alone { IsNoMatch asked }
     requires range { IsInRange asked }
     requires none { timed ≡ [] }
-    ensures does { RunOf asked result.status
+    ensures does { (engines : Engines) → RunOf asked result.status
         (record {
-          sides = record { rest = S.rest input.old; written = K.written output.old };
-          last = C.last clock.old;
-          readings = C.readings clock.old;
-          timed = [];
+          scene = record {
+            sides = record { rest = S.rest input.old; written = K.written output.old };
+            times = record { last = C.last clock.old; readings = C.readings clock.old; timed = [] };
+          };
+          engines = engines;
         })
         (record {
-          sides = record { rest = S.rest input.new; written = K.written output.new };
-          last = C.last clock.new;
-          readings = C.readings clock.new;
-          timed = result.timed;
+          scene = record {
+            sides = record { rest = S.rest input.new; written = K.written output.new };
+            times = record { last = C.last clock.new; readings = C.readings clock.new; timed = result.timed };
+          };
+          engines = engines;
         }) }
     ensures reads { HasCause (result.status ≡ Status.ReadFault) (S.read_faults input.old) (S.read_faults input.new) }
     ensures writes { HasCause (result.status ≡ Status.WriteFault) (K.write_faults output.old) (K.write_faults output.new) }
-    ensures clock { clock.new ≡ clock.old }
+    ensures clock { ¬ UsesClock asked → clock.new ≡ clock.old }
 {
     let status = match asked {
         Asked::Session => {
-            let mut session: Session<G> = Session::new();
+            let mut session: Session<FastGame> = Session::new();
             serve(rt, alloc, &mut session, input, output, clock, &mut timed)
         }
         Asked::Replay => {
@@ -129,6 +248,12 @@ fn perform<R: Threads + Sync, S: Source, K: Sink, C: Clock, G: Game + Drop>(
             serve(rt, alloc, &mut replay, input, output, clock, &mut timed)
         }
         Asked::Count(plies) => count::<S, K, G>(alloc, plies, input, output),
+        Asked::Grow { seed, plies } => grow::<K, G>(alloc, seed, plies, output),
+        Asked::Certify(depth) => certify::<S, K, G>(alloc, depth, input, output),
+        Asked::Check => check::<S, K, G>(alloc, input, output),
+        Asked::Solve(plies) => solve::<S, K, G>(alloc, plies, input, output),
+        Asked::Verify => verify::<S, K, G>(alloc, input, output),
+        Asked::Match(_) => unreachable!(),
     };
     Outcome { status, timed }
 }

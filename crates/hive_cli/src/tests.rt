@@ -1,6 +1,7 @@
 //! Sessions over sources and sinks in memory.
 
 mod best;
+mod commands;
 mod counted;
 mod faults;
 mod lists;
@@ -9,7 +10,7 @@ mod replayed;
 mod turns;
 mod worked;
 
-use crate::{Status, run};
+use crate::{Outcome, Status, run};
 use io_edge::{MemSink, MemSource, MemSpawner, Sink, Source, StepClock};
 use std::alloc::{AllocError, Global};
 use std::process::Abort;
@@ -38,7 +39,7 @@ struct Seen {
     written: Vec<u8>,
 }
 
-/// Runs these words over these two sides.
+/// Runs these words over these two sides, and says with which status it ended.
 fn run_words<R: Threads + Sync, S: Source, K: Sink>(
     rt: &R,
     alloc: Global,
@@ -46,13 +47,25 @@ fn run_words<R: Threads + Sync, S: Source, K: Sink>(
     input: &mut S,
     output: &mut K,
 ) -> Result<Status, AllocError> {
+    let outcome = outcome_of(rt, alloc, words, input, output)?;
+    Ok(outcome.status)
+}
+
+/// Runs these words over these two sides. The clock goes on by a millisecond at each reading.
+fn outcome_of<R: Threads + Sync, S: Source, K: Sink>(
+    rt: &R,
+    alloc: Global,
+    words: &[&str],
+    input: &mut S,
+    output: &mut K,
+) -> Result<Outcome, AllocError> {
     let mut owned = Vec::new(alloc);
     for word in words {
         owned.push(String::from_str(alloc, word)?)?;
     }
     let mut clock = StepClock::new(0, 1);
     let mut spawner = MemSpawner::new(alloc, Vec::new(alloc), Vec::new(alloc));
-    let outcome = run(
+    Ok(run(
         rt,
         alloc,
         owned.as_slice(),
@@ -60,8 +73,7 @@ fn run_words<R: Threads + Sync, S: Source, K: Sink>(
         output,
         &mut clock,
         &mut spawner,
-    );
-    Ok(outcome.status)
+    ))
 }
 
 /// Runs in memory.

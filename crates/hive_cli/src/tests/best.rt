@@ -1,8 +1,12 @@
 //! Best moves of worked games.
 
 use crate::Status;
-use crate::tests::{GREETING, Setting, expect_run, expect_session, joined};
+use crate::tests::{GREETING, Setting, expect_run, expect_session, joined, outcome_of};
+use hive_model::Timed;
+use io_edge::{MemSink, MemSource};
+use std::alloc::{AllocError, Global};
 use std::test::Fail;
+use std::thread::Threads;
 
 const EMPTY: &str = "Base;NotStarted;White[1]\nok\n";
 
@@ -96,13 +100,55 @@ fn a_pass_may_be_the_best_move(rt: HostRuntime) -> Result<(), Fail> {
 fn what_is_no_question_is_refused(rt: HostRuntime) -> Result<(), Fail> {
     let lines = [
         "bestmove depth 1\nbestmove time 00:00:01\n",
-        "newgame\nbestmove time 00:00:01\nbestmove\nbestmove depth 0\n",
+        "newgame\nbestmove time 1\nbestmove\nbestmove depth 0\n",
     ];
     let replies = [
         "err 3 no game\nok\nerr 3 no game\nok\n",
         EMPTY,
-        "err 20 not built\nok\nerr 2 wrong arguments\nok\nerr 2 wrong arguments\nok\n",
+        "err 2 wrong arguments\nok\nerr 2 wrong arguments\nok\nerr 2 wrong arguments\nok\n",
     ];
     expect_session(&rt, rt.alloc(), &lines, &replies)?;
+    Ok(())
+}
+
+/// The entries of a session of these lines, whose clock goes on by a millisecond at each reading, and what it wrote.
+fn timed_session<R: Threads + Sync>(
+    rt: &R,
+    alloc: Global,
+    lines: &str,
+) -> Result<(Vec<Timed>, Vec<u8>), AllocError> {
+    let mut source = MemSource::new(
+        Vec::from_slice(alloc, lines.as_bytes())?,
+        Vec::new(alloc),
+        Vec::new(alloc),
+    );
+    let mut sink = MemSink::new(alloc, Vec::new(alloc), Vec::new(alloc));
+    let outcome = outcome_of(rt, alloc, &["uhp"], &mut source, &mut sink)?;
+    let entries = Vec::from_slice(alloc, outcome.timed.items())?;
+    Ok((entries, Vec::from_slice(alloc, sink.bytes())?))
+}
+
+#[test]
+fn no_time_is_time_for_one_ply(rt: HostRuntime) -> Result<(), Fail> {
+    let (entries, written) = timed_session(&rt, rt.alloc(), "newgame\nbestmove time 00:00:00\n")?;
+    let wanted = joined(rt.alloc(), GREETING, &[EMPTY, "wS1\nok\n"])?;
+    assert_eq!(rt; written.as_slice(), wanted.as_slice());
+    assert_eq!(rt; entries.len(), 1);
+    for entry in entries.iter() {
+        assert_eq!(rt; entry.depth, 1);
+        assert_eq!(rt; entry.budget, 0);
+    }
+    Ok(())
+}
+
+#[test]
+fn more_time_is_time_for_more_plies(rt: HostRuntime) -> Result<(), Fail> {
+    let lines = "newgame\nbestmove time 00:00:01\nbestmove depth 1\nbestmove time 00:00:00\n";
+    let (entries, _written) = timed_session(&rt, rt.alloc(), lines)?;
+    assert_eq!(rt; entries.len(), 2);
+    for (entry, budget) in entries.iter().zip([1000, 0]) {
+        assert_eq!(rt; entry.budget, budget);
+        assert_eq!(rt; entry.depth > 1, budget > 0);
+    }
     Ok(())
 }

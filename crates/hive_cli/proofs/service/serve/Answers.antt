@@ -4,18 +4,18 @@ use Rattle.hive_cli.proofs.Progress.{no_memory, preface_cut, run_begin, run_ends
 use Rattle.hive_cli.proofs.service.serve.Goals as goal
 
 pub returns-in_default-clause-run : goal.returns-in_default-clause-run
-returns-in_default-clause-run g c = no_memory _ _
+returns-in_default-clause-run g c = no_memory _ _ _ refl (record { last = refl; readings = refl; timed = refl })
 
 pub returns-then-not-write_all-clause-run : goal.returns-then-not-write_all-clause-run
-returns-then-not-write_all-clause-run g c = preface_cut _ _ _ _ refl c.preface.ensures c.if-not-write_all.ensures.part
+returns-then-not-write_all-clause-run g c = preface_cut g.V.LineService.service _ _ _ refl c.preface.ensures c.if-not-write_all.ensures.part (record { last = refl; readings = refl; timed = refl })
 
 pub lines-init : goal.lines-init
 lines-init g c = record {
-  run = run_begin _ _ _ _ refl c.in-Ok.ensures c.requires c.preface.ensures c.if-not-write_all.ensures.all;
+  run = run_begin g.V.LineService.service _ _ _ refl c.in-Ok.ensures c.requires c.preface.ensures c.if-not-write_all.ensures.all (record { last = refl; readings = refl; timed = refl });
   reads = refl;
   writes = c.if-not-write_all.ensures.cause.same (λ e. cc);
-  clock = refl;
-  timed = refl;
+  clock = λ still. refl;
+  timed = λ still. refl;
 }
 
 pub lines-preserved : goal.lines-preserved
@@ -23,8 +23,8 @@ lines-preserved g c = record {
   run = run_on c.lines.invariant.run c.in_default-serve_line.ensures.round;
   reads = c.in_default-serve_line.ensures.reads.same (λ e. cc) ∙ c.lines.invariant.reads;
   writes = c.in_default-serve_line.ensures.writes.same (λ e. cc) ∙ c.lines.invariant.writes;
-  clock = c.in_default-serve_line.ensures.clock ∙ c.lines.invariant.clock;
-  timed = c.in_default-serve_line.ensures.timed ∙ c.lines.invariant.timed;
+  clock = λ still. c.in_default-serve_line.ensures.clock still ∙ c.lines.invariant.clock still;
+  timed = λ still. c.in_default-serve_line.ensures.timed still ∙ c.lines.invariant.timed still;
 }
 
 pub returns-in-Some-clause-run : goal.returns-in-Some-clause-run

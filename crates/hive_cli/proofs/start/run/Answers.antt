@@ -1,15 +1,14 @@
 -- A run does what its words ask for.
-use Rattle.std.proofs.Common.{◌≡◌, refl, sym, ◌∙◌, subst, None, Some}
-use Rattle.hive_cli.specs.declared.words.Asked.{Asked}
-use Rattle.hive_cli.proofs.RunLemmas.{never_spawns, never_usage, run_of, starved}
-use Rattle.hive_cli.proofs.WordLemmas.{in_range}
+use Rattle.std.proofs.Common.{◌≡◌, refl, sym, ◌∙◌, None, Some}
+use Rattle.command_words.specs.declared.asked.Asked.{Asked}
+use Rattle.hive_cli.proofs.RunLemmas.{never_usage, run_of, starved}
 use Rattle.hive_cli.proofs.start.run.Goals as goal
 
 none_some : {a : Asked} → None ≡ Some a → ⊥
 none_some e = cc
 
 pub perform-requires-clause-range : goal.perform-requires-clause-range
-perform-requires-clause-range g c κs within = in_range c.args.words.now c.in-Ok-Some.asked (rw c.in-Ok-Some.field-0-is at c.in-Ok-Some.ensures.asked)
+perform-requires-clause-range g c κs within = rw c.in-Ok-Some.field-0-is at c.in-Ok-Some.ensures.range
 
 pub returns-in-Ok-Some-clause-usage : goal.returns-in-Ok-Some-clause-usage
 returns-in-Ok-Some-clause-usage g c = λ usage. absurd (never_usage c.in-Ok-Some.asked c.perform.result.status _ _ c.perform.ensures.does usage)
@@ -25,4 +24,4 @@ pub returns-in-Ok-None-clause-does : goal.returns-in-Ok-None-clause-does
 returns-in-Ok-None-clause-does g c = λ asked words. absurd (none_some (sym c.in-Ok-None.field-0-is ∙ c.in-Ok-None.ensures.only asked words))
 
 pub returns-in-Err-clause-does : goal.returns-in-Err-clause-does
-returns-in-Err-clause-does g c = λ asked words. starved asked _ _ refl (record { last = refl; readings = refl; timed = c.new-timed.ensures })
+returns-in-Err-clause-does g c = λ asked words. starved asked _ _ c.new-timed.ensures

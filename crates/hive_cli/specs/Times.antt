@@ -1,0 +1,32 @@
+-- What a run tells of the searches for a time that it answered.
+use Rattle.std.specs.Prelude.{◌≡◌, ℕ, ◌+◌, ◌≤◌, List, [], ◌∷◌, ◌++◌, map}
+use Rattle.hive_model.specs.declared.answers.Timed.{Timed}
+use Rattle.hive_model.specs.Minimax.{reads}
+use Rattle.uhp_session.specs.Searches.{IsToldOf, Search, Times}
+
+-- the depths that the searches of these entries completed
+abbrev pub depths : List Timed → List ℕ
+depths entries = map (λ entry. entry.depth) entries
+
+-- These entries tell of these searches, one of each, in order. They were answered one after
+-- another: each began when the one before had stopped, and all lie between these two readings of
+-- the clock.
+abbrev pub AreTold : List Search → ℕ → List Timed → ℕ → Type 0
+AreTold [] from [] to = from ≤ to
+AreTold [] from (entry ∷ entries) to = ⊥
+AreTold (asked ∷ others) from [] to = ⊥
+AreTold (asked ∷ others) from (entry ∷ entries) to =
+    IsToldOf asked entry × (from ≤ entry.started) × AreTold others entry.stopped entries to
+
+-- how often the clock may be read in these searches
+abbrev pub reads_of : List Search → List Timed → ℕ
+reads_of [] entries = 0
+reads_of (asked ∷ others) [] = 0
+reads_of (asked ∷ others) (entry ∷ entries) =
+    reads asked.position entry.depth + reads_of others entries
+
+-- these searches were answered, and nothing else was done that takes time
+pub record TellsOf (searches : List Search) (entries : List Timed) (before after : Times) : Type 0 where
+  pub appended : after.timed ≡ before.timed ++ entries
+  pub told : AreTold searches before.last entries after.last
+  pub few : after.readings ≤ before.readings + reads_of searches entries

@@ -1,0 +1,85 @@
+//! Each command by its words, once.
+
+use crate::Status;
+use crate::tests::{Setting, expect_run};
+use std::test::Fail;
+
+/// A certificate of the opening's best move, two plies deep.
+const CERTIFICATE: &str =
+    "hive-certificate 1\nBase;NotStarted;White[1]\ndepth 2\nmove wA1\nvalue 10\n0\n0\n0\n0\n";
+
+/// A proof that the opening is no win in two plies.
+const SOLUTION: &str =
+    "hive-solution 1\nBase;NotStarted;White[1]\nplies 2\nanswer no\n0\n0\n0\n0\n";
+
+/// A game of one move that the number 0 makes.
+const GROWN: &str =
+    "seed 0\ntype Base+MLP\nplies 1\nstate InProgress\nmoves 7\nundone 1\nbest bS1 -wG1\n\
+                     game Base+MLP;InProgress;Black[1];wG1\n";
+
+#[test]
+fn each_command_answers(rt: HostRuntime) -> Result<(), Fail> {
+    for (words, input, status, written) in [
+        (
+            ["certify", "--depth", "2"].as_slice(),
+            "Base\n",
+            Status::Done,
+            CERTIFICATE,
+        ),
+        (
+            ["certify", "--depth=2"].as_slice(),
+            "",
+            Status::BadInput,
+            "bad no line\n",
+        ),
+        (
+            ["check"].as_slice(),
+            CERTIFICATE,
+            Status::Done,
+            "accepted\n",
+        ),
+        (
+            ["check"].as_slice(),
+            SOLUTION,
+            Status::BadInput,
+            "bad line 1\n",
+        ),
+        (
+            ["solve", "--plies", "2"].as_slice(),
+            "Base\n",
+            Status::Done,
+            SOLUTION,
+        ),
+        (["verify"].as_slice(), SOLUTION, Status::Done, "accepted\n"),
+        (
+            ["verify"].as_slice(),
+            CERTIFICATE,
+            Status::BadInput,
+            "bad line 1\n",
+        ),
+        (
+            ["grow", "--seed", "0", "--plies", "1"].as_slice(),
+            "x\n",
+            Status::Done,
+            GROWN,
+        ),
+        (["grow", "1"].as_slice(), "", Status::Usage, ""),
+        (
+            ["match", "--white", "a", "--black", "b"].as_slice(),
+            "",
+            Status::SpawnFault,
+            "",
+        ),
+        (["match", "--white", "a"].as_slice(), "", Status::Usage, ""),
+    ] {
+        let setting = Setting {
+            words,
+            input: input.as_bytes(),
+            pieces: &[],
+            failing_read: 0,
+            failing_write: 0,
+        };
+        expect_run(&rt, rt.alloc(), setting, status, written.as_bytes())?;
+    }
+    Ok(())
+}
