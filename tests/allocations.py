@@ -17,12 +17,20 @@ DRAWN = (
     "Base;Draw;Black[7];wS1;bS1 wS1-;wQ /wS1;bQ bS1-;wQ wS1\\;bQ bS1\\;wG1 -wQ;bG1 bS1-;wB1 wG1\\;bB1 bQ-;wA1 -wB1;"
     "bA1 bQ\\;wA1 wQ\\"
 )
+CERTIFICATE = ["hive-certificate 1", "Base;NotStarted;White[1]", "depth 2", "move wA1", "value 10", "0", "0", "0", "0"]
+SOLUTION = ["hive-solution 1", "Base;NotStarted;White[1]", "plies 2", "answer no", "0", "0", "0", "0"]
 RUNS = [
     ("a short session", ["uhp"], ["newgame", "validmoves", "play wS1", "undo", "options set Table 1", "help", "newgame Base+MLP", "validmoves"]),
     ("a drawn game", ["uhp"], ["newgame " + DRAWN, "validmoves", "undo", "validmoves"]),
     ("a win", ["uhp"], ["newgame " + WON, "bestmove depth 1", "bestmove depth 2", "play wA1 wB1-"]),
     ("a replay", ["replay"], [DRAWN, "Base;InProgress;White[1]", "Base"]),
     ("a count", ["count", "--plies", "2"], ["Base+MLP"]),
+    ("a search for a time", ["uhp"], ["newgame " + WON, "bestmove time 00:00:00", "options set Workers 2", "bestmove depth 1"]),
+    ("a certificate", ["certify", "--depth", "2"], ["Base"]),
+    ("a check", ["check"], CERTIFICATE),
+    ("a forced win", ["solve", "--plies", "1"], [WON]),
+    ("a check of it", ["verify"], SOLUTION),
+    ("a made game", ["grow", "--seed", "0", "--plies", "10"], []),
 ]
 
 

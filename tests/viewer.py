@@ -51,7 +51,7 @@ def short_game(program):
         ("validmoves", ["wS1;wB1;wG1;wA1"]),
         ("bestmove depth 1", ["wS1"]),
         ("bestmove depth 2", ["wA1"]),
-        ("bestmove time 00:00:01", ["err 20 not built"]),
+        ("bestmove time 00:00", ["err 2 wrong arguments"]),
         ("play wS1", ["Base;InProgress;Black[1];wS1"]),
         ("validmoves", [seconds]),
         ("play wS1", ["invalidmove 1 unreadable"]),
