@@ -1,6 +1,6 @@
 //! The head of a certificate.
 
-ghost use Rattle.std.specs.Prelude.{◌≡◌, ◌≢◌, ◌≤◌, ℕ, List, length, Some, Err, IfOk, IfSome};
+ghost use Rattle.std.specs.Prelude.{◌≡◌, ◌≢◌, ◌<◌, ◌≤◌, ℕ, List, length, Some, Err, IfOk, IfSome};
 ghost use Rattle.io_edge.specs.Outside.{HasCause};
 ghost use Rattle.line_feed.specs.Feed.{input_limit};
 ghost use Rattle.line_feed.specs.Ahead.{ahead_of};
@@ -18,6 +18,7 @@ ghost use Rattle.certificate_text.specs.Text.{
   with_game,
   head_of,
 };
+ghost use Rattle.certificate_text.specs.Taken.{HasRead};
 ghost use Rattle.certificate_text.specs.Heads.{IsHead, Parses, ReadsGame, ReadsHead, TakesLine, in_all};
 
 use crate::fields::{depth_at, move_at, value_at, version_at};
@@ -58,6 +59,7 @@ pub enum HeadFault {
 /// # Errors
 ///
 /// A line that is missing or too long, a failed read, and a reader that takes no more.
+#[tactic(auto, using(crate::proofs::TakenLaws::read_on))]
 pub fn next_text<S: Source>(
     reader: &mut LineReader,
     source: &mut S,
@@ -69,6 +71,8 @@ pub fn next_text<S: Source>(
     ensures full { result ≡ Err HeadFault.InputFull → reader.new.taken ≡ input_limit }
     ensures cause { HasCause (result ≡ Err HeadFault.ReadFault) (S.read_faults source.old) (S.read_faults source.new) }
     ensures bytes { in_all reader.new (S.rest source.new) ≡ in_all reader.old (S.rest source.old) }
+    ensures failed { result ≡ Err HeadFault.ReadFault → reader.new.taken < input_limit }
+    ensures read { (input : List ℕ) → HasRead input (S.rest source.old) reader.old → HasRead input (S.rest source.new) reader.new }
 {
     match reader.next_line(source) {
         LineAnswer::Line => Ok(()),
@@ -91,6 +95,8 @@ fn read_version<S: Source>(
     ensures full { result ≡ Err HeadFault.InputFull → reader.new.taken ≡ input_limit }
     ensures cause { HasCause (result ≡ Err HeadFault.ReadFault) (S.read_faults source.old) (S.read_faults source.new) }
     ensures bytes { in_all reader.new (S.rest source.new) ≡ in_all reader.old (S.rest source.old) }
+    ensures failed { result ≡ Err HeadFault.ReadFault → reader.new.taken < input_limit }
+    ensures read { (input : List ℕ) → HasRead input (S.rest source.old) reader.old → HasRead input (S.rest source.new) reader.new }
 {
     if let Err(fault) = next_text(reader, source, 1) {
         return Err(fault);
@@ -134,6 +140,8 @@ fn read_game_line<G: Game + Drop, S: Source>(
     ensures full { result ≡ Err HeadFault.InputFull → reader.new.taken ≡ input_limit }
     ensures cause { HasCause (result ≡ Err HeadFault.ReadFault) (S.read_faults source.old) (S.read_faults source.new) }
     ensures bytes { in_all reader.new (S.rest source.new) ≡ in_all reader.old (S.rest source.old) }
+    ensures failed { result ≡ Err HeadFault.ReadFault → reader.new.taken < input_limit }
+    ensures read { (input : List ℕ) → HasRead input (S.rest source.old) reader.old → HasRead input (S.rest source.new) reader.new }
 {
     if let Err(fault) = next_text(reader, source, 2) {
         return Err(fault);
@@ -150,6 +158,8 @@ fn read_depth<S: Source>(reader: &mut LineReader, source: &mut S) -> Result<u32,
     ensures full { result ≡ Err HeadFault.InputFull → reader.new.taken ≡ input_limit }
     ensures cause { HasCause (result ≡ Err HeadFault.ReadFault) (S.read_faults source.old) (S.read_faults source.new) }
     ensures bytes { in_all reader.new (S.rest source.new) ≡ in_all reader.old (S.rest source.old) }
+    ensures failed { result ≡ Err HeadFault.ReadFault → reader.new.taken < input_limit }
+    ensures read { (input : List ℕ) → HasRead input (S.rest source.old) reader.old → HasRead input (S.rest source.new) reader.new }
 {
     if let Err(fault) = next_text(reader, source, 3) {
         return Err(fault);
@@ -182,6 +192,8 @@ fn read_claim_text<S: Source>(
     ensures full { result ≡ Err HeadFault.InputFull → reader.new.taken ≡ input_limit }
     ensures cause { HasCause (result ≡ Err HeadFault.ReadFault) (S.read_faults source.old) (S.read_faults source.new) }
     ensures bytes { in_all reader.new (S.rest source.new) ≡ in_all reader.old (S.rest source.old) }
+    ensures failed { result ≡ Err HeadFault.ReadFault → reader.new.taken < input_limit }
+    ensures read { (input : List ℕ) → HasRead input (S.rest source.old) reader.old → HasRead input (S.rest source.new) reader.new }
 {
     if let Err(fault) = next_text(reader, source, 4) {
         return Err(fault);
@@ -204,6 +216,8 @@ fn read_value<S: Source>(reader: &mut LineReader, source: &mut S) -> Result<i32,
     ensures full { result ≡ Err HeadFault.InputFull → reader.new.taken ≡ input_limit }
     ensures cause { HasCause (result ≡ Err HeadFault.ReadFault) (S.read_faults source.old) (S.read_faults source.new) }
     ensures bytes { in_all reader.new (S.rest source.new) ≡ in_all reader.old (S.rest source.old) }
+    ensures failed { result ≡ Err HeadFault.ReadFault → reader.new.taken < input_limit }
+    ensures read { (input : List ℕ) → HasRead input (S.rest source.old) reader.old → HasRead input (S.rest source.new) reader.new }
 {
     if let Err(fault) = next_text(reader, source, 5) {
         return Err(fault);
@@ -235,6 +249,8 @@ pub fn read_head<G: Game + Drop, S: Source>(
     ensures full { result ≡ Err HeadFault.InputFull → reader.new.taken ≡ input_limit }
     ensures cause { HasCause (result ≡ Err HeadFault.ReadFault) (S.read_faults source.old) (S.read_faults source.new) }
     ensures bytes { in_all reader.new (S.rest source.new) ≡ in_all reader.old (S.rest source.old) }
+    ensures failed { result ≡ Err HeadFault.ReadFault → reader.new.taken < input_limit }
+    ensures read { (input : List ℕ) → HasRead input (S.rest source.old) reader.old → HasRead input (S.rest source.new) reader.new }
 {
     let version = match read_version(reader, source, newest) {
         Ok(version) => version,

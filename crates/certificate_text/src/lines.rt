@@ -6,6 +6,7 @@ ghost use Rattle.line_feed.specs.Feed.{input_limit};
 ghost use Rattle.line_feed.specs.Ahead.{ahead_of};
 ghost use Rattle.certificate_text.specs.Text.{index_in};
 ghost use Rattle.certificate_text.specs.Heads.{in_all};
+ghost use Rattle.certificate_text.specs.Taken.{HasRead, StopsAt};
 
 use crate::fields::index_at;
 use io_edge::Source;
@@ -57,6 +58,10 @@ impl<S: Source> Indices for LineIndices<'_, '_, S> {
       references = s.reader.ghost_name ∷ s.source.ghost_name ∷ [];
       bytes = in_all s.reader.now (S.rest s.source.now);
     } };
+
+    ghost known = { λ s input. HasRead input (S.rest s.source.now) s.reader.now };
+
+    ghost met = { λ s answer. StopsAt answer s.reader.now };
 
     fn take(&mut self) -> IndexAnswer {
         match self.reader.next_line(self.source) {

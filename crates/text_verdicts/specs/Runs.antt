@@ -1,48 +1,92 @@
 -- What a command that checks a text writes and reads, by the status with which it ends.
-use Rattle.std.specs.Prelude.{◌≡◌, ℕ, ◌+◌, ◌<◌, List, length, take, Some}
+use Rattle.std.specs.Prelude.{◌≡◌, ℕ, ◌<◌, List, length, take}
 use Rattle.io_edge.specs.Outside.{Told, behind}
 use Rattle.hive_model.specs.Lines.{Line, lines}
 use Rattle.line_feed.specs.Feed.{input_limit}
-use Rattle.command_runs.specs.Input.{Sides, WhereTold}
+use Rattle.line_feed.specs.SoFar.{WasRead}
+use Rattle.strategy_check.specs.declared.answers.Why.{Why}
+use Rattle.strategy_check.specs.declared.answers.Why.TheVariants.{NoSuchMove, BadIndex, LeafFails, TooShort, Rest}
+use Rattle.command_runs.specs.Input.{IsAllRead, Sides, WereRead, WhereTold}
 use Rattle.command_runs.specs.declared.status.Status.{Status}
-use Rattle.command_runs.specs.declared.status.Status.TheVariants.{Done, Refused, Usage, ReadFault, WriteFault, SpawnFault, BadInput, Memory, InputFull}
+use Rattle.command_runs.specs.declared.status.Status.TheVariants.{Done, Refused as IsRefused, Usage, ReadFault, WriteFault, SpawnFault, BadInput, Memory, InputFull}
 use Rattle.text_verdicts.specs.declared.verdict.Verdict.{Verdict}
+use Rattle.text_verdicts.specs.declared.verdict.Verdict.TheVariants.{Accepted, Refused, BadCite, BadLine, BadGame, GameOver}
 use Rattle.text_verdicts.specs.Verdicts.{verdict_line, status_of}
 
 -- what the lines of a text are worth
 abbrev pub Judgement : Type 0
 Judgement = List Line → Verdict
 
--- the line of this verdict was written, and the status is that of the verdict
-pub record WroteVerdict (worth : Verdict) (status : Status) (before after : Sides) : Type 0 where
-  pub status_is : status_of worth ≡ status
-  pub wrote : after.written ≡ behind before.written (verdict_line worth)
+-- Reading
 
--- of the line of this verdict the first n bytes were written, and not all
-pub record CutVerdict (worth : Verdict) (before after : Sides) (n : ℕ) : Type 0 where
-  pub cut : n < length (verdict_line worth)
-  pub wrote : after.written ≡ behind before.written (take n (verdict_line worth))
+-- first lines of the input were read, and at most a piece beyond them, within the limit
+abbrev pub SomeWereRead : List ℕ → Told → Type 0
+SomeWereRead input rest = (read : List Line) × WereRead input rest read
+
+-- what was read where this is the first fault: where an index is missing, all of the input
+abbrev pub WasReadToRefuse : Why → List ℕ → Told → Type 0
+WasReadToRefuse NoSuchMove input rest = SomeWereRead input rest
+WasReadToRefuse BadIndex input rest = SomeWereRead input rest
+WasReadToRefuse LeafFails input rest = SomeWereRead input rest
+WasReadToRefuse TooShort input rest = IsAllRead input rest
+WasReadToRefuse Rest input rest = SomeWereRead input rest
+
+-- What was read where the lines of the input are worth this. What is accepted was read to its end,
+-- since nothing may be left over.
+abbrev pub WasReadToJudge : Verdict → List ℕ → Told → Type 0
+WasReadToJudge Accepted input rest = IsAllRead input rest
+WasReadToJudge (Refused place why) input rest = WasReadToRefuse why input rest
+WasReadToJudge (BadCite place) input rest = SomeWereRead input rest
+WasReadToJudge (BadLine n) input rest = SomeWereRead input rest
+WasReadToJudge (BadGame fault) input rest = SomeWereRead input rest
+WasReadToJudge GameOver input rest = SomeWereRead input rest
+
+-- fewer bytes than a run may read have left the input
+abbrev pub TookLess : List ℕ → Told → Type 0
+TookLess input rest =
+    (bytes : List ℕ) × (left : List ℕ) × WasRead input rest bytes left
+    × (length bytes < input_limit)
 
 -- as many bytes as a run may read have left the input
 abbrev pub TookLimit : List ℕ → Told → Type 0
 TookLimit input rest =
-    (left : List ℕ) × (rest ≡ Some left) × (length input ≡ input_limit + length left)
+    (bytes : List ℕ) × (left : List ℕ) × WasRead input rest bytes left
+    × (length bytes ≡ input_limit)
+
+-- Writing
+
+-- the line of this verdict on the input was written, and the status is that of the verdict
+pub record WroteVerdict (worth : Verdict) (status : Status) (input : List ℕ) (before after : Sides)
+    : Type 0 where
+  pub status_is : status_of worth ≡ status
+  pub wrote : after.written ≡ behind before.written (verdict_line worth)
+  pub was_read : WasReadToJudge worth input after.rest
+
+-- of the line of this verdict on the input the first n bytes were written, and not all
+pub record CutVerdict (worth : Verdict) (input : List ℕ) (before after : Sides) (n : ℕ) : Type 0
+  where
+    pub cut : n < length (verdict_line worth)
+    pub wrote : after.written ≡ behind before.written (take n (verdict_line worth))
+    pub was_read : WasReadToJudge worth input after.rest
 
 -- A check writes the line of the verdict on the lines of the input. Where a read has failed, the
 -- limit is reached or memory is wanting, nothing was written.
 abbrev pub VerdictRun : Judgement → Status → Sides → Sides → Type 0
 VerdictRun verdict Done before after =
-    WhereTold before.rest (λ input. WroteVerdict (verdict (lines input)) Done before after)
-VerdictRun verdict Refused before after =
-    WhereTold before.rest (λ input. WroteVerdict (verdict (lines input)) Refused before after)
+    WhereTold before.rest (λ input. WroteVerdict (verdict (lines input)) Done input before after)
+VerdictRun verdict IsRefused before after =
+    WhereTold before.rest
+    (λ input. WroteVerdict (verdict (lines input)) IsRefused input before after)
 VerdictRun verdict BadInput before after =
-    WhereTold before.rest (λ input. WroteVerdict (verdict (lines input)) BadInput before after)
+    WhereTold before.rest
+    (λ input. WroteVerdict (verdict (lines input)) BadInput input before after)
 VerdictRun verdict WriteFault before after =
-    WhereTold before.rest (λ input. (n : ℕ) × CutVerdict (verdict (lines input)) before after n)
-VerdictRun verdict ReadFault before after = after.written ≡ before.written
+    WhereTold before.rest
+    (λ input. (n : ℕ) × CutVerdict (verdict (lines input)) input before after n)
+VerdictRun verdict ReadFault before after =
+    (after.written ≡ before.written) × WhereTold before.rest (λ input. TookLess input after.rest)
 VerdictRun verdict InputFull before after =
-    (after.written ≡ before.written)
-    × WhereTold before.rest (λ input. TookLimit input after.rest)
+    (after.written ≡ before.written) × WhereTold before.rest (λ input. TookLimit input after.rest)
 VerdictRun verdict Memory before after = after.written ≡ before.written
 VerdictRun verdict Usage before after = ⊥
 VerdictRun verdict SpawnFault before after = ⊥

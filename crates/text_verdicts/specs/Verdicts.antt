@@ -10,7 +10,7 @@ use Rattle.command_runs.specs.Reasons.{reason}
 use Rattle.command_runs.specs.declared.status.Status.{Status}
 use Rattle.command_runs.specs.declared.status.Status.TheVariants.{Done, Refused as IsRefused, BadInput}
 use Rattle.text_verdicts.specs.declared.verdict.Verdict.{Verdict}
-use Rattle.text_verdicts.specs.declared.verdict.Verdict.TheVariants.{Accepted, Refused, BadLine, BadGame, GameOver}
+use Rattle.text_verdicts.specs.declared.verdict.Verdict.TheVariants.{Accepted, Refused, BadCite, BadLine, BadGame, GameOver}
 
 -- The walk of the indices behind a head of so many lines. The index before which n were taken
 -- stands on the line n + 1 behind the head, and no count goes beyond the greatest u64.
@@ -35,6 +35,7 @@ line_of start text = start ++ (text ++ 10 ∷ [])
 abbrev pub verdict_line : Verdict → List ℕ
 verdict_line Accepted = line_of (codes "accepted") []
 verdict_line (Refused place why) = line_of (codes "refused ") (why_word why ++ decimal place)
+verdict_line (BadCite place) = line_of (codes "refused ") (codes "cite " ++ decimal place)
 verdict_line (BadLine n) = bad_line (codes "line " ++ decimal n)
 verdict_line (BadGame fault) = bad_line (reason fault)
 verdict_line GameOver = bad_line (codes "game over")
@@ -43,6 +44,7 @@ verdict_line GameOver = bad_line (codes "game over")
 abbrev pub status_of : Verdict → Status
 status_of Accepted = Done
 status_of (Refused place why) = IsRefused
+status_of (BadCite place) = IsRefused
 status_of (BadLine n) = BadInput
 status_of (BadGame fault) = BadInput
 status_of GameOver = BadInput

@@ -61,6 +61,11 @@ fn verdicts_are_told(rt: HostRuntime) -> Result<(), Fail> {
         ),
         (refused(4, Why::Rest), Status::Refused, "refused rest 4\n"),
         (
+            Ok(Verdict::BadCite { place: 2 }),
+            Status::Refused,
+            "refused cite 2\n",
+        ),
+        (
             Ok(Verdict::BadLine { line: 6 }),
             Status::BadInput,
             "bad line 6\n",

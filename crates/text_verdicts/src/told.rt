@@ -47,6 +47,10 @@ fn verdict_line(alloc: Global, verdict: &Verdict) -> Result<ReplyText, AllocErro
             let text = numbered(alloc, why_word(why).as_bytes(), place)?;
             line_for(alloc, b"refused ", text.items())
         }
+        Verdict::BadCite { place } => {
+            let text = numbered(alloc, b"cite ", place)?;
+            line_for(alloc, b"refused ", text.items())
+        }
         Verdict::BadLine { line } => {
             let text = numbered(alloc, b"line ", line)?;
             line_for(alloc, b"bad ", text.items())
@@ -65,7 +69,7 @@ fn status_of(verdict: &Verdict) -> Status
 {
     match *verdict {
         Verdict::Accepted => Status::Done,
-        Verdict::Refused { .. } => Status::Refused,
+        Verdict::Refused { .. } | Verdict::BadCite { .. } => Status::Refused,
         Verdict::BadLine { .. } | Verdict::BadGame { .. } | Verdict::GameOver => Status::BadInput,
     }
 }

@@ -1,12 +1,15 @@
 //! What a text that is checked is worth.
 
-ghost use Rattle.std.specs.Prelude.{◌≡◌, ◌↔◌, Err};
+ghost use Rattle.std.specs.Prelude.{◌≡◌, ◌↔◌, ◌<◌, Err};
+ghost use Rattle.line_feed.specs.Feed.{Reading, input_limit};
 ghost use Rattle.claim_walks.specs.Walks.{Outcome};
 ghost use Rattle.strategy_check.specs.Trace.{Steps};
 ghost use Rattle.strategy_check.specs.declared.answers.Why.{Why as AnyWhy};
 ghost use Rattle.strategy_check.specs.Checks.{Answers, CountsBad};
+ghost use Rattle.strategy_check.specs.Causes.{Ended};
+ghost use Rattle.certificate_text.specs.Taken.{StopsAt};
 ghost use Rattle.text_verdicts.specs.Verdicts.{of_walk};
-ghost use Rattle.text_verdicts.specs.Reading.{Judges, of_fault};
+ghost use Rattle.text_verdicts.specs.Reading.{Judges, StopsWith, of_fault};
 
 use certificate_text::HeadFault;
 use game_text::GameFault;
@@ -21,6 +24,9 @@ pub enum Verdict {
     /// The first fault of its claim or its indices, and how many indices were taken before it, at
     /// most the greatest u64; a bad index counts as taken.
     Refused { place: u64, why: Why },
+    /// What is cited was not shown, or does not serve; and how many tokens were taken before, at
+    /// most the greatest u64, itself among them.
+    BadCite { place: u64 },
     /// The first line that is missing, too long or not of its form, counted from 1.
     BadLine { line: u64 },
     /// What is wrong with the second line as a game. It is never want of memory.
@@ -45,6 +51,8 @@ pub fn fault_verdict(fault: HeadFault) -> Result<Verdict, Unread>
     ensures is { result ≡ of_fault fault }
     ensures failed { (result ≡ Err Unread.ReadFault) ↔ (fault ≡ HeadFault.ReadFault) }
     ensures full { result ≡ Err Unread.InputFull → fault ≡ HeadFault.InputFull }
+    ensures stops { (reader : Reading) → (fault ≡ HeadFault.ReadFault → reader.taken < input_limit)
+        → (fault ≡ HeadFault.InputFull → reader.taken ≡ input_limit) → StopsWith result reader }
 {
     match fault {
         HeadFault::BadLine { line } => Ok(Verdict::BadLine { line: line as u64 }),
@@ -61,6 +69,8 @@ pub fn verdict_of(checked: Checked, head: u32, lines: u64) -> Result<Verdict, Un
         → Judges result (of_walk head o) }
     ensures failed { (result ≡ Err Unread.ReadFault) ↔ (checked ≡ Checked.Halted Halt.Failed) }
     ensures full { result ≡ Err Unread.InputFull → checked ≡ Checked.Halted Halt.Full }
+    ensures stops { (reader : Reading) → Ended (λ answer. StopsAt answer reader) checked
+        → StopsWith result reader }
 {
     match checked {
         Checked::Accepted => Ok(Verdict::Accepted),

@@ -1,12 +1,12 @@
 //! The head of a solution.
 
-ghost use Rattle.std.specs.Prelude.{◌≡◌, ◌≤◌, List, length, Some, Err, IfOk};
+ghost use Rattle.std.specs.Prelude.{◌≡◌, ◌<◌, ◌≤◌, ℕ, List, length, Some, Err, IfOk};
 ghost use Rattle.io_edge.specs.Outside.{HasCause};
 ghost use Rattle.line_feed.specs.Feed.{input_limit};
 ghost use Rattle.line_feed.specs.Ahead.{ahead_of};
 ghost use Rattle.hive_model.specs.Lines.{Line as AnyLine};
 ghost use Rattle.hive_model.specs.Games.{IsGame};
-ghost use Rattle.certificate_text.specs.Heads.{in_all};
+ghost use Rattle.certificate_text.specs.Taken.{HasRead};
 ghost use Rattle.win_commands.specs.Text.{answer_at, plies_at, version_at};
 ghost use Rattle.win_commands.specs.Verdicts.{field_in, game_in, head_of};
 ghost use Rattle.win_commands.specs.Reading.{Reads};
@@ -36,7 +36,9 @@ fn read_version<S: Source>(reader: &mut LineReader, source: &mut S) -> Result<u6
     ensures full { result ≡ Err HeadFault.InputFull → reader.new.taken ≡ input_limit }
     ensures cause { HasCause (result ≡ Err HeadFault.ReadFault)
         (S.read_faults source.old) (S.read_faults source.new) }
-    ensures bytes { in_all reader.new (S.rest source.new) ≡ in_all reader.old (S.rest source.old) }
+    ensures failed { result ≡ Err HeadFault.ReadFault → reader.new.taken < input_limit }
+    ensures read { (text : List ℕ) → HasRead text (S.rest source.old) reader.old
+        → HasRead text (S.rest source.new) reader.new }
 {
     if let Err(fault) = next_text(reader, source, 1) {
         return Err(fault);
@@ -59,7 +61,9 @@ fn read_game_line<G: Game + Drop, S: Source>(
     ensures full { result ≡ Err HeadFault.InputFull → reader.new.taken ≡ input_limit }
     ensures cause { HasCause (result ≡ Err HeadFault.ReadFault)
         (S.read_faults source.old) (S.read_faults source.new) }
-    ensures bytes { in_all reader.new (S.rest source.new) ≡ in_all reader.old (S.rest source.old) }
+    ensures failed { result ≡ Err HeadFault.ReadFault → reader.new.taken < input_limit }
+    ensures read { (text : List ℕ) → HasRead text (S.rest source.old) reader.old
+        → HasRead text (S.rest source.new) reader.new }
 {
     if let Err(fault) = next_text(reader, source, 2) {
         return Err(fault);
@@ -76,7 +80,9 @@ fn read_plies<S: Source>(reader: &mut LineReader, source: &mut S) -> Result<u32,
     ensures full { result ≡ Err HeadFault.InputFull → reader.new.taken ≡ input_limit }
     ensures cause { HasCause (result ≡ Err HeadFault.ReadFault)
         (S.read_faults source.old) (S.read_faults source.new) }
-    ensures bytes { in_all reader.new (S.rest source.new) ≡ in_all reader.old (S.rest source.old) }
+    ensures failed { result ≡ Err HeadFault.ReadFault → reader.new.taken < input_limit }
+    ensures read { (text : List ℕ) → HasRead text (S.rest source.old) reader.old
+        → HasRead text (S.rest source.new) reader.new }
 {
     if let Err(fault) = next_text(reader, source, 3) {
         return Err(fault);
@@ -95,7 +101,9 @@ fn read_answer<S: Source>(reader: &mut LineReader, source: &mut S) -> Result<boo
     ensures full { result ≡ Err HeadFault.InputFull → reader.new.taken ≡ input_limit }
     ensures cause { HasCause (result ≡ Err HeadFault.ReadFault)
         (S.read_faults source.old) (S.read_faults source.new) }
-    ensures bytes { in_all reader.new (S.rest source.new) ≡ in_all reader.old (S.rest source.old) }
+    ensures failed { result ≡ Err HeadFault.ReadFault → reader.new.taken < input_limit }
+    ensures read { (text : List ℕ) → HasRead text (S.rest source.old) reader.old
+        → HasRead text (S.rest source.new) reader.new }
 {
     if let Err(fault) = next_text(reader, source, 4) {
         return Err(fault);
@@ -120,7 +128,9 @@ pub(crate) fn read_head<G: Game + Drop, S: Source>(
     ensures full { result ≡ Err HeadFault.InputFull → reader.new.taken ≡ input_limit }
     ensures cause { HasCause (result ≡ Err HeadFault.ReadFault)
         (S.read_faults source.old) (S.read_faults source.new) }
-    ensures bytes { in_all reader.new (S.rest source.new) ≡ in_all reader.old (S.rest source.old) }
+    ensures failed { result ≡ Err HeadFault.ReadFault → reader.new.taken < input_limit }
+    ensures read { (text : List ℕ) → HasRead text (S.rest source.old) reader.old
+        → HasRead text (S.rest source.new) reader.new }
 {
     if let Err(fault) = read_version(reader, source) {
         return Err(fault);

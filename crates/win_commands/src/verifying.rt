@@ -2,16 +2,14 @@
 
 ghost use Rattle.std.specs.Prelude.{◌≡◌, ◌≤◌, ℕ, List, length, map, Some, Err};
 ghost use Rattle.io_edge.specs.Outside.{HasCause};
-ghost use Rattle.line_feed.specs.Feed.{input_limit};
 ghost use Rattle.line_feed.specs.Ahead.{ahead_of};
 ghost use Rattle.hive_model.specs.Lines.{Line as AnyLine, lines};
 ghost use Rattle.hive_model.specs.Games.{IsGame};
 ghost use Rattle.hive_model.specs.Minimax.{IsInner};
 ghost use Rattle.hive_model.specs.Courses.{position};
 ghost use Rattle.certificate_text.specs.Text.{index_in};
-ghost use Rattle.certificate_text.specs.Heads.{in_all};
-ghost use Rattle.text_verdicts.specs.Reading.{Judges};
-ghost use Rattle.text_verdicts.specs.Runs.{TookLimit};
+ghost use Rattle.certificate_text.specs.Taken.{HasRead};
+ghost use Rattle.text_verdicts.specs.Reading.{Judges, StopsWith, WasReadAs};
 ghost use Rattle.win_commands.specs.Verdicts.{of_claim, of_items, verdict};
 ghost use Rattle.win_commands.specs.Runs.{VerifyRun};
 
@@ -44,10 +42,11 @@ fn judge_indices<S: Source, G: Game>(
     requires room { plies ≤ stack.old.free }
     ensures judged { (left : List AnyLine) → ahead_of reader.old (S.rest input.old) ≡ Some left
         → Judges result (of_items (position (G.course game.old)) plies answer (map index_in left)) }
-    ensures full { result ≡ Err Unread.InputFull → reader.new.taken ≡ input_limit }
+    ensures stops { StopsWith result reader.new }
     ensures cause { HasCause (result ≡ Err Unread.ReadFault)
         (S.read_faults input.old) (S.read_faults input.new) }
-    ensures bytes { in_all reader.new (S.rest input.new) ≡ in_all reader.old (S.rest input.old) }
+    ensures read { (text : List ℕ) → HasRead text (S.rest input.old) reader.old
+        → HasRead text (S.rest input.new) reader.new }
 {
     let mut indices = LineIndices::new(reader, input);
     let checked = check_solution(game, plies, answer, &mut indices, stack);
@@ -67,10 +66,11 @@ fn judge_claim<S: Source, G: Game + Drop>(
     requires few { head.plies ≤ 16 }
     ensures judged { (left : List AnyLine) → ahead_of reader.old (S.rest input.old) ≡ Some left
         → Judges result (of_claim head left) }
-    ensures full { result ≡ Err Unread.InputFull → reader.new.taken ≡ input_limit }
+    ensures stops { StopsWith result reader.new }
     ensures cause { HasCause (result ≡ Err Unread.ReadFault)
         (S.read_faults input.old) (S.read_faults input.new) }
-    ensures bytes { in_all reader.new (S.rest input.new) ≡ in_all reader.old (S.rest input.old) }
+    ensures read { (text : List ℕ) → HasRead text (S.rest input.old) reader.old
+        → HasRead text (S.rest input.new) reader.new }
 {
     let Ok(mut game) = played::<G>(
         alloc,
@@ -104,10 +104,11 @@ fn judge_lines<S: Source, G: Game + Drop>(
 ) -> Result<Verdict, Unread>
     ensures judged { (left : List AnyLine) → ahead_of reader.old (S.rest input.old) ≡ Some left
         → Judges result (verdict left) }
-    ensures full { result ≡ Err Unread.InputFull → reader.new.taken ≡ input_limit }
+    ensures stops { StopsWith result reader.new }
     ensures cause { HasCause (result ≡ Err Unread.ReadFault)
         (S.read_faults input.old) (S.read_faults input.new) }
-    ensures bytes { in_all reader.new (S.rest input.new) ≡ in_all reader.old (S.rest input.old) }
+    ensures read { (text : List ℕ) → HasRead text (S.rest input.old) reader.old
+        → HasRead text (S.rest input.new) reader.new }
 {
     match read_head::<G, S>(alloc, reader, input) {
         Ok(head) => judge_claim::<S, G>(alloc, head, reader, input),
@@ -119,8 +120,8 @@ fn judge_lines<S: Source, G: Game + Drop>(
 fn judge<S: Source, G: Game + Drop>(alloc: Global, input: &mut S) -> Result<Verdict, Unread>
     ensures judged { (text : List ℕ) → S.rest input.old ≡ Some text
         → Judges result (verdict (lines text)) }
-    ensures full { (text : List ℕ) → S.rest input.old ≡ Some text
-        → result ≡ Err Unread.InputFull → TookLimit text (S.rest input.new) }
+    ensures read { (text : List ℕ) → S.rest input.old ≡ Some text
+        → WasReadAs result text (S.rest input.new) }
     ensures cause { HasCause (result ≡ Err Unread.ReadFault)
         (S.read_faults input.old) (S.read_faults input.new) }
 {

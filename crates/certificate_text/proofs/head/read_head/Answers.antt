@@ -57,3 +57,15 @@ returns-clause-told g c =
     let same : to_z w32 (of_z w32 c.in-Ok-read_value.value) ≡ c.in-Ok-read_value.value = to_z-of_z w32 _ fits in
     subst (λ x. ReadsHead (Ok (head_is c.in-Ok.version c.in-Ok-read_game_line.game c.in-Ok-read_depth.depth c.in-Ok-read_claim_text.claim_text x)) (head_of c.args.newest lines) lines (ahead_of c.read_value.new.reader (g.S.Source.rest c.read_value.new.source))) (sym same)
     (head-read (head_of c.args.newest lines) lines (head_is c.in-Ok.version c.in-Ok-read_game_line.game c.in-Ok-read_depth.depth c.in-Ok-read_claim_text.claim_text c.in-Ok-read_value.value) (ahead_of c.read_value.new.reader (g.S.Source.rest c.read_value.new.source)) so5)
+
+pub returns-in-Err-read_depth-clause-read : goal.returns-in-Err-read_depth-clause-read
+returns-in-Err-read_depth-clause-read g c = λ input r. c.read_depth.ensures.read input (c.read_game_line.ensures.read input (c.read_version.ensures.read input r))
+
+pub returns-in-Err-read_claim_text-clause-read : goal.returns-in-Err-read_claim_text-clause-read
+returns-in-Err-read_claim_text-clause-read g c = λ input r. c.read_claim_text.ensures.read input (c.read_depth.ensures.read input (c.read_game_line.ensures.read input (c.read_version.ensures.read input r)))
+
+pub returns-in-Err-read_value-clause-read : goal.returns-in-Err-read_value-clause-read
+returns-in-Err-read_value-clause-read g c = λ input r. c.read_value.ensures.read input (c.read_claim_text.ensures.read input (c.read_depth.ensures.read input (c.read_game_line.ensures.read input (c.read_version.ensures.read input r))))
+
+pub returns-clause-read : goal.returns-clause-read
+returns-clause-read g c = λ input r. c.read_value.ensures.read input (c.read_claim_text.ensures.read input (c.read_depth.ensures.read input (c.read_game_line.ensures.read input (c.read_version.ensures.read input r))))

@@ -3,6 +3,7 @@ use Rattle.std.specs.Prelude.{map}
 use Rattle.std.specs.Option.{option_map}
 use Rattle.certificate_text.specs.Text.{index_in}
 use Rattle.certificate_text.proofs.TextLaws.{end-told, no-items}
+use Rattle.certificate_text.proofs.TakenLaws.{read_on}
 use Rattle.certificate_text.proofs.lines.LineIndicesIndices.take.Goals as goal
 
 pub returns-in-End-clause-item : goal.returns-in-End-clause-item
@@ -10,3 +11,21 @@ returns-in-End-clause-item g c =
     let (bytes, takes, ends) = c.in-End.ensures.fed in
     let (none0, none1) = c.in-End.ensures.ahead in
     (ap (option_map (map index_in)) (end-told _ _ _ _ bytes takes.left none0 none1), no-items _ none0)
+
+pub returns-in-Some-clause-known : goal.returns-in-Some-clause-known
+returns-in-Some-clause-known g c = read_on c.next_line.result _ _ _ _ c.next_line.ensures.fed c.next_line.ensures.bound c.next_line.ensures.little
+
+pub returns-in-None-clause-known : goal.returns-in-None-clause-known
+returns-in-None-clause-known g c = read_on c.next_line.result _ _ _ _ c.next_line.ensures.fed c.next_line.ensures.bound c.next_line.ensures.little
+
+pub returns-in-TooLong-clause-known : goal.returns-in-TooLong-clause-known
+returns-in-TooLong-clause-known g c = read_on c.next_line.result _ _ _ _ c.next_line.ensures.fed c.next_line.ensures.bound c.next_line.ensures.little
+
+pub returns-in-End-clause-known : goal.returns-in-End-clause-known
+returns-in-End-clause-known g c = read_on c.next_line.result _ _ _ _ c.next_line.ensures.fed c.next_line.ensures.bound c.next_line.ensures.little
+
+pub returns-in-Failed-clause-known : goal.returns-in-Failed-clause-known
+returns-in-Failed-clause-known g c = read_on c.next_line.result _ _ _ _ c.next_line.ensures.fed c.next_line.ensures.bound c.next_line.ensures.little
+
+pub returns-in-Full-clause-known : goal.returns-in-Full-clause-known
+returns-in-Full-clause-known g c = read_on c.next_line.result _ _ _ _ c.next_line.ensures.fed c.next_line.ensures.bound c.next_line.ensures.little
