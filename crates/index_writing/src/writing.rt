@@ -1,6 +1,6 @@
 //! Writing the least indices that show a limit.
 
-ghost use Rattle.std.specs.Prelude.{◌≡◌, ◌-◌, ◌<◌, ◌≤◌, length, false};
+ghost use Rattle.std.specs.Prelude.{◌≡◌, ◌-◌, ◌<◌, ◌≤◌, length, false, IsTrue};
 ghost use Rattle.io_edge.specs.Outside.{HasCause};
 ghost use Rattle.hive_model.specs.Lists.{IsOn};
 ghost use Rattle.hive_model.specs.Legal.{moves};
@@ -9,6 +9,7 @@ ghost use Rattle.hive_model.specs.Minimax.{IsInner};
 ghost use Rattle.hive_model.specs.Courses.{position};
 ghost use Rattle.hive_model.specs.Stack.{level_of};
 ghost use Rattle.search_laws.specs.Laws.{IsSmall};
+ghost use Rattle.search_laws.specs.Leaves.{IsLeaf};
 ghost use Rattle.claim_walks.specs.Limits.{number};
 ghost use Rattle.claim_walks.specs.Follows.{range_of};
 ghost use Rattle.strategy_check.specs.Least.{least};
@@ -21,7 +22,6 @@ use claim_walks::Limit;
 use hive_model::{Game, Move, MoveStack};
 use io_edge::{Sink, write_all};
 use itoa::Buffer;
-use search_laws::leaf_value;
 
 /// An index on a line of its own.
 fn index_line(index: u32) -> ArrayString<16>
@@ -95,6 +95,14 @@ fn find_kept<G: Game, J: Judge>(
     None
 }
 
+/// Whether no move is tried: no ply is left to search, or the game is over.
+fn is_leaf<G: Game>(game: &G, depth: u32) -> bool
+    ensures leaf { IsTrue result → IsLeaf (position (G.course game.now)) depth }
+    ensures inner { result ≡ false → IsInner (position (G.course game.now)) depth }
+{
+    depth == 0 || game.state().is_over()
+}
+
 /// Writes the least indices that show the limit of what the position is worth, with `depth` plies left to search, from 0 to 64. Where
 /// the limit is not kept, the indices show nothing. Game and stack are as before. The answer is whether all was written.
 #[cycle(write)]
@@ -117,7 +125,7 @@ pub fn write_indices<G: Game, J: Judge, K: Sink>(
     ensures same { J.prepared judge.new ≡ J.prepared judge.old }
     ensures stack { stack.new ≡ stack.old }
 {
-    if let Some(_) = leaf_value(game, depth) {
+    if is_leaf(game, depth) {
         return true;
     }
     let level = stack.levels();

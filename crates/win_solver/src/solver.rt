@@ -7,20 +7,55 @@ ghost use Rattle.index_writing.specs.Writing.{Wrote, index_lines};
 ghost use Rattle.win_solver.specs.Force.{force};
 ghost use Rattle.win_solver.specs.Solution.{least_solution};
 
+use crate::reaching::{deepen, reaches};
 use crate::solutions::answer_limit;
-use deepening::Searcher;
+use claim_walks::Limit;
 use hive_model::{Game, MoveStack};
 use index_writing::{Judge, write_indices};
 use io_edge::Sink;
 use std::alloc::{AllocError, Global};
 use std::marker::Model;
+use value_table::ValueTable;
 
-/// What is needed to tell forced wins, made once: a search with its table of what was found, and
-/// room for the lists of moves of as many plies as it is prepared for. It is seen as that number of
-/// plies, from 1 to 16.
+/// Who tells whether a position keeps to a limit: lists of moves by level, and a table of what was
+/// found. It is seen as the number of plies that it is prepared to search.
+#[derive(Drop)]
+pub(crate) struct Teller {
+    stack: MoveStack,
+    table: ValueTable,
+}
+
+impl Model for Teller {
+    ghost use Rattle.std.specs.Prelude.{◌≡◌, ◌≤◌, ℕ};
+
+    ghost Value = { ℕ };
+
+    ghost view = { λ s. s.stack.free };
+
+    ghost invariant = { λ s. s.stack.free ≤ 16 };
+}
+
+impl Judge for Teller {
+    ghost prepared = { λ s. s };
+
+    fn is_kept<G: Game>(&mut self, game: &mut G, depth: u32, limit: Limit) -> bool {
+        match limit {
+            Limit::AtLeast(least) => {
+                reaches(game, depth, least, &mut self.stack, &mut self.table)
+            }
+            Limit::AtMost(most) => {
+                !reaches(game, depth, most + 1, &mut self.stack, &mut self.table)
+            }
+        }
+    }
+}
+
+/// What is needed to tell forced wins, made once: who tells whether a position is worth so much,
+/// and room for the lists of moves of as many plies as it is prepared for. It is seen as that
+/// number of plies, from 1 to 16.
 #[derive(Drop)]
 pub struct Solver {
-    searcher: Searcher,
+    teller: Teller,
     stack: MoveStack,
 }
 
@@ -29,9 +64,9 @@ impl Model for Solver {
 
     ghost Value = { ℕ };
 
-    ghost view = { λ s. s.searcher };
+    ghost view = { λ s. s.teller };
 
-    ghost invariant = { λ s. (s.searcher ≡ s.stack.free) × (s.searcher ≤ 16) };
+    ghost invariant = { λ s. (s.teller ≡ s.stack.free) × (s.teller ≤ 16) };
 }
 
 impl Solver {
@@ -44,9 +79,12 @@ impl Solver {
         requires short { plies ≤ 16 }
         ensures { IfOk result (λ s. s ≡ plies) }
     {
-        let searcher = Searcher::prepare(alloc, entries, plies)?;
+        let teller = Teller {
+            stack: MoveStack::new(alloc, plies)?,
+            table: ValueTable::new(alloc, entries)?,
+        };
         let stack = MoveStack::new(alloc, plies)?;
-        Ok(Solver { searcher, stack })
+        Ok(Solver { teller, stack })
     }
 
     /// Whether the side to move can force a win within so many plies, up to the prepared number.
@@ -59,7 +97,13 @@ impl Solver {
         ensures game { G.course game.new ≡ G.course game.old }
         ensures solver { self.new ≡ self.old }
     {
-        self.searcher.is_kept(game, plies, answer_limit(true))
+        deepen(
+            game,
+            plies,
+            1_000_000,
+            &mut self.teller.stack,
+            &mut self.teller.table,
+        )
     }
 
     /// Writes the least indices that show whether the side to move can force a win within so many
@@ -84,13 +128,6 @@ impl Solver {
         ensures solver { self.new ≡ self.old }
     {
         let limit = answer_limit(self.solve(game, plies));
-        write_indices(
-            &mut self.searcher,
-            game,
-            plies,
-            limit,
-            &mut self.stack,
-            sink,
-        )
+        write_indices(&mut self.teller, game, plies, limit, &mut self.stack, sink)
     }
 }

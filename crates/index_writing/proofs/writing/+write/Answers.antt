@@ -18,9 +18,9 @@ pub write_child-returns-clause-wrote : goal.write_child-returns-clause-wrote
 write_child-returns-clause-wrote g t c =
     child-written _ _ c.args.m c.args.depth c.args.limit c.write_indices-written.result _ _ c.play.ensures.moved c.write_indices-written.ensures.wrote
 
-pub write_indices-returns-in-Some-clause-wrote : goal.write_indices-returns-in-Some-clause-wrote
-write_indices-returns-in-Some-clause-wrote g t c =
-    leaf-written (position (g.G.Game.course c.args.game.now)) c.args.depth c.args.limit (g.K.Sink.written c.args.sink.now) c.in-Some.ensures.ends
+pub write_indices-returns-then-is_leaf-clause-wrote : goal.write_indices-returns-then-is_leaf-clause-wrote
+write_indices-returns-then-is_leaf-clause-wrote g t c =
+    leaf-written (position (g.G.Game.course c.args.game.now)) c.args.depth c.args.limit (g.K.Sink.written c.args.sink.now) (c.is_leaf.ensures.leaf c.if-is_leaf.true)
 
 pub write_moves-write_child-requires : goal.write_moves-write_child-requires
 write_moves-write_child-requires g t c κs within =

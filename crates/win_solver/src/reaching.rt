@@ -1,0 +1,204 @@
+//! Whether a position is worth so much to its side to move.
+
+ghost use Rattle.std.specs.Prelude.{◌≡◌, ◌-◌, ◌<◌, ◌≤◌, ◌≤ℤ◌, int_le, length, negsuc, pos, is_some, IsSome, IsTrue};
+ghost use Rattle.hive_model.specs.Lists.{IsOn};
+ghost use Rattle.hive_model.specs.Legal.{moves};
+ghost use Rattle.hive_model.specs.Minimax.{IsInner, value, reply_value};
+ghost use Rattle.hive_model.specs.Courses.{position};
+ghost use Rattle.hive_model.specs.Stack.{level_of};
+
+use crate::facts::{keep_answer, leaf_reaches, told_by};
+use hive_model::{Game, Move, MoveStack};
+use search_core::{first_choice, kept_hint};
+use value_table::ValueTable;
+
+/// Whether a position is worth so much to its side to move, with `depth` plies left to search,
+/// from 0 to 64. A node is left at the first move that decides it, and what was found of a
+/// position with two plies or more to search is kept in the table. Game and stack are as before.
+#[cycle(reaches)]
+pub(crate) fn reaches<G: Game>(
+    game: &mut G,
+    depth: u32,
+    least: i32,
+    stack: &mut MoveStack,
+    table: &mut ValueTable,
+) -> bool
+    requires low { negsuc 1000099 ≤ℤ least }
+    requires high { least ≤ℤ pos 1000101 }
+    requires deep { depth ≤ 64 }
+    requires spare { depth ≤ (G.course game.old).spare }
+    requires room { depth ≤ stack.old.free }
+    ensures reached { result ≡ int_le least (value (position (G.course game.old)) depth) }
+    ensures game { G.course game.new ≡ G.course game.old }
+    ensures stack { stack.new ≡ stack.old }
+{
+    if let Some(known) = leaf_reaches(game, depth, least) {
+        return known;
+    }
+    if depth == 1 {
+        return find_reply(game, depth, least, None, stack, table).is_some();
+    }
+    let key = game.key();
+    let entry = table.look(&key, depth);
+    if let Some(known) = told_by(&entry, least) {
+        return known;
+    }
+    let hint = kept_hint(table, &key);
+    let reply = find_reply(game, depth, least, hint, stack, table);
+    keep_answer(table, &key, depth, least, reply);
+    reply.is_some()
+}
+
+/// The place of a legal move that is worth so much to the side that makes it, where the game goes
+/// on and a ply is left. The move at the place `hint` is tried first.
+#[cycle(reaches)]
+fn find_reply<G: Game>(
+    game: &mut G,
+    depth: u32,
+    least: i32,
+    hint: Option<u32>,
+    stack: &mut MoveStack,
+    table: &mut ValueTable,
+) -> Option<u32>
+    requires low { negsuc 1000099 ≤ℤ least }
+    requires high { least ≤ℤ pos 1000101 }
+    requires deep { depth ≤ 64 }
+    requires inner { IsInner (position (G.course game.old)) depth }
+    requires spare { depth ≤ (G.course game.old).spare }
+    requires room { depth ≤ stack.old.free }
+    ensures found { is_some result ≡ int_le least (value (position (G.course game.old)) depth) }
+    ensures game { G.course game.new ≡ G.course game.old }
+    ensures stack { stack.new ≡ stack.old }
+{
+    let level = stack.levels();
+    game.list(stack);
+    let reply = first_reply(game, level, depth, least, hint, stack, table);
+    stack.drop_level();
+    reply
+}
+
+/// The same where the legal moves stand on the level.
+#[cycle(reaches)]
+fn first_reply<G: Game>(
+    game: &mut G,
+    level: u32,
+    depth: u32,
+    least: i32,
+    hint: Option<u32>,
+    stack: &mut MoveStack,
+    table: &mut ValueTable,
+) -> Option<u32>
+    requires low { negsuc 1000099 ≤ℤ least }
+    requires high { least ≤ℤ pos 1000101 }
+    requires deep { depth ≤ 64 }
+    requires inner { IsInner (position (G.course game.old)) depth }
+    requires spare { depth ≤ (G.course game.old).spare }
+    requires room { depth - 1 ≤ stack.old.free }
+    requires level { level < length stack.old.lists }
+    requires listed { level_of stack.old level ≡ moves (position (G.course game.old)) }
+    ensures found { is_some result ≡ int_le least (value (position (G.course game.old)) depth) }
+    ensures game { G.course game.new ≡ G.course game.old }
+    ensures stack { stack.new ≡ stack.old }
+{
+    let hinted = hinted_reply(game, level, depth, least, hint, stack, table);
+    if hinted.is_some() {
+        return hinted;
+    }
+    let count = stack.level_len(level);
+    for i in 0..count {
+        let m = stack.get(level, i);
+        if reply_reaches(game, m, depth - 1, least, stack, table) {
+            table.note_cut(game.plies(), stack.get(level, i));
+            return Some(i);
+        }
+    }
+    None
+}
+
+/// The place of the move to try first, where it is worth so much: the one at the place `hint`, else
+/// the one that decided last after as many plies of the game.
+#[cycle(reaches)]
+fn hinted_reply<G: Game>(
+    game: &mut G,
+    level: u32,
+    depth: u32,
+    least: i32,
+    hint: Option<u32>,
+    stack: &mut MoveStack,
+    table: &mut ValueTable,
+) -> Option<u32>
+    requires low { negsuc 1000099 ≤ℤ least }
+    requires high { least ≤ℤ pos 1000101 }
+    requires deep { depth ≤ 64 }
+    requires inner { IsInner (position (G.course game.old)) depth }
+    requires spare { depth ≤ (G.course game.old).spare }
+    requires room { depth - 1 ≤ stack.old.free }
+    requires level { level < length stack.old.lists }
+    requires listed { level_of stack.old level ≡ moves (position (G.course game.old)) }
+    ensures found { IsSome result
+        → IsTrue (int_le least (value (position (G.course game.old)) depth)) }
+    ensures game { G.course game.new ≡ G.course game.old }
+    ensures stack { stack.new ≡ stack.old }
+{
+    let place = first_choice(hint, game, table, stack, level)?;
+    if place >= stack.level_len(level) {
+        return None;
+    }
+    let m = stack.get(level, place);
+    if reply_reaches(game, m, depth - 1, least, stack, table) {
+        return Some(place);
+    }
+    None
+}
+
+/// Whether a legal move is worth so much to the side that makes it, with `depth` plies of best play
+/// behind it. The game is as before.
+#[cycle(reaches)]
+fn reply_reaches<G: Game>(
+    game: &mut G,
+    m: Move,
+    depth: u32,
+    least: i32,
+    stack: &mut MoveStack,
+    table: &mut ValueTable,
+) -> bool
+    requires low { negsuc 1000099 ≤ℤ least }
+    requires high { least ≤ℤ pos 1000101 }
+    requires deep { depth < 64 }
+    requires legal { IsOn (moves (position (G.course game.old))) m }
+    requires spare { depth < (G.course game.old).spare }
+    requires room { depth ≤ stack.old.free }
+    ensures reached { result
+        ≡ int_le least (reply_value (position (G.course game.old)) depth m) }
+    ensures game { G.course game.new ≡ G.course game.old }
+    ensures stack { stack.new ≡ stack.old }
+{
+    game.play(m);
+    let answered = reaches(game, depth, 1 - least, stack, table);
+    game.undo();
+    !answered
+}
+
+/// The same as `reaches`, for 1 ply or more; what is found with fewer plies tells which moves to try
+/// first with more.
+pub(crate) fn deepen<G: Game>(
+    game: &mut G,
+    depth: u32,
+    least: i32,
+    stack: &mut MoveStack,
+    table: &mut ValueTable,
+) -> bool
+    requires low { negsuc 1000099 ≤ℤ least }
+    requires high { least ≤ℤ pos 1000101 }
+    requires deep { depth ≤ 64 }
+    requires spare { depth ≤ (G.course game.old).spare }
+    requires room { depth ≤ stack.old.free }
+    ensures reached { result ≡ int_le least (value (position (G.course game.old)) depth) }
+    ensures game { G.course game.new ≡ G.course game.old }
+    ensures stack { stack.new ≡ stack.old }
+{
+    for shallow in 1..depth {
+        let _ = reaches(game, shallow, least, stack, table);
+    }
+    reaches(game, depth, least, stack, table)
+}

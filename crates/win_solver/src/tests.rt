@@ -1,0 +1,70 @@
+//! Positions whose forced wins are known, and sinks that take few bytes or fail.
+
+use crate::Solver;
+use command_runs::read_one_game;
+use io_edge::{MemSink, MemSource};
+use plain_game::PlainGame;
+use std::alloc::{AllocError, Global};
+use std::test::Fail;
+
+/// A game whose side to move wins with its next move.
+const WON: &str =
+    "Base;InProgress;White[7];wS1;bS1 wS1-;wQ /wS1;bQ bS1-;wQ /bS1;bQ wQ-;wG1 -wS1;bG1 bS1-;wB1 /wQ;bB1 bQ-;wA1 -wB1;bA1 /bB1";
+
+/// A text that is to be read.
+fn source_of(alloc: Global, text: &str) -> Result<MemSource, AllocError> {
+    let bytes = Vec::from_slice(alloc, text.as_bytes())?;
+    Ok(MemSource::new(bytes, Vec::new(alloc), Vec::new(alloc)))
+}
+
+/// Whether a win can be forced within 1, 2 and 3 plies in the game of a text, or none where it is
+/// no game.
+fn answers(alloc: Global, text: &str) -> Result<Option<[bool; 3]>, AllocError> {
+    let mut source = source_of(alloc, text)?;
+    let Ok(mut game) = read_one_game::<MemSource, PlainGame>(alloc, &mut source, 3) else {
+        return Ok(None);
+    };
+    let mut solver = Solver::prepare(alloc, 1_000, 3)?;
+    let one = solver.solve(&mut game, 1);
+    let two = solver.solve(&mut game, 2);
+    let three = solver.solve(&mut game, 3);
+    Ok(Some([one, two, three]))
+}
+
+/// What is written of the opening within two plies, in pieces of so many bytes, where the write of
+/// this number fails, and whether all was written.
+fn written(alloc: Global, piece: usize, fails: u64) -> Result<(bool, MemSink), AllocError> {
+    let pieces = Vec::from_slice(alloc, &[piece])?;
+    let mut sink = MemSink::new(alloc, pieces, Vec::from_slice(alloc, &[fails])?);
+    let mut source = source_of(alloc, "Base")?;
+    let Ok(mut game) = read_one_game::<MemSource, PlainGame>(alloc, &mut source, 2) else {
+        return Ok((false, sink));
+    };
+    let mut solver = Solver::prepare(alloc, 1_000, 2)?;
+    let whole = solver.write_indices(&mut game, 2, &mut sink);
+    Ok((whole, sink))
+}
+
+#[test]
+fn wins_are_told_within_more_plies_too(rt: HostRuntime) -> Result<(), Fail> {
+    let opening = answers(rt.alloc(), "Base")?;
+    assert_eq!(rt; opening, Some([false, false, false]));
+    let won = answers(rt.alloc(), WON)?;
+    assert_eq!(rt; won, Some([true, true, true]));
+    Ok(())
+}
+
+#[test]
+fn indices_are_written_whole_or_cut_short(rt: HostRuntime) -> Result<(), Fail> {
+    for (piece, fails, whole, lines) in [
+        (1, 0, true, "0\n0\n0\n0\n"),
+        (7, 0, true, "0\n0\n0\n0\n"),
+        (100, 0, true, "0\n0\n0\n0\n"),
+        (100, 3, false, "0\n0\n"),
+    ] {
+        let (done, sink) = written(rt.alloc(), piece, fails)?;
+        assert_eq!(rt; done, whole, "pieces of {piece}");
+        assert_eq!(rt; sink.bytes(), lines.as_bytes(), "pieces of {piece}");
+    }
+    Ok(())
+}
