@@ -1,0 +1,3 @@
+pub mod TokenTextLaws
+pub mod ShortWalks
+pub mod Migrations

@@ -1,0 +1,6 @@
+pub mod TokenText
+pub mod Drafts
+pub mod Shortening
+pub mod Migrating
+pub mod Taken
+pub mod Endings
