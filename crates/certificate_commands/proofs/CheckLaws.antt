@@ -1,6 +1,6 @@
 -- What an accepted text says, and which texts are accepted.
-use Rattle.std.proofs.Common.{◌≡◌, ℕ, ◌≤◌, Bool, true, false, List, drop, map, refl, sym, ap, subst, ◌∙◌, Option, Some}
-use Rattle.std.specs.Prelude.{Result, Ok, Err, ℤ, if◌then◌else◌}
+use Rattle.std.proofs.Common.{◌≡◌, ℕ, Bool, true, false, List, drop, map, refl, sym, ap, subst, ◌∙◌, Option, Some}
+use Rattle.std.specs.Prelude.{nat_eq, Result, Ok, Err, ℤ, if◌then◌else◌}
 use Rattle.hive_model.specs.declared.pieces.GameType.{GameType}
 use Rattle.hive_model.specs.declared.places.Move.{Move}
 use Rattle.hive_model.specs.Positions.{Position, opening}
@@ -19,6 +19,12 @@ use Rattle.strategy_check.specs.declared.answers.Why.{Why}
 use Rattle.strategy_check.specs.Trace.{Steps, checked}
 use Rattle.strategy_check.proofs.TakenLaws.{accepted-indices}
 use Rattle.strategy_check.proofs.TraceLaws.{holds-sound}
+use Rattle.strategy_lemmas.specs.declared.tokens.Token.{Token}
+use Rattle.strategy_lemmas.specs.declared.tokens.WhyCited.{WhyCited}
+use Rattle.strategy_lemmas.specs.declared.tokens.WhyCited.TheVariants.{NoSuchMove, BadIndex, BadCite, LeafFails, TooShort, Rest}
+use Rattle.strategy_lemmas.specs.Cited.{CitedSteps, cited_checked, IsReached}
+use Rattle.strategy_lemmas.proofs.CitedLaws.{items-sound}
+use Rattle.citing_text.specs.TokenText.{token_in}
 use Rattle.certificate_text.specs.declared.head.Head.{Head}
 use Rattle.certificate_text.specs.declared.head.HeadFault.{HeadFault}
 use Rattle.certificate_text.specs.declared.head.HeadFault.TheVariants.{BadLine as LineFault, BadGame as NoGame, ReadFault as NoRead, InputFull as IsFull, Memory as NoMemory}
@@ -35,16 +41,16 @@ use Rattle.text_verdicts.specs.declared.verdict.Verdict.TheVariants.{Accepted, G
 use Rattle.text_verdicts.specs.declared.verdict.Unread.{Unread}
 use Rattle.text_verdicts.specs.Reading.{Judges, of_fault}
 use Rattle.text_verdicts.specs.Verdicts.{of_walk}
-use Rattle.certificate_commands.specs.Verdicts.{claimed_move, end_of, of_claim, of_head, of_items, of_move, verdict}
-use Rattle.certificate_commands.specs.Laws.{AcceptedIsTrue, CertificatesAreAccepted, CertifiedIsAccepted, HeldIsAccepted, IsTrueClaim, MayCertify}
-use Rattle.certificate_commands.proofs.HeadLaws.{head-depth}
+use Rattle.certificate_commands.specs.Verdicts.{claimed_move, end_of, of_claim, of_head, of_items, of_tokens, of_cited, of_lines, of_move, verdict}
+use Rattle.certificate_commands.specs.Laws.{AcceptedIsTrue, CertificatesAreAccepted, CertifiedIsAccepted, HeldIsAccepted, HeldCitedIsAccepted, IsTrueClaim, MayCertify}
+use Rattle.certificate_commands.proofs.HeadLaws.{Keeps, head-keeps, end-reached, head-later}
 
-pub verdict-is : (ls : List Line) (r : HeadRead) → head_of 1 ls ≡ r → verdict ls ≡ of_head r (drop 5 ls)
+pub verdict-is : (ls : List Line) (r : HeadRead) → head_of 2 ls ≡ r → verdict ls ≡ of_head r (drop 5 ls)
 unfolding verdict
 verdict-is ls r e = ap (λ h. of_head h (drop 5 ls)) e
 
 -- where there is no head
-of-fault : (ls : List Line) (fault : HeadFault) (later : ToldLines) → (let r : HeadRead = Err fault in ReadsHead r (head_of 1 ls) ls later) → Judges (of_fault fault) (verdict ls)
+of-fault : (ls : List Line) (fault : HeadFault) (later : ToldLines) → (let r : HeadRead = Err fault in ReadsHead r (head_of 2 ls) ls later) → Judges (of_fault fault) (verdict ls)
 of-fault ls (LineFault n) later h = verdict-is ls (Err (LineFault n)) h
 of-fault ls (NoGame fault) later h = verdict-is ls (Err (NoGame fault)) h
 of-fault ls NoRead later h = tt
@@ -52,7 +58,7 @@ of-fault ls IsFull later h = tt
 of-fault ls NoMemory later h = tt
 
 pub fault-judges : (ls : List Line) (fault : HeadFault) (result : Result Verdict Unread) (later : ToldLines) → result ≡ of_fault fault →
-    (let r : HeadRead = Err fault in ReadsHead r (head_of 1 ls) ls later) → Judges result (verdict ls)
+    (let r : HeadRead = Err fault in ReadsHead r (head_of 2 ls) ls later) → Judges result (verdict ls)
 fault-judges ls fault result later e h = subst (λ (r : Result Verdict Unread). Judges r (verdict ls)) (sym e) (of-fault ls fault later h)
 
 -- ---- what is accepted is true
@@ -62,27 +68,46 @@ walk-true p d m v items (Left s) inner e h = let (taken, is, holds) = accepted-i
 walk-true p d m v items (Fault why n) inner e h = cc
 walk-true p d m v items (Halt n) inner e h = cc
 
+cited-true : (p : Position) (d : ℕ) (m : Move) (v : ℤ) (items : List (Option Token)) (o : Outcome CitedSteps WhyCited) → IsReached p d → IsInner p d → cited_checked p d m v items ≡ o → of_cited 5 o ≡ Accepted →
+    (best p d ≡ Some m) × (value p d ≡ v)
+cited-true p d m v items (Left s) reached inner e h = items-sound p d m v items s reached inner e
+cited-true p d m v items (Fault NoSuchMove n) reached inner e h = cc
+cited-true p d m v items (Fault BadIndex n) reached inner e h = cc
+cited-true p d m v items (Fault BadCite n) reached inner e h = cc
+cited-true p d m v items (Fault LeafFails n) reached inner e h = cc
+cited-true p d m v items (Fault TooShort n) reached inner e h = cc
+cited-true p d m v items (Fault Rest n) reached inner e h = cc
+cited-true p d m v items (Halt n) reached inner e h = cc
+
+lines-true : (version : ℕ) (p : Position) (d : ℕ) (m : Move) (v : ℤ) (rest : List Line) → IsReached p d → IsInner p d → of_lines version p d m v rest ≡ Accepted → (best p d ≡ Some m) × (value p d ≡ v)
+lines-true version p d m v rest reached inner h = at (nat_eq version 1) h
+  where
+    at : (b : Bool) → (if b then of_items p d m v (map index_in rest) else of_tokens p d m v (map token_in rest)) ≡ Accepted → (best p d ≡ Some m) × (value p d ≡ v)
+    at true e = walk-true p d m v (map index_in rest) (checked p d m v (map index_in rest)) inner refl e
+    at false e = cited-true p d m v (map token_in rest) (cited_checked p d m v (map token_in rest)) reached inner refl e
+
 -- the text of the claimed move denotes one, which is the best one, and is worth what is claimed
 abbrev Claims : Head → Type 0
 Claims head = (m : Move) × (claimed_move head ≡ Ok m) × (best (end_of head) head.depth ≡ Some m) × (value (end_of head) head.depth ≡ head.value)
 
-move-true : (head : Head) (items : List (Option ℕ)) (r : Result Move MoveFault) → IsInner (end_of head) head.depth → claimed_move head ≡ r → of_move (end_of head) head.depth r head.value items ≡ Accepted → Claims head
-move-true head items (Err fault) inner e h = cc
-move-true head items (Ok m) inner e h =
-    let t = walk-true (end_of head) head.depth m head.value items (checked (end_of head) head.depth m head.value items) inner refl h in (m, e, t.0, t.1)
+move-true : (head : Head) (rest : List Line) (r : Result Move MoveFault) → IsReached (end_of head) head.depth → IsInner (end_of head) head.depth → claimed_move head ≡ r →
+    of_move head.version (end_of head) head.depth r head.value rest ≡ Accepted → Claims head
+move-true head rest (Err fault) reached inner e h = cc
+move-true head rest (Ok m) reached inner e h =
+    let t = lines-true head.version (end_of head) head.depth m head.value rest reached inner h in (m, e, t.0, t.1)
 
-claim-true : (head : Head) (rest : List Line) (over : Bool) → 1 ≤ head.depth → is_over (end_of head) ≡ over → of_claim head rest ≡ Accepted → Claims head
+claim-true : (head : Head) (rest : List Line) (over : Bool) → Keeps head → is_over (end_of head) ≡ over → of_claim head rest ≡ Accepted → Claims head
 claim-true head rest true some e h = let same : of_claim head rest ≡ GameOver = rw e refl in cc
 claim-true head rest false some e h =
-    let same : of_claim head rest ≡ of_move (end_of head) head.depth (claimed_move head) head.value (map index_in rest) = rw e refl in
-    move-true head (map index_in rest) (claimed_move head) (record { deep = some; open_ = e }) refl (sym same ∙ h)
+    let same : of_claim head rest ≡ of_move head.version (end_of head) head.depth (claimed_move head) head.value rest = rw e refl in
+    move-true head rest (claimed_move head) (end-reached head some) (record { deep = some.some; open_ = e }) refl (sym same ∙ h)
 
 pub accepted-true : AcceptedIsTrue
-accepted-true = λ ls h. go ls (head_of 1 ls) refl (sym (verdict-is ls (head_of 1 ls) refl) ∙ h)
+accepted-true = λ ls h. go ls (head_of 2 ls) refl (sym (verdict-is ls (head_of 2 ls) refl) ∙ h)
   where
-    go : (ls : List Line) (r : HeadRead) → head_of 1 ls ≡ r → of_head r (drop 5 ls) ≡ Accepted → (head : Head) × (m : Move) × IsTrueClaim ls head m
+    go : (ls : List Line) (r : HeadRead) → head_of 2 ls ≡ r → of_head r (drop 5 ls) ≡ Accepted → (head : Head) × (m : Move) × IsTrueClaim ls head m
     go ls (Ok head) e h =
-        let (m, denotes, first, worth) = claim-true head (drop 5 ls) (is_over (end_of head)) (head-depth 1 ls head e) refl h in
+        let (m, denotes, first, worth) = claim-true head (drop 5 ls) (is_over (end_of head)) (head-keeps 2 ls head e) refl h in
         (head, m, record { has_head = e; denotes = denotes; is_best = first; is_worth = worth })
     go ls (Err (LineFault n)) e h = cc
     go ls (Err (NoGame fault)) e h = cc
@@ -100,13 +125,24 @@ pub held-accepted : HeldIsAccepted
 held-accepted = λ ls head m indices h.
     let p : Position = end_of head in
     verdict-is ls (Ok head) h.has_head
-    ∙ if-open (is_over p) (of_move p head.depth (claimed_move head) head.value (map index_in (drop 5 ls))) h.open_
-    ∙ ap (λ r. of_move p head.depth r head.value (map index_in (drop 5 ls))) h.denotes
+    ∙ if-open (is_over p) (of_move head.version p head.depth (claimed_move head) head.value (drop 5 ls)) h.open_
+    ∙ ap (λ r. of_move head.version p head.depth r head.value (drop 5 ls)) h.denotes
+    ∙ ap (λ n. of_lines n p head.depth m head.value (drop 5 ls)) h.first
     ∙ ap (of_items p head.depth m head.value) h.are_indices
     ∙ ap (of_walk 5) h.hold.1
 
+pub held-cited : HeldCitedIsAccepted
+held-cited = λ ls head m tokens h.
+    let p : Position = end_of head in
+    verdict-is ls (Ok head) h.has_head
+    ∙ if-open (is_over p) (of_move head.version p head.depth (claimed_move head) head.value (drop 5 ls)) h.open_
+    ∙ ap (λ r. of_move head.version p head.depth r head.value (drop 5 ls)) h.denotes
+    ∙ ap (λ n. of_lines n p head.depth m head.value (drop 5 ls)) h.second
+    ∙ ap (of_tokens p head.depth m head.value) h.are_tokens
+    ∙ ap (of_cited 5) h.hold.1
+
 -- the written text of a legal move denotes it
-named : (t : GameType) (ms : List Move) (d : ℕ) (m : Move) (v : ℤ) → MayClaim t ms d m v → claimed_move (claimed t ms d m v) ≡ Ok m
+pub named : (t : GameType) (ms : List Move) (d : ℕ) (m : Move) (v : ℤ) → MayClaim t ms d m v → claimed_move (claimed t ms d m v) ≡ Ok m
 named t ms d m v may =
     let course : Course = record { game_type = t; made = ms; spare = 0 } in
     of_denotes t (replay (opening t) ms).board (move-text t ms m) m
@@ -125,7 +161,8 @@ certificate-accepted = λ t ms depth m h.
       small = value-fits p depth v h.deep refl;
     } in
     held-accepted (lines (certificate t ms depth m v)) (claimed t ms depth m v) m (least_indices p depth m v) (record {
-      has_head = heads t ms depth m v may;
+      has_head = head-later (lines (certificate t ms depth m v)) (claimed t ms depth m v) (heads t ms depth m v may);
+      first = refl;
       open_ = h.open_;
       denotes = named t ms depth m v may;
       are_indices = indices t ms depth m v may;

@@ -1,3 +1,8 @@
 pub mod CertifyLaws
 pub mod HeadLaws
 pub mod CheckLaws
+pub mod MigrateLaws
+pub mod MigrateRuns
+pub mod MigrationLaws
+pub mod LowTokens
+pub mod CitingTexts

@@ -11,6 +11,9 @@ use Rattle.hive_model.specs.Lines.{Line, lines}
 use Rattle.hive_model.specs.Minimax.{best, value}
 use Rattle.game_text.specs.declared.parsed.Parsed.{Parsed}
 use Rattle.strategy_check.specs.Trace.{Holds}
+use Rattle.strategy_lemmas.specs.declared.tokens.Token.{Token}
+use Rattle.strategy_lemmas.specs.Cited.{HoldsCited}
+use Rattle.citing_text.specs.TokenText.{token_in}
 use Rattle.certificate_text.specs.declared.head.Head.{Head}
 use Rattle.certificate_text.specs.Text.{head_of, index_in}
 use Rattle.strategy_make.specs.Making.{certificate}
@@ -25,7 +28,7 @@ use Rattle.certificate_commands.specs.Verdicts.{CheckRun, claimed_move, end_of, 
 -- the lines have a head, and its claim is true: its text denotes the best move at the end of its
 -- game, at its depth, and its value is what that position is worth
 pub record IsTrueClaim (ls : List Line) (head : Head) (m : Move) : Type 0 where
-  pub has_head : head_of 1 ls ≡ Ok head
+  pub has_head : head_of 2 ls ≡ Ok head
   pub denotes : claimed_move head ≡ Ok m
   pub is_best : best (end_of head) head.depth ≡ Some m
   pub is_worth : value (end_of head) head.depth ≡ head.value
@@ -42,9 +45,11 @@ CheckedIsTrue =
     (before : Sides) → (after : Sides) → CheckRun Done before after
     → WhereTold before.rest (λ input. (head : Head) × (m : Move) × IsTrueClaim (lines input) head m)
 
--- the lines are a head, whose game is not over, and indices that hold of its claim
+-- the lines are a head of the first version, whose game is not over, and indices that hold of its
+-- claim
 pub record HoldsOf (ls : List Line) (head : Head) (m : Move) (indices : List ℕ) : Type 0 where
-  pub has_head : head_of 1 ls ≡ Ok head
+  pub has_head : head_of 2 ls ≡ Ok head
+  pub first : head.version ≡ 1
   pub open_ : is_over (end_of head) ≡ false
   pub denotes : claimed_move head ≡ Ok m
   pub are_indices : map index_in (drop 5 ls) ≡ map (λ i. Some i) indices
@@ -55,6 +60,21 @@ abbrev pub HeldIsAccepted : Type 0
 HeldIsAccepted =
     (ls : List Line) → (head : Head) → (m : Move) → (indices : List ℕ)
     → HoldsOf ls head m indices → verdict ls ≡ Accepted
+
+-- the same of a head of the second version, and tokens
+pub record HoldsCitedOf (ls : List Line) (head : Head) (m : Move) (tokens : List Token) : Type 0 where
+  pub has_head : head_of 2 ls ≡ Ok head
+  pub second : head.version ≡ 2
+  pub open_ : is_over (end_of head) ≡ false
+  pub denotes : claimed_move head ≡ Ok m
+  pub are_tokens : map token_in (drop 5 ls) ≡ map (λ t. Some t) tokens
+  pub hold : HoldsCited (end_of head) head.depth m head.value tokens
+
+-- such lines are accepted too
+abbrev pub HeldCitedIsAccepted : Type 0
+HeldCitedIsAccepted =
+    (ls : List Line) → (head : Head) → (m : Move) → (tokens : List Token)
+    → HoldsCitedOf ls head m tokens → verdict ls ≡ Accepted
 
 -- a game of at most 5,000 moves that is not over, and its best move at a depth from 1 to 64
 pub record MayCertify (t : GameType) (ms : List Move) (depth : ℕ) (m : Move) : Type 0 where

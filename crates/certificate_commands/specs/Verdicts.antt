@@ -1,5 +1,5 @@
 -- What the lines of a text are worth as a certificate.
-use Rattle.std.specs.Prelude.{ℕ, List, map, drop, ℤ, Option, Result, Ok, Err, if◌then◌else◌}
+use Rattle.std.specs.Prelude.{ℕ, ◌+◌, nat_eq, List, map, drop, ℤ, Option, Result, Ok, Err, if◌then◌else◌}
 use Rattle.hive_model.specs.declared.places.Move.{Move}
 use Rattle.hive_model.specs.Positions.{Position, opening}
 use Rattle.hive_model.specs.Legal.{is_over}
@@ -7,15 +7,22 @@ use Rattle.hive_model.specs.Games.{replay}
 use Rattle.hive_model.specs.Lines.{Line}
 use Rattle.move_text.specs.declared.faults.MoveFault.{MoveFault}
 use Rattle.move_text.specs.Moves.{move_of}
-use Rattle.strategy_check.specs.declared.answers.Why.TheVariants.{NoSuchMove}
+use Rattle.claim_walks.specs.Walks.{Outcome, Left, Fault, Halt}
+use Rattle.claim_walks.specs.Follows.{held}
+use Rattle.strategy_check.specs.declared.answers.Why.TheVariants.{NoSuchMove, BadIndex, LeafFails, TooShort, Rest}
 use Rattle.strategy_check.specs.Trace.{checked}
+use Rattle.strategy_lemmas.specs.declared.tokens.Token.{Token}
+use Rattle.strategy_lemmas.specs.declared.tokens.WhyCited.{WhyCited}
+use Rattle.strategy_lemmas.specs.declared.tokens.WhyCited.TheVariants.{NoSuchMove as CitedNoMove, BadIndex as CitedBadIndex, BadCite as CitedBadCite, LeafFails as CitedLeafFails, TooShort as CitedTooShort, Rest as CitedRest}
+use Rattle.strategy_lemmas.specs.Cited.{CitedSteps, cited_checked}
+use Rattle.citing_text.specs.TokenText.{token_in}
 use Rattle.certificate_text.specs.declared.head.Head.{Head}
 use Rattle.certificate_text.specs.declared.head.HeadFault.TheVariants.{BadLine as LineFault, BadGame as NoGame, ReadFault, InputFull, Memory}
 use Rattle.certificate_text.specs.Text.{HeadRead, head_of, index_in}
 use Rattle.command_runs.specs.Input.{Sides}
 use Rattle.command_runs.specs.declared.status.Status.{Status}
 use Rattle.text_verdicts.specs.declared.verdict.Verdict.{Verdict}
-use Rattle.text_verdicts.specs.declared.verdict.Verdict.TheVariants.{Refused, BadLine, BadGame, GameOver}
+use Rattle.text_verdicts.specs.declared.verdict.Verdict.TheVariants.{Accepted, Refused, BadCite, BadLine, BadGame, GameOver}
 use Rattle.text_verdicts.specs.Verdicts.{of_walk}
 use Rattle.text_verdicts.specs.Runs.{VerdictRun}
 
@@ -27,21 +34,48 @@ end_of head = replay (opening head.game_type) head.moves
 abbrev pub claimed_move : Head → Result Move MoveFault
 claimed_move head = move_of head.game_type (end_of head).board head.claim_text
 
--- what the items of the lines behind the head make of the claim that a move of a position is the
--- best one, and is worth so much
+-- what indices behind the head make of the claim that a move of a position is the best one, and is
+-- worth so much
 abbrev pub of_items : Position → ℕ → Move → ℤ → List (Option ℕ) → Verdict
 of_items p depth m v items = of_walk 5 (checked p depth m v items)
 
+-- the verdict that a fault of tokens is
+abbrev pub of_why : ℕ → WhyCited → Verdict
+of_why place CitedNoMove = Refused place NoSuchMove
+of_why place CitedBadIndex = Refused place BadIndex
+of_why place CitedBadCite = BadCite place
+of_why place CitedLeafFails = Refused place LeafFails
+of_why place CitedTooShort = Refused place TooShort
+of_why place CitedRest = Refused place Rest
+
+-- The walk of the tokens behind a head of so many lines. The token before which n were taken stands
+-- on the line n + 1 behind the head, and no count goes beyond the greatest u64.
+abbrev pub of_cited : ℕ → Outcome CitedSteps WhyCited → Verdict
+of_cited head (Left s) = Accepted
+of_cited head (Fault why n) = of_why (held n) why
+of_cited head (Halt n) = BadLine (held (n + 1 + head))
+
+-- what tokens behind the head make of such a claim
+abbrev pub of_tokens : Position → ℕ → Move → ℤ → List (Option Token) → Verdict
+of_tokens p depth m v items = of_cited 5 (cited_checked p depth m v items)
+
+-- what the lines behind a head of this version make of it: they are indices in the first version,
+-- and tokens in the second
+abbrev pub of_lines : ℕ → Position → ℕ → Move → ℤ → List Line → Verdict
+of_lines version p depth m v rest =
+    if nat_eq version 1 then of_items p depth m v (map index_in rest)
+    else of_tokens p depth m v (map token_in rest)
+
 -- the same of a text of a move; one that denotes no move is refused like a move that is not legal
-abbrev pub of_move : Position → ℕ → Result Move MoveFault → ℤ → List (Option ℕ) → Verdict
-of_move p depth (Ok m) v items = of_items p depth m v items
-of_move p depth (Err fault) v items = Refused 0 NoSuchMove
+abbrev pub of_move : ℕ → Position → ℕ → Result Move MoveFault → ℤ → List Line → Verdict
+of_move version p depth (Ok m) v rest = of_lines version p depth m v rest
+of_move version p depth (Err fault) v rest = Refused 0 NoSuchMove
 
 -- the same of a head and the lines behind it; no claim is about a game that is over
 abbrev pub of_claim : Head → List Line → Verdict
 of_claim head rest =
     if is_over (end_of head) then GameOver
-    else of_move (end_of head) head.depth (claimed_move head) head.value (map index_in rest)
+    else of_move head.version (end_of head) head.depth (claimed_move head) head.value rest
 
 -- the same of the lines behind a head, or of the fault of a head; the last three are no faults of
 -- lines
@@ -55,7 +89,7 @@ of_head (Err Memory) rest = BadLine 0
 
 -- the verdict on the lines of a text
 unfoldable pub verdict : List Line → Verdict
-verdict lines = of_head (head_of 1 lines) (drop 5 lines)
+verdict lines = of_head (head_of 2 lines) (drop 5 lines)
 
 -- what was written and read where `check` ends with this status
 abbrev pub CheckRun : Status → Sides → Sides → Type 0

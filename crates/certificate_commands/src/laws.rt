@@ -7,8 +7,10 @@ ghost use Rattle.certificate_commands.specs.Laws.{
   CertifiesAreDone,
   CheckedIsTrue,
   ChecksAreDone,
+  HeldCitedIsAccepted,
   HeldIsAccepted,
 };
+ghost use Rattle.certificate_commands.specs.MigrationLaws.{MigratedIsAccepted, MigrationsAreDone};
 
 /// The claim of a text that is accepted is true: its move is the best one at its depth, and is
 /// worth its value.
@@ -24,6 +26,11 @@ pub fn checked_claims_are_true()
 /// A text is accepted whose indices hold of its claim.
 pub fn held_claims_are_accepted()
     ensures { HeldIsAccepted }
+{}
+
+/// A text of the second version is accepted whose tokens hold of its claim.
+pub fn held_tokens_are_accepted()
+    ensures { HeldCitedIsAccepted }
 {}
 
 /// The certificate of the best move of a game that is not over is accepted.
@@ -46,4 +53,16 @@ pub fn certifies_are_done()
 /// for want of memory, where neither the source nor the sink counted a fault.
 pub fn checks_are_done()
     ensures { ChecksAreDone }
+{}
+
+/// The making of a text of fewer than 1,099,511,627,776 bytes, which is a certificate of the first
+/// version that holds, into one that cites ends with `Done`, or for want of memory, where neither
+/// the source nor the sink counted a fault.
+pub fn migrations_are_done()
+    ensures { MigrationsAreDone }
+{}
+
+/// What is written where the making of a text into one that cites is done is accepted by a check.
+pub fn migrated_texts_are_accepted()
+    ensures { MigratedIsAccepted }
 {}

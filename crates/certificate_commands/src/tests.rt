@@ -1,6 +1,6 @@
 //! Certificates that are written, and texts that are checked.
 
-use crate::{certify, check};
+use crate::{certify, check, migrate};
 use command_runs::Status;
 use fast_game::FastGame;
 use io_edge::{MemSink, MemSource};
@@ -19,26 +19,27 @@ const TWO_PLIES: &str =
 const DRAWN: &str =
     "Base;Draw;Black[7];wS1;bS1 wS1-;wQ /wS1;bQ bS1-;wQ wS1\\;bQ bS1\\;wG1 -wQ;bG1 bS1-;wB1 wG1\\;bB1 bQ-;wA1 -wB1;bA1 bQ\\;wA1 wQ\\";
 
-/// What is asked for: a certificate one ply or two deep, or a check.
+/// What is asked for: a certificate one ply or two deep, a check, or a certificate that cites.
 #[derive(Clone, Copy, Debug)]
-enum Asked {
+pub(crate) enum Asked {
     OnePly,
     TwoPlies,
     Check,
+    Migrate,
 }
 
 /// The numbers, from 1, of the read and of the write that fail (0: none fails).
 #[derive(Clone, Copy, Debug)]
-struct Failing {
-    read: u64,
-    write: u64,
+pub(crate) struct Failing {
+    pub(crate) read: u64,
+    pub(crate) write: u64,
 }
 
 /// No call fails.
 const NONE: Failing = Failing { read: 0, write: 0 };
 
 /// Runs a command in memory, and compares the status and all that was written.
-fn expect_run<R: Abort>(
+pub(crate) fn expect_run<R: Abort>(
     rt: &R,
     alloc: Global,
     asked: Asked,
@@ -62,6 +63,7 @@ fn expect_run<R: Abort>(
             &mut sink,
         ),
         Asked::Check => check::<MemSource, MemSink, FastGame>(alloc, &mut source, &mut sink),
+        Asked::Migrate => migrate::<MemSource, MemSink, FastGame>(alloc, &mut source, &mut sink),
     };
     assert_eq!(rt;
         ended,
@@ -77,7 +79,7 @@ fn expect_run<R: Abort>(
 }
 
 /// Runs a command, in which no call fails, in pieces of one byte, of seven, and without bound.
-fn expect_answer<R: Abort>(
+pub(crate) fn expect_answer<R: Abort>(
     rt: &R,
     alloc: Global,
     asked: Asked,
@@ -235,10 +237,39 @@ fn claims_are_checked(rt: HostRuntime) -> Result<(), Fail> {
 }
 
 #[test]
+fn tokens_are_checked(rt: HostRuntime) -> Result<(), Fail> {
+    for (rest, status, written) in [
+        ("0\n0\n0\n0\n", Status::Done, "accepted\n"),
+        ("@0\n0\n0\n0\n", Status::Refused, "refused cite 1\n"),
+        ("0\n@0\n0\n0\n", Status::Refused, "refused cite 2\n"),
+        ("24\n0\n0\n0\n", Status::Refused, "refused index 1\n"),
+        ("0\n0\n0\n", Status::Refused, "refused short 3\n"),
+        ("0\n0\n0\n0\n@0\n", Status::Refused, "refused rest 4\n"),
+        ("@65536\n0\n0\n0\n", Status::BadInput, "bad line 6\n"),
+        ("0\n@\n0\n0\n", Status::BadInput, "bad line 7\n"),
+    ] {
+        let head = b"hive-certificate 2\nBase\ndepth 2\nmove wA1\nvalue 10\n".as_slice();
+        let mut text = Vec::from_slice(rt.alloc(), head)?;
+        text.extend_from_slice(rest.as_bytes())?;
+        expect_answer(
+            &rt,
+            rt.alloc(),
+            Asked::Check,
+            text.as_slice(),
+            status,
+            written,
+        )?;
+    }
+    Ok(())
+}
+
+#[test]
 fn heads_are_checked_line_by_line(rt: HostRuntime) -> Result<(), Fail> {
     for (input, written) in [
         ("", "bad line 1\n"),
-        ("hive-certificate 2\n", "bad line 1\n"),
+        ("hive-certificate 3\n", "bad line 1\n"),
+        ("hive-certificate 0\n", "bad line 1\n"),
+        ("hive-certificate 2\n", "bad line 2\n"),
         ("hive-solution 1\n", "bad line 1\n"),
         ("hive-certificate 1\n", "bad line 2\n"),
         ("hive-certificate 1\nbase\n", "bad malformed part 1\n"),

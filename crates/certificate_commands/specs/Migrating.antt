@@ -1,0 +1,125 @@
+-- What is written where a certificate is made into one that cites.
+use Rattle.std.specs.Prelude.{◌≡◌, ◌⊎◌, ℕ, ◌<◌, false, ⊤, List, map, drop, ◌++◌, length, take, ℤ, Option, Some, Result, Ok, Err}
+use Rattle.io_edge.specs.Outside.{Told, behind}
+use Rattle.hive_model.specs.declared.places.Move.{Move}
+use Rattle.hive_model.specs.Positions.{Position}
+use Rattle.hive_model.specs.Legal.{is_over}
+use Rattle.hive_model.specs.Lines.{Line, lines}
+use Rattle.strategy_check.specs.Trace.{Holds}
+use Rattle.strategy_lemmas.specs.Short.{short}
+use Rattle.certificate_text.specs.declared.head.Head.{Head}
+use Rattle.certificate_text.specs.declared.head.HeadFault.{HeadFault}
+use Rattle.certificate_text.specs.declared.head.HeadFault.TheVariants.{BadLine as LineFault, BadGame as NoGame, ReadFault as NoRead, InputFull as IsFull, Memory as NoMemory}
+use Rattle.certificate_text.specs.Text.{head_of, head_text, index_in}
+use Rattle.citing_text.specs.TokenText.{token_lines}
+use Rattle.citing_text.specs.Migrating.{Shortens}
+use Rattle.command_runs.specs.Input.{IsAllRead, Sides, WhereTold}
+use Rattle.command_runs.specs.declared.status.Status.{Status}
+use Rattle.command_runs.specs.declared.status.Status.TheVariants.{Done, Refused, Usage, ReadFault, WriteFault, SpawnFault, BadInput, Memory, InputFull}
+use Rattle.text_verdicts.specs.declared.verdict.Verdict.{Verdict}
+use Rattle.text_verdicts.specs.declared.verdict.Verdict.TheVariants.{Accepted, Refused as VerdictRefused, BadCite, BadLine, BadGame, GameOver}
+use Rattle.text_verdicts.specs.declared.verdict.Unread.{Unread}
+use Rattle.text_verdicts.specs.declared.verdict.Unread.TheVariants.{ReadFault as UnreadFault, InputFull as UnreadFull, Memory as UnreadMemory}
+use Rattle.text_verdicts.specs.Runs.{CutVerdict, VerdictRun}
+use Rattle.certificate_commands.specs.declared.migrating.Taken.{Taken}
+use Rattle.certificate_commands.specs.declared.migrating.Taken.TheVariants.{Written, Cut, Judged, Missed}
+use Rattle.certificate_commands.specs.Verdicts.{claimed_move, end_of, of_head}
+
+-- the verdict on the lines of a text whose version is the first
+unfoldable pub first_verdict : List Line → Verdict
+first_verdict ls = of_head (head_of 1 ls) (drop 5 ls)
+
+-- What is written of a head and the lines behind it, where the game is not over and the lines are
+-- indices that hold of the claim: the head of the second version, with the game and the move in
+-- their written forms, and the tokens that cite wherever something that was shown serves.
+pub record MigratesHead (head : Head) (rest : List Line) (text : List ℕ) : Type 0 where
+  pub best : Move
+  pub indices : List ℕ
+  pub open_ : is_over (end_of head) ≡ false
+  pub denotes : claimed_move head ≡ Ok best
+  pub are_indices : map index_in rest ≡ map (λ i. Some i) indices
+  pub hold : Holds (end_of head) head.depth best head.value indices
+  pub text_is :
+      text ≡ head_text 2 head.game_type head.moves head.depth best head.value
+      ++ token_lines (short (end_of head) head.depth best head.value indices)
+
+-- the same of the lines of a text
+pub record MigratesTo (ls : List Line) (text : List ℕ) : Type 0 where
+  pub head : Head
+  pub has_head : head_of 1 ls ≡ Ok head
+  pub migrates : MigratesHead head (drop 5 ls) text
+
+-- What was written, and how it ended: such a text, or its first n bytes and not all where a write
+-- failed; or nothing, where this is the verdict, or the input could not be read.
+abbrev pub Writes : Verdict → (List ℕ → Type 0) → Taken → Told → Told → Type 0
+Writes verdict Is Written before after =
+    (text : List ℕ) × Is text × (after ≡ behind before text)
+Writes verdict Is Cut before after =
+    (text : List ℕ) × Is text
+    × (n : ℕ) × (n < length text) × (after ≡ behind before (take n text))
+Writes verdict Is (Judged v) before after = verdict ≡ v
+Writes verdict Is (Missed unread) before after = ⊤
+
+-- nothing was written where it is neither written nor cut off, and what was judged was not accepted
+abbrev pub WritesLate : Taken → Told → Told → Type 0
+WritesLate Written before after = ⊤
+WritesLate Cut before after = ⊤
+WritesLate (Judged Accepted) before after = ⊥
+WritesLate (Judged (VerdictRefused place why)) before after = after ≡ before
+WritesLate (Judged (BadCite place)) before after = after ≡ before
+WritesLate (Judged (BadLine n)) before after = after ≡ before
+WritesLate (Judged (BadGame fault)) before after = after ≡ before
+WritesLate (Judged GameOver) before after = after ≡ before
+WritesLate (Missed unread) before after = after ≡ before
+
+-- how a text is taken that has no head
+abbrev pub Missing : HeadFault → Taken → Type 0
+Missing (LineFault n) taken = taken ≡ Judged (BadLine n)
+Missing (NoGame fault) taken = taken ≡ Judged (BadGame fault)
+Missing NoRead taken = taken ≡ Missed UnreadFault
+Missing IsFull taken = taken ≡ Missed UnreadFull
+Missing NoMemory taken = taken ≡ Missed UnreadMemory
+
+-- the text of a head and of the tokens of these items
+abbrev pub OfItems : Position → ℕ → Move → ℤ → List (Option ℕ) → List ℕ → List ℕ → Type 0
+OfItems p d m v items head text =
+    (rest : List ℕ) × Shortens p d m v items rest × (text ≡ head ++ rest)
+
+-- what was judged of a text: what is written was accepted
+abbrev pub judged_of : Taken → Result Verdict Unread
+judged_of Written = Ok Accepted
+judged_of Cut = Ok Accepted
+judged_of (Judged v) = Ok v
+judged_of (Missed unread) = Err unread
+
+-- the text that the lines of the input make was written, and the input was read to its end
+pub record WroteMigration (input : List ℕ) (before after : Sides) : Type 0 where
+  pub text : List ℕ
+  pub is_text : MigratesTo (lines input) text
+  pub wrote : after.written ≡ behind before.written text
+  pub was_read : IsAllRead input after.rest
+
+-- of this text the first n bytes were written, and not all
+pub record CutMigration (input : List ℕ) (before after : Sides) : Type 0 where
+  pub text : List ℕ
+  pub is_text : MigratesTo (lines input) text
+  pub n : ℕ
+  pub cut : n < length text
+  pub wrote : after.written ≡ behind before.written (take n text)
+  pub was_read : IsAllRead input after.rest
+
+-- What was written and read where `migrate` ends with this status: the text that the lines of the
+-- input make, or what a check of the first version writes of them. Where a read has failed, the
+-- limit is reached or memory is wanting, nothing was written.
+abbrev pub MigrateRun : Status → Sides → Sides → Type 0
+MigrateRun Done before after = WhereTold before.rest (λ input. WroteMigration input before after)
+MigrateRun WriteFault before after =
+    WhereTold before.rest (λ input. CutMigration input before after
+    ⊎ ((n : ℕ) × CutVerdict (first_verdict (lines input)) input before after n))
+MigrateRun Refused before after = VerdictRun first_verdict Refused before after
+MigrateRun BadInput before after = VerdictRun first_verdict BadInput before after
+MigrateRun ReadFault before after = VerdictRun first_verdict ReadFault before after
+MigrateRun InputFull before after = VerdictRun first_verdict InputFull before after
+MigrateRun Memory before after = VerdictRun first_verdict Memory before after
+MigrateRun Usage before after = ⊥
+MigrateRun SpawnFault before after = ⊥

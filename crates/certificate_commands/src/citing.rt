@@ -1,0 +1,112 @@
+//! Checks of certificates that cite.
+
+ghost use Rattle.std.specs.Prelude.{◌≡◌, ◌≤◌, ◌↔◌, ℕ, List, map, true, Ok, Some, Err};
+ghost use Rattle.io_edge.specs.Outside.{HasCause};
+ghost use Rattle.line_feed.specs.Feed.{Reading};
+ghost use Rattle.line_feed.specs.Ahead.{ahead_of};
+ghost use Rattle.hive_model.specs.Lines.{Line as AnyLine};
+ghost use Rattle.hive_model.specs.Minimax.{IsInner};
+ghost use Rattle.hive_model.specs.Courses.{position};
+ghost use Rattle.search_laws.specs.Laws.{IsSmall};
+ghost use Rattle.claim_walks.specs.Walks.{Outcome};
+ghost use Rattle.strategy_lemmas.specs.declared.tokens.WhyCited.{WhyCited as AnyWhy};
+ghost use Rattle.strategy_lemmas.specs.Cited.{CitedSteps};
+ghost use Rattle.strategy_lemmas.specs.CitedChecks.{CitedAnswers, CitedCountsBad};
+ghost use Rattle.strategy_lemmas.specs.CitedCauses.{CitedEnded, OnShortCited};
+ghost use Rattle.certificate_text.specs.Taken.{HasRead};
+ghost use Rattle.citing_text.specs.Taken.{TokenStopsAt};
+ghost use Rattle.citing_text.specs.TokenText.{token_in};
+ghost use Rattle.text_verdicts.specs.Reading.{Judges, StopsWith};
+ghost use Rattle.certificate_commands.specs.Verdicts.{of_cited, of_tokens, of_why};
+
+use crate::checking::HEAD_LINES;
+use citing_text::LineTokens;
+use hive_model::{Game, MoveStack};
+use io_edge::Source;
+use line_feed::LineReader;
+use strategy_check::{Claim, Halt, Why};
+use strategy_lemmas::{CheckedCited, Lemmas, WhyCited, check_cited};
+use text_verdicts::{Unread, Verdict};
+
+/// The verdict that a fault of tokens is.
+fn fault_of(place: u64, why: WhyCited) -> Verdict
+    ensures is { result ≡ of_why place why }
+    ensures stops { (reader : Reading) → OnShortCited why (reader.finished ≡ true)
+        → StopsWith (Ok result) reader }
+{
+    match why {
+        WhyCited::NoSuchMove => Verdict::Refused {
+            place,
+            why: Why::NoSuchMove,
+        },
+        WhyCited::BadIndex => Verdict::Refused {
+            place,
+            why: Why::BadIndex,
+        },
+        WhyCited::BadCite => Verdict::BadCite { place },
+        WhyCited::LeafFails => Verdict::Refused {
+            place,
+            why: Why::LeafFails,
+        },
+        WhyCited::TooShort => Verdict::Refused {
+            place,
+            why: Why::TooShort,
+        },
+        WhyCited::Rest => Verdict::Refused {
+            place,
+            why: Why::Rest,
+        },
+    }
+}
+
+/// What the answer of a check of tokens means, where so many lines were taken behind a head of so
+/// many.
+fn verdict_of_cited(checked: CheckedCited, head: u32, lines: u64) -> Result<Verdict, Unread>
+    ensures judges { (o : Outcome CitedSteps AnyWhy) → CitedAnswers o checked
+        → CitedCountsBad o checked lines → Judges result (of_cited head o) }
+    ensures failed { (result ≡ Err Unread.ReadFault)
+        ↔ (checked ≡ CheckedCited.Halted Halt.Failed) }
+    ensures full { result ≡ Err Unread.InputFull → checked ≡ CheckedCited.Halted Halt.Full }
+    ensures stops { (reader : Reading)
+        → CitedEnded (λ answer. TokenStopsAt answer reader) checked → StopsWith result reader }
+{
+    match checked {
+        CheckedCited::Accepted => Ok(Verdict::Accepted),
+        CheckedCited::Refused { place, why } => Ok(fault_of(place, why)),
+        CheckedCited::Halted { answer: Halt::Bad } => Ok(Verdict::BadLine {
+            line: lines.saturating_add(head as u64),
+        }),
+        CheckedCited::Halted {
+            answer: Halt::Failed,
+        } => Err(Unread::ReadFault),
+        CheckedCited::Halted { answer: Halt::Full } => Err(Unread::InputFull),
+    }
+}
+
+/// The verdict on the lines to come as the tokens of a claim about the game's position.
+pub(crate) fn judge_tokens<S: Source, G: Game>(
+    reader: &mut LineReader,
+    input: &mut S,
+    game: &mut G,
+    claim: &Claim,
+    lemmas: &mut Lemmas,
+    stack: &mut MoveStack,
+) -> Result<Verdict, Unread>
+    requires deep { claim.now.depth ≤ 64 }
+    requires inner { IsInner (position (G.course game.old)) claim.now.depth }
+    requires small { IsSmall 1000064 claim.now.value }
+    requires spare { claim.now.depth ≤ (G.course game.old).spare }
+    requires room { claim.now.depth ≤ stack.old.free }
+    ensures judged { (left : List AnyLine) → ahead_of reader.old (S.rest input.old) ≡ Some left
+        → Judges result (of_tokens (position (G.course game.old))
+        claim.now.depth claim.now.best claim.now.value (map token_in left)) }
+    ensures stops { StopsWith result reader.new }
+    ensures cause { HasCause (result ≡ Err Unread.ReadFault)
+        (S.read_faults input.old) (S.read_faults input.new) }
+    ensures read { (text : List ℕ) → HasRead text (S.rest input.old) reader.old
+        → HasRead text (S.rest input.new) reader.new }
+{
+    let mut tokens = LineTokens::new(reader, input);
+    let checked = check_cited(game, claim, &mut tokens, lemmas, stack);
+    verdict_of_cited(checked, HEAD_LINES, tokens.lines())
+}

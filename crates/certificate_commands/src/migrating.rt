@@ -1,0 +1,349 @@
+//! Certificates become certificates that cite.
+
+ghost use Rattle.std.specs.Prelude.{◌≡◌, ◌≢◌, ◌<◌, ◌≤◌, ◌↔◌, ℕ, ℤ, List, map, Option, Some};
+ghost use Rattle.io_edge.specs.Outside.{HasCause, Told as AnyTold};
+ghost use Rattle.line_feed.specs.Feed.{Reading, input_limit};
+ghost use Rattle.line_feed.specs.Ahead.{ahead_of};
+ghost use Rattle.hive_model.specs.Lines.{Line as AnyLine, lines};
+ghost use Rattle.hive_model.specs.Minimax.{IsInner};
+ghost use Rattle.hive_model.specs.Courses.{position};
+ghost use Rattle.hive_model.specs.declared.places.Move.{Move as AnyMove};
+ghost use Rattle.hive_model.specs.Positions.{Position};
+ghost use Rattle.search_laws.specs.Laws.{IsSmall};
+ghost use Rattle.strategy_check.specs.Trace.{checked};
+ghost use Rattle.certificate_text.specs.Text.{head_text, index_in};
+ghost use Rattle.certificate_text.specs.Heads.{IsHead};
+ghost use Rattle.certificate_text.specs.Taken.{HasRead, StopsAt};
+ghost use Rattle.citing_text.specs.Migrating.{MigrateAnswers, MigrateCountsBad};
+ghost use Rattle.citing_text.specs.Migrating as calls;
+ghost use Rattle.citing_text.specs.Endings.{MigrateEnded};
+ghost use Rattle.text_verdicts.specs.Reading.{StopsWith, WasReadAs};
+ghost use Rattle.certificate_commands.specs.Verdicts.{of_claim, of_items};
+ghost use Rattle.certificate_commands.specs.Migrating.{
+  MigrateRun,
+  MigratesHead,
+  MigratesTo,
+  Missing,
+  OfItems,
+  Writes,
+  WritesLate,
+  first_verdict,
+  judged_of,
+};
+
+use crate::checking::HEAD_LINES;
+use crate::heads::citing_head;
+use certificate_text::{Head, HeadFault, LineIndices, read_head};
+use citing_text::{Migrated, migrate as migrate_indices};
+use command_runs::{Status, is_over};
+use game_text::played;
+use hive_model::{Game, MoveStack};
+use io_edge::{Sink, Source};
+use line_feed::LineReader;
+use move_text::read_move;
+use std::alloc::Global;
+use strategy_check::{Claim, Halt, Why};
+use text_verdicts::{Unread, Verdict, tell_judged};
+
+/// How a text was taken that was to be made into one that cites.
+#[derive(Clone, Copy, Debug, PartialEq, Eq)]
+pub enum Taken {
+    /// All was written.
+    Written,
+    /// A write failed.
+    Cut,
+    /// What it is worth, which is not accepted. Nothing was written.
+    Judged(Verdict),
+    /// It could not be read. Nothing was written.
+    Missed(Unread),
+}
+
+/// The version of a certificate that is made into one that cites.
+const FIRST: u32 = 1;
+
+/// What the answer of the call means, where so many lines were taken behind a head of so many.
+fn taken_of(migrated: Migrated, lines: u64) -> Taken
+    ensures told { (p : Position) (d : ℕ) (m : AnyMove) (v : ℤ) (items : List (Option ℕ))
+        (head : List ℕ) (before after : AnyTold)
+        → MigrateAnswers p d m v items head migrated before after
+        → MigrateCountsBad (checked p d m v items) migrated lines
+        → Writes (of_items p d m v items) (OfItems p d m v items head) result before after }
+    ensures late { (before after : AnyTold) → calls.WritesLate migrated before after
+        → WritesLate result before after }
+    ensures failed { (result ≡ Taken.Missed Unread.ReadFault)
+        ↔ (migrated ≡ Migrated.Halted Halt.Failed) }
+    ensures stops { (reader : Reading) → MigrateEnded (λ answer. StopsAt answer reader) migrated
+        → StopsWith (judged_of result) reader }
+    ensures cut { (result ≡ Taken.Cut) ↔ (migrated ≡ Migrated.WriteFault) }
+{
+    match migrated {
+        Migrated::Done => Taken::Written,
+        Migrated::WriteFault => Taken::Cut,
+        Migrated::Refused { place, why } => Taken::Judged(Verdict::Refused { place, why }),
+        Migrated::Halted { answer: Halt::Bad } => Taken::Judged(Verdict::BadLine {
+            line: lines.saturating_add(HEAD_LINES as u64),
+        }),
+        Migrated::Halted {
+            answer: Halt::Failed,
+        } => Taken::Missed(Unread::ReadFault),
+        Migrated::Halted { answer: Halt::Full } => Taken::Missed(Unread::InputFull),
+        Migrated::Memory => Taken::Missed(Unread::Memory),
+    }
+}
+
+/// Writes a head, and behind it the tokens that are made of the lines to come.
+fn migrate_lines<S: Source, G: Game, K: Sink>(
+    alloc: Global,
+    claim: &Claim,
+    head: &[u8],
+    reader: &mut LineReader,
+    input: &mut S,
+    game: &mut G,
+    stack: &mut MoveStack,
+    output: &mut K,
+) -> Taken
+    requires deep { claim.now.depth ≤ 64 }
+    requires inner { IsInner (position (G.course game.old)) claim.now.depth }
+    requires small { IsSmall 1000064 claim.now.value }
+    requires spare { claim.now.depth ≤ (G.course game.old).spare }
+    requires room { claim.now.depth ≤ stack.old.free }
+    ensures told { (left : List AnyLine) → ahead_of reader.old (S.rest input.old) ≡ Some left
+        → Writes (of_items (position (G.course game.old))
+        claim.now.depth claim.now.best claim.now.value (map index_in left))
+        (OfItems (position (G.course game.old))
+        claim.now.depth claim.now.best claim.now.value (map index_in left) head.now) result
+        (K.written output.old) (K.written output.new) }
+    ensures late { WritesLate result (K.written output.old) (K.written output.new) }
+    ensures stops { StopsWith (judged_of result) reader.new }
+    ensures reads { HasCause (result ≡ Taken.Missed Unread.ReadFault)
+        (S.read_faults input.old) (S.read_faults input.new) }
+    ensures writes { HasCause (result ≡ Taken.Cut)
+        (K.write_faults output.old) (K.write_faults output.new) }
+    ensures read { (text : List ℕ) → HasRead text (S.rest input.old) reader.old
+        → HasRead text (S.rest input.new) reader.new }
+{
+    let mut indices = LineIndices::new(reader, input);
+    let migrated = migrate_indices(alloc, game, claim, &mut indices, head, stack, output);
+    taken_of(migrated, indices.lines())
+}
+
+/// The same where the move that the head claims is read; the head is written anew.
+fn migrate_move<S: Source, G: Game + Drop, K: Sink>(
+    alloc: Global,
+    claim: &Claim,
+    reader: &mut LineReader,
+    input: &mut S,
+    game: &mut G,
+    output: &mut K,
+) -> Taken
+    requires deep { claim.now.depth ≤ 64 }
+    requires inner { IsInner (position (G.course game.old)) claim.now.depth }
+    requires small { IsSmall 1000064 claim.now.value }
+    requires spare { claim.now.depth ≤ (G.course game.old).spare }
+    ensures told { (left : List AnyLine) → ahead_of reader.old (S.rest input.old) ≡ Some left
+        → Writes (of_items (position (G.course game.old))
+        claim.now.depth claim.now.best claim.now.value (map index_in left))
+        (OfItems (position (G.course game.old))
+        claim.now.depth claim.now.best claim.now.value (map index_in left)
+        (head_text 2 (G.course game.old).game_type (G.course game.old).made
+        claim.now.depth claim.now.best claim.now.value)) result
+        (K.written output.old) (K.written output.new) }
+    ensures late { WritesLate result (K.written output.old) (K.written output.new) }
+    ensures stops { StopsWith (judged_of result) reader.new }
+    ensures reads { HasCause (result ≡ Taken.Missed Unread.ReadFault)
+        (S.read_faults input.old) (S.read_faults input.new) }
+    ensures writes { HasCause (result ≡ Taken.Cut)
+        (K.write_faults output.old) (K.write_faults output.new) }
+    ensures read { (text : List ℕ) → HasRead text (S.rest input.old) reader.old
+        → HasRead text (S.rest input.new) reader.new }
+{
+    if !game.is_legal(claim.best) {
+        return Taken::Judged(Verdict::Refused {
+            place: 0,
+            why: Why::NoSuchMove,
+        });
+    }
+    let Ok(head) = citing_head(alloc, game, claim) else {
+        return Taken::Missed(Unread::Memory);
+    };
+    let Ok(mut stack) = MoveStack::new(alloc, claim.depth) else {
+        return Taken::Missed(Unread::Memory);
+    };
+    migrate_lines(
+        alloc,
+        claim,
+        head.items(),
+        reader,
+        input,
+        game,
+        &mut stack,
+        output,
+    )
+}
+
+/// The same where the game of the head goes on, and its move is not read yet.
+fn migrate_text<S: Source, G: Game + Drop, K: Sink>(
+    alloc: Global,
+    head: &Head,
+    reader: &mut LineReader,
+    input: &mut S,
+    game: &mut G,
+    output: &mut K,
+) -> Taken
+    requires is_head { IsHead 1 head.now }
+    requires kind { (G.course game.old).game_type ≡ head.now.game_type }
+    requires made { (G.course game.old).made ≡ head.now.moves }
+    requires inner { IsInner (position (G.course game.old)) head.now.depth }
+    requires spare { head.now.depth ≤ (G.course game.old).spare }
+    ensures told { (left : List AnyLine) → ahead_of reader.old (S.rest input.old) ≡ Some left
+        → Writes (of_claim head.now left) (MigratesHead head.now left) result
+        (K.written output.old) (K.written output.new) }
+    ensures late { WritesLate result (K.written output.old) (K.written output.new) }
+    ensures stops { StopsWith (judged_of result) reader.new }
+    ensures reads { HasCause (result ≡ Taken.Missed Unread.ReadFault)
+        (S.read_faults input.old) (S.read_faults input.new) }
+    ensures writes { HasCause (result ≡ Taken.Cut)
+        (K.write_faults output.old) (K.write_faults output.new) }
+    ensures read { (text : List ℕ) → HasRead text (S.rest input.old) reader.old
+        → HasRead text (S.rest input.new) reader.new }
+{
+    let _state = game.state();
+    match read_move(head.game_type, game, head.claim_text.items()) {
+        Ok(best) => {
+            let claim = Claim {
+                depth: head.depth,
+                best,
+                value: head.value,
+            };
+            migrate_move(alloc, &claim, reader, input, game, output)
+        }
+        Err(_) => Taken::Judged(Verdict::Refused {
+            place: 0,
+            why: Why::NoSuchMove,
+        }),
+    }
+}
+
+/// The same behind a head.
+fn migrate_claim<S: Source, G: Game + Drop, K: Sink>(
+    alloc: Global,
+    head: &Head,
+    reader: &mut LineReader,
+    input: &mut S,
+    output: &mut K,
+) -> Taken
+    requires { IsHead 1 head.now }
+    ensures told { (left : List AnyLine) → ahead_of reader.old (S.rest input.old) ≡ Some left
+        → Writes (of_claim head.now left) (MigratesHead head.now left) result
+        (K.written output.old) (K.written output.new) }
+    ensures late { WritesLate result (K.written output.old) (K.written output.new) }
+    ensures stops { StopsWith (judged_of result) reader.new }
+    ensures reads { HasCause (result ≡ Taken.Missed Unread.ReadFault)
+        (S.read_faults input.old) (S.read_faults input.new) }
+    ensures writes { HasCause (result ≡ Taken.Cut)
+        (K.write_faults output.old) (K.write_faults output.new) }
+    ensures read { (text : List ℕ) → HasRead text (S.rest input.old) reader.old
+        → HasRead text (S.rest input.new) reader.new }
+{
+    let Ok(mut game) = played::<G>(alloc, head.game_type, head.moves.items(), head.depth) else {
+        return Taken::Missed(Unread::Memory);
+    };
+    if is_over(&game) {
+        return Taken::Judged(Verdict::GameOver);
+    }
+    migrate_text(alloc, head, reader, input, &mut game, output)
+}
+
+/// How a text was taken that has no head.
+fn taken_of_fault(fault: HeadFault) -> Taken
+    ensures told { Missing fault result }
+    ensures late { (told : AnyTold) → WritesLate result told told }
+    ensures failed { (result ≡ Taken.Missed Unread.ReadFault) ↔ (fault ≡ HeadFault.ReadFault) }
+    ensures stops { (reader : Reading) → (fault ≡ HeadFault.ReadFault → reader.taken < input_limit)
+        → (fault ≡ HeadFault.InputFull → reader.taken ≡ input_limit)
+        → StopsWith (judged_of result) reader }
+    ensures uncut { result ≢ Taken.Cut }
+{
+    match fault {
+        HeadFault::BadLine { line } => Taken::Judged(Verdict::BadLine { line: line as u64 }),
+        HeadFault::BadGame { fault } => Taken::Judged(Verdict::BadGame { fault }),
+        HeadFault::ReadFault => Taken::Missed(Unread::ReadFault),
+        HeadFault::InputFull => Taken::Missed(Unread::InputFull),
+        HeadFault::Memory => Taken::Missed(Unread::Memory),
+    }
+}
+
+/// The same with the head.
+fn migrate_all<S: Source, G: Game + Drop, K: Sink>(
+    alloc: Global,
+    reader: &mut LineReader,
+    input: &mut S,
+    output: &mut K,
+) -> Taken
+    ensures told { (left : List AnyLine) → ahead_of reader.old (S.rest input.old) ≡ Some left
+        → Writes (first_verdict left) (MigratesTo left) result
+        (K.written output.old) (K.written output.new) }
+    ensures late { WritesLate result (K.written output.old) (K.written output.new) }
+    ensures stops { StopsWith (judged_of result) reader.new }
+    ensures reads { HasCause (result ≡ Taken.Missed Unread.ReadFault)
+        (S.read_faults input.old) (S.read_faults input.new) }
+    ensures writes { HasCause (result ≡ Taken.Cut)
+        (K.write_faults output.old) (K.write_faults output.new) }
+    ensures read { (text : List ℕ) → HasRead text (S.rest input.old) reader.old
+        → HasRead text (S.rest input.new) reader.new }
+{
+    match read_head::<G, S>(alloc, reader, input, FIRST) {
+        Ok(head) => migrate_claim::<S, G, K>(alloc, &head, reader, input, output),
+        Err(fault) => taken_of_fault(fault),
+    }
+}
+
+/// The same with a reader of its own.
+fn migrate_input<S: Source, G: Game + Drop, K: Sink>(
+    alloc: Global,
+    input: &mut S,
+    output: &mut K,
+) -> Taken
+    ensures told { (text : List ℕ) → S.rest input.old ≡ Some text
+        → Writes (first_verdict (lines text)) (MigratesTo (lines text)) result
+        (K.written output.old) (K.written output.new) }
+    ensures late { WritesLate result (K.written output.old) (K.written output.new) }
+    ensures read { (text : List ℕ) → S.rest input.old ≡ Some text
+        → WasReadAs (judged_of result) text (S.rest input.new) }
+    ensures reads { HasCause (result ≡ Taken.Missed Unread.ReadFault)
+        (S.read_faults input.old) (S.read_faults input.new) }
+    ensures writes { HasCause (result ≡ Taken.Cut)
+        (K.write_faults output.old) (K.write_faults output.new) }
+{
+    let Ok(mut reader) = LineReader::new(alloc) else {
+        return Taken::Missed(Unread::Memory);
+    };
+    migrate_all::<S, G, K>(alloc, &mut reader, input, output)
+}
+
+/// Makes the input, which is to be a certificate of the first version that holds, into one of the
+/// second version: the line `hive-certificate 2`, the game and the move in their written forms, the
+/// same depth and value, and the tokens that cite wherever something that was shown serves, each on
+/// a line of its own. It is `Done` then. All of the input is read before the first write. Of any
+/// other input the line is written that a check of the first version writes, with its status. A
+/// read that fails, a full input and want of memory end the run with nothing written.
+pub fn migrate<S: Source, K: Sink, G: Game + Drop>(
+    alloc: Global,
+    input: &mut S,
+    output: &mut K,
+) -> Status
+    ensures run { MigrateRun result
+        (record { rest = S.rest input.old; written = K.written output.old })
+        (record { rest = S.rest input.new; written = K.written output.new }) }
+    ensures reads { HasCause (result ≡ Status.ReadFault)
+        (S.read_faults input.old) (S.read_faults input.new) }
+    ensures writes { HasCause (result ≡ Status.WriteFault)
+        (K.write_faults output.old) (K.write_faults output.new) }
+{
+    match migrate_input::<S, G, K>(alloc, input, output) {
+        Taken::Written => Status::Done,
+        Taken::Cut => Status::WriteFault,
+        Taken::Judged(verdict) => tell_judged(alloc, Ok(verdict), output),
+        Taken::Missed(unread) => tell_judged(alloc, Err(unread), output),
+    }
+}

@@ -1,0 +1,141 @@
+//! Certificates that become certificates that cite.
+
+use crate::tests::{Asked, Failing, expect_answer, expect_run};
+use crate::{certify, migrate};
+use command_runs::Status;
+use fast_game::FastGame;
+use io_edge::{MemSink, MemSource};
+use std::alloc::{AllocError, Global};
+use std::test::Fail;
+
+/// A certificate of the opening of the base game two plies deep, with its least indices.
+const FIRST: &str = "hive-certificate 1\nBase\ndepth 2\nmove wA1\nvalue 10\n0\n0\n0\n0\n";
+
+/// What is made of it.
+const SECOND: &str =
+    "hive-certificate 2\nBase;NotStarted;White[1]\ndepth 2\nmove wA1\nvalue 10\n0\n0\n0\n0\n";
+
+/// A game of which two moves may be made in either order.
+const BEGUN: &str = "Base;InProgress;White[2];wS1;bS1 wS1-\n";
+
+/// What is written of this input, as the certificate four plies deep where it is a game.
+fn written_of(alloc: Global, is_game: bool, input: &[u8]) -> Result<Vec<u8>, AllocError> {
+    let bytes = Vec::from_slice(alloc, input)?;
+    let mut source = MemSource::new(bytes, Vec::new(alloc), Vec::new(alloc));
+    let mut sink = MemSink::new(alloc, Vec::new(alloc), Vec::new(alloc));
+    if is_game {
+        certify::<MemSource, MemSink, FastGame>(alloc, 4, &mut source, &mut sink);
+    } else {
+        migrate::<MemSource, MemSink, FastGame>(alloc, &mut source, &mut sink);
+    }
+    Vec::from_slice(alloc, sink.bytes())
+}
+
+#[test]
+fn a_longer_certificate_cites(rt: HostRuntime) -> Result<(), Fail> {
+    let certificate = written_of(rt.alloc(), true, BEGUN.as_bytes())?;
+    let citing = written_of(rt.alloc(), false, certificate.as_slice())?;
+    assert!(rt; citing.as_slice().contains(&b'@'));
+    expect_run(
+        &rt,
+        rt.alloc(),
+        Asked::Check,
+        citing.as_slice(),
+        &[],
+        Failing { read: 0, write: 0 },
+        Status::Done,
+        "accepted\n",
+    )?;
+    Ok(())
+}
+
+#[test]
+fn certificates_become_citing_ones(rt: HostRuntime) -> Result<(), Fail> {
+    expect_answer(
+        &rt,
+        rt.alloc(),
+        Asked::Migrate,
+        FIRST.as_bytes(),
+        Status::Done,
+        SECOND,
+    )?;
+    expect_answer(
+        &rt,
+        rt.alloc(),
+        Asked::Check,
+        SECOND.as_bytes(),
+        Status::Done,
+        "accepted\n",
+    )?;
+    Ok(())
+}
+
+#[test]
+fn other_texts_are_named(rt: HostRuntime) -> Result<(), Fail> {
+    for (input, status, written) in [
+        ("", Status::BadInput, "bad line 1\n"),
+        (SECOND, Status::BadInput, "bad line 1\n"),
+        (
+            "hive-certificate 1\nbase\n",
+            Status::BadInput,
+            "bad malformed part 1\n",
+        ),
+        (
+            "hive-certificate 1\nBase\ndepth 2\nmove wA1\nvalue 10\n0\n@0\n0\n0\n",
+            Status::BadInput,
+            "bad line 7\n",
+        ),
+        (
+            "hive-certificate 1\nBase\ndepth 2\nmove wA1\nvalue 11\n0\n0\n0\n0\n",
+            Status::Refused,
+            "refused leaf 3\n",
+        ),
+        (
+            "hive-certificate 1\nBase\ndepth 2\nmove wA1\nvalue 10\n0\n0\n0\n",
+            Status::Refused,
+            "refused short 3\n",
+        ),
+        (
+            "hive-certificate 1\nBase\ndepth 2\nmove wQ\nvalue 10\n0\n0\n0\n0\n",
+            Status::Refused,
+            "refused move 0\n",
+        ),
+        (
+            "hive-certificate 1\nBase\ndepth 2\nmove queen\nvalue 10\n0\n0\n0\n0\n",
+            Status::Refused,
+            "refused move 0\n",
+        ),
+    ] {
+        expect_answer(
+            &rt,
+            rt.alloc(),
+            Asked::Migrate,
+            input.as_bytes(),
+            status,
+            written,
+        )?;
+    }
+    Ok(())
+}
+
+#[test]
+fn a_failed_call_ends_a_migration(rt: HostRuntime) -> Result<(), Fail> {
+    let read = Failing { read: 2, write: 0 };
+    let write = Failing { read: 0, write: 2 };
+    for (failing, status, written) in [
+        (read, Status::ReadFault, ""),
+        (write, Status::WriteFault, "hive-ce"),
+    ] {
+        expect_run(
+            &rt,
+            rt.alloc(),
+            Asked::Migrate,
+            FIRST.as_bytes(),
+            &[7],
+            failing,
+            status,
+            written,
+        )?;
+    }
+    Ok(())
+}
