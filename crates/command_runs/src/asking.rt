@@ -78,8 +78,9 @@ fn game_of<G: Game + Drop>(alloc: Global, text: &[u8], room: u32) -> Result<G, N
     }
 }
 
-/// Reads the first line, and begins its game again, with room for so many more plies.
-fn first_game<S: Source, G: Game + Drop>(
+/// Reads the first line, which is to be a game that is not over. The game is under way at the end of its moves, with room for so many
+/// more plies. What stands behind the line is not looked at.
+pub fn first_game<S: Source, G: Game + Drop>(
     alloc: Global,
     reader: &mut LineReader,
     input: &mut S,

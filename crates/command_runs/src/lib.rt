@@ -7,7 +7,7 @@ mod no_game;
 mod reasons;
 mod status;
 
-pub use asking::{is_over, read_one_game};
+pub use asking::{first_game, is_over, read_one_game};
 pub use bad::{tell_bad, tell_none};
 pub use no_game::NoGame;
 pub use reasons::{line_for, reason_of};

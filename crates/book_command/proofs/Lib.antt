@@ -1,0 +1,5 @@
+pub mod LongLaws
+pub mod GivenLaws
+pub mod StartLaws
+pub mod CountLaws
+pub mod RunLaws

@@ -1,0 +1,166 @@
+-- How a run ends.
+use Rattle.std.proofs.Common.{◌≡◌, ◌<◌, ◌⊎◌, ℕ, zero, suc, ◌+◌, List, [], ◌∷◌, ◌++◌, length, refl, ap, sym, ◌∙◌, subst, inl, inr, Some, None, arith, append_assoc, length-append}
+use Rattle.std.specs.Prelude.{Option, Ok, Err, slice_get}
+use Rattle.std.proofs.lemmas.List.{append-nil}
+use Rattle.io_edge.specs.Outside.{HasCause, Rose, Told, behind}
+use Rattle.hive_model.specs.declared.places.Move.{Move}
+use Rattle.hive_model.specs.Courses.{Course, position}
+use Rattle.hive_model.specs.Legal.{moves}
+use Rattle.hive_model.specs.Lines.{Line, lines}
+use Rattle.hive_model.specs.Lists.{IsOn}
+use Rattle.hive_model.specs.Positions.{Position}
+use Rattle.line_feed.specs.Feed.{input_limit}
+use Rattle.game_text.specs.declared.parsed.Parsed.{Parsed}
+use Rattle.opening_book.specs.Book.{IsBook, Played}
+use Rattle.command_runs.specs.Asking.{IsReplayOf}
+use Rattle.command_runs.specs.GameRun.{TellsNone, WritesAs}
+use Rattle.command_runs.specs.Input.{Sides, WereRead, WhereTold}
+use Rattle.command_runs.specs.OneGame.{game_in, last_position}
+use Rattle.command_runs.specs.declared.no_game.NoGame.{NoGame}
+use Rattle.command_runs.specs.declared.no_game.NoGame.TheVariants.{Bad, ReadFault as NoRead, InputFull as TooMuch, Memory as NoMemory}
+use Rattle.command_runs.specs.declared.status.Status.{Status}
+use Rattle.command_runs.specs.declared.status.Status.TheVariants.{Done, Refused, Usage, ReadFault, WriteFault, SpawnFault, BadInput, Memory, InputFull}
+use Rattle.command_runs.proofs.GameRunLemmas.{end_is}
+use Rattle.command_runs.proofs.OneGameLemmas.{all_were_read}
+use Rattle.book_command.specs.Asked.{AreGames, AreGood, Asks, played_in}
+use Rattle.book_command.specs.Laws.{BooksAreDone, IsMadeMove, WrittenMovesAreLegal}
+use Rattle.book_command.specs.Reading.{IsNoBook, IsWhole}
+use Rattle.book_command.specs.Runs.{BookRun, IsAnswer, IsBad}
+use Rattle.book_command.specs.Text.{IsLegalHere, IsLineOf}
+
+-- The line of the book
+
+on_list : {X : Type 0} (xs : List X) (i : ℕ) (x : X) → slice_get xs i ≡ Some x → IsOn xs x
+on_list [] i x e = cc
+on_list (y ∷ xs) zero x e = inl cc
+on_list (y ∷ xs) (suc i) x e = inr (on_list xs i x e)
+
+-- the move that a book tells is legal
+pub told_legal : (p : Position) (games : List Played) (found : Option (Move × ℕ)) → IsBook p games found → IsLegalHere p found
+told_legal p games None book = tt
+told_legal p games (Some b) book = on_list (moves p) book.place b.0 book.move
+
+-- the input was read to its end, and this is the line
+pub is_answer : (input : List ℕ) (rest : Told) (start : Parsed) (games : List Played) (course : Course) (line : List ℕ) → IsReplayOf course start → IsWhole input rest start games → IsLineOf (position course) games line → IsAnswer input rest line
+is_answer input rest start games course line replay_of whole is = record {
+  start = start;
+  games = games;
+  asks = whole.asks;
+  over = whole.over;
+  answers = subst (λ p. IsLineOf p games line) (end_is course start replay_of) is;
+}
+
+asked_good : (ls : List Line) (start : Parsed) (games : List Played) → Asks ls start games → AreGood ls
+asked_good [] start games never = absurd never
+asked_good (line ∷ others) start games asks = (start, games, asks)
+
+-- the input was read to its end, and memory was wanting
+pub no_line : (input : List ℕ) (rest : Told) (start : Parsed) (games : List Played) → IsWhole input rest start games → IsNoBook NoMemory input rest
+no_line input rest start games whole = (
+  lines input,
+  [],
+  record {
+    were_read = subst (λ ls. WereRead input rest ls) (sym (append-nil (lines input))) (all_were_read whole.over);
+    good = asked_good (lines input) start games whole.asks;
+    one = omega arith;
+  },
+)
+
+-- The run
+
+-- the line was written, or a part of it
+pub told_run : (status : Status) (before after : Sides) (line : List ℕ) → WhereTold before.rest (λ input. IsAnswer input after.rest line) → WritesAs line Done status before.written after.written → BookRun status before after
+told_run status before after line is (inl (e, wrote)) = subst (λ s. BookRun s before after) (sym e) (λ input told. (line, record { is_answer = is input told; wrote = wrote }))
+told_run status before after line is (inr (e, (n, less, wrote))) = subst (λ s. BookRun s before after) (sym e) (λ input told. (line, n, record { is_text = inr (is input told); cut = less; wrote = wrote }))
+
+bad_run : (status : Status) (before after : Sides) (text : List ℕ) → WhereTold before.rest (λ input. IsNoBook (Bad text) input after.rest) → WritesAs text BadInput status before.written after.written → BookRun status before after
+bad_run status before after text none (inl (e, wrote)) = subst (λ s. BookRun s before after) (sym e) (λ input told.
+    let (why, bad, is) = none input told in (why, record { bad = bad; wrote = wrote ∙ ap (behind before.written) is }))
+bad_run status before after text none (inr (e, (n, less, wrote))) = subst (λ s. BookRun s before after) (sym e) (λ input told.
+    let (why, bad, is) = none input told in (text, n, record { is_text = inl (why, bad, is); cut = less; wrote = wrote }))
+
+-- there is no line of a book
+pub none_run : (none : NoGame) (status : Status) (before after : Sides) → WhereTold before.rest (λ input. IsNoBook none input after.rest) → TellsNone none status before.written after.written → BookRun status before after
+none_run (Bad text) status before after none told = bad_run status before after text none told
+none_run NoRead status before after none (e, same) = subst (λ s. BookRun s before after) (sym e) (same, none)
+none_run TooMuch status before after none (e, same) = subst (λ s. BookRun s before after) (sym e) (same, none)
+none_run NoMemory status before after none (e, same) = subst (λ s. BookRun s before after) (sym e) (same, none)
+
+-- Laws
+
+-- each of these lines is a game, and so none of them is refused
+none_refused : (before others : List Line) (last : Line) (games : List Played) → AreGames (before ++ last ∷ others) games → played_in last ≡ None → ⊥
+none_refused [] others last [] are none = cc
+none_refused [] others last (game ∷ games) are none =
+    let some : played_in last ≡ Some game = cc in
+    let wrong : ◌≡◌ {A = Option Played} None (Some game) = sym none ∙ some in
+    cc
+none_refused (b ∷ before) others last [] are none = cc
+none_refused (b ∷ before) others last (game ∷ games) are none =
+    let rest : AreGames (before ++ last ∷ others) games = cc in
+    none_refused before others last games rest none
+
+none_after_first : (before others : List Line) (last : Line) (other : Parsed) (played : List Played) (start : Parsed) (games : List Played) → Asks before other played → Asks ((before ++ last ∷ []) ++ others) start games
+    → played_in last ≡ None → ⊥
+none_after_first [] others last other played start games never asks none = never
+none_after_first (first ∷ before) others last other played start games good (opens, are) none =
+    none_refused before others last games (subst (λ ls. AreGames ls games) (append_assoc before (last ∷ []) others) are) none
+
+opens_not : (line : Line) (start : Parsed) (why : List ℕ) → game_in line ≡ Ok start → game_in line ≡ Err why → ⊥
+opens_not line start why opens refused = cc
+
+-- the lines ask about a position, and so the input is not bad
+not_bad : (input : List ℕ) (rest : Told) (why : List ℕ) (start : Parsed) (games : List Played) → Asks (lines input) start games → IsBad input rest why → ⊥
+not_bad input rest why start games asks (inl (none, is)) = subst (λ ls. Asks ls start games) none.none asks
+not_bad input rest why start games asks (inr (inl (line, no_start))) =
+    let (bytes, left, reader, others, read) = no_start.were_read in
+    let first = subst (λ ls. Asks ls start games) read.of_input asks in
+    opens_not line start why first.0 no_start.refused
+not_bad input rest why start games asks (inr (inr (given, no_game))) =
+    let (bytes, left, reader, others, read) = no_game.were_read in
+    let r = no_game.refused in
+    none_after_first r.before others r.last r.start r.games start games r.asks
+    (subst (λ ls. Asks ls start games) (read.of_input ∙ ap (λ ls. ls ++ others) r.are) asks) r.none
+
+not_full : (input bytes left : List ℕ) → input ≡ bytes ++ left → length bytes ≡ input_limit → length input < input_limit → ⊥
+not_full input bytes left split full below =
+    let e : length input ≡ length bytes + length left = ap length split ∙ length-append bytes left in
+    omega (arith, e, full, below)
+
+run_done : (status : Status) (before after : Sides) → BookRun status before after
+    → (reads_before reads_after : ℕ) → HasCause (status ≡ ReadFault) reads_before reads_after → ¬ Rose reads_before reads_after
+    → (writes_before writes_after : ℕ) → HasCause (status ≡ WriteFault) writes_before writes_after → ¬ Rose writes_before writes_after
+    → (input : List ℕ) → before.rest ≡ Some input → length input < input_limit → (start : Parsed) (games : List Played) → Asks (lines input) start games → (status ≡ Done) ⊎ (status ≡ Memory)
+run_done Done before after run rb ra rc rn wb wa wc wn input told below start games asks = inl refl
+run_done Memory before after run rb ra rc rn wb wa wc wn input told below start games asks = inr refl
+run_done BadInput before after run rb ra rc rn wb wa wc wn input told below start games asks =
+    let (why, wrote) = run input told in absurd (not_bad input after.rest why start games asks wrote.bad)
+run_done ReadFault before after run rb ra rc rn wb wa wc wn input told below start games asks = absurd (rn (rc.rose refl))
+run_done WriteFault before after run rb ra rc rn wb wa wc wn input told below start games asks = absurd (wn (wc.rose refl))
+run_done InputFull before after (same, run) rb ra rc rn wb wa wc wn input told below start games asks =
+    let (bytes, left, full, is) = run input told in absurd (not_full input bytes left is.was_read.split full below)
+run_done Refused before after run rb ra rc rn wb wa wc wn input told below start games asks = absurd run
+run_done Usage before after run rb ra rc rn wb wa wc wn input told below start games asks = absurd run
+run_done SpawnFault before after run rb ra rc rn wb wa wc wn input told below start games asks = absurd run
+
+pub books_done : BooksAreDone
+books_done = λ status before after run rb ra rc rn wb wa wc wn input told below start games asks.
+    run_done status before after run rb ra rc rn wb wa wc wn input told below start games asks
+
+made_move : (start : Parsed) (games : List Played) (found : Option (Move × ℕ)) → IsBook (last_position start) games found → IsMadeMove start games found
+made_move start games None book = tt
+made_move start games (Some b) book = (on_list (moves (last_position start)) book.place b.0 book.move, book.made, book.some)
+
+pub moves_legal : WrittenMovesAreLegal
+moves_legal = λ before after run input told.
+    let (line, wrote) = run input told in
+    let is = wrote.is_answer in (
+      is.answers.found,
+      record {
+        start = is.start;
+        games = is.games;
+        asks = is.asks;
+        legal = made_move is.start is.games is.answers.found is.answers.book;
+        wrote = wrote.wrote ∙ ap (behind before.written) is.answers.is_line;
+      },
+    )

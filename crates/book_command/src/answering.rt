@@ -1,0 +1,107 @@
+//! The run of a book.
+
+ghost use Rattle.std.specs.Prelude.{◌≡◌, [], false, Err, IfOk, IfErr};
+ghost use Rattle.io_edge.specs.Outside.{HasCause};
+ghost use Rattle.hive_model.specs.Courses.{position};
+ghost use Rattle.hive_model.specs.Legal.{is_over};
+ghost use Rattle.opening_book.specs.Book.{IsTally};
+ghost use Rattle.command_runs.specs.Input.{WhereTold};
+ghost use Rattle.command_runs.specs.GameRun.{WritesAs};
+ghost use Rattle.book_command.specs.Reading.{IsNoBook};
+ghost use Rattle.book_command.specs.Runs.{BookRun, IsAnswer};
+
+use crate::reading::count_games;
+use crate::telling::book_line;
+use command_runs::{NoGame, Status, first_game, tell_none};
+use hive_model::{Game, MoveStack, ReplyText};
+use io_edge::{Sink, Source, write_all};
+use line_feed::LineReader;
+use opening_book::Tally;
+use std::alloc::{AllocError, Global};
+
+/// The counts of the game's position over no games.
+fn tally_of<G: Game>(alloc: Global, game: &mut G) -> Result<Tally, AllocError>
+    requires { is_over (position (G.course game.old)) ≡ false }
+    ensures tally { IfOk result (λ t. IsTally (position (G.course game.old)) [] t) }
+    ensures game { G.course game.new ≡ G.course game.old }
+{
+    let mut stack = MoveStack::new(alloc, 1)?;
+    Tally::of(alloc, game, &mut stack)
+}
+
+/// The line of the book that the input asks for.
+fn answer<S: Source, G: Game + Drop>(alloc: Global, input: &mut S) -> Result<ReplyText, NoGame>
+    ensures line { IfOk result (λ line. WhereTold (S.rest input.old)
+        (λ bytes. IsAnswer bytes (S.rest input.new) line)) }
+    ensures none { IfErr result (λ e. WhereTold (S.rest input.old)
+        (λ bytes. IsNoBook e bytes (S.rest input.new))) }
+    ensures cause { HasCause (result ≡ Err NoGame.ReadFault)
+        (S.read_faults input.old) (S.read_faults input.new) }
+{
+    let Ok(mut reader) = LineReader::new(alloc) else {
+        return Err(NoGame::Memory);
+    };
+    let mut game = match first_game::<S, G>(alloc, &mut reader, input, 0) {
+        Ok(game) => game,
+        Err(none) => return Err(none),
+    };
+    let Ok(mut tally) = tally_of(alloc, &mut game) else {
+        return Err(NoGame::Memory);
+    };
+    match count_games::<S, G>(alloc, &mut reader, input, &mut tally) {
+        Ok(()) => match book_line(alloc, &game, &tally) {
+            Ok(line) => Ok(line),
+            Err(_) => Err(NoGame::Memory),
+        },
+        Err(none) => Err(none),
+    }
+}
+
+/// Writes the line of a book.
+fn tell<K: Sink>(line: &[u8], output: &mut K) -> Status
+    ensures told { WritesAs line.now Status.Done result
+        (K.written output.old) (K.written output.new) }
+    ensures cause { HasCause (result ≡ Status.WriteFault)
+        (K.write_faults output.old) (K.write_faults output.new) }
+{
+    if write_all(output, line) {
+        Status::Done
+    } else {
+        Status::WriteFault
+    }
+}
+
+/// Reads a position and then played games, and names the legal move that was made most often there.
+///
+/// The first line of the input is a game string of a game that is not over; it leads to the
+/// position. Each further line is a game string, of a game that is finished or not. One game is
+/// kept at a time, so the memory does not grow with the games. A ply of a game counts where the
+/// position before it is, turned, mirrored and shifted, the one that is asked about, and so does
+/// its move; positions count as equal where type, side to move, resting piece and the turn, those
+/// from 5 on as one, are equal.
+///
+/// At the end of the input it writes `book `, the move as it is written on the board of the
+/// position, a space and how often it was made, the first in the order of the moves where several
+/// were made as often; or `book none`, where none was made. It is `Done` then. Where the first line
+/// is missing, too long or no game that is not over, one line that begins with `bad` says why;
+/// where a further one is no game or too long, it is `bad line ` and its number in the input, and
+/// no further line is read. It is `BadInput` then. A read that fails, a full input and want of
+/// memory end the run with nothing written.
+pub fn book<S: Source, K: Sink, G: Game + Drop>(
+    alloc: Global,
+    input: &mut S,
+    output: &mut K,
+) -> Status
+    ensures run { BookRun result
+        (record { rest = S.rest input.old; written = K.written output.old })
+        (record { rest = S.rest input.new; written = K.written output.new }) }
+    ensures reads { HasCause (result ≡ Status.ReadFault)
+        (S.read_faults input.old) (S.read_faults input.new) }
+    ensures writes { HasCause (result ≡ Status.WriteFault)
+        (K.write_faults output.old) (K.write_faults output.new) }
+{
+    match answer::<S, G>(alloc, input) {
+        Ok(line) => tell(line.items(), output),
+        Err(none) => tell_none(none, output),
+    }
+}

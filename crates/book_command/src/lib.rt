@@ -1,0 +1,13 @@
+//! The command that names the move of a position that was made most often in played games.
+#![tactic(auto)]
+
+mod answering;
+mod laws;
+mod reading;
+mod telling;
+
+pub use answering::book;
+pub use laws::{books_are_done, written_moves_are_legal};
+
+#[cfg(test)]
+mod tests;
