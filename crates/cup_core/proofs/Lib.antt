@@ -1,0 +1,5 @@
+pub mod Orders
+pub mod Games
+pub mod Sums
+pub mod Totals
+pub mod Places

@@ -1,0 +1,3 @@
+pub mod Cup
+pub mod Laws
+pub mod Ranks

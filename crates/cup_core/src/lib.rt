@@ -1,0 +1,17 @@
+//! A cup: who plays whom, what each game is worth, and the standings.
+#![tactic(auto)]
+
+mod laws;
+mod pairing;
+mod points;
+mod ranking;
+mod standing;
+
+pub use laws::points_add_up;
+pub use pairing::{Pairing, pairings};
+pub use points::points_of;
+pub use ranking::standings;
+pub use standing::{Standing, StandingList};
+
+#[cfg(test)]
+mod tests;

@@ -1,0 +1,137 @@
+-- Where engines are asked to a depth no answer is late.
+use Rattle.std.specs.Prelude.{nat_le}
+use Rattle.std.proofs.Common.{◌⊎◌, inl, inr, ℕ, cond, List, [], ◌∷◌, length, subst, sym, Result, Ok, Err, Some}
+use Rattle.std.specs.Bool.{⊤}
+use Rattle.hive_model.specs.declared.pieces.Colour.{Colour}
+use Rattle.hive_model.specs.declared.pieces.Colour.TheVariants.{White, Black}
+use Rattle.hive_model.specs.declared.places.Move.{Move}
+use Rattle.hive_model.specs.Games.{outcome}
+use Rattle.hive_model.specs.Legal.{is_over_state}
+use Rattle.hive_model.specs.Courses.{is_listed}
+use Rattle.move_text.specs.declared.faults.MoveFault.{MoveFault}
+use Rattle.match_core.specs.declared.answers.Setup.{Setup}
+use Rattle.match_core.specs.declared.answers.Level.{Level}
+use Rattle.match_core.specs.declared.answers.Level.TheVariants.{Depth, Time}
+use Rattle.match_core.specs.declared.answers.Task.{Task}
+use Rattle.match_core.specs.declared.answers.Task.TheVariants.{Greet, Begin, Ask, Tell}
+use Rattle.match_core.specs.declared.answers.Stage.{Stage}
+use Rattle.match_core.specs.declared.answers.Stage.TheVariants.{Send, Read, Before, After, Finished}
+use Rattle.match_core.specs.declared.answers.Cause.TheVariants.{NotAMove, Illegal, ErrLine, Flood, LongLine, Ended as EndedCause, Broke as BrokeCause}
+use Rattle.match_core.specs.declared.answers.Verdict.{Verdict}
+use Rattle.match_core.specs.declared.answers.Verdict.TheVariants.{Rules, Limit, Forfeit}
+use Rattle.match_core.specs.Replies.{is_ok, is_error}
+use Rattle.match_core.specs.Texts.{read_of}
+use Rattle.match_core.specs.Standing.{Standing, Happening, Sent, Line, TooLong, Ended, Broke, Reading, start, next, after_all, position_of, go, finish, ask, judge, judge_read, decide, accept, first_line, at_stage, keep, reply_ends, hear, question, forfeit, answered}
+use Rattle.match_core.proofs.Fair.{either}
+use Rattle.match_runner.specs.Turns.{Side, Watch}
+use Rattle.match_runner.specs.Runs.{Ran, Run, Whole, Cut, IsLate}
+use Rattle.cup_games.specs.Played.{IsDepth}
+
+-- a place where the clock is not read
+abbrev IsTimeless : Stage → Type 0
+IsTimeless (Send job side) = ⊤
+IsTimeless (Read job side) = ⊤
+IsTimeless Before = ⊥
+IsTimeless After = ⊥
+IsTimeless Finished = ⊤
+
+record InTime (s : Standing) : Type 0 where
+  pub depth : IsDepth s.setup.level
+  pub place : IsTimeless s.stage
+  pub verdict : IsLate s.verdict → ⊥
+
+finishes : (s : Standing) (v : Verdict) → (IsLate (Some v) → ⊥) → InTime s → InTime (finish s v)
+finishes s v late t = record { depth = t.depth; place = tt; verdict = late }
+
+asks_at : (s : Standing) (level : Level) (side : Colour) → IsDepth level → InTime s → InTime (go s (question level side))
+asks_at s (Depth depth) side d t = record { depth = t.depth; place = tt; verdict = t.verdict }
+asks_at s (Time budget margin) side d t = absurd d
+
+asks : (s : Standing) → InTime s → InTime (ask s)
+unfolding ask
+asks s t = asks_at s s.setup.level (position_of s).side t.depth t
+
+decides : (s : Standing) → InTime s → InTime (decide s)
+unfolding decide
+decides s t =
+    either InTime (is_over_state (outcome s.setup.game_type s.moves)) (finish s (Rules (outcome s.setup.game_type s.moves))) (cond (nat_le s.setup.limit (length s.moves)) (finish s Limit) (ask s))
+    (λ e. finishes s (Rules (outcome s.setup.game_type s.moves)) (λ x. x) t)
+    (λ e. either InTime (nat_le s.setup.limit (length s.moves)) (finish s Limit) (ask s) (λ f. finishes s Limit (λ x. x) t) (λ f. asks s t))
+
+judges_as : (s : Standing) (line : List ℕ) (o : Result Move MoveFault) → InTime s → InTime (judge_read s line o)
+judges_as s line (Err fault) t = finishes s (Forfeit (position_of s).side (NotAMove line)) (λ x. x) t
+judges_as s line (Ok m) t =
+    either InTime (is_listed (position_of s) m) (accept s m) (forfeit s (position_of s).side (Illegal line))
+    (λ e. record { depth = t.depth; place = tt; verdict = t.verdict })
+    (λ e. finishes s (Forfeit (position_of s).side (Illegal line)) (λ x. x) t)
+
+judges : (s : Standing) → InTime s → InTime (judge s)
+unfolding judge
+judges s t = judges_as s (first_line s) (read_of s.setup.game_type (position_of s).board (first_line s)) t
+
+answers_as : (s : Standing) (level : Level) → IsDepth level → InTime s → InTime (answered s level)
+answers_as s (Depth depth) d t = judges s t
+answers_as s (Time budget margin) d t = absurd d
+
+ends_reply : (s : Standing) (job : Task) (side : Colour) → InTime s → InTime (reply_ends s job side)
+ends_reply s Greet White t = record { depth = t.depth; place = tt; verdict = t.verdict }
+ends_reply s Greet Black t = record { depth = t.depth; place = tt; verdict = t.verdict }
+ends_reply s Begin White t = record { depth = t.depth; place = tt; verdict = t.verdict }
+ends_reply s Begin Black t = asks s t
+ends_reply s Ask side t = answers_as s s.setup.level t.depth t
+ends_reply s (Tell m) White t = record { depth = t.depth; place = tt; verdict = t.verdict }
+ends_reply s (Tell m) Black t = decides s t
+
+hears : (s : Standing) (job : Task) (side : Colour) (line : List ℕ) → InTime s → InTime (hear s job side line)
+hears s job side line t =
+    either InTime (is_ok line) (reply_ends s job side) (cond (is_error line) (forfeit s side (ErrLine line)) (cond (nat_le 1000 s.count) (forfeit s side (Flood 1001)) (keep s (Read job side) line)))
+    (λ e. ends_reply s job side t)
+    (λ e. either InTime (is_error line) (forfeit s side (ErrLine line)) (cond (nat_le 1000 s.count) (forfeit s side (Flood 1001)) (keep s (Read job side) line))
+    (λ g. finishes s (Forfeit side (ErrLine line)) (λ x. x) t)
+    (λ g. either InTime (nat_le 1000 s.count) (forfeit s side (Flood 1001)) (keep s (Read job side) line)
+    (λ k. finishes s (Forfeit side (Flood 1001)) (λ x. x) t)
+    (λ k. record { depth = t.depth; place = tt; verdict = t.verdict })))
+
+stays_at : (stage : Stage) (s : Standing) (h : Happening) → IsTimeless stage → InTime s → InTime (at_stage s stage h)
+stays_at (Send job side) s Sent p t = record { depth = t.depth; place = tt; verdict = t.verdict }
+stays_at (Send job side) s Broke p t = finishes s (Forfeit side BrokeCause) (λ x. x) t
+stays_at (Send job side) s (Line bytes) p t = t
+stays_at (Send job side) s TooLong p t = t
+stays_at (Send job side) s Ended p t = t
+stays_at (Send job side) s (Reading at) p t = t
+stays_at (Read job side) s (Line bytes) p t = hears s job side bytes t
+stays_at (Read job side) s TooLong p t = finishes s (Forfeit side LongLine) (λ x. x) t
+stays_at (Read job side) s Ended p t = finishes s (Forfeit side EndedCause) (λ x. x) t
+stays_at (Read job side) s Broke p t = finishes s (Forfeit side BrokeCause) (λ x. x) t
+stays_at (Read job side) s Sent p t = t
+stays_at (Read job side) s (Reading at) p t = t
+stays_at Before s h p t = absurd p
+stays_at After s h p t = absurd p
+stays_at Finished s h p t = t
+
+stays : (s : Standing) (h : Happening) → InTime s → InTime (next s h)
+unfolding next
+stays s h t = stays_at s.stage s h t.place t
+
+stays_on : (hs : List Happening) (s : Standing) → InTime s → InTime (after_all s hs)
+stays_on [] s t = t
+stays_on (h ∷ hs) s t = stays_on hs (next s h) (stays s h t)
+
+starts : (setup : Setup) → IsDepth setup.level → InTime (start setup)
+starts setup d = record { depth = d; place = tt; verdict = λ x. x }
+
+comes : (setup : Setup) (s : Standing) (w0 w b0 b : Side) (r0 r : Watch) → IsDepth setup.level → Run setup s w0 w b0 b r0 r → InTime s
+comes setup s w0 w b0 b r0 r d run = subst InTime (sym run.1.here) (stays_on run.0 (start setup) (starts setup d))
+
+breaks : (side : Colour) (setup : Setup) (t : Standing) (w0 w b0 b : Side) (r0 r : Watch) → IsDepth setup.level → Cut side setup t w0 w b0 b r0 r → InTime t
+breaks side setup t w0 w b0 b r0 r d cut = subst InTime (sym cut.4.next_is) (stays cut.0 Broke (comes setup cut.0 w0 cut.1 b0 cut.2 r0 r d cut.3))
+
+ended : (setup : Setup) (t : Standing) (w0 w b0 b : Side) (r0 r : Watch) (white black : Type 0) → IsDepth setup.level →
+    (Whole setup t w0 w b0 b r0 r) ⊎ ((Cut White setup t w0 w b0 b r0 r × white) ⊎ (Cut Black setup t w0 w b0 b r0 r × black)) → InTime t
+ended setup t w0 w b0 b r0 r white black d (inl whole) = comes setup t w0 w b0 b r0 r d whole.0
+ended setup t w0 w b0 b r0 r white black d (inr (inl cut)) = breaks White setup t w0 w b0 b r0 r d cut.0
+ended setup t w0 w b0 b r0 r white black d (inr (inr cut)) = breaks Black setup t w0 w b0 b r0 r d cut.0
+
+-- a match to a depth that was run never ends by a late answer
+pub never-late : (setup : Setup) (t : Standing) (w0 w b0 b : Side) (r0 r : Watch) (white black : Type 0) → IsDepth setup.level → Ran setup t w0 w b0 b r0 r white black → IsLate t.verdict → ⊥
+never-late setup t w0 w b0 b r0 r white black d ran = (ended setup t w0 w b0 b r0 r white black d ran.ended).verdict

@@ -1,0 +1,94 @@
+-- The games of a cup, and what it is that one was played.
+use Rattle.std.specs.Prelude.{◌≡◌, ◌≢◌, ◌⊎◌, ℕ, List, map, Option, Some, None, IsSomeAnd, ⊤}
+use Rattle.io_edge.specs.Outside.{Told}
+use Rattle.match_core.specs.declared.answers.Level.{Level}
+use Rattle.match_core.specs.declared.answers.Level.TheVariants.{Depth, Time}
+use Rattle.match_core.specs.declared.answers.Setup.{Setup}
+use Rattle.match_core.specs.declared.answers.Verdict.{Verdict}
+use Rattle.match_core.specs.Keeps.{IsSetup}
+use Rattle.match_core.specs.Standing.{Standing}
+use Rattle.match_runner.specs.Runs.{SideRose, IsJudged, IsLate, FrontRun, VerdictRun, BrokeOnly, ToldRun}
+use Rattle.cup_core.specs.declared.pairing.Pairing.{Pairing}
+use Rattle.cup_core.specs.declared.standing.Standing.{Standing as Place}
+use Rattle.cup_core.specs.Cup.{AreStandings}
+
+-- what is seen of a link: what is to be read, what was written, and how often each has failed
+pub record Side : Type 0 where
+  pub rest : Told
+  pub written : Told
+  pub read_faults : ℕ
+  pub write_faults : ℕ
+
+abbrev pub side : Told → Told → ℕ → ℕ → Side
+side rest written reads writes = record { rest = rest; written = written; read_faults = reads; write_faults = writes }
+
+-- a game of a cup: two engines, a link to each, what is played by, and the referee once it was played
+pub record Job : Type 0 where
+  pub white : ℕ
+  pub black : ℕ
+  pub white_link : Side
+  pub black_link : Side
+  pub setup : Setup
+  pub referee : Option Standing
+
+-- engines are asked to a depth
+abbrev pub IsDepth : Level → Type 0
+IsDepth (Depth depth) = ⊤
+IsDepth (Time budget margin) = ⊥
+
+-- what holds of every game of a cup
+pub record IsJob (white black : ℕ) (setup : Setup) : Type 0 where
+  pub other : white ≢ black
+  pub valid : IsSetup setup
+  pub depth : IsDepth setup.level
+
+-- a read or a write of the link failed
+abbrev pub HasRisen : Side → Side → Type 0
+HasRisen old new = SideRose old.read_faults new.read_faults old.write_faults new.write_faults
+
+-- the referee has the verdict of the match of the lines of these two links, which is never a late answer
+pub record IsRefereed (setup : Setup) (r : Standing) (white0 white black0 black : Side) : Type 0 where
+  pub judged : IsJudged r
+  pub in_time : IsLate r.verdict → ⊥
+  pub front : FrontRun setup r white0.rest white0.written white.written black0.rest black0.written black.written
+  pub verdict : VerdictRun setup r white0.rest black0.rest (HasRisen white0 white) (HasRisen black0 black)
+  pub broke : BrokeOnly r (HasRisen white0 white) (HasRisen black0 black)
+  pub told : ToldRun setup r white0.rest white0.written white.written black0.rest black0.written black.written (HasRisen white0 white) (HasRisen black0 black)
+
+-- the same engines, and the same setup
+pub record IsSameGame (old new : Job) : Type 0 where
+  pub white : new.white ≡ old.white
+  pub black : new.black ≡ old.black
+  pub setup : new.setup ≡ old.setup
+
+-- the game was played over the links as they stood before
+abbrev pub IsPlayed : Job → Job → Type 0
+IsPlayed old new = IsSomeAnd new.referee (λ r. IsRefereed old.setup r old.white_link new.white_link old.black_link new.black_link)
+
+-- the game was played, or it has no referee
+abbrev pub IsPlayedOrNot : Job → Job → Type 0
+IsPlayedOrNot old new = (new.referee ≡ None) ⊎ IsPlayed old new
+
+-- what became of a game: it is the same game, and it was played or has no referee
+pub record IsSettled (old new : Job) : Type 0 where
+  pub same : IsSameGame old new
+  pub settled : IsPlayedOrNot old new
+
+-- Standings
+
+-- who plays in a game
+abbrev pub pairing : Job → Pairing
+pairing j = record { white = j.white; black = j.black }
+
+-- the game was played to a verdict
+abbrev pub HasVerdict : Job → Type 0
+HasVerdict j = IsSomeAnd j.referee IsJudged
+
+-- the verdict of the referee, where there is one
+abbrev pub verdict_of : Option Standing → Option Verdict
+verdict_of None = None
+verdict_of (Some r) = r.verdict
+
+-- the standings of the engines by the verdicts of the games
+abbrev pub AreStandingsOf : ℕ → List Job → List Place → Type 0
+AreStandingsOf engines jobs list = (verdicts : List Verdict) × (map (λ j. verdict_of j.referee) jobs ≡ map Some verdicts) × AreStandings engines verdicts list
