@@ -1,5 +1,6 @@
 -- The values of the options of a match.
-use Rattle.std.proofs.Common.{◌≡◌, ◌∙◌, ap, sym, refl, subst, ℕ, List, [], ◌∷◌, map, Bor, Option, None, Some, IfSome, option_map}
+use Rattle.std.proofs.Common.{◌≡◌, ◌∙◌, ap, sym, refl, subst, ℕ, List, [], ◌∷◌, map, Bor, Option, None, Some, IfOk, IfSome, option_map}
+use Rattle.std.specs.Prelude.{Result, Ok, Err}
 use Rattle.option_words.specs.Options.{Item, value_at, value_of}
 use Rattle.command_words.specs.Matches.{Choices, match_options, match_values}
 
@@ -23,3 +24,11 @@ values_read given items white black choices e w b t d h m n =
 -- what is there at a place of such values
 pub value_read : (o : Option (Bor (List ℕ))) (r : Bor (List ℕ)) (v : Option (List ℕ)) → o ≡ Some r → option_map (λ t. t.now) o ≡ v → Some r.now ≡ v
 value_read o r v e f = sym (ap (option_map (λ t. t.now)) e) ∙ f
+
+pub weaker-ok : {A E : Type 0} (r : Result A E) (P Q : A → Type 0) → ((a : A) → P a → Q a) → IfOk r P → IfOk r Q
+weaker-ok (Ok a) P Q f h = f a h
+weaker-ok (Err e) P Q f h = tt
+
+pub both-ok : {A E : Type 0} (r : Result A E) (P Q R : A → Type 0) → ((a : A) → P a → Q a → R a) → IfOk r P → IfOk r Q → IfOk r R
+both-ok (Ok a) P Q R f h k = f a h k
+both-ok (Err e) P Q R f h k = tt

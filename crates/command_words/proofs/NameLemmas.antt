@@ -3,7 +3,7 @@ use Rattle.std.proofs.Common.{◌≡◌, ◌∙◌, refl, ap, sym, List, ◌∷�
 use Rattle.std.specs.Prelude.{string_bytes}
 use Rattle.std.specs.declared.option.Option.{Option}
 use Rattle.command_words.specs.declared.asked.Asked.{Asked}
-use Rattle.command_words.specs.declared.asked.Asked.TheVariants.{Session, Replay, Count, Grow, Certify, Check, Solve, Verify, Match}
+use Rattle.command_words.specs.declared.asked.Asked.TheVariants.{Session, Replay, Count, Grow, Certify, Check, Solve, Verify, Match, Book, Migrate}
 use Rattle.command_words.specs.declared.name.Name.{Name}
 use Rattle.command_words.specs.Names.{named}
 use Rattle.command_words.specs.Words.{Words, name_of}
@@ -20,6 +20,8 @@ named_asked words Check alone = ap named alone
 named_asked words (Solve plies) w = ap named w.give.ask.begin
 named_asked words Verify alone = ap named alone
 named_asked words (Match setup) w = ap named w.give.ask.begin
+named_asked words Book alone = ap named alone
+named_asked words Migrate alone = ap named alone
 
 some_same : {m n : Name} → Some m ≡ Some n → m ≡ n
 some_same e = cc

@@ -84,3 +84,13 @@ pub record AreMatchWords (words : List (String Global)) (setup : Setup) : Type 0
   pub white_is : IsProgram white
   pub black_is : IsProgram black
   pub setup_is : IsSetupOf choices setup
+
+-- The words ask for a match of these two programs: the words of white's program and of black's, the program's name first, are what
+-- stands between the spaces of the values of the options `white` and `black`.
+pub record AskForPrograms (words : List (String Global)) (white black : List (List ℕ)) : Type 0 where
+  pub white_text : List ℕ
+  pub black_text : List ℕ
+  pub choices : Choices
+  pub give : Gives (map string_bytes words) (codes "match") match_options (match_values white_text black_text choices)
+  pub white_is : white ≡ between_spaces white_text
+  pub black_is : black ≡ between_spaces black_text

@@ -2,7 +2,7 @@
 use Rattle.std.specs.Prelude.{Bool, true, false, List, [], ◌∷◌, ℕ, Option, None, Some, codes, if◌then◌else◌}
 use Rattle.std.specs.Str.{bytes_eq}
 use Rattle.command_words.specs.declared.name.Name.{Name}
-use Rattle.command_words.specs.declared.name.Name.TheVariants.{Uhp, Replay, Count, Grow, Certify, Check, Solve, Verify, Match}
+use Rattle.command_words.specs.declared.name.Name.TheVariants.{Uhp, Replay, Count, Grow, Certify, Check, Solve, Verify, Match, Book, Migrate}
 
 -- the word that names a command
 abbrev pub name_text : Name → List ℕ
@@ -15,6 +15,8 @@ name_text Check = codes "check"
 name_text Solve = codes "solve"
 name_text Verify = codes "verify"
 name_text Match = codes "match"
+name_text Book = codes "book"
+name_text Migrate = codes "migrate"
 
 -- the command that a word names
 abbrev pub name_at : List ℕ → Option Name
@@ -27,7 +29,9 @@ name_at word =
     if bytes_eq word (codes "check") then Some Check else
     if bytes_eq word (codes "solve") then Some Solve else
     if bytes_eq word (codes "verify") then Some Verify else
-    if bytes_eq word (codes "match") then Some Match else None
+    if bytes_eq word (codes "match") then Some Match else
+    if bytes_eq word (codes "book") then Some Book else
+    if bytes_eq word (codes "migrate") then Some Migrate else None
 
 -- the command that the first word names; `uhp` where there is no word
 abbrev pub named : List (List ℕ) → Option Name
@@ -45,3 +49,5 @@ takes_option Check = false
 takes_option Solve = true
 takes_option Verify = false
 takes_option Match = true
+takes_option Book = false
+takes_option Migrate = false

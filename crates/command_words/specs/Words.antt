@@ -6,9 +6,9 @@ use Rattle.hive_model.specs.Fields.{IsNumberText}
 use Rattle.match_core.specs.Keeps.{IsSetup}
 use Rattle.option_words.specs.Options.{GiveOne, Gives}
 use Rattle.command_words.specs.declared.asked.Asked.{Asked}
-use Rattle.command_words.specs.declared.asked.Asked.TheVariants.{Session, Replay, Count, Grow, Certify, Check, Solve, Verify, Match}
+use Rattle.command_words.specs.declared.asked.Asked.TheVariants.{Session, Replay, Count, Grow, Certify, Check, Solve, Verify, Match, Book, Migrate}
 use Rattle.command_words.specs.declared.name.Name.{Name}
-use Rattle.command_words.specs.declared.name.Name.TheVariants.{Uhp, Replay as ReplayName, Count as CountName, Grow as GrowName, Certify as CertifyName, Check as CheckName, Solve as SolveName, Verify as VerifyName, Match as MatchName}
+use Rattle.command_words.specs.declared.name.Name.TheVariants.{Uhp, Replay as ReplayName, Count as CountName, Grow as GrowName, Certify as CertifyName, Check as CheckName, Solve as SolveName, Verify as VerifyName, Match as MatchName, Book as BookName, Migrate as MigrateName}
 use Rattle.command_words.specs.Matches.{AreMatchWords}
 use Rattle.command_words.specs.Names.{name_text, named, takes_option}
 
@@ -49,6 +49,8 @@ Words words Check = AreAlone words CheckName
 Words words (Solve plies) = AreNumbered words (codes "solve") (codes "plies") 1 16 plies
 Words words Verify = AreAlone words VerifyName
 Words words (Match setup) = AreMatchWords words setup
+Words words Book = AreAlone words BookName
+Words words Migrate = AreAlone words MigrateName
 
 -- the words ask for nothing that the program does
 abbrev pub AreOfNoCommand : List (String Global) → Type 0
@@ -65,6 +67,8 @@ name_of Check = CheckName
 name_of (Solve plies) = SolveName
 name_of Verify = VerifyName
 name_of (Match setup) = MatchName
+name_of Book = BookName
+name_of Migrate = MigrateName
 
 -- the first word names a command that takes an option
 abbrev pub TakeOption : List (List ℕ) → Type 0
@@ -81,3 +85,5 @@ IsInRange Check = Unit {0}
 IsInRange (Solve plies) = (1 ≤ plies) × (plies ≤ 16)
 IsInRange Verify = Unit {0}
 IsInRange (Match setup) = IsSetup setup
+IsInRange Book = Unit {0}
+IsInRange Migrate = Unit {0}

@@ -32,6 +32,10 @@ pub enum Asked {
     Verify,
     /// A match of the two programs that the words name, played so.
     Match(Setup),
+    /// The move of a position that was made most often in played games.
+    Book,
+    /// A certificate made into one that cites what it showed before.
+    Migrate,
 }
 
 /// Whether the words are this one alone.
@@ -87,6 +91,30 @@ fn verify(words: &[String]) -> Option<Asked>
 {
     if are_alone(words, "verify") {
         Some(Asked::Verify)
+    } else {
+        None
+    }
+}
+
+/// The book of a position is asked for by its name alone.
+fn book(words: &[String]) -> Option<Asked>
+    ensures found { IfSome result (λ a. Words words.now a) }
+    ensures only { (a : Asked) → Words words.now a → name_of a ≡ Name.Book → result ≡ Some a }
+{
+    if are_alone(words, "book") {
+        Some(Asked::Book)
+    } else {
+        None
+    }
+}
+
+/// A certificate that cites is asked for by its name alone.
+fn migrate(words: &[String]) -> Option<Asked>
+    ensures found { IfSome result (λ a. Words words.now a) }
+    ensures only { (a : Asked) → Words words.now a → name_of a ≡ Name.Migrate → result ≡ Some a }
+{
+    if are_alone(words, "migrate") {
+        Some(Asked::Migrate)
     } else {
         None
     }
@@ -171,6 +199,8 @@ fn asked_by(alloc: Global, words: &[String], name: Name) -> Result<Option<Asked>
         Name::Solve => solve(alloc, words),
         Name::Verify => Ok(verify(words)),
         Name::Match => matched(alloc, words),
+        Name::Book => Ok(book(words)),
+        Name::Migrate => Ok(migrate(words)),
     }
 }
 

@@ -1,7 +1,7 @@
 //! The match that the words ask for: its two programs, and how it is played.
-ghost use Rattle.std.specs.Prelude.{◌≡◌, ◌<◌, ◌↔◌, Some, length, IfOk, IfSome, IsTrue};
+ghost use Rattle.std.specs.Prelude.{◌≡◌, ◌<◌, ◌↔◌, Some, length, map, string_bytes, IfOk, IfSome, IsTrue};
 ghost use Rattle.match_core.specs.declared.answers.Setup.{Setup as AnySetup};
-ghost use Rattle.command_words.specs.Matches.{AreMatchWords, IsProgram};
+ghost use Rattle.command_words.specs.Matches.{AreMatchWords, AskForPrograms, IsProgram, between_spaces};
 
 use crate::program::{begins_words, words_of};
 use crate::setup::setup_of;
@@ -58,19 +58,21 @@ pub struct Programs {
 
 /// The programs of two texts.
 fn programs_in(alloc: Global, white: &str, black: &str) -> Result<Programs, AllocError>
-    ensures white { IfOk result (λ p. 0 < length p.white.items) }
-    ensures black { IfOk result (λ p. 0 < length p.black.items) }
+    ensures white { IfOk result (λ p. map string_bytes p.white.items ≡ between_spaces white.now) }
+    ensures black { IfOk result (λ p. map string_bytes p.black.items ≡ between_spaces black.now) }
 {
     let white = words_of(alloc, white)?;
     let black = words_of(alloc, black)?;
     Ok(Programs { white, black })
 }
 
-/// The programs of the match that the words ask for.
+/// The programs of the match that the words ask for: for each side the words that its option gives, separated by single spaces, in
+/// order.
 pub fn programs_of(alloc: Global, words: &[String]) -> Result<Programs, AllocError>
     requires { (setup : AnySetup) × AreMatchWords words.now setup }
     ensures white { IfOk result (λ p. 0 < length p.white.items) }
     ensures black { IfOk result (λ p. 0 < length p.black.items) }
+    ensures programs { IfOk result (λ p. AskForPrograms words.now (map string_bytes p.white.items) (map string_bytes p.black.items)) }
 {
     let Some(given) = options_of(alloc, words, "match", &OPTIONS)? else {
         unreachable!();

@@ -14,6 +14,8 @@ pub enum Name {
     Solve,
     Verify,
     Match,
+    Book,
+    Migrate,
 }
 
 /// The command that a word names.
@@ -46,6 +48,12 @@ fn name_at(word: &str) -> Option<Name>
     }
     if word == "match" {
         return Some(Name::Match);
+    }
+    if word == "book" {
+        return Some(Name::Book);
+    }
+    if word == "migrate" {
+        return Some(Name::Migrate);
     }
     None
 }

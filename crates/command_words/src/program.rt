@@ -1,5 +1,6 @@
 //! A program and its words, in one text.
-ghost use Rattle.std.specs.Prelude.{◌≡◌, ◌<◌, length, IfOk};
+ghost use Rattle.std.specs.Prelude.{◌≡◌, map, string_bytes, IfOk};
+ghost use Rattle.command_words.specs.Matches.{between_spaces};
 ghost use Rattle.command_words.specs.Programs.{begins_word};
 
 use std::alloc::{AllocError, Global};
@@ -19,16 +20,28 @@ pub(crate) fn begins_words(text: &[u8]) -> bool
     !begins
 }
 
-/// The words of a text, one at least.
-pub(crate) fn words_of(alloc: Global, text: &str) -> Result<Vec<String>, AllocError>
-    ensures { IfOk result (λ words. 0 < length words.items) }
+/// What stands between the spaces of a text, in order.
+fn pieces_of(alloc: Global, text: &str) -> Result<Vec<&str>, AllocError>
+    ensures { IfOk result (λ pieces. map (λ piece. piece.now) pieces.items ≡ between_spaces text.now) }
+{
+    text.split(' ').collect(alloc)
+}
+
+/// Texts of their own with these bytes, in order.
+fn strings_of(alloc: Global, pieces: &[&str]) -> Result<Vec<String>, AllocError>
+    ensures { IfOk result (λ words. map string_bytes words.items ≡ map (λ piece. piece.now) pieces.now) }
 {
     let mut words = Vec::new(alloc);
-    for word in text.split(' ') {
-        words.push(String::from_str(alloc, word)?)?;
-    }
-    if words.is_empty() {
-        words.push(String::from_str(alloc, text)?)?;
+    for piece in pieces {
+        words.push(String::from_str(alloc, *piece)?)?;
     }
     Ok(words)
+}
+
+/// The words of a text: what stands between its spaces, in order.
+pub(crate) fn words_of(alloc: Global, text: &str) -> Result<Vec<String>, AllocError>
+    ensures { IfOk result (λ words. map string_bytes words.items ≡ between_spaces text.now) }
+{
+    let pieces = pieces_of(alloc, text)?;
+    strings_of(alloc, pieces.as_slice())
 }

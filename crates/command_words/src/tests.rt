@@ -1,10 +1,13 @@
 //! Words and what they ask for.
-use crate::{Asked, asked_of};
+use crate::{Asked, asked_of, programs_of};
+use hive_model::GameType;
+use match_core::{Level, Setup};
 use std::alloc::Global;
+use std::process::Abort;
 use std::test::Fail;
 
 /// Words, separated by single spaces, and what they ask for.
-const ROWS: [(&str, Option<Asked>); 30] = [
+const ROWS: [(&str, Option<Asked>); 34] = [
     ("", Some(Asked::Session)),
     ("uhp", Some(Asked::Session)),
     ("uhp x", None),
@@ -28,6 +31,10 @@ const ROWS: [(&str, Option<Asked>); 30] = [
     ("solve --plies 01", None),
     ("verify", Some(Asked::Verify)),
     ("verify verify", None),
+    ("book", Some(Asked::Book)),
+    ("book 1", None),
+    ("migrate", Some(Asked::Migrate)),
+    ("migrate --depth 1", None),
     ("grow 1", None),
     ("grow --seed 0", None),
     ("grow --seed 0 --plies 1001", None),
@@ -49,10 +56,109 @@ const ROWS: [(&str, Option<Asked>); 30] = [
     ),
 ];
 
-fn words_of(alloc: Global, text: &str) -> Result<Vec<String>, Fail> {
+/// The base game, and the game with all three further bugs.
+const BASE: GameType = GameType {
+    mosquito: false,
+    ladybug: false,
+    pillbug: false,
+};
+
+const ALL: GameType = GameType {
+    mosquito: true,
+    ladybug: true,
+    pillbug: true,
+};
+
+/// Options of a match behind those of its two programs, separated by `|`, and how it is played.
+const MATCHES: [(&str, GameType, Level, u32); 14] = [
+    ("", BASE, Level::Depth { depth: 2 }, 400),
+    ("|--plies|1", BASE, Level::Depth { depth: 2 }, 1),
+    ("|--plies=1000", BASE, Level::Depth { depth: 2 }, 1000),
+    ("|--depth|1", BASE, Level::Depth { depth: 1 }, 400),
+    ("|--depth|64", BASE, Level::Depth { depth: 64 }, 400),
+    ("|--margin|0", BASE, Level::Depth { depth: 2 }, 400),
+    ("|--type|Base", BASE, Level::Depth { depth: 2 }, 400),
+    ("|--type=Base+MLP", ALL, Level::Depth { depth: 2 }, 400),
+    (
+        "|--time|00:00:05",
+        BASE,
+        Level::Time {
+            budget: 5000,
+            margin: 1000,
+        },
+        400,
+    ),
+    (
+        "|--margin|0|--time=01:00:00",
+        BASE,
+        Level::Time {
+            budget: 3_600_000,
+            margin: 0,
+        },
+        400,
+    ),
+    (
+        "|--margin|3600000|--time=00:00:00",
+        BASE,
+        Level::Time {
+            budget: 0,
+            margin: 3_600_000,
+        },
+        400,
+    ),
+    (
+        "|--time=99:59:59",
+        BASE,
+        Level::Time {
+            budget: 359_999_000,
+            margin: 1000,
+        },
+        400,
+    ),
+    (
+        "|--plies|7|--depth=3|--type|Base+MLP",
+        ALL,
+        Level::Depth { depth: 3 },
+        7,
+    ),
+    (
+        "|--margin=5|--depth|2",
+        BASE,
+        Level::Depth { depth: 2 },
+        400,
+    ),
+];
+
+/// Words, separated by `|`, that ask for no match.
+const NO_MATCHES: [&str; 22] = [
+    "match",
+    "match|--white|a",
+    "match|--black|b",
+    "match|--white|a|--black|b|--plies|0",
+    "match|--white|a|--black|b|--plies|1001",
+    "match|--white|a|--black|b|--depth|0",
+    "match|--white|a|--black|b|--depth|65",
+    "match|--white|a|--black|b|--depth|02",
+    "match|--white|a|--black|b|--margin|3600001",
+    "match|--white|a|--black|b|--time|00:00:05|--margin|3600001",
+    "match|--white|a|--black|b|--time|00:00:05|--depth|2",
+    "match|--white|a|--black|b|--time|0:00:05",
+    "match|--white|a|--black|b|--time|00:60:00",
+    "match|--white|a|--black|b|--type|MLP",
+    "match|--white|a  c|--black|b",
+    "match|--white|a |--black|b",
+    "match|--white| a|--black|b",
+    "match|--white|a|--black|b  c",
+    "match|--white||--black|b",
+    "match|--white|a|--white|a|--black|b",
+    "match|--white|a|--black|b|--plies|1|--plies|1",
+    "match|--white|a|--black|b|--seed|1",
+];
+
+fn words_of(alloc: Global, text: &str, separator: char) -> Result<Vec<String>, Fail> {
     let mut words = Vec::new(alloc);
     if !text.is_empty() {
-        for word in text.split(' ') {
+        for word in text.split(separator) {
             words.push(String::from_str(alloc, word)?)?;
         }
     }
@@ -62,8 +168,71 @@ fn words_of(alloc: Global, text: &str) -> Result<Vec<String>, Fail> {
 #[test]
 fn words_ask_for_one_thing(rt: HostRuntime) -> Result<(), Fail> {
     for (text, asked) in ROWS {
-        let words = words_of(rt.alloc(), text)?;
+        let words = words_of(rt.alloc(), text, ' ')?;
         assert_eq!(rt; asked_of(rt.alloc(), words.as_slice())?, asked, "at {text}");
+    }
+    Ok(())
+}
+
+#[test]
+fn matches_are_asked_for(rt: HostRuntime) -> Result<(), Fail> {
+    let alloc = rt.alloc();
+    for (options, game_type, level, limit) in MATCHES {
+        let text = format!(in alloc; "match|--white|a|--black=b c{options}")?;
+        let words = words_of(alloc, text.as_str(), '|')?;
+        let setup = Setup {
+            game_type,
+            level,
+            limit,
+        };
+        let asked = asked_of(alloc, words.as_slice())?;
+        assert_eq!(rt; asked, Some(Asked::Match(setup)), "at {options}");
+    }
+    for text in NO_MATCHES {
+        let words = words_of(alloc, text, '|')?;
+        assert_eq!(rt; asked_of(alloc, words.as_slice())?, None, "at {text}");
+    }
+    Ok(())
+}
+
+/// That the words ask for a match of these two programs, whose words are separated by `|`.
+fn expect_programs<R: Abort>(
+    rt: &R,
+    alloc: Global,
+    text: &str,
+    white: &str,
+    black: &str,
+) -> Result<(), Fail> {
+    let words = words_of(alloc, text, '|')?;
+    let Some(Asked::Match(_)) = asked_of(alloc, words.as_slice())? else {
+        assert!(rt; false, "no match at {text}");
+        return Ok(());
+    };
+    let programs = programs_of(alloc, words.as_slice())?;
+    let white = words_of(alloc, white, '|')?;
+    let black = words_of(alloc, black, '|')?;
+    assert_eq!(rt; programs.white.as_slice(), white.as_slice(), "at {text}");
+    assert_eq!(rt; programs.black.as_slice(), black.as_slice(), "at {text}");
+    Ok(())
+}
+
+#[test]
+fn programs_have_their_words(rt: HostRuntime) -> Result<(), Fail> {
+    let alloc = rt.alloc();
+    for (text, white, black) in [
+        ("match|--white|a|--black|b", "a", "b"),
+        (
+            "match|--black=hive uhp|--white|./other",
+            "./other",
+            "hive|uhp",
+        ),
+        (
+            "match|--white=one -x --y=1|--depth|3|--black=z y x w",
+            "one|-x|--y=1",
+            "z|y|x|w",
+        ),
+    ] {
+        expect_programs(&rt, alloc, text, white, black)?;
     }
     Ok(())
 }

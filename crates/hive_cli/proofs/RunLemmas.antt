@@ -13,11 +13,14 @@ use Rattle.match_core.specs.declared.answers.Setup.{Setup}
 use Rattle.command_runs.specs.declared.status.Status.{Status}
 use Rattle.command_runs.specs.declared.status.Status.TheVariants.{Usage, SpawnFault, Memory}
 use Rattle.command_words.specs.declared.asked.Asked.{Asked}
-use Rattle.command_words.specs.declared.asked.Asked.TheVariants.{Session, Replay, Count, Grow, Certify, Check, Solve, Verify, Match}
+use Rattle.command_words.specs.declared.asked.Asked.TheVariants.{Session, Replay, Count, Grow, Certify, Check, Solve, Verify, Match, Book, Migrate}
+use Rattle.book_command.specs.Runs.{BookRun}
 use Rattle.certificate_commands.specs.Certifying.{CertifyRun}
 use Rattle.certificate_commands.specs.Verdicts.{CheckRun}
+use Rattle.certificate_commands.specs.Migrating.{MigrateRun}
 use Rattle.grow_command.specs.Runs.{GrowRun}
 use Rattle.win_commands.specs.Runs.{SolveRun, VerifyRun}
+use Rattle.book_command.proofs.StartLaws.{unread}
 use Rattle.command_runs.proofs.OneGameLemmas.{none_read}
 use Rattle.hive_cli.proofs.Progress.{no_memory}
 
@@ -31,6 +34,8 @@ never_usage (Certify depth) status before after (run, time) e = subst (λ s. Cer
 never_usage Check status before after (run, time) e = subst (λ s. CheckRun s before.scene.sides after.scene.sides) e run
 never_usage (Solve plies) status before after (run, time) e = subst (λ s. SolveRun plies s before.scene.sides after.scene.sides) e run
 never_usage Verify status before after (run, time) e = subst (λ s. VerifyRun s before.scene.sides after.scene.sides) e run
+never_usage Book status before after (run, time) e = subst (λ s. BookRun s before.scene.sides after.scene.sides) e run
+never_usage Migrate status before after (run, time) e = subst (λ s. MigrateRun s before.scene.sides after.scene.sides) e run
 never_usage (Match setup) status before after run e =
     subst (λ s. MatchRun setup s (scene before.scene.sides.written (means_in before)) (scene after.scene.sides.written (means_in after))) e run.played
 
@@ -44,6 +49,8 @@ never_spawns (Certify depth) status before after alone (run, time) e = subst (λ
 never_spawns Check status before after alone (run, time) e = subst (λ s. CheckRun s before.scene.sides after.scene.sides) e run
 never_spawns (Solve plies) status before after alone (run, time) e = subst (λ s. SolveRun plies s before.scene.sides after.scene.sides) e run
 never_spawns Verify status before after alone (run, time) e = subst (λ s. VerifyRun s before.scene.sides after.scene.sides) e run
+never_spawns Book status before after alone (run, time) e = subst (λ s. BookRun s before.scene.sides after.scene.sides) e run
+never_spawns Migrate status before after alone (run, time) e = subst (λ s. MigrateRun s before.scene.sides after.scene.sides) e run
 never_spawns (Match setup) status before after never run e = never
 
 no_time : (t : Times) → TakesNoTime t t
@@ -68,6 +75,8 @@ starved_here (Certify depth) w = ((refl, λ input told. none_read input w.scene.
 starved_here Check w = (refl, no_time w.scene.times)
 starved_here (Solve plies) w = ((refl, λ input told. none_read input w.scene.sides.rest told), no_time w.scene.times)
 starved_here Verify w = (refl, no_time w.scene.times)
+starved_here Book w = ((refl, unread w.scene.sides.rest), no_time w.scene.times)
+starved_here Migrate w = (refl, no_time w.scene.times)
 starved_here (Match setup) w = record { played = refl; closed = none_open (means_in w); unread = refl; timed = refl }
 
 -- memory was wanting before anything was done
@@ -92,4 +101,6 @@ no_match (Certify depth) never = tt
 no_match Check never = tt
 no_match (Solve plies) never = tt
 no_match Verify never = tt
+no_match Book never = tt
+no_match Migrate never = tt
 no_match (Match setup) never = never setup refl

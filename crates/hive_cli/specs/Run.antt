@@ -2,13 +2,15 @@
 use Rattle.std.specs.Prelude.{◌≡◌, ℕ, List}
 use Rattle.std.specs.declared.string.String.{String}
 use Rattle.std.specs.declared.alloc.Global.{Global}
+use Rattle.book_command.specs.Runs.{BookRun}
 use Rattle.certificate_commands.specs.Certifying.{CertifyRun}
 use Rattle.certificate_commands.specs.Verdicts.{CheckRun}
+use Rattle.certificate_commands.specs.Migrating.{MigrateRun}
 use Rattle.command_runs.specs.Input.{Sides}
 use Rattle.command_runs.specs.declared.status.Status.{Status}
 use Rattle.command_words.specs.Words.{Words}
 use Rattle.command_words.specs.declared.asked.Asked.{Asked}
-use Rattle.command_words.specs.declared.asked.Asked.TheVariants.{Session, Replay, Count, Grow, Certify, Check, Solve, Verify, Match}
+use Rattle.command_words.specs.declared.asked.Asked.TheVariants.{Session, Replay, Count, Grow, Certify, Check, Solve, Verify, Match, Book, Migrate}
 use Rattle.grow_command.specs.Runs.{GrowRun}
 use Rattle.uhp_session.specs.Searches.{TakesNoTime}
 use Rattle.win_commands.specs.Runs.{SolveRun, VerifyRun}
@@ -64,6 +66,8 @@ RunOf Check status before after = CheckRun status before.scene.sides after.scene
 RunOf (Solve plies) status before after = SolveRun plies status before.scene.sides after.scene.sides × Untimed before after
 RunOf Verify status before after = VerifyRun status before.scene.sides after.scene.sides × Untimed before after
 RunOf (Match setup) status before after = PlayedMatch setup status before after
+RunOf Book status before after = BookRun status before.scene.sides after.scene.sides × Untimed before after
+RunOf Migrate status before after = MigrateRun status before.scene.sides after.scene.sides × Untimed before after
 
 -- a run that is asked for this may read the clock: that of a session, for its searches, and a match
 abbrev pub UsesClock : Asked → Type 0
@@ -76,6 +80,8 @@ UsesClock Check = ⊥
 UsesClock (Solve plies) = ⊥
 UsesClock Verify = ⊥
 UsesClock (Match setup) = Unit {0}
+UsesClock Book = ⊥
+UsesClock Migrate = ⊥
 
 -- a run that is asked for this may start programs: a match does
 abbrev pub UsesSpawner : Asked → Type 0
@@ -88,6 +94,8 @@ UsesSpawner Check = ⊥
 UsesSpawner (Solve plies) = ⊥
 UsesSpawner Verify = ⊥
 UsesSpawner (Match setup) = Unit {0}
+UsesSpawner Book = ⊥
+UsesSpawner Migrate = ⊥
 
 -- no match is asked for
 abbrev pub IsNoMatch : Asked → Type 0

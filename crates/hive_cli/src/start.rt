@@ -12,7 +12,8 @@ use crate::counts::count;
 use crate::outcome::Outcome;
 use crate::replays::Replay;
 use crate::service::serve;
-use certificate_commands::{certify, check};
+use book_command::book;
+use certificate_commands::{certify, check, migrate};
 use command_runs::Status;
 use command_words::{Asked, asked_of, programs_of};
 use fast_game::FastGame;
@@ -52,6 +53,11 @@ type Played = FastGame;
 /// space, and the number of lists of n legal moves that the game can go on with. It is `Done` then. Where the input is something
 /// else, it is `BadInput`, and one line that begins with `bad` says why. That line is written as soon as the fault is seen, and
 /// nothing further is read. A read that fails, a full input and want of memory end it with nothing written.
+///
+/// The word `book` asks for the move of a position that was made most often: the first line of the input is to be a game string of a game
+/// that is not over, and each further line a game string. It is `Done` once one line was written, and else `BadInput`, as `count` is.
+///
+/// The other commands are those of `grow_command`, `certificate_commands`, `win_commands` and `match_command`, and do what is said there.
 ///
 /// Every other list of words is `Usage`; nothing is read or written. Where its first word is that of a command that takes an option, it
 /// is `Memory` where memory runs out before that is known.
@@ -253,6 +259,8 @@ fn perform_alone<R: Threads + Sync, S: Source, K: Sink, C: Clock, G: Game + Send
         Asked::Check => check::<S, K, G>(alloc, input, output),
         Asked::Solve(plies) => solve::<S, K, G>(alloc, plies, input, output),
         Asked::Verify => verify::<S, K, G>(alloc, input, output),
+        Asked::Book => book::<S, K, G>(alloc, input, output),
+        Asked::Migrate => migrate::<S, K, G>(alloc, input, output),
         Asked::Match(_) => unreachable!(),
     };
     Outcome { status, timed }

@@ -177,12 +177,23 @@ fn the_words_decide(rt: HostRuntime) -> Result<(), Fail> {
 
 #[test]
 fn a_reply_comes_before_the_next_line(rt: HostRuntime) -> Result<(), Fail> {
+    let turns = [
+        ("help\n", "err 1 unknown command\nok\n"),
+        ("newgame Base\n", "Base;NotStarted;White[1]\nok\n"),
+        ("bestmove depth 1\n", "wS1\nok\n"),
+        ("play wS1\n", "Base;InProgress;Black[1];wS1\nok\n"),
+        ("undo\n", "Base;NotStarted;White[1]\nok\n"),
+        ("validmoves\n", "wS1;wB1;wG1;wA1\nok\n"),
+    ];
     let taken = AtomicU64::new(0);
-    let greeting = GREETING.len() as u64;
-    let mut source = TurnSource::new(&taken, greeting, 25, 3);
+    let mut source = TurnSource::new(&taken, GREETING, &turns);
     let mut sink = CountedSink::new(&taken);
     let status = run_words(&rt, rt.alloc(), &["uhp"], &mut source, &mut sink)?;
     assert_eq!(rt; status, Status::Done);
-    assert_eq!(rt; taken.load(Ordering::SeqCst), greeting + 75);
+    let mut length = GREETING.len();
+    for (_, reply) in turns {
+        length += reply.len();
+    }
+    assert_eq!(rt; taken.load(Ordering::SeqCst), length as u64);
     Ok(())
 }

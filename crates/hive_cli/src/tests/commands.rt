@@ -8,6 +8,10 @@ use std::test::Fail;
 const CERTIFICATE: &str =
     "hive-certificate 1\nBase;NotStarted;White[1]\ndepth 2\nmove wA1\nvalue 10\n0\n0\n0\n0\n";
 
+/// The same in the version that may cite what was shown before.
+const CITING: &str =
+    "hive-certificate 2\nBase;NotStarted;White[1]\ndepth 2\nmove wA1\nvalue 10\n0\n0\n0\n0\n";
+
 /// A proof that the opening is no win in two plies.
 const SOLUTION: &str =
     "hive-solution 1\nBase;NotStarted;White[1]\nplies 2\nanswer no\n0\n0\n0\n0\n";
@@ -71,6 +75,26 @@ fn each_command_answers(rt: HostRuntime) -> Result<(), Fail> {
             "",
         ),
         (["match", "--white", "a"].as_slice(), "", Status::Usage, ""),
+        (["migrate"].as_slice(), CERTIFICATE, Status::Done, CITING),
+        (["check"].as_slice(), CITING, Status::Done, "accepted\n"),
+        (
+            ["migrate"].as_slice(),
+            CITING,
+            Status::BadInput,
+            "bad line 1\n",
+        ),
+        (
+            ["book"].as_slice(),
+            "Base\nBase;InProgress;White[2];wS1;bA1 wS1-\n",
+            Status::Done,
+            "book wS1 1\n",
+        ),
+        (
+            ["book"].as_slice(),
+            "Base\nBase;Draw;Black[1];wS1\n",
+            Status::BadInput,
+            "bad line 2\n",
+        ),
     ] {
         let setting = Setting {
             words,

@@ -6,20 +6,21 @@ use std::alloc::{AllocError, Global};
 use std::test::Fail;
 
 /// Lines, and the reply to each.
-const TALK: [(&str, &str); 10] = [
+const TALK: [(&str, &str); 14] = [
     ("newgame", "Base;NotStarted;White[1]\nok\n"),
     ("validmoves", "wS1;wB1;wG1;wA1\nok\n"),
-    ("play wA1", "Base;InProgress;Black[1];wA1\nok\n"),
+    ("newgame", "Base;NotStarted;White[1]\nok\n"),
+    ("bestmove depth 1", "wS1\nok\n"),
+    ("bestmove depth 2", "wA1\nok\n"),
+    ("newgame", "Base;NotStarted;White[1]\nok\n"),
+    ("play wS1", "Base;InProgress;Black[1];wS1\nok\n"),
+    ("bestmove depth 1", "bS1 -wS1\nok\n"),
     (
-        "play bA1 wA1-",
-        "Base;InProgress;White[2];wA1;bA1 wA1-\nok\n",
+        "play bA1 wS1-",
+        "Base;InProgress;White[2];wS1;bA1 wS1-\nok\n",
     ),
     ("play wQ bQ-", "invalidmove 2 not in play bQ\nok\n"),
-    (
-        "play wQ -wA1",
-        "Base;InProgress;Black[2];wA1;bA1 wA1-;wQ -wA1\nok\n",
-    ),
-    ("undo", "Base;InProgress;White[2];wA1;bA1 wA1-\nok\n"),
+    ("undo", "Base;InProgress;Black[1];wS1\nok\n"),
     ("undo 3", "err 7 undo beyond start\nok\n"),
     ("options set Workers 2", "Workers;int;2;1;1;16\nok\n"),
     ("help", "err 1 unknown command\nok\n"),

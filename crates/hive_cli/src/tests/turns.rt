@@ -5,23 +5,26 @@ ghost use Rattle.io_edge.specs.Outside.{no_side};
 use io_edge::{ReadAnswer, Sink, Source, WriteAnswer};
 use std::sync::atomic::{AtomicU64, Ordering};
 
-/// Gives so many lines, an LF each, and fails at a read for one before the bytes wanted were taken. Each line wants some more.
+/// Gives lines, each ended by an LF and a byte at a read, and fails where one is wanted before the replies to those before it were
+/// taken.
 #[derive(Drop)]
 pub struct TurnSource<'a> {
     taken: &'a AtomicU64,
     wanted: u64,
-    reply: u64,
-    lines: u64,
+    turns: &'a [(&'a str, &'a str)],
+    turn: usize,
+    at: usize,
     faults: u64,
 }
 
 impl<'a> TurnSource<'a> {
-    pub fn new(taken: &'a AtomicU64, greeting: u64, reply: u64, lines: u64) -> Self {
+    pub fn new(taken: &'a AtomicU64, greeting: &str, turns: &'a [(&'a str, &'a str)]) -> Self {
         TurnSource {
             taken,
-            wanted: greeting,
-            reply,
-            lines,
+            wanted: greeting.len() as u64,
+            turns,
+            turn: 0,
+            at: 0,
             faults: 0,
         }
     }
@@ -35,16 +38,25 @@ impl<'a> Source for TurnSource<'a> {
     ghost source_aside = { λ _. no_side };
 
     fn read(&mut self, buffer: &mut [u8]) -> ReadAnswer {
-        if self.taken.load(Ordering::SeqCst) < self.wanted {
+        if self.at == 0 && self.taken.load(Ordering::SeqCst) < self.wanted {
             self.faults = self.faults.saturating_add(1);
             return ReadAnswer::Failed;
         }
-        if self.lines == 0 {
+        if self.turn >= self.turns.len() {
             return ReadAnswer::End;
         }
-        self.lines -= 1;
-        self.wanted = self.wanted.saturating_add(self.reply);
-        buffer[0] = b'\n';
+        let (line, reply) = self.turns[self.turn];
+        let bytes = line.as_bytes();
+        if self.at >= bytes.len() {
+            return ReadAnswer::End;
+        }
+        buffer[0] = bytes[self.at];
+        self.at += 1;
+        if self.at == bytes.len() {
+            self.at = 0;
+            self.turn += 1;
+            self.wanted = self.wanted.saturating_add(reply.len() as u64);
+        }
         ReadAnswer::Got(1)
     }
 }
