@@ -1,6 +1,6 @@
 #!/usr/bin/env python3
 """Runs the transcripts of README.md against the built program: sessions, whose typed lines begin with `> `, and shell commands, which
-begin with `$ `.
+begin with `$ `. Looks for each edit and each test that docs/REFUSED.md names.
 
 Usage: readme.py PROGRAM. Ends with status 0 where the program answers as README.md shows.
 """
@@ -29,6 +29,20 @@ def commands(program, block):
         expect(command, run.stdout.rstrip("\n"), shown.rstrip("\n"))
 
 
+def wrong_bodies():
+    """The rows of docs/REFUSED.md whose edits and tests all stand in the crates that they name."""
+    rows = [line.split("|") for line in (TOP / "docs" / "REFUSED.md").read_text(encoding="utf-8").split("\n") if line.startswith("| ")][1:]
+    for _, body, refused, _ in rows:
+        named = re.findall(r"`(\w+): (\w+)`", refused)
+        expect(f"something refuses what {body.strip()}", bool(named), True)
+        for crate, name in named:
+            edit = TOP / "crates" / crate / "must-fail" / f"{name}.edit"
+            sources = (TOP / "crates" / crate / "src").rglob("*.rt")
+            is_test = any(re.search(rf"#\[test\]\nfn {name}\(", source.read_text(encoding="utf-8")) for source in sources)
+            expect(f"{crate}: {name} stands", edit.is_file() or is_test, True)
+    return len(rows)
+
+
 if __name__ == "__main__":
     blocks = re.findall(r"^```\n(.*?)\n```$", (TOP / "README.md").read_text(encoding="utf-8"), re.MULTILINE | re.DOTALL)
     done = 0
@@ -40,4 +54,4 @@ if __name__ == "__main__":
             commands(sys.argv[1], block)
             done += 1
     expect("transcripts in README.md", done >= 2, True)
-    print(f"readme: {done} transcripts are as shown")
+    print(f"readme: {done} transcripts are as shown, and {wrong_bodies()} wrong bodies are refused by what stands")
