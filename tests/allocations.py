@@ -31,11 +31,31 @@ RUNS = [
     ("a forced win", ["solve", "--plies", "1"], [WON]),
     ("a check of it", ["verify"], SOLUTION),
     ("a made game", ["grow", "--seed", "0", "--plies", "10"], []),
+    ("a text made to cite", ["migrate"], CERTIFICATE),
+    ("a check of a text that may cite", ["check"], ["hive-certificate 2"] + CERTIFICATE[1:]),
+    ("a book", ["book"], ["Base", "Base;InProgress;White[2];wS1;bA1 wS1-", "Base;InProgress;Black[1];wA1"]),
 ]
 
 
+# what two engines write: their greetings, and then after each line that they read
+ENGINES = {
+    "white": ["id A\\nok", "x\\nok", "wS1\\nok", "x\\nok"],
+    "black": ["id B\\nok", "x\\nok", "x\\nok", "bQ -wS1\\nok"],
+}
+
+
+def write_engine(folder, side):
+    """A program that says its part, and its path."""
+    path = os.path.join(folder, side)
+    with open(path, "w", encoding="ascii") as engine:
+        engine.write("#!/bin/sh\n" + "read -r line\n".join(f"printf '{part}\\n'\n" for part in ENGINES[side]))
+    os.chmod(path, 0o755)
+    return path
+
+
 def run(program, library, words, lines, refuse_at, count_to=""):
-    environment = dict(os.environ, LD_PRELOAD=library, REFUSE_AT=str(refuse_at), COUNT_TO=count_to)
+    name = os.path.basename(program)
+    environment = dict(os.environ, LD_PRELOAD=library, REFUSE_AT=str(refuse_at), REFUSE_IN=name, COUNT_TO=count_to)
     text = "".join(line + "\n" for line in lines).encode("ascii")
     done = subprocess.run([program] + words, input=text, stdout=subprocess.PIPE, stderr=subprocess.DEVNULL, env=environment, timeout=60)
     return done.returncode, done.stdout
@@ -59,8 +79,9 @@ def ends_of_replies(words, output):
     return ends
 
 
-def main(program, library):
-    for name, words, lines in RUNS:
+def main(program, library, folder):
+    match = ["match", "--white", write_engine(folder, "white"), "--black", write_engine(folder, "black"), "--depth", "1"]
+    for name, words, lines in RUNS + [("a match", match, [])]:
         status, whole, requests = undisturbed(program, library, words, lines)
         ends = ends_of_replies(words, whole)
         refused = 0
@@ -78,4 +99,5 @@ def main(program, library):
 
 
 if __name__ == "__main__":
-    main(sys.argv[1], sys.argv[2])
+    with tempfile.TemporaryDirectory() as made:
+        main(sys.argv[1], sys.argv[2], made)

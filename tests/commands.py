@@ -79,6 +79,12 @@ def check_certificates(commands):
         for depth in range(1, deepest + 1):
             text = commands.answer(["certify", "--depth", str(depth)], game + "\n")
             expect(f"depth {depth}", commands.answer(["check"], text), "accepted\n")
+            citing = commands.answer(["migrate"], text)
+            expect(f"depth {depth}: lines of the second version", len(citing.split("\n")) <= len(text.split("\n")), True)
+            for second in (citing, text.replace("hive-certificate 1", "hive-certificate 2", 1)):
+                expect(f"depth {depth}, second version", commands.answer(["check"], second), "accepted\n")
+                refused(commands, "check", second + "@0\n", "a cite left over")
+            expect("a text that cites is not made to cite", commands.run(["migrate"], citing), (6, "bad line 1\n"))
             lines = text.rstrip("\n").split("\n")
             move, value = lines[3].split(" ", 1)[1], int(lines[4].split(" ")[1])
             for other in (value - 1, value + 1):
@@ -87,6 +93,7 @@ def check_certificates(commands):
                 refused(commands, "check", "\n".join(lines[:3] + [f"move {other}"] + lines[4:]) + "\n", "another move")
             refused(commands, "check", "\n".join(lines + ["0"]) + "\n", "an index left over")
             if len(lines) > 5:
+                refused(commands, "migrate", "\n".join(lines[:-1]) + "\n", "an index too few to cite")
                 refused(commands, "check", "\n".join(lines[:-1]) + "\n", "an index too few")
             for at in range(5, min(len(lines), 15)):
                 changed = lines[:at] + [str(int(lines[at]) + 1)] + lines[at + 1 :]

@@ -1,25 +1,30 @@
 /* Refuses one request for memory: the one whose number is in the environment's REFUSE_AT, counted from 1; 0 refuses none. At the end
-   the number of requests is written into the file that COUNT_TO names. Preloaded by allocations.py into the built program. */
+   the number of requests is written into the file that COUNT_TO names. Preloaded by allocations.py into the built program; programs
+   that it starts, which have another name than REFUSE_IN, are left alone. */
 #define _GNU_SOURCE
 #include <dlfcn.h>
 #include <errno.h>
 #include <stddef.h>
 #include <stdio.h>
 #include <stdlib.h>
+#include <string.h>
 
+static int is_here;
 static unsigned long asked;
 static unsigned long refuse_at;
 
 __attribute__((constructor)) static void begin(void) {
     const char *text = getenv("REFUSE_AT");
-    refuse_at = text ? strtoul(text, NULL, 10) : 0;
+    const char *name = getenv("REFUSE_IN");
+    is_here = name && strcmp(name, program_invocation_short_name) == 0;
+    refuse_at = is_here && text ? strtoul(text, NULL, 10) : 0;
     asked = 0;
 }
 
 static void tell(void) {
     const char *name = getenv("COUNT_TO");
     unsigned long count = asked;
-    FILE *file = name ? fopen(name, "w") : NULL;
+    FILE *file = is_here && name && *name ? fopen(name, "w") : NULL;
     if (file) {
         fprintf(file, "%lu\n", count);
         fclose(file);
