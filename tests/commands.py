@@ -17,7 +17,7 @@ PASSED = (
 )
 THROWS = "Base+P;InProgress;Black[4];wP;bA1 wP-;wQ -wP;bQ bA1/;wS1 -wQ;bQ wP/;bA1 wP\\"
 # positions, and the greatest depth at which each is certified
-CERTIFIED = [("Base", 2), ("Base+MLP", 2), (WON, 3), (PASSED, 3), (THROWS, 1)]
+CERTIFIED = [("Base", 2), ("Base+MLP", 2), (WON, 3), (PASSED, 3), (THROWS, 3)]
 
 
 class Commands:
