@@ -83,6 +83,51 @@ def short_game(program):
     expect("status", engine.end(), 0)
 
 
+WON = "Base;InProgress;White[7];wS1;bS1 wS1-;wQ /wS1;bQ bS1-;wQ /bS1;bQ wQ-;wG1 -wS1;bG1 bS1-;wB1 /wQ;bB1 bQ-;wA1 -wB1;bA1 /bB1"
+PASSED = "Base;InProgress;Black[6];wB1;bS1 wB1-;wQ \\wB1;bQ bS1-;wQ wB1/;bQ bS1\\;wB1 bS1;bQ wB1-;wB2 /wB1;bQ wB2-;wB2 bQ"
+# lines, and further lines that are refused after them
+REFUSED = [
+    (["newgame", "play wS1"], ["pass", "play wS1", "play bS1 wA1-", "play bQ wS1-", "play"]),
+    (["newgame " + PASSED], ["play bS1 -wQ", "play wQ -bS1", "undo 12"]),
+    (["newgame " + WON, "play wA1 wB1-"], ["validmoves", "play pass", "bestmove depth 1", "pass"]),
+    (["newgame", "play wS1", "play bS1 wS1-"], ["undo 3", "undo 0"]),
+    (
+        ["newgame", "play wG1"],
+        [
+            "newgame Base;InProgress;Black[1];wS1;bS1 wS1-",
+            "newgame Base;Draw;Black[1];wS1",
+            "newgame Base;InProgress;Black[2];wS1;bS1 wS1-;wQ -wS1;bQ -wS1",
+            "newgame Base;InProgress;White[2];wS1;bS1 wS1-;",
+            "newgame Base+PM",
+        ],
+    ),
+    ([], ["play wS1", "undo", "validmoves", "bestmove depth 1"]),
+    (["newgame Base+MLP"], ["a" * 65537, "", "help", "bestmove depth 65", "undo 0", "info x"]),
+    (["newgame", "options set Workers 2"], ["options set Workers 17", "options set Table 0", "options get Hash"]),
+]
+
+
+def refused_lines(program):
+    """A line that is refused leaves no trace: what is asked afterwards is answered as in a session that never got it."""
+    asked = ["options", "undo 0", "validmoves", "undo", "validmoves"]
+
+    def answers(lines):
+        engine = Engine(program)
+        engine.reply()
+        found = [engine.ask(line) for line in lines]
+        expect("status", engine.end(), 0)
+        return found
+
+    for lines, further in REFUSED:
+        wanted = answers(lines + asked)[-len(asked) :]
+        for line in further:
+            found = answers(lines + [line] + asked)
+            reply = found[len(lines)][0]
+            expect(f"{line[:60]}: {reply}", reply.startswith(("err ", "invalidmove ")), True)
+            expect(f"what follows {line[:60]}", found[-len(asked) :], wanted)
+        expect("what follows all of them", answers(lines + further + asked)[-len(asked) :], wanted)
+
+
 def greatest_game(program):
     """A game of 5,000 plies, played move by move, and what is refused after it."""
     moves = ["wA1", "bA1 wA1-", "wQ -wA1", "bQ bA1-"] + ["wQ \\wA1", "bQ bA1/", "wQ -wA1", "bQ bA1-"] * 1249
@@ -151,6 +196,7 @@ def walking_game(program):
 
 if __name__ == "__main__":
     short_game(sys.argv[1])
+    refused_lines(sys.argv[1])
     greatest_game(sys.argv[1])
     walking_game(sys.argv[1])
     print("viewer: every answer is as expected")
