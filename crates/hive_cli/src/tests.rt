@@ -192,7 +192,7 @@ fn a_reply_comes_before_the_next_line(rt: HostRuntime) -> Result<(), Fail> {
     assert_eq!(rt; status, Status::Done);
     let mut length = GREETING.len();
     for (_, reply) in turns {
-        length += reply.len();
+        length = length.saturating_add(reply.len());
     }
     assert_eq!(rt; taken.load(Ordering::SeqCst), length as u64);
     Ok(())
