@@ -15,7 +15,8 @@ use Rattle.hive_model.specs.Positions.{opening}
 use Rattle.hive_model.specs.Games.{replay}
 use Rattle.hive_model.proofs.BoardLemmas.{spot_within}
 use Rattle.hive_model.proofs.CountLaws.{listed}
-use Rattle.board_game.specs.Replayed.{CanMake, WasMade, IsReplayed, AreSeparating}
+use Rattle.board_game.specs.Replayed.{CanMake, WasMade, IsReplayed}
+use Rattle.board_game.specs.Kept.{AreSeparating}
 use Rattle.hive_model.specs.Spread.{IsNearAll, IsSpread}
 use Rattle.board_game.proofs.SpreadLaws.{near_before}
 use Rattle.hive_model.proofs.BackLaws.{put_on_top, lift_put}
@@ -102,10 +103,10 @@ one_less n k (Some x) e f = e
 
 -- Cut places among the separating ones
 
-pub cut_listed : (b : Stacks) (p : Place) (ps qs : List Place) (r : Bool) (n : ℕ) → AreSeparating b ps → qs ≡ ps → n ≡ height_at b p → n ≡ 1 → (IsTrue r ↔ IsOn qs p) → IsTrue r ↔ IsCut b p
-cut_listed b p ps qs r n all same height one is = (
-  λ e. record { alone = sym height ∙ one; separates = (all p).0 ((listed ps p).1 (subst (λ us. IsOn us p) same (is.0 e))) },
-  λ h. is.1 (subst (λ us. IsOn us p) (sym same) ((listed ps p).0 ((all p).1 h.separates))),
+pub cut_listed : (b : Stacks) (p : Place) (ps : List Place) (r : Bool) (n : ℕ) → AreSeparating b ps → n ≡ height_at b p → n ≡ 1 → (IsTrue r ↔ IsOn ps p) → IsTrue r ↔ IsCut b p
+cut_listed b p ps r n all height one is = (
+  λ e. record { alone = sym height ∙ one; separates = (all p).0 ((listed ps p).1 (is.0 e)) },
+  λ h. is.1 ((listed ps p).0 ((all p).1 h.separates)),
 )
 
 pub separating_listed : (b : Stacks) (ps : List Place) → ((p : Place) → IsOn ps p ↔ IsSeparating b p) → AreSeparating b ps

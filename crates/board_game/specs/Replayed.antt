@@ -1,5 +1,5 @@
 -- A game on a board: what contracts see of it, and what its board is.
-use Rattle.std.specs.Prelude.{◌≡◌, ℕ, ◌+◌, ◌<◌, ◌≤◌, List, [], ◌∷◌, length, Option, Some, None, IsTrue, ◌↔◌, ◌⊎◌}
+use Rattle.std.specs.Prelude.{◌≡◌, ℕ, ◌+◌, ◌<◌, ◌≤◌, List, [], ◌∷◌, length, Option, Some, None, ◌⊎◌}
 use Rattle.hive_model.specs.declared.pieces.GameType.{GameType}
 use Rattle.hive_model.specs.declared.places.Place.{Place}
 use Rattle.hive_model.specs.declared.places.Spot.{Spot}
@@ -8,7 +8,6 @@ use Rattle.hive_model.specs.declared.places.Move.TheVariants.{Pass, To}
 use Rattle.hive_model.specs.Places.{IsWithin}
 use Rattle.hive_model.specs.Spread.{IsSpread}
 use Rattle.hive_model.specs.Boards.{Stacks, height_at, spot_of, place_in, IsBoard, put, without}
-use Rattle.hive_model.specs.Hive.{IsSeparating, on_list}
 use Rattle.hive_model.specs.Positions.{Position, opening}
 use Rattle.hive_model.specs.Games.{after, after_board, replay, IsGame}
 use Rattle.hive_model.specs.Courses.{Course}
@@ -27,10 +26,6 @@ origin_of b (To x q) = place_in b x
 abbrev pub origins : Position → List Move → List (Option Place)
 origins p [] = []
 origins p (m ∷ ms) = origin_of p.board m ∷ origins (after p m) ms
-
--- the list has the separating places of the board, and no others
-abbrev pub AreSeparating : Stacks → List Place → Type 0
-AreSeparating b places = (p : Place) → IsTrue (on_list places p) ↔ IsSeparating b p
 
 -- the piece is in hand, or on top of its place
 abbrev pub IsLoose : Stacks → ℕ → Type 0

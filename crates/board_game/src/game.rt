@@ -4,6 +4,7 @@ ghost use Rattle.std.specs.Prelude.{◌≡◌, refl};
 ghost use Rattle.hive_model.specs.Courses.{position};
 
 use crate::judging::{key_after, worth_after};
+use crate::known_cuts::{Separating, known_or_found};
 use crate::listing::{is_legal_after, list_moves, state_of};
 use crate::making::{make, unmake};
 use crate::turns::{side_after, turn_after};
@@ -13,21 +14,27 @@ use hive_model::{
 use std::alloc::{AllocError, Global};
 use std::marker::Model;
 
-/// A game on a board. To take a move back it keeps where the piece of each ply came from; the piece that rests is that
-/// of the last move.
+/// A game on a board. To take a move back it keeps where the piece of each ply came from; the piece
+/// that rests is that of the last move. The separating places of a position are found at the first
+/// question that needs them, and known from then on: `play` keeps them for the way back, and `undo`
+/// gives them back without a walk.
 #[derive(Drop)]
 pub struct BoardGame<B: GameBoard> {
     game_type: GameType,
     board: B,
     made: Vec<Move>,
     from: Vec<Option<Place>>,
+    separating: Option<Separating>,
+    before: Vec<Option<Separating>>,
     spare: u32,
     count: u64,
 }
 
 impl<B: GameBoard> Model for BoardGame<B> {
-    ghost use Rattle.std.specs.Prelude.{◌≡◌, ◌≤◌, ◌+◌, vec_capacity, vec_len};
+    ghost use Rattle.std.specs.Prelude.{◌≡◌, ◌≤◌, ◌+◌, vec_capacity, vec_len, IfSome};
+    ghost use Rattle.hive_model.specs.Positions.{opening};
     ghost use Rattle.board_game.specs.Replayed.{Played, IsReplayed};
+    ghost use Rattle.board_game.specs.Kept.{AreSeparating, AreKept};
 
     ghost Value = { Played };
 
@@ -40,7 +47,11 @@ impl<B: GameBoard> Model for BoardGame<B> {
         × (vec_len g.made + g.spare ≤ 5064)
         × (vec_len g.from ≡ vec_len g.made)
         × (vec_len g.made + g.spare ≤ vec_capacity g.made)
-        × (vec_len g.made + g.spare ≤ vec_capacity g.from) };
+        × (vec_len g.made + g.spare ≤ vec_capacity g.from)
+        × IfSome g.separating (AreSeparating (B.stacks g.board))
+        × AreKept (opening g.game_type) g.made.items g.before.items
+        × (vec_len g.before ≡ vec_len g.made)
+        × (vec_len g.made + g.spare ≤ vec_capacity g.before) };
 }
 
 impl<B: GameBoard> Board for BoardGame<B> {
@@ -76,6 +87,8 @@ impl<B: GameBoard> Game for BoardGame<B> {
             board: B::empty(alloc)?,
             made: Vec::new(alloc),
             from: Vec::new(alloc),
+            separating: None,
+            before: Vec::new(alloc),
             spare: 0,
             count: 0,
         })
@@ -84,6 +97,7 @@ impl<B: GameBoard> Game for BoardGame<B> {
     fn reserve(&mut self, plies: u32) -> Result<(), AllocError> {
         self.made.reserve(plies as usize)?;
         self.from.reserve(plies as usize)?;
+        self.before.reserve(plies as usize)?;
         if self.spare < plies {
             self.spare = plies;
         }
@@ -115,17 +129,24 @@ impl<B: GameBoard> Game for BoardGame<B> {
     }
 
     fn list(&mut self, out: &mut MoveStack) {
-        list_moves(&self.board, self.game_type, &self.made, out);
+        let separating = known_or_found(&self.board, self.separating.take());
+        list_moves(&self.board, &separating, self.game_type, &self.made, out);
+        self.separating = Some(separating);
     }
 
     fn is_legal(&mut self, m: Move) -> bool {
-        is_legal_after(&self.board, self.game_type, &self.made, m)
+        let separating = known_or_found(&self.board, self.separating.take());
+        let is_legal = is_legal_after(&self.board, &separating, self.game_type, &self.made, m);
+        self.separating = Some(separating);
+        is_legal
     }
 
     fn play(&mut self, m: Move) {
         let from = make(&mut self.board, &m);
         let _ = self.made.push(m);
         let _ = self.from.push(from);
+        let separating = self.separating.take();
+        let _ = self.before.push(separating);
         self.spare -= 1;
         self.count = self.count.saturating_add(1);
     }
@@ -134,12 +155,17 @@ impl<B: GameBoard> Game for BoardGame<B> {
         if let Some(m) = self.made.pop() {
             let from = self.from.pop().flatten();
             unmake(&mut self.board, &m, from);
+            let separating = self.before.pop().flatten();
+            self.separating = separating;
             self.spare += 1;
         }
     }
 
     fn evaluate(&mut self) -> i32 {
-        worth_after(&self.board, &self.made)
+        let separating = known_or_found(&self.board, self.separating.take());
+        let worth = worth_after(&self.board, &separating, &self.made);
+        self.separating = Some(separating);
+        worth
     }
 
     fn key(&self) -> Key {

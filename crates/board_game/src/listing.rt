@@ -7,13 +7,13 @@ ghost use Rattle.hive_model.specs.Legal as rules;
 ghost use Rattle.hive_model.specs.Legal.{moves};
 ghost use Rattle.hive_model.specs.Games.{replay};
 ghost use Rattle.hive_model.specs.Stack.{with_level};
+ghost use Rattle.board_game.specs.Kept.{AreSeparating};
 
-use crate::known_cuts::KnownCuts;
+use crate::known_cuts::{KnownCuts, Separating};
 use crate::results::state_on;
 use crate::turns::{rest_after, side_after, turn_after};
-use hive_model::{Board, GameType, Move, MoveStack, PlaceList, State};
+use hive_model::{Board, GameType, Move, MoveStack, State};
 use legal_moves::{is_legal_move, list};
-use one_hive::separating_places;
 
 /// The state that these moves lead to, on this board.
 pub fn state_of<B: Board>(board: &B, game_type: GameType, made: &[Move]) -> State
@@ -23,16 +23,22 @@ pub fn state_of<B: Board>(board: &B, game_type: GameType, made: &[Move]) -> Stat
     state_on(board, made.len() == 0)
 }
 
-/// Begins a level with the legal moves of the position that these moves lead to, on this board.
-pub fn list_moves<B: Board>(board: &B, game_type: GameType, made: &[Move], out: &mut MoveStack)
+/// Begins a level with the legal moves of the position that these moves lead to, on this board with
+/// these separating places.
+pub fn list_moves<B: Board>(
+    board: &B,
+    separating: &Separating,
+    game_type: GameType,
+    made: &[Move],
+    out: &mut MoveStack,
+)
+    requires separating { AreSeparating (B.stacks board.now) separating.now }
     requires board { B.stacks board.now ≡ (replay (opening game_type) made.now).board }
     requires few { length made.now ≤ 5064 }
     requires level { 1 ≤ out.old.free }
     ensures { out.new ≡ with_level out.old (moves (replay (opening game_type) made.now)) }
 {
-    let mut separating = PlaceList::new();
-    separating_places(board, &mut separating);
-    let cuts = KnownCuts::new(board, &separating);
+    let cuts = KnownCuts::new(board, separating);
     let plies = made.len() as u32;
     let side = side_after(plies);
     let turn = turn_after(plies);
@@ -41,15 +47,21 @@ pub fn list_moves<B: Board>(board: &B, game_type: GameType, made: &[Move], out: 
     list(board, &cuts, game_type, side, turn, rest, over, out);
 }
 
-/// Whether the move is legal in the position that these moves lead to, on this board.
-pub fn is_legal_after<B: Board>(board: &B, game_type: GameType, made: &[Move], m: Move) -> bool
+/// Whether the move is legal in the position that these moves lead to, on this board with these
+/// separating places.
+pub fn is_legal_after<B: Board>(
+    board: &B,
+    separating: &Separating,
+    game_type: GameType,
+    made: &[Move],
+    m: Move,
+) -> bool
+    requires separating { AreSeparating (B.stacks board.now) separating.now }
     requires board { B.stacks board.now ≡ (replay (opening game_type) made.now).board }
     requires few { length made.now ≤ 5064 }
     ensures { IsTrue result ↔ IsOn (moves (replay (opening game_type) made.now)) m }
 {
-    let mut separating = PlaceList::new();
-    separating_places(board, &mut separating);
-    let cuts = KnownCuts::new(board, &separating);
+    let cuts = KnownCuts::new(board, separating);
     let plies = made.len() as u32;
     let side = side_after(plies);
     let turn = turn_after(plies);

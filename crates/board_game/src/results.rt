@@ -31,10 +31,11 @@ fn is_surrounded<B: Board>(board: &B, side: Colour) -> bool
     }
 }
 
-/// The state of a game with this board: a draw where both queens are surrounded, a win where one is, and else not started
-/// where no ply was played.
+/// The state of a game with this board: a draw where both queens are surrounded, a win where one
+/// is, and else not started where no ply was played.
 pub fn state_on<B: Board>(board: &B, fresh: bool) -> State
-    ensures { result ≡ state_from (is_surrounded (B.stacks board.now) White) (is_surrounded (B.stacks board.now) Black) fresh }
+    ensures { result ≡ state_from (is_surrounded (B.stacks board.now) White)
+        (is_surrounded (B.stacks board.now) Black) fresh }
 {
     let white = is_surrounded(board, Colour::White);
     let black = is_surrounded(board, Colour::Black);

@@ -1,5 +1,5 @@
 -- What an ant finds is closed under steps, and so it is all that it reaches.
-use Rattle.std.proofs.Common.{◌≡◌, ◌≢◌, ℕ, suc, zero, ◌+◌, ◌≤◌, ◌<◌, Bool, true, false, List, [], ◌∷◌, ◌++◌, length, ◌⊎◌, inl, inr, refl, sym, ◌∙◌, ap, subst, arith, length-append}
+use Rattle.std.proofs.Common.{◌≡◌, ◌≢◌, ℕ, suc, zero, ◌+◌, ◌≤◌, ◌<◌, List, [], ◌∷◌, ◌++◌, length, ◌⊎◌, inl, inr, refl, sym, ◌∙◌, ap, subst, arith, length-append}
 use Rattle.std.specs.Prelude.{Some, slice_get}
 use Rattle.std.proofs.lemmas.Bool.{cases_eq}
 use Rattle.std.specs.declared.cmp.Ordering.TheVariants.{Less, Equal, Greater}
@@ -27,9 +27,6 @@ length_with p (x ∷ xs) new =
       | Equal ↦ λ e. absurd (new (inl (sym (exact_places p x e))))
       | Greater ↦ λ _. let rest = length_with p xs (λ on. new (inr on)) in omega (arith, rest)
     ] refl
-
-pub not_found : (p : Place) (seen found : List Place) (r : Bool) → seen ≡ found → (IsOn seen p → r ≡ true) → r ≡ false → ¬ IsOn found p
-not_found p seen found r same has e on = let wrong : false ≡ true = sym e ∙ has (subst (λ xs. IsOn xs p) (sym same) on) in cc
 
 pub worklist_with : (p : Place) (found work new_found new_work : List Place) → IsWorklist found work → (¬ IsOn found p) → new_found ≡ with_place p found → new_work ≡ work ++ p ∷ [] → IsWorklist new_found new_work
 worklist_with p found work new_found new_work h new f w = record {

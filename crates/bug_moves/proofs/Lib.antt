@@ -4,3 +4,4 @@ pub mod HopLaws
 pub mod AntLaws
 pub mod WayLaws
 pub mod KindLaws
+pub mod FoundLaws

@@ -7,11 +7,13 @@ ghost use Rattle.bug_moves.specs.Ways.{HopAlong};
 
 use hive_model::{Board, Dir, Place, PlaceList, add_place, is_occupied};
 
-/// Adds the empty place behind a row of pieces that begins at the neighbour in a direction, if a piece stands there.
+/// Adds the empty place behind a row of pieces that begins at the neighbour in a direction, if a
+/// piece stands there.
 fn add_hop<B: Board>(board: &B, from: Place, dir: Dir, out: &mut PlaceList)
     requires within { IsWithin 9500 from }
     requires list { IsAround (B.stacks board.now) out.old.items }
-    ensures { Gains (B.stacks board.now) (HopAlong (B.stacks board.now) from dir) out.old.items out.new.items }
+    ensures { Gains (B.stacks board.now) (HopAlong (B.stacks board.now) from dir) out.old.items
+        out.new.items }
 {
     let mut place = from.step(dir);
     let mut over = 0u16;

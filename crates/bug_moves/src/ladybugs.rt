@@ -12,7 +12,8 @@ use hive_model::{Board, Dir, Place, PlaceList, add_place, is_occupied};
 fn add_down<B: Board>(board: &B, start: Place, second: Place, dir: Dir, out: &mut PlaceList)
     requires within { IsWithin 9500 second }
     requires list { IsAround (B.stacks board.now) out.old.items }
-    ensures { Gains (B.stacks board.now) (DownToward (B.stacks board.now) start second dir) out.old.items out.new.items }
+    ensures { Gains (B.stacks board.now) (DownToward (B.stacks board.now) start second dir)
+        out.old.items out.new.items }
 {
     let to = second.step(dir);
     if to.is(start) || is_occupied(board, to) || !may_climb(board, second, to) {
@@ -25,7 +26,8 @@ fn add_down<B: Board>(board: &B, start: Place, second: Place, dir: Dir, out: &mu
 fn steps_down<B: Board>(board: &B, start: Place, second: Place, out: &mut PlaceList)
     requires within { IsWithin 9500 second }
     requires list { IsAround (B.stacks board.now) out.old.items }
-    ensures { Gains (B.stacks board.now) (StepDown (B.stacks board.now) start second) out.old.items out.new.items }
+    ensures { Gains (B.stacks board.now) (StepDown (B.stacks board.now) start second) out.old.items
+        out.new.items }
 {
     for dir in Dir::ALL {
         add_down(board, start, second, dir, out);
@@ -36,7 +38,8 @@ fn steps_down<B: Board>(board: &B, start: Place, second: Place, out: &mut PlaceL
 fn add_along<B: Board>(board: &B, start: Place, first: Place, dir: Dir, out: &mut PlaceList)
     requires within { IsWithin 9500 first }
     requires list { IsAround (B.stacks board.now) out.old.items }
-    ensures { Gains (B.stacks board.now) (AlongToward (B.stacks board.now) start first dir) out.old.items out.new.items }
+    ensures { Gains (B.stacks board.now) (AlongToward (B.stacks board.now) start first dir)
+        out.old.items out.new.items }
 {
     let second = first.step(dir);
     if !is_occupied(board, second) || !may_climb(board, first, second) {
@@ -49,7 +52,8 @@ fn add_along<B: Board>(board: &B, start: Place, first: Place, dir: Dir, out: &mu
 fn steps_along<B: Board>(board: &B, start: Place, first: Place, out: &mut PlaceList)
     requires within { IsWithin 9500 first }
     requires list { IsAround (B.stacks board.now) out.old.items }
-    ensures { Gains (B.stacks board.now) (StepAlong (B.stacks board.now) start first) out.old.items out.new.items }
+    ensures { Gains (B.stacks board.now) (StepAlong (B.stacks board.now) start first) out.old.items
+        out.new.items }
 {
     for dir in Dir::ALL {
         add_along(board, start, first, dir, out);
@@ -60,7 +64,8 @@ fn steps_along<B: Board>(board: &B, start: Place, first: Place, out: &mut PlaceL
 fn add_up<B: Board>(board: &B, start: Place, dir: Dir, out: &mut PlaceList)
     requires within { IsWithin 9500 start }
     requires list { IsAround (B.stacks board.now) out.old.items }
-    ensures { Gains (B.stacks board.now) (UpToward (B.stacks board.now) start dir) out.old.items out.new.items }
+    ensures { Gains (B.stacks board.now) (UpToward (B.stacks board.now) start dir) out.old.items
+        out.new.items }
 {
     let first = start.step(dir);
     if !is_occupied(board, first) || !may_climb(board, start, first) {
@@ -73,7 +78,8 @@ fn add_up<B: Board>(board: &B, start: Place, dir: Dir, out: &mut PlaceList)
 pub fn ladybug_ways<B: Board>(board: &B, from: Place, out: &mut PlaceList)
     requires within { IsWithin 9500 from }
     requires list { IsAround (B.stacks board.now) out.old.items }
-    ensures { Gains (B.stacks board.now) (OverTwoAway (B.stacks board.now) from) out.old.items out.new.items }
+    ensures { Gains (B.stacks board.now) (OverTwoAway (B.stacks board.now) from) out.old.items
+        out.new.items }
 {
     for dir in Dir::ALL {
         add_up(board, from, dir, out);

@@ -4,6 +4,7 @@
 #![tactic(auto)]
 
 mod ants;
+mod found;
 mod hops;
 mod ladybugs;
 mod spiders;
@@ -20,10 +21,10 @@ use hive_model::{Board, Kind, Piece, Place, PlaceList};
 
 /// The places that a bug of this kind reaches from a place, by q and then by r.
 ///
-/// Queen and pillbug make one step on the ground, a beetle one step on the ground or over the hive, a grasshopper hops over a
-/// row of pieces, an ant goes round the hive as far as it likes, a spider makes three steps round it without turning back, and
-/// a ladybug goes up onto the hive, along on it and down again. What a mosquito does depends on its neighbours, so it has no
-/// way here.
+/// Queen and pillbug make one step on the ground, a beetle one step on the ground or over the hive,
+/// a grasshopper hops over a row of pieces, an ant goes round the hive as far as it likes, a spider
+/// makes three steps round it without turning back, and a ladybug goes up onto the hive, along on
+/// it and down again. What a mosquito does depends on its neighbours, so it has no way here.
 pub fn reach<B: Board>(kind: Kind, board: &B, from: Place, out: &mut PlaceList)
     requires kind { kind ≢ Mosquito }
     requires empty { out.old.items ≡ [] }

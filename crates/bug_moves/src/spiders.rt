@@ -19,7 +19,8 @@ fn add_third<B: Board>(
 )
     requires within { IsWithin 9500 second }
     requires list { IsAround (B.stacks board.now) out.old.items }
-    ensures { Gains (B.stacks board.now) (ThirdToward (B.stacks board.now) start first second dir) out.old.items out.new.items }
+    ensures { Gains (B.stacks board.now) (ThirdToward (B.stacks board.now) start first second dir)
+        out.old.items out.new.items }
 {
     let to = second.step(dir);
     if to.is(start) || to.is(first) || !slide_toward(board, second, dir, to) {
@@ -32,7 +33,8 @@ fn add_third<B: Board>(
 fn third_steps<B: Board>(board: &B, start: Place, first: Place, second: Place, out: &mut PlaceList)
     requires within { IsWithin 9500 second }
     requires list { IsAround (B.stacks board.now) out.old.items }
-    ensures { Gains (B.stacks board.now) (ThirdStep (B.stacks board.now) start first second) out.old.items out.new.items }
+    ensures { Gains (B.stacks board.now) (ThirdStep (B.stacks board.now) start first second)
+        out.old.items out.new.items }
 {
     for dir in Dir::ALL {
         add_third(board, start, first, second, dir, out);
@@ -43,7 +45,8 @@ fn third_steps<B: Board>(board: &B, start: Place, first: Place, second: Place, o
 fn add_second<B: Board>(board: &B, start: Place, first: Place, dir: Dir, out: &mut PlaceList)
     requires within { IsWithin 9500 first }
     requires list { IsAround (B.stacks board.now) out.old.items }
-    ensures { Gains (B.stacks board.now) (SecondToward (B.stacks board.now) start first dir) out.old.items out.new.items }
+    ensures { Gains (B.stacks board.now) (SecondToward (B.stacks board.now) start first dir)
+        out.old.items out.new.items }
 {
     let second = first.step(dir);
     if second.is(start) || !slide_toward(board, first, dir, second) {
@@ -56,7 +59,8 @@ fn add_second<B: Board>(board: &B, start: Place, first: Place, dir: Dir, out: &m
 fn second_steps<B: Board>(board: &B, start: Place, first: Place, out: &mut PlaceList)
     requires within { IsWithin 9500 first }
     requires list { IsAround (B.stacks board.now) out.old.items }
-    ensures { Gains (B.stacks board.now) (SecondStep (B.stacks board.now) start first) out.old.items out.new.items }
+    ensures { Gains (B.stacks board.now) (SecondStep (B.stacks board.now) start first) out.old.items
+        out.new.items }
 {
     for dir in Dir::ALL {
         add_second(board, start, first, dir, out);
@@ -67,7 +71,8 @@ fn second_steps<B: Board>(board: &B, start: Place, first: Place, out: &mut Place
 fn add_first<B: Board>(board: &B, start: Place, dir: Dir, out: &mut PlaceList)
     requires within { IsWithin 9500 start }
     requires list { IsAround (B.stacks board.now) out.old.items }
-    ensures { Gains (B.stacks board.now) (FirstToward (B.stacks board.now) start dir) out.old.items out.new.items }
+    ensures { Gains (B.stacks board.now) (FirstToward (B.stacks board.now) start dir) out.old.items
+        out.new.items }
 {
     let first = start.step(dir);
     if slide_toward(board, start, dir, first) {
@@ -79,7 +84,8 @@ fn add_first<B: Board>(board: &B, start: Place, dir: Dir, out: &mut PlaceList)
 pub fn spider_ways<B: Board>(board: &B, from: Place, out: &mut PlaceList)
     requires within { IsWithin 9500 from }
     requires list { IsAround (B.stacks board.now) out.old.items }
-    ensures { Gains (B.stacks board.now) (ThreeSteps (B.stacks board.now) from) out.old.items out.new.items }
+    ensures { Gains (B.stacks board.now) (ThreeSteps (B.stacks board.now) from) out.old.items
+        out.new.items }
 {
     for dir in Dir::ALL {
         add_first(board, from, dir, out);

@@ -10,7 +10,8 @@ ghost use Rattle.bug_moves.specs.Ways.{Toward, BeetleStep};
 use gates::{climb_ok, slide_ok, slide_toward};
 use hive_model::{Board, Dir, Place, PlaceList, add_place, is_occupied};
 
-/// Whether the step between two neighbours is a climbing step: one of them is occupied, and the step is not blocked.
+/// Whether the step between two neighbours is a climbing step: one of them is occupied, and the
+/// step is not blocked.
 pub fn may_climb<B: Board>(board: &B, from: Place, to: Place) -> bool
     requires near { AreNeighbours from to }
     requires within { IsWithin 9500 from }
@@ -31,7 +32,8 @@ fn may_creep<B: Board>(board: &B, from: Place, to: Place) -> bool
 fn add_ground_step<B: Board>(board: &B, from: Place, dir: Dir, out: &mut PlaceList)
     requires within { IsWithin 9500 from }
     requires list { IsAround (B.stacks board.now) out.old.items }
-    ensures { Gains (B.stacks board.now) (Toward (GroundStep (B.stacks board.now)) from dir) out.old.items out.new.items }
+    ensures { Gains (B.stacks board.now) (Toward (GroundStep (B.stacks board.now)) from dir)
+        out.old.items out.new.items }
 {
     let to = from.step(dir);
     if slide_toward(board, from, dir, to) {
@@ -43,7 +45,8 @@ fn add_ground_step<B: Board>(board: &B, from: Place, dir: Dir, out: &mut PlaceLi
 pub fn ground_steps<B: Board>(board: &B, from: Place, out: &mut PlaceList)
     requires within { IsWithin 9500 from }
     requires list { IsAround (B.stacks board.now) out.old.items }
-    ensures { Gains (B.stacks board.now) (GroundStep (B.stacks board.now) from) out.old.items out.new.items }
+    ensures { Gains (B.stacks board.now) (GroundStep (B.stacks board.now) from) out.old.items
+        out.new.items }
 {
     for dir in Dir::ALL {
         add_ground_step(board, from, dir, out);
@@ -53,7 +56,8 @@ pub fn ground_steps<B: Board>(board: &B, from: Place, out: &mut PlaceList)
 fn add_beetle_step<B: Board>(board: &B, from: Place, dir: Dir, out: &mut PlaceList)
     requires within { IsWithin 9500 from }
     requires list { IsAround (B.stacks board.now) out.old.items }
-    ensures { Gains (B.stacks board.now) (Toward (BeetleStep (B.stacks board.now)) from dir) out.old.items out.new.items }
+    ensures { Gains (B.stacks board.now) (Toward (BeetleStep (B.stacks board.now)) from dir)
+        out.old.items out.new.items }
 {
     let place = from.step(dir);
     if may_creep(board, from, place) {
@@ -65,7 +69,8 @@ fn add_beetle_step<B: Board>(board: &B, from: Place, dir: Dir, out: &mut PlaceLi
 pub fn beetle_steps<B: Board>(board: &B, from: Place, out: &mut PlaceList)
     requires within { IsWithin 9500 from }
     requires list { IsAround (B.stacks board.now) out.old.items }
-    ensures { Gains (B.stacks board.now) (BeetleStep (B.stacks board.now) from) out.old.items out.new.items }
+    ensures { Gains (B.stacks board.now) (BeetleStep (B.stacks board.now) from) out.old.items
+        out.new.items }
 {
     for dir in Dir::ALL {
         add_beetle_step(board, from, dir, out);

@@ -3,6 +3,7 @@
 ghost use Rattle.std.specs.Prelude.{◌<◌};
 
 mod beside;
+mod kept;
 mod rows;
 mod walk;
 

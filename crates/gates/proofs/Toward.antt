@@ -1,11 +1,10 @@
 -- A ground step in a direction that is known.
-use Rattle.std.proofs.Common.{◌≡◌, true, false, ◌&&◌, sym, ◌∙◌, ap, subst}
-use Rattle.std.specs.Prelude.{nat_lt}
+use Rattle.std.proofs.Common.{◌≡◌, true, ◌&&◌, sym, ◌∙◌, subst}
 use Rattle.std.proofs.lemmas.Bool.{and_parts, and_from}
 use Rattle.hive_model.specs.declared.places.Place.{Place}
 use Rattle.hive_model.specs.declared.places.Dir.{Dir}
 use Rattle.hive_model.specs.Places.{step, dirs, is_place}
-use Rattle.hive_model.specs.Boards.{Stacks, is_occupied}
+use Rattle.hive_model.specs.Boards.{Stacks}
 use Rattle.hive_model.specs.Steps.{GroundStep, ground_at}
 use Rattle.hive_model.proofs.PlaceLemmas.{same_place, from_same_place}
 use Rattle.hive_model.proofs.RuleLaws.{any_has, has_any, dir_on, step_once, ground_from, from_ground}
@@ -18,6 +17,3 @@ from_toward b p d q leads h =
     let found = any_has (λ e. is_place (step p e) q && ground_at b p e) dirs (from_ground b p q h) in
     let parts = and_parts (is_place (step p found.0) q) _ found.2 in
     subst (λ e. ground_at b p e ≡ true) (step_once p found.0 d (same_place (step p found.0) q parts.0 ∙ leads)) parts.1
-
-pub taken_end : (b : Stacks) (p q : Place) → is_occupied b q ≡ true → GroundStep b p q → false ≡ true
-taken_end b p q on h = sym (ap (nat_lt 0) h.to_empty) ∙ on

@@ -4,6 +4,7 @@
 ghost use Rattle.std.specs.Prelude.{◌≡◌, ◌↔◌, IsTrue, nat_lt, max, ◌&&◌, not};
 ghost use Rattle.hive_model.specs.Boards.{Stacks, height_at, is_occupied};
 ghost use Rattle.hive_model.specs.Places.{AreNeighbours, IsWithin, step, is_place};
+ghost use Rattle.gates.specs.Beside.{is_beside_one};
 ghost use Rattle.hive_model.specs.Steps.{GroundStep, ClimbingStep, is_ground_step, is_blocked, ground_at, is_free, FreeStep};
 
 use hive_model::{Board, Dir, Place, is_occupied};
@@ -20,19 +21,39 @@ fn is_blocked<B: Board>(board: &B, from: Place, dir: Dir) -> bool
     higher < before && higher < after
 }
 
+/// Whether exactly one of the two common neighbours of the places of a step is occupied.
+#[tactic(auto, using(hive_model::proofs::PlaceLemmas::wider))]
+fn is_beside_one<B: Board>(board: &B, from: Place, dir: Dir) -> bool
+    requires { IsWithin 9500 from }
+    ensures { result ≡ is_beside_one (B.stacks board.now) from dir }
+{
+    let before = is_occupied(board, from.step(dir.before()));
+    let after = is_occupied(board, from.step(dir.after()));
+    before != after
+}
+
+/// Whether the step is a ground step.
 #[tactic(auto, using(hive_model::proofs::PlaceLemmas::wider))]
 fn is_ground<B: Board>(board: &B, from: Place, dir: Dir) -> bool
     requires { IsWithin 9500 from }
     ensures { result ≡ ground_at (B.stacks board.now) from dir }
 {
-    let clear = board.height(from) == 0 && board.height(from.step(dir)) == 0;
-    let before = is_occupied(board, from.step(dir.before()));
-    let after = is_occupied(board, from.step(dir.after()));
-    clear && before != after
+    board.height(from) == 0 && board.height(from.step(dir)) == 0 && is_beside_one(board, from, dir)
 }
 
-/// Whether the step between two neighbours is a ground step: both places are empty, and exactly one of their two common
-/// neighbours is occupied. The board is the one without the moving piece.
+/// The same, where the place that the step leads to is at hand. It is asked first: it is often
+/// taken.
+#[tactic(auto, using(hive_model::proofs::PlaceLemmas::wider))]
+fn is_ground_toward<B: Board>(board: &B, from: Place, dir: Dir, to: Place) -> bool
+    requires leads { to ≡ step from dir }
+    requires within { IsWithin 9500 from }
+    ensures { result ≡ ground_at (B.stacks board.now) from dir }
+{
+    board.height(to) == 0 && is_beside_one(board, from, dir) && board.height(from) == 0
+}
+
+/// Whether the step between two neighbours is a ground step: both places are empty, and exactly one
+/// of their two common neighbours is occupied. The board is the one without the moving piece.
 #[tactic(auto, using(hive_model::proofs::PlaceLemmas::wider))]
 pub fn slide_ok<B: Board>(board: &B, from: Place, to: Place) -> bool
     requires near { AreNeighbours from to }
@@ -48,10 +69,7 @@ pub fn slide_toward<B: Board>(board: &B, from: Place, dir: Dir, to: Place) -> bo
     requires within { IsWithin 9500 from }
     ensures { IsTrue result ↔ GroundStep (B.stacks board.now) from to }
 {
-    if is_occupied(board, to) {
-        return false;
-    }
-    is_ground(board, from, dir)
+    is_ground_toward(board, from, dir, to)
 }
 
 #[tactic(auto, using(hive_model::proofs::PlaceLemmas::wider))]
@@ -77,8 +95,9 @@ fn free_to<B: Board>(board: &B, from: Place, to: Place) -> bool
     )
 }
 
-/// Whether the step between two neighbours is not blocked: not both of their common neighbours are higher than the greater of
-/// the heights of the two. The board is the one without the moving piece.
+/// Whether the step between two neighbours is not blocked: not both of their common neighbours are
+/// higher than the greater of the heights of the two. The board is the one without the moving
+/// piece.
 #[tactic(auto, using(hive_model::proofs::PlaceLemmas::wider))]
 pub fn climb_ok<B: Board>(board: &B, from: Place, to: Place) -> bool
     requires near { AreNeighbours from to }

@@ -24,8 +24,9 @@ fn is_next<B: Board>(game_type: GameType, board: &B, piece: Piece) -> bool
     }
 }
 
-/// Whether the side may bring this piece into play in its turn of this number. The piece is the side's and the next of its kind.
-/// On its first turn a side brings no queen; on its fourth or a later turn, while its queen is in hand, nothing else.
+/// Whether the side may bring this piece into play in its turn of this number. The piece is the
+/// side's and the next of its kind. On its first turn a side brings no queen; on its fourth or a
+/// later turn, while its queen is in hand, nothing else.
 pub fn may_bring<B: Board>(
     game_type: GameType,
     board: &B,
@@ -73,8 +74,8 @@ pub fn push_each(piece: Piece, places: &[Place], out: &mut MoveStack)
     }
 }
 
-/// Puts all placements of the side in its turn of this number on the last level: by piece, then by q and r of the place, each
-/// once. `colour` is the side to move, and `turn` counts from 1.
+/// Puts all placements of the side in its turn of this number on the last level: by piece, then by
+/// q and r of the place, each once. `colour` is the side to move, and `turn` counts from 1.
 pub fn placements<B: Board>(
     game_type: GameType,
     board: &B,
@@ -84,7 +85,8 @@ pub fn placements<B: Board>(
 )
     requires level { 1 ≤ length out.old.lists }
     requires empty { last_level out.old ≡ [] }
-    ensures listed { (m : Move) → IsOn (last_level out.new) m ↔ IsPlacementMove (position_of game_type (B.stacks board.now) colour turn) m }
+    ensures listed { (m : Move) → IsOn (last_level out.new) m
+        ↔ IsPlacementMove (position_of game_type (B.stacks board.now) colour turn) m }
     ensures order { Rises move_cmp (last_level out.new) }
     ensures levels { length out.new.lists ≡ length out.old.lists }
     ensures others { without_level out.new ≡ without_level out.old }

@@ -77,8 +77,9 @@ fn may_stand<B: Board>(board: &B, colour: Colour, place: Place) -> bool
     }
 }
 
-/// Whether a piece of this colour may be placed there. The place is empty. On an empty board it is (0,0); where the other side
-/// alone has pieces on the board it is beside one of them; else it touches a top piece of this colour and none of the other.
+/// Whether a piece of this colour may be placed there. The place is empty. On an empty board it is
+/// (0,0); where the other side alone has pieces on the board it is beside one of them; else it
+/// touches a top piece of this colour and none of the other.
 pub fn may_place<B: Board>(board: &B, colour: Colour, place: Place) -> bool
     requires { IsWithin 9500 place }
     ensures { IsTrue result ↔ MayPlace (B.stacks board.now) colour place }

@@ -46,7 +46,8 @@ fn count_of(kind: Kind) -> u8
     }
 }
 
-/// The side's next piece of this kind: of those in hand the one with the least number. `None` where none of the kind is in hand.
+/// The side's next piece of this kind: of those in hand the one with the least number. `None` where
+/// none of the kind is in hand.
 pub fn next_of<B: Board>(
     game_type: GameType,
     board: &B,

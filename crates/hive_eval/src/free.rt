@@ -44,8 +44,8 @@ fn is_free<B: Board, C: Cuts>(board: &B, cuts: &C, piece: Piece, rest: &Option<P
     !cuts.is_cut(spot.place)
 }
 
-/// What the piece adds to the side's worth: its weight where it is a free piece of that side, its weight taken away where it is
-/// one of the other side's, and else 0.
+/// What the piece adds to the side's worth: its weight where it is a free piece of that side, its
+/// weight taken away where it is one of the other side's, and else 0.
 fn worth_of<B: Board, C: Cuts>(
     board: &B,
     cuts: &C,
@@ -54,7 +54,8 @@ fn worth_of<B: Board, C: Cuts>(
     rest: &Option<Piece>,
 ) -> i32
     requires { C.board cuts.now ≡ B.stacks board.now }
-    ensures worth { result ≡ pos (counted (B.stacks board.now) rest.now side piece) -ℤ pos (counted (B.stacks board.now) rest.now (other_side side) piece) }
+    ensures worth { result ≡ pos (counted (B.stacks board.now) rest.now side piece) -ℤ pos
+        (counted (B.stacks board.now) rest.now (other_side side) piece) }
 {
     if !is_free(board, cuts, piece, rest) {
         return 0;
@@ -75,7 +76,8 @@ pub(crate) fn free_balance<B: Board, C: Cuts>(
     rest: &Option<Piece>,
 ) -> i32
     requires { C.board cuts.now ≡ B.stacks board.now }
-    ensures balance { result ≡ pos (free_weight (B.stacks board.now) rest.now side) -ℤ pos (free_weight (B.stacks board.now) rest.now (other_side side)) }
+    ensures balance { result ≡ pos (free_weight (B.stacks board.now) rest.now side) -ℤ pos
+        (free_weight (B.stacks board.now) rest.now (other_side side)) }
     ensures low { negsuc 279 ≤ℤ result }
     ensures high { result ≤ℤ pos 280 }
 {

@@ -85,8 +85,8 @@ fn nothing_and_one_piece(rt: HostRuntime) -> Result<(), Fail> {
     Ok(())
 }
 
-/// White's queen has three neighbours and stands on a cut place, black's has two. Free are the ant, black's queen and, unless it
-/// rests, the beetle.
+/// White's queen has three neighbours and stands on a cut place, black's has two. Free are the ant,
+/// black's queen and, unless it rests, the beetle.
 #[test]
 fn queens_with_neighbours(rt: HostRuntime) -> Result<(), Fail> {
     let beetle = Piece::new(Colour::Black, Kind::Beetle, 1).ok_or("bB1")?;
@@ -104,8 +104,9 @@ fn queens_with_neighbours(rt: HostRuntime) -> Result<(), Fail> {
     Ok(())
 }
 
-/// Four places in a line, with two pieces on one of them: a covered piece is not free, a beetle above it is, also where its place
-/// holds the hive together. Both queens have two neighbours; they are free on no such place.
+/// Four places in a line, with two pieces on one of them: a covered piece is not free, a beetle
+/// above it is, also where its place holds the hive together. Both queens have two neighbours; they
+/// are free on no such place.
 #[test]
 fn covered_pieces(rt: HostRuntime) -> Result<(), Fail> {
     let at_the_end = board_of(
@@ -133,7 +134,8 @@ fn covered_pieces(rt: HostRuntime) -> Result<(), Fail> {
     Ok(())
 }
 
-/// One piece of each kind, all free: 58 in all, and 40 less for each of the queen's two neighbours. Black's queen is in hand.
+/// One piece of each kind, all free: 58 in all, and 40 less for each of the queen's two neighbours.
+/// Black's queen is in hand.
 #[test]
 fn every_kind(rt: HostRuntime) -> Result<(), Fail> {
     let board = board_of(

@@ -18,18 +18,21 @@ use crate::turns::Turn;
 use hand_rules::{may_bring, placement_places, push_each};
 use hive_model::{Board, Colour, Cuts, GameType, Move, MoveStack, Piece, Place, PlaceList};
 
-/// Puts the legal moves of the piece at the end of the last level. `open_places` are the places where the side may place.
+/// Puts the legal moves of the piece at the end of the last level. `open_places` are the places where the side may place, and
+/// `places` is a list to write on.
 fn push_piece<B: Board, C: Cuts>(
     board: &B,
     cuts: &C,
     turn: &Turn,
     open_places: &PlaceList,
     piece: Piece,
+    places: &mut PlaceList,
     out: &mut MoveStack,
 )
     requires board { IsBoard (B.stacks board.now) }
     requires cuts { C.board cuts.now ≡ B.stacks board.now }
-    requires places { (q : Place) → IsOn open_places.now.items q ↔ MayPlace (B.stacks board.now) turn.now.side q }
+    requires places { (q : Place) → IsOn open_places.now.items q
+        ↔ MayPlace (B.stacks board.now) turn.now.side q }
     requires order { Rises place_cmp open_places.now.items }
     requires level { 1 ≤ length out.old.lists }
     requires room { length (last_level out.old) + 196 ≤ 5488 }
@@ -39,32 +42,43 @@ fn push_piece<B: Board, C: Cuts>(
         push_each(piece, open_places.as_slice(), out);
         return;
     }
-    let mut places = PlaceList::new();
-    moved_places(board, cuts, turn, piece, &mut places);
+    places.clear();
+    moved_places(board, cuts, turn, piece, places);
     push_each(piece, places.as_slice(), out);
 }
 
-/// Puts all legal moves of pieces on the last level, which holds none yet: by piece, then by q and r of the place, each once.
+/// Puts all legal moves of pieces on the last level, which holds none yet: by piece, then by q and
+/// r of the place, each once.
 fn push_pairs<B: Board, C: Cuts>(board: &B, cuts: &C, turn: &Turn, out: &mut MoveStack)
     requires board { IsBoard (B.stacks board.now) }
     requires cuts { C.board cuts.now ≡ B.stacks board.now }
     requires level { 1 ≤ length out.old.lists }
     requires empty { last_level out.old ≡ [] }
-    ensures listed { (m : Move) → IsOn (last_level out.new) m ↔ IsPairBelow (position_of (B.stacks board.now) turn.now) 28 m }
+    ensures listed { (m : Move) → IsOn (last_level out.new) m
+        ↔ IsPairBelow (position_of (B.stacks board.now) turn.now) 28 m }
     ensures order { Rises move_cmp (last_level out.new) }
     ensures levels { length out.new.lists ≡ length out.old.lists }
     ensures others { without_level out.new ≡ without_level out.old }
 {
     let mut open_places = PlaceList::new();
     placement_places(board, turn.side, &mut open_places);
+    let mut places = PlaceList::new();
     for x in 0..28u8 {
-        push_piece(board, cuts, turn, &open_places, Piece::at(x), out);
+        push_piece(
+            board,
+            cuts,
+            turn,
+            &open_places,
+            Piece::at(x),
+            &mut places,
+            out,
+        );
     }
 }
 
-/// Begins a level and fills it with the legal moves of the side to move in its turn of this number, where this piece rests, if
-/// any: by piece, then by q and r of the place, each once; the pass alone where no piece can move; none where the game is
-/// over, as `over` says.
+/// Begins a level and fills it with the legal moves of the side to move in its turn of this number,
+/// where this piece rests, if any: by piece, then by q and r of the place, each once; the pass
+/// alone where no piece can move; none where the game is over, as `over` says.
 pub fn list<B: Board, C: Cuts>(
     board: &B,
     cuts: &C,
@@ -78,7 +92,8 @@ pub fn list<B: Board, C: Cuts>(
     requires level { 1 ≤ out.old.free }
     requires cuts { C.board cuts.now ≡ B.stacks board.now }
     requires over { over ≡ is_over (position_at game_type (B.stacks board.now) side turn rest) }
-    ensures { out.new ≡ with_level out.old (moves (position_at game_type (B.stacks board.now) side turn rest)) }
+    ensures { out.new ≡ with_level out.old (moves
+        (position_at game_type (B.stacks board.now) side turn rest)) }
 {
     out.begin_level();
     if over {

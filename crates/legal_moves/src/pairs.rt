@@ -25,7 +25,8 @@ fn piece_places<B: Board, C: Cuts>(
     requires board { IsBoard (B.stacks board.now) }
     requires cuts { C.board cuts.now ≡ B.stacks board.now }
     requires empty { out.old.items ≡ [] }
-    ensures places { (q : Place) → IsOn out.new.items q ↔ LegalPair (position_of (B.stacks board.now) turn.now) piece q }
+    ensures places { (q : Place) → IsOn out.new.items q
+        ↔ LegalPair (position_of (B.stacks board.now) turn.now) piece q }
     ensures order { Rises place_cmp out.new.items }
 {
     if may_bring(turn.game_type, board, turn.side, turn.number, piece) {
@@ -50,7 +51,8 @@ fn is_pair<B: Board, C: Cuts>(board: &B, cuts: &C, turn: &Turn, piece: Piece, pl
 fn goes_somewhere<B: Board, C: Cuts>(board: &B, cuts: &C, turn: &Turn, piece: Piece) -> bool
     requires board { IsBoard (B.stacks board.now) }
     requires cuts { C.board cuts.now ≡ B.stacks board.now }
-    ensures { IsTrue result ↔ ((q : Place) × LegalPair (position_of (B.stacks board.now) turn.now) piece q) }
+    ensures { IsTrue result ↔ ((q : Place) × LegalPair (position_of (B.stacks board.now) turn.now)
+        piece q) }
 {
     let mut places = PlaceList::new();
     piece_places(board, cuts, turn, piece, &mut places);
@@ -71,9 +73,10 @@ fn has_pair<B: Board, C: Cuts>(board: &B, cuts: &C, turn: &Turn) -> bool
     false
 }
 
-/// Whether the move is legal for the side to move in its turn of this number, where this piece rests, if any. No list of moves
-/// is made: one piece and its places are looked at, or for a pass one piece after another until one can move. `over` says
-/// whether the game is over; no move is legal then.
+/// Whether the move is legal for the side to move in its turn of this number, where this piece
+/// rests, if any. No list of moves is made: one piece and its places are looked at, or for a pass
+/// one piece after another until one can move. `over` says whether the game is over; no move is
+/// legal then.
 pub fn is_legal_move<B: Board, C: Cuts>(
     board: &B,
     cuts: &C,
@@ -86,7 +89,8 @@ pub fn is_legal_move<B: Board, C: Cuts>(
 ) -> bool
     requires cuts { C.board cuts.now ≡ B.stacks board.now }
     requires over { over ≡ is_over (position_at game_type (B.stacks board.now) side turn rest) }
-    ensures { IsTrue result ↔ IsOn (moves (position_at game_type (B.stacks board.now) side turn rest)) m }
+    ensures { IsTrue result ↔ IsOn (moves (position_at game_type (B.stacks board.now) side turn
+        rest)) m }
 {
     if over {
         return false;

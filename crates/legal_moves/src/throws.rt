@@ -28,7 +28,8 @@ fn add_throws<B: Board, C: Cuts>(
     requires cuts { C.board cuts.now ≡ B.stacks board.now }
     requires list { AreGoals (B.stacks board.now) piece out.old.items }
     ensures list { AreGoals (B.stacks board.now) piece out.new.items }
-    ensures added { (q : Place) → IsOn out.new.items q ↔ (IsOn out.old.items q ⊎ ThrownBy (B.stacks board.now) turn.now.rest thrower piece q) }
+    ensures added { (q : Place) → IsOn out.new.items q
+        ↔ (IsOn out.old.items q ⊎ ThrownBy (B.stacks board.now) turn.now.rest thrower piece q) }
 {
     if !may_throw(board, thrower, again(&turn.rest)) {
         return;
@@ -50,13 +51,15 @@ fn add_all_throws<B: Board, C: Cuts>(
     requires cuts { C.board cuts.now ≡ B.stacks board.now }
     requires list { AreGoals (B.stacks board.now) piece out.old.items }
     ensures list { AreGoals (B.stacks board.now) piece out.new.items }
-    ensures added { (q : Place) → IsOn out.new.items q ↔ (IsOn out.old.items q ⊎ Throw (position_of (B.stacks board.now) turn.now) piece q) }
+    ensures added { (q : Place) → IsOn out.new.items q
+        ↔ (IsOn out.old.items q ⊎ Throw (position_of (B.stacks board.now) turn.now) piece q) }
 {
     add_throws(board, cuts, turn, pillbug_of(turn.side), piece, out);
     add_throws(board, cuts, turn, mosquito_of(turn.side), piece, out);
 }
 
-/// Lists where a piece of the board goes by its own rule or is thrown, once the queen of the side to move is in play.
+/// Lists where a piece of the board goes by its own rule or is thrown, once the queen of the side
+/// to move is in play.
 pub fn moved_places<B: Board, C: Cuts>(
     board: &B,
     cuts: &C,
@@ -67,7 +70,8 @@ pub fn moved_places<B: Board, C: Cuts>(
     requires board { IsBoard (B.stacks board.now) }
     requires cuts { C.board cuts.now ≡ B.stacks board.now }
     requires empty { out.old.items ≡ [] }
-    ensures places { (q : Place) → IsOn out.new.items q ↔ IsMoved (position_of (B.stacks board.now) turn.now) piece q }
+    ensures places { (q : Place) → IsOn out.new.items q
+        ↔ IsMoved (position_of (B.stacks board.now) turn.now) piece q }
     ensures order { Rises place_cmp out.new.items }
 {
     if !is_in_play(board, turn.side.queen()) {

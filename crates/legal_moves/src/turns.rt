@@ -7,8 +7,8 @@ ghost use Rattle.hive_model.specs.Boards.{is_in_play};
 
 use hive_model::{Board, Colour, GameType, Piece};
 
-/// The side to move, in a game of this type, the number of its turn from 1 on, and the piece that rests: the one that was
-/// placed, moved or thrown on the last ply.
+/// The side to move, in a game of this type, the number of its turn from 1 on, and the piece that
+/// rests: the one that was placed, moved or thrown on the last ply.
 #[derive(Drop)]
 pub struct Turn {
     pub game_type: GameType,

@@ -13,7 +13,8 @@ use bug_moves::reach;
 use hive_model::{Board, Cuts, Kind, Lifted, Piece, PlaceList};
 use mosquito_moves::mosquito_reach;
 
-/// Whether the piece may leave its place: it is on top, it does not rest, and its place is no cut place.
+/// Whether the piece may leave its place: it is on top, it does not rest, and its place is no cut
+/// place.
 fn may_walk<B: Board, C: Cuts>(board: &B, cuts: &C, piece: Piece, rest: &Option<Piece>) -> bool
     requires board { IsBoard (B.stacks board.now) }
     requires cuts { C.board cuts.now ≡ B.stacks board.now }
@@ -47,12 +48,14 @@ fn go<B: Board>(board: &B, piece: Piece, out: &mut PlaceList)
     }
 }
 
-/// Lists where the piece moves to by its kind's rule, if it is one of the side to move that may leave its place.
+/// Lists where the piece moves to by its kind's rule, if it is one of the side to move that may
+/// leave its place.
 pub fn walks<B: Board, C: Cuts>(board: &B, cuts: &C, turn: &Turn, piece: Piece, out: &mut PlaceList)
     requires board { IsBoard (B.stacks board.now) }
     requires cuts { C.board cuts.now ≡ B.stacks board.now }
     requires empty { out.old.items ≡ [] }
-    ensures places { (q : Place) → IsOn out.new.items q ↔ Walk (position_of (B.stacks board.now) turn.now) piece q }
+    ensures places { (q : Place) → IsOn out.new.items q
+        ↔ Walk (position_of (B.stacks board.now) turn.now) piece q }
     ensures order { Rises place_cmp out.new.items }
 {
     if piece.colour().is(turn.side) && may_walk(board, cuts, piece, &turn.rest) {

@@ -61,7 +61,8 @@ fn add_reach<B: Board>(board: &B, from: Place, kind: Kind, out: &mut PlaceList)
     requires kind { kind ≢ Mosquito }
     requires within { IsWithin 9500 from }
     requires list { IsAround (B.stacks board.now) out.old.items }
-    ensures { Gains (B.stacks board.now) (Reach kind (B.stacks board.now) from) out.old.items out.new.items }
+    ensures { Gains (B.stacks board.now) (Reach kind (B.stacks board.now) from) out.old.items
+        out.new.items }
 {
     let mut reached = PlaceList::new();
     reach(kind, board, from, &mut reached);
@@ -77,7 +78,8 @@ fn copy_kind<B: Board>(board: &B, from: Place, kind: Kind, out: &mut PlaceList)
     requires kind { kind ≢ Mosquito }
     requires within { IsWithin 9500 from }
     requires list { IsAround (B.stacks board.now) out.old.items }
-    ensures { Gains (B.stacks board.now) (CopiesKind (B.stacks board.now) from kind) out.old.items out.new.items }
+    ensures { Gains (B.stacks board.now) (CopiesKind (B.stacks board.now) from kind) out.old.items
+        out.new.items }
 {
     if touches_kind(board, from, kind) {
         add_reach(board, from, kind, out);
@@ -88,7 +90,8 @@ fn copy_kind<B: Board>(board: &B, from: Place, kind: Kind, out: &mut PlaceList)
 fn copy_neighbours<B: Board>(board: &B, from: Place, out: &mut PlaceList)
     requires within { IsWithin 9500 from }
     requires list { IsAround (B.stacks board.now) out.old.items }
-    ensures { Gains (B.stacks board.now) (CopiesOne (B.stacks board.now) from) out.old.items out.new.items }
+    ensures { Gains (B.stacks board.now) (CopiesOne (B.stacks board.now) from) out.old.items
+        out.new.items }
 {
     for kind in COPIED {
         copy_kind(board, from, kind, out);
@@ -97,8 +100,8 @@ fn copy_neighbours<B: Board>(board: &B, from: Place, out: &mut PlaceList)
 
 /// The places that a mosquito reaches from a place, by q and then by r.
 ///
-/// On a stack it moves as a beetle. On the ground it moves as any piece on top of a neighbouring place does, but another
-/// mosquito gives it nothing.
+/// On a stack it moves as a beetle. On the ground it moves as any piece on top of a neighbouring
+/// place does, but another mosquito gives it nothing.
 pub fn mosquito_reach<B: Board>(board: &B, from: Place, out: &mut PlaceList)
     requires empty { out.old.items ≡ [] }
     requires within { IsWithin 9500 from }

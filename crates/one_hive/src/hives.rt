@@ -13,7 +13,8 @@ use std::sync::ledger::Ledger;
 
 /// An occupied place other than the one that is left out, if there is one.
 pub(crate) fn first_place<B: Board>(board: &B, left_out: Option<Place>) -> Option<Place>
-    ensures { MatchOption result ((p : Place) → IsTrue (others (B.stacks board.now) left_out p) → ⊥) (λ p. IsTrue (others (B.stacks board.now) left_out p)) }
+    ensures { MatchOption result ((p : Place) → IsTrue (others (B.stacks board.now) left_out p) → ⊥)
+        (λ p. IsTrue (others (B.stacks board.now) left_out p)) }
 {
     let _spot = board.spot(Piece::at(0));
     for x in 0..28u8 {
@@ -38,16 +39,16 @@ pub(crate) fn is_one_without<B: Board>(board: &B, left_out: Option<Place>) -> bo
     }
 }
 
-/// Whether the board is one hive: from each occupied place a walk over occupied places leads to each other one. The empty
-/// board is one hive.
+/// Whether the board is one hive: from each occupied place a walk over occupied places leads to
+/// each other one. The empty board is one hive.
 pub fn is_one<B: Board>(board: &B) -> bool
     ensures { IsTrue result ↔ OneHive (B.stacks board.now) }
 {
     is_one_without(board, None)
 }
 
-/// Whether the board without all pieces of this occupied place is not one hive, however many pieces stand there. It counts as
-/// one step.
+/// Whether the board without all pieces of this occupied place is not one hive, however many pieces
+/// stand there. It counts as one step.
 pub fn walk_is_cut<B: Board, L: Ledger>(board: &B, place: Place, steps: &mut Steps<L>) -> bool
     requires { IsTrue (is_occupied (B.stacks board.now) place) }
     ensures cut { IsTrue result ↔ IsSeparating (B.stacks board.now) place }

@@ -1,6 +1,7 @@
 //! Whether a board is one hive, and which of its places hold it together.
 #![tactic(auto)]
 
+mod beyond;
 mod hives;
 mod marks;
 mod met;

@@ -6,6 +6,7 @@ ghost use Rattle.hive_model.specs.Lists.{IsOn};
 ghost use Rattle.hive_model.specs.Places.{IsWithin, step, dirs};
 ghost use Rattle.one_hive.specs.Walks.{is_left_out, others, ground_of, Joined, marks_set, AreMarked, Meets, Spreads};
 
+use crate::marks::Marks;
 use arrayvec::ArrayVec;
 use hive_model::{Board, Dir, Piece, Place};
 
@@ -13,7 +14,7 @@ use hive_model::{Board, Dir, Piece, Place};
 #[derive(Drop)]
 pub(crate) struct Met {
     pub(crate) places: ArrayVec<Place, 28>,
-    pub(crate) tops: [bool; 28],
+    pub(crate) tops: Marks,
 }
 
 /// Whether this is the place that is left out.
@@ -53,14 +54,14 @@ pub(crate) fn add(met: &mut Met, piece: Piece, place: Place)
     ensures tops { met.new.tops ≡ slice_set met.old.tops piece true }
 {
     met.places.push(place);
-    met.tops[piece.index() as usize] = true;
+    met.tops.mark(piece);
 }
 
 /// Whether the piece is marked.
 pub(crate) fn is_marked(met: &Met, piece: Piece) -> bool
     ensures { slice_get met.now.tops piece ≡ Some result }
 {
-    met.tops[piece.index() as usize]
+    met.tops.is_set(piece)
 }
 
 /// Adds a place that is occupied, not left out and not yet met.
@@ -68,7 +69,8 @@ fn meet<B: Board>(board: &B, left_out: Option<Place>, place: Place, met: &mut Me
     requires board { IsBoard (B.stacks board.now) }
     requires marked { AreMarked (B.stacks board.now) met.old.places.items met.old.tops }
     ensures marked { AreMarked (B.stacks board.now) met.new.places.items met.new.tops }
-    ensures meets { Meets (others (B.stacks board.now) left_out) place met.old.places.items met.new.places.items }
+    ensures meets { Meets (others (B.stacks board.now) left_out) place met.old.places.items
+        met.new.places.items }
 {
     if is_left_out(left_out, place) {
         return;
@@ -89,7 +91,8 @@ fn spread<B: Board>(board: &B, left_out: Option<Place>, from: Place, met: &mut M
     requires within { IsWithin 9500 from }
     requires marked { AreMarked (B.stacks board.now) met.old.places.items met.old.tops }
     ensures marked { AreMarked (B.stacks board.now) met.new.places.items met.new.tops }
-    ensures spreads { Spreads (others (B.stacks board.now) left_out) from dirs met.old.places.items met.new.places.items }
+    ensures spreads { Spreads (others (B.stacks board.now) left_out) from dirs met.old.places.items
+        met.new.places.items }
 {
     for dir in Dir::ALL {
         meet(board, left_out, from.step(dir), met);
@@ -105,18 +108,20 @@ pub(crate) fn met_first<B: Board>(board: &B, left_out: Option<Place>, start: Pla
 {
     let mut met = Met {
         places: ArrayVec::new(),
-        tops: [false; 28],
+        tops: Marks::new(),
     };
     meet(board, left_out, start, &mut met);
     met
 }
 
-/// All places to which a walk over the occupied places leads from this one, without the one that is left out.
+/// All places to which a walk over the occupied places leads from this one, without the one that is
+/// left out.
 pub(crate) fn walk_from<B: Board>(board: &B, left_out: Option<Place>, start: Place) -> Met
     requires board { IsBoard (B.stacks board.now) }
     requires start { IsTrue (others (B.stacks board.now) left_out start) }
     ensures marked { AreMarked (B.stacks board.now) result.places.items result.tops }
-    ensures met { (p : Place) → IsOn result.places.items p ↔ Joined (others (B.stacks board.now) left_out) start p }
+    ensures met { (p : Place) → IsOn result.places.items p
+        ↔ Joined (others (B.stacks board.now) left_out) start p }
 {
     let mut met = met_first(board, left_out, start);
     let mut next = 0;
@@ -145,7 +150,8 @@ fn has_met<B: Board>(board: &B, place: Place, met: &Met) -> bool
 pub(crate) fn has_met_all<B: Board>(board: &B, left_out: Option<Place>, met: &Met) -> bool
     requires board { IsBoard (B.stacks board.now) }
     requires marked { AreMarked (B.stacks board.now) met.now.places.items met.now.tops }
-    ensures { IsTrue result ↔ ((p : Place) → IsTrue (others (B.stacks board.now) left_out p) → IsOn met.now.places.items p) }
+    ensures { IsTrue result ↔ ((p : Place) → IsTrue (others (B.stacks board.now) left_out p)
+        → IsOn met.now.places.items p) }
 {
     for x in 0..28u8 {
         if let Some(place) = ground_place(board, left_out, Piece::at(x))

@@ -21,7 +21,8 @@ fn add_separating<B: Board>(board: &B, piece: Piece, out: &mut PlaceList)
     ensures rises { Rises place_cmp out.new.items }
     ensures sound { (p : Place) → IsOn out.new.items p → IsSeparating (B.stacks board.now) p }
     ensures kept { (p : Place) → IsOn out.old.items p → IsOn out.new.items p }
-    ensures new { (p : Place) → ground_of None (spot_of (B.stacks board.now) piece) ≡ Some p → IsSeparating (B.stacks board.now) p → IsOn out.new.items p }
+    ensures new { (p : Place) → ground_of None (spot_of (B.stacks board.now) piece) ≡ Some p
+        → IsSeparating (B.stacks board.now) p → IsOn out.new.items p }
 {
     let Some(place) = ground_place(board, None, piece) else {
         return;
@@ -56,15 +57,16 @@ fn neighbour_of<B: Board>(board: &B, place: Place) -> Option<Dir>
     None
 }
 
-/// Adds separating places by one walk over the whole board, and says whether these are all: they are where the board is one
-/// hive of two places or more. The place from which the walk starts is separating where the walk does not meet every place in the
-/// first direction in which it goes on.
+/// Adds separating places by one walk over the whole board, and says whether these are all: they
+/// are where the board is one hive of two places or more. The place from which the walk starts is
+/// separating where the walk does not meet every place in the first direction in which it goes on.
 fn add_by_walk<B: Board>(board: &B, out: &mut PlaceList) -> bool
     requires rises { Rises place_cmp out.old.items }
     requires sound { (p : Place) → IsOn out.old.items p → IsSeparating (B.stacks board.now) p }
     ensures rises { Rises place_cmp out.new.items }
     ensures sound { (p : Place) → IsOn out.new.items p → IsSeparating (B.stacks board.now) p }
-    ensures all { IsTrue result → (p : Place) → IsSeparating (B.stacks board.now) p → IsOn out.new.items p }
+    ensures all { IsTrue result → (p : Place) → IsSeparating (B.stacks board.now) p
+        → IsOn out.new.items p }
 {
     let _spot = board.spot(Piece::at(0));
     let Some(start) = first_place(board, None) else {
@@ -87,9 +89,9 @@ fn add_by_walk<B: Board>(board: &B, out: &mut PlaceList) -> bool
     has_met_all(board, None, &met)
 }
 
-/// Every separating place of the board, in order, each once: the occupied places without whose pieces the board is not one
-/// hive. On a board that is one hive of two places or more one walk goes once over each place; on another board there is a
-/// walk for each occupied place.
+/// Every separating place of the board, in order, each once: the occupied places without whose
+/// pieces the board is not one hive. On a board that is one hive of two places or more one walk
+/// goes once over each place; on another board there is a walk for each occupied place.
 pub fn separating_places<B: Board>(board: &B, out: &mut PlaceList)
     requires { out.old.items ≡ [] }
     ensures places { (p : Place) → IsOn out.new.items p ↔ IsSeparating (B.stacks board.now) p }

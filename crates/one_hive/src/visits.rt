@@ -9,7 +9,7 @@ ghost use Rattle.hive_model.specs.Places.{place_cmp, dirs};
 ghost use Rattle.one_hive.specs.Walks.{AreMarked};
 ghost use Rattle.one_hive.specs.Visits.{Visited, Found};
 
-use crate::marks::{Beyond, behind, join, nothing, one};
+use crate::beyond::{Beyond, behind, join, nothing, one};
 use crate::met::{Met, add, is_marked};
 use hive_model::{Board, Dir, Piece, Place, PlaceList, add_place};
 
@@ -30,8 +30,8 @@ pub(crate) fn add_if<B: Board>(board: &B, place: Place, is_cut: bool, out: &mut 
     add_place(out, place);
 }
 
-/// Walks on from a place in all directions, and adds the separating places among those that it meets. The piece is on top of
-/// the place.
+/// Walks on from a place in all directions, and adds the separating places among those that it
+/// meets. The piece is on top of the place.
 #[cycle(visit)]
 pub(crate) fn visit<B: Board>(
     board: &B,
@@ -48,8 +48,10 @@ pub(crate) fn visit<B: Board>(
     requires rises { Rises place_cmp out.old.items }
     requires sound { (p : Place) → IsOn out.old.items p → IsSeparating (B.stacks board.now) p }
     ensures marked { AreMarked (B.stacks board.now) met.new.places.items met.new.tops }
-    ensures visited { Visited (B.stacks board.now) from dirs met.old.places.items met.new.places.items result.near result.cut }
-    ensures found { Found (B.stacks board.now) met.old.places.items met.new.places.items out.old.items out.new.items }
+    ensures visited { Visited (B.stacks board.now) from dirs met.old.places.items
+        met.new.places.items result.near result.cut }
+    ensures found { Found (B.stacks board.now) met.old.places.items met.new.places.items
+        out.old.items out.new.items }
 {
     let mut beyond = nothing();
     for dir in Dir::ALL {
@@ -77,8 +79,10 @@ pub(crate) fn visit_beside<B: Board>(
     requires rises { Rises place_cmp out.old.items }
     requires sound { (p : Place) → IsOn out.old.items p → IsSeparating (B.stacks board.now) p }
     ensures marked { AreMarked (B.stacks board.now) met.new.places.items met.new.tops }
-    ensures visited { Visited (B.stacks board.now) from (dir ∷ []) met.old.places.items met.new.places.items result.near result.cut }
-    ensures found { Found (B.stacks board.now) met.old.places.items met.new.places.items out.old.items out.new.items }
+    ensures visited { Visited (B.stacks board.now) from (dir ∷ []) met.old.places.items
+        met.new.places.items result.near result.cut }
+    ensures found { Found (B.stacks board.now) met.old.places.items met.new.places.items
+        out.old.items out.new.items }
 {
     let place = from.step(dir);
     let Some(piece) = board.top(place) else {
@@ -87,7 +91,7 @@ pub(crate) fn visit_beside<B: Board>(
     if is_marked(met, piece) {
         return one(piece);
     }
-    let seen = met.tops;
+    let seen = met.tops.again();
     add(met, piece, place);
     let next = visit(board, place, piece, met, out);
     add_if(board, place, next.cut, out);

@@ -38,13 +38,14 @@ fn is_at_hand<B: Board>(
     rest: Option<Piece>,
 ) -> bool
     requires { IsWithin 9500 over }
-    ensures { result ≡ (nat_eq (height_at (B.stacks board.now) from) 1 && (not (is_piece piece rest) && are_neighbours over from)) }
+    ensures { result ≡ (nat_eq (height_at (B.stacks board.now) from) 1 &&
+        (not (is_piece piece rest) && are_neighbours over from)) }
 {
     board.height(from) == 1 && !piece.rests(&rest) && are_neighbours(over, from)
 }
 
-/// Whether the piece can be lifted from its place over the thrower's: it is alone there, does not rest, stands beside the
-/// thrower, and on no cut place.
+/// Whether the piece can be lifted from its place over the thrower's: it is alone there, does not
+/// rest, stands beside the thrower, and on no cut place.
 fn is_loose<B: Board, C: Cuts>(
     board: &B,
     cuts: &C,
@@ -71,7 +72,8 @@ fn is_open<B: Board>(board: &B, from: Place, to: Place) -> bool
     board.height(to) == 0 && !from.is(to)
 }
 
-/// Whether a piece that was lifted from a place may come down from the thrower on this neighbour of it.
+/// Whether a piece that was lifted from a place may come down from the thrower on this neighbour of
+/// it.
 fn comes_down<B: Board, L: Board>(
     board: &B,
     lifted: &L,
@@ -99,7 +101,8 @@ fn add_places<B: Board, L: Board>(
 )
     requires within { IsWithin 9500 over }
     requires empty { out.old.items ≡ [] }
-    ensures places { (q : Place) → IsOn out.new.items q ↔ ComesDown (B.stacks board.now) (L.stacks lifted.now) over from q }
+    ensures places { (q : Place) → IsOn out.new.items q
+        ↔ ComesDown (B.stacks board.now) (L.stacks lifted.now) over from q }
     ensures order { Rises place_cmp out.new.items }
 {
     for dir in Dir::ALL {
@@ -110,10 +113,10 @@ fn add_places<B: Board, L: Board>(
     }
 }
 
-/// All places to which the thrower may throw the piece, of either colour, in order, each once. The piece is alone on a
-/// neighbour of the thrower's place that is no cut place, and does not rest. It comes down on another neighbour, which is
-/// empty. On the board without it, neither its step up onto the thrower nor its step down is blocked by two higher common
-/// neighbours.
+/// All places to which the thrower may throw the piece, of either colour, in order, each once. The
+/// piece is alone on a neighbour of the thrower's place that is no cut place, and does not rest. It
+/// comes down on another neighbour, which is empty. On the board without it, neither its step up
+/// onto the thrower nor its step down is blocked by two higher common neighbours.
 pub fn throws<B: Board, C: Cuts>(
     board: &B,
     cuts: &C,
@@ -125,7 +128,8 @@ pub fn throws<B: Board, C: Cuts>(
     requires may { (t : Spot) × IsThrower (B.stacks board.now) rest thrower t }
     requires cuts { C.board cuts.now ≡ B.stacks board.now }
     requires empty { out.old.items ≡ [] }
-    ensures places { (q : Place) → IsOn out.new.items q ↔ ThrowsTo (B.stacks board.now) rest thrower thrown q }
+    ensures places { (q : Place) → IsOn out.new.items q
+        ↔ ThrowsTo (B.stacks board.now) rest thrower thrown q }
     ensures order { Rises place_cmp out.new.items }
 {
     let Some(over) = board.spot(thrower) else {

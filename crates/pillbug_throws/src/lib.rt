@@ -1,4 +1,5 @@
-//! Throws: a pillbug, or a mosquito that touches one, lifts a neighbouring piece over itself to another neighbouring place.
+//! Throws: a pillbug, or a mosquito that touches one, lifts a neighbouring piece over itself to
+//! another neighbouring place.
 #![tactic(auto)]
 
 mod landing;

@@ -20,7 +20,8 @@ fn is_pillbug(top: Option<Piece>) -> bool
     }
 }
 
-/// Whether a piece on this place can throw by its kind: it is a pillbug, or a mosquito that touches one.
+/// Whether a piece on this place can throw by its kind: it is a pillbug, or a mosquito that touches
+/// one.
 #[tactic(auto, using(hive_model::proofs::PlaceLemmas::wider))]
 fn can_throw<B: Board>(board: &B, piece: Piece, place: Place) -> bool
     requires { IsWithin 9500 place }
@@ -46,13 +47,14 @@ fn touches_pillbug<B: Board>(board: &B, place: Place) -> bool
 /// Whether the piece on this place may throw from there.
 fn throws_from<B: Board>(board: &B, piece: Piece, place: Place, rest: Option<Piece>) -> bool
     requires { IsWithin 9500 place }
-    ensures { result ≡ (nat_eq (height_at (B.stacks board.now) place) 1 && (not (is_piece piece rest) && can_throw (B.stacks board.now) piece place)) }
+    ensures { result ≡ (nat_eq (height_at (B.stacks board.now) place) 1 &&
+        (not (is_piece piece rest) && can_throw (B.stacks board.now) piece place)) }
 {
     board.height(place) == 1 && !piece.rests(&rest) && can_throw(board, piece, place)
 }
 
-/// Whether the piece may throw: it is a pillbug, or a mosquito that touches a pillbug, it is alone on its place, and it does not
-/// rest. It may stand on a cut place.
+/// Whether the piece may throw: it is a pillbug, or a mosquito that touches a pillbug, it is alone
+/// on its place, and it does not rest. It may stand on a cut place.
 pub fn may_throw<B: Board>(board: &B, piece: Piece, rest: Option<Piece>) -> bool
     ensures { IsTrue result ↔ ((t : Spot) × IsThrower (B.stacks board.now) rest piece t) }
 {

@@ -129,7 +129,8 @@ fn played_and_taken_back(rt: HostRuntime) -> Result<(), Fail> {
     Ok(())
 }
 
-/// White has the queen, the first spider and the first ant on the board, black too. The last ply brought black's ant.
+/// White has the queen, the first spider and the first ant on the board, black too. The last ply
+/// brought black's ant.
 const LAST_ANT: [(u8, i32, i32); 6] = [
     (1, 0, 0),
     (15, 1, 0),
@@ -176,8 +177,9 @@ fn keys(rt: HostRuntime) -> Result<(), Fail> {
     Ok(())
 }
 
-/// Each queen has two neighbours, and the spiders hold the hive together. White's queen and ant are free, and of black's queen and
-/// ant the one that does not rest. Before the last ply black's queen had one neighbour, and white's ant rested.
+/// Each queen has two neighbours, and the spiders hold the hive together. White's queen and ant are
+/// free, and of black's queen and ant the one that does not rest. Before the last ply black's queen
+/// had one neighbour, and white's ant rested.
 #[test]
 fn worth(rt: HostRuntime) -> Result<(), Fail> {
     let mut game = PlainGame::opening(rt.alloc(), BASE)?;

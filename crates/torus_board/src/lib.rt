@@ -69,7 +69,8 @@ fn highest_in(
     requires spots { IsSpots spots.now }
     requires grid { IsGrid side (board_of spots.now) cells.now }
     ensures top { option_map (λ h. h.0) result ≡ top_at (board_of spots.now) place }
-    ensures height { unwrap_or (option_map (λ h. h.1 + 1) result) 0 ≡ height_at (board_of spots.now) place }
+    ensures height { unwrap_or (option_map (λ h. h.1 + 1) result) 0
+        ≡ height_at (board_of spots.now) place }
 {
     match cell_in(cells, index_in(side, place)) {
         Some(piece) => match spot_in(spots, piece) {
@@ -117,9 +118,10 @@ fn height_in(spots: &[Option<Spot>; 28], cells: &[Option<Piece>], side: usize, p
     }
 }
 
-/// A board of at most 28 pieces, seen as the finite map from places to the pieces there. It keeps where each piece stands and
-/// what is directly below it, and in a grid of SIDE times SIDE cells the top piece of each place, found by the residues of the
-/// place's coordinates. So every look-up is one read, and a place with the residues of another reads as empty.
+/// A board of at most 28 pieces, seen as the finite map from places to the pieces there. It keeps
+/// where each piece stands and what is directly below it, and in a grid of SIDE times SIDE cells
+/// the top piece of each place, found by the residues of the place's coordinates. So every look-up
+/// is one read, and a place with the residues of another reads as empty.
 #[derive(Drop)]
 pub struct Torus<const SIDE: usize> {
     spots: [Option<Spot>; 28],
@@ -193,8 +195,8 @@ impl<const SIDE: usize> Torus<SIDE> {
         })
     }
 
-    /// Puts a piece that is not on the board on top of a place, whose coordinates are from -9000 to 9000. Every occupied place
-    /// differs from it by less than SIDE in each coordinate.
+    /// Puts a piece that is not on the board on top of a place, whose coordinates are from -9000 to
+    /// 9000. Every occupied place differs from it by less than SIDE in each coordinate.
     pub fn put(&mut self, piece: Piece, place: Place)
         requires absent { IsNone (spot_of self.old piece) }
         requires within { IsWithin 9000 place }

@@ -1,4 +1,5 @@
-//! Grown games on both boards: all that a game answers is the same, after each ply and after each undo.
+//! Grown games on both boards: all that a game answers is the same, after each ply and after each
+//! undo.
 
 ghost use Rattle.std.specs.Prelude.{◌<◌};
 
@@ -60,7 +61,8 @@ fn are_same_columns<A: Board, B: Board>(one: &A, other: &B, q: i32) -> bool {
     true
 }
 
-/// Whether the places near the origin look the same on both boards, and so do those 32 to the east, which have the same cells.
+/// Whether the places near the origin look the same on both boards, and so do those 32 to the east,
+/// which have the same cells.
 fn are_same_boards<A: Board, B: Board>(one: &A, other: &B) -> bool {
     for q in -8..9i32 {
         if !are_same_columns(one, other, q) || !are_same_columns(one, other, q + 32) {

@@ -1,4 +1,5 @@
-//! A game whose four pieces walk away from the origin, so that each cell of the grid is used again and again.
+//! A game whose four pieces walk away from the origin, so that each cell of the grid is used again
+//! and again.
 
 use crate::FastGame;
 use crate::tests::{plays, takes_back};

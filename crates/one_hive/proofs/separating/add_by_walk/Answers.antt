@@ -5,8 +5,11 @@ use Rattle.hive_model.specs.Places.{dirs}
 use Rattle.hive_model.specs.Hive.{OneHiveOn, on_list, IsSeparating}
 use Rattle.one_hive.proofs.Around.{linked_more}
 use Rattle.one_hive.proofs.Visiting.{met_occupied, joined_from}
-use Rattle.one_hive.proofs.Starting.{hive_met, old_only, linked_first, start_met, start_stays, start_cuts}
+use Rattle.one_hive.proofs.Starting.{alone_linked, hive_met, old_only, linked_first, start_met, start_stays, start_cuts}
 use Rattle.one_hive.proofs.separating.add_by_walk.Goals as goal
+
+pub visit_beside-first-requires-clause-linked : goal.visit_beside-first-requires-clause-linked
+visit_beside-first-requires-clause-linked g c = alone_linked c.in-Some.start c.met_first-met.result.places.items c.met_first-met.ensures.places
 
 pub add_if-requires-clause-cut : goal.add_if-requires-clause-cut
 add_if-requires-clause-cut g c = λ cut.

@@ -1,4 +1,5 @@
-use Rattle.std.proofs.Common.{◌≡◌, ◌<◌, ◌+◌, ◌-◌, ◌*◌, length-append, inl, ◌∙◌, sym, ap, subst, arith, refl, length, take, Some, get_or, [], ◌∷◌}
+use Rattle.std.proofs.Common.{◌≡◌, ◌≢◌, ℕ, false, ◌<◌, ◌+◌, ◌-◌, ◌*◌, length-append, inl, ◌∙◌, sym, ap, subst, arith, refl, length, take, Some, get_or, [], ◌∷◌}
+use Rattle.std.specs.Prelude.{IsTrue}
 use Rattle.std.proofs.lemmas.List.{take_more}
 use Rattle.hive_model.specs.declared.places.Dir.TheVariants.{E}
 use Rattle.hive_model.specs.Places.{dirs}
@@ -6,7 +7,7 @@ use Rattle.hive_model.specs.Boards.{top_at}
 use Rattle.hive_model.specs.Lists.{IsOn}
 use Rattle.hive_model.specs.Hive.{OneHiveOn, on_list}
 use Rattle.hive_model.proofs.Floods.{append_left, append_right}
-use Rattle.one_hive.specs.Visits.{Visited, Found}
+use Rattle.one_hive.specs.Visits.{IsSet, Visited, Found}
 use Rattle.one_hive.proofs.Marking.{room, marked_more, on_by_mark, not_on}
 use Rattle.one_hive.proofs.Around.{linked_more}
 use Rattle.one_hive.proofs.Visiting.{joined_from, visited_start, visited_then}
@@ -112,7 +113,9 @@ visit_beside-returns-clause-visited g t c =
     let walked = subst (λ ps. Visited b place dirs ps new c.visit-next.result.near c.visit-next.result.cut) c.add.ensures.places c.visit-next.ensures.visited in
     visited_new b c.requires.board c.args.from c.args.top c.requires.top old tops c.requires.marked c.requires.here c.args.dir place piece c.step-place.ensures c.in-Some.ensures
     (not_on b c.requires.board old tops c.requires.marked place piece (sym c.in-Some.ensures) (c.is_marked.ensures ∙ ap (λ (v : _). Some v) c.if-is_marked.false))
-    new c.visit-next.result.near c.visit-next.result.cut walked c.visit-next.new.met.tops c.visit-next.ensures.marked c.behind.result.near c.behind.result.cut c.behind.ensures.near c.behind.ensures.cut c.behind.ensures.stays
+    new c.visit-next.result.near c.visit-next.result.cut walked c.visit-next.new.met.tops c.visit-next.ensures.marked c.behind.result.near c.behind.result.cut c.behind.ensures.near
+    (subst (λ ms. IsTrue c.behind.result.cut → (x : ℕ) → IsSet c.visit-next.result.near x → IsSet ms x → x ≡ c.args.top) c.again-seen.ensures c.behind.ensures.cut)
+    (subst (λ ms. c.behind.result.cut ≡ false → (x : ℕ) × IsSet c.visit-next.result.near x × IsSet ms x × (x ≢ c.args.top)) c.again-seen.ensures c.behind.ensures.stays)
 
 pub visit_beside-returns-clause-found : goal.visit_beside-returns-clause-found
 visit_beside-returns-clause-found g t c =
