@@ -2,4 +2,5 @@ pub mod RingLaws
 pub mod StoreLemmas
 pub mod ChangeLaws
 pub mod KeeperLemmas
+pub mod TakenLemmas
 pub mod BoardLaws

@@ -1,7 +1,8 @@
 use Rattle.std.proofs.Common.{◌≡◌, sym, ap, subst, arith, inl, inr, length}
 use Rattle.hive_model.specs.Places.{dirs}
 use Rattle.cut_keeper.specs.Examining.{Pending}
-use Rattle.cut_keeper.proofs.KeeperLemmas.{few_known, shrunk_known, pending_less, three_suspects}
+use Rattle.cut_keeper.proofs.KeeperLemmas.{few_known, three_suspects}
+use Rattle.cut_keeper.proofs.TakenLemmas.{shrunk_known, pending_less}
 use Rattle.hive_model.specs.Lists.{IsOn}
 use Rattle.cut_keeper.specs.Keeping.{changed}
 use Rattle.cut_keeper.proofs.ChangeLaws.{told_none, told_taken}

@@ -1,6 +1,7 @@
 use Rattle.std.proofs.Common.{◌≡◌, ◌≤◌, ◌+◌, sym, ap, subst, arith, inr, length}
 use Rattle.cut_keeper.specs.Examining.{Known}
-use Rattle.cut_keeper.proofs.KeeperLemmas.{few_known, shrunk_known, taken_small, taken_gone}
+use Rattle.cut_keeper.proofs.KeeperLemmas.{few_known}
+use Rattle.cut_keeper.proofs.TakenLemmas.{shrunk_known, taken_small, taken_gone}
 use Rattle.hive_model.specs.Lists.{IsOn}
 use Rattle.cut_keeper.specs.Keeping.{changed}
 use Rattle.cut_keeper.proofs.ChangeLaws.{told_none, told_taken}

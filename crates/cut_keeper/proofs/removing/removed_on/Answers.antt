@@ -2,7 +2,8 @@ use Rattle.std.proofs.Common.{ℕ, sym, ◌∙◌, ap, subst, Some}
 use Rattle.std.proofs.lemmas.Bool.{lt-ltb}
 use Rattle.cut_keeper.specs.Examining.{Right}
 use Rattle.cut_keeper.specs.Keeping.{with_status}
-use Rattle.cut_keeper.proofs.KeeperLemmas.{few_known, known_with, high_known, shrunk_some, shrunk_on, right_lower}
+use Rattle.cut_keeper.proofs.KeeperLemmas.{few_known, known_with}
+use Rattle.cut_keeper.proofs.TakenLemmas.{high_known, shrunk_some, shrunk_on, right_lower}
 use Rattle.hive_model.specs.Lists.{IsOn}
 use Rattle.cut_keeper.specs.Keeping.{changed}
 use Rattle.cut_keeper.proofs.ChangeLaws.{told_none}
