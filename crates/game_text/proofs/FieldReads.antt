@@ -1,5 +1,5 @@
 -- What the readers of fields answer is what the functions compute.
-use Rattle.std.proofs.Common.{◌≡◌, ℕ, List, ◌∷◌, refl, ◌∙◌, ap}
+use Rattle.std.proofs.Common.{◌≡◌, Bool, ℕ, List, ◌∷◌, refl, ◌∙◌, ap}
 use Rattle.std.specs.Prelude.{Option, Some, None, IfSome}
 use Rattle.hive_model.specs.declared.pieces.GameType.{GameType}
 use Rattle.hive_model.specs.declared.places.State.{State}
@@ -7,7 +7,7 @@ use Rattle.hive_model.specs.Fields.{type_bytes, state_bytes}
 use Rattle.hive_model.specs.Strings.{parts}
 use Rattle.move_text.specs.Readers.{type_at, state_at}
 use Rattle.move_text.proofs.FieldLaws.{type_found, type_only, state_found, state_only}
-use Rattle.game_text.specs.Reading.{at_state, after_type, at_type, game_at, game_of}
+use Rattle.game_text.specs.Reading.{at_state, after_type, at_type, game_at, game_under}
 
 pub type_read : (text : List ℕ) (o : Option GameType) → IfSome o (λ t. text ≡ type_bytes t) → ((t : GameType) → text ≡ type_bytes t → o ≡ Some t) → type_at text ≡ o
 type_read text (Some t) found only = type_only text t found
@@ -25,9 +25,9 @@ state_read text None found only = go (state_at text) refl
     go None e = e
     go (Some s) e = let wrong = only s (state_found text s e) in absurd (cc)
 
-pub second : (t : GameType) (ps : List (List ℕ)) (x : List ℕ) (rest : List (List ℕ)) (o : Option State) → ps ≡ x ∷ rest → state_at x ≡ o → after_type t ps ≡ at_state t o rest
-second t ps x rest o split e = ap (after_type t) split ∙ ap (λ r. at_state t r rest) e
+pub second : (r : Bool) (t : GameType) (ps : List (List ℕ)) (x : List ℕ) (rest : List (List ℕ)) (o : Option State) → ps ≡ x ∷ rest → state_at x ≡ o → after_type r t ps ≡ at_state r t o rest
+second r t ps x rest o split e = ap (after_type r t) split ∙ ap (λ z. at_state r t z rest) e
 
-pub first : (line : List ℕ) (x : List ℕ) (rest : List (List ℕ)) (o : Option GameType) → parts line ≡ x ∷ rest → type_at x ≡ o → game_of line ≡ at_type o rest
-unfolding game_of
-first line x rest o split e = ap game_at split ∙ ap (λ r. at_type r rest) e
+pub first : (r : Bool) (line : List ℕ) (x : List ℕ) (rest : List (List ℕ)) (o : Option GameType) → parts line ≡ x ∷ rest → type_at x ≡ o → game_under r line ≡ at_type r o rest
+unfolding game_under
+first r line x rest o split e = ap (game_at r) split ∙ ap (λ z. at_type r z rest) e

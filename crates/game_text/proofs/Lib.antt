@@ -3,6 +3,8 @@ pub mod TurnLaws
 pub mod GameLaws
 pub mod ReadLaws
 pub mod FieldReads
+pub mod OpenLaws
+pub mod SeenLaws
 pub mod OrderLaws
 pub mod LineLaws
 pub mod StopLaws

@@ -10,11 +10,11 @@ use Rattle.hive_model.specs.Pieces.{is_colour}
 use Rattle.hive_model.specs.Lists.{onto}
 use Rattle.hive_model.specs.Boards.{Stacks}
 use Rattle.hive_model.specs.Positions.{Position, opening}
-use Rattle.hive_model.specs.Legal.{state}
 use Rattle.hive_model.specs.Games.{after, replay}
 use Rattle.hive_model.specs.Denotes.{Denotes}
 use Rattle.hive_model.specs.Fields.{type_bytes, state_bytes}
-use Rattle.hive_model.specs.Strings.{parts, turn_bytes, DenoteMoves, IsGameLine}
+use Rattle.hive_model.specs.Repetition.{keys, outcome_under}
+use Rattle.hive_model.specs.Strings.{parts, turn_bytes, DenoteMoves, IsGameLine, IsGameLineUnder}
 use Rattle.move_text.specs.Readers.{type_at, state_at}
 use Rattle.move_text.proofs.FieldLaws.{type_found, type_only, state_found, state_only}
 use Rattle.hive_model.proofs.PieceLaws.{same_colour, from_same_colour}
@@ -25,11 +25,14 @@ use Rattle.game_text.specs.declared.faults.GameFault.TheVariants.{Malformed, Too
 use Rattle.game_text.specs.declared.parsed.Parsed.{Parsed}
 use Rattle.game_text.specs.declared.turns.Turn.{Turn}
 use Rattle.game_text.specs.Turns.{turn_at}
-use Rattle.game_text.specs.Reading.{moves_of, Fails, Agrees, first_empty, is_state, is_turn_of, confirmed, at_moves, at_turn, after_state, at_state, after_type, at_type, game_at, game_of}
+use Rattle.game_text.specs.Reading.{moves_from, Fails, Agrees, first_empty, is_state, is_turn_of, confirmed, at_moves, at_turn, after_state, at_state, after_type, at_type, game_at, game_under, game_of}
 use Rattle.game_text.specs.Refusals.{HasParts}
+use Rattle.game_text.specs.Laws.{OffIsPlain}
+use Rattle.hive_model.proofs.StandLaws.{all_stand}
 use Rattle.game_text.proofs.PartLaws.{parts-joined, type_part}
 use Rattle.game_text.proofs.TurnLaws.{turn_found, turn_again}
 use Rattle.game_text.proofs.FieldReads.{first}
+use Rattle.game_text.proofs.OpenLaws.{open_stands, stands_open}
 use Rattle.game_text.proofs.OrderLaws.{moves_found, moves_again, denoted_size}
 
 -- A line of one part
@@ -76,69 +79,72 @@ is_turn_itself u p e f = ap (λ c. is_colour c p.side && nat_eq u.number p.turn)
 
 -- What was read is the line's game
 
-confirmed_found : (line : List ℕ) (t : GameType) (s : State) (u : Turn) (rest : List (List ℕ)) (g : Parsed) → HasParts line t s u rest → length rest ≤ 5000
-    → (r : Result (List Move) GameFault) → moves_of (opening t) rest 1 ≡ r → confirmed t s u r ≡ Ok g → IsGameLine line g.game_type g.moves
-confirmed_found line t s u rest g head few (Err fault) e k = absurd (cc)
-confirmed_found line t s u rest g head few (Ok ms) e k = states (is_state s (state (replay (opening t) ms))) refl (is_turn_of u (replay (opening t) ms)) refl k
+confirmed_found : (r : Bool) (line : List ℕ) (t : GameType) (s : State) (u : Turn) (rest : List (List ℕ)) (g : Parsed) → HasParts line t s u rest → length rest ≤ 5000
+    → (read : Result (List Move) GameFault) → moves_from r t rest ≡ read → confirmed r t s u read ≡ Ok g → IsGameLineUnder r line g.game_type g.moves
+confirmed_found r line t s u rest g head few (Err fault) e k = absurd (cc)
+confirmed_found r line t s u rest g head few (Ok ms) e k = states (is_state s (outcome_under r t ms)) refl (is_turn_of u (replay (opening t) ms)) refl k
   where
-    states : (a : Bool) → is_state s (state (replay (opening t) ms)) ≡ a → (b : Bool) → is_turn_of u (replay (opening t) ms) ≡ b
-        → (if a then (if b then Ok (record { game_type = t; moves = ms }) else Err OtherTurn) else Err OtherState) ≡ Ok g → IsGameLine line g.game_type g.moves
+    states : (a : Bool) → is_state s (outcome_under r t ms) ≡ a → (b : Bool) → is_turn_of u (replay (opening t) ms) ≡ b
+        → (if a then (if b then Ok (record { game_type = t; moves = ms }) else Err OtherTurn) else Err OtherState) ≡ Ok g → IsGameLineUnder r line g.game_type g.moves
     states true e1 true f1 k1 =
         let same : ◌≡◌ {A = Parsed} (record { game_type = t; moves = ms }) g = cc in
         let start = openings t in
         let low : 0 + length rest ≤ 9000 = omega (arith, few) in
-        let r = moves_found (opening t) rest 1 0 ms start.0 start.1 low e in
-        let size = r.size in
-        let stated = same_state s (state (replay (opening t) ms)) e1 in
+        let found = moves_found r (keys t []) (opening t) rest 1 0 ms start.0 start.1 low e in
+        let size = found.size in
+        let stated = same_state s (outcome_under r t ms) e1 in
         let turned = same_turn u (replay (opening t) ms) f1 in
-        subst (λ z. IsGameLine line z.game_type z.moves) same (inr (record {
-          rest = rest;
-          parts_are = head.parts_are ∙ (λ i. type_bytes t ∷ (state_bytes (stated i) ∷ (turn_bytes (turned.0 i) (turned.1 i) ∷ rest)));
-          denote = r.denote;
-          legal = r.legal;
-          few = omega (arith, size, few);
-        }))
+        subst (λ z. IsGameLineUnder r line z.game_type z.moves) same (inr (
+          record {
+            rest = rest;
+            parts_are = head.parts_are ∙ (λ i. type_bytes t ∷ (state_bytes (stated i) ∷ (turn_bytes (turned.0 i) (turned.1 i) ∷ rest)));
+            denote = found.denote;
+            legal = found.legal;
+            few = omega (arith, size, few);
+          },
+          open_stands r t ms found.legal found.yet,
+        ))
     states true e1 false f1 k1 = absurd (cc)
     states false e1 b f1 k1 = absurd (cc)
 
-pub game_found : (line : List ℕ) (g : Parsed) → game_of line ≡ Ok g → IsGameLine line g.game_type g.moves
-unfolding game_of
-game_found line g h = go (parts line) refl h
+pub under_found : (r : Bool) (line : List ℕ) (g : Parsed) → game_under r line ≡ Ok g → IsGameLineUnder r line g.game_type g.moves
+unfolding game_under
+under_found r line g h = go (parts line) refl h
   where
     few : (t : GameType) (s : State) (u : Turn) (rest : List (List ℕ)) → HasParts line t s u rest → (b : Bool) → nat_lt 5000 (length rest) ≡ b
-        → (if b then Err TooLong else confirmed t s u (moves_of (opening t) rest 1)) ≡ Ok g → IsGameLine line g.game_type g.moves
+        → (if b then Err TooLong else confirmed r t s u (moves_from r t rest)) ≡ Ok g → IsGameLineUnder r line g.game_type g.moves
     few t s u rest head true e k = absurd (cc)
-    few t s u rest head false e k = let most = ltb-false 5000 (length rest) e in confirmed_found line t s u rest g head (omega (arith, most)) (moves_of (opening t) rest 1) refl k
+    few t s u rest head false e k = let most = ltb-false 5000 (length rest) e in confirmed_found r line t s u rest g head (omega (arith, most)) (moves_from r t rest) refl k
 
-    empty : (t : GameType) (s : State) (u : Turn) (rest : List (List ℕ)) → HasParts line t s u rest → (o : Option ℕ) → at_moves t s u rest o ≡ Ok g → IsGameLine line g.game_type g.moves
+    empty : (t : GameType) (s : State) (u : Turn) (rest : List (List ℕ)) → HasParts line t s u rest → (o : Option ℕ) → at_moves r t s u rest o ≡ Ok g → IsGameLineUnder r line g.game_type g.moves
     empty t s u rest head (Some k) e = absurd (cc)
     empty t s u rest head None e = few t s u rest head (nat_lt 5000 (length rest)) refl e
 
-    turn : (t : GameType) (s : State) (z : List ℕ) (rest : List (List ℕ)) → parts line ≡ type_bytes t ∷ (state_bytes s ∷ (z ∷ rest)) → (o : Option Turn) → turn_at z ≡ o → at_turn t s o rest ≡ Ok g → IsGameLine line g.game_type g.moves
+    turn : (t : GameType) (s : State) (z : List ℕ) (rest : List (List ℕ)) → parts line ≡ type_bytes t ∷ (state_bytes s ∷ (z ∷ rest)) → (o : Option Turn) → turn_at z ≡ o → at_turn r t s o rest ≡ Ok g → IsGameLineUnder r line g.game_type g.moves
     turn t s z rest split None e k = absurd (cc)
     turn t s z rest split (Some u) e k =
         let is = turn_found z u e in
         empty t s u rest (record { parts_are = split ∙ ap (λ (x : List ℕ). type_bytes t ∷ (state_bytes s ∷ (x ∷ rest))) is.text_is; low = is.low; high = is.high }) (first_empty rest 4) k
 
-    third : (t : GameType) (s : State) (rest : List (List ℕ)) → parts line ≡ type_bytes t ∷ (state_bytes s ∷ rest) → after_state t s rest ≡ Ok g → IsGameLine line g.game_type g.moves
+    third : (t : GameType) (s : State) (rest : List (List ℕ)) → parts line ≡ type_bytes t ∷ (state_bytes s ∷ rest) → after_state r t s rest ≡ Ok g → IsGameLineUnder r line g.game_type g.moves
     third t s [] split k = absurd (cc)
     third t s (z ∷ rest) split k = turn t s z rest split (turn_at z) refl k
 
-    stated : (t : GameType) (y : List ℕ) (rest : List (List ℕ)) → parts line ≡ type_bytes t ∷ (y ∷ rest) → (o : Option State) → state_at y ≡ o → at_state t o rest ≡ Ok g → IsGameLine line g.game_type g.moves
+    stated : (t : GameType) (y : List ℕ) (rest : List (List ℕ)) → parts line ≡ type_bytes t ∷ (y ∷ rest) → (o : Option State) → state_at y ≡ o → at_state r t o rest ≡ Ok g → IsGameLineUnder r line g.game_type g.moves
     stated t y rest split None e k = absurd (cc)
     stated t y rest split (Some s) e k = third t s rest (split ∙ ap (λ (x : List ℕ). type_bytes t ∷ (x ∷ rest)) (state_found y s e)) k
 
-    second : (t : GameType) (rest : List (List ℕ)) → parts line ≡ type_bytes t ∷ rest → after_type t rest ≡ Ok g → IsGameLine line g.game_type g.moves
+    second : (t : GameType) (rest : List (List ℕ)) → parts line ≡ type_bytes t ∷ rest → after_type r t rest ≡ Ok g → IsGameLineUnder r line g.game_type g.moves
     second t [] split k =
         let same : ◌≡◌ {A = Parsed} (record { game_type = t; moves = [] }) g = cc in
-        subst (λ z. IsGameLine line z.game_type z.moves) same (inl (whole line (type_bytes t) split, refl))
+        subst (λ z. IsGameLineUnder r line z.game_type z.moves) same (inl (whole line (type_bytes t) split, refl))
     second t (y ∷ rest) split k = stated t y rest split (state_at y) refl k
 
-    typed : (x : List ℕ) (rest : List (List ℕ)) → parts line ≡ x ∷ rest → (o : Option GameType) → type_at x ≡ o → at_type o rest ≡ Ok g → IsGameLine line g.game_type g.moves
+    typed : (x : List ℕ) (rest : List (List ℕ)) → parts line ≡ x ∷ rest → (o : Option GameType) → type_at x ≡ o → at_type r o rest ≡ Ok g → IsGameLineUnder r line g.game_type g.moves
     typed x rest split None e k = absurd (cc)
     typed x rest split (Some t) e k = second t rest (split ∙ ap (λ (z : List ℕ). z ∷ rest) (type_found x t e)) k
 
-    go : (ps : List (List ℕ)) → parts line ≡ ps → game_at ps ≡ Ok g → IsGameLine line g.game_type g.moves
+    go : (ps : List (List ℕ)) → parts line ≡ ps → game_at r ps ≡ Ok g → IsGameLineUnder r line g.game_type g.moves
     go [] split k = absurd (cc)
     go (x ∷ rest) split k = typed x rest split (type_at x) refl k
 
@@ -155,46 +161,65 @@ none_empty p (x ∷ xs) [] k d = absurd d
 none_empty p ([] ∷ xs) (m ∷ ms) k d = absurd (denotes_some p.game_type p.board m d.0)
 none_empty p ((b ∷ bs) ∷ xs) (m ∷ ms) k d = none_empty (after p m) xs ms (k + 1) d.1
 
-pub head_read : (line : List ℕ) (t : GameType) (s : State) (u : Turn) (rest : List (List ℕ)) → HasParts line t s u rest → game_of line ≡ at_moves t s u rest (first_empty rest 4)
-head_read line t s u rest h =
-    first line (type_bytes t) (state_bytes s ∷ (turn_bytes u.side u.number ∷ rest)) (Some t) h.parts_are (type_only (type_bytes t) t refl)
-    ∙ ap (λ o. at_state t o (turn_bytes u.side u.number ∷ rest)) (state_only (state_bytes s) s refl)
-    ∙ ap (λ o. at_turn t s o rest) (turn_again u.side u.number h.low h.high)
+pub head_read : (r : Bool) (line : List ℕ) (t : GameType) (s : State) (u : Turn) (rest : List (List ℕ)) → HasParts line t s u rest → game_under r line ≡ at_moves r t s u rest (first_empty rest 4)
+head_read r line t s u rest h =
+    first r line (type_bytes t) (state_bytes s ∷ (turn_bytes u.side u.number ∷ rest)) (Some t) h.parts_are (type_only (type_bytes t) t refl)
+    ∙ ap (λ o. at_state r t o (turn_bytes u.side u.number ∷ rest)) (state_only (state_bytes s) s refl)
+    ∙ ap (λ o. at_turn r t s o rest) (turn_again u.side u.number h.low h.high)
 
-pub few_read : (t : GameType) (s : State) (u : Turn) (rest : List (List ℕ)) → first_empty rest 4 ≡ None → length rest ≤ 5000 → at_moves t s u rest (first_empty rest 4) ≡ confirmed t s u (moves_of (opening t) rest 1)
-few_read t s u rest none few =
-    ap (at_moves t s u rest) none ∙ ap (λ (b : Bool). if b then Err TooLong else confirmed t s u (moves_of (opening t) rest 1)) (le-ltb 5000 (length rest) few)
+pub few_read : (r : Bool) (t : GameType) (s : State) (u : Turn) (rest : List (List ℕ)) → first_empty rest 4 ≡ None → length rest ≤ 5000 → at_moves r t s u rest (first_empty rest 4) ≡ confirmed r t s u (moves_from r t rest)
+few_read r t s u rest none few =
+    ap (at_moves r t s u rest) none ∙ ap (λ (b : Bool). if b then Err TooLong else confirmed r t s u (moves_from r t rest)) (le-ltb 5000 (length rest) few)
 
-pub game_again : (line : List ℕ) (t : GameType) (ms : List Move) → IsGameLine line t ms → game_of line ≡ Ok (record { game_type = t; moves = ms })
-game_again line t ms (inl h) =
-    first line (type_bytes t) [] (Some t) (ap parts h.0 ∙ parts-joined (type_bytes t) [] (type_part t) tt) (type_only (type_bytes t) t refl)
+pub under_again : (r : Bool) (line : List ℕ) (t : GameType) (ms : List Move) → IsGameLineUnder r line t ms → game_under r line ≡ Ok (record { game_type = t; moves = ms })
+under_again r line t ms (inl h) =
+    first r line (type_bytes t) [] (Some t) (ap parts h.0 ∙ parts-joined (type_bytes t) [] (type_part t) tt) (type_only (type_bytes t) t refl)
     ∙ ap (λ (ns : List Move). Ok (record { game_type = t; moves = ns })) (sym h.1)
-game_again line t ms (inr f) =
+under_again r line t ms (inr (f, stands)) =
     let turn = (games_count t ms).turn in
     let few = f.few in
     let size = denoted_size (opening t) f.rest ms f.denote in
     let short : length f.rest ≤ 5000 = omega (arith, size, few) in
     let low : 1 ≤ (replay (opening t) ms).turn = omega (arith, turn) in
     let high : (replay (opening t) ms).turn ≤ 999999999 = omega (arith, turn, few) in
-    head_read line t (state (replay (opening t) ms)) (record { side = (replay (opening t) ms).side; number = (replay (opening t) ms).turn }) f.rest (record { parts_are = f.parts_are; low = low; high = high })
-    ∙ few_read t (state (replay (opening t) ms)) (record { side = (replay (opening t) ms).side; number = (replay (opening t) ms).turn }) f.rest (none_empty (opening t) f.rest ms 4 f.denote) short
-    ∙ ap (confirmed t (state (replay (opening t) ms)) (record { side = (replay (opening t) ms).side; number = (replay (opening t) ms).turn })) (moves_again (opening t) f.rest 1 ms f.denote f.legal)
-    ∙ ap (λ (b : Bool). if b then (if is_turn_of (record { side = (replay (opening t) ms).side; number = (replay (opening t) ms).turn }) (replay (opening t) ms) then Ok (record { game_type = t; moves = ms }) else Err OtherTurn) else Err OtherState) (is_state_itself (state (replay (opening t) ms)))
+    head_read r line t (outcome_under r t ms) (record { side = (replay (opening t) ms).side; number = (replay (opening t) ms).turn }) f.rest (record { parts_are = f.parts_are; low = low; high = high })
+    ∙ few_read r t (outcome_under r t ms) (record { side = (replay (opening t) ms).side; number = (replay (opening t) ms).turn }) f.rest (none_empty (opening t) f.rest ms 4 f.denote) short
+    ∙ ap (confirmed r t (outcome_under r t ms) (record { side = (replay (opening t) ms).side; number = (replay (opening t) ms).turn })) (moves_again r (keys t []) (opening t) f.rest 1 ms f.denote f.legal (stands_open r t ms stands))
+    ∙ ap (λ (b : Bool). if b then (if is_turn_of (record { side = (replay (opening t) ms).side; number = (replay (opening t) ms).turn }) (replay (opening t) ms) then Ok (record { game_type = t; moves = ms }) else Err OtherTurn) else Err OtherState) (is_state_itself (outcome_under r t ms))
     ∙ ap (λ (b : Bool). if b then Ok (record { game_type = t; moves = ms }) else Err OtherTurn) (is_turn_itself (record { side = (replay (opening t) ms).side; number = (replay (opening t) ms).turn }) (replay (opening t) ms) refl refl)
+
+-- Where the rule is switched off
+
+pub off_plain : OffIsPlain
+off_plain line t ms = (to, from)
+  where
+    to : IsGameLineUnder false line t ms → IsGameLine line t ms
+    to (inl h) = inl h
+    to (inr h) = inr h.0
+
+    from : IsGameLine line t ms → IsGameLineUnder false line t ms
+    from (inl h) = inl h
+    from (inr f) = inr (f, all_stand t ms f.legal)
+
+pub game_found : (line : List ℕ) (g : Parsed) → game_of line ≡ Ok g → IsGameLine line g.game_type g.moves
+game_found line g h = (off_plain line g.game_type g.moves).0 (under_found false line g h)
+
+pub game_again : (line : List ℕ) (t : GameType) (ms : List Move) → IsGameLine line t ms → game_of line ≡ Ok (record { game_type = t; moves = ms })
+game_again line t ms h = under_again false line t ms ((off_plain line t ms).1 h)
 
 -- For the call
 
-pub agrees_line : (line : List ℕ) (r : Result Parsed GameFault) → Agrees r (game_of line) → IfOk r (λ g. IsGameLine line g.game_type g.moves)
-agrees_line line (Ok g) h = game_found line g h
-agrees_line line (Err fault) h = tt
+pub agrees_line : (r : Bool) (line : List ℕ) (z : Result Parsed GameFault) → Agrees z (game_under r line) → IfOk z (λ g. IsGameLineUnder r line g.game_type g.moves)
+agrees_line r line (Ok g) h = under_found r line g h
+agrees_line r line (Err fault) h = tt
 
-pub agrees_ok : (line : List ℕ) (r : Result Parsed GameFault) → Agrees r (game_of line) → IfOk r (λ g. game_of line ≡ Ok g)
-agrees_ok line (Ok g) h = h
-agrees_ok line (Err fault) h = tt
+pub agrees_ok : (r : Bool) (line : List ℕ) (z : Result Parsed GameFault) → Agrees z (game_under r line) → IfOk z (λ g. game_under r line ≡ Ok g)
+agrees_ok r line (Ok g) h = h
+agrees_ok r line (Err fault) h = tt
 
-pub agrees_err : (line : List ℕ) (r : Result Parsed GameFault) → Agrees r (game_of line) → IfErr r (λ fault. Fails fault (game_of line))
-agrees_err line (Ok g) h = tt
-agrees_err line (Err fault) h = h
+pub agrees_err : (r : Bool) (line : List ℕ) (z : Result Parsed GameFault) → Agrees z (game_under r line) → IfErr z (λ fault. Fails fault (game_under r line))
+agrees_err r line (Ok g) h = tt
+agrees_err r line (Err fault) h = h
 
 fails_not : (fault : GameFault) (g : Parsed) (read : Result Parsed GameFault) → Fails fault read → read ≡ Ok g → fault ≡ Memory
 fails_not Memory g read h e = refl
@@ -205,6 +230,10 @@ fails_not (IllegalMove n) g read h e = let wrong = sym h ∙ e in absurd (cc)
 fails_not OtherState g read h e = let wrong = sym h ∙ e in absurd (cc)
 fails_not OtherTurn g read h e = let wrong = sym h ∙ e in absurd (cc)
 
-pub agrees_only : (line : List ℕ) (r : Result Parsed GameFault) → Agrees r (game_of line) → (t : GameType) (ms : List Move) → IsGameLine line t ms → IfErr r (λ fault. fault ≡ Memory)
-agrees_only line (Ok g) h t ms is = tt
-agrees_only line (Err fault) h t ms is = fails_not fault (record { game_type = t; moves = ms }) (game_of line) h (game_again line t ms is)
+pub agrees_only : (r : Bool) (line : List ℕ) (z : Result Parsed GameFault) → Agrees z (game_under r line) → (t : GameType) (ms : List Move) → IsGameLineUnder r line t ms → IfErr z (λ fault. fault ≡ Memory)
+agrees_only r line (Ok g) h t ms is = tt
+agrees_only r line (Err fault) h t ms is = fails_not fault (record { game_type = t; moves = ms }) (game_under r line) h (under_again r line t ms is)
+
+pub plain_line : (line : List ℕ) (z : Result Parsed GameFault) → IfOk z (λ g. IsGameLineUnder false line g.game_type g.moves) → IfOk z (λ g. IsGameLine line g.game_type g.moves)
+plain_line line (Ok g) h = (off_plain line g.game_type g.moves).0 h
+plain_line line (Err fault) h = tt

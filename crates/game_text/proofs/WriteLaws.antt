@@ -12,7 +12,7 @@ use Rattle.hive_model.specs.Strings.{joined_on, texts}
 use Rattle.move_text.specs.Moves.{IsMoveWithin}
 use Rattle.move_text.proofs.LegalSpell.{listed_within}
 use Rattle.rule_laws.proofs.Games.{games_sound}
-use Rattle.game_text.proofs.ReadLaws.{replay_more}
+use Rattle.game_text.proofs.OpenLaws.{replay_more}
 
 -- Parts behind others
 

@@ -1,4 +1,5 @@
 pub mod Laws
 pub mod Turns
 pub mod Reading
+pub mod Seen
 pub mod Refusals

@@ -1,13 +1,14 @@
 -- When a line is no game: each fault in the rule's own words, exactly where no earlier one stands.
-use Rattle.std.specs.Prelude.{◌≡◌, ◌≢◌, ℕ, ◌+◌, ◌≤◌, ◌<◌, List, [], ◌∷◌, ◌++◌, length, ◌⊎◌}
+use Rattle.std.specs.Prelude.{◌≡◌, ◌≢◌, Bool, false, IsTrue, ℕ, ◌+◌, ◌≤◌, ◌<◌, List, [], ◌∷◌, ◌++◌, length, ◌⊎◌}
 use Rattle.hive_model.specs.declared.pieces.GameType.{GameType}
 use Rattle.hive_model.specs.declared.places.State.{State}
 use Rattle.hive_model.specs.declared.places.Move.{Move}
 use Rattle.hive_model.specs.Lists.{IsOn}
 use Rattle.hive_model.specs.Positions.{opening}
-use Rattle.hive_model.specs.Legal.{state, moves}
+use Rattle.hive_model.specs.Legal.{is_over_state, moves}
 use Rattle.hive_model.specs.Games.{replay, IsGame}
 use Rattle.hive_model.specs.Denotes.{Denotes}
+use Rattle.hive_model.specs.Repetition.{outcome_under, StandsUnder}
 use Rattle.hive_model.specs.Fields.{type_bytes, state_bytes}
 use Rattle.hive_model.specs.Strings.{parts, turn_bytes, DenoteMoves}
 use Rattle.move_text.specs.declared.faults.MoveFault.{MoveFault}
@@ -79,8 +80,9 @@ pub record IsTooLong (line : List ℕ) : Type 0 where
   pub form : HasForm line game_type declared turn texts
   pub long : 5000 < length texts
 
--- the line has its form and at most 5,000 moves, of which those before this one are a game, and this is the text of the next
-pub record IsReadUpTo (line : List ℕ) (number : ℕ) (t : GameType) (ms : List Move) (text : List ℕ) : Type 0 where
+-- the line has its form and at most 5,000 moves, of which those before this one are a game, none of them after its end, and this
+-- is the text of the next
+pub record IsReadUpTo (r : Bool) (line : List ℕ) (number : ℕ) (t : GameType) (ms : List Move) (text : List ℕ) : Type 0 where
   pub declared : State
   pub turn : Turn
   pub front : List (List ℕ)
@@ -90,58 +92,64 @@ pub record IsReadUpTo (line : List ℕ) (number : ℕ) (t : GameType) (ms : List
   pub counted : number ≡ 1 + length front
   pub denote : DenoteMoves (opening t) front ms
   pub legal : IsGame t ms
+  pub stands : StandsUnder r t ms
 
 -- the first move that is refused is none on its board
-pub record IsBadMove (line : List ℕ) (number : ℕ) (fault : MoveFault) : Type 0 where
+pub record IsBadMove (r : Bool) (line : List ℕ) (number : ℕ) (fault : MoveFault) : Type 0 where
   pub game_type : GameType
   pub made : List Move
   pub text : List ℕ
-  pub read : IsReadUpTo line number game_type made text
+  pub read : IsReadUpTo r line number game_type made text
   pub refuses : Refuses (replay (opening game_type) made).game_type (replay (opening game_type) made).board text fault
 
--- the first move that is refused is not legal
-pub record IsIllegalMove (line : List ℕ) (number : ℕ) : Type 0 where
+-- the first move that is refused is not legal, or follows the end of the game
+pub record IsIllegalMove (r : Bool) (line : List ℕ) (number : ℕ) : Type 0 where
   pub game_type : GameType
   pub made : List Move
   pub text : List ℕ
   pub move : Move
-  pub read : IsReadUpTo line number game_type made text
+  pub read : IsReadUpTo r line number game_type made text
   pub denotes : Denotes (replay (opening game_type) made).game_type (replay (opening game_type) made).board text move
-  pub illegal : ¬ IsOn (moves (replay (opening game_type) made)) move
+  pub illegal : (¬ IsOn (moves (replay (opening game_type) made)) move) ⊎ IsTrue (is_over_state (outcome_under r game_type made))
 
--- the line has its form and at most 5,000 moves, which are a game
-pub record IsReadWhole (line : List ℕ) (t : GameType) (s : State) (u : Turn) (ms : List Move) : Type 0 where
+-- the line has its form and at most 5,000 moves, which are a game, none of them after its end
+pub record IsReadWhole (r : Bool) (line : List ℕ) (t : GameType) (s : State) (u : Turn) (ms : List Move) : Type 0 where
   pub texts : List (List ℕ)
   pub form : HasForm line t s u texts
   pub few : length texts ≤ 5000
   pub denote : DenoteMoves (opening t) texts ms
   pub legal : IsGame t ms
+  pub stands : StandsUnder r t ms
 
--- the declared state is not that of the game
-pub record IsOtherState (line : List ℕ) : Type 0 where
+-- the declared state is not the outcome of the game
+pub record IsOtherState (r : Bool) (line : List ℕ) : Type 0 where
   pub game_type : GameType
   pub declared : State
   pub turn : Turn
   pub made : List Move
-  pub read : IsReadWhole line game_type declared turn made
-  pub other : declared ≢ state (replay (opening game_type) made)
+  pub read : IsReadWhole r line game_type declared turn made
+  pub other : declared ≢ outcome_under r game_type made
 
--- the declared state is that of the game, and the declared turn is not
-pub record IsOtherTurn (line : List ℕ) : Type 0 where
+-- the declared state is the outcome of the game, and the declared turn is not that of the game
+pub record IsOtherTurn (r : Bool) (line : List ℕ) : Type 0 where
   pub game_type : GameType
   pub declared : State
   pub turn : Turn
   pub made : List Move
-  pub read : IsReadWhole line game_type declared turn made
-  pub same : declared ≡ state (replay (opening game_type) made)
+  pub read : IsReadWhole r line game_type declared turn made
+  pub same : declared ≡ outcome_under r game_type made
   pub other : ¬ ((turn.side ≡ (replay (opening game_type) made).side) × (turn.number ≡ (replay (opening game_type) made).turn))
 
--- the line is refused with this fault; want of memory is none of the line
+-- The line is refused with this fault, where the rule of third repetition is switched on or off. Want of memory is none of the line.
+abbrev pub IsRefusedUnder : Bool → List ℕ → GameFault → Type 0
+IsRefusedUnder r line (Malformed k) = IsMalformed line k
+IsRefusedUnder r line TooLong = IsTooLong line
+IsRefusedUnder r line (BadMove n fault) = IsBadMove r line n fault
+IsRefusedUnder r line (IllegalMove n) = IsIllegalMove r line n
+IsRefusedUnder r line OtherState = IsOtherState r line
+IsRefusedUnder r line OtherTurn = IsOtherTurn r line
+IsRefusedUnder r line Memory = ⊥
+
+-- the same where it is switched off
 abbrev pub IsRefused : List ℕ → GameFault → Type 0
-IsRefused line (Malformed k) = IsMalformed line k
-IsRefused line TooLong = IsTooLong line
-IsRefused line (BadMove n fault) = IsBadMove line n fault
-IsRefused line (IllegalMove n) = IsIllegalMove line n
-IsRefused line OtherState = IsOtherState line
-IsRefused line OtherTurn = IsOtherTurn line
-IsRefused line Memory = ⊥
+IsRefused = IsRefusedUnder false

@@ -6,8 +6,9 @@ use thiserror::Error;
 /// Why a line is not read as a game. Each but `Memory` stands exactly where no earlier one does.
 #[derive(Clone, Copy, Debug, PartialEq, Eq, Error)]
 pub enum GameFault {
-    /// The first part that is absent or not of its form. Parts stand between the semicolons and are counted from 1: the type, the
-    /// state, the turn, and then the moves, of which none may be empty.
+    /// The first part that is absent or not of its form. Parts stand between the semicolons and are
+    /// counted from 1: the type, the state, the turn, and then the moves, of which none may be
+    /// empty.
     #[error("part {part} is absent or not of its form")]
     Malformed { part: u32 },
     /// There are more than 5,000 moves.

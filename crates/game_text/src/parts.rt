@@ -6,7 +6,8 @@ ghost use Rattle.game_text.specs.Reading.{first_empty};
 
 /// The first part, and what stands behind its semicolon, if it has one.
 pub fn cut(text: &[u8]) -> (&[u8], Option<&[u8]>)
-    ensures parts { MatchOption result.1 (parts text.now ≡ result.0.now ∷ []) (λ r. parts text.now ≡ result.0.now ∷ parts r.now) }
+    ensures parts { MatchOption result.1 (parts text.now ≡ result.0.now ∷ [])
+        (λ r. parts text.now ≡ result.0.now ∷ parts r.now) }
     ensures part { length result.0.now ≤ length text.now }
     ensures less { IfSome result.1 (λ r. length r.now < length text.now) }
 {
@@ -20,7 +21,8 @@ pub fn cut(text: &[u8]) -> (&[u8], Option<&[u8]>)
     (text, None)
 }
 
-/// The number of the first part that is empty, where the first part of the text is part 4 of the line.
+/// The number of the first part that is empty, where the first part of the text is part 4 of the
+/// line.
 pub fn empty_part(text: &[u8]) -> Option<u32>
     requires { length text.now ≤ 65536 }
     ensures { result ≡ first_empty (parts text.now) 4 }

@@ -5,7 +5,8 @@ ghost use Rattle.hive_model.specs.Games.{IsGame};
 use hive_model::{Game, GameType, Move};
 use std::alloc::{AllocError, Global};
 
-/// The game of this type in which these moves were played, with room for so many more plies: a game has room for 5,064 in all.
+/// The game of this type in which these moves were played, with room for so many more plies: a game
+/// has room for 5,064 in all.
 pub fn played<G: Game + Drop>(
     alloc: Global,
     game_type: GameType,

@@ -5,30 +5,42 @@ ghost use Rattle.hive_model.specs.Boards.{IsBoard};
 ghost use Rattle.hive_model.specs.Positions.{opening};
 ghost use Rattle.hive_model.specs.Courses.{position};
 ghost use Rattle.hive_model.specs.Games.{IsGame};
-ghost use Rattle.hive_model.specs.Strings.{parts, IsGameLine};
+ghost use Rattle.hive_model.specs.Repetition.{keys};
+ghost use Rattle.game_text.specs.Seen.{Sees};
+ghost use Rattle.hive_model.specs.Strings.{parts, IsGameLine, IsGameLineUnder};
 ghost use Rattle.hive_model.specs.declared.pieces.GameType.{GameType as AnyType};
 ghost use Rattle.hive_model.specs.declared.places.Move.{Move as AnyMove};
-ghost use Rattle.game_text.specs.Refusals.{IsRefused};
-ghost use Rattle.game_text.specs.Reading.{moves_of, confirmed, at_moves, after_state, after_type, game_of, Fails, Agrees, Plays, IsMoveFault, first_empty};
+ghost use Rattle.game_text.specs.Refusals.{IsRefused, IsRefusedUnder};
+ghost use Rattle.game_text.specs.Reading.{moves_from, confirmed, at_moves, after_state, after_type, game_of, game_under, Fails, Agrees, Plays, IsMoveFault, first_empty};
 
 use crate::faults::GameFault;
 use crate::parsed::Parsed;
 use crate::parts::{count_parts, cut, empty_part};
+use crate::seen::Seen;
 use crate::turns::{Turn, read_turn};
 use hive_model::{Game, GameType, Move, MoveList, State};
 use move_text::{read_move, read_state, read_type};
 use std::alloc::Global;
 
-/// The legal move that the part denotes.
-fn one_move<G: Game>(game: &mut G, number: u32, part: &[u8]) -> Result<Move, GameFault>
+/// The move that the part denotes, if it follows: it is legal, and the game is not drawn by
+/// repetition.
+fn one_move<G: Game>(game: &mut G, seen: &Seen, number: u32, part: &[u8]) -> Result<Move, GameFault>
     requires length { length part.now ≤ 65536 }
     requires sound { IsBoard (position (G.course game.old)).board }
-    ensures ok { IfOk result (λ m. Plays (position (G.course game.old)) part.now m) }
-    ensures err { IfErr result (λ fault. IsMoveFault (position (G.course game.old)) part.now number fault) }
+    requires seen { Sees seen.now (G.course game.old) }
+    ensures ok { IfOk result (λ m. Plays seen.now.repetition
+        (keys (G.course game.old).game_type (G.course game.old).made) (position (G.course game.old))
+        part.now m) }
+    ensures err { IfErr result (λ fault. IsMoveFault seen.now.repetition
+        (keys (G.course game.old).game_type (G.course game.old).made) (position (G.course game.old))
+        part.now number fault) }
     ensures same { G.course game.new ≡ G.course game.old }
 {
     match read_move(game.game_type(), game, part) {
         Ok(m) => {
+            if seen.is_third() {
+                return Err(GameFault::IllegalMove { number });
+            }
             if game.is_legal(m.again()) {
                 Ok(m)
             } else {
@@ -40,26 +52,38 @@ fn one_move<G: Game>(game: &mut G, number: u32, part: &[u8]) -> Result<Move, Gam
 }
 
 /// Plays the moves that the parts of the text denote, each on the board before it, and lists them.
-fn play_moves<G: Game>(alloc: Global, game: &mut G, text: &[u8]) -> Result<MoveList, GameFault>
+fn play_moves<G: Game>(
+    alloc: Global,
+    game: &mut G,
+    seen: &mut Seen,
+    text: &[u8],
+) -> Result<MoveList, GameFault>
     requires length { length text.now ≤ 65536 }
     requires fresh { (G.course game.old).made ≡ [] }
     requires few { length (parts text.now) ≤ 5000 }
     requires room { length (parts text.now) ≤ (G.course game.old).spare }
-    ensures moves { Agrees result (moves_of (opening (G.course game.old).game_type) (parts text.now) 1) }
+    requires seen { Sees seen.old (G.course game.old) }
+    ensures moves { Agrees result (moves_from seen.old.repetition (G.course game.old).game_type
+        (parts text.now)) }
     ensures made { IfOk result (λ ms. ms ≡ (G.course game.new).made) }
     ensures kind { (G.course game.new).game_type ≡ (G.course game.old).game_type }
+    ensures seen { IfOk result (λ _. Sees seen.new (G.course game.new)) }
+    ensures rule { seen.new.repetition ≡ seen.old.repetition }
 {
     let mut moves = MoveList::new(alloc);
     let mut rest = text;
     let mut number: u32 = 1;
     'parts: loop {
         let (part, more) = cut(rest);
-        let m = match one_move(game, number, part) {
+        let m = match one_move(game, seen, number, part) {
             Ok(m) => m,
             Err(fault) => return Err(fault),
         };
         game.play(m.again());
         if moves.push(m).is_err() {
+            return Err(GameFault::Memory);
+        }
+        if seen.note(game).is_err() {
             return Err(GameFault::Memory);
         }
         match more {
@@ -78,13 +102,20 @@ pub struct Declared {
     pub turn: Turn,
 }
 
-/// The game, if its state and turn are the declared ones.
-fn confirm<G: Game>(game: &G, declared: Declared, moves: MoveList) -> Result<Parsed, GameFault>
+/// The game, if its outcome and turn are the declared ones.
+fn confirm<G: Game>(
+    game: &G,
+    seen: &Seen,
+    declared: Declared,
+    moves: MoveList,
+) -> Result<Parsed, GameFault>
     requires kind { (G.course game.now).game_type ≡ declared.game_type }
     requires made { (G.course game.now).made ≡ moves }
-    ensures { result ≡ confirmed declared.game_type declared.state declared.turn (Ok moves) }
+    requires seen { Sees seen.now (G.course game.now) }
+    ensures { result ≡ confirmed seen.now.repetition declared.game_type declared.state declared.turn
+        (Ok moves) }
 {
-    if game.state() != declared.state {
+    if seen.outcome(game) != declared.state {
         return Err(GameFault::OtherState);
     }
     if game.side() != declared.turn.side {
@@ -100,13 +131,21 @@ fn confirm<G: Game>(game: &G, declared: Declared, moves: MoveList) -> Result<Par
 }
 
 /// A line without moves.
-fn confirm_opening<G: Game + Drop>(alloc: Global, declared: Declared) -> Result<Parsed, GameFault>
-    ensures { Agrees result (at_moves declared.game_type declared.state declared.turn [] None) }
+fn confirm_opening<G: Game + Drop>(
+    alloc: Global,
+    repetition: bool,
+    declared: Declared,
+) -> Result<Parsed, GameFault>
+    ensures { Agrees result (at_moves repetition declared.game_type declared.state declared.turn []
+        None) }
 {
-    match G::opening(alloc, declared.game_type) {
-        Ok(game) => confirm(&game, declared, MoveList::new(alloc)),
-        Err(_) => Err(GameFault::Memory),
-    }
+    let Ok(game) = G::opening(alloc, declared.game_type) else {
+        return Err(GameFault::Memory);
+    };
+    let Ok(seen) = Seen::of(alloc, repetition, &game) else {
+        return Err(GameFault::Memory);
+    };
+    confirm(&game, &seen, declared, MoveList::new(alloc))
 }
 
 /// The game with room for so many plies, in which none was played.
@@ -133,11 +172,13 @@ fn opening_for<G: Game + Drop>(
 /// A line whose parts from the fourth on are those of the text.
 fn read_moves<G: Game + Drop>(
     alloc: Global,
+    repetition: bool,
     declared: Declared,
     text: &[u8],
 ) -> Result<Parsed, GameFault>
     requires { length text.now ≤ 65536 }
-    ensures { Agrees result (at_moves declared.game_type declared.state declared.turn (parts text.now) (first_empty (parts text.now) 4)) }
+    ensures { Agrees result (at_moves repetition declared.game_type declared.state declared.turn
+        (parts text.now) (first_empty (parts text.now) 4)) }
 {
     if let Some(part) = empty_part(text) {
         return Err(GameFault::Malformed { part });
@@ -150,8 +191,11 @@ fn read_moves<G: Game + Drop>(
         Ok(game) => game,
         Err(fault) => return Err(fault),
     };
-    match play_moves(alloc, &mut game, text) {
-        Ok(moves) => confirm(&game, declared, moves),
+    let Ok(mut seen) = Seen::of(alloc, repetition, &game) else {
+        return Err(GameFault::Memory);
+    };
+    match play_moves(alloc, &mut game, &mut seen, text) {
+        Ok(moves) => confirm(&game, &seen, declared, moves),
         Err(fault) => Err(fault),
     }
 }
@@ -159,12 +203,13 @@ fn read_moves<G: Game + Drop>(
 /// A line whose parts from the third on are those of the text.
 fn read_turn_on<G: Game + Drop>(
     alloc: Global,
+    repetition: bool,
     game_type: GameType,
     state: State,
     text: &[u8],
 ) -> Result<Parsed, GameFault>
     requires { length text.now ≤ 65536 }
-    ensures { Agrees result (after_state game_type state (parts text.now)) }
+    ensures { Agrees result (after_state repetition game_type state (parts text.now)) }
 {
     let (part, more) = cut(text);
     let Some(turn) = read_turn(part) else {
@@ -176,19 +221,20 @@ fn read_turn_on<G: Game + Drop>(
         turn,
     };
     match more {
-        None => confirm_opening::<G>(alloc, declared),
-        Some(rest) => read_moves::<G>(alloc, declared, rest),
+        None => confirm_opening::<G>(alloc, repetition, declared),
+        Some(rest) => read_moves::<G>(alloc, repetition, declared, rest),
     }
 }
 
 /// A line whose parts from the second on are those of the text.
 fn read_state_on<G: Game + Drop>(
     alloc: Global,
+    repetition: bool,
     game_type: GameType,
     text: &[u8],
 ) -> Result<Parsed, GameFault>
     requires { length text.now ≤ 65536 }
-    ensures { Agrees result (after_type game_type (parts text.now)) }
+    ensures { Agrees result (after_type repetition game_type (parts text.now)) }
 {
     let (part, more) = cut(text);
     let Some(state) = read_state(part) else {
@@ -196,7 +242,7 @@ fn read_state_on<G: Game + Drop>(
     };
     match more {
         None => Err(GameFault::Malformed { part: 3 }),
-        Some(rest) => read_turn_on::<G>(alloc, game_type, state, rest),
+        Some(rest) => read_turn_on::<G>(alloc, repetition, game_type, state, rest),
     }
 }
 
@@ -211,9 +257,13 @@ fn opening_of(alloc: Global, game_type: GameType) -> Parsed
 }
 
 /// The game of the line, or its first fault.
-fn game_of<G: Game + Drop>(alloc: Global, text: &[u8]) -> Result<Parsed, GameFault>
+fn game_of<G: Game + Drop>(
+    alloc: Global,
+    repetition: bool,
+    text: &[u8],
+) -> Result<Parsed, GameFault>
     requires { length text.now ≤ 65536 }
-    ensures { Agrees result (game_of text.now) }
+    ensures { Agrees result (game_under repetition text.now) }
 {
     let (part, more) = cut(text);
     let Some(game_type) = read_type(part) else {
@@ -221,25 +271,53 @@ fn game_of<G: Game + Drop>(alloc: Global, text: &[u8]) -> Result<Parsed, GameFau
     };
     match more {
         None => Ok(opening_of(alloc, game_type)),
-        Some(rest) => read_state_on::<G>(alloc, game_type, rest),
+        Some(rest) => read_state_on::<G>(alloc, repetition, game_type, rest),
     }
 }
 
-/// The game that the line is: a game type alone, which is its opening; or game type, state, turn and moves, joined by semicolons,
-/// where each move is legal and denoted by its part on the board before it, there are at most 5,000, and the state and the turn are
-/// those after the moves. The line has at most 65,536 bytes. The moves are played on a game of the kind G that is made for it.
+/// The game that the line is, as `read_game` says it, where the rule of third repetition is
+/// switched on or off. Where it is on, a position that stands for the third time ends the game with
+/// a draw: no move follows it, and the state to be declared is `Draw`.
 ///
 /// # Errors
 ///
-/// A part that is absent or not of its form, more than 5,000 moves, the first move that cannot be read or is not legal, and a state
-/// or a turn that is not that of the game: the first of these, in this order. And want of memory.
+/// As those of `read_game`. A move that follows the end of the game is not legal, and a state that
+/// is not the outcome of the game is another one.
+pub fn read_game_under<G: Game + Drop>(
+    alloc: Global,
+    text: &[u8],
+    repetition: bool,
+) -> Result<Parsed, GameFault>
+    requires { length text.now ≤ 65536 }
+    ensures game { IfOk result (λ g. IsGameLineUnder repetition text.now g.game_type g.moves) }
+    ensures only { (t : AnyType) (ms : List AnyMove) → IsGameLineUnder repetition text.now t ms
+        → IfErr result (λ fault. fault ≡ GameFault.Memory) }
+    ensures refused { IfErr result (λ fault. (fault ≡ GameFault.Memory)
+        ⊎ IsRefusedUnder repetition text.now fault) }
+    ensures value { IfOk result (λ g. game_under repetition text.now ≡ Ok g) }
+    ensures err { IfErr result (λ fault. Fails fault (game_under repetition text.now)) }
+{
+    game_of::<G>(alloc, repetition, text)
+}
+
+/// The game that the line is: a game type alone, which is its opening; or game type, state, turn
+/// and moves, joined by semicolons, where each move is legal and denoted by its part on the board
+/// before it, there are at most 5,000, and the state and the turn are those after the moves. The
+/// line has at most 65,536 bytes. The moves are played on a game of the kind G that is made for it.
+///
+/// # Errors
+///
+/// A part that is absent or not of its form, more than 5,000 moves, the first move that cannot be
+/// read or is not legal, and a state or a turn that is not that of the game: the first of these, in
+/// this order. And want of memory.
 pub fn read_game<G: Game + Drop>(alloc: Global, text: &[u8]) -> Result<Parsed, GameFault>
     requires { length text.now ≤ 65536 }
     ensures game { IfOk result (λ g. IsGameLine text.now g.game_type g.moves) }
-    ensures only { (t : AnyType) (ms : List AnyMove) → IsGameLine text.now t ms → IfErr result (λ fault. fault ≡ GameFault.Memory) }
+    ensures only { (t : AnyType) (ms : List AnyMove) → IsGameLine text.now t ms
+        → IfErr result (λ fault. fault ≡ GameFault.Memory) }
     ensures refused { IfErr result (λ fault. (fault ≡ GameFault.Memory) ⊎ IsRefused text.now fault) }
     ensures value { IfOk result (λ g. game_of text.now ≡ Ok g) }
     ensures err { IfErr result (λ fault. Fails fault (game_of text.now)) }
 {
-    game_of::<G>(alloc, text)
+    read_game_under::<G>(alloc, text, false)
 }

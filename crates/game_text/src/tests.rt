@@ -3,8 +3,11 @@
 ghost use Rattle.std.specs.Prelude.{◌≡◌, pos};
 
 use crate::turns::{Turn, read_turn};
-use crate::{GameFault, MoveTexts, lines_are_one_game, lines_are_read, strings_are_games};
-use hive_model::{Board, Colour, GameType, Move, Piece, Place, ReplyText, State};
+use crate::{
+    GameFault, MoveTexts, lines_are_one_game, lines_are_one_game_under, lines_are_read,
+    lines_are_read_under, strings_are_games, strings_are_games_under,
+};
+use hive_model::{Board, Colour, GameType, Key, Move, Piece, Place, Repeats, ReplyText, State};
 use move_text::MoveFault;
 use stack_board::PlainBoard;
 use std::test::Fail;
@@ -61,6 +64,9 @@ fn writes_kept_texts(rt: HostRuntime) -> Result<(), Fail> {
     strings_are_games();
     lines_are_one_game();
     lines_are_read();
+    strings_are_games_under();
+    lines_are_one_game_under();
+    lines_are_read_under();
     Ok(())
 }
 
@@ -90,5 +96,27 @@ fn tells_each_fault(rt: HostRuntime) -> Result<(), Fail> {
     ] {
         assert_eq!(rt; format!(in rt.alloc(); "{fault}")?.as_str(), wanted);
     }
+    Ok(())
+}
+
+#[test]
+fn counts_repeats(rt: HostRuntime) -> Result<(), Fail> {
+    let board = PlainBoard::new(rt.alloc())?;
+    let mut repeats = Repeats::new(rt.alloc());
+    let start = Key::of(WITH_MOSQUITO, &board, Colour::White, 1, None);
+    repeats.push(start)?;
+    assert_eq!(rt; repeats.times(), 1);
+    let later = Key::of(WITH_MOSQUITO, &board, Colour::White, 3, None);
+    repeats.push(later)?;
+    assert_eq!(rt; repeats.times(), 2);
+    let other = Key::of(WITH_MOSQUITO, &board, Colour::Black, 3, None);
+    repeats.push(other)?;
+    assert_eq!(rt; repeats.times(), 1);
+    let resting = Key::of(WITH_MOSQUITO, &board, Colour::White, 3, Some(Piece::at(1)));
+    repeats.push(resting)?;
+    assert_eq!(rt; repeats.times(), 1);
+    repeats.pop();
+    repeats.pop();
+    assert_eq!(rt; repeats.times(), 2);
     Ok(())
 }

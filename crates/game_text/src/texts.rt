@@ -66,8 +66,9 @@ impl MoveTexts {
         self.kept.len()
     }
 
-    /// Appends the string of a game: its type, the state, the side to move and the number of the turn after its moves, and these
-    /// texts, joined by semicolons. The time is linear in the length of the string. After want of memory nothing was appended.
+    /// Appends the string of a game: its type, the state, the side to move and the number of the
+    /// turn after its moves, and these texts, joined by semicolons. The time is linear in the
+    /// length of the string. After want of memory nothing was appended.
     pub fn write(
         &self,
         game_type: GameType,
@@ -76,7 +77,9 @@ impl MoveTexts {
         turn: u32,
         out: &mut ReplyText,
     ) -> Result<(), AllocError>
-        ensures written { OnOk result (out.new ≡ out.old ++ joined_on (type_bytes game_type) (state_bytes state ∷ (turn_bytes side turn ∷ self.now))) }
+        ensures written { OnOk result (out.new ≡ out.old
+            ++ joined_on (type_bytes game_type)
+            (state_bytes state ∷ (turn_bytes side turn ∷ self.now))) }
         ensures refused { OnErr result (out.new ≡ out.old) }
     {
         let text = self.joined(game_type, state, side, turn)?;
@@ -91,7 +94,8 @@ impl MoveTexts {
         side: Colour,
         turn: u32,
     ) -> Result<ReplyText, AllocError>
-        ensures { IfOk result (λ r. r ≡ joined_on (type_bytes game_type) (state_bytes state ∷ (turn_bytes side turn ∷ self.now))) }
+        ensures { IfOk result (λ r. r ≡ joined_on (type_bytes game_type)
+            (state_bytes state ∷ (turn_bytes side turn ∷ self.now))) }
     {
         let mut text = head(self.alloc, game_type, state, side, turn)?;
         for part in self.kept.iter() {
@@ -109,7 +113,8 @@ fn head(
     side: Colour,
     turn: u32,
 ) -> Result<ReplyText, AllocError>
-    ensures { IfOk result (λ r. r ≡ type_bytes game_type ++ 59 ∷ state_bytes state ++ 59 ∷ turn_bytes side turn) }
+    ensures { IfOk result (λ r. r ≡ type_bytes game_type ++ 59 ∷ state_bytes state ++ 59
+        ∷ turn_bytes side turn) }
 {
     let mut text = ReplyText::new(alloc);
     text.push_all(type_text(game_type).as_bytes())?;

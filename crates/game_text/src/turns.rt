@@ -16,8 +16,11 @@ pub struct Turn {
 
 /// The number in the brackets behind `White`.
 fn white_turn(text: &[u8]) -> Option<u64>
-    ensures found { IfSome result (λ n. (digits : List ℕ) × (text.now ≡ codes "White[" ++ (digits ++ 93 ∷ [])) × IsNumberText digits 1 999999999 n) }
-    ensures only { (n : ℕ) (digits : List ℕ) → text.now ≡ codes "White[" ++ (digits ++ 93 ∷ []) → IsNumberText digits 1 999999999 n → result ≡ Some n }
+    ensures found { IfSome result (λ n. (digits : List ℕ)
+        × (text.now ≡ codes "White[" ++ (digits ++ 93 ∷ [])) × IsNumberText digits 1 999999999 n) }
+    ensures only { (n : ℕ) (digits : List ℕ) → text.now
+        ≡ codes "White[" ++ (digits ++ 93 ∷ []) → IsNumberText digits 1 999999999 n → result
+        ≡ Some n }
 {
     match text {
         [b'W', b'h', b'i', b't', b'e', b'[', digits @ .., b']'] => read_number(
@@ -29,8 +32,11 @@ fn white_turn(text: &[u8]) -> Option<u64>
 
 /// The number in the brackets behind `Black`.
 fn black_turn(text: &[u8]) -> Option<u64>
-    ensures found { IfSome result (λ n. (digits : List ℕ) × (text.now ≡ codes "Black[" ++ (digits ++ 93 ∷ [])) × IsNumberText digits 1 999999999 n) }
-    ensures only { (n : ℕ) (digits : List ℕ) → text.now ≡ codes "Black[" ++ (digits ++ 93 ∷ []) → IsNumberText digits 1 999999999 n → result ≡ Some n }
+    ensures found { IfSome result (λ n. (digits : List ℕ)
+        × (text.now ≡ codes "Black[" ++ (digits ++ 93 ∷ [])) × IsNumberText digits 1 999999999 n) }
+    ensures only { (n : ℕ) (digits : List ℕ) → text.now
+        ≡ codes "Black[" ++ (digits ++ 93 ∷ []) → IsNumberText digits 1 999999999 n → result
+        ≡ Some n }
 {
     match text {
         [b'B', b'l', b'a', b'c', b'k', b'[', digits @ .., b']'] => read_number(
@@ -40,7 +46,8 @@ fn black_turn(text: &[u8]) -> Option<u64>
     }
 }
 
-/// The turn that the text declares: `White[n]` or `Black[n]`, with a number of 1 to 9 digits that is not 0.
+/// The turn that the text declares: `White[n]` or `Black[n]`, with a number of 1 to 9 digits that
+/// is not 0.
 pub fn read_turn(text: &[u8]) -> Option<Turn>
     ensures { result ≡ turn_at text.now }
 {

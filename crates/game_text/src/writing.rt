@@ -1,18 +1,23 @@
 //! Writing a game as a line.
 
-ghost use Rattle.std.specs.Prelude.{◌≡◌, ◌++◌, IfOk, OnOk, OnErr};
+ghost use Rattle.std.specs.Prelude.{◌≡◌, true, ◌++◌, IfOk, OnOk, OnErr};
 ghost use Rattle.hive_model.specs.Positions.{opening};
 ghost use Rattle.hive_model.specs.Games.{IsGame};
-ghost use Rattle.hive_model.specs.Strings.{string, texts};
+ghost use Rattle.hive_model.specs.Repetition.{outcome_under};
+ghost use Rattle.game_text.specs.Seen.{Sees};
+ghost use Rattle.hive_model.specs.Strings.{string, string_under, texts};
 
+use crate::seen::Seen;
 use crate::texts::MoveTexts;
-use hive_model::{Game, ReplyText};
+use hive_model::{Game, ReplyText, State};
 use std::alloc::{AllocError, Global};
 
-/// The written texts of the game's moves. They are played again on a game of the same kind that is made for it.
+/// The written texts of the game's moves. They are played again on a game of the same kind that is
+/// made for it.
 pub fn texts_of<G: Game + Drop>(alloc: Global, game: &G) -> Result<MoveTexts, AllocError>
     requires { IsGame (G.course game.now).game_type (G.course game.now).made }
-    ensures { IfOk result (λ r. r ≡ texts (opening (G.course game.now).game_type) (G.course game.now).made) }
+    ensures { IfOk result (λ r. r ≡ texts (opening (G.course game.now).game_type)
+        (G.course game.now).made) }
 {
     let plies = game.plies();
     let mut texts = MoveTexts::new(alloc);
@@ -26,18 +31,85 @@ pub fn texts_of<G: Game + Drop>(alloc: Global, game: &G) -> Result<MoveTexts, Al
     Ok(texts)
 }
 
-/// Appends the game's string: its type, its state, its turn and its moves, joined by semicolons, each move in its one spelling on the
-/// board before it. The moves are played once again, on a game of the same kind that is made for it. After want of memory nothing
-/// was appended.
+/// The keys of the positions of the game, where the rule is switched on. They are met again on a
+/// game of the same kind that is made for it.
+fn seen_of<G: Game + Drop>(alloc: Global, game: &G) -> Result<Seen, AllocError>
+    requires { IsGame (G.course game.now).game_type (G.course game.now).made }
+    ensures rule { IfOk result (λ s. s.repetition ≡ true) }
+    ensures seen { IfOk result (λ s. Sees s (G.course game.now)) }
+{
+    let plies = game.plies();
+    let mut copy = G::opening(alloc, game.game_type())?;
+    copy.reserve(plies)?;
+    let mut seen = Seen::of(alloc, true, &copy)?;
+    for i in 0..plies {
+        let m = game.move_at(i);
+        copy.play(m);
+        seen.note(&copy)?;
+    }
+    Ok(seen)
+}
+
+/// The keys of the positions of the game where the rule is switched on, and none where it is
+/// switched off.
+pub fn seen_under<G: Game + Drop>(
+    alloc: Global,
+    game: &G,
+    repetition: bool,
+) -> Result<Seen, AllocError>
+    requires { IsGame (G.course game.now).game_type (G.course game.now).made }
+    ensures rule { IfOk result (λ s. s.repetition ≡ repetition) }
+    ensures seen { IfOk result (λ s. Sees s (G.course game.now)) }
+{
+    if repetition {
+        seen_of(alloc, game)
+    } else {
+        Ok(Seen::off(alloc))
+    }
+}
+
+/// The outcome of the game.
+fn outcome<G: Game + Drop>(alloc: Global, game: &G, repetition: bool) -> Result<State, AllocError>
+    ensures { IfOk result (λ s. s ≡ outcome_under repetition (G.course game.now).game_type
+        (G.course game.now).made) }
+{
+    let state = game.state();
+    if !repetition {
+        return Ok(state);
+    }
+    let seen = seen_of(alloc, game)?;
+    Ok(seen.outcome(game))
+}
+
+/// Appends the game's string, as `write_game` does, with the outcome of the game for its state,
+/// where the rule of third repetition is switched on or off.
+pub fn write_game_under<G: Game + Drop>(
+    alloc: Global,
+    game: &G,
+    repetition: bool,
+    out: &mut ReplyText,
+) -> Result<(), AllocError>
+    ensures written { OnOk result (out.new ≡ out.old
+        ++ string_under repetition (G.course game.now).game_type (G.course game.now).made) }
+    ensures refused { OnErr result (out.new ≡ out.old) }
+{
+    let _state = game.state();
+    let state = outcome(alloc, game, repetition)?;
+    let texts = texts_of(alloc, game)?;
+    texts.write(game.game_type(), state, game.side(), game.turn(), out)
+}
+
+/// Appends the game's string: its type, its state, its turn and its moves, joined by semicolons,
+/// each move in its one spelling on the board before it. The moves are played once again, on a game
+/// of the same kind that is made for it. After want of memory nothing was appended.
 pub fn write_game<G: Game + Drop>(
     alloc: Global,
     game: &G,
     out: &mut ReplyText,
 ) -> Result<(), AllocError>
-    ensures written { OnOk result (out.new ≡ out.old ++ string (G.course game.now).game_type (G.course game.now).made) }
+    ensures written { OnOk result (out.new ≡ out.old
+        ++ string (G.course game.now).game_type (G.course game.now).made) }
     ensures refused { OnErr result (out.new ≡ out.old) }
 {
-    let state = game.state();
-    let texts = texts_of(alloc, game)?;
-    texts.write(game.game_type(), state, game.side(), game.turn(), out)
+    write_game_under(alloc, game, false, out)
 }

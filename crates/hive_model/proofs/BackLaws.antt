@@ -52,7 +52,7 @@ module _ (b : Stacks) (is : IsBoard b) (x : ℕ) (p : Place) (level : ℕ) (stan
   pub lifted_gone : (r : Place) (i : ℕ) → StandsAt (lift b x) x r i → ⊥
   lifted_gone r i h = (lift_stands b is x p level stands top x r i h).1 refl
 
-  put_lift : x < 28 → IsWithin 9000 p → put (lift b x) x p ≡ b
+  pub put_lift : x < 28 → IsWithin 9000 p → put (lift b x) x p ≡ b
   put_lift small inside =
       let c = lift b x in
       let lifted = lift_is_board b is x p level stands top in

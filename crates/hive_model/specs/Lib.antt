@@ -23,6 +23,7 @@ pub mod Courses
 pub mod Evaluation
 pub mod Keys
 pub mod SameKeys
+pub mod Repetition
 pub mod Minimax
 pub mod Costs
 pub mod Laws

@@ -1,15 +1,17 @@
 -- Game strings: type, state, turn and moves, joined by semicolons.
-use Rattle.std.specs.Prelude.{◌≡◌, ℕ, ◌≤◌, nat_eq, List, [], ◌∷◌, ◌++◌, length, codes, decimal, ◌⊎◌, if◌then◌else◌}
+use Rattle.std.specs.Prelude.{◌≡◌, ℕ, ◌≤◌, Bool, nat_eq, List, [], ◌∷◌, ◌++◌, length, codes, decimal, ◌⊎◌, if◌then◌else◌}
 use Rattle.hive_model.specs.declared.pieces.Colour.{Colour}
 use Rattle.hive_model.specs.declared.pieces.Colour.TheVariants.{White, Black}
 use Rattle.hive_model.specs.declared.pieces.GameType.{GameType}
 use Rattle.hive_model.specs.declared.places.Move.{Move}
+use Rattle.hive_model.specs.declared.places.State.{State}
 use Rattle.hive_model.specs.Lists.{onto}
 use Rattle.hive_model.specs.Positions.{Position, opening}
 use Rattle.hive_model.specs.Legal.{state}
 use Rattle.hive_model.specs.Games.{after, replay, IsGame}
 use Rattle.hive_model.specs.Denotes.{Denotes, text}
 use Rattle.hive_model.specs.Fields.{type_bytes, state_bytes}
+use Rattle.hive_model.specs.Repetition.{outcome_under, StandsUnder}
 
 -- what stands between the semicolons: at least one part
 unfoldable pub parts : List ℕ → List (List ℕ)
@@ -34,13 +36,21 @@ abbrev pub texts : Position → List Move → List (List ℕ)
 texts p [] = []
 texts p (m ∷ ms) = text p.board m ∷ texts (after p m) ms
 
--- type, state, turn and moves, joined by semicolons
+-- type, this state, turn and moves, joined by semicolons
+abbrev pub string_with : GameType → State → Position → List (List ℕ) → List ℕ
+string_with t s end rest = joined_on (type_bytes t) (state_bytes s ∷ turn_bytes end.side end.turn ∷ rest)
+
+-- the same with the state of the position
 abbrev pub string_from : GameType → Position → List (List ℕ) → List ℕ
-string_from t end rest = joined_on (type_bytes t) (state_bytes (state end) ∷ turn_bytes end.side end.turn ∷ rest)
+string_from t end rest = string_with t (state end) end rest
 
 -- the written form of a game
 unfoldable pub string : GameType → List Move → List ℕ
 string t ms = string_from t (replay (opening t) ms) (texts (opening t) ms)
+
+-- the same with the outcome under the rule of third repetition for the state
+unfoldable pub string_under : Bool → GameType → List Move → List ℕ
+string_under r t ms = string_with t (outcome_under r t ms) (replay (opening t) ms) (texts (opening t) ms)
 
 -- the texts denote the moves, each on the board before it
 abbrev pub DenoteMoves : Position → List (List ℕ) → List Move → Type 0
@@ -49,15 +59,27 @@ DenoteMoves p [] (m ∷ ms) = ⊥
 DenoteMoves p (x ∷ xs) [] = ⊥
 DenoteMoves p (x ∷ xs) (m ∷ ms) = Denotes p.game_type p.board x m × DenoteMoves (after p m) xs ms
 
--- the line has a type, a state, a turn and texts that denote the moves of a game of at most 5,000 moves, and the declared
--- state and turn are those of the game
-pub record IsFull (line : List ℕ) (t : GameType) (ms : List Move) : Type 0 where
+-- the line has a type, a state, a turn and texts that denote the moves of a game of at most 5,000 moves, the declared state is
+-- this one, and the declared turn is that of the game
+pub record IsFullWith (line : List ℕ) (s : State) (t : GameType) (ms : List Move) : Type 0 where
   pub rest : List (List ℕ)
-  pub parts_are : parts line ≡ type_bytes t ∷ (state_bytes (state (replay (opening t) ms)) ∷ (turn_bytes (replay (opening t) ms).side (replay (opening t) ms).turn ∷ rest))
+  pub parts_are : parts line ≡ type_bytes t ∷ (state_bytes s ∷ (turn_bytes (replay (opening t) ms).side (replay (opening t) ms).turn ∷ rest))
   pub denote : DenoteMoves (opening t) rest ms
   pub legal : IsGame t ms
   pub few : length ms ≤ 5000
 
+-- the declared state is that of the game's position
+abbrev pub IsFull : List ℕ → GameType → List Move → Type 0
+IsFull line t ms = IsFullWith line (state (replay (opening t) ms)) t ms
+
 -- the line is the game: a type alone is its opening
 abbrev pub IsGameLine : List ℕ → GameType → List Move → Type 0
 IsGameLine line t ms = ((line ≡ type_bytes t) × (ms ≡ [])) ⊎ IsFull line t ms
+
+-- the declared state is the outcome under the rule of third repetition, and no move follows the end of the game
+abbrev pub IsFullUnder : Bool → List ℕ → GameType → List Move → Type 0
+IsFullUnder r line t ms = IsFullWith line (outcome_under r t ms) t ms × StandsUnder r t ms
+
+-- the line is the game under the rule
+abbrev pub IsGameLineUnder : Bool → List ℕ → GameType → List Move → Type 0
+IsGameLineUnder r line t ms = ((line ≡ type_bytes t) × (ms ≡ [])) ⊎ IsFullUnder r line t ms

@@ -9,8 +9,8 @@ pub struct Best {
     pub value: i32,
 }
 
-/// What a timed search did: the last depth that it completed, its budget, and the first and the last reading of its clock. All
-/// times are milliseconds.
+/// What a timed search did: the last depth that it completed, its budget, and the first and the
+/// last reading of its clock. All times are milliseconds.
 #[derive(Clone, Copy, Debug, PartialEq, Eq)]
 pub struct Timed {
     pub depth: u32,

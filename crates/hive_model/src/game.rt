@@ -18,9 +18,10 @@ use crate::pieces::{Colour, GameType};
 use crate::places::{Move, State};
 use std::alloc::{AllocError, Global};
 
-/// A game under way. Contracts see its course: its type, the legal moves made so far, and for how many more plies it has room.
-/// Its position is the replay of the moves, and as a `Board` it is the board of that position. Beside its course stands the
-/// count that `played` answers, which only `play` raises.
+/// A game under way. Contracts see its course: its type, the legal moves made so far, and for how
+/// many more plies it has room. Its position is the replay of the moves, and as a `Board` it is the
+/// board of that position. Beside its course stands the count that `played` answers, which only
+/// `play` raises.
 pub trait Game: Board + Sized {
     ghost course: { Self → Course };
 
@@ -33,11 +34,16 @@ pub trait Game: Board + Sized {
         ensures empty { IfOk result (λ g. (course g).made ≡ []) }
         ensures unplayed { IfOk result (λ g. played g ≡ 0) };
 
-    /// Makes room for at least this many more plies. Nothing else changes, and nothing at all after want of memory.
+    /// Makes room for at least this many more plies. Nothing else changes, and nothing at all after
+    /// want of memory.
     fn reserve(&mut self, plies: u32) -> Result<(), AllocError>
         requires { length (course self.old).made + plies ≤ 5064 }
         ensures room { OnOk result (plies ≤ (course self.new).spare) }
-        ensures same { course self.new ≡ record { game_type = (course self.old).game_type; made = (course self.old).made; spare = (course self.new).spare } }
+        ensures same { course self.new ≡ record {
+          game_type = (course self.old).game_type;
+          made = (course self.old).made;
+          spare = (course self.new).spare;
+        } }
         ensures err { OnErr result (course self.new ≡ course self.old) }
         ensures count { played self.new ≡ played self.old };
 
@@ -95,7 +101,8 @@ pub trait Game: Board + Sized {
         ensures back { course self.new ≡ without_last (course self.old) }
         ensures count { played self.new ≡ played self.old };
 
-    /// What the position is worth to its side to move, judged without a search; its size is at most 1,000. The game is as before.
+    /// What the position is worth to its side to move, judged without a search; its size is at most
+    /// 1,000. The game is as before.
     fn evaluate(&mut self) -> i32
         ensures worth { result ≡ eval (position (course self.old)) }
         ensures same { course self.new ≡ course self.old }

@@ -1,15 +1,18 @@
 //! What tells positions apart whose values may differ.
 
-ghost use Rattle.std.specs.Prelude.{◌≡◌};
+ghost use Rattle.std.specs.Prelude.{◌≡◌, IfSome};
+ghost use Rattle.hive_model.specs.Places.{IsWithin};
 ghost use Rattle.hive_model.specs.Keys.{key_of, spot_in};
+ghost use Rattle.hive_model.specs.Repetition.{same_board};
 
 use crate::boards::Board;
 use crate::pieces::{Colour, GameType, Piece};
 use crate::places::Spot;
 use std::marker::Model;
 
-/// A position's key: where each piece stands and at which level, the game type, the side to move, the number of the turn, capped
-/// at 5, and the piece that rests. Sound positions with equal keys are worth the same at every depth.
+/// A position's key: where each piece stands and at which level, the game type, the side to move,
+/// the number of the turn, capped at 5, and the piece that rests. Sound positions with equal keys
+/// are worth the same at every depth.
 #[derive(Clone, Copy, Debug, PartialEq, Eq, Hash)]
 pub struct Key {
     spots: [Option<Spot>; 28],
@@ -26,13 +29,26 @@ impl Model for Key {
 
     ghost invariant = { λ k. IsInPlane k.spots };
 
-    ghost view = { λ k. record { spots = k.spots; game_type = k.game_type; side = k.side; turn = k.turn; rest = k.rest } };
+    ghost view = { λ k. record {
+      spots = k.spots;
+      game_type = k.game_type;
+      side = k.side;
+      turn = k.turn;
+      rest = k.rest;
+    } };
 
-    ghost inverse = { λ v. record { spots = v.spots; game_type = v.game_type; side = v.side; turn = v.turn; rest = v.rest } };
+    ghost inverse = { λ v. record {
+      spots = v.spots;
+      game_type = v.game_type;
+      side = v.side;
+      turn = v.turn;
+      rest = v.rest;
+    } };
 }
 
 impl Key {
-    /// The key of a position: its game type, its board, the side to move, the number of the turn and the piece that rests.
+    /// The key of a position: its game type, its board, the side to move, the number of the turn
+    /// and the piece that rests.
     pub fn of<B: Board>(
         game_type: GameType,
         board: &B,
@@ -57,7 +73,8 @@ impl Key {
 
     /// Where the piece stands, and at which level, if it is in play.
     pub fn spot(&self, piece: Piece) -> Option<Spot>
-        ensures { result ≡ spot_in self.now piece }
+        ensures spot { result ≡ spot_in self.now piece }
+        ensures within { IfSome result (λ s. IsWithin 9000 s.place) }
     {
         self.spots[piece.index() as usize]
     }
@@ -88,5 +105,15 @@ impl Key {
         ensures { result ≡ self.now.rest }
     {
         self.rest
+    }
+
+    /// Whether the two are equal in all but the turn.
+    pub fn same_board(&self, other: &Key) -> bool
+        ensures { result ≡ same_board self.now other.now }
+    {
+        self.rest == other.rest
+            && self.side == other.side
+            && self.game_type == other.game_type
+            && self.spots == other.spots
     }
 }

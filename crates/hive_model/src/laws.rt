@@ -1,15 +1,17 @@
 //! Laws of the definitions, as contracts of functions that do nothing.
 //!
-//! Each rule is defined twice: as a relation in the rule's own words, and as a test that computes and that makes the list of
-//! legal moves. A law says that the two agree, so that a contract which cites a test says the rule.
+//! Each rule is defined twice: as a relation in the rule's own words, and as a test that computes
+//! and that makes the list of legal moves. A law says that the two agree, so that a contract which
+//! cites a test says the rule.
 
 ghost use Rattle.hive_model.specs.Laws.{NeighboursAreTested, OneHiveIsTested, SeparatingIsTested, CutIsTested, GroundStepIsTested, ClimbingStepIsTested, FreeStepIsTested, ReachIsTested, CopiesAreTested, MovesAsIsTested};
 ghost use Rattle.hive_model.specs.Laws.{InHandIsTested, LeastInHandIsTested, NextIsLeast, NextMayBeNone, MayPlaceIsTested, PlacementIsTested, ThrowerIsTested, ThrowOverIsTested, ThrowIsTested, WalkIsTested, SurroundedIsTested, OverIsTested};
 ghost use Rattle.hive_model.specs.Laws.{LegalPairIsTested, LegalPairIsNear, MovesAreLegal, MovesRise, PassIsAlone, OverHasNoMoves, MovesHavePieces, PutKeepsBoards, LiftKeepsBoards, FloodsFindWays, PlacesAreSettled, MovesAreSettled, ListedMovesAreTested};
 ghost use Rattle.hive_model.specs.SameKeys.{KeysAreCompared};
 
-/// The tests of neighbours, of one hive, and of the places that hold it together: a separating place, without whose pieces the
-/// board is not one hive, and a cut place, which is one of height 1.
+/// The tests of neighbours, of one hive, and of the places that hold it together: a separating
+/// place, without whose pieces the board is not one hive, and a cut place, which is one of height
+/// 1.
 pub fn hives_are_tested()
     ensures neighbours { NeighboursAreTested }
     ensures one_hive { OneHiveIsTested }
@@ -17,8 +19,8 @@ pub fn hives_are_tested()
     ensures cut { CutIsTested }
 {}
 
-/// The tests of a step to a neighbour: a ground step between empty places, a climbing step, and a step that no gate of two
-/// higher neighbours blocks.
+/// The tests of a step to a neighbour: a ground step between empty places, a climbing step, and a
+/// step that no gate of two higher neighbours blocks.
 pub fn steps_are_tested()
     ensures on_ground { GroundStepIsTested }
     ensures climbing { ClimbingStepIsTested }
@@ -36,8 +38,8 @@ pub fn copies_are_tested()
     ensures moves { MovesAsIsTested }
 {}
 
-/// The tests of placements: which pieces are in hand, which is next of its kind, where a side may place, and which piece may
-/// be placed where.
+/// The tests of placements: which pieces are in hand, which is next of its kind, where a side may
+/// place, and which piece may be placed where.
 pub fn placements_are_tested()
     ensures in_hand { InHandIsTested }
     ensures least { LeastInHandIsTested }
@@ -47,7 +49,8 @@ pub fn placements_are_tested()
     ensures placement { PlacementIsTested }
 {}
 
-/// The tests of throws: who is a thrower, what it throws where, and whether the side to move throws a piece to a place.
+/// The tests of throws: who is a thrower, what it throws where, and whether the side to move throws
+/// a piece to a place.
 pub fn throws_are_tested()
     ensures thrower { ThrowerIsTested }
     ensures over { ThrowOverIsTested }
@@ -71,8 +74,8 @@ pub fn legal_pairs_are_near()
     ensures near { LegalPairIsNear }
 {}
 
-/// The list of legal moves has the legal moves and no other, in order and each once. It is the pass alone where no piece can
-/// move, and empty where the game is over.
+/// The list of legal moves has the legal moves and no other, in order and each once. It is the pass
+/// alone where no piece can move, and empty where the game is over.
 pub fn moves_are_legal()
     ensures legal { MovesAreLegal }
     ensures order { MovesRise }
@@ -87,7 +90,8 @@ pub fn boards_are_kept()
     ensures lift { LiftKeepsBoards }
 {}
 
-/// The bounded search over a list of places finds a place exactly where a way over the list leads to it.
+/// The bounded search over a list of places finds a place exactly where a way over the list leads
+/// to it.
 pub fn floods_find_ways()
     ensures { FloodsFindWays }
 {}

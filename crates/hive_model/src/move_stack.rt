@@ -21,13 +21,18 @@ impl Model for MoveStack {
 
     ghost Value = { Levels };
 
-    ghost view = { λ s. record { lists = map (λ v. v.items) (take s.used s.lists.items); free = vec_len s.lists - s.used } };
+    ghost view = { λ s. record {
+      lists = map (λ v. v.items) (take s.used s.lists.items);
+      free = vec_len s.lists - s.used;
+    } };
 
-    ghost invariant = { λ s. (s.used ≤ vec_len s.lists) × (vec_len s.lists ≤ 66) × All (λ v. (5488 ≤ vec_capacity v) × (vec_len v ≤ 5488)) s.lists.items };
+    ghost invariant = { λ s. (s.used ≤ vec_len s.lists) × (vec_len s.lists ≤ 66)
+        × All (λ v. (5488 ≤ vec_capacity v) × (vec_len v ≤ 5488)) s.lists.items };
 }
 
 impl MoveStack {
-    /// Room for this many levels, from 1 to 66, of 5,488 moves each: 28 pieces times 196 places. All memory is taken here.
+    /// Room for this many levels, from 1 to 66, of 5,488 moves each: 28 pieces times 196 places.
+    /// All memory is taken here.
     pub fn new(alloc: Global, levels: u32) -> Result<MoveStack, AllocError>
         requires few { levels ≤ 66 }
         requires some { 1 ≤ levels }

@@ -6,8 +6,9 @@ use thiserror::Error;
 /// Why a text is not read as a move. Each stands where no earlier one does.
 #[derive(Clone, Copy, Debug, PartialEq, Eq, Error)]
 pub enum MoveFault {
-    /// The text is no move text, or it is a piece alone on a board that is not empty. The offset counts the bytes of the longest
-    /// part from the start with which some move text begins; for a piece alone it is the length of the text.
+    /// The text is no move text, or it is a piece alone on a board that is not empty. The offset
+    /// counts the bytes of the longest part from the start with which some move text begins; for a
+    /// piece alone it is the length of the text.
     #[error("no move text: it ends or goes wrong behind {at} bytes")]
     NotAMove { at: u32 },
     /// The moving piece is not of the game type.

@@ -12,8 +12,8 @@ use hive_model::{GameType, State};
 use itoa::Buffer;
 use std::str;
 
-/// The number that the text spells in decimal digits, if it is from `least` to `most`. A sign is refused, and so is a leading zero
-/// but for `0` itself.
+/// The number that the text spells in decimal digits, if it is from `least` to `most`. A sign is
+/// refused, and so is a leading zero but for `0` itself.
 pub fn read_number(text: &[u8], least: u64, most: u64) -> Option<u64>
     ensures found { IfSome result (λ n. IsNumberText text.now least most n) }
     ensures only { (n : ℕ) → IsNumberText text.now least most n → result ≡ Some n }
@@ -72,8 +72,8 @@ fn type_at(text: &[u8]) -> Option<GameType>
     }
 }
 
-/// The game type that the text names: `Base`, or `Base+` and letters of `MLP` in this order, which stand for the mosquito, the
-/// ladybug and the pillbug.
+/// The game type that the text names: `Base`, or `Base+` and letters of `MLP` in this order, which
+/// stand for the mosquito, the ladybug and the pillbug.
 pub fn read_type(text: &[u8]) -> Option<GameType>
     ensures found { IfSome result (λ t. text.now ≡ type_bytes t) }
     ensures only { (t : AnyType) → text.now ≡ type_bytes t → result ≡ Some t }
@@ -181,7 +181,8 @@ fn time_at(text: &[u8]) -> Option<u64>
     Some(((hours * 60 + minutes) * 60 + seconds) * 1000)
 }
 
-/// The milliseconds of a time `hh:mm:ss`, of two digits each, with at most 59 minutes and 59 seconds.
+/// The milliseconds of a time `hh:mm:ss`, of two digits each, with at most 59 minutes and 59
+/// seconds.
 pub fn read_time(text: &[u8]) -> Option<u64>
     ensures found { IfSome result (λ n. IsTimeText text.now n) }
     ensures only { (n : ℕ) → IsTimeText text.now n → result ≡ Some n }
@@ -210,7 +211,8 @@ fn push_two_digits(text: &mut ArrayString<8>, number: u64)
     push_digit(text, number % 10);
 }
 
-/// The time `hh:mm:ss` of a number of milliseconds, which is a multiple of 1,000 and at most 99 hours, 59 minutes and 59 seconds.
+/// The time `hh:mm:ss` of a number of milliseconds, which is a multiple of 1,000 and at most 99
+/// hours, 59 minutes and 59 seconds.
 pub fn time_text(budget: u64) -> ArrayString<8>
     requires whole { budget % 1000 ≡ 0 }
     requires most { budget ≤ 359999000 }

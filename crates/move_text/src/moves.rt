@@ -128,15 +128,17 @@ fn move_of<B: Board>(game_type: GameType, board: &B, text: &[u8]) -> Result<Move
 ///
 /// # Errors
 ///
-/// A text that is no move text, a moving piece that is not of the game type, a piece alone on a board that is not empty, and a
-/// reference that is not on the board without the moving piece, in this order.
+/// A text that is no move text, a moving piece that is not of the game type, a piece alone on a
+/// board that is not empty, and a reference that is not on the board without the moving piece, in
+/// this order.
 pub fn read_move<B: Board>(game_type: GameType, board: &B, text: &[u8]) -> Result<Move, MoveFault>
     requires length { length text.now ≤ 65536 }
     requires sound { IsBoard (B.stacks board.now) }
     ensures denotes { IfOk result (λ m. Denotes game_type (B.stacks board.now) text.now m) }
     ensures only { (m : AnyMove) → Denotes game_type (B.stacks board.now) text.now m → result ≡ Ok m }
     ensures refuses { IfErr result (λ fault. Refuses game_type (B.stacks board.now) text.now fault) }
-    ensures each { (fault : AnyFault) → Refuses game_type (B.stacks board.now) text.now fault → result ≡ Err fault }
+    ensures each { (fault : AnyFault) → Refuses game_type (B.stacks board.now) text.now fault
+        → result ≡ Err fault }
     // the same as one function of the type, the board and the text
     ensures computes { result ≡ move_of game_type (B.stacks board.now) text.now }
 {
@@ -160,8 +162,8 @@ fn top_without<B: Board>(board: &B, piece: Piece, place: Place) -> Option<Piece>
     }
 }
 
-/// The marks of a place next to a reference, each with the direction from the place to the reference, in the order in which
-/// references are sought.
+/// The marks of a place next to a reference, each with the direction from the place to the
+/// reference, in the order in which references are sought.
 const BESIDE: [(Mark, Dir); 6] = [
     (Mark::After(Stroke::Dash), Dir::W),
     (Mark::Before(Stroke::Dash), Dir::E),
@@ -189,10 +191,11 @@ fn form_to<B: Board>(board: &B, piece: Piece, place: Place) -> Form
     Form::Alone(piece)
 }
 
-/// The one spelling of a move. A destination that is occupied, on the board without the moving piece, is written as its top
-/// piece. An empty one refers to the top piece of its first occupied neighbour in the order W, E, SW, NE, NW, SE. Where it has
-/// none, the piece is written alone. The coordinates of the destination are at most 9,500, as those of every legal move are. The
-/// text has at most 8 bytes.
+/// The one spelling of a move. A destination that is occupied, on the board without the moving
+/// piece, is written as its top piece. An empty one refers to the top piece of its first occupied
+/// neighbour in the order W, E, SW, NE, NW, SE. Where it has none, the piece is written alone. The
+/// coordinates of the destination are at most 9,500, as those of every legal move are. The text has
+/// at most 8 bytes.
 pub fn write_move<B: Board>(board: &B, m: Move) -> ArrayString<16>
     requires sound { IsBoard (B.stacks board.now) }
     requires within { IsMoveWithin m }

@@ -5,8 +5,8 @@ ghost use Rattle.move_text.specs.Scan.{colour_at, kind_at, stroke_at, naming_wit
 
 use hive_model::{Colour, Form, Kind, Mark, Piece, Stroke};
 
-/// The part of a piece's name that was read: nothing, a colour, a colour and a kind whose number is still to come, or the whole
-/// name.
+/// The part of a piece's name that was read: nothing, a colour, a colour and a kind whose number is
+/// still to come, or the whole name.
 #[derive(Clone, Copy, Debug, PartialEq, Eq)]
 pub enum Naming {
     Empty,
@@ -25,7 +25,8 @@ pub enum Progress {
     AtPass,
     /// A part of the moving piece's name.
     First(Naming),
-    /// The moving piece, the space, a stroke where there was one, and a part of the reference's name.
+    /// The moving piece, the space, a stroke where there was one, and a part of the reference's
+    /// name.
     Second(Piece, Option<Stroke>, Naming),
     /// The moving piece, the space, the reference and the stroke behind it: nothing may follow.
     Marked(Piece, Piece, Stroke),
@@ -181,7 +182,8 @@ fn after_first(naming: &Naming, byte: u8) -> Option<Progress>
     }
 }
 
-/// A byte that does not go on the reference's name: a stroke before or behind it, where there was none.
+/// A byte that does not go on the reference's name: a stroke before or behind it, where there was
+/// none.
 fn after_second(piece: Piece, stroke: Option<Stroke>, naming: &Naming, byte: u8) -> Option<Progress>
     ensures { result ≡ after_second piece stroke naming.now byte }
 {
@@ -201,8 +203,8 @@ fn after_second(piece: Piece, stroke: Option<Stroke>, naming: &Naming, byte: u8)
     }
 }
 
-/// The form of the text; or the offset of the first byte with which no move text goes on so, or of the end where the text is only
-/// the beginning of a move text.
+/// The form of the text; or the offset of the first byte with which no move text goes on so, or of
+/// the end where the text is only the beginning of a move text.
 #[tactic(auto, unfolding(crate::specs::Scan::scan))]
 pub fn read_form(text: &[u8]) -> Result<Form, u32>
     requires { length text.now ≤ 65536 }

@@ -1,14 +1,13 @@
 -- The depth of a search for a time shows in the reply to its own line alone.
 use Rattle.std.proofs.Common.{◌≡◌, ℕ, Bool, true, false, List, Result, Ok, Err, refl, sym, ◌∙◌, if◌then◌else◌}
 use Rattle.std.specs.Prelude.{Option, Some, None, codes}
-use Rattle.hive_model.specs.Legal.{is_over}
 use Rattle.hive_model.specs.Lines.{Text as TextLine, TooLong as LongLine}
 use Rattle.uhp_words.specs.declared.command.Command.{Command}
 use Rattle.uhp_words.specs.declared.command.Command.TheVariants.{Info, NewGame, Play, Pass, ValidMoves, BestDepth, BestTime, Undo, Options, OptionGet, OptionSet, Exit}
 use Rattle.uhp_words.specs.declared.command.CommandFault.{CommandFault}
 use Rattle.uhp_words.specs.declared.command.CommandFault.TheVariants.{Unknown, Arguments}
 use Rattle.uhp_words.specs.Reading.{command_of}
-use Rattle.uhp_session.specs.Answers.{Begun, State, reached, refuse, in_game, while_on, best_line, command_answer, words_answer, reply_of, after_of, reply, next}
+use Rattle.uhp_session.specs.Answers.{Begun, State, reached, is_ended, refuse, in_game, while_on, best_line, command_answer, words_answer, reply_of, after_of, reply, next}
 use Rattle.uhp_session.specs.Searches.{Search, asks, command_search, search_in}
 use Rattle.uhp_session.specs.Laws.{DepthsServeSearches}
 use Rattle.uhp_session.proofs.ReplyLaws.{best_keeps}
@@ -41,10 +40,10 @@ some_none e = cc
 
 -- a search that is refused has one reply
 time_same : (s : State) (o : Option Begun) (budget d e : ℕ) → search_in o budget ≡ None
-    → reply_of (in_game s o (λ g. if is_over (reached g) then refuse s (codes "err 8 game over") else best_line s d g))
-    ≡ reply_of (in_game s o (λ g. if is_over (reached g) then refuse s (codes "err 8 game over") else best_line s e g))
+    → reply_of (in_game s o (λ g. if is_ended g then refuse s (codes "err 8 game over") else best_line s d g))
+    ≡ reply_of (in_game s o (λ g. if is_ended g then refuse s (codes "err 8 game over") else best_line s e g))
 time_same s None budget d e none = refl
-time_same s (Some g) budget d e none = go (is_over (reached g)) none
+time_same s (Some g) budget d e none = go (is_ended g) none
   where
     asked : Option Search
     asked = Some (record { budget = budget; position = reached g })

@@ -1,4 +1,4 @@
--- The game of a session has legal moves after every line, and no more than 5,000.
+-- The game of a session has legal moves after every line, no more than 5,000, and none behind its end.
 use Rattle.std.proofs.Common.{◌≡◌, ℕ, suc, ◌-◌, ◌<◌, Bool, true, false, List, [], ◌∷◌, ◌++◌, length, take, Result, Ok, Err, refl, ap, subst, arith, if◌then◌else◌}
 use Rattle.std.specs.Prelude.{Option, Some, None, codes, nat_le, nat_lt}
 use Rattle.std.specs.Str.{bytes_eq}
@@ -6,7 +6,7 @@ use Rattle.std.proofs.lemmas.Bool.{leb-false}
 use Rattle.hive_model.specs.declared.places.Move.{Move}
 use Rattle.hive_model.specs.Courses.{is_listed}
 use Rattle.hive_model.specs.Games.{after, replay, AreLegal}
-use Rattle.hive_model.specs.Legal.{moves, is_over}
+use Rattle.hive_model.specs.Legal.{moves}
 use Rattle.hive_model.specs.Lines.{Text as TextLine, TooLong as LongLine}
 use Rattle.hive_model.specs.Lists.{IsOn}
 use Rattle.hive_model.specs.Positions.{Position, opening}
@@ -14,9 +14,10 @@ use Rattle.move_text.specs.declared.faults.MoveFault.{MoveFault}
 use Rattle.move_text.specs.Moves.{move_of}
 use Rattle.game_text.specs.declared.faults.GameFault.{GameFault}
 use Rattle.game_text.specs.declared.parsed.Parsed.{Parsed}
-use Rattle.game_text.specs.Reading.{game_of}
-use Rattle.game_text.proofs.LineLaws.{game_found}
+use Rattle.game_text.specs.Reading.{game_under}
+use Rattle.game_text.proofs.LineLaws.{under_found}
 use Rattle.hive_model.proofs.ListedLaws.{listed_on}
+use Rattle.hive_model.proofs.StandLaws.{stands_by_moves}
 use Rattle.game_text.proofs.WriteLaws.{legal_part, taken_size}
 use Rattle.uhp_words.specs.declared.command.Command.{Command}
 use Rattle.uhp_words.specs.declared.command.Command.TheVariants.{Info, NewGame, Play, Pass, ValidMoves, BestDepth, BestTime, Undo, Options, OptionGet, OptionSet, Exit}
@@ -25,9 +26,10 @@ use Rattle.uhp_words.specs.declared.command.CommandFault.TheVariants.{Unknown, A
 use Rattle.uhp_words.specs.Numbers.{number_at}
 use Rattle.uhp_words.specs.Reading.{command_of}
 use Rattle.uhp_words.specs.Spans.{bytes_at}
-use Rattle.uhp_session.specs.Answers.{Begun, State, Answer, reached, refuse, go_on, in_game, begin, make, play, list, undo, set_table, set_workers, set, get, best_line, while_on, or_base, command_answer, words_answer, after_of, next}
-use Rattle.uhp_session.specs.Laws.{HoldsGame, SessionsHoldGames}
-use Rattle.uhp_session.proofs.ReplyLaws.{get_keeps, list_keeps, best_keeps, line_game, line_few}
+use Rattle.uhp_session.specs.Answers.{Begun, State, Answer, reached, is_ended, with_moves, refuse, go_on, in_game, begin, make, play, list, undo, set_table, set_workers, set_repetition, set, get, best_line, while_on, or_base, command_answer, words_answer, after_of, next}
+use Rattle.uhp_session.specs.Laws.{IsHeld, HoldsGame, SessionsHoldGames}
+use Rattle.uhp_session.proofs.ReplyLaws.{get_keeps, list_keeps, best_keeps, line_game, line_few, line_stands}
+use Rattle.uhp_session.proofs.StandLaws.{stands_part}
 
 abbrev Holds : State → Answer → Type 0
 Holds s a = HoldsGame (after_of s a).game
@@ -35,8 +37,14 @@ Holds s a = HoldsGame (after_of s a).game
 kept : (s : State) (a : Answer) → s ≡ after_of s a → HoldsGame s.game → Holds s a
 kept s a same h = subst (λ (z : State). HoldsGame z.game) same h
 
-begin_holds : (s : State) (line : List ℕ) (r : Result Parsed GameFault) → game_of line ≡ r → HoldsGame s.game → Holds s (begin s r)
-begin_holds s line (Ok g) e h = let is = game_found line g e in (line_game line g.game_type g.moves is, line_few line g.game_type g.moves is)
+begin_holds : (s : State) (line : List ℕ) (r : Result Parsed GameFault) → game_under s.repetition line ≡ r → HoldsGame s.game → Holds s (begin s r)
+begin_holds s line (Ok g) e h =
+    let is = under_found s.repetition line g e in
+    record {
+      legal = line_game s.repetition line g.game_type g.moves is;
+      few = line_few s.repetition line g.game_type g.moves is;
+      stands = line_stands s.repetition line g.game_type g.moves is;
+    }
 begin_holds s line (Err fault) e h = h
 
 in_holds : (s : State) (o : Option Begun) (f : Begun → Answer) → s.game ≡ o → HoldsGame s.game → ((g : Begun) → s.game ≡ Some g → Holds s (f g)) → Holds s (in_game s o f)
@@ -51,39 +59,47 @@ length_more : (ms : List Move) (m : Move) → length (ms ++ m ∷ []) ≡ suc (l
 length_more [] m = refl
 length_more (k ∷ ms) m = ap suc (length_more ms m)
 
-make_holds : (s : State) (g : Begun) (r : Result Move MoveFault) → HoldsGame s.game → HoldsGame (Some g) → length g.made < 5000 → Holds s (make s g r)
-make_holds s g (Err fault) h legal less = h
-make_holds s g (Ok m) h legal less = go (is_listed (reached g) m) refl
+make_holds : (s : State) (g : Begun) (r : Result Move MoveFault) → HoldsGame s.game → IsHeld g → is_ended g ≡ false → length g.made < 5000 → Holds s (make s g r)
+make_holds s g (Err fault) h held yet less = h
+make_holds s g (Ok m) h held yet less = go (is_listed (reached g) m) refl
   where
-    go : (b : Bool) → is_listed (reached g) m ≡ b → Holds s (if b then go_on s (record { game_type = g.game_type; made = g.made ++ m ∷ [] }) else refuse s (codes "invalidmove 3 not legal"))
+    go : (b : Bool) → is_listed (reached g) m ≡ b → Holds s (if b then go_on s (with_moves g (g.made ++ m ∷ [])) else refuse s (codes "invalidmove 3 not legal"))
     go true e =
         let size = length_more g.made m in
-        (legal_more (opening g.game_type) g.made m legal.0 (listed_on (reached g) m e), omega (arith, size, less))
+        record {
+          legal = legal_more (opening g.game_type) g.made m held.legal (listed_on (reached g) m e);
+          few = omega (arith, size, less);
+          stands = (stands_by_moves g.repetition g.game_type g.made m).1 (record { before = held.stands; open_yet = yet });
+        }
     go false e = h
 
-play_holds : (s : State) (words : List ℕ) (g : Begun) → HoldsGame s.game → HoldsGame (Some g) → Holds s (play s words g)
-play_holds s words g h legal = go (is_over (reached g)) (nat_le 5000 (length g.made)) refl
+play_holds : (s : State) (words : List ℕ) (g : Begun) → HoldsGame s.game → IsHeld g → Holds s (play s words g)
+play_holds s words g h held = go (is_ended g) (nat_le 5000 (length g.made)) refl refl
   where
     less : nat_le 5000 (length g.made) ≡ false → length g.made < 5000
     less e = leb-false 5000 (length g.made) e
 
-    go : (over full : Bool) → nat_le 5000 (length g.made) ≡ full → Holds s (if over then refuse s (codes "invalidmove 4 game over") else if full then refuse s (codes "err 11 too many plies") else make s g (move_of g.game_type (reached g).board words))
-    go true full e = h
-    go false true e = h
-    go false false e = make_holds s g (move_of g.game_type (reached g).board words) h legal (less e)
+    go : (over full : Bool) → is_ended g ≡ over → nat_le 5000 (length g.made) ≡ full → Holds s (if over then refuse s (codes "invalidmove 4 game over") else if full then refuse s (codes "err 11 too many plies") else make s g (move_of g.game_type (reached g).board words))
+    go true full yet e = h
+    go false true yet e = h
+    go false false yet e = make_holds s g (move_of g.game_type (reached g).board words) h held yet (less e)
 
-undo_holds : (s : State) (plies : ℕ) (g : Begun) → HoldsGame s.game → HoldsGame (Some g) → Holds s (undo s plies g)
-undo_holds s plies g h legal = go (nat_lt (length g.made) plies)
+undo_holds : (s : State) (plies : ℕ) (g : Begun) → HoldsGame s.game → IsHeld g → Holds s (undo s plies g)
+undo_holds s plies g h held = go (nat_lt (length g.made) plies)
   where
-    go : (b : Bool) → Holds s (if b then refuse s (codes "err 7 undo beyond start") else go_on s (record { game_type = g.game_type; made = take (length g.made - plies) g.made }))
+    go : (b : Bool) → Holds s (if b then refuse s (codes "err 7 undo beyond start") else go_on s (with_moves g (take (length g.made - plies) g.made)))
     go true = h
     go false =
         let size = taken_size g.made (length g.made - plies) in
-        let few = legal.1 in
-        (legal_part (opening g.game_type) g.made (length g.made - plies) legal.0, omega (arith, size, few))
+        let few = held.few in
+        record {
+          legal = legal_part (opening g.game_type) g.made (length g.made - plies) held.legal;
+          few = omega (arith, size, few);
+          stands = stands_part g.repetition g.game_type g.made (length g.made - plies) held.stands;
+        }
 
 set_holds : (s : State) (name value : List ℕ) → HoldsGame s.game → Holds s (set s name value)
-set_holds s name value h = go (bytes_eq name (codes "Table")) (bytes_eq name (codes "Workers"))
+set_holds s name value h = go (bytes_eq name (codes "Table")) (bytes_eq name (codes "Workers")) (bytes_eq name (codes "Repetition"))
   where
     table : (o : Option ℕ) → Holds s (set_table s o)
     table None = h
@@ -93,14 +109,20 @@ set_holds s name value h = go (bytes_eq name (codes "Table")) (bytes_eq name (co
     workers None = h
     workers (Some n) = h
 
-    go : (a b : Bool) → Holds s (if a then set_table s (number_at value 1 1048576) else if b then set_workers s (number_at value 1 16) else refuse s (codes "err 9 no such option"))
-    go true b = table (number_at value 1 1048576)
-    go false true = workers (number_at value 1 16)
-    go false false = h
+    repetition : (o : Option ℕ) → Holds s (set_repetition s o)
+    repetition None = h
+    repetition (Some n) = h
+
+    go : (a b c : Bool) → Holds s (if a then set_table s (number_at value 1 1048576) else if b then set_workers s (number_at value 1 16) else
+        if c then set_repetition s (number_at value 0 1) else refuse s (codes "err 9 no such option"))
+    go true b c = table (number_at value 1 1048576)
+    go false true c = workers (number_at value 1 16)
+    go false false true = repetition (number_at value 0 1)
+    go false false false = h
 
 command_holds : (s : State) (line : List ℕ) (d : ℕ) (c : Command) → HoldsGame s.game → Holds s (command_answer s line d c)
 command_holds s line d Info h = h
-command_holds s line d (NewGame part) h = begin_holds s (or_base (bytes_at line part)) (game_of (or_base (bytes_at line part))) refl h
+command_holds s line d (NewGame part) h = begin_holds s (or_base (bytes_at line part)) (game_under s.repetition (or_base (bytes_at line part))) refl h
 command_holds s line d (Play part) h = in_holds s s.game (play s (bytes_at line part)) refl h (λ g e. play_holds s (bytes_at line part) g h (subst HoldsGame e h))
 command_holds s line d Pass h = in_holds s s.game (play s (codes "pass")) refl h (λ g e. play_holds s (codes "pass") g h (subst HoldsGame e h))
 command_holds s line d ValidMoves h = kept s (while_on s (list s)) (list_keeps s) h

@@ -1,5 +1,7 @@
--- The written texts of a game, one move on and one move back; and its positions.
-use Rattle.std.proofs.Common.{◌≡◌, ℕ, zero, suc, ◌-◌, ◌<◌, ◌≤◌, List, [], ◌∷◌, ◌++◌, length, take, refl, sym, ◌∙◌, ap, subst, arith, length-append}
+-- The written texts of a game and the keys of its positions, one move on and one move back; and its positions.
+use Rattle.std.proofs.Common.{◌≡◌, ℕ, zero, suc, ◌-◌, ◌<◌, ◌≤◌, Bool, true, false, List, [], ◌∷◌, ◌++◌, length, take, map, refl, sym, ◌∙◌, ap, subst, arith, length-append}
+use Rattle.std.specs.Prelude.{if◌then◌else◌}
+use Rattle.hive_model.specs.declared.pieces.GameType.{GameType}
 use Rattle.hive_model.specs.declared.places.Move.{Move}
 use Rattle.hive_model.specs.Lists.{IsOn}
 use Rattle.hive_model.specs.Boards.{Stacks}
@@ -7,8 +9,14 @@ use Rattle.hive_model.specs.Positions.{Position, IsSound, opening}
 use Rattle.hive_model.specs.Legal.{moves}
 use Rattle.hive_model.specs.Games.{after, replay}
 use Rattle.hive_model.specs.Denotes.{text}
+use Rattle.hive_model.specs.Keys.{KeyParts, key}
+use Rattle.hive_model.specs.Repetition.{positions, keys}
 use Rattle.hive_model.specs.Courses.{Course, position, with_move, without_last}
 use Rattle.hive_model.specs.Strings.{texts}
+use Rattle.game_text.specs.declared.seen.Seen.{Seen}
+use Rattle.game_text.specs.Seen.{keys_kept, Sees}
+use Rattle.game_text.proofs.OpenLaws.{keys_size}
+use Rattle.game_text.proofs.SeenLaws.{sees_same}
 use Rattle.game_text.proofs.WriteLaws.{taken_size}
 use Rattle.move_text.specs.Moves.{IsMoveWithin}
 use Rattle.move_text.proofs.LegalSpell.{listed_within}
@@ -59,6 +67,36 @@ written_less c e old new back before popped =
     ∙ sym (texts_part (opening c.game_type) c.made (length c.made - 1))
     ∙ sym (λ i. texts (opening (back i).game_type) (back i).made)
 
+-- Keys
+
+none_taken : {X : Type 0} (xs : List X) → take 0 xs ≡ []
+none_taken [] = refl
+none_taken (x ∷ xs) = refl
+
+keys_part : (p : Position) (ms : List Move) (n : ℕ) → n ≤ length ms → take (suc n) (map key (positions p ms)) ≡ map key (positions p (take n ms))
+keys_part p [] zero few = refl
+keys_part p [] (suc n) few = absurd (omega (arith, few))
+keys_part p (k ∷ ms) zero few = ap (λ (r : List KeyParts). key p ∷ r) (none_taken (map key (positions (after p k) ms)))
+keys_part p (k ∷ ms) (suc n) few = ap (λ (r : List KeyParts). key p ∷ r) (keys_part (after p k) ms n (omega (arith, few)))
+
+keys_less : (t : GameType) (ms : List Move) → 1 ≤ length ms → take (length (keys t ms) - 1) (keys t ms) ≡ keys t (take (length ms - 1) ms)
+unfolding keys
+keys_less t ms some =
+    let size = keys_size t ms in
+    let last : length (map key (positions (opening t) ms)) - 1 ≡ suc (length ms - 1) = omega (arith, size, some) in
+    ap (λ n. take n (map key (positions (opening t) ms))) last ∙ keys_part (opening t) ms (length ms - 1) (omega arith)
+
+-- the last move is taken back, and the key of its position is dropped
+pub sees_back : (r s : Bool) (ks less : List KeyParts) (c d : Course) → 1 ≤ length c.made → ks ≡ keys_kept r c → d ≡ without_last c → s ≡ r
+    → less ≡ (if r then take (length ks - 1) ks else ks) → less ≡ keys_kept s d
+sees_back r s ks less c d some h back same popped = subst (λ z. less ≡ keys_kept z d) (sym same) (go r h popped)
+  where
+    go : (r : Bool) → ks ≡ keys_kept r c → less ≡ (if r then take (length ks - 1) ks else ks) → less ≡ keys_kept r d
+    go true e f =
+        f ∙ ap (λ (z : List KeyParts). take (length z - 1) z) e ∙ keys_less c.game_type c.made some
+        ∙ ap (λ (z : Course). keys z.game_type z.made) (sym back)
+    go false e f = f ∙ e
+
 -- How many moves
 
 pub few_more : (c d e : Course) (m : Move) → d.made ≡ c.made → e ≡ with_move d m → length c.made < 5000 → length e.made ≤ 5000
@@ -82,3 +120,20 @@ taken_back (k ∷ ms) m =
     longer : (ms : List Move) → length (k ∷ (ms ++ m ∷ [])) - 1 ≡ suc (length (ms ++ m ∷ []) - 1)
     longer [] = refl
     longer (x ∷ xs) = omega arith
+
+-- A move that was made and taken back, since there was no memory for the key of its position
+
+pub kind_again : (c d e f : Course) (m : Move) → d.game_type ≡ c.game_type → e ≡ with_move d m → f ≡ without_last e → f.game_type ≡ c.game_type
+kind_again c d e f m kind moved back = ap (λ (z : Course). z.game_type) back ∙ ap (λ (z : Course). z.game_type) moved ∙ kind
+
+pub made_again : (c d e f : Course) (m : Move) → d.made ≡ c.made → e ≡ with_move d m → f ≡ without_last e → f.made ≡ c.made
+made_again c d e f m made moved back =
+    ap (λ (z : Course). z.made) back ∙ ap (λ (z : Course). take (length z.made - 1) z.made) moved ∙ taken_back d.made m ∙ made
+
+pub sees_again : (s t : Seen) (c f : Course) → t ≡ s → f.game_type ≡ c.game_type → f.made ≡ c.made → Sees s c → Sees t f
+sees_again s t c f same kind made h = subst (λ z. Sees z f) (sym same) (sees_same s c f (sym kind) (sym made) h)
+
+pub one_made : (d e : Course) (m : Move) → e ≡ with_move d m → 1 ≤ length e.made
+one_made d e m moved =
+    let size : length e.made ≡ length (d.made ++ m ∷ []) = ap (λ (z : Course). length z.made) moved in
+    omega (arith, size, length-append d.made (m ∷ []))

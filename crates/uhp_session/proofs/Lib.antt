@@ -1,5 +1,6 @@
 pub mod KeptLaws
 pub mod ListLaws
+pub mod StandLaws
 pub mod ReplyLaws
 pub mod RefusalLaws
 pub mod HeldLaws

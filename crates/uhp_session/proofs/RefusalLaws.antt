@@ -1,18 +1,17 @@
 -- A refusal leaves the session as it was.
 use Rattle.std.proofs.Common.{◌≡◌, ℕ, ◌-◌, ◌≤◌, Bool, true, false, List, [], ◌∷◌, ◌++◌, length, take, Result, Ok, Err, ◌⊎◌, inl, inr, refl, sym, ◌∙◌, ap, arith, if◌then◌else◌}
-use Rattle.std.specs.Prelude.{Option, Some, None, codes, nat_le, nat_lt}
+use Rattle.std.specs.Prelude.{Option, Some, None, codes, nat_eq, nat_le, nat_lt}
 use Rattle.std.specs.Str.{bytes_eq}
 use Rattle.hive_model.specs.declared.pieces.GameType.{GameType}
 use Rattle.hive_model.specs.declared.places.Move.{Move}
 use Rattle.hive_model.specs.Courses.{is_listed}
-use Rattle.hive_model.specs.Legal.{is_over}
 use Rattle.hive_model.specs.Lines.{Text as TextLine, TooLong as LongLine}
-use Rattle.hive_model.specs.Strings.{string}
+use Rattle.hive_model.specs.Strings.{string_under}
 use Rattle.move_text.specs.declared.faults.MoveFault.{MoveFault}
 use Rattle.move_text.specs.Moves.{move_of}
 use Rattle.game_text.specs.declared.faults.GameFault.{GameFault}
 use Rattle.game_text.specs.declared.parsed.Parsed.{Parsed}
-use Rattle.game_text.specs.Reading.{game_of}
+use Rattle.game_text.specs.Reading.{game_under}
 use Rattle.uhp_words.specs.declared.command.Command.{Command}
 use Rattle.uhp_words.specs.declared.command.Command.TheVariants.{Info, NewGame, Play, Pass, ValidMoves, BestDepth, BestTime, Undo, Options, OptionGet, OptionSet, Exit}
 use Rattle.uhp_words.specs.declared.command.CommandFault.{CommandFault}
@@ -20,7 +19,7 @@ use Rattle.uhp_words.specs.declared.command.CommandFault.TheVariants.{Unknown, A
 use Rattle.uhp_words.specs.Numbers.{number_at}
 use Rattle.uhp_words.specs.Reading.{command_of}
 use Rattle.uhp_words.specs.Spans.{bytes_at}
-use Rattle.uhp_session.specs.Answers.{Begun, State, Answer, reached, refuse, go_on, in_game, begin, make, play, undo, set_table, set_workers, set, table_line, workers_line, or_base, command_answer, words_answer, after_of, next}
+use Rattle.uhp_session.specs.Answers.{Begun, State, Answer, reached, is_ended, written, with_moves, refuse, go_on, in_game, begin, make, play, undo, set_table, set_workers, set_repetition, set, table_line, workers_line, repetition_line, or_base, command_answer, words_answer, after_of, next}
 use Rattle.uhp_session.specs.Laws.{IsRefusal, RefusalsChangeNothing}
 use Rattle.uhp_session.proofs.DepthLaws.{depth_kept}
 use Rattle.uhp_session.proofs.ReplyLaws.{get_keeps, list_keeps, best_keeps}
@@ -37,9 +36,9 @@ first (x ∷ xs) = x
 abbrev Starts : List ℕ → Type 0
 Starts line = (rest : List ℕ) × ((line ≡ codes "err " ++ rest) ⊎ (line ≡ codes "invalidmove " ++ rest))
 
-string_begins : (t : GameType) (ms : List Move) → first (string t ms) ≡ 66
-unfolding string first
-string_begins t ms = refl
+game_begins : (g : Begun) → first (written g) ≡ 66
+unfolding string_under first
+game_begins g = refl
 
 table_begins : (n : ℕ) → first (table_line n) ≡ 84
 unfolding first
@@ -49,6 +48,10 @@ workers_begins : (n : ℕ) → first (workers_line n) ≡ 87
 unfolding first
 workers_begins n = refl
 
+repetition_begins : (value : Bool) → first (repetition_line value) ≡ 82
+unfolding first
+repetition_begins value = refl
+
 no_fault : (line : List ℕ) (n : ℕ) → first line ≡ n → n ≤ 100 → Starts line → ⊥
 unfolding first
 no_fault line n is low (rest, inl e) = let wrong : n ≡ 101 = sym is ∙ ap first e in omega (arith, low, wrong)
@@ -57,10 +60,10 @@ no_fault line n is low (rest, inr e) = let wrong : n ≡ 105 = sym is ∙ ap fir
 -- The commands
 
 go_on_keeps : (s : State) (g : Begun) → Keeps s (go_on s g)
-go_on_keeps s g = λ h. absurd (no_fault (string g.game_type g.made) 66 (string_begins g.game_type g.made) (omega arith) h)
+go_on_keeps s g = λ h. absurd (no_fault (written g) 66 (game_begins g) (omega arith) h)
 
 begin_keeps : (s : State) (r : Result Parsed GameFault) → Keeps s (begin s r)
-begin_keeps s (Ok g) = go_on_keeps s (record { game_type = g.game_type; made = g.moves })
+begin_keeps s (Ok g) = go_on_keeps s (record { game_type = g.game_type; made = g.moves; repetition = s.repetition })
 begin_keeps s (Err fault) = λ h. refl
 
 in_keeps : (s : State) (o : Option Begun) (f : Begun → Answer) → ((g : Begun) → Keeps s (f g)) → Keeps s (in_game s o f)
@@ -71,12 +74,12 @@ make_keeps : (s : State) (g : Begun) (r : Result Move MoveFault) → Keeps s (ma
 make_keeps s g (Err fault) = λ h. refl
 make_keeps s g (Ok m) = go (is_listed (reached g) m)
   where
-    go : (b : Bool) → Keeps s (if b then go_on s (record { game_type = g.game_type; made = g.made ++ m ∷ [] }) else refuse s (codes "invalidmove 3 not legal"))
-    go true = go_on_keeps s (record { game_type = g.game_type; made = g.made ++ m ∷ [] })
+    go : (b : Bool) → Keeps s (if b then go_on s (with_moves g (g.made ++ m ∷ [])) else refuse s (codes "invalidmove 3 not legal"))
+    go true = go_on_keeps s (with_moves g (g.made ++ m ∷ []))
     go false = λ h. refl
 
 play_keeps : (s : State) (words : List ℕ) (g : Begun) → Keeps s (play s words g)
-play_keeps s words g = go (is_over (reached g)) (nat_le 5000 (length g.made))
+play_keeps s words g = go (is_ended g) (nat_le 5000 (length g.made))
   where
     go : (over full : Bool) → Keeps s (if over then refuse s (codes "invalidmove 4 game over") else if full then refuse s (codes "err 11 too many plies") else make s g (move_of g.game_type (reached g).board words))
     go true full = λ h. refl
@@ -86,9 +89,9 @@ play_keeps s words g = go (is_over (reached g)) (nat_le 5000 (length g.made))
 undo_keeps : (s : State) (plies : ℕ) (g : Begun) → Keeps s (undo s plies g)
 undo_keeps s plies g = go (nat_lt (length g.made) plies)
   where
-    go : (b : Bool) → Keeps s (if b then refuse s (codes "err 7 undo beyond start") else go_on s (record { game_type = g.game_type; made = take (length g.made - plies) g.made }))
+    go : (b : Bool) → Keeps s (if b then refuse s (codes "err 7 undo beyond start") else go_on s (with_moves g (take (length g.made - plies) g.made)))
     go true = λ h. refl
-    go false = go_on_keeps s (record { game_type = g.game_type; made = take (length g.made - plies) g.made })
+    go false = go_on_keeps s (with_moves g (take (length g.made - plies) g.made))
 
 table_keeps : (s : State) (o : Option ℕ) → Keeps s (set_table s o)
 table_keeps s None = λ h. refl
@@ -98,17 +101,23 @@ workers_keeps : (s : State) (o : Option ℕ) → Keeps s (set_workers s o)
 workers_keeps s None = λ h. refl
 workers_keeps s (Some n) = λ h. absurd (no_fault (workers_line n) 87 (workers_begins n) (omega arith) h)
 
+repetition_keeps : (s : State) (o : Option ℕ) → Keeps s (set_repetition s o)
+repetition_keeps s None = λ h. refl
+repetition_keeps s (Some n) = λ h. absurd (no_fault (repetition_line (nat_eq n 1)) 82 (repetition_begins (nat_eq n 1)) (omega arith) h)
+
 set_keeps : (s : State) (name value : List ℕ) → Keeps s (set s name value)
-set_keeps s name value = go (bytes_eq name (codes "Table")) (bytes_eq name (codes "Workers"))
+set_keeps s name value = go (bytes_eq name (codes "Table")) (bytes_eq name (codes "Workers")) (bytes_eq name (codes "Repetition"))
   where
-    go : (a b : Bool) → Keeps s (if a then set_table s (number_at value 1 1048576) else if b then set_workers s (number_at value 1 16) else refuse s (codes "err 9 no such option"))
-    go true b = table_keeps s (number_at value 1 1048576)
-    go false true = workers_keeps s (number_at value 1 16)
-    go false false = λ h. refl
+    go : (a b c : Bool) → Keeps s (if a then set_table s (number_at value 1 1048576) else if b then set_workers s (number_at value 1 16) else
+        if c then set_repetition s (number_at value 0 1) else refuse s (codes "err 9 no such option"))
+    go true b c = table_keeps s (number_at value 1 1048576)
+    go false true c = workers_keeps s (number_at value 1 16)
+    go false false true = repetition_keeps s (number_at value 0 1)
+    go false false false = λ h. refl
 
 command_keeps : (s : State) (line : List ℕ) (d : ℕ) (c : Command) → Keeps s (command_answer s line d c)
 command_keeps s line d Info = λ h. refl
-command_keeps s line d (NewGame part) = begin_keeps s (game_of (or_base (bytes_at line part)))
+command_keeps s line d (NewGame part) = begin_keeps s (game_under s.repetition (or_base (bytes_at line part)))
 command_keeps s line d (Play part) = in_keeps s s.game (play s (bytes_at line part)) (play_keeps s (bytes_at line part))
 command_keeps s line d Pass = in_keeps s s.game (play s (codes "pass")) (play_keeps s (codes "pass"))
 command_keeps s line d ValidMoves = λ h. sym (list_keeps s)

@@ -1,17 +1,18 @@
 -- What a session answers to a line, and what it is afterwards: the table of answers and refusals.
-use Rattle.std.specs.Prelude.{ℕ, ◌-◌, ◌≤◌, nat_lt, nat_le, List, [], ◌∷◌, ◌++◌, length, map, take, codes, decimal, Option, Some, None, Result, Ok, Err, if◌then◌else◌}
+use Rattle.std.specs.Prelude.{ℕ, ◌-◌, ◌≤◌, nat_eq, nat_lt, nat_le, Bool, true, false, List, [], ◌∷◌, ◌++◌, length, map, take, codes, decimal, Option, Some, None, Result, Ok, Err, if◌then◌else◌}
 use Rattle.std.specs.Str.{bytes_eq}
 use Rattle.hive_model.specs.declared.pieces.GameType.{GameType}
 use Rattle.hive_model.specs.declared.places.Move.{Move}
 use Rattle.hive_model.specs.Boards.{Stacks}
 use Rattle.hive_model.specs.Positions.{Position, opening}
-use Rattle.hive_model.specs.Legal.{moves, is_over}
+use Rattle.hive_model.specs.Legal.{moves, is_over_state}
 use Rattle.hive_model.specs.Minimax.{best}
 use Rattle.hive_model.specs.Games.{replay}
 use Rattle.hive_model.specs.Courses.{is_listed}
 use Rattle.hive_model.specs.Texts.{piece_text}
 use Rattle.hive_model.specs.Denotes.{text}
-use Rattle.hive_model.specs.Strings.{string, joined_on}
+use Rattle.hive_model.specs.Repetition.{outcome_under}
+use Rattle.hive_model.specs.Strings.{string_under, joined_on}
 use Rattle.hive_model.specs.Lines.{Line, Text as TextLine, TooLong as LongLine}
 use Rattle.move_text.specs.declared.faults.MoveFault.{MoveFault}
 use Rattle.move_text.specs.declared.faults.MoveFault.TheVariants.{NotAMove, NoSuchPiece, NotInPlay}
@@ -19,7 +20,7 @@ use Rattle.move_text.specs.Moves.{move_of}
 use Rattle.game_text.specs.declared.faults.GameFault.{GameFault}
 use Rattle.game_text.specs.declared.faults.GameFault.TheVariants.{Malformed, TooLong as TooManyPlies, BadMove, IllegalMove, OtherState, OtherTurn, Memory}
 use Rattle.game_text.specs.declared.parsed.Parsed.{Parsed}
-use Rattle.game_text.specs.Reading.{game_of}
+use Rattle.game_text.specs.Reading.{game_under}
 use Rattle.uhp_words.specs.declared.command.Command.{Command}
 use Rattle.uhp_words.specs.declared.command.Command.TheVariants.{Info, NewGame, Play, Pass, ValidMoves, BestDepth, BestTime, Undo, Options, OptionGet, OptionSet, Exit}
 use Rattle.uhp_words.specs.declared.command.CommandFault.{CommandFault}
@@ -34,27 +35,51 @@ use Rattle.uhp_session.specs.declared.lines.Reply.TheVariants.{Text as ReplyText
 
 -- Sessions
 
--- a game that was begun: its type and its moves
+-- a game that was begun: its type, its moves, and whether the rule of third repetition is switched on in it
 pub record Begun : Type 0 where
   pub game_type : GameType
   pub made : List Move
+  pub repetition : Bool
 
--- a session: no game or a game, and the values of the options Table and Workers
+-- a session: no game or a game, and the values of the options Table, Workers and Repetition, of which the last is 1 where it is true
 pub record State : Type 0 where
   pub game : Option Begun
   pub table : ℕ
   pub workers : ℕ
+  pub repetition : Bool
 
 -- no game was begun, and the options have their defaults
 abbrev pub fresh : State
-fresh = record { game = None; table = 65536; workers = 1 }
+fresh = record { game = None; table = 65536; workers = 1; repetition = false }
 
 -- the position that the game has reached
 abbrev pub reached : Begun → Position
 reached g = replay (opening g.game_type) g.made
 
+-- the game is won or drawn: by its position, or where the rule is switched on because that stands for the third time
+abbrev pub is_ended : Begun → Bool
+is_ended g = is_over_state (outcome_under g.repetition g.game_type g.made)
+
+-- the written form of the game, with its outcome
+abbrev pub written : Begun → List ℕ
+written g = string_under g.repetition g.game_type g.made
+
+-- the game with these moves in place of its own
+abbrev pub with_moves : Begun → List Move → Begun
+with_moves g ms = record { game_type = g.game_type; made = ms; repetition = g.repetition }
+
+-- the session with this game, or with this value of an option, in place of its own
 abbrev pub with_game : State → Begun → State
-with_game s g = record { game = Some g; table = s.table; workers = s.workers }
+with_game s g = record { game = Some g; table = s.table; workers = s.workers; repetition = s.repetition }
+
+abbrev pub with_table : State → ℕ → State
+with_table s value = record { game = s.game; table = value; workers = s.workers; repetition = s.repetition }
+
+abbrev pub with_workers : State → ℕ → State
+with_workers s value = record { game = s.game; table = s.table; workers = value; repetition = s.repetition }
+
+abbrev pub with_repetition : State → Bool → State
+with_repetition s value = record { game = s.game; table = s.table; workers = s.workers; repetition = value }
 
 -- the lines of a reply but for the last, which is `ok`, and the session afterwards; or the session is left, with no reply
 pub data Answer : Type 0 where
@@ -67,7 +92,7 @@ refuse s line = Says (line ∷ []) s
 
 -- the game is now this one, and its written form is answered
 abbrev pub go_on : State → Begun → Answer
-go_on s g = Says (string g.game_type g.made ∷ []) (with_game s g)
+go_on s g = Says (written g ∷ []) (with_game s g)
 
 -- in a session with a game
 abbrev pub in_game : State → Option Begun → (Begun → Answer) → Answer
@@ -76,7 +101,7 @@ in_game s (Some g) f = f g
 
 -- in a session with a game that is not over
 abbrev pub while_on : State → (Begun → Answer) → Answer
-while_on s f = in_game s s.game (λ g. if is_over (reached g) then refuse s (codes "err 8 game over") else f g)
+while_on s f = in_game s s.game (λ g. if is_ended g then refuse s (codes "err 8 game over") else f g)
 
 -- A new game
 
@@ -95,8 +120,9 @@ game_fault OtherState = codes "err 5 other state"
 game_fault OtherTurn = codes "err 5 other turn"
 game_fault Memory = []
 
+-- the value that the option Repetition has now is the game's rule from now on
 abbrev pub begin : State → Result Parsed GameFault → Answer
-begin s (Ok g) = go_on s (record { game_type = g.game_type; made = g.moves })
+begin s (Ok g) = go_on s (record { game_type = g.game_type; made = g.moves; repetition = s.repetition })
 begin s (Err fault) = refuse s (game_fault fault)
 
 -- A move
@@ -109,7 +135,7 @@ move_fault (NotInPlay piece) = codes "invalidmove 2 not in play " ++ piece_text 
 abbrev pub make : State → Begun → Result Move MoveFault → Answer
 make s g (Err fault) = refuse s (move_fault fault)
 make s g (Ok m) =
-    if is_listed (reached g) m then go_on s (record { game_type = g.game_type; made = g.made ++ m ∷ [] })
+    if is_listed (reached g) m then go_on s (with_moves g (g.made ++ m ∷ []))
     else refuse s (codes "invalidmove 3 not legal")
 
 -- the most plies of a game
@@ -118,7 +144,7 @@ most_plies = 5000
 
 abbrev pub play : State → List ℕ → Begun → Answer
 play s words g =
-    if is_over (reached g) then refuse s (codes "invalidmove 4 game over") else
+    if is_ended g then refuse s (codes "invalidmove 4 game over") else
     if nat_le most_plies (length g.made) then refuse s (codes "err 11 too many plies") else
     make s g (move_of g.game_type (reached g).board words)
 
@@ -155,7 +181,7 @@ best_line s depth g = Says (best_text g depth ∷ []) s
 abbrev pub undo : State → ℕ → Begun → Answer
 undo s plies g =
     if nat_lt (length g.made) plies then refuse s (codes "err 7 undo beyond start")
-    else go_on s (record { game_type = g.game_type; made = take (length g.made - plies) g.made })
+    else go_on s (with_moves g (take (length g.made - plies) g.made))
 
 -- Options
 
@@ -166,24 +192,38 @@ table_line value = codes "Table;int;" ++ (decimal value ++ codes ";65536;1;10485
 abbrev pub workers_line : ℕ → List ℕ
 workers_line value = codes "Workers;int;" ++ (decimal value ++ codes ";1;1;16")
 
+-- switched on is 1, and off is 0
+abbrev pub switch : Bool → ℕ
+switch true = 1
+switch false = 0
+
+abbrev pub repetition_line : Bool → List ℕ
+repetition_line value = codes "Repetition;int;" ++ (decimal (switch value) ++ codes ";0;0;1")
+
 abbrev pub get : State → List ℕ → Answer
 get s name =
     if bytes_eq name (codes "Table") then Says (table_line s.table ∷ []) s else
     if bytes_eq name (codes "Workers") then Says (workers_line s.workers ∷ []) s else
+    if bytes_eq name (codes "Repetition") then Says (repetition_line s.repetition ∷ []) s else
     refuse s (codes "err 9 no such option")
 
 abbrev pub set_table : State → Option ℕ → Answer
 set_table s None = refuse s (codes "err 9 value out of range")
-set_table s (Some value) = Says (table_line value ∷ []) (record { game = s.game; table = value; workers = s.workers })
+set_table s (Some value) = Says (table_line value ∷ []) (with_table s value)
 
 abbrev pub set_workers : State → Option ℕ → Answer
 set_workers s None = refuse s (codes "err 9 value out of range")
-set_workers s (Some value) = Says (workers_line value ∷ []) (record { game = s.game; table = s.table; workers = value })
+set_workers s (Some value) = Says (workers_line value ∷ []) (with_workers s value)
+
+abbrev pub set_repetition : State → Option ℕ → Answer
+set_repetition s None = refuse s (codes "err 9 value out of range")
+set_repetition s (Some value) = Says (repetition_line (nat_eq value 1) ∷ []) (with_repetition s (nat_eq value 1))
 
 abbrev pub set : State → List ℕ → List ℕ → Answer
 set s name value =
     if bytes_eq name (codes "Table") then set_table s (number_at value 1 1048576) else
     if bytes_eq name (codes "Workers") then set_workers s (number_at value 1 16) else
+    if bytes_eq name (codes "Repetition") then set_repetition s (number_at value 0 1) else
     refuse s (codes "err 9 no such option")
 
 -- The table
@@ -192,14 +232,14 @@ set s name value =
 -- and serves `bestmove time` alone.
 abbrev pub command_answer : State → List ℕ → ℕ → Command → Answer
 command_answer s line depth Info = Says (codes "id HiveReferee 1.0" ∷ (codes "Mosquito;Ladybug;Pillbug" ∷ [])) s
-command_answer s line depth (NewGame part) = begin s (game_of (or_base (bytes_at line part)))
+command_answer s line depth (NewGame part) = begin s (game_under s.repetition (or_base (bytes_at line part)))
 command_answer s line depth (Play part) = in_game s s.game (play s (bytes_at line part))
 command_answer s line depth Pass = in_game s s.game (play s (codes "pass"))
 command_answer s line depth ValidMoves = while_on s (list s)
 command_answer s line depth (BestDepth plies) = while_on s (best_line s plies)
 command_answer s line depth (BestTime budget) = while_on s (best_line s depth)
 command_answer s line depth (Undo plies) = in_game s s.game (undo s plies)
-command_answer s line depth Options = Says (table_line s.table ∷ (workers_line s.workers ∷ [])) s
+command_answer s line depth Options = Says (table_line s.table ∷ (workers_line s.workers ∷ (repetition_line s.repetition ∷ []))) s
 command_answer s line depth (OptionGet name) = get s (bytes_at line name)
 command_answer s line depth (OptionSet name value) = set s (bytes_at line name) (bytes_at line value)
 command_answer s line depth Exit = Leaves

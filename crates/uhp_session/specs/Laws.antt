@@ -5,9 +5,10 @@ use Rattle.hive_model.specs.Denotes.{text}
 use Rattle.hive_model.specs.Games.{IsGame}
 use Rattle.hive_model.specs.Legal.{is_over}
 use Rattle.hive_model.specs.Minimax.{IsBest}
+use Rattle.hive_model.specs.Repetition.{StandsUnder}
 use Rattle.hive_model.specs.Lines.{Line, Text as TextLine, TooLong as LongLine}
 use Rattle.uhp_words.specs.declared.command.Command.{Command}
-use Rattle.uhp_words.specs.declared.command.Command.TheVariants.{Options, OptionGet, OptionSet}
+use Rattle.uhp_words.specs.declared.command.Command.TheVariants.{NewGame, Options, OptionGet, OptionSet}
 use Rattle.uhp_words.specs.declared.command.CommandFault.{CommandFault}
 use Rattle.uhp_words.specs.Reading.{command_of}
 use Rattle.uhp_session.specs.Answers.{Begun, State, Answer, Says, Leaves, reached, best_text, after_of, answer, reply, next}
@@ -23,17 +24,23 @@ IsRefusal Leaves = ⊥
 abbrev pub RefusalsChangeNothing : Type 0
 RefusalsChangeNothing = (s : State) (line : Line) (depth : ℕ) → IsRefusal (answer s line depth) → next s line ≡ s
 
--- the game, if one was begun, has at most 5,000 moves, each legal in the position before it
+-- the game has at most 5,000 moves, each legal in the position before it, and none of them follows its end under its own rule
+pub record IsHeld (g : Begun) : Type 0 where
+  pub legal : IsGame g.game_type g.made
+  pub few : length g.made ≤ 5000
+  pub stands : StandsUnder g.repetition g.game_type g.made
+
+-- so it is with the game, if one was begun
 abbrev pub HoldsGame : Option Begun → Type 0
 HoldsGame None = Unit {0}
-HoldsGame (Some g) = IsGame g.game_type g.made × (length g.made ≤ 5000)
+HoldsGame (Some g) = IsHeld g
 
 -- a session that holds such a game, or none, does so after every line
 abbrev pub SessionsHoldGames : Type 0
 SessionsHoldGames = (s : State) (line : Line) → HoldsGame s.game → HoldsGame (next s line).game
 
--- In a game that is not over the text that `bestmove` answers is that of a legal move, at every depth from 1 on: of the first of
--- those that are worth most at that depth.
+-- In a position that is not over the text that `bestmove` answers is that of a legal move, at every depth from 1 on: of the first of
+-- those that are worth most at that depth. A search is of the position alone, whatever the rule of the game.
 abbrev pub BestMovesAreNamed : Type 0
 BestMovesAreNamed =
     (g : Begun) (depth : ℕ) → is_over (reached g) ≡ false → 1 ≤ depth
@@ -51,11 +58,22 @@ abbrev pub AsksOptions : Line → Type 0
 AsksOptions (TextLine bytes) = IsOfOptions (command_of bytes)
 AsksOptions LongLine = ⊥
 
--- The values of the options show in no reply but those to `options`: to every other line two sessions of the same game give the
--- same reply, and they are of the same game afterwards.
+-- a command that begins a game
+abbrev pub IsNewGame : Result Command CommandFault → Type 0
+IsNewGame (Ok (NewGame part)) = Unit {0}
+IsNewGame _ = ⊥
+
+-- the line is such a command
+abbrev pub AsksGame : Line → Type 0
+AsksGame (TextLine bytes) = IsNewGame (command_of bytes)
+AsksGame LongLine = ⊥
+
+-- The values of the options show in no reply but those to `options`, except that of Repetition in what `newgame` begins: to every
+-- other line two sessions of the same game give the same reply, and they are of the same game afterwards; to `newgame` they do where
+-- their values of Repetition are the same.
 abbrev pub OptionsChangeNoAnswer : Type 0
 OptionsChangeNoAnswer =
-    (s t : State) (line : Line) (depth : ℕ) → s.game ≡ t.game → ¬ AsksOptions line
+    (s t : State) (line : Line) (depth : ℕ) → s.game ≡ t.game → ¬ AsksOptions line → (AsksGame line → s.repetition ≡ t.repetition)
     → (reply s line depth ≡ reply t line depth) × ((next s line).game ≡ (next t line).game)
 
 -- The depth of a search shows in the reply to the line that asks for it and in no other, and in no session after a line.

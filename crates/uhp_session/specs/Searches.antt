@@ -2,14 +2,13 @@
 use Rattle.std.specs.Prelude.{◌≡◌, ℕ, ◌+◌, ◌<◌, ◌≤◌, List, [], ◌∷◌, ◌++◌, Option, Some, None, Result, Ok, codes, if◌then◌else◌}
 use Rattle.hive_model.specs.declared.answers.Timed.{Timed}
 use Rattle.hive_model.specs.Positions.{Position}
-use Rattle.hive_model.specs.Legal.{is_over}
 use Rattle.hive_model.specs.Lines.{Line, Text as TextLine, TooLong as LongLine}
 use Rattle.hive_model.specs.Minimax.{reads}
 use Rattle.uhp_words.specs.declared.command.Command.{Command}
 use Rattle.uhp_words.specs.declared.command.Command.TheVariants.{BestTime}
 use Rattle.uhp_words.specs.declared.command.CommandFault.{CommandFault}
 use Rattle.uhp_words.specs.Reading.{command_of}
-use Rattle.uhp_session.specs.Answers.{Begun, State, reached, best_text, ended}
+use Rattle.uhp_session.specs.Answers.{Begun, State, reached, is_ended, best_text, ended}
 
 -- What a line asks for
 
@@ -21,7 +20,7 @@ pub record Search : Type 0 where
 -- a search with this budget, where a game was begun that is not over
 abbrev pub search_in : Option Begun → ℕ → Option Search
 search_in None budget = None
-search_in (Some g) budget = if is_over (reached g) then None else Some (record { budget = budget; position = reached g })
+search_in (Some g) budget = if is_ended g then None else Some (record { budget = budget; position = reached g })
 
 abbrev pub command_search : State → Result Command CommandFault → Option Search
 command_search s (Ok (BestTime budget)) = search_in s.game budget

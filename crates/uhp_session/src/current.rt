@@ -1,4 +1,4 @@
-//! A game that was begun, with the written texts of its moves.
+//! A game that was begun, with the written texts of its moves and the keys of its positions.
 
 ghost use Rattle.std.specs.Prelude.{◌≡◌, ◌<◌, ◌≤◌, ◌-◌, false, [], ◌∷◌, ◌++◌, length, take, map, codes, Some, IfOk, OnOk, OnErr, IsTrue};
 ghost use Rattle.hive_model.specs.Lists.{IsOn};
@@ -6,11 +6,11 @@ ghost use Rattle.hive_model.specs.Legal.{moves, is_over};
 ghost use Rattle.hive_model.specs.Games.{IsGame};
 ghost use Rattle.hive_model.specs.Courses.{is_listed};
 ghost use Rattle.hive_model.specs.Minimax.{best};
+ghost use Rattle.hive_model.specs.Repetition.{outcome_under};
 ghost use Rattle.hive_model.specs.Denotes.{text};
-ghost use Rattle.hive_model.specs.Strings.{string};
 ghost use Rattle.hive_model.specs.Stack.{with_level};
 ghost use Rattle.move_text.specs.Moves.{move_of};
-ghost use Rattle.uhp_session.specs.Answers.{Begun, reached, text_of, ended, joined, best_text};
+ghost use Rattle.uhp_session.specs.Answers.{Begun, reached, is_ended, written, with_moves, text_of, ended, joined, best_text};
 ghost use Rattle.uhp_session.specs.Searches.{HasTold};
 
 use crate::lines::Reply;
@@ -18,7 +18,7 @@ use crate::lists::joined_moves;
 use crate::says::{close, say};
 use crate::workers::{Team, best_by};
 use deepening::Searcher;
-use game_text::{MoveTexts, played, texts_of};
+use game_text::{MoveTexts, Seen, played, seen_under, texts_of};
 use hive_model::{Game, GameType, Move, MoveList, MoveStack, ReplyText, State, TimedList};
 use io_edge::Clock;
 use move_text::{MoveFault, read_move, write_move};
@@ -27,24 +27,33 @@ use std::alloc::{AllocError, Global};
 use std::marker::Model;
 use std::thread::Threads;
 
-/// A game that was begun, seen as its type and its moves, with the written texts of the moves.
+/// A game that was begun, seen as its type, its moves and its rule, with the written texts of the
+/// moves, and where the rule of third repetition is switched on with the keys of the positions.
 #[derive(Drop)]
 pub(crate) struct Current<G: Game> {
     game: G,
     written: MoveTexts,
+    seen: Seen,
 }
 
 impl<G: Game> Model for Current<G> {
     ghost use Rattle.std.specs.Prelude.{◌≡◌, ◌≤◌, length};
     ghost use Rattle.hive_model.specs.Positions.{opening};
     ghost use Rattle.hive_model.specs.Strings.{texts};
+    ghost use Rattle.game_text.specs.Seen.{Sees};
     ghost use Rattle.uhp_session.specs.Answers.{Begun};
 
     ghost Value = { Begun };
 
-    ghost view = { λ c. record { game_type = (G.course c.game).game_type; made = (G.course c.game).made } };
+    ghost view = { λ c. record {
+      game_type = (G.course c.game).game_type;
+      made = (G.course c.game).made;
+      repetition = c.seen.repetition;
+    } };
 
-    ghost invariant = { λ c. (c.written ≡ texts (opening (G.course c.game).game_type) (G.course c.game).made) × (length (G.course c.game).made ≤ 5000) };
+    ghost invariant = { λ c. (c.written ≡ texts (opening (G.course c.game).game_type)
+        (G.course c.game).made) × (length (G.course c.game).made ≤ 5000)
+        × Sees c.seen (G.course c.game) };
 }
 
 /// The first moves of the game, so many.
@@ -60,29 +69,43 @@ fn first_moves<G: Game>(alloc: Global, game: &G, count: u32) -> Result<MoveList,
 }
 
 impl<G: Game + Drop> Current<G> {
-    /// The game of this type and these moves.
+    /// The game of this type and these moves, in which the rule of third repetition is switched on
+    /// or off.
     pub(crate) fn begin(
         alloc: Global,
         game_type: GameType,
         moves: &[Move],
+        repetition: bool,
     ) -> Result<Current<G>, AllocError>
         requires game { IsGame game_type moves.now }
         requires few { length moves.now ≤ 5000 }
-        ensures { IfOk result (λ c. c ≡ record { game_type = game_type; made = moves.now }) }
+        ensures { IfOk result (λ c. c ≡ record
+            { game_type = game_type; made = moves.now; repetition = repetition }) }
     {
         let game: G = played(alloc, game_type, moves, 0)?;
         let written = texts_of(alloc, &game)?;
-        Ok(Current { game, written })
+        let seen = seen_under(alloc, &game, repetition)?;
+        Ok(Current {
+            game,
+            written,
+            seen,
+        })
     }
 
-    /// Whether the game is over.
-    pub(crate) fn is_over(&self) -> bool
-        ensures { result ≡ is_over (reached self.now) }
+    /// How the game goes on or ended under its rule.
+    fn outcome(&self) -> State
+        ensures { result ≡ outcome_under self.now.repetition self.now.game_type self.now.made }
     {
-        match self.game.state() {
-            State::NotStarted | State::InProgress => false,
-            State::Draw | State::WhiteWins | State::BlackWins => true,
-        }
+        self.seen.outcome(&self.game)
+    }
+
+    /// Whether the game is over: won or drawn. While it is not, its position is not over either.
+    #[tactic(auto, using(crate::proofs::StandLaws::goes_on))]
+    pub(crate) fn is_over(&self) -> bool
+        ensures value { result ≡ is_ended self.now }
+        ensures goes_on { result ≡ false → is_over (reached self.now) ≡ false }
+    {
+        self.outcome().is_over()
     }
 
     /// The number of plies played.
@@ -114,42 +137,50 @@ impl<G: Game + Drop> Current<G> {
     pub(crate) fn play(&mut self, m: Move) -> Result<(), AllocError>
         requires legal { IsOn (moves (reached self.old)) m }
         requires few { length self.old.made < 5000 }
-        ensures played { OnOk result (self.new ≡ record { game_type = self.old.game_type; made = self.old.made ++ m ∷ [] }) }
+        ensures played { OnOk result (self.new ≡ with_moves self.old (self.old.made ++ m ∷ [])) }
         ensures refused { OnErr result (self.new ≡ self.old) }
     {
         self.game.reserve(1)?;
         let _state = self.game.state();
         self.written.push(&self.game, m.again())?;
         self.game.play(m);
+        if let Err(error) = self.seen.note(&self.game) {
+            self.game.undo();
+            self.written.pop();
+            return Err(error);
+        }
         Ok(())
     }
 
     /// Takes the last move back.
     pub(crate) fn back(&mut self)
         requires { 1 ≤ length self.old.made }
-        ensures { self.new ≡ record { game_type = self.old.game_type; made = take (length self.old.made - 1) self.old.made } }
+        ensures { self.new ≡ with_moves self.old (take (length self.old.made - 1) self.old.made) }
     {
         self.game.undo();
         self.written.pop();
+        self.seen.forget();
     }
 
     /// The game without its last plies, so many.
     pub(crate) fn earlier(&self, alloc: Global, plies: u32) -> Result<Current<G>, AllocError>
         requires { plies ≤ length self.now.made }
-        ensures { IfOk result (λ c. c ≡ record { game_type = self.now.game_type; made = take (length self.now.made - plies) self.now.made }) }
+        ensures { IfOk result (λ c. c ≡ with_moves self.now
+            (take (length self.now.made - plies) self.now.made)) }
     {
         let _state = self.game.state();
         let left = self.game.plies() - plies;
         let moves = first_moves(alloc, &self.game, left)?;
-        Current::begin(alloc, self.game.game_type(), moves.items())
+        let repetition = self.seen.repetition;
+        Current::begin(alloc, self.game.game_type(), moves.items(), repetition)
     }
 
     /// Appends the game string. After want of memory nothing was appended.
     pub(crate) fn write(&self, out: &mut ReplyText) -> Result<(), AllocError>
-        ensures written { OnOk result (out.new ≡ out.old ++ string self.now.game_type self.now.made) }
+        ensures written { OnOk result (out.new ≡ out.old ++ written self.now) }
         ensures refused { OnErr result (out.new ≡ out.old) }
     {
-        let state = self.game.state();
+        let state = self.outcome();
         self.written.write(
             self.game.game_type(),
             state,
@@ -161,20 +192,24 @@ impl<G: Game + Drop> Current<G> {
 
     /// The game string, and `ok`.
     pub(crate) fn tell(&self, alloc: Global) -> Result<Reply, AllocError>
-        ensures { IfOk result (λ r. text_of r ≡ Some (ended (string self.now.game_type self.now.made ∷ (codes "ok" ∷ [])))) }
+        ensures { IfOk result (λ r. text_of r ≡ Some (ended
+            (written self.now ∷ (codes "ok" ∷ [])))) }
     {
         let mut text = ReplyText::new(alloc);
         self.write(&mut text)?;
         close(text)
     }
 
-    /// Plays a legal move, and tells the game string after it. After want of memory the game is as before.
+    /// Plays a legal move, and tells the game string after it. After want of memory the game is as
+    /// before.
     #[tactic(auto, using(crate::proofs::KeptLaws::taken_back))]
     pub(crate) fn advance(&mut self, alloc: Global, m: Move) -> Result<Reply, AllocError>
         requires legal { IsOn (moves (reached self.old)) m }
         requires few { length self.old.made < 5000 }
-        ensures reply { IfOk result (λ r. text_of r ≡ Some (ended (string self.old.game_type (self.old.made ++ m ∷ []) ∷ (codes "ok" ∷ [])))) }
-        ensures played { OnOk result (self.new ≡ record { game_type = self.old.game_type; made = self.old.made ++ m ∷ [] }) }
+        ensures reply { IfOk result (λ r. text_of r
+            ≡ Some (ended (written (with_moves self.old (self.old.made ++ m ∷ []))
+            ∷ (codes "ok" ∷ [])))) }
+        ensures played { OnOk result (self.new ≡ with_moves self.old (self.old.made ++ m ∷ [])) }
         ensures refused { OnErr result (self.new ≡ self.old) }
     {
         self.play(m)?;
@@ -189,7 +224,9 @@ impl<G: Game + Drop> Current<G> {
 
     /// The legal moves, and `ok`. The game is as before.
     pub(crate) fn tell_moves(&mut self, alloc: Global) -> Result<Reply, AllocError>
-        ensures reply { IfOk result (λ r. text_of r ≡ Some (ended (joined (map (text (reached self.old).board) (moves (reached self.old))) ∷ (codes "ok" ∷ [])))) }
+        ensures reply { IfOk result (λ r. text_of r
+            ≡ Some (ended (joined (map (text (reached self.old).board) (moves (reached self.old)))
+            ∷ (codes "ok" ∷ [])))) }
         ensures same { self.new ≡ self.old }
     {
         let mut stack = MoveStack::new(alloc, 1)?;
@@ -198,7 +235,8 @@ impl<G: Game + Drop> Current<G> {
         close(joined_moves(alloc, &self.game, &stack)?)
     }
 
-    /// The first legal move that is worth most, so many plies deep. The game and the searcher are as before, after want of memory too.
+    /// The first legal move that is worth most, so many plies deep. The game and the searcher are
+    /// as before, after want of memory too.
     fn best(&mut self, searcher: &mut Searcher, depth: u32) -> Result<Move, AllocError>
         requires goes_on { is_over (reached self.old) ≡ false }
         requires prepared { 64 ≤ searcher.old }
@@ -224,7 +262,8 @@ impl<G: Game + Drop> Current<G> {
         requires prepared { 64 ≤ searcher.old }
         requires deep { 1 ≤ depth }
         requires bound { depth ≤ 64 }
-        ensures reply { IfOk result (λ r. text_of r ≡ Some (ended (best_text self.old depth ∷ (codes "ok" ∷ [])))) }
+        ensures reply { IfOk result (λ r. text_of r
+            ≡ Some (ended (best_text self.old depth ∷ (codes "ok" ∷ [])))) }
         ensures same { self.new ≡ self.old }
         ensures searcher { searcher.new ≡ searcher.old }
     {
@@ -232,8 +271,9 @@ impl<G: Game + Drop> Current<G> {
         self.tell_move(alloc, found)
     }
 
-    /// The best move of the last depth that a search completes within the budget, in milliseconds, and `ok`; an entry that tells of the
-    /// search is appended to the list. The game and the searcher are as before, and after want of memory the list too.
+    /// The best move of the last depth that a search completes within the budget, in milliseconds,
+    /// and `ok`; an entry that tells of the search is appended to the list. The game and the
+    /// searcher are as before, and after want of memory the list too.
     pub(crate) fn tell_best_in<C: Clock>(
         &mut self,
         alloc: Global,
@@ -245,9 +285,16 @@ impl<G: Game + Drop> Current<G> {
         requires goes_on { is_over (reached self.old) ≡ false }
         requires prepared { 64 ≤ searcher.old }
         requires budget { budget ≤ 359999000 }
-        ensures told { IfOk result (λ r. HasTold (record { budget = budget; position = reached self.old }) self.old (text_of r)
+        ensures told { IfOk result (λ r. HasTold (record {
+          budget = budget;
+          position = reached self.old;
+        }) self.old (text_of r)
             (record { last = C.last clock.old; readings = C.readings clock.old; timed = timed.old })
-            (record { last = C.last clock.new; readings = C.readings clock.new; timed = timed.new })) }
+            (record {
+              last = C.last clock.new;
+              readings = C.readings clock.new;
+              timed = timed.new;
+            })) }
         ensures same { self.new ≡ self.old }
         ensures searcher { searcher.new ≡ searcher.old }
         ensures memory { OnErr result (timed.new ≡ timed.old) }
@@ -263,7 +310,8 @@ impl<G: Game + Drop> Current<G> {
     /// A legal move, written, and `ok`.
     fn tell_move(&self, alloc: Global, m: Move) -> Result<Reply, AllocError>
         requires { IsOn (moves (reached self.now)) m }
-        ensures { IfOk result (λ r. text_of r ≡ Some (ended (text (reached self.now).board m ∷ (codes "ok" ∷ [])))) }
+        ensures { IfOk result (λ r. text_of r
+            ≡ Some (ended (text (reached self.now).board m ∷ (codes "ok" ∷ [])))) }
     {
         let _state = self.game.state();
         let written = write_move(&self.game, m);
@@ -297,7 +345,8 @@ impl<G: Game + Send + Drop> Current<G> {
         requires large { team.entries ≤ 1048576 }
         requires some { 1 ≤ depth }
         requires deep { depth ≤ 64 }
-        ensures { IfOk result (λ r. text_of r ≡ Some (ended (best_text self.now depth ∷ (codes "ok" ∷ [])))) }
+        ensures { IfOk result (λ r. text_of r
+            ≡ Some (ended (best_text self.now depth ∷ (codes "ok" ∷ [])))) }
     {
         let _state = self.game.state();
         let moves = first_moves(alloc, &self.game, self.game.plies())?;

@@ -1,5 +1,8 @@
 //! What is handed to a session, and what it answers.
 
+ghost use Rattle.std.specs.Prelude.{◌≡◌, ◌≤◌, length};
+ghost use Rattle.uhp_session.specs.Answers.{or_base};
+
 use hive_model::ReplyText;
 
 /// A line of the input, at most 65,536 bytes, or the mark that it is longer.
@@ -14,4 +17,13 @@ pub enum LineIn<'a> {
 pub enum Reply {
     Text(ReplyText),
     Exit,
+}
+
+/// The text of a new game: no text stands for the base game.
+pub(crate) fn or_base(text: &[u8]) -> &[u8]
+    requires { length text.now ≤ 65536 }
+    ensures value { result.now ≡ or_base text.now }
+    ensures short { length result.now ≤ 65536 }
+{
+    if text.is_empty() { b"Base" } else { text }
 }

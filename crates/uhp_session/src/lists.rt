@@ -13,9 +13,11 @@ use hive_model::{Board, MoveStack, ReplyText};
 use move_text::write_move;
 use std::alloc::{AllocError, Global};
 
-/// Appends a part, behind a semicolon if it is not the first. After want of memory a part of these was appended.
+/// Appends a part, behind a semicolon if it is not the first. After want of memory a part of these
+/// was appended.
 fn push_part(text: &mut ReplyText, is_first: bool, part: &[u8]) -> Result<(), AllocError>
-    ensures { OnOk result (text.new ≡ (if is_first then text.old ++ part.now else text.old ++ 59 ∷ part.now)) }
+    ensures { OnOk result (text.new ≡ (if is_first then text.old ++ part.now else text.old ++ 59
+        ∷ part.now)) }
 {
     if !is_first {
         text.push(b';')?;
@@ -32,7 +34,8 @@ pub(crate) fn joined_moves<B: Board>(
     requires sound { IsBoard (B.stacks board.now) }
     requires level { 0 < length stack.now.lists }
     requires within { (m : AnyMove) → IsOn (level_of stack.now 0) m → IsMoveWithin m }
-    ensures { IfOk result (λ r. r ≡ joined (map (text_of (B.stacks board.now)) (level_of stack.now 0))) }
+    ensures { IfOk result (λ r. r ≡ joined (map (text_of (B.stacks board.now))
+        (level_of stack.now 0))) }
 {
     let mut text = ReplyText::new(alloc);
     for i in 0..stack.level_len(0) {

@@ -13,7 +13,8 @@ use std::alloc::{AllocError, Global};
 
 /// The fault of a text that is no game. Want of memory is no fault of the text, and is passed on.
 pub(crate) fn refuse_game(alloc: Global, fault: GameFault) -> Result<Reply, AllocError>
-    ensures reply { IfOk result (λ r. text_of r ≡ Some (ended (game_fault fault ∷ (codes "ok" ∷ [])))) }
+    ensures reply { IfOk result (λ r. text_of r
+        ≡ Some (ended (game_fault fault ∷ (codes "ok" ∷ [])))) }
     ensures memory { OnOk result (fault ≢ GameFault.Memory) }
 {
     match fault {

@@ -28,7 +28,8 @@ pub(crate) fn say(alloc: Global, line: &[u8]) -> Result<Reply, AllocError>
 
 /// The line that begins so and ends with the number, and `ok`.
 pub(crate) fn say_number(alloc: Global, start: &[u8], number: u32) -> Result<Reply, AllocError>
-    ensures { IfOk result (λ r. text_of r ≡ Some (ended ((start.now ++ decimal number) ∷ (codes "ok" ∷ [])))) }
+    ensures { IfOk result (λ r. text_of r ≡ Some
+        (ended ((start.now ++ decimal number) ∷ (codes "ok" ∷ [])))) }
 {
     let mut text = ReplyText::new(alloc);
     text.push_all(start)?;

@@ -1,21 +1,21 @@
 //! A session over any game.
 
 ghost use Rattle.std.specs.Prelude.{◌≡◌, ◌≤◌, length, None, Ok, IfOk, IfSome, OnOk, OnErr};
-ghost use Rattle.game_text.specs.Reading.{game_of};
+ghost use Rattle.game_text.specs.Reading.{game_under};
 ghost use Rattle.uhp_words.specs.Grammar.{IsCommand, AreWithin};
 ghost use Rattle.uhp_words.specs.Reading.{command_of};
 ghost use Rattle.uhp_session.specs.Answers.{fresh, reply, next, line_in, text_of, IsShort, reply_of, after_of, words_answer, command_answer, get, set, go_on, with_game, or_base, begin, in_game, play, while_on, list, best_line, undo};
 ghost use Rattle.uhp_session.specs.Searches.{IsAnswered, IsUntimed, asks, command_search, search_in};
 
 use crate::current::Current;
-use crate::lines::{LineIn, Reply};
+use crate::lines::{LineIn, Reply, or_base};
 use crate::lists::joined_moves;
-use crate::options::{number_in, tell_options, tell_table, tell_workers};
+use crate::options::{number_in, tell_options, tell_repetition, tell_table, tell_workers};
 use crate::refusals::{refuse_game, refuse_move};
 use crate::says::{close, say};
 use crate::workers::{Team, taken};
 use deepening::Searcher;
-use game_text::read_game;
+use game_text::read_game_under;
 use hive_model::{Game, MoveStack, TimedList};
 use io_edge::Clock;
 use root_share::Gate;
@@ -24,12 +24,13 @@ use std::marker::Model;
 use std::thread::Threads;
 use uhp_words::{Command, CommandFault, part, read_command};
 
-/// A session, seen as no game or a type and a list of moves, and its option values.
+/// A session, seen as no game or a type, a list of moves and a rule, and its option values.
 #[derive(Drop)]
 pub struct Session<G: Game> {
     game: Option<Current<G>>,
     table: u32,
     workers: u32,
+    repetition: bool,
     searcher: Option<Searcher>,
 }
 
@@ -39,18 +40,15 @@ impl<G: Game> Model for Session<G> {
 
     ghost Value = { State };
 
-    ghost view = { λ s. record { game = s.game; table = s.table; workers = s.workers } };
+    ghost view = { λ s. record {
+      game = s.game;
+      table = s.table;
+      workers = s.workers;
+      repetition = s.repetition;
+    } };
 
-    ghost invariant = { λ s. (1 ≤ s.table) × (s.table ≤ 1048576) × (1 ≤ s.workers) × (s.workers ≤ 16) × IfSome s.searcher (λ n. n ≡ 64) };
-}
-
-/// The text of a new game: no text stands for the base game.
-fn or_base(text: &[u8]) -> &[u8]
-    requires { length text.now ≤ 65536 }
-    ensures value { result.now ≡ or_base text.now }
-    ensures short { length result.now ≤ 65536 }
-{
-    if text.is_empty() { b"Base" } else { text }
+    ghost invariant = { λ s. (1 ≤ s.table) × (s.table ≤ 1048576) × (1 ≤ s.workers)
+        × (s.workers ≤ 16) × IfSome s.searcher (λ n. n ≡ 64) };
 }
 
 impl<G: Game + Send + Drop> Session<G> {
@@ -62,23 +60,30 @@ impl<G: Game + Send + Drop> Session<G> {
             game: None,
             table: 65536,
             workers: 1,
+            repetition: false,
             searcher: None,
         }
     }
 
-    /// Answers a line. The reply is some lines, each ended by LF, of which the last is `ok`; `exit` has no reply.
+    /// Answers a line. The reply is some lines, each ended by LF, of which the last is `ok`; `exit`
+    /// has no reply.
     ///
-    /// `info` tells who the engine is. `newgame` begins the game of a game string, or of no text the base game; `play` and `pass`
-    /// play a move, and `undo` takes moves back: each is answered by the game string after it. `validmoves` lists the legal moves.
-    /// `bestmove depth` names the first legal move of the greatest minimax value, so many plies deep; `bestmove time` the same
-    /// at the last depth that it completes within the time, 1 at least, and an entry that tells of this search is appended to the list.
-    /// The option Workers says how many threads `bestmove depth` may use; each calls the gate before each move of the root.
-    /// `options` tells the options, gets one or sets one, and they outlive a new game. No other answer depends on them.
+    /// `info` tells who the engine is. `newgame` begins the game of a game string, or of no text
+    /// the base game; `play` and `pass` play a move, and `undo` takes moves back: each is answered
+    /// by the game string after it. `validmoves` lists the legal moves. `bestmove depth` names the
+    /// first legal move of the greatest minimax value, so many plies deep; `bestmove time` the same
+    /// at the last depth that it completes within the time, 1 at least, and an entry that tells of
+    /// this search is appended to the list. The option Workers says how many threads `bestmove
+    /// depth` may use; each calls the gate before each move of the root. `options` tells the
+    /// options, gets one or sets one, and they outlive a new game. The value of Repetition at
+    /// `newgame` is the rule of the game that it begins: where it is 1 a position that stands for
+    /// the third time ends that game with a draw. No other answer depends on the options.
     ///
-    /// A line that is too long, no command or of wrong arguments is refused. So is a command with no game, with a game that is over
-    /// or has 5,000 plies, with a text that is no game, a move that is unreadable or not legal, more plies to take back than were
-    /// played, no such option and a value out of range. A refusal is a line that begins with `err ` or `invalidmove `, and changes
-    /// nothing. After want of memory the session is as before.
+    /// A line that is too long, no command or of wrong arguments is refused. So is a command with
+    /// no game, with a game that is over or has 5,000 plies, with a text that is no game, a move
+    /// that is unreadable or not legal, more plies to take back than were played, no such option
+    /// and a value out of range. A refusal is a line that begins with `err ` or `invalidmove `, and
+    /// changes nothing. After want of memory the session is as before.
     #[tactic(auto, unfolding(crate::specs::Answers::reply, crate::specs::Answers::next, crate::specs::Searches::asks))]
     pub fn command<R: Threads + Sync, C: Clock, T: Gate + Sync>(
         &mut self,
@@ -90,9 +95,14 @@ impl<G: Game + Send + Drop> Session<G> {
         gate: &T,
     ) -> Result<Reply, AllocError>
         requires { IsShort (line_in line) }
-        ensures reply { IfOk result (λ r. IsAnswered (asks self.old (line_in line.entry)) (reply self.old (line_in line.entry)) (text_of r)
+        ensures reply { IfOk result (λ r. IsAnswered (asks self.old (line_in line.entry))
+            (reply self.old (line_in line.entry)) (text_of r)
             (record { last = C.last clock.old; readings = C.readings clock.old; timed = timed.old })
-            (record { last = C.last clock.new; readings = C.readings clock.new; timed = timed.new })) }
+            (record {
+              last = C.last clock.new;
+              readings = C.readings clock.new;
+              timed = timed.new;
+            })) }
         ensures next { OnOk result (self.new ≡ next self.old (line_in line.entry)) }
         ensures err { OnErr result (self.new ≡ self.old) }
         ensures memory { OnErr result (timed.new ≡ timed.old) }
@@ -116,10 +126,16 @@ impl<G: Game + Send + Drop> Session<G> {
     ) -> Result<Reply, AllocError>
         requires short { length line.now ≤ 65536 }
         ensures reply { IfOk result (λ r. IsAnswered (command_search self.old (command_of line.now))
-            (λ depth. reply_of (words_answer self.old line.now depth (command_of line.now))) (text_of r)
+            (λ depth. reply_of (words_answer self.old line.now depth (command_of line.now)))
+            (text_of r)
             (record { last = C.last clock.old; readings = C.readings clock.old; timed = timed.old })
-            (record { last = C.last clock.new; readings = C.readings clock.new; timed = timed.new })) }
-        ensures next { OnOk result (self.new ≡ after_of self.old (words_answer self.old line.now 1 (command_of line.now))) }
+            (record {
+              last = C.last clock.new;
+              readings = C.readings clock.new;
+              timed = timed.new;
+            })) }
+        ensures next { OnOk result (self.new ≡ after_of self.old
+            (words_answer self.old line.now 1 (command_of line.now))) }
         ensures err { OnErr result (self.new ≡ self.old) }
         ensures memory { OnErr result (timed.new ≡ timed.old) }
         ensures later { C.last clock.old ≤ C.last clock.new }
@@ -148,8 +164,13 @@ impl<G: Game + Send + Drop> Session<G> {
         ensures reply { IfOk result (λ r. IsAnswered (command_search self.old (Ok command))
             (λ depth. reply_of (command_answer self.old line.now depth command)) (text_of r)
             (record { last = C.last clock.old; readings = C.readings clock.old; timed = timed.old })
-            (record { last = C.last clock.new; readings = C.readings clock.new; timed = timed.new })) }
-        ensures next { OnOk result (self.new ≡ after_of self.old (command_answer self.old line.now 1 command)) }
+            (record {
+              last = C.last clock.new;
+              readings = C.readings clock.new;
+              timed = timed.new;
+            })) }
+        ensures next { OnOk result (self.new ≡ after_of self.old
+            (command_answer self.old line.now 1 command)) }
         ensures err { OnErr result (self.new ≡ self.old) }
         ensures memory { OnErr result (timed.new ≡ timed.old) }
         ensures later { C.last clock.old ≤ C.last clock.new }
@@ -174,8 +195,10 @@ impl<G: Game + Send + Drop> Session<G> {
         requires within { AreWithin line.now command }
         requires reads { IsCommand line.now command }
         requires untimed { IsUntimed command }
-        ensures reply { IfOk result (λ r. text_of r ≡ reply_of (command_answer self.old line.now 0 command)) }
-        ensures next { OnOk result (self.new ≡ after_of self.old (command_answer self.old line.now 1 command)) }
+        ensures reply { IfOk result (λ r. text_of r
+            ≡ reply_of (command_answer self.old line.now 0 command)) }
+        ensures next { OnOk result (self.new ≡ after_of self.old
+            (command_answer self.old line.now 1 command)) }
         ensures err { OnErr result (self.new ≡ self.old) }
     {
         match command {
@@ -187,7 +210,7 @@ impl<G: Game + Send + Drop> Session<G> {
             Command::BestDepth { depth } => self.best(rt, alloc, depth, gate),
             Command::BestTime { .. } => unreachable!(),
             Command::Undo { plies } => self.undo(alloc, plies),
-            Command::Options => tell_options(alloc, self.table, self.workers),
+            Command::Options => tell_options(alloc, self.table, self.workers, self.repetition),
             Command::OptionGet { name } => self.tell_option(alloc, part(line, name)),
             Command::OptionSet { name, value } => self.set_option(
                 alloc,
@@ -206,6 +229,8 @@ impl<G: Game + Send + Drop> Session<G> {
             tell_table(alloc, self.table)
         } else if name == b"Workers".as_slice() {
             tell_workers(alloc, self.workers)
+        } else if name == b"Repetition".as_slice() {
+            tell_repetition(alloc, self.repetition)
         } else {
             say(alloc, b"err 9 no such option")
         }
@@ -214,7 +239,8 @@ impl<G: Game + Send + Drop> Session<G> {
     /// Gives the option of this name this value.
     fn set_option(&mut self, alloc: Global, name: &[u8], value: &[u8]) -> Result<Reply, AllocError>
         ensures reply { IfOk result (λ r. text_of r ≡ reply_of (set self.old name.now value.now)) }
-        ensures next { OnOk result (self.new ≡ after_of self.old (set self.old name.now value.now)) }
+        ensures next { OnOk result (self.new ≡ after_of self.old
+            (set self.old name.now value.now)) }
         ensures err { OnErr result (self.new ≡ self.old) }
     {
         if name == b"Table".as_slice() {
@@ -235,6 +261,14 @@ impl<G: Game + Send + Drop> Session<G> {
             self.searcher = None;
             return Ok(reply);
         }
+        if name == b"Repetition".as_slice() {
+            let Some(number) = number_in(value, 0, 1) else {
+                return say(alloc, b"err 9 value out of range");
+            };
+            let reply = tell_repetition(alloc, number == 1)?;
+            self.repetition = number == 1;
+            return Ok(reply);
+        }
         say(alloc, b"err 9 no such option")
     }
 
@@ -249,16 +283,20 @@ impl<G: Game + Send + Drop> Session<G> {
         Ok(reply)
     }
 
-    /// Begins the game of a text.
+    /// Begins the game of a text, with the rule that the options have now.
     fn begin(&mut self, alloc: Global, text: &[u8]) -> Result<Reply, AllocError>
         requires { length text.now ≤ 65536 }
-        ensures reply { IfOk result (λ r. text_of r ≡ reply_of (begin self.old (game_of (or_base text.now)))) }
-        ensures next { OnOk result (self.new ≡ after_of self.old (begin self.old (game_of (or_base text.now)))) }
+        ensures reply { IfOk result (λ r. text_of r
+            ≡ reply_of (begin self.old (game_under self.old.repetition (or_base text.now)))) }
+        ensures next { OnOk result (self.new ≡ after_of self.old
+            (begin self.old (game_under self.old.repetition (or_base text.now)))) }
         ensures err { OnErr result (self.new ≡ self.old) }
     {
-        match read_game::<G>(alloc, or_base(text)) {
+        let repetition = self.repetition;
+        match read_game_under::<G>(alloc, or_base(text), repetition) {
             Ok(parsed) => {
-                let game = Current::begin(alloc, parsed.game_type, parsed.moves.items())?;
+                let moves = parsed.moves.items();
+                let game = Current::begin(alloc, parsed.game_type, moves, repetition)?;
                 self.go_on(alloc, game)
             }
             Err(fault) => refuse_game(alloc, fault),
@@ -268,8 +306,10 @@ impl<G: Game + Send + Drop> Session<G> {
     /// Plays the move of a text.
     fn play(&mut self, alloc: Global, words: &[u8]) -> Result<Reply, AllocError>
         requires { length words.now ≤ 65536 }
-        ensures reply { IfOk result (λ r. text_of r ≡ reply_of (in_game self.old self.old.game (play self.old words.now))) }
-        ensures next { OnOk result (self.new ≡ after_of self.old (in_game self.old self.old.game (play self.old words.now))) }
+        ensures reply { IfOk result (λ r. text_of r
+            ≡ reply_of (in_game self.old self.old.game (play self.old words.now))) }
+        ensures next { OnOk result (self.new ≡ after_of self.old
+            (in_game self.old self.old.game (play self.old words.now))) }
         ensures err { OnErr result (self.new ≡ self.old) }
     {
         let Some(game) = &mut self.game else {
@@ -293,7 +333,8 @@ impl<G: Game + Send + Drop> Session<G> {
 
     /// The legal moves.
     fn list(&mut self, alloc: Global) -> Result<Reply, AllocError>
-        ensures reply { IfOk result (λ r. text_of r ≡ reply_of (while_on self.old (list self.old))) }
+        ensures reply { IfOk result (λ r. text_of r ≡ reply_of
+            (while_on self.old (list self.old))) }
         ensures same { self.new ≡ self.old }
     {
         let Some(game) = &mut self.game else {
@@ -305,8 +346,9 @@ impl<G: Game + Send + Drop> Session<G> {
         game.tell_moves(alloc)
     }
 
-    /// The best move, so many plies deep. Several workers search it beside each other; each of them has its share of the option Table, at
-    /// least one entry. One worker goes on with the searcher of the session.
+    /// The best move, so many plies deep. Several workers search it beside each other; each of them
+    /// has its share of the option Table, at least one entry. One worker goes on with the searcher
+    /// of the session.
     fn best<R: Threads + Sync, T: Gate + Sync>(
         &mut self,
         rt: &R,
@@ -316,7 +358,8 @@ impl<G: Game + Send + Drop> Session<G> {
     ) -> Result<Reply, AllocError>
         requires some { 1 ≤ depth }
         requires deep { depth ≤ 64 }
-        ensures reply { IfOk result (λ r. text_of r ≡ reply_of (while_on self.old (best_line self.old depth))) }
+        ensures reply { IfOk result (λ r. text_of r
+            ≡ reply_of (while_on self.old (best_line self.old depth))) }
         ensures same { self.new ≡ self.old }
     {
         let team = Team {
@@ -347,9 +390,14 @@ impl<G: Game + Send + Drop> Session<G> {
         timed: &mut TimedList,
     ) -> Result<Reply, AllocError>
         requires { budget ≤ 359999000 }
-        ensures reply { IfOk result (λ r. IsAnswered (search_in self.old.game budget) (λ depth. reply_of (while_on self.old (best_line self.old depth))) (text_of r)
+        ensures reply { IfOk result (λ r. IsAnswered (search_in self.old.game budget)
+            (λ depth. reply_of (while_on self.old (best_line self.old depth))) (text_of r)
             (record { last = C.last clock.old; readings = C.readings clock.old; timed = timed.old })
-            (record { last = C.last clock.new; readings = C.readings clock.new; timed = timed.new })) }
+            (record {
+              last = C.last clock.new;
+              readings = C.readings clock.new;
+              timed = timed.new;
+            })) }
         ensures same { self.new ≡ self.old }
         ensures memory { OnErr result (timed.new ≡ timed.old) }
         ensures later { C.last clock.old ≤ C.last clock.new }
@@ -369,8 +417,10 @@ impl<G: Game + Send + Drop> Session<G> {
 
     /// Takes the last plies back, so many.
     fn undo(&mut self, alloc: Global, plies: u32) -> Result<Reply, AllocError>
-        ensures reply { IfOk result (λ r. text_of r ≡ reply_of (in_game self.old self.old.game (undo self.old plies))) }
-        ensures next { OnOk result (self.new ≡ after_of self.old (in_game self.old self.old.game (undo self.old plies))) }
+        ensures reply { IfOk result (λ r. text_of r
+            ≡ reply_of (in_game self.old self.old.game (undo self.old plies))) }
+        ensures next { OnOk result (self.new ≡ after_of self.old
+            (in_game self.old self.old.game (undo self.old plies))) }
         ensures err { OnErr result (self.new ≡ self.old) }
     {
         let Some(game) = &self.game else {

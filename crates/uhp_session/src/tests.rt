@@ -20,7 +20,8 @@ const LINES: [&str; 3] = [
 /// How often a worker looks for the other.
 const LOOKS: u32 = 1_000_000_000;
 
-/// Before its first move of the root each of two workers tells that it is here, and then looks whether the other is.
+/// Before its first move of the root each of two workers tells that it is here, and then looks
+/// whether the other is.
 #[derive(Drop)]
 struct Meeting {
     here: [AtomicBool; 2],

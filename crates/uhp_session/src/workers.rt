@@ -1,12 +1,13 @@
-//! What searches for a session: several workers, each with a game of its own, or the searcher that the session keeps.
+//! What searches for a session: several workers, each with a game of its own, or the searcher that
+//! the session keeps.
 
 ghost use Rattle.std.specs.Prelude.{◌≡◌, ◌≤◌, false, length, None, Some, IfOk, IfSome};
 ghost use Rattle.std.specs.List.{All};
-ghost use Rattle.hive_model.specs.Games.{IsGame};
+ghost use Rattle.hive_model.specs.Positions.{opening};
+ghost use Rattle.hive_model.specs.Games.{IsGame, replay};
 ghost use Rattle.hive_model.specs.Legal.{is_over};
 ghost use Rattle.hive_model.specs.Minimax.{best};
 ghost use Rattle.root_share.specs.Answer.{IsGameOf};
-ghost use Rattle.uhp_session.specs.Answers.{Begun, reached};
 
 use deepening::Searcher;
 use game_text::played;
@@ -37,7 +38,8 @@ fn workers_at<G: Game + Drop>(
     requires some { 1 ≤ depth }
     requires deep { depth ≤ 64 }
     ensures count { IfOk result (λ ws. length ws.items ≡ team.workers) }
-    ensures games { IfOk result (λ ws. All (λ w. IsGameOf game_type moves.now depth (G.course w.game)) ws.items) }
+    ensures games { IfOk result (λ ws. All (λ w. IsGameOf game_type moves.now depth
+        (G.course w.game)) ws.items) }
     ensures searchers { IfOk result (λ ws. All (λ w. depth ≤ w.searcher) ws.items) }
 {
     let mut workers = Vec::new(alloc);
@@ -49,7 +51,8 @@ fn workers_at<G: Game + Drop>(
     Ok(workers)
 }
 
-/// The first legal move of the game of this type and these moves that is worth most, so many plies deep, found by a team.
+/// The first legal move of the game of this type and these moves that is worth most, so many plies
+/// deep, found by a team.
 pub(crate) fn best_by<R: Threads + Sync, G: Game + Send + Drop, T: Gate + Sync>(
     rt: &R,
     alloc: Global,
@@ -61,21 +64,22 @@ pub(crate) fn best_by<R: Threads + Sync, G: Game + Send + Drop, T: Gate + Sync>(
 ) -> Result<Move, AllocError>
     requires game { IsGame game_type moves.now }
     requires short { length moves.now ≤ 5000 }
-    requires goes_on { is_over (reached (record { game_type = game_type; made = moves.now })) ≡ false }
+    requires goes_on { is_over (replay (opening game_type) moves.now) ≡ false }
     requires workers { 1 ≤ team.workers }
     requires few { team.workers ≤ 16 }
     requires entries { 1 ≤ team.entries }
     requires large { team.entries ≤ 1048576 }
     requires some { 1 ≤ depth }
     requires deep { depth ≤ 64 }
-    ensures { IfOk result (λ m. best (reached (record { game_type = game_type; made = moves.now })) depth ≡ Some m) }
+    ensures { IfOk result (λ m. best (replay (opening game_type) moves.now) depth ≡ Some m) }
 {
     let mut workers: Vec<Worker<G>> = workers_at(alloc, game_type, moves, team, depth)?;
     let found = best_shared(rt, alloc, &mut workers, depth, gate)?;
     Ok(found.best)
 }
 
-/// The searcher that is kept, or a new one with a table of so many entries. None is kept afterwards.
+/// The searcher that is kept, or a new one with a table of so many entries. None is kept
+/// afterwards.
 pub(crate) fn taken(
     kept: &mut Option<Searcher>,
     alloc: Global,

@@ -1,13 +1,15 @@
-use Rattle.std.proofs.Common.{◌≤◌, ◌+◌, length}
-use Rattle.hive_model.specs.Positions.{opening}
+use Rattle.std.proofs.Common.{◌≡◌, ◌≤◌, ◌+◌, length}
 use Rattle.hive_model.specs.Strings.{parts}
-use Rattle.game_text.specs.Reading.{moves_of}
+use Rattle.game_text.specs.Reading.{moves_from}
+use Rattle.game_text.specs.Seen.{Sees}
 use Rattle.game_text.proofs.ReadLaws.{IsUnderWay}
 use Rattle.game_text.proofs.reading.play_moves.Given as goal
 
 abbrev pub invariant-parts : goal.invariant-parts
 invariant-parts g l = record {
-  way : IsUnderWay (g.G.Game.course l.game) (g.G.Game.course l.fn.game).game_type l.moves (parts l.rest) l.number (moves_of (opening (g.G.Game.course l.fn.game).game_type) (parts l.text) 1);
+  way : IsUnderWay l.fn.seen.repetition (g.G.Game.course l.game) (g.G.Game.course l.fn.game).game_type l.moves (parts l.rest) l.number (moves_from l.fn.seen.repetition (g.G.Game.course l.fn.game).game_type (parts l.text));
+  seen : Sees l.seen (g.G.Game.course l.game);
+  rule : l.seen.repetition ≡ l.fn.seen.repetition;
   counted : l.number + length l.rest ≤ length l.text + 1;
   first : 1 ≤ l.number;
   short : length l.text ≤ 65536;

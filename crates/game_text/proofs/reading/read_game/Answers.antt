@@ -1,18 +1,8 @@
-use Rattle.game_text.proofs.LineLaws.{agrees_line, agrees_only, agrees_ok, agrees_err}
-use Rattle.game_text.proofs.RefusalLaws.{agrees_refused}
+use Rattle.game_text.proofs.LineLaws.{off_plain, plain_line}
 use Rattle.game_text.proofs.reading.read_game.Goals as goal
 
 pub returns-clause-game : goal.returns-clause-game
-returns-clause-game g c = agrees_line c.args.text.now c.game_of.result c.game_of.ensures
+returns-clause-game g c = plain_line c.args.text.now c.read_game_under.result c.read_game_under.ensures.game
 
 pub returns-clause-only : goal.returns-clause-only
-returns-clause-only g c = agrees_only c.args.text.now c.game_of.result c.game_of.ensures
-
-pub returns-clause-value : goal.returns-clause-value
-returns-clause-value g c = agrees_ok c.args.text.now c.game_of.result c.game_of.ensures
-
-pub returns-clause-err : goal.returns-clause-err
-returns-clause-err g c = agrees_err c.args.text.now c.game_of.result c.game_of.ensures
-
-pub returns-clause-refused : goal.returns-clause-refused
-returns-clause-refused g c = agrees_refused c.args.text.now c.game_of.result c.game_of.ensures
+returns-clause-only g c = λ t ms h. c.read_game_under.ensures.only t ms ((off_plain c.args.text.now t ms).1 h)

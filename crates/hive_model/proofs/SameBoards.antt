@@ -1,0 +1,103 @@
+-- The test of keys of one board, and the count of the keys that have the board of the last.
+use Rattle.std.proofs.Common.{◌≡◌, suc, ◌-◌, Bool, true, false, ◌&&◌, List, [], ◌∷◌, ◌++◌, length, map, refl, sym, ◌∙◌, ap, arith}
+use Rattle.std.specs.Prelude.{Some, nat_eq, slice_get}
+use Rattle.std.specs.Option.{option_eq}
+use lib.Pointwise.{pointwise}
+use Rattle.hive_model.specs.declared.places.Move.{Move}
+use Rattle.hive_model.specs.contracts.places.SpotPartialEq.TheImpl as spot
+use Rattle.hive_model.specs.contracts.pieces.ColourPartialEq.TheImpl as colour
+use Rattle.hive_model.specs.contracts.pieces.GameTypePartialEq.TheImpl as game
+use Rattle.hive_model.specs.Positions.{Position, opening}
+use Rattle.hive_model.specs.Games.{after, replay}
+use Rattle.hive_model.specs.Keys.{KeyParts, key}
+use Rattle.hive_model.specs.Repetition.{without_turn, same_board, count_same, count_found, count_last, positions, keys as keys_of, times, SameBoardIsTested, KeysGiveTimes, KeysGrow}
+use Rattle.hive_model.proofs.SameKeys.{keys}
+
+-- The test
+
+-- in the order in which the code compares
+abbrev pub by_parts : KeyParts → KeyParts → Bool
+by_parts a b = option_eq nat_eq a.rest b.rest && (colour.eq-value.it a.side b.side && (game.eq-value.it a.game_type b.game_type && pointwise (option_eq spot.eq-value.it) a.spots b.spots))
+
+turned : (s g c r : Bool) → (s && (g && (c && r))) ≡ (r && (c && (g && s)))
+turned true true true true = refl
+turned true true true false = refl
+turned true true false true = refl
+turned true true false false = refl
+turned true false true true = refl
+turned true false true false = refl
+turned true false false true = refl
+turned true false false false = refl
+turned false true true true = refl
+turned false true true false = refl
+turned false true false true = refl
+turned false true false false = refl
+turned false false true true = refl
+turned false false true false = refl
+turned false false false true = refl
+turned false false false false = refl
+
+pub board_by_parts : (a b : KeyParts) → by_parts a b ≡ same_board a b
+unfolding same_board
+board_by_parts a b = sym (turned (pointwise (option_eq spot.eq-value.it) a.spots b.spots) (game.eq-value.it a.game_type b.game_type) (colour.eq-value.it a.side b.side) (option_eq nat_eq a.rest b.rest))
+
+pub boards_tested : SameBoardIsTested
+unfolding same_board
+boards_tested a b = (
+  λ h.
+      let e = (keys (without_turn a) (without_turn b)).0 h in
+      record {
+        spots = ap (λ (k : KeyParts). k.spots) e;
+        game_type = ap (λ (k : KeyParts). k.game_type) e;
+        side = ap (λ (k : KeyParts). k.side) e;
+        rest = ap (λ (k : KeyParts). k.rest) e;
+      },
+  λ h. (keys (without_turn a) (without_turn b)).1 (λ i. record { spots = h.spots i; game_type = h.game_type i; side = h.side i; turn = 0; rest = h.rest i }),
+)
+
+-- The last key
+
+pub last_pushed : {X : Type 0} (xs : List X) (x : X) → slice_get (xs ++ x ∷ []) (length xs) ≡ Some x
+last_pushed [] x = refl
+last_pushed (y ∷ ys) x = last_pushed ys x
+
+pub size_pushed : {X : Type 0} (xs : List X) (x : X) → length (xs ++ x ∷ []) ≡ suc (length xs)
+size_pushed [] x = refl
+size_pushed (y ∷ ys) x = ap suc (size_pushed ys x)
+
+pub count_pushed : (ks : List KeyParts) (k : KeyParts) → count_last (ks ++ k ∷ []) ≡ count_same k (ks ++ k ∷ [])
+unfolding count_last
+count_pushed ks k =
+    let size = size_pushed ks k in
+    let at : length (ks ++ k ∷ []) - 1 ≡ length ks = omega (arith, size) in
+    ap (λ n. count_found (slice_get (ks ++ k ∷ []) n) (ks ++ k ∷ [])) at ∙ ap (λ o. count_found o (ks ++ k ∷ [])) (last_pushed ks k)
+
+pub count_at : (ks : List KeyParts) (k : KeyParts) → slice_get ks (length ks - 1) ≡ Some k → count_same k ks ≡ count_last ks
+unfolding count_last
+count_at ks k e = sym (ap (λ o. count_found o ks) e)
+
+-- The keys of a game's positions
+
+keys_size : (p : Position) (ms : List Move) → length (map key (positions p ms)) ≡ suc (length ms)
+keys_size p [] = refl
+keys_size p (m ∷ ms) = ap suc (keys_size (after p m) ms)
+
+last_key : (p : Position) (ms : List Move) → slice_get (map key (positions p ms)) (length ms) ≡ Some (key (replay p ms))
+last_key p [] = refl
+last_key p (m ∷ ms) = last_key (after p m) ms
+
+pub keys_give_times : KeysGiveTimes
+unfolding keys_of times
+keys_give_times t ms =
+    let ks = map key (positions (opening t) ms) in
+    let size = keys_size (opening t) ms in
+    let at : length ks - 1 ≡ length ms = omega (arith, size) in
+    sym (count_at ks (key (replay (opening t) ms)) (ap (slice_get ks) at ∙ last_key (opening t) ms))
+
+keys_more : (p : Position) (ms : List Move) (m : Move) → map key (positions p (ms ++ m ∷ [])) ≡ map key (positions p ms) ++ key (replay p (ms ++ m ∷ [])) ∷ []
+keys_more p [] m = refl
+keys_more p (k ∷ ms) m = ap (λ (ks : List KeyParts). key p ∷ ks) (keys_more (after p k) ms m)
+
+pub keys_grow : KeysGrow
+unfolding keys_of
+keys_grow t ms m = keys_more (opening t) ms m

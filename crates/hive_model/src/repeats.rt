@@ -1,0 +1,79 @@
+//! The keys of a game's positions, kept to count how often the last one stands.
+
+ghost use Rattle.std.specs.Prelude.{◌≡◌, ◌-◌, ◌<◌, ◌≤◌, [], ◌∷◌, ◌++◌, length, take, OnOk, OnErr};
+ghost use Rattle.hive_model.specs.Repetition.{count_same, count_last};
+
+use crate::key::Key;
+use std::alloc::{AllocError, Global};
+use std::marker::Model;
+
+/// Keys in order, at most 10,000.
+#[derive(Drop)]
+pub struct Repeats {
+    kept: Vec<Key>,
+}
+
+impl Model for Repeats {
+    ghost use Rattle.std.specs.Prelude.{◌≤◌, List, length};
+    ghost use Rattle.hive_model.specs.Keys.{KeyParts};
+
+    ghost Value = { List KeyParts };
+
+    ghost view = { λ r. r.kept.items };
+
+    ghost invariant = { λ r. length r.kept.items ≤ 10000 };
+}
+
+/// How many of the keys have the board of this one.
+fn count_same(key: &Key, keys: &[Key]) -> u32
+    requires { length keys.now ≤ 10000 }
+    ensures { result ≡ count_same key.now keys.now }
+{
+    let mut times = 0;
+    for other in keys {
+        if key.same_board(other) {
+            times += 1;
+        }
+    }
+    times
+}
+
+impl Repeats {
+    /// No keys, with the allocator for those to come.
+    pub fn new(alloc: Global) -> Repeats
+        ensures { result ≡ [] }
+    {
+        Repeats {
+            kept: Vec::new(alloc),
+        }
+    }
+
+    /// Appends a key, where fewer than 10,000 are kept. After want of memory the keys are as
+    /// before.
+    pub fn push(&mut self, key: Key) -> Result<(), AllocError>
+        requires { length self.old < 10000 }
+        ensures pushed { OnOk result (self.new ≡ self.old ++ key ∷ []) }
+        ensures refused { OnErr result (self.new ≡ self.old) }
+    {
+        self.kept.push(key)?;
+        Ok(())
+    }
+
+    /// Takes the last key away.
+    pub fn pop(&mut self)
+        requires { 1 ≤ length self.old }
+        ensures { self.new ≡ take (length self.old - 1) self.old }
+    {
+        self.kept.pop();
+    }
+
+    /// How many of the keys have the board of the last one, itself among them. The turn does not
+    /// count.
+    pub fn times(&self) -> u32
+        requires { 1 ≤ length self.now }
+        ensures { result ≡ count_last self.now }
+    {
+        let keys = self.kept.as_slice();
+        count_same(&keys[keys.len() - 1], keys)
+    }
+}
