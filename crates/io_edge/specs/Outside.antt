@@ -16,9 +16,10 @@ pub record Aside : Type 0 where
   pub bytes : Told
   pub faults : ℕ
 
--- the count rose in a call, or stands at its greatest value, that of a u64
-abbrev pub Rose : ℕ → ℕ → Type 0
-Rose before now = (before < now) ⊎ (now ≡ 2 ^ 64 - 1)
+-- the count rose in a call, or stands at its greatest value, that of a u64; it is below 2 ^ 64
+pub record Rose (before now : ℕ) : Type 0 where
+  pub higher : (before < now) ⊎ (now ≡ 2 ^ 64 - 1)
+  pub below : now < 2 ^ 64
 
 -- the told bytes, with these in front
 abbrev pub in_front : List ℕ → Told → Told
@@ -57,6 +58,15 @@ no_side = record { bytes = None; faults = 0 }
 -- lists of the bytes of several engines, where they are told
 abbrev pub ToldLists : Type 0
 ToldLists = Option (List (List ℕ))
+
+-- the programs that were started, in the order of the starts, each by its words, and each word by its
+-- bytes; where they are told
+abbrev pub ToldPrograms : Type 0
+ToldPrograms = Option (List (List (List ℕ)))
+
+-- the told programs, with one of these words last
+abbrev pub with_last : ToldPrograms → List (List ℕ) → ToldPrograms
+with_last told words = option_map (λ programs. programs ++ words ∷ []) told
 
 -- a start takes the next of the bytes to come, and its link tells them and has written nothing
 abbrev pub Starts : ToldLists → ToldLists → Told → Told → Type 0

@@ -5,11 +5,13 @@ use Rattle.io_edge.specs.Calls.{Calls, next_fails}
 use Rattle.io_edge.specs.Memory.{LinkState}
 
 -- the links to come, the closed links in the order of closing, whether a closed link was lost for
--- want of memory, the calls of start, and how many closed links had failed
+-- want of memory, the words of each program that was started, in the order of the starts, the calls
+-- of start, and how many closed links had failed
 pub record SpawnerState : Type 0 where
   pub coming : List LinkState
   pub closed : List LinkState
   pub lost : Bool
+  pub started : List (List (List ℕ))
   pub calls : Calls
   pub failed : ℕ
 
@@ -35,3 +37,4 @@ pub record Closes (link : LinkState) (before now : SpawnerState) : Type 0 where
   pub lost : now.lost ≡ true → now.closed ≡ before.closed
   pub coming : now.coming ≡ before.coming
   pub calls : now.calls ≡ before.calls
+  pub started : now.started ≡ before.started

@@ -1,4 +1,5 @@
-//! The calls of what stands in memory: numbered from 1, and failing where their number is on a list.
+//! The calls of what stands in memory: numbered from 1, and failing where their number is on a
+//! list.
 ghost use Rattle.std.specs.Prelude.{◌≡◌, ◌<◌, ℕ, None, MatchOption, true, false};
 ghost use Rattle.io_edge.specs.Outside.{one_more, HasCause};
 ghost use Rattle.io_edge.specs.Calls.{Calls, new_calls, next_fails, CountsCall};
@@ -56,7 +57,8 @@ impl Calls {
 
     /// Begins a call: its number, or none where it fails by the list.
     pub(crate) fn begin(&mut self) -> Option<u64>
-        ensures number { MatchOption result (next_fails self.old ≡ true) (λ call. (next_fails self.old ≡ false) × (call ≡ self.new.made)) }
+        ensures number { MatchOption result (next_fails self.old ≡ true)
+            (λ call. (next_fails self.old ≡ false) × (call ≡ self.new.made)) }
         ensures counted { CountsCall (result ≡ None) self.old self.new }
         ensures cause { HasCause (result ≡ None) self.old.faults self.new.faults }
         ensures first { 0 < self.new.made }

@@ -23,7 +23,12 @@ pub struct StepClock {
 impl Model for StepClock {
     ghost Value = { StepState };
 
-    ghost view = { λ c. record { next = c.next; step = c.step; last = c.last; readings = c.readings } };
+    ghost view = { λ c. record {
+      next = c.next;
+      step = c.step;
+      last = c.last;
+      readings = c.readings;
+    } };
 
     ghost invariant = { λ c. (c.last ≤ c.next) × (c.next < 2 ^ 62) };
 }
@@ -32,7 +37,12 @@ impl StepClock {
     /// A clock whose first reading is `start`, in milliseconds, and each later one greater by
     /// `step`. A reading is held at 2 to the power 62, less 1.
     pub fn new(start: u64, step: u64) -> Self
-        ensures { result ≡ record { next = min start last_moment; step = step; last = 0; readings = 0 } }
+        ensures { result ≡ record {
+          next = min start last_moment;
+          step = step;
+          last = 0;
+          readings = 0;
+        } }
     {
         StepClock {
             next: start.min(LAST_MOMENT),
@@ -53,7 +63,8 @@ impl Clock for StepClock {
         ensures read { self.new.last ≡ result }
         ensures later { self.old.last ≤ result }
         ensures bound { result < 2 ^ 62 }
-        ensures counted { (self.old.readings ≤ self.new.readings) × (self.new.readings ≤ self.old.readings + 1) }
+        ensures counted { (self.old.readings ≤ self.new.readings)
+            × (self.new.readings ≤ self.old.readings + 1) }
         ensures exact { self.new.readings ≡ one_more self.old.readings }
         ensures answer { result ≡ self.old.next }
         ensures next { self.new.next ≡ min (self.old.next + self.old.step) last_moment }
@@ -81,7 +92,11 @@ pub struct MemClock {
 impl Model for MemClock {
     ghost Value = { ClockState };
 
-    ghost view = { λ c. record { coming = drop c.at c.moments.items; last = c.last; readings = c.count } };
+    ghost view = { λ c. record {
+      coming = drop c.at c.moments.items;
+      last = c.last;
+      readings = c.count;
+    } };
 
     ghost invariant = { λ c. (c.at ≤ vec_len c.moments) × (c.last < 2 ^ 62) };
 }
@@ -114,7 +129,8 @@ impl Clock for MemClock {
         ensures read { self.new.last ≡ result }
         ensures later { self.old.last ≤ result }
         ensures bound { result < 2 ^ 62 }
-        ensures counted { (self.old.readings ≤ self.new.readings) × (self.new.readings ≤ self.old.readings + 1) }
+        ensures counted { (self.old.readings ≤ self.new.readings)
+            × (self.new.readings ≤ self.old.readings + 1) }
         ensures exact { self.new.readings ≡ one_more self.old.readings }
         ensures answer { result ≡ reading_after self.old.last self.old.coming }
         ensures coming { self.new.coming ≡ drop 1 self.old.coming }

@@ -65,8 +65,10 @@ impl Source for MemLink {
     /// Reads from the source, by its rules, and leaves the sink.
     fn read(&mut self, buffer: &mut [u8]) -> ReadAnswer
         requires { 0 < length buffer.old }
-        ensures bytes { Reads result buffer.new (Some self.old.source.left) (Some self.new.source.left) }
-        ensures cause { HasCause (result ≡ ReadAnswer.Failed) self.old.source.calls.faults self.new.source.calls.faults }
+        ensures bytes { Reads result buffer.new (Some self.old.source.left)
+            (Some self.new.source.left) }
+        ensures cause { HasCause (result ≡ ReadAnswer.Failed) self.old.source.calls.faults
+            self.new.source.calls.faults }
         ensures exact { ReadsInMemory result (length buffer.old) self.old.source self.new.source }
         ensures sink { self.new.sink ≡ self.old.sink }
     {
@@ -84,8 +86,10 @@ impl Sink for MemLink {
     /// Writes to the sink, by its rules, and leaves the source.
     fn write(&mut self, bytes: &[u8]) -> WriteAnswer
         requires { 0 < length bytes.now }
-        ensures bytes { Writes result bytes.now (Some self.old.sink.written) (Some self.new.sink.written) }
-        ensures cause { HasCause (result ≡ WriteAnswer.Failed) self.old.sink.calls.faults self.new.sink.calls.faults }
+        ensures bytes { Writes result bytes.now (Some self.old.sink.written)
+            (Some self.new.sink.written) }
+        ensures cause { HasCause (result ≡ WriteAnswer.Failed) self.old.sink.calls.faults
+            self.new.sink.calls.faults }
         ensures exact { WritesInMemory result (length bytes.now) self.old.sink self.new.sink }
         ensures source { self.new.source ≡ self.old.source }
     {

@@ -4,7 +4,8 @@ use io_edge::MemSource;
 use std::alloc::Global;
 use std::test::Fail;
 
-/// The answers of a reader up to the end: a line as its bytes and `|`, a failed read as `!`, the end as `.`.
+/// The answers of a reader up to the end: a line as its bytes and `|`, a failed read as `!`, the
+/// end as `.`.
 fn answers(
     alloc: Global,
     input: &[u8],

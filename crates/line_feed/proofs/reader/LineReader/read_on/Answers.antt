@@ -33,20 +33,20 @@ pub invariant_of-self-in-Failed : goal.invariant_of-self-in-Failed
 invariant_of-self-in-Failed g c =
     let passed_same = ap (λ (r : Reading). r.passed) c.self.view_is in
     let k = keeps_reader _ (begins _ _ _ _ _ _ _ _ c.self.view_is c.self.invariant c.begin.ensures.part c.requires) c.in-Failed.ensures.read in
-    record { has_room = omega arith; short = omega arith; no_lf = k.0; counted = k.1; behind = omega (arith, k.2); exact = λ h. omega (arith, k.3 h); bounded = omega arith; ended = λ e. absurd (never (ap (λ (r : Reading). r.finished) c.self.view_is ∙ c.requires) e) }
+    record { has_room = omega arith; short = omega arith; no_lf = k.0; counted = k.1; little = omega arith; behind = omega (arith, k.2); exact = λ h. omega (arith, k.3 h); bounded = omega arith; ended = λ e. absurd (never (ap (λ (r : Reading). r.finished) c.self.view_is ∙ c.requires) e) }
 
 pub invariant_of-self-in-Full : goal.invariant_of-self-in-Full
 invariant_of-self-in-Full g c =
     let passed_same = ap (λ (r : Reading). r.passed) c.self.view_is in
     let k = keeps_reader _ (begins _ _ _ _ _ _ _ _ c.self.view_is c.self.invariant c.begin.ensures.part c.requires) c.in-Full.ensures.read in
-    record { has_room = omega arith; short = omega arith; no_lf = k.0; counted = k.1; behind = omega (arith, k.2); exact = λ h. omega (arith, k.3 h); bounded = omega arith; ended = λ e. absurd (never (ap (λ (r : Reading). r.finished) c.self.view_is ∙ c.requires) e) }
+    record { has_room = omega arith; short = omega arith; no_lf = k.0; counted = k.1; little = omega arith; behind = omega (arith, k.2); exact = λ h. omega (arith, k.3 h); bounded = omega arith; ended = λ e. absurd (never (ap (λ (r : Reading). r.finished) c.self.view_is ∙ c.requires) e) }
 
 pub invariant_of-self-then-is_empty : goal.invariant_of-self-then-is_empty
 invariant_of-self-then-is_empty g c =
     let passed_same = ap (λ (r : Reading). r.passed) c.self.view_is in
     let empty : length c.read_part.new.part.items ≡ 0 = search rules in
     let k = keeps_reader _ (begins _ _ _ _ _ _ _ _ c.self.view_is c.self.invariant c.begin.ensures.part c.requires) c.in-End.ensures.read in
-    record { has_room = omega arith; short = omega arith; no_lf = k.0; counted = k.1; behind = omega (arith, k.2); exact = λ h. omega (arith, k.3 h); bounded = omega arith; ended = λ _. (empty_list _ empty, c.in-End.ensures.why.0, c.in-End.ensures.why.1) }
+    record { has_room = omega arith; short = omega arith; no_lf = k.0; counted = k.1; little = omega arith; behind = omega (arith, k.2); exact = λ h. omega (arith, k.3 h); bounded = omega arith; ended = λ _. (empty_list _ empty, c.in-End.ensures.why.0, c.in-End.ensures.why.1) }
 
 pub returns-in-Failed-clause-within : goal.returns-in-Failed-clause-within
 returns-in-Failed-clause-within g c =
