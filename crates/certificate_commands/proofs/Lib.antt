@@ -6,3 +6,4 @@ pub mod MigrateRuns
 pub mod MigrationLaws
 pub mod LowTokens
 pub mod CitingTexts
+pub mod CitedReads

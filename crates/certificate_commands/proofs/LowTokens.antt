@@ -22,9 +22,9 @@ use Rattle.strategy_check.specs.Trace.{Steps, steps, take_index, index_rules, tr
 use Rattle.strategy_check.proofs.TraceLaws.{never-ends, took-index}
 use Rattle.strategy_lemmas.specs.declared.tokens.Token.{Token}
 use Rattle.strategy_lemmas.specs.declared.tokens.Token.TheVariants.{Index, Cite}
-use Rattle.strategy_lemmas.specs.declared.lemmas.Lemma.{Lemma}
-use Rattle.strategy_lemmas.specs.Lemmas.{serves, with_lemma}
-use Rattle.strategy_lemmas.specs.Short.{ShortSteps, short_steps, passes_over, writes_index, short_take, server, short_rules, of_indices, shortened, short, written_by}
+use Rattle.lemma_list.specs.declared.lemmas.Lemma.{Lemma}
+use Rattle.lemma_list.specs.Lemmas.{serves, with_lemma, server}
+use Rattle.strategy_lemmas.specs.Short.{ShortSteps, short_steps, passes_over, writes_index, short_take, short_rules, of_indices, shortened, short, written_by}
 use Rattle.strategy_lemmas.proofs.OutcomeLaws.{ends-as}
 use Rattle.certificate_text.specs.Text.{index_in}
 

@@ -23,7 +23,7 @@ IsTaken taken before now =
     WhereTold before.rest (λ input. Writes (first_verdict (lines input)) (MigratesTo (lines input)) taken before.written now)
 
 abbrev pub IsReadAs : Taken → Sides → Told → Type 0
-IsReadAs taken before rest = WhereTold before.rest (λ input. WasReadAs (judged_of taken) input rest)
+IsReadAs taken before rest = WhereTold before.rest (λ input. WasReadAs 5 (judged_of taken) input rest)
 
 pub all-run : (before after : Sides) → IsTaken Written before after.written → IsReadAs Written before after.rest → MigrateRun Done before after
 all-run before after taken read = λ input told.
@@ -36,7 +36,7 @@ cut-run before after taken read = λ input told.
     inl (record { text = h.0; is_text = h.1; n = h.2; cut = h.3; wrote = h.4; was_read = read input told })
 
 -- a run that is not done is one of a check
-run-as : (status : Status) (before after : Sides) → VerdictRun first_verdict status before after → (status ≡ Done → ⊥) → MigrateRun status before after
+run-as : (status : Status) (before after : Sides) → VerdictRun 5 first_verdict status before after → (status ≡ Done → ⊥) → MigrateRun status before after
 run-as Done before after run not = absurd (not refl)
 run-as IsRefused before after run not = run
 run-as Usage before after run not = run
@@ -56,7 +56,7 @@ tells : (v : Verdict) (status : Status) (before after : Sides) (now : Told) → 
     → TellsJudged (Ok v) status now after.written → MigrateRun status before after
 tells v status before after now not same taken read told =
     let from : TellsJudged (Ok v) status before.written after.written = subst (λ (t : Told). TellsJudged (Ok v) status t after.written) same told in
-    run-as status before after (verdict-run first_verdict (Ok v) status before after taken read from) (not-done v status before.written after.written not from)
+    run-as status before after (verdict-run 5 first_verdict (Ok v) status before after taken read from) (not-done v status before.written after.written not from)
 
 pub judged-run : (v : Verdict) (status : Status) (before after : Sides) (now : Told) → WritesLate (Judged v) before.written now → IsTaken (Judged v) before now → IsReadAs (Judged v) before after.rest
     → TellsJudged (Ok v) status now after.written → MigrateRun status before after

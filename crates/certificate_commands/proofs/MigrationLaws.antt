@@ -30,14 +30,14 @@ first-accepted ls head m indices h =
 ended : (status : Status) (before after : Sides) → MigrateRun status before after → (r0 r1 : ℕ) → HasCause (status ≡ ReadFault) r0 r1 → (Rose r0 r1 → ⊥) → (w0 w1 : ℕ) → HasCause (status ≡ WriteFault) w0 w1 → (Rose w0 w1 → ⊥)
     → (input : List ℕ) → before.rest ≡ Some input → length input < input_limit → first_verdict (lines input) ≡ Accepted → (status ≡ Done) ⊎ (status ≡ Memory)
 ended Done before after run r0 r1 reads no_read w0 w1 writes no_write input told below is = inl refl
-ended Refused before after run r0 r1 reads no_read w0 w1 writes no_write input told below is = accepted-done first_verdict Refused before after run r0 r1 reads no_read w0 w1 writes no_write input told below is
+ended Refused before after run r0 r1 reads no_read w0 w1 writes no_write input told below is = accepted-done 5 first_verdict Refused before after run r0 r1 reads no_read w0 w1 writes no_write input told below is
 ended Usage before after run r0 r1 reads no_read w0 w1 writes no_write input told below is = absurd run
-ended ReadFault before after run r0 r1 reads no_read w0 w1 writes no_write input told below is = accepted-done first_verdict ReadFault before after run r0 r1 reads no_read w0 w1 writes no_write input told below is
+ended ReadFault before after run r0 r1 reads no_read w0 w1 writes no_write input told below is = accepted-done 5 first_verdict ReadFault before after run r0 r1 reads no_read w0 w1 writes no_write input told below is
 ended WriteFault before after run r0 r1 reads no_read w0 w1 writes no_write input told below is = absurd (no_write (writes.rose refl))
 ended SpawnFault before after run r0 r1 reads no_read w0 w1 writes no_write input told below is = absurd run
-ended BadInput before after run r0 r1 reads no_read w0 w1 writes no_write input told below is = accepted-done first_verdict BadInput before after run r0 r1 reads no_read w0 w1 writes no_write input told below is
+ended BadInput before after run r0 r1 reads no_read w0 w1 writes no_write input told below is = accepted-done 5 first_verdict BadInput before after run r0 r1 reads no_read w0 w1 writes no_write input told below is
 ended Memory before after run r0 r1 reads no_read w0 w1 writes no_write input told below is = inr refl
-ended InputFull before after run r0 r1 reads no_read w0 w1 writes no_write input told below is = accepted-done first_verdict InputFull before after run r0 r1 reads no_read w0 w1 writes no_write input told below is
+ended InputFull before after run r0 r1 reads no_read w0 w1 writes no_write input told below is = accepted-done 5 first_verdict InputFull before after run r0 r1 reads no_read w0 w1 writes no_write input told below is
 
 pub migrations-done : MigrationsAreDone
 migrations-done = λ status before after run r0 r1 reads no_read w0 w1 writes no_write input told below head m indices h.

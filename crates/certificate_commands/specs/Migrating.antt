@@ -115,11 +115,11 @@ abbrev pub MigrateRun : Status → Sides → Sides → Type 0
 MigrateRun Done before after = WhereTold before.rest (λ input. WroteMigration input before after)
 MigrateRun WriteFault before after =
     WhereTold before.rest (λ input. CutMigration input before after
-    ⊎ ((n : ℕ) × CutVerdict (first_verdict (lines input)) input before after n))
-MigrateRun Refused before after = VerdictRun first_verdict Refused before after
-MigrateRun BadInput before after = VerdictRun first_verdict BadInput before after
-MigrateRun ReadFault before after = VerdictRun first_verdict ReadFault before after
-MigrateRun InputFull before after = VerdictRun first_verdict InputFull before after
-MigrateRun Memory before after = VerdictRun first_verdict Memory before after
+    ⊎ ((n : ℕ) × CutVerdict 5 (first_verdict (lines input)) input before after n))
+MigrateRun Refused before after = VerdictRun 5 first_verdict Refused before after
+MigrateRun BadInput before after = VerdictRun 5 first_verdict BadInput before after
+MigrateRun ReadFault before after = VerdictRun 5 first_verdict ReadFault before after
+MigrateRun InputFull before after = VerdictRun 5 first_verdict InputFull before after
+MigrateRun Memory before after = VerdictRun 5 first_verdict Memory before after
 MigrateRun Usage before after = ⊥
 MigrateRun SpawnFault before after = ⊥

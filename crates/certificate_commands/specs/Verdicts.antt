@@ -93,4 +93,4 @@ verdict lines = of_head (head_of 2 lines) (drop 5 lines)
 
 -- what was written and read where `check` ends with this status
 abbrev pub CheckRun : Status → Sides → Sides → Type 0
-CheckRun status before after = VerdictRun verdict status before after
+CheckRun status before after = VerdictRun 5 verdict status before after

@@ -11,7 +11,7 @@ ghost use Rattle.move_text.specs.Moves.{move_of};
 ghost use Rattle.certificate_text.specs.Text.{index_in};
 ghost use Rattle.certificate_text.specs.Heads.{IsHead};
 ghost use Rattle.certificate_text.specs.Taken.{HasRead};
-ghost use Rattle.text_verdicts.specs.Reading.{Judges, StopsWith, WasReadAs};
+ghost use Rattle.text_verdicts.specs.Reading.{Judges, WasReadAs};
 ghost use Rattle.certificate_commands.specs.Verdicts.{
   CheckRun,
   of_claim,
@@ -56,15 +56,15 @@ fn judge_indices<S: Source, G: Game>(
     ensures judged { (left : List AnyLine) → ahead_of reader.old (S.rest input.old) ≡ Some left
         → Judges result (of_items (position (G.course game.old))
         claim.now.depth claim.now.best claim.now.value (map index_in left)) }
-    ensures stops { StopsWith result reader.new }
     ensures cause { HasCause (result ≡ Err Unread.ReadFault)
         (S.read_faults input.old) (S.read_faults input.new) }
-    ensures read { (text : List ℕ) → HasRead text (S.rest input.old) reader.old
-        → HasRead text (S.rest input.new) reader.new }
+    ensures read { (text : List ℕ) → HasRead text (S.rest input.old) reader.old 5
+        → WasReadAs 5 result text (S.rest input.new) }
 {
     let mut indices = LineIndices::new(reader, input);
     let checked = check_indices(game, claim, &mut indices, stack);
-    verdict_of(checked, HEAD_LINES, indices.lines())
+    let lines = indices.lines();
+    verdict_of(checked, HEAD_LINES, lines)
 }
 
 /// The verdict on the lines to come, behind a head of this version, as those of the claim that this
@@ -84,11 +84,10 @@ fn judge_move<S: Source, G: Game>(
     ensures judged { (left : List AnyLine) → ahead_of reader.old (S.rest input.old) ≡ Some left
         → Judges result (of_lines version (position (G.course game.old))
         claim.now.depth claim.now.best claim.now.value left) }
-    ensures stops { StopsWith result reader.new }
     ensures cause { HasCause (result ≡ Err Unread.ReadFault)
         (S.read_faults input.old) (S.read_faults input.new) }
-    ensures read { (text : List ℕ) → HasRead text (S.rest input.old) reader.old
-        → HasRead text (S.rest input.new) reader.new }
+    ensures read { (text : List ℕ) → HasRead text (S.rest input.old) reader.old 5
+        → WasReadAs 5 result text (S.rest input.new) }
 {
     let Ok(mut stack) = MoveStack::new(alloc, claim.depth) else {
         return Err(Unread::Memory);
@@ -102,8 +101,8 @@ fn judge_move<S: Source, G: Game>(
     judge_tokens(reader, input, game, claim, &mut lemmas, &mut stack)
 }
 
-/// The verdict on the lines to come as those of a claim about the game's position, whose move is not
-/// read yet.
+/// The verdict on the lines to come as those of a claim about the game's position, whose move is
+/// not read yet.
 fn judge_text<S: Source, G: Game>(
     alloc: Global,
     head: &Head,
@@ -120,11 +119,10 @@ fn judge_text<S: Source, G: Game>(
         → Judges result (of_move head.now.version (position (G.course game.old)) head.now.depth
         (move_of head.now.game_type (position (G.course game.old)).board head.now.claim_text)
         head.now.value left) }
-    ensures stops { StopsWith result reader.new }
     ensures cause { HasCause (result ≡ Err Unread.ReadFault)
         (S.read_faults input.old) (S.read_faults input.new) }
-    ensures read { (text : List ℕ) → HasRead text (S.rest input.old) reader.old
-        → HasRead text (S.rest input.new) reader.new }
+    ensures read { (text : List ℕ) → HasRead text (S.rest input.old) reader.old 5
+        → WasReadAs 5 result text (S.rest input.new) }
 {
     let _state = game.state();
     match read_move(head.game_type, game, head.claim_text.items()) {
@@ -153,11 +151,10 @@ fn judge_claim<S: Source, G: Game + Drop>(
     requires { IsHead NEWEST head.now }
     ensures judged { (left : List AnyLine) → ahead_of reader.old (S.rest input.old) ≡ Some left
         → Judges result (of_claim head.now left) }
-    ensures stops { StopsWith result reader.new }
     ensures cause { HasCause (result ≡ Err Unread.ReadFault)
         (S.read_faults input.old) (S.read_faults input.new) }
-    ensures read { (text : List ℕ) → HasRead text (S.rest input.old) reader.old
-        → HasRead text (S.rest input.new) reader.new }
+    ensures read { (text : List ℕ) → HasRead text (S.rest input.old) reader.old 5
+        → WasReadAs 5 result text (S.rest input.new) }
 {
     let Ok(mut game) = played::<G>(alloc, head.game_type, head.moves.items(), head.depth) else {
         return Err(Unread::Memory);
@@ -176,11 +173,10 @@ fn judge_lines<S: Source, G: Game + Drop>(
 ) -> Result<Verdict, Unread>
     ensures judged { (left : List AnyLine) → ahead_of reader.old (S.rest input.old) ≡ Some left
         → Judges result (verdict left) }
-    ensures stops { StopsWith result reader.new }
     ensures cause { HasCause (result ≡ Err Unread.ReadFault)
         (S.read_faults input.old) (S.read_faults input.new) }
-    ensures read { (text : List ℕ) → HasRead text (S.rest input.old) reader.old
-        → HasRead text (S.rest input.new) reader.new }
+    ensures read { (text : List ℕ) → HasRead text (S.rest input.old) reader.old 0
+        → WasReadAs 5 result text (S.rest input.new) }
 {
     match read_head::<G, S>(alloc, reader, input, NEWEST) {
         Ok(head) => judge_claim::<S, G>(alloc, &head, reader, input),
@@ -193,7 +189,7 @@ fn judge<S: Source, G: Game + Drop>(alloc: Global, input: &mut S) -> Result<Verd
     ensures judged { (text : List ℕ) → S.rest input.old ≡ Some text
         → Judges result (verdict (lines text)) }
     ensures read { (text : List ℕ) → S.rest input.old ≡ Some text
-        → WasReadAs result text (S.rest input.new) }
+        → WasReadAs 5 result text (S.rest input.new) }
     ensures cause { HasCause (result ≡ Err Unread.ReadFault)
         (S.read_faults input.old) (S.read_faults input.new) }
 {

@@ -1,7 +1,7 @@
 //! Checks of certificates that cite.
 
-ghost use Rattle.std.specs.Prelude.{◌≡◌, ◌≤◌, ◌↔◌, ℕ, List, map, true, Ok, Some, Err};
-ghost use Rattle.io_edge.specs.Outside.{HasCause};
+ghost use Rattle.std.specs.Prelude.{◌≡◌, ◌+◌, ◌≤◌, ◌↔◌, ℕ, List, map, Some, Err};
+ghost use Rattle.io_edge.specs.Outside.{HasCause, Told as AnyTold};
 ghost use Rattle.line_feed.specs.Feed.{Reading};
 ghost use Rattle.line_feed.specs.Ahead.{ahead_of};
 ghost use Rattle.hive_model.specs.Lines.{Line as AnyLine};
@@ -11,12 +11,16 @@ ghost use Rattle.search_laws.specs.Laws.{IsSmall};
 ghost use Rattle.claim_walks.specs.Walks.{Outcome};
 ghost use Rattle.strategy_lemmas.specs.declared.tokens.WhyCited.{WhyCited as AnyWhy};
 ghost use Rattle.strategy_lemmas.specs.Cited.{CitedSteps};
-ghost use Rattle.strategy_lemmas.specs.CitedChecks.{CitedAnswers, CitedCountsBad};
-ghost use Rattle.strategy_lemmas.specs.CitedCauses.{CitedEnded, OnShortCited};
+ghost use Rattle.strategy_lemmas.specs.CitedChecks.{
+  CitedAnswers,
+  CitedCountsBad,
+  CitedCountsRefused,
+};
+ghost use Rattle.strategy_lemmas.specs.CitedCauses.{CitedEnded};
 ghost use Rattle.certificate_text.specs.Taken.{HasRead};
 ghost use Rattle.citing_text.specs.Taken.{TokenStopsAt};
 ghost use Rattle.citing_text.specs.TokenText.{token_in};
-ghost use Rattle.text_verdicts.specs.Reading.{Judges, StopsWith};
+ghost use Rattle.text_verdicts.specs.Reading.{Judges, WasReadAs};
 ghost use Rattle.certificate_commands.specs.Verdicts.{of_cited, of_tokens, of_why};
 
 use crate::checking::HEAD_LINES;
@@ -30,9 +34,7 @@ use text_verdicts::{Unread, Verdict};
 
 /// The verdict that a fault of tokens is.
 fn fault_of(place: u64, why: WhyCited) -> Verdict
-    ensures is { result ≡ of_why place why }
-    ensures stops { (reader : Reading) → OnShortCited why (reader.finished ≡ true)
-        → StopsWith (Ok result) reader }
+    ensures { result ≡ of_why place why }
 {
     match why {
         WhyCited::NoSuchMove => Verdict::Refused {
@@ -59,22 +61,22 @@ fn fault_of(place: u64, why: WhyCited) -> Verdict
     }
 }
 
-/// What the answer of a check of tokens means, where so many lines were taken behind a head of so
-/// many.
-fn verdict_of_cited(checked: CheckedCited, head: u32, lines: u64) -> Result<Verdict, Unread>
+/// What the answer of a check of tokens means, where so many lines were taken behind the head.
+fn verdict_of_cited(checked: CheckedCited, lines: u64) -> Result<Verdict, Unread>
     ensures judges { (o : Outcome CitedSteps AnyWhy) → CitedAnswers o checked
-        → CitedCountsBad o checked lines → Judges result (of_cited head o) }
+        → CitedCountsBad o checked lines → Judges result (of_cited 5 o) }
     ensures failed { (result ≡ Err Unread.ReadFault)
         ↔ (checked ≡ CheckedCited.Halted Halt.Failed) }
     ensures full { result ≡ Err Unread.InputFull → checked ≡ CheckedCited.Halted Halt.Full }
-    ensures stops { (reader : Reading)
-        → CitedEnded (λ answer. TokenStopsAt answer reader) checked → StopsWith result reader }
+    ensures read { (text : List ℕ) (rest : AnyTold) (reader : Reading)
+        → HasRead text rest reader (5 + lines) → CitedCountsRefused checked lines
+        → CitedEnded (λ answer. TokenStopsAt answer reader) checked → WasReadAs 5 result text rest }
 {
     match checked {
         CheckedCited::Accepted => Ok(Verdict::Accepted),
         CheckedCited::Refused { place, why } => Ok(fault_of(place, why)),
         CheckedCited::Halted { answer: Halt::Bad } => Ok(Verdict::BadLine {
-            line: lines.saturating_add(head as u64),
+            line: lines.saturating_add(HEAD_LINES as u64),
         }),
         CheckedCited::Halted {
             answer: Halt::Failed,
@@ -100,13 +102,12 @@ pub(crate) fn judge_tokens<S: Source, G: Game>(
     ensures judged { (left : List AnyLine) → ahead_of reader.old (S.rest input.old) ≡ Some left
         → Judges result (of_tokens (position (G.course game.old))
         claim.now.depth claim.now.best claim.now.value (map token_in left)) }
-    ensures stops { StopsWith result reader.new }
     ensures cause { HasCause (result ≡ Err Unread.ReadFault)
         (S.read_faults input.old) (S.read_faults input.new) }
-    ensures read { (text : List ℕ) → HasRead text (S.rest input.old) reader.old
-        → HasRead text (S.rest input.new) reader.new }
+    ensures read { (text : List ℕ) → HasRead text (S.rest input.old) reader.old 5
+        → WasReadAs 5 result text (S.rest input.new) }
 {
     let mut tokens = LineTokens::new(reader, input);
     let checked = check_cited(game, claim, &mut tokens, lemmas, stack);
-    verdict_of_cited(checked, HEAD_LINES, tokens.lines())
+    verdict_of_cited(checked, tokens.lines())
 }

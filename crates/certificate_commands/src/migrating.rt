@@ -1,6 +1,6 @@
 //! Certificates become certificates that cite.
 
-ghost use Rattle.std.specs.Prelude.{◌≡◌, ◌≢◌, ◌<◌, ◌≤◌, ◌↔◌, ℕ, ℤ, List, map, Option, Some};
+ghost use Rattle.std.specs.Prelude.{◌≡◌, ◌≢◌, ◌+◌, ◌<◌, ◌≤◌, ◌↔◌, ℕ, ℤ, List, map, Option, Some};
 ghost use Rattle.io_edge.specs.Outside.{HasCause, Told as AnyTold};
 ghost use Rattle.line_feed.specs.Feed.{Reading, input_limit};
 ghost use Rattle.line_feed.specs.Ahead.{ahead_of};
@@ -12,12 +12,16 @@ ghost use Rattle.hive_model.specs.Positions.{Position};
 ghost use Rattle.search_laws.specs.Laws.{IsSmall};
 ghost use Rattle.strategy_check.specs.Trace.{checked};
 ghost use Rattle.certificate_text.specs.Text.{head_text, index_in};
-ghost use Rattle.certificate_text.specs.Heads.{IsHead};
+ghost use Rattle.certificate_text.specs.Heads.{IsHead, fault_line};
 ghost use Rattle.certificate_text.specs.Taken.{HasRead, StopsAt};
-ghost use Rattle.citing_text.specs.Migrating.{MigrateAnswers, MigrateCountsBad};
+ghost use Rattle.citing_text.specs.Migrating.{
+  MigrateAnswers,
+  MigrateCountsBad,
+  MigrateCountsRefused,
+};
 ghost use Rattle.citing_text.specs.Migrating as calls;
 ghost use Rattle.citing_text.specs.Endings.{MigrateEnded};
-ghost use Rattle.text_verdicts.specs.Reading.{StopsWith, WasReadAs};
+ghost use Rattle.text_verdicts.specs.Reading.{WasReadAs};
 ghost use Rattle.certificate_commands.specs.Verdicts.{of_claim, of_items};
 ghost use Rattle.certificate_commands.specs.Migrating.{
   MigrateRun,
@@ -72,8 +76,10 @@ fn taken_of(migrated: Migrated, lines: u64) -> Taken
         → WritesLate result before after }
     ensures failed { (result ≡ Taken.Missed Unread.ReadFault)
         ↔ (migrated ≡ Migrated.Halted Halt.Failed) }
-    ensures stops { (reader : Reading) → MigrateEnded (λ answer. StopsAt answer reader) migrated
-        → StopsWith (judged_of result) reader }
+    ensures read { (text : List ℕ) (rest : AnyTold) (reader : Reading)
+        → HasRead text rest reader (5 + lines) → MigrateCountsRefused migrated lines
+        → MigrateEnded (λ answer. StopsAt answer reader) migrated
+        → WasReadAs 5 (judged_of result) text rest }
     ensures cut { (result ≡ Taken.Cut) ↔ (migrated ≡ Migrated.WriteFault) }
 {
     match migrated {
@@ -114,13 +120,12 @@ fn migrate_lines<S: Source, G: Game, K: Sink>(
         claim.now.depth claim.now.best claim.now.value (map index_in left) head.now) result
         (K.written output.old) (K.written output.new) }
     ensures late { WritesLate result (K.written output.old) (K.written output.new) }
-    ensures stops { StopsWith (judged_of result) reader.new }
     ensures reads { HasCause (result ≡ Taken.Missed Unread.ReadFault)
         (S.read_faults input.old) (S.read_faults input.new) }
     ensures writes { HasCause (result ≡ Taken.Cut)
         (K.write_faults output.old) (K.write_faults output.new) }
-    ensures read { (text : List ℕ) → HasRead text (S.rest input.old) reader.old
-        → HasRead text (S.rest input.new) reader.new }
+    ensures read { (text : List ℕ) → HasRead text (S.rest input.old) reader.old 5
+        → WasReadAs 5 (judged_of result) text (S.rest input.new) }
 {
     let mut indices = LineIndices::new(reader, input);
     let migrated = migrate_indices(alloc, game, claim, &mut indices, head, stack, output);
@@ -149,13 +154,12 @@ fn migrate_move<S: Source, G: Game + Drop, K: Sink>(
         claim.now.depth claim.now.best claim.now.value)) result
         (K.written output.old) (K.written output.new) }
     ensures late { WritesLate result (K.written output.old) (K.written output.new) }
-    ensures stops { StopsWith (judged_of result) reader.new }
     ensures reads { HasCause (result ≡ Taken.Missed Unread.ReadFault)
         (S.read_faults input.old) (S.read_faults input.new) }
     ensures writes { HasCause (result ≡ Taken.Cut)
         (K.write_faults output.old) (K.write_faults output.new) }
-    ensures read { (text : List ℕ) → HasRead text (S.rest input.old) reader.old
-        → HasRead text (S.rest input.new) reader.new }
+    ensures read { (text : List ℕ) → HasRead text (S.rest input.old) reader.old 5
+        → WasReadAs 5 (judged_of result) text (S.rest input.new) }
 {
     if !game.is_legal(claim.best) {
         return Taken::Judged(Verdict::Refused {
@@ -199,13 +203,12 @@ fn migrate_text<S: Source, G: Game + Drop, K: Sink>(
         → Writes (of_claim head.now left) (MigratesHead head.now left) result
         (K.written output.old) (K.written output.new) }
     ensures late { WritesLate result (K.written output.old) (K.written output.new) }
-    ensures stops { StopsWith (judged_of result) reader.new }
     ensures reads { HasCause (result ≡ Taken.Missed Unread.ReadFault)
         (S.read_faults input.old) (S.read_faults input.new) }
     ensures writes { HasCause (result ≡ Taken.Cut)
         (K.write_faults output.old) (K.write_faults output.new) }
-    ensures read { (text : List ℕ) → HasRead text (S.rest input.old) reader.old
-        → HasRead text (S.rest input.new) reader.new }
+    ensures read { (text : List ℕ) → HasRead text (S.rest input.old) reader.old 5
+        → WasReadAs 5 (judged_of result) text (S.rest input.new) }
 {
     let _state = game.state();
     match read_move(head.game_type, game, head.claim_text.items()) {
@@ -237,13 +240,12 @@ fn migrate_claim<S: Source, G: Game + Drop, K: Sink>(
         → Writes (of_claim head.now left) (MigratesHead head.now left) result
         (K.written output.old) (K.written output.new) }
     ensures late { WritesLate result (K.written output.old) (K.written output.new) }
-    ensures stops { StopsWith (judged_of result) reader.new }
     ensures reads { HasCause (result ≡ Taken.Missed Unread.ReadFault)
         (S.read_faults input.old) (S.read_faults input.new) }
     ensures writes { HasCause (result ≡ Taken.Cut)
         (K.write_faults output.old) (K.write_faults output.new) }
-    ensures read { (text : List ℕ) → HasRead text (S.rest input.old) reader.old
-        → HasRead text (S.rest input.new) reader.new }
+    ensures read { (text : List ℕ) → HasRead text (S.rest input.old) reader.old 5
+        → WasReadAs 5 (judged_of result) text (S.rest input.new) }
 {
     let Ok(mut game) = played::<G>(alloc, head.game_type, head.moves.items(), head.depth) else {
         return Taken::Missed(Unread::Memory);
@@ -259,9 +261,11 @@ fn taken_of_fault(fault: HeadFault) -> Taken
     ensures told { Missing fault result }
     ensures late { (told : AnyTold) → WritesLate result told told }
     ensures failed { (result ≡ Taken.Missed Unread.ReadFault) ↔ (fault ≡ HeadFault.ReadFault) }
-    ensures stops { (reader : Reading) → (fault ≡ HeadFault.ReadFault → reader.taken < input_limit)
+    ensures read { (text : List ℕ) (rest : AnyTold) (reader : Reading)
+        → HasRead text rest reader (fault_line 5 fault)
+        → (fault ≡ HeadFault.ReadFault → reader.taken < input_limit)
         → (fault ≡ HeadFault.InputFull → reader.taken ≡ input_limit)
-        → StopsWith (judged_of result) reader }
+        → WasReadAs 5 (judged_of result) text rest }
     ensures uncut { result ≢ Taken.Cut }
 {
     match fault {
@@ -284,13 +288,12 @@ fn migrate_all<S: Source, G: Game + Drop, K: Sink>(
         → Writes (first_verdict left) (MigratesTo left) result
         (K.written output.old) (K.written output.new) }
     ensures late { WritesLate result (K.written output.old) (K.written output.new) }
-    ensures stops { StopsWith (judged_of result) reader.new }
     ensures reads { HasCause (result ≡ Taken.Missed Unread.ReadFault)
         (S.read_faults input.old) (S.read_faults input.new) }
     ensures writes { HasCause (result ≡ Taken.Cut)
         (K.write_faults output.old) (K.write_faults output.new) }
-    ensures read { (text : List ℕ) → HasRead text (S.rest input.old) reader.old
-        → HasRead text (S.rest input.new) reader.new }
+    ensures read { (text : List ℕ) → HasRead text (S.rest input.old) reader.old 0
+        → WasReadAs 5 (judged_of result) text (S.rest input.new) }
 {
     match read_head::<G, S>(alloc, reader, input, FIRST) {
         Ok(head) => migrate_claim::<S, G, K>(alloc, &head, reader, input, output),
@@ -309,7 +312,7 @@ fn migrate_input<S: Source, G: Game + Drop, K: Sink>(
         (K.written output.old) (K.written output.new) }
     ensures late { WritesLate result (K.written output.old) (K.written output.new) }
     ensures read { (text : List ℕ) → S.rest input.old ≡ Some text
-        → WasReadAs (judged_of result) text (S.rest input.new) }
+        → WasReadAs 5 (judged_of result) text (S.rest input.new) }
     ensures reads { HasCause (result ≡ Taken.Missed Unread.ReadFault)
         (S.read_faults input.old) (S.read_faults input.new) }
     ensures writes { HasCause (result ≡ Taken.Cut)

@@ -27,6 +27,20 @@ TakesLine (Err ReadFault) n last old new = ⊤
 TakesLine (Err InputFull) n last old new = ⊤
 TakesLine (Err Memory) n last old new = ⊥
 
+-- the number of the last line that was taken at most where the reading of lines up to the n-th meets this fault: that of the bad
+-- line, or the second, which is the game
+abbrev pub fault_line : ℕ → HeadFault → ℕ
+fault_line n (BadLine k) = k
+fault_line n (BadGame fault) = 2
+fault_line n ReadFault = n
+fault_line n InputFull = n
+fault_line n Memory = n
+
+-- the same of what the reading answers, which takes all n lines where it meets no fault
+abbrev pub last_line : {A : Type 0} → ℕ → Result A HeadFault → ℕ
+last_line n (Ok a) = n
+last_line n (Err fault) = fault_line n fault
+
 -- the game of a line, or what is wrong with it, unless memory is wanting
 abbrev pub ReadsGame : Result Parsed HeadFault → Result Parsed GameFault → Type 0
 ReadsGame (Ok game) read = read ≡ Ok game

@@ -1,5 +1,5 @@
 -- What was read of an input, and how far its reader has come.
-use Rattle.std.specs.Prelude.{◌≡◌, ℕ, ◌<◌, ◌≤◌, true, ⊤, List, Some}
+use Rattle.std.specs.Prelude.{◌≡◌, ℕ, ◌<◌, ◌≤◌, true, ⊤, List, length, Some}
 use Rattle.io_edge.specs.Outside.{Told}
 use Rattle.hive_model.specs.Lines.{Line}
 use Rattle.line_feed.specs.Feed.{HoldsLittle, Reading, input_limit}
@@ -7,11 +7,12 @@ use Rattle.line_feed.specs.SoFar.{Fed}
 use Rattle.strategy_check.specs.declared.indices.IndexAnswer.{IndexAnswer}
 use Rattle.strategy_check.specs.declared.indices.IndexAnswer.TheVariants.{Index, End, Bad, Failed, Full}
 
--- Of the input these first bytes were read, by a reader that was new, and it gave these lines of them. They are within the limit, and
--- the reader holds the front of one line and at most one piece beyond it.
-pub record HasRead (input : List ℕ) (rest : Told) (reader : Reading) : Type 0 where
+-- Of the input these first bytes were read, by a reader that was new, and it gave these lines of them, at most so many. The bytes are
+-- within the limit, and the reader holds the front of one line and at most one piece beyond it.
+pub record HasRead (input : List ℕ) (rest : Told) (reader : Reading) (most : ℕ) : Type 0 where
   pub bytes : List ℕ
   pub given : List Line
+  pub few : length given ≤ most
   pub fed : Fed (Some input) rest reader bytes given
   pub within : reader.taken ≤ input_limit
   pub little : HoldsLittle reader

@@ -55,7 +55,8 @@ pub(crate) fn depth_at(text: &[u8]) -> Option<u32>
 
 /// The text of the move that the fourth line claims, which is not empty.
 pub(crate) fn move_at(text: &[u8]) -> Option<&[u8]>
-    ensures found { MatchOption result (move_at text.now ≡ None) (λ t. move_at text.now ≡ Some t.now) }
+    ensures found { MatchOption result (move_at text.now ≡ None)
+        (λ t. move_at text.now ≡ Some t.now) }
     ensures short { IfSome result (λ t. length t.now ≤ length text.now) }
 {
     let rest = behind(text, b"move ")?;

@@ -1,6 +1,6 @@
 //! The head of a certificate.
 
-ghost use Rattle.std.specs.Prelude.{◌≡◌, ◌≢◌, ◌<◌, ◌≤◌, ℕ, List, length, Some, Err, IfOk, IfSome};
+ghost use Rattle.std.specs.Prelude.{◌≡◌, ◌≢◌, ◌+◌, ◌<◌, ◌≤◌, ℕ, List, length, Some, Err, IfOk, IfSome};
 ghost use Rattle.io_edge.specs.Outside.{HasCause};
 ghost use Rattle.line_feed.specs.Feed.{input_limit};
 ghost use Rattle.line_feed.specs.Ahead.{ahead_of};
@@ -19,7 +19,7 @@ ghost use Rattle.certificate_text.specs.Text.{
   head_of,
 };
 ghost use Rattle.certificate_text.specs.Taken.{HasRead};
-ghost use Rattle.certificate_text.specs.Heads.{IsHead, Parses, ReadsGame, ReadsHead, TakesLine, in_all};
+ghost use Rattle.certificate_text.specs.Heads.{IsHead, Parses, ReadsGame, ReadsHead, TakesLine, in_all, last_line};
 
 use crate::fields::{depth_at, move_at, value_at, version_at};
 use game_text::{GameFault, Parsed, read_game};
@@ -28,7 +28,8 @@ use io_edge::Source;
 use line_feed::{LineAnswer, LineReader};
 use std::alloc::{AllocError, Global};
 
-/// What the head of a certificate says: its version, the game, and the claim, whose move is not read yet.
+/// What the head of a certificate says: its version, the game, and the claim, whose move is not
+/// read yet.
 #[derive(Drop)]
 pub struct Head {
     pub version: u32,
@@ -59,20 +60,23 @@ pub enum HeadFault {
 /// # Errors
 ///
 /// A line that is missing or too long, a failed read, and a reader that takes no more.
-#[tactic(auto, using(crate::proofs::TakenLaws::read_on))]
+#[tactic(auto, using(crate::proofs::TakenLaws::read_line))]
 pub fn next_text<S: Source>(
     reader: &mut LineReader,
     source: &mut S,
     line: u32,
 ) -> Result<(), HeadFault>
-    ensures told { TakesLine result line reader.new.last (ahead_of reader.old (S.rest source.old)) (ahead_of reader.new (S.rest source.new)) }
+    ensures told { TakesLine result line reader.new.last (ahead_of reader.old (S.rest source.old))
+        (ahead_of reader.new (S.rest source.new)) }
     ensures fits { IfOk result (λ done. length reader.new.last ≤ 65536) }
     ensures no_game { (fault : AnyFault) → result ≢ Err (HeadFault.BadGame fault) }
     ensures full { result ≡ Err HeadFault.InputFull → reader.new.taken ≡ input_limit }
-    ensures cause { HasCause (result ≡ Err HeadFault.ReadFault) (S.read_faults source.old) (S.read_faults source.new) }
+    ensures cause { HasCause (result ≡ Err HeadFault.ReadFault) (S.read_faults source.old)
+        (S.read_faults source.new) }
     ensures bytes { in_all reader.new (S.rest source.new) ≡ in_all reader.old (S.rest source.old) }
     ensures failed { result ≡ Err HeadFault.ReadFault → reader.new.taken < input_limit }
-    ensures read { (input : List ℕ) → HasRead input (S.rest source.old) reader.old → HasRead input (S.rest source.new) reader.new }
+    ensures read { (input : List ℕ) (before : ℕ) → line ≡ before + 1 → HasRead input (S.rest source.old) reader.old before
+        → HasRead input (S.rest source.new) reader.new (last_line line result) }
 {
     match reader.next_line(source) {
         LineAnswer::Line => Ok(()),
@@ -93,10 +97,12 @@ fn read_version<S: Source>(
     ensures range { IfOk result (λ v. (1 ≤ v) × (v ≤ newest)) }
     ensures no_game { (fault : AnyFault) → result ≢ Err (HeadFault.BadGame fault) }
     ensures full { result ≡ Err HeadFault.InputFull → reader.new.taken ≡ input_limit }
-    ensures cause { HasCause (result ≡ Err HeadFault.ReadFault) (S.read_faults source.old) (S.read_faults source.new) }
+    ensures cause { HasCause (result ≡ Err HeadFault.ReadFault) (S.read_faults source.old)
+        (S.read_faults source.new) }
     ensures bytes { in_all reader.new (S.rest source.new) ≡ in_all reader.old (S.rest source.old) }
     ensures failed { result ≡ Err HeadFault.ReadFault → reader.new.taken < input_limit }
-    ensures read { (input : List ℕ) → HasRead input (S.rest source.old) reader.old → HasRead input (S.rest source.new) reader.new }
+    ensures read { (input : List ℕ) → HasRead input (S.rest source.old) reader.old 0
+        → HasRead input (S.rest source.new) reader.new (last_line 1 result) }
 {
     if let Err(fault) = next_text(reader, source, 1) {
         return Err(fault);
@@ -116,7 +122,8 @@ pub fn game_in<G: Game + Drop>(alloc: Global, line: &[u8]) -> Result<Parsed, Hea
     requires { length line.now ≤ 65536 }
     ensures read { ReadsGame result (game_of line.now) }
     ensures game { IfOk result (λ g. IsGame g.game_type g.moves × (length g.moves ≤ 5000)) }
-    ensures fault { (fault : AnyFault) → result ≡ Err (HeadFault.BadGame fault) → fault ≢ GameFault.Memory }
+    ensures fault { (fault : AnyFault) → result ≡ Err (HeadFault.BadGame fault)
+        → fault ≢ GameFault.Memory }
     ensures no_read { result ≢ Err HeadFault.ReadFault }
     ensures no_full { result ≢ Err HeadFault.InputFull }
 {
@@ -136,12 +143,15 @@ fn read_game_line<G: Game + Drop, S: Source>(
     ensures told { (lines : List AnyLine) → ahead_of reader.old (S.rest source.old) ≡ Some lines
         → Parses result (with_game lines) lines (ahead_of reader.new (S.rest source.new)) }
     ensures game { IfOk result (λ g. IsGame g.game_type g.moves × (length g.moves ≤ 5000)) }
-    ensures fault { (fault : AnyFault) → result ≡ Err (HeadFault.BadGame fault) → fault ≢ GameFault.Memory }
+    ensures fault { (fault : AnyFault) → result ≡ Err (HeadFault.BadGame fault)
+        → fault ≢ GameFault.Memory }
     ensures full { result ≡ Err HeadFault.InputFull → reader.new.taken ≡ input_limit }
-    ensures cause { HasCause (result ≡ Err HeadFault.ReadFault) (S.read_faults source.old) (S.read_faults source.new) }
+    ensures cause { HasCause (result ≡ Err HeadFault.ReadFault) (S.read_faults source.old)
+        (S.read_faults source.new) }
     ensures bytes { in_all reader.new (S.rest source.new) ≡ in_all reader.old (S.rest source.old) }
     ensures failed { result ≡ Err HeadFault.ReadFault → reader.new.taken < input_limit }
-    ensures read { (input : List ℕ) → HasRead input (S.rest source.old) reader.old → HasRead input (S.rest source.new) reader.new }
+    ensures read { (input : List ℕ) → HasRead input (S.rest source.old) reader.old 1
+        → HasRead input (S.rest source.new) reader.new (last_line 2 result) }
 {
     if let Err(fault) = next_text(reader, source, 2) {
         return Err(fault);
@@ -156,10 +166,12 @@ fn read_depth<S: Source>(reader: &mut LineReader, source: &mut S) -> Result<u32,
     ensures range { IfOk result (λ d. (1 ≤ d) × (d ≤ 64)) }
     ensures no_game { (fault : AnyFault) → result ≢ Err (HeadFault.BadGame fault) }
     ensures full { result ≡ Err HeadFault.InputFull → reader.new.taken ≡ input_limit }
-    ensures cause { HasCause (result ≡ Err HeadFault.ReadFault) (S.read_faults source.old) (S.read_faults source.new) }
+    ensures cause { HasCause (result ≡ Err HeadFault.ReadFault) (S.read_faults source.old)
+        (S.read_faults source.new) }
     ensures bytes { in_all reader.new (S.rest source.new) ≡ in_all reader.old (S.rest source.old) }
     ensures failed { result ≡ Err HeadFault.ReadFault → reader.new.taken < input_limit }
-    ensures read { (input : List ℕ) → HasRead input (S.rest source.old) reader.old → HasRead input (S.rest source.new) reader.new }
+    ensures read { (input : List ℕ) → HasRead input (S.rest source.old) reader.old 2
+        → HasRead input (S.rest source.new) reader.new (last_line 3 result) }
 {
     if let Err(fault) = next_text(reader, source, 3) {
         return Err(fault);
@@ -190,10 +202,12 @@ fn read_claim_text<S: Source>(
     ensures short { IfOk result (λ t. length t ≤ 65536) }
     ensures no_game { (fault : AnyFault) → result ≢ Err (HeadFault.BadGame fault) }
     ensures full { result ≡ Err HeadFault.InputFull → reader.new.taken ≡ input_limit }
-    ensures cause { HasCause (result ≡ Err HeadFault.ReadFault) (S.read_faults source.old) (S.read_faults source.new) }
+    ensures cause { HasCause (result ≡ Err HeadFault.ReadFault) (S.read_faults source.old)
+        (S.read_faults source.new) }
     ensures bytes { in_all reader.new (S.rest source.new) ≡ in_all reader.old (S.rest source.old) }
     ensures failed { result ≡ Err HeadFault.ReadFault → reader.new.taken < input_limit }
-    ensures read { (input : List ℕ) → HasRead input (S.rest source.old) reader.old → HasRead input (S.rest source.new) reader.new }
+    ensures read { (input : List ℕ) → HasRead input (S.rest source.old) reader.old 3
+        → HasRead input (S.rest source.new) reader.new (last_line 4 result) }
 {
     if let Err(fault) = next_text(reader, source, 4) {
         return Err(fault);
@@ -214,10 +228,12 @@ fn read_value<S: Source>(reader: &mut LineReader, source: &mut S) -> Result<i32,
     ensures range { IfOk result (λ v. IsSmall 1000064 v) }
     ensures no_game { (fault : AnyFault) → result ≢ Err (HeadFault.BadGame fault) }
     ensures full { result ≡ Err HeadFault.InputFull → reader.new.taken ≡ input_limit }
-    ensures cause { HasCause (result ≡ Err HeadFault.ReadFault) (S.read_faults source.old) (S.read_faults source.new) }
+    ensures cause { HasCause (result ≡ Err HeadFault.ReadFault) (S.read_faults source.old)
+        (S.read_faults source.new) }
     ensures bytes { in_all reader.new (S.rest source.new) ≡ in_all reader.old (S.rest source.old) }
     ensures failed { result ≡ Err HeadFault.ReadFault → reader.new.taken < input_limit }
-    ensures read { (input : List ℕ) → HasRead input (S.rest source.old) reader.old → HasRead input (S.rest source.new) reader.new }
+    ensures read { (input : List ℕ) → HasRead input (S.rest source.old) reader.old 4
+        → HasRead input (S.rest source.new) reader.new (last_line 5 result) }
 {
     if let Err(fault) = next_text(reader, source, 5) {
         return Err(fault);
@@ -228,14 +244,15 @@ fn read_value<S: Source>(reader: &mut LineReader, source: &mut S) -> Result<i32,
     }
 }
 
-/// Reads the five lines of the head of a certificate, whose version is at most the newest one: `hive-certificate ` and the version, a
-/// game, `depth ` and a number from 1 to 64, `move ` and some text, and `value ` and a whole number from -1,000,064 to 1,000,064. The
-/// game is played on a game of the kind G that is made for it. No line behind the first fault is read.
+/// Reads the five lines of the head of a certificate, whose version is at most the newest one:
+/// `hive-certificate ` and the version, a game, `depth ` and a number from 1 to 64, `move ` and
+/// some text, and `value ` and a whole number from -1,000,064 to 1,000,064. The game is played on a
+/// game of the kind G that is made for it. No line behind the first fault is read.
 ///
 /// # Errors
 ///
-/// The first line that is missing, too long or not of its form, or what is wrong with the second line as a game; a failed read; a
-/// reader that takes no more; and want of memory.
+/// The first line that is missing, too long or not of its form, or what is wrong with the second
+/// line as a game; a failed read; a reader that takes no more; and want of memory.
 pub fn read_head<G: Game + Drop, S: Source>(
     alloc: Global,
     reader: &mut LineReader,
@@ -245,12 +262,15 @@ pub fn read_head<G: Game + Drop, S: Source>(
     ensures told { (lines : List AnyLine) → ahead_of reader.old (S.rest source.old) ≡ Some lines
         → ReadsHead result (head_of newest lines) lines (ahead_of reader.new (S.rest source.new)) }
     ensures head { IfOk result (λ h. IsHead newest h) }
-    ensures fault { (fault : AnyFault) → result ≡ Err (HeadFault.BadGame fault) → fault ≢ GameFault.Memory }
+    ensures fault { (fault : AnyFault) → result ≡ Err (HeadFault.BadGame fault)
+        → fault ≢ GameFault.Memory }
     ensures full { result ≡ Err HeadFault.InputFull → reader.new.taken ≡ input_limit }
-    ensures cause { HasCause (result ≡ Err HeadFault.ReadFault) (S.read_faults source.old) (S.read_faults source.new) }
+    ensures cause { HasCause (result ≡ Err HeadFault.ReadFault) (S.read_faults source.old)
+        (S.read_faults source.new) }
     ensures bytes { in_all reader.new (S.rest source.new) ≡ in_all reader.old (S.rest source.old) }
     ensures failed { result ≡ Err HeadFault.ReadFault → reader.new.taken < input_limit }
-    ensures read { (input : List ℕ) → HasRead input (S.rest source.old) reader.old → HasRead input (S.rest source.new) reader.new }
+    ensures read { (input : List ℕ) → HasRead input (S.rest source.old) reader.old 0
+        → HasRead input (S.rest source.new) reader.new (last_line 5 result) }
 {
     let version = match read_version(reader, source, newest) {
         Ok(version) => version,

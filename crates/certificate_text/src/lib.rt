@@ -1,4 +1,5 @@
-//! Certificates as texts: the head of a text, and indices of which each stands on a line of its own.
+//! Certificates as texts: the head of a text, and indices of which each stands on a line of its
+//! own.
 #![tactic(auto)]
 
 mod fields;

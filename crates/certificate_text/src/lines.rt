@@ -1,6 +1,6 @@
 //! Indices of which each stands on a line of its own.
 
-ghost use Rattle.std.specs.Prelude.{◌≡◌, [], ◌∷◌, nat_eq, map};
+ghost use Rattle.std.specs.Prelude.{◌≡◌, ◌+◌, [], ◌∷◌, nat_eq, map};
 ghost use Rattle.std.specs.Option.{option_map};
 ghost use Rattle.line_feed.specs.Feed.{input_limit};
 ghost use Rattle.line_feed.specs.Ahead.{ahead_of};
@@ -13,7 +13,8 @@ use io_edge::Source;
 use line_feed::{LineAnswer, LineReader};
 use strategy_check::{IndexAnswer, Indices};
 
-/// The indices on the lines to come of a reader and its source, which it borrows. A line that is too long or is no index is a bad item.
+/// The indices on the lines to come of a reader and its source, which it borrows. A line that is
+/// too long or is no index is a bad item.
 #[derive(Drop)]
 pub struct LineIndices<'a, 'b, S: Source> {
     reader: &'a mut LineReader,
@@ -59,7 +60,7 @@ impl<S: Source> Indices for LineIndices<'_, '_, S> {
       bytes = in_all s.reader.now (S.rest s.source.now);
     } };
 
-    ghost known = { λ s input. HasRead input (S.rest s.source.now) s.reader.now };
+    ghost known = { λ s input before. HasRead input (S.rest s.source.now) s.reader.now (before + s.lines) };
 
     ghost met = { λ s answer. StopsAt answer s.reader.now };
 

@@ -78,8 +78,8 @@ fn game_of<G: Game + Drop>(alloc: Global, text: &[u8], room: u32) -> Result<G, N
     }
 }
 
-/// Reads the first line, which is to be a game that is not over. The game is under way at the end of its moves, with room for so many
-/// more plies. What stands behind the line is not looked at.
+/// Reads the first line, which is to be a game that is not over. The game is under way at the end
+/// of its moves, with room for so many more plies. What stands behind the line is not looked at.
 pub fn first_game<S: Source, G: Game + Drop>(
     alloc: Global,
     reader: &mut LineReader,
@@ -93,7 +93,8 @@ pub fn first_game<S: Source, G: Game + Drop>(
         (λ g. GivesGame (G.course g) bytes reader.old reader.new (S.rest input.new))
         (λ e. GivesNone e bytes reader.old reader.new (S.rest input.new)) }
     ensures room { IfOk result (λ g. room ≤ (G.course g).spare) }
-    ensures cause { HasCause (result ≡ Err NoGame.ReadFault) (S.read_faults input.old) (S.read_faults input.new) }
+    ensures cause { HasCause (result ≡ Err NoGame.ReadFault) (S.read_faults input.old)
+        (S.read_faults input.new) }
 {
     match reader.next_line(input) {
         LineAnswer::Line => game_of(alloc, reader.line(), room),
@@ -104,7 +105,8 @@ pub fn first_game<S: Source, G: Game + Drop>(
     }
 }
 
-/// Reads on to the end of the input, before which no further line is to come, not even an empty one.
+/// Reads on to the end of the input, before which no further line is to come, not even an empty
+/// one.
 fn no_more_lines<S: Source>(
     alloc: Global,
     reader: &mut LineReader,
@@ -115,7 +117,8 @@ fn no_more_lines<S: Source>(
         × MatchResult result
         (λ _. Ends reader.old bytes reader.new (S.rest input.new))
         (λ e. GoesOn e bytes reader.old reader.new (S.rest input.new)) }
-    ensures cause { HasCause (result ≡ Err NoGame.ReadFault) (S.read_faults input.old) (S.read_faults input.new) }
+    ensures cause { HasCause (result ≡ Err NoGame.ReadFault) (S.read_faults input.old)
+        (S.read_faults input.new) }
 {
     match reader.next_line(input) {
         LineAnswer::End => Ok(()),
@@ -125,8 +128,9 @@ fn no_more_lines<S: Source>(
     }
 }
 
-/// Reads the input, which is to be one line, a game that is not over, to its end. The game is under way at the end of its moves,
-/// with room for so many more plies. A line that shows that the input is none is the last that is read.
+/// Reads the input, which is to be one line, a game that is not over, to its end. The game is under
+/// way at the end of its moves, with room for so many more plies. A line that shows that the input
+/// is none is the last that is read.
 pub fn read_one_game<S: Source, G: Game + Drop>(
     alloc: Global,
     input: &mut S,
@@ -136,8 +140,10 @@ pub fn read_one_game<S: Source, G: Game + Drop>(
     ensures game { IfOk result (λ g. WhereTold (S.rest input.old)
         (λ bytes. (game : AnyGame) × IsAsked bytes (S.rest input.new) game × IsReplayOf (G.course g) game)) }
     ensures room { IfOk result (λ g. room ≤ (G.course g).spare) }
-    ensures none { IfErr result (λ e. WhereTold (S.rest input.old) (λ bytes. IsNoGame e bytes (S.rest input.new))) }
-    ensures cause { HasCause (result ≡ Err NoGame.ReadFault) (S.read_faults input.old) (S.read_faults input.new) }
+    ensures none { IfErr result (λ e. WhereTold (S.rest input.old)
+        (λ bytes. IsNoGame e bytes (S.rest input.new))) }
+    ensures cause { HasCause (result ≡ Err NoGame.ReadFault) (S.read_faults input.old)
+        (S.read_faults input.new) }
 {
     let Ok(mut reader) = LineReader::new(alloc) else {
         return Err(NoGame::Memory);

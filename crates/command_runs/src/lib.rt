@@ -1,4 +1,5 @@
-//! How the run of a command ends, what it reads of its input, and the run of a command that answers one game.
+//! How the run of a command ends, what it reads of its input, and the run of a command that answers
+//! one game.
 #![tactic(auto)]
 
 mod asking;

@@ -17,7 +17,8 @@ pub trait Judge {
     /// The number of plies that it is prepared to search.
     ghost prepared: { Self → ℕ };
 
-    /// Whether the position keeps to the limit with so many plies left to search. The game is as before.
+    /// Whether the position keeps to the limit with so many plies left to search. The game is as
+    /// before.
     fn is_kept<G: Game>(&mut self, game: &mut G, depth: u32, limit: Limit) -> bool
         requires deep { depth ≤ 64 }
         requires ready { depth ≤ prepared self.old }

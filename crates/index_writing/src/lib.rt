@@ -1,5 +1,5 @@
-//! Writing the least indices that show a claim of what a position is worth, one a line. No tree is kept: what is worth what is asked
-//! anew wherever an index is needed.
+//! Writing the least indices that show a claim of what a position is worth, one a line. No tree is
+//! kept: what is worth what is asked anew wherever an index is needed.
 #![tactic(auto)]
 
 mod judge;

@@ -66,7 +66,8 @@ fn is_kept_below<G: Game, J: Judge>(
     kept
 }
 
-/// The place of the first of the legal moves, which stand on the level, behind which the limit is kept.
+/// The place of the first of the legal moves, which stand on the level, behind which the limit is
+/// kept.
 fn find_kept<G: Game, J: Judge>(
     judge: &mut J,
     game: &mut G,
@@ -81,7 +82,8 @@ fn find_kept<G: Game, J: Judge>(
     requires spare { depth < (G.course game.old).spare }
     requires level { level < length stack.now.lists }
     requires listed { level_of stack.now level ≡ moves (position (G.course game.old)) }
-    ensures found { result ≡ first_kept (position (G.course game.old)) depth limit (moves (position (G.course game.old))) }
+    ensures found { result ≡ first_kept (position (G.course game.old)) depth limit
+        (moves (position (G.course game.old))) }
     ensures game { G.course game.new ≡ G.course game.old }
     ensures same { J.prepared judge.new ≡ J.prepared judge.old }
 {
@@ -103,8 +105,9 @@ fn is_leaf<G: Game>(game: &G, depth: u32) -> bool
     depth == 0 || game.state().is_over()
 }
 
-/// Writes the least indices that show the limit of what the position is worth, with `depth` plies left to search, from 0 to 64. Where
-/// the limit is not kept, the indices show nothing. Game and stack are as before. The answer is whether all was written.
+/// Writes the least indices that show the limit of what the position is worth, with `depth` plies
+/// left to search, from 0 to 64. Where the limit is not kept, the indices show nothing. Game and
+/// stack are as before. The answer is whether all was written.
 #[cycle(write)]
 pub fn write_indices<G: Game, J: Judge, K: Sink>(
     judge: &mut J,
@@ -119,7 +122,8 @@ pub fn write_indices<G: Game, J: Judge, K: Sink>(
     requires small { IsSmall 1000090 (number limit) }
     requires spare { depth ≤ (G.course game.old).spare }
     requires room { depth ≤ stack.old.free }
-    ensures wrote { Wrote result (index_lines (least (position (G.course game.old)) depth limit)) (K.written sink.old) (K.written sink.new) }
+    ensures wrote { Wrote result (index_lines (least (position (G.course game.old)) depth limit))
+        (K.written sink.old) (K.written sink.new) }
     ensures cause { HasCause (result ≡ false) (K.write_faults sink.old) (K.write_faults sink.new) }
     ensures game { G.course game.new ≡ G.course game.old }
     ensures same { J.prepared judge.new ≡ J.prepared judge.old }
@@ -154,7 +158,8 @@ fn write_node<G: Game, J: Judge, K: Sink>(
     requires room { depth - 1 ≤ stack.old.free }
     requires level { level < length stack.old.lists }
     requires listed { level_of stack.old level ≡ moves (position (G.course game.old)) }
-    ensures wrote { Wrote result (index_lines (least (position (G.course game.old)) depth limit)) (K.written sink.old) (K.written sink.new) }
+    ensures wrote { Wrote result (index_lines (least (position (G.course game.old)) depth limit))
+        (K.written sink.old) (K.written sink.new) }
     ensures cause { HasCause (result ≡ false) (K.write_faults sink.old) (K.write_faults sink.new) }
     ensures game { G.course game.new ≡ G.course game.old }
     ensures same { J.prepared judge.new ≡ J.prepared judge.old }
@@ -180,8 +185,8 @@ fn write_node<G: Game, J: Judge, K: Sink>(
     }
 }
 
-/// Writes the indices of one limit behind each of the legal moves of a level from place `from` on and before place `to`, with `depth`
-/// plies left behind each.
+/// Writes the indices of one limit behind each of the legal moves of a level from place `from` on
+/// and before place `to`, with `depth` plies left behind each.
 #[cycle(write)]
 pub fn write_moves<G: Game, J: Judge, K: Sink>(
     judge: &mut J,
@@ -202,7 +207,9 @@ pub fn write_moves<G: Game, J: Judge, K: Sink>(
     requires level { level < length stack.old.lists }
     requires listed { level_of stack.old level ≡ moves (position (G.course game.old)) }
     requires before { to ≤ length (moves (position (G.course game.old))) }
-    ensures wrote { Wrote result (lines_below (position (G.course game.old)) depth limit (range_of (moves (position (G.course game.old))) from to)) (K.written sink.old) (K.written sink.new) }
+    ensures wrote { Wrote result (lines_below (position (G.course game.old)) depth limit
+        (range_of (moves (position (G.course game.old))) from to)) (K.written sink.old)
+        (K.written sink.new) }
     ensures cause { HasCause (result ≡ false) (K.write_faults sink.old) (K.write_faults sink.new) }
     ensures game { G.course game.new ≡ G.course game.old }
     ensures same { J.prepared judge.new ≡ J.prepared judge.old }
@@ -234,7 +241,9 @@ pub fn write_child<G: Game, J: Judge, K: Sink>(
     requires legal { IsOn (moves (position (G.course game.old))) m }
     requires spare { depth < (G.course game.old).spare }
     requires room { depth ≤ stack.old.free }
-    ensures wrote { Wrote result (index_lines (least (after (position (G.course game.old)) m) depth limit)) (K.written sink.old) (K.written sink.new) }
+    ensures wrote { Wrote result (index_lines
+        (least (after (position (G.course game.old)) m) depth limit)) (K.written sink.old)
+        (K.written sink.new) }
     ensures cause { HasCause (result ≡ false) (K.write_faults sink.old) (K.write_faults sink.new) }
     ensures game { G.course game.new ≡ G.course game.old }
     ensures same { J.prepared judge.new ≡ J.prepared judge.old }

@@ -46,13 +46,15 @@ fn push_move<G: Game>(text: &mut ReplyText, game: &G, m: Move) -> Result<(), All
 
 /// Appends the line of the value.
 fn push_value(text: &mut ReplyText, value: i32) -> Result<(), AllocError>
-    ensures { OnOk result (text.new ≡ text.old ++ written_line (codes "value " ++ signed_decimal value)) }
+    ensures { OnOk result (text.new ≡ text.old
+        ++ written_line (codes "value " ++ signed_decimal value)) }
 {
     let mut buffer = Buffer::new();
     push_line(text, b"value ", buffer.format(value).as_bytes())
 }
 
-/// The head of the certificate that a legal move is the best one of a game at a depth, and what it is worth.
+/// The head of the certificate that a legal move is the best one of a game at a depth, and what it
+/// is worth.
 pub(crate) fn head_of<G: Game + Drop>(
     alloc: Global,
     game: &G,

@@ -1,5 +1,5 @@
-//! Writing the certificate of a game's best move. No tree is kept: what positions are worth is asked
-//! anew wherever an index is needed.
+//! Writing the certificate of a game's best move. No tree is kept: what positions are worth is
+//! asked anew wherever an index is needed.
 #![tactic(auto)]
 
 mod fault;

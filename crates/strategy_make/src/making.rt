@@ -17,9 +17,9 @@ use io_edge::{Sink, write_all};
 use std::alloc::Global;
 
 /// Writes the certificate of the game's best move at a depth, from 1 to the depth that the searcher
-/// is prepared for: the five lines of the head, and the least indices, each on a line of its own. The
-/// answer is that move, and what it is worth. The game is not over, has room for as many plies, and
-/// has at most 5,000; it is as before, and so is the searcher.
+/// is prepared for: the five lines of the head, and the least indices, each on a line of its own.
+/// The answer is that move, and what it is worth. The game is not over, has room for as many plies,
+/// and has at most 5,000; it is as before, and so is the searcher.
 ///
 /// # Errors
 ///
@@ -41,7 +41,8 @@ pub fn make<G: Game + Drop, K: Sink>(
     ensures worth { IfOk result (λ b. b.value ≡ value (position (G.course game.old)) depth) }
     ensures claim { IfOk result (λ b. MayClaim
         (G.course game.old).game_type (G.course game.old).made depth b.best b.value) }
-    ensures written { Makes result (G.course game.old) depth (K.written sink.old) (K.written sink.new) }
+    ensures written { Makes result (G.course game.old) depth (K.written sink.old)
+        (K.written sink.new) }
     ensures cause { HasCause (result ≡ Err MakeFault.WriteFault)
         (K.write_faults sink.old) (K.write_faults sink.new) }
     ensures game { G.course game.new ≡ G.course game.old }

@@ -63,9 +63,9 @@ fn write_root<G: Game, J: Judge, K: Sink>(
     write_moves(judge, game, level, from, count, depth, least, stack, sink)
 }
 
-/// Writes the least indices that show that a legal move is the best one, with `depth` plies searched,
-/// and what it is worth. The game is not over. Game and stack are as before. The answer is whether all
-/// was written.
+/// Writes the least indices that show that a legal move is the best one, with `depth` plies
+/// searched, and what it is worth. The game is not over. Game and stack are as before. The answer
+/// is whether all was written.
 pub(crate) fn write_least<G: Game, J: Judge, K: Sink>(
     judge: &mut J,
     game: &mut G,

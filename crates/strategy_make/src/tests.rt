@@ -90,7 +90,8 @@ fn failed_writes_end_a_certificate(rt: HostRuntime) -> Result<(), Fail> {
     Ok(())
 }
 
-/// The answer to a certificate of the opening, two plies deep, whose move places the piece of this index.
+/// The answer to a certificate of the opening, two plies deep, whose move places the piece of this
+/// index.
 fn checked(alloc: Global, index: u8, value: i32, indices: &[u32]) -> Result<Checked, AllocError> {
     let mut game = PlainGame::opening(alloc, BASE)?;
     if is_over(&game) || value < -100 || value > 100 {

@@ -1,18 +1,22 @@
 -- What is judged of a text, what was read of it, and how a run ends.
-use Rattle.std.proofs.Common.{◌≡◌, ◌⊎◌, ℕ, take, ◌<◌, ◌≤◌, ◌+◌, arith, Bool, true, List, [], ◌++◌, length, length-append, refl, sym, ap, subst, ◌∙◌, inl, inr, Some, None}
+use Rattle.std.proofs.Common.{◌≡◌, ◌⊎◌, ℕ, take, ◌<◌, ◌≤◌, ◌+◌, ◌-◌, ◌^◌, min, arith, Bool, true, List, [], ◌++◌, length, length-append, refl, sym, ap, subst, ◌∙◌, inl, inr, Some, None}
 use Rattle.std.specs.Prelude.{Result, Ok, Err}
 use Rattle.std.proofs.lemmas.List.{append-nil}
 use Rattle.io_edge.specs.Outside.{Told, IsAtEnd, behind, in_front}
-use Rattle.hive_model.specs.Lines.{Line, lines}
+use Rattle.hive_model.specs.Lines.{lines}
 use Rattle.line_feed.specs.Feed.{HoldsLittle, Reading, fresh, input_limit, pending}
 use Rattle.line_feed.specs.SoFar.{Covers, Fed, WasRead}
 use Rattle.line_feed.proofs.FedLemmas.{fed_begin}
 use Rattle.strategy_check.specs.Causes.{OnShort}
 use Rattle.strategy_check.specs.declared.answers.Why.{Why}
 use Rattle.strategy_check.specs.declared.answers.Why.TheVariants.{NoSuchMove, BadIndex, LeafFails, TooShort, Rest}
+use Rattle.strategy_check.specs.Checks.{looked_at}
+use Rattle.certificate_text.specs.declared.head.HeadFault.{HeadFault}
+use Rattle.certificate_text.specs.declared.head.HeadFault.TheVariants.{BadLine as LineFault, BadGame as NoGame, ReadFault as NoRead, InputFull as IsFull, Memory as HeadMemory}
+use Rattle.certificate_text.specs.Heads.{fault_line}
 use Rattle.certificate_text.specs.Taken.{HasRead}
-use Rattle.command_runs.specs.GameRun.{WritesAs}
-use Rattle.command_runs.specs.Input.{IsAllRead, Sides, WereRead, WhereTold}
+use Rattle.certificate_text.proofs.TakenLaws.{read-more, within-limit}
+use Rattle.command_runs.specs.Input.{IsAllRead, Sides, WhereTold}
 use Rattle.command_runs.specs.declared.status.Status.{Status}
 use Rattle.command_runs.specs.declared.status.Status.TheVariants.{Done, Refused as IsRefused, Usage, ReadFault as ReadFailed, WriteFault as WriteFailed, SpawnFault, BadInput, Memory as NoMemory, InputFull as InputIsFull}
 use Rattle.command_runs.proofs.ReadLemmas.{fresh_holds_little, given_were_read}
@@ -22,8 +26,8 @@ use Rattle.text_verdicts.specs.declared.verdict.Unread.{Unread}
 use Rattle.text_verdicts.specs.declared.verdict.Unread.TheVariants.{ReadFault, InputFull, Memory as WantsMemory}
 use Rattle.text_verdicts.specs.Verdicts.{status_of, verdict_line}
 use Rattle.text_verdicts.specs.Laws.{AcceptedAreDone}
-use Rattle.text_verdicts.specs.Reading.{Judges, StopsWith, TellsJudged, WasReadAs}
-use Rattle.text_verdicts.specs.Runs.{Judgement, SomeWereRead, TookLess, TookLimit, VerdictRun, WasReadToJudge, WasReadToRefuse, WroteVerdict}
+use Rattle.text_verdicts.specs.Reading.{Judges, TellsJudged, WasReadAs, of_fault}
+use Rattle.text_verdicts.specs.Runs.{AtMostWereRead, Judgement, TookLess, TookLimit, VerdictRun, WasReadToJudge, WasReadToRefuse, WroteVerdict}
 
 -- only what is accepted is done
 pub done-accepted : (v : Verdict) → status_of v ≡ Done → v ≡ Accepted
@@ -37,19 +41,24 @@ done-accepted GameOver e = cc
 -- ---- what was read
 
 -- a new reader has read nothing
-pub read-none : (input : List ℕ) (rest : Told) (reader : Reading) → rest ≡ Some input → reader ≡ fresh → HasRead input rest reader
+pub read-none : (input : List ℕ) (rest : Told) (reader : Reading) → rest ≡ Some input → reader ≡ fresh → HasRead input rest reader 0
 read-none input rest reader told begun =
     let none : Fed rest rest reader [] [] = fed_begin rest reader begun in
     record {
       bytes = [];
       given = [];
+      few = omega arith;
       fed = subst (λ (r : Told). Fed r rest reader [] []) told none;
       within = subst (λ (r : Reading). r.taken ≤ input_limit) (sym begun) (omega arith);
       little = subst HoldsLittle (sym begun) fresh_holds_little;
     }
 
-some-read : (input : List ℕ) (rest : Told) (reader : Reading) → HasRead input rest reader → SomeWereRead input rest
-some-read input rest reader r = (r.given, given_were_read input r.fed refl r.within r.little)
+-- what a reader has read is at most so many lines
+pub most-read : (most : ℕ) (input : List ℕ) (rest : Told) (reader : Reading) → HasRead input rest reader most → AtMostWereRead most input rest
+most-read most input rest reader r = (r.given, given_were_read input r.fed refl r.within r.little, r.few)
+
+within-most : (m n : ℕ) (input : List ℕ) (rest : Told) (reader : Reading) → m ≤ n → HasRead input rest reader m → AtMostWereRead n input rest
+within-most m n input rest reader less r = most-read n input rest reader (read-more input rest reader m n less r)
 
 some-same : {x y : List ℕ} → Some x ≡ Some y → x ≡ y
 some-same e = cc
@@ -68,95 +77,106 @@ all-covered input bytes left (Some rest) taken w counted below over =
     record { at_end = ap Some over; below = subst (λ (n : ℕ). n < input_limit) (counted ∙ ap length (sym same)) below }
 
 -- a reader that has met the end has read all
-all-read : (input : List ℕ) (rest : Told) (reader : Reading) → HasRead input rest reader → reader.finished ≡ true → IsAllRead input rest
-all-read input rest reader r over =
+pub all-read : (input : List ℕ) (rest : Told) (reader : Reading) (most : ℕ) → HasRead input rest reader most → reader.finished ≡ true → IsAllRead input rest
+all-read input rest reader most r over =
     let (all, none, at_end) = subst (λ (f : Bool). Covers f r.bytes (pending reader) r.given rest) over r.fed.covers in
     let (left, w) = split input rest r.bytes r.fed.left in
     all-covered input r.bytes left rest reader.taken w r.fed.counted (r.fed.below over) at_end
 
-on-short : (why : Why) (input : List ℕ) (rest : Told) (reader : Reading) → HasRead input rest reader → OnShort why (reader.finished ≡ true) → WasReadToRefuse why input rest
-on-short NoSuchMove input rest reader r stops = some-read input rest reader r
-on-short BadIndex input rest reader r stops = some-read input rest reader r
-on-short LeafFails input rest reader r stops = some-read input rest reader r
-on-short TooShort input rest reader r stops = all-read input rest reader r stops
-on-short Rest input rest reader r stops = some-read input rest reader r
+-- what was read where this is the first fault
+pub refused-read : (head place lines : ℕ) (why : Why) (input : List ℕ) (rest : Told) (reader : Reading) → lines ≤ place + looked_at why → HasRead input rest reader (head + lines) → OnShort why (reader.finished ≡ true)
+    → WasReadToRefuse (head + place) why input rest
+refused-read head place lines NoSuchMove input rest reader few r stops = within-most (head + lines) (head + place) input rest reader (omega (arith, few)) r
+refused-read head place lines BadIndex input rest reader few r stops = within-most (head + lines) (head + place) input rest reader (omega (arith, few)) r
+refused-read head place lines LeafFails input rest reader few r stops = within-most (head + lines) (head + place) input rest reader (omega (arith, few)) r
+refused-read head place lines TooShort input rest reader few r stops = all-read input rest reader (head + lines) r stops
+refused-read head place lines Rest input rest reader few r stops = within-most (head + lines) (head + place + 1) input rest reader (omega (arith, few)) r
 
--- what was read, by where the reader has stopped
-pub read-as : (judged : Result Verdict Unread) (input : List ℕ) (rest : Told) (reader : Reading) → HasRead input rest reader → StopsWith judged reader → WasReadAs judged input rest
-read-as (Ok Accepted) input rest reader r stops = all-read input rest reader r stops
-read-as (Ok (Refused place why)) input rest reader r stops = on-short why input rest reader r stops
-read-as (Ok (BadCite place)) input rest reader r stops = some-read input rest reader r
-read-as (Ok (BadLine n)) input rest reader r stops = some-read input rest reader r
-read-as (Ok (BadGame fault)) input rest reader r stops = some-read input rest reader r
-read-as (Ok GameOver) input rest reader r stops = some-read input rest reader r
-read-as (Err ReadFault) input rest reader r stops =
-    let (left, w) = split input rest r.bytes r.fed.left in (r.bytes, left, w, subst (λ (n : ℕ). n < input_limit) r.fed.counted stops)
-read-as (Err InputFull) input rest reader r stops =
-    let (left, w) = split input rest r.bytes r.fed.left in (r.bytes, left, w, sym r.fed.counted ∙ stops)
-read-as (Err WantsMemory) input rest reader r stops = tt
+-- what was read where the last line is bad, whose number stands still at the greatest u64
+pub bad-read : (head lines line : ℕ) (input : List ℕ) (rest : Told) (reader : Reading) → line ≡ min (lines + head) (2 ^ 64 - 1) → HasRead input rest reader (head + lines) → AtMostWereRead line input rest
+bad-read head lines line input rest reader is r =
+    (r.given, given_were_read input r.fed refl r.within r.little, omega (arith, is, r.few, within-limit input rest reader (head + lines) r))
+
+-- what was read where a read has failed, and where no more may be read
+pub less-read : (input : List ℕ) (rest : Told) (reader : Reading) (most : ℕ) → HasRead input rest reader most → reader.taken < input_limit → TookLess input rest
+less-read input rest reader most r below =
+    let (left, w) = split input rest r.bytes r.fed.left in (r.bytes, left, w, subst (λ (n : ℕ). n < input_limit) r.fed.counted below)
+
+pub limit-read : (input : List ℕ) (rest : Told) (reader : Reading) (most : ℕ) → HasRead input rest reader most → reader.taken ≡ input_limit → TookLimit input rest
+limit-read input rest reader most r full =
+    let (left, w) = split input rest r.bytes r.fed.left in (r.bytes, left, w, sym r.fed.counted ∙ full)
+
+-- what was read where there is no head
+pub fault-read : (head : ℕ) (fault : HeadFault) (input : List ℕ) (rest : Told) (reader : Reading) → HasRead input rest reader (fault_line head fault) → (fault ≡ NoRead → reader.taken < input_limit)
+    → (fault ≡ IsFull → reader.taken ≡ input_limit) → WasReadAs head (of_fault fault) input rest
+fault-read head (LineFault n) input rest reader r failed full = most-read n input rest reader r
+fault-read head (NoGame fault) input rest reader r failed full = most-read 2 input rest reader r
+fault-read head NoRead input rest reader r failed full = less-read input rest reader head r (failed refl)
+fault-read head IsFull input rest reader r failed full = limit-read input rest reader head r (full refl)
+fault-read head HeadMemory input rest reader r failed full = tt
 
 -- ---- a run
 
 -- the line of the verdict was written
-wrote-as : (verdict : Judgement) (v : Verdict) (s : Status) (before after : Sides) → status_of v ≡ s → WhereTold before.rest (λ input. Judges (Ok v) (verdict (lines input))) → WhereTold before.rest (λ input. WasReadToJudge v input after.rest)
-    → after.written ≡ behind before.written (verdict_line v) → WhereTold before.rest (λ input. WroteVerdict (verdict (lines input)) s input before after)
-wrote-as verdict v s before after status_is judges read wrote = λ input told.
+wrote-as : (head : ℕ) (verdict : Judgement) (v : Verdict) (s : Status) (before after : Sides) → status_of v ≡ s → WhereTold before.rest (λ input. Judges (Ok v) (verdict (lines input))) → WhereTold before.rest (λ input. WasReadToJudge head v input after.rest)
+    → after.written ≡ behind before.written (verdict_line v) → WhereTold before.rest (λ input. WroteVerdict head (verdict (lines input)) s input before after)
+wrote-as head verdict v s before after status_is judges read wrote = λ input told.
     let is : verdict (lines input) ≡ v = judges input told in
     record {
       status_is = ap status_of is ∙ status_is;
       wrote = wrote ∙ ap (λ (x : Verdict). behind before.written (verdict_line x)) (sym is);
-      was_read = subst (λ (x : Verdict). WasReadToJudge x input after.rest) (sym is) (read input told);
+      was_read = subst (λ (x : Verdict). WasReadToJudge head x input after.rest) (sym is) (read input told);
     }
 
-wrote-whole : (verdict : Judgement) (v : Verdict) (before after : Sides) → WhereTold before.rest (λ input. Judges (Ok v) (verdict (lines input))) → WhereTold before.rest (λ input. WasReadToJudge v input after.rest)
-    → after.written ≡ behind before.written (verdict_line v) → VerdictRun verdict (status_of v) before after
-wrote-whole verdict Accepted before after judges read wrote = wrote-as verdict Accepted Done before after refl judges read wrote
-wrote-whole verdict (Refused place why) before after judges read wrote = wrote-as verdict (Refused place why) IsRefused before after refl judges read wrote
-wrote-whole verdict (BadCite place) before after judges read wrote = wrote-as verdict (BadCite place) IsRefused before after refl judges read wrote
-wrote-whole verdict (BadLine n) before after judges read wrote = wrote-as verdict (BadLine n) BadInput before after refl judges read wrote
-wrote-whole verdict (BadGame fault) before after judges read wrote = wrote-as verdict (BadGame fault) BadInput before after refl judges read wrote
-wrote-whole verdict GameOver before after judges read wrote = wrote-as verdict GameOver BadInput before after refl judges read wrote
+wrote-whole : (head : ℕ) (verdict : Judgement) (v : Verdict) (before after : Sides) → WhereTold before.rest (λ input. Judges (Ok v) (verdict (lines input))) → WhereTold before.rest (λ input. WasReadToJudge head v input after.rest)
+    → after.written ≡ behind before.written (verdict_line v) → VerdictRun head verdict (status_of v) before after
+wrote-whole head verdict Accepted before after judges read wrote = wrote-as head verdict Accepted Done before after refl judges read wrote
+wrote-whole head verdict (Refused place why) before after judges read wrote = wrote-as head verdict (Refused place why) IsRefused before after refl judges read wrote
+wrote-whole head verdict (BadCite place) before after judges read wrote = wrote-as head verdict (BadCite place) IsRefused before after refl judges read wrote
+wrote-whole head verdict (BadLine n) before after judges read wrote = wrote-as head verdict (BadLine n) BadInput before after refl judges read wrote
+wrote-whole head verdict (BadGame fault) before after judges read wrote = wrote-as head verdict (BadGame fault) BadInput before after refl judges read wrote
+wrote-whole head verdict GameOver before after judges read wrote = wrote-as head verdict GameOver BadInput before after refl judges read wrote
 
 -- of the line of the verdict a part was written
-wrote-cut : (verdict : Judgement) (v : Verdict) (before after : Sides) (n : ℕ) → WhereTold before.rest (λ input. Judges (Ok v) (verdict (lines input))) → WhereTold before.rest (λ input. WasReadToJudge v input after.rest)
-    → n < length (verdict_line v) → after.written ≡ behind before.written (take n (verdict_line v)) → VerdictRun verdict WriteFailed before after
-wrote-cut verdict v before after n judges read less wrote = λ input told.
+wrote-cut : (head : ℕ) (verdict : Judgement) (v : Verdict) (before after : Sides) (n : ℕ) → WhereTold before.rest (λ input. Judges (Ok v) (verdict (lines input))) → WhereTold before.rest (λ input. WasReadToJudge head v input after.rest)
+    → n < length (verdict_line v) → after.written ≡ behind before.written (take n (verdict_line v)) → VerdictRun head verdict WriteFailed before after
+wrote-cut head verdict v before after n judges read less wrote = λ input told.
     let is : verdict (lines input) ≡ v = judges input told in (
       n,
       record {
         cut = subst (λ (x : Verdict). n < length (verdict_line x)) (sym is) less;
         wrote = wrote ∙ ap (λ (x : Verdict). behind before.written (take n (verdict_line x))) (sym is);
-        was_read = subst (λ (x : Verdict). WasReadToJudge x input after.rest) (sym is) (read input told);
+        was_read = subst (λ (x : Verdict). WasReadToJudge head x input after.rest) (sym is) (read input told);
       },
     )
 
 -- what was judged of the input was told
-pub verdict-run : (verdict : Judgement) (judged : Result Verdict Unread) (status : Status) (before after : Sides) → WhereTold before.rest (λ input. Judges judged (verdict (lines input))) → WhereTold before.rest (λ input. WasReadAs judged input after.rest)
-    → TellsJudged judged status before.written after.written → VerdictRun verdict status before after
-verdict-run verdict (Ok v) status before after judges read (inl (e, same)) = subst (λ (s : Status). VerdictRun verdict s before after) (sym e) same
-verdict-run verdict (Ok v) status before after judges read (inr (inl (e, wrote))) = subst (λ (s : Status). VerdictRun verdict s before after) (sym e) (wrote-whole verdict v before after judges read wrote)
-verdict-run verdict (Ok v) status before after judges read (inr (inr (e, (n, less, wrote)))) = subst (λ (s : Status). VerdictRun verdict s before after) (sym e) (wrote-cut verdict v before after n judges read less wrote)
-verdict-run verdict (Err ReadFault) status before after judges read (e, same) = subst (λ (s : Status). VerdictRun verdict s before after) (sym e) (same, read)
-verdict-run verdict (Err InputFull) status before after judges read (e, same) = subst (λ (s : Status). VerdictRun verdict s before after) (sym e) (same, read)
-verdict-run verdict (Err WantsMemory) status before after judges read (e, same) = subst (λ (s : Status). VerdictRun verdict s before after) (sym e) same
+pub verdict-run : (head : ℕ) (verdict : Judgement) (judged : Result Verdict Unread) (status : Status) (before after : Sides) → WhereTold before.rest (λ input. Judges judged (verdict (lines input))) → WhereTold before.rest (λ input. WasReadAs head judged input after.rest)
+    → TellsJudged judged status before.written after.written → VerdictRun head verdict status before after
+verdict-run head verdict (Ok v) status before after judges read (inl (e, same)) = subst (λ (s : Status). VerdictRun head verdict s before after) (sym e) same
+verdict-run head verdict (Ok v) status before after judges read (inr (inl (e, wrote))) = subst (λ (s : Status). VerdictRun head verdict s before after) (sym e) (wrote-whole head verdict v before after judges read wrote)
+verdict-run head verdict (Ok v) status before after judges read (inr (inr (e, (n, less, wrote)))) = subst (λ (s : Status). VerdictRun head verdict s before after) (sym e) (wrote-cut head verdict v before after n judges read less wrote)
+verdict-run head verdict (Err ReadFault) status before after judges read (e, same) = subst (λ (s : Status). VerdictRun head verdict s before after) (sym e) (same, read)
+verdict-run head verdict (Err InputFull) status before after judges read (e, same) = subst (λ (s : Status). VerdictRun head verdict s before after) (sym e) (same, read)
+verdict-run head verdict (Err WantsMemory) status before after judges read (e, same) = subst (λ (s : Status). VerdictRun head verdict s before after) (sym e) same
 
 -- ---- what is accepted is done
 
-accepted-is : (verdict : Judgement) (status : Status) (before after : Sides) (input : List ℕ) → VerdictRun verdict status before after → before.rest ≡ Some input → length input < input_limit → verdict (lines input) ≡ Accepted
+accepted-is : (head : ℕ) (verdict : Judgement) (status : Status) (before after : Sides) (input : List ℕ) → VerdictRun head verdict status before after → before.rest ≡ Some input → length input < input_limit → verdict (lines input) ≡ Accepted
     → (status ≡ ReadFailed → ⊥) → (status ≡ WriteFailed → ⊥) → (status ≡ Done) ⊎ (status ≡ NoMemory)
-accepted-is verdict Done before after input run told below is reads writes = inl refl
-accepted-is verdict IsRefused before after input run told below is reads writes = let s = (run input told).status_is in absurd (let e : Done ≡ IsRefused = ap status_of (sym is) ∙ s in cc)
-accepted-is verdict BadInput before after input run told below is reads writes = let s = (run input told).status_is in absurd (let e : Done ≡ BadInput = ap status_of (sym is) ∙ s in cc)
-accepted-is verdict ReadFailed before after input run told below is reads writes = absurd (reads refl)
-accepted-is verdict WriteFailed before after input run told below is reads writes = absurd (writes refl)
-accepted-is verdict InputIsFull before after input (same, run) told below is reads writes =
+accepted-is head verdict Done before after input run told below is reads writes = inl refl
+accepted-is head verdict IsRefused before after input run told below is reads writes = let s = (run input told).status_is in absurd (let e : Done ≡ IsRefused = ap status_of (sym is) ∙ s in cc)
+accepted-is head verdict BadInput before after input run told below is reads writes = let s = (run input told).status_is in absurd (let e : Done ≡ BadInput = ap status_of (sym is) ∙ s in cc)
+accepted-is head verdict ReadFailed before after input run told below is reads writes = absurd (reads refl)
+accepted-is head verdict WriteFailed before after input run told below is reads writes = absurd (writes refl)
+accepted-is head verdict InputIsFull before after input (same, run) told below is reads writes =
     let (bytes, left, w, full) = run input told in
     let all : length input ≡ length bytes + length left = ap length w.split ∙ length-append bytes left in
     absurd (omega (arith, all, full, below))
-accepted-is verdict NoMemory before after input run told below is reads writes = inr refl
-accepted-is verdict Usage before after input run told below is reads writes = absurd run
-accepted-is verdict SpawnFault before after input run told below is reads writes = absurd run
+accepted-is head verdict NoMemory before after input run told below is reads writes = inr refl
+accepted-is head verdict Usage before after input run told below is reads writes = absurd run
+accepted-is head verdict SpawnFault before after input run told below is reads writes = absurd run
 
 pub accepted-done : AcceptedAreDone
-accepted-done = λ verdict status before after run r0 r1 reads no_read w0 w1 writes no_write input told below is.
-    accepted-is verdict status before after input run told below is (λ e. no_read (reads.rose e)) (λ e. no_write (writes.rose e))
+accepted-done = λ head verdict status before after run r0 r1 reads no_read w0 w1 writes no_write input told below is.
+    accepted-is head verdict status before after input run told below is (λ e. no_read (reads.rose e)) (λ e. no_write (writes.rose e))

@@ -13,8 +13,8 @@ use Rattle.text_verdicts.specs.Runs.{Judgement, VerdictRun}
 -- unless memory is wanting.
 abbrev pub AcceptedAreDone : Type 0
 AcceptedAreDone =
-    (verdict : Judgement) → (status : Status) → (before : Sides) → (after : Sides)
-    → VerdictRun verdict status before after
+    (head : ℕ) → (verdict : Judgement) → (status : Status) → (before : Sides) → (after : Sides)
+    → VerdictRun head verdict status before after
     → (reads_before : ℕ) → (reads_after : ℕ)
     → HasCause (status ≡ ReadFault) reads_before reads_after → ¬ Rose reads_before reads_after
     → (writes_before : ℕ) → (writes_after : ℕ)

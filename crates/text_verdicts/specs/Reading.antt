@@ -1,15 +1,13 @@
 -- What the parts of a check answer.
-use Rattle.std.specs.Prelude.{◌≡◌, ◌<◌, ℕ, true, ⊤, ◌⊎◌, List, Result, Ok, Err}
+use Rattle.std.specs.Prelude.{◌≡◌, ℕ, ⊤, ◌⊎◌, List, Result, Ok, Err}
 use Rattle.io_edge.specs.Outside.{Told}
-use Rattle.line_feed.specs.Feed.{Reading, input_limit}
-use Rattle.strategy_check.specs.Causes.{OnShort}
 use Rattle.certificate_text.specs.declared.head.HeadFault.{HeadFault}
 use Rattle.certificate_text.specs.declared.head.HeadFault.TheVariants.{BadLine as LineFault, BadGame as NoGame, ReadFault as NoRead, InputFull as IsFull, Memory as NoMemory}
 use Rattle.command_runs.specs.GameRun.{WritesAs}
 use Rattle.command_runs.specs.declared.status.Status.{Status}
 use Rattle.command_runs.specs.declared.status.Status.TheVariants.{Memory, ReadFault as ReadFailed, InputFull as InputIsFull}
 use Rattle.text_verdicts.specs.declared.verdict.Verdict.{Verdict}
-use Rattle.text_verdicts.specs.declared.verdict.Verdict.TheVariants.{Accepted, Refused, BadCite, BadLine, BadGame, GameOver}
+use Rattle.text_verdicts.specs.declared.verdict.Verdict.TheVariants.{BadLine, BadGame}
 use Rattle.text_verdicts.specs.declared.verdict.Unread.{Unread}
 use Rattle.text_verdicts.specs.declared.verdict.Unread.TheVariants.{ReadFault, InputFull, Memory as WantsMemory}
 use Rattle.text_verdicts.specs.Verdicts.{verdict_line, status_of}
@@ -43,22 +41,10 @@ TellsJudged (Err ReadFault) status before after = (status ≡ ReadFailed) × (af
 TellsJudged (Err InputFull) status before after = (status ≡ InputIsFull) × (after ≡ before)
 TellsJudged (Err WantsMemory) status before after = (status ≡ Memory) × (after ≡ before)
 
--- How far the reader of a text has come, by what was judged: what is accepted, or lacks an index,
--- was read to its end; a read has failed below the limit; or the limit is reached.
-abbrev pub StopsWith : Result Verdict Unread → Reading → Type 0
-StopsWith (Ok Accepted) reader = reader.finished ≡ true
-StopsWith (Ok (Refused place why)) reader = OnShort why (reader.finished ≡ true)
-StopsWith (Ok (BadCite place)) reader = ⊤
-StopsWith (Ok (BadLine n)) reader = ⊤
-StopsWith (Ok (BadGame fault)) reader = ⊤
-StopsWith (Ok GameOver) reader = ⊤
-StopsWith (Err ReadFault) reader = reader.taken < input_limit
-StopsWith (Err InputFull) reader = reader.taken ≡ input_limit
-StopsWith (Err WantsMemory) reader = ⊤
-
--- the same of an input, where all that was read of it is what the reader took
-abbrev pub WasReadAs : Result Verdict Unread → List ℕ → Told → Type 0
-WasReadAs (Ok v) input rest = WasReadToJudge v input rest
-WasReadAs (Err ReadFault) input rest = TookLess input rest
-WasReadAs (Err InputFull) input rest = TookLimit input rest
-WasReadAs (Err WantsMemory) input rest = ⊤
+-- What was read of an input, by what was judged of it, where a head has so many lines: what its
+-- verdict took; a read has failed below the limit; or the limit is reached.
+abbrev pub WasReadAs : ℕ → Result Verdict Unread → List ℕ → Told → Type 0
+WasReadAs head (Ok v) input rest = WasReadToJudge head v input rest
+WasReadAs head (Err ReadFault) input rest = TookLess input rest
+WasReadAs head (Err InputFull) input rest = TookLimit input rest
+WasReadAs head (Err WantsMemory) input rest = ⊤

@@ -1,5 +1,5 @@
 -- What a command that checks a text writes and reads, by the status with which it ends.
-use Rattle.std.specs.Prelude.{◌≡◌, ℕ, ◌<◌, List, length, take}
+use Rattle.std.specs.Prelude.{◌≡◌, ℕ, ◌+◌, ◌<◌, ◌≤◌, List, length, take}
 use Rattle.io_edge.specs.Outside.{Told, behind}
 use Rattle.hive_model.specs.Lines.{Line, lines}
 use Rattle.line_feed.specs.Feed.{input_limit}
@@ -19,27 +19,32 @@ Judgement = List Line → Verdict
 
 -- Reading
 
--- first lines of the input were read, and at most a piece beyond them, within the limit
-abbrev pub SomeWereRead : List ℕ → Told → Type 0
-SomeWereRead input rest = (read : List Line) × WereRead input rest read
+-- at most so many first lines of the input were read, and at most a piece beyond them, within the
+-- limit
+abbrev pub AtMostWereRead : ℕ → List ℕ → Told → Type 0
+AtMostWereRead most input rest =
+    (read : List Line) × WereRead input rest read × (length read ≤ most)
 
--- what was read where this is the first fault: where an index is missing, all of the input
-abbrev pub WasReadToRefuse : Why → List ℕ → Told → Type 0
-WasReadToRefuse NoSuchMove input rest = SomeWereRead input rest
-WasReadToRefuse BadIndex input rest = SomeWereRead input rest
-WasReadToRefuse LeafFails input rest = SomeWereRead input rest
-WasReadToRefuse TooShort input rest = IsAllRead input rest
-WasReadToRefuse Rest input rest = SomeWereRead input rest
+-- What was read where this is the first fault, behind so many lines of the head and of what was
+-- taken: these lines, and the one that is left over; where an index is missing, all of the input.
+abbrev pub WasReadToRefuse : ℕ → Why → List ℕ → Told → Type 0
+WasReadToRefuse most NoSuchMove input rest = AtMostWereRead most input rest
+WasReadToRefuse most BadIndex input rest = AtMostWereRead most input rest
+WasReadToRefuse most LeafFails input rest = AtMostWereRead most input rest
+WasReadToRefuse most TooShort input rest = IsAllRead input rest
+WasReadToRefuse most Rest input rest = AtMostWereRead (most + 1) input rest
 
--- What was read where the lines of the input are worth this. What is accepted was read to its end,
--- since nothing may be left over.
-abbrev pub WasReadToJudge : Verdict → List ℕ → Told → Type 0
-WasReadToJudge Accepted input rest = IsAllRead input rest
-WasReadToJudge (Refused place why) input rest = WasReadToRefuse why input rest
-WasReadToJudge (BadCite place) input rest = SomeWereRead input rest
-WasReadToJudge (BadLine n) input rest = SomeWereRead input rest
-WasReadToJudge (BadGame fault) input rest = SomeWereRead input rest
-WasReadToJudge GameOver input rest = SomeWereRead input rest
+-- What was read where the lines of the input are worth this, and a head has so many lines. What is
+-- accepted was read to its end, since nothing may be left over. Else no line was read behind the one
+-- that decides: the last that was taken before a fault, the bad line, the line of the game, or the
+-- head where its game is over.
+abbrev pub WasReadToJudge : ℕ → Verdict → List ℕ → Told → Type 0
+WasReadToJudge head Accepted input rest = IsAllRead input rest
+WasReadToJudge head (Refused place why) input rest = WasReadToRefuse (head + place) why input rest
+WasReadToJudge head (BadCite place) input rest = AtMostWereRead (head + place) input rest
+WasReadToJudge head (BadLine n) input rest = AtMostWereRead n input rest
+WasReadToJudge head (BadGame fault) input rest = AtMostWereRead 2 input rest
+WasReadToJudge head GameOver input rest = AtMostWereRead head input rest
 
 -- fewer bytes than a run may read have left the input
 abbrev pub TookLess : List ℕ → Told → Type 0
@@ -56,37 +61,38 @@ TookLimit input rest =
 -- Writing
 
 -- the line of this verdict on the input was written, and the status is that of the verdict
-pub record WroteVerdict (worth : Verdict) (status : Status) (input : List ℕ) (before after : Sides)
-    : Type 0 where
+pub record WroteVerdict (head : ℕ) (worth : Verdict) (status : Status) (input : List ℕ)
+    (before after : Sides) : Type 0 where
   pub status_is : status_of worth ≡ status
   pub wrote : after.written ≡ behind before.written (verdict_line worth)
-  pub was_read : WasReadToJudge worth input after.rest
+  pub was_read : WasReadToJudge head worth input after.rest
 
 -- of the line of this verdict on the input the first n bytes were written, and not all
-pub record CutVerdict (worth : Verdict) (input : List ℕ) (before after : Sides) (n : ℕ) : Type 0
-  where
-    pub cut : n < length (verdict_line worth)
-    pub wrote : after.written ≡ behind before.written (take n (verdict_line worth))
-    pub was_read : WasReadToJudge worth input after.rest
+pub record CutVerdict (head : ℕ) (worth : Verdict) (input : List ℕ) (before after : Sides)
+    (n : ℕ) : Type 0 where
+  pub cut : n < length (verdict_line worth)
+  pub wrote : after.written ≡ behind before.written (take n (verdict_line worth))
+  pub was_read : WasReadToJudge head worth input after.rest
 
--- A check writes the line of the verdict on the lines of the input. Where a read has failed, the
--- limit is reached or memory is wanting, nothing was written.
-abbrev pub VerdictRun : Judgement → Status → Sides → Sides → Type 0
-VerdictRun verdict Done before after =
-    WhereTold before.rest (λ input. WroteVerdict (verdict (lines input)) Done input before after)
-VerdictRun verdict IsRefused before after =
+-- A check of texts whose head has so many lines writes the line of the verdict on the lines of the
+-- input. Where a read has failed, the limit is reached or memory is wanting, nothing was written.
+abbrev pub VerdictRun : ℕ → Judgement → Status → Sides → Sides → Type 0
+VerdictRun head verdict Done before after =
     WhereTold before.rest
-    (λ input. WroteVerdict (verdict (lines input)) IsRefused input before after)
-VerdictRun verdict BadInput before after =
+    (λ input. WroteVerdict head (verdict (lines input)) Done input before after)
+VerdictRun head verdict IsRefused before after =
     WhereTold before.rest
-    (λ input. WroteVerdict (verdict (lines input)) BadInput input before after)
-VerdictRun verdict WriteFault before after =
+    (λ input. WroteVerdict head (verdict (lines input)) IsRefused input before after)
+VerdictRun head verdict BadInput before after =
     WhereTold before.rest
-    (λ input. (n : ℕ) × CutVerdict (verdict (lines input)) input before after n)
-VerdictRun verdict ReadFault before after =
+    (λ input. WroteVerdict head (verdict (lines input)) BadInput input before after)
+VerdictRun head verdict WriteFault before after =
+    WhereTold before.rest
+    (λ input. (n : ℕ) × CutVerdict head (verdict (lines input)) input before after n)
+VerdictRun head verdict ReadFault before after =
     (after.written ≡ before.written) × WhereTold before.rest (λ input. TookLess input after.rest)
-VerdictRun verdict InputFull before after =
+VerdictRun head verdict InputFull before after =
     (after.written ≡ before.written) × WhereTold before.rest (λ input. TookLimit input after.rest)
-VerdictRun verdict Memory before after = after.written ≡ before.written
-VerdictRun verdict Usage before after = ⊥
-VerdictRun verdict SpawnFault before after = ⊥
+VerdictRun head verdict Memory before after = after.written ≡ before.written
+VerdictRun head verdict Usage before after = ⊥
+VerdictRun head verdict SpawnFault before after = ⊥

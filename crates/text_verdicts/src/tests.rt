@@ -10,7 +10,8 @@ use std::process::Abort;
 use std::test::Fail;
 use strategy_check::{Checked, Halt, Why};
 
-/// Tells an answer in memory, and compares the status and all that was written. The write of this number fails.
+/// Tells an answer in memory, and compares the status and all that was written. The write of this
+/// number fails.
 fn expect_told<R: Abort>(
     rt: &R,
     alloc: Global,

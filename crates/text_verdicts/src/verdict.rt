@@ -1,15 +1,17 @@
 //! What a text that is checked is worth.
 
-ghost use Rattle.std.specs.Prelude.{◌≡◌, ◌↔◌, ◌<◌, Err};
+ghost use Rattle.std.specs.Prelude.{◌≡◌, ◌↔◌, ◌+◌, ◌<◌, ℕ, List, Err};
+ghost use Rattle.io_edge.specs.Outside.{Told as AnyTold};
 ghost use Rattle.line_feed.specs.Feed.{Reading, input_limit};
 ghost use Rattle.claim_walks.specs.Walks.{Outcome};
 ghost use Rattle.strategy_check.specs.Trace.{Steps};
 ghost use Rattle.strategy_check.specs.declared.answers.Why.{Why as AnyWhy};
-ghost use Rattle.strategy_check.specs.Checks.{Answers, CountsBad};
+ghost use Rattle.strategy_check.specs.Checks.{Answers, CountsBad, CountsRefused};
 ghost use Rattle.strategy_check.specs.Causes.{Ended};
-ghost use Rattle.certificate_text.specs.Taken.{StopsAt};
+ghost use Rattle.certificate_text.specs.Heads.{fault_line};
+ghost use Rattle.certificate_text.specs.Taken.{HasRead, StopsAt};
 ghost use Rattle.text_verdicts.specs.Verdicts.{of_walk};
-ghost use Rattle.text_verdicts.specs.Reading.{Judges, StopsWith, of_fault};
+ghost use Rattle.text_verdicts.specs.Reading.{Judges, WasReadAs, of_fault};
 
 use certificate_text::HeadFault;
 use game_text::GameFault;
@@ -51,8 +53,11 @@ pub fn fault_verdict(fault: HeadFault) -> Result<Verdict, Unread>
     ensures is { result ≡ of_fault fault }
     ensures failed { (result ≡ Err Unread.ReadFault) ↔ (fault ≡ HeadFault.ReadFault) }
     ensures full { result ≡ Err Unread.InputFull → fault ≡ HeadFault.InputFull }
-    ensures stops { (reader : Reading) → (fault ≡ HeadFault.ReadFault → reader.taken < input_limit)
-        → (fault ≡ HeadFault.InputFull → reader.taken ≡ input_limit) → StopsWith result reader }
+    ensures read { (head : ℕ) (text : List ℕ) (rest : AnyTold) (reader : Reading)
+        → HasRead text rest reader (fault_line head fault)
+        → (fault ≡ HeadFault.ReadFault → reader.taken < input_limit)
+        → (fault ≡ HeadFault.InputFull → reader.taken ≡ input_limit)
+        → WasReadAs head result text rest }
 {
     match fault {
         HeadFault::BadLine { line } => Ok(Verdict::BadLine { line: line as u64 }),
@@ -69,8 +74,9 @@ pub fn verdict_of(checked: Checked, head: u32, lines: u64) -> Result<Verdict, Un
         → Judges result (of_walk head o) }
     ensures failed { (result ≡ Err Unread.ReadFault) ↔ (checked ≡ Checked.Halted Halt.Failed) }
     ensures full { result ≡ Err Unread.InputFull → checked ≡ Checked.Halted Halt.Full }
-    ensures stops { (reader : Reading) → Ended (λ answer. StopsAt answer reader) checked
-        → StopsWith result reader }
+    ensures read { (text : List ℕ) (rest : AnyTold) (reader : Reading)
+        → HasRead text rest reader (head + lines) → CountsRefused checked lines
+        → Ended (λ answer. StopsAt answer reader) checked → WasReadAs head result text rest }
 {
     match checked {
         Checked::Accepted => Ok(Verdict::Accepted),

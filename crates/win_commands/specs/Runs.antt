@@ -13,4 +13,4 @@ SolveRun plies status before after = GameRun (solution_of plies) status before a
 
 -- a check writes the line of the verdict on the lines of the input
 abbrev pub VerifyRun : Status → Sides → Sides → Type 0
-VerifyRun status before after = VerdictRun verdict status before after
+VerifyRun status before after = VerdictRun 4 verdict status before after

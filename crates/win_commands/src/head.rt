@@ -6,6 +6,7 @@ ghost use Rattle.line_feed.specs.Feed.{input_limit};
 ghost use Rattle.line_feed.specs.Ahead.{ahead_of};
 ghost use Rattle.hive_model.specs.Lines.{Line as AnyLine};
 ghost use Rattle.hive_model.specs.Games.{IsGame};
+ghost use Rattle.certificate_text.specs.Heads.{last_line};
 ghost use Rattle.certificate_text.specs.Taken.{HasRead};
 ghost use Rattle.win_commands.specs.Text.{answer_at, plies_at, version_at};
 ghost use Rattle.win_commands.specs.Verdicts.{field_in, game_in, head_of};
@@ -37,8 +38,8 @@ fn read_version<S: Source>(reader: &mut LineReader, source: &mut S) -> Result<u6
     ensures cause { HasCause (result ≡ Err HeadFault.ReadFault)
         (S.read_faults source.old) (S.read_faults source.new) }
     ensures failed { result ≡ Err HeadFault.ReadFault → reader.new.taken < input_limit }
-    ensures read { (text : List ℕ) → HasRead text (S.rest source.old) reader.old
-        → HasRead text (S.rest source.new) reader.new }
+    ensures read { (text : List ℕ) → HasRead text (S.rest source.old) reader.old 0
+        → HasRead text (S.rest source.new) reader.new (last_line 1 result) }
 {
     if let Err(fault) = next_text(reader, source, 1) {
         return Err(fault);
@@ -62,8 +63,8 @@ fn read_game_line<G: Game + Drop, S: Source>(
     ensures cause { HasCause (result ≡ Err HeadFault.ReadFault)
         (S.read_faults source.old) (S.read_faults source.new) }
     ensures failed { result ≡ Err HeadFault.ReadFault → reader.new.taken < input_limit }
-    ensures read { (text : List ℕ) → HasRead text (S.rest source.old) reader.old
-        → HasRead text (S.rest source.new) reader.new }
+    ensures read { (text : List ℕ) → HasRead text (S.rest source.old) reader.old 1
+        → HasRead text (S.rest source.new) reader.new (last_line 2 result) }
 {
     if let Err(fault) = next_text(reader, source, 2) {
         return Err(fault);
@@ -81,8 +82,8 @@ fn read_plies<S: Source>(reader: &mut LineReader, source: &mut S) -> Result<u32,
     ensures cause { HasCause (result ≡ Err HeadFault.ReadFault)
         (S.read_faults source.old) (S.read_faults source.new) }
     ensures failed { result ≡ Err HeadFault.ReadFault → reader.new.taken < input_limit }
-    ensures read { (text : List ℕ) → HasRead text (S.rest source.old) reader.old
-        → HasRead text (S.rest source.new) reader.new }
+    ensures read { (text : List ℕ) → HasRead text (S.rest source.old) reader.old 2
+        → HasRead text (S.rest source.new) reader.new (last_line 3 result) }
 {
     if let Err(fault) = next_text(reader, source, 3) {
         return Err(fault);
@@ -102,8 +103,8 @@ fn read_answer<S: Source>(reader: &mut LineReader, source: &mut S) -> Result<boo
     ensures cause { HasCause (result ≡ Err HeadFault.ReadFault)
         (S.read_faults source.old) (S.read_faults source.new) }
     ensures failed { result ≡ Err HeadFault.ReadFault → reader.new.taken < input_limit }
-    ensures read { (text : List ℕ) → HasRead text (S.rest source.old) reader.old
-        → HasRead text (S.rest source.new) reader.new }
+    ensures read { (text : List ℕ) → HasRead text (S.rest source.old) reader.old 3
+        → HasRead text (S.rest source.new) reader.new (last_line 4 result) }
 {
     if let Err(fault) = next_text(reader, source, 4) {
         return Err(fault);
@@ -129,8 +130,8 @@ pub(crate) fn read_head<G: Game + Drop, S: Source>(
     ensures cause { HasCause (result ≡ Err HeadFault.ReadFault)
         (S.read_faults source.old) (S.read_faults source.new) }
     ensures failed { result ≡ Err HeadFault.ReadFault → reader.new.taken < input_limit }
-    ensures read { (text : List ℕ) → HasRead text (S.rest source.old) reader.old
-        → HasRead text (S.rest source.new) reader.new }
+    ensures read { (text : List ℕ) → HasRead text (S.rest source.old) reader.old 0
+        → HasRead text (S.rest source.new) reader.new (last_line 4 result) }
 {
     if let Err(fault) = read_version(reader, source) {
         return Err(fault);

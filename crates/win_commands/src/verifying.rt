@@ -9,7 +9,7 @@ ghost use Rattle.hive_model.specs.Minimax.{IsInner};
 ghost use Rattle.hive_model.specs.Courses.{position};
 ghost use Rattle.certificate_text.specs.Text.{index_in};
 ghost use Rattle.certificate_text.specs.Taken.{HasRead};
-ghost use Rattle.text_verdicts.specs.Reading.{Judges, StopsWith, WasReadAs};
+ghost use Rattle.text_verdicts.specs.Reading.{Judges, WasReadAs};
 ghost use Rattle.win_commands.specs.Verdicts.{of_claim, of_items, verdict};
 ghost use Rattle.win_commands.specs.Runs.{VerifyRun};
 
@@ -42,11 +42,10 @@ fn judge_indices<S: Source, G: Game>(
     requires room { plies ≤ stack.old.free }
     ensures judged { (left : List AnyLine) → ahead_of reader.old (S.rest input.old) ≡ Some left
         → Judges result (of_items (position (G.course game.old)) plies answer (map index_in left)) }
-    ensures stops { StopsWith result reader.new }
     ensures cause { HasCause (result ≡ Err Unread.ReadFault)
         (S.read_faults input.old) (S.read_faults input.new) }
-    ensures read { (text : List ℕ) → HasRead text (S.rest input.old) reader.old
-        → HasRead text (S.rest input.new) reader.new }
+    ensures read { (text : List ℕ) → HasRead text (S.rest input.old) reader.old 4
+        → WasReadAs 4 result text (S.rest input.new) }
 {
     let mut indices = LineIndices::new(reader, input);
     let checked = check_solution(game, plies, answer, &mut indices, stack);
@@ -66,11 +65,10 @@ fn judge_claim<S: Source, G: Game + Drop>(
     requires few { head.plies ≤ 16 }
     ensures judged { (left : List AnyLine) → ahead_of reader.old (S.rest input.old) ≡ Some left
         → Judges result (of_claim head left) }
-    ensures stops { StopsWith result reader.new }
     ensures cause { HasCause (result ≡ Err Unread.ReadFault)
         (S.read_faults input.old) (S.read_faults input.new) }
-    ensures read { (text : List ℕ) → HasRead text (S.rest input.old) reader.old
-        → HasRead text (S.rest input.new) reader.new }
+    ensures read { (text : List ℕ) → HasRead text (S.rest input.old) reader.old 4
+        → WasReadAs 4 result text (S.rest input.new) }
 {
     let Ok(mut game) = played::<G>(
         alloc,
@@ -104,11 +102,10 @@ fn judge_lines<S: Source, G: Game + Drop>(
 ) -> Result<Verdict, Unread>
     ensures judged { (left : List AnyLine) → ahead_of reader.old (S.rest input.old) ≡ Some left
         → Judges result (verdict left) }
-    ensures stops { StopsWith result reader.new }
     ensures cause { HasCause (result ≡ Err Unread.ReadFault)
         (S.read_faults input.old) (S.read_faults input.new) }
-    ensures read { (text : List ℕ) → HasRead text (S.rest input.old) reader.old
-        → HasRead text (S.rest input.new) reader.new }
+    ensures read { (text : List ℕ) → HasRead text (S.rest input.old) reader.old 0
+        → WasReadAs 4 result text (S.rest input.new) }
 {
     match read_head::<G, S>(alloc, reader, input) {
         Ok(head) => judge_claim::<S, G>(alloc, head, reader, input),
@@ -121,7 +118,7 @@ fn judge<S: Source, G: Game + Drop>(alloc: Global, input: &mut S) -> Result<Verd
     ensures judged { (text : List ℕ) → S.rest input.old ≡ Some text
         → Judges result (verdict (lines text)) }
     ensures read { (text : List ℕ) → S.rest input.old ≡ Some text
-        → WasReadAs result text (S.rest input.new) }
+        → WasReadAs 4 result text (S.rest input.new) }
     ensures cause { HasCause (result ≡ Err Unread.ReadFault)
         (S.read_faults input.old) (S.read_faults input.new) }
 {

@@ -179,8 +179,8 @@ fn reply_reaches<G: Game>(
     !answered
 }
 
-/// The same as `reaches`, for 1 ply or more; what is found with fewer plies tells which moves to try
-/// first with more.
+/// The same as `reaches`, for 1 ply or more; what is found with fewer plies tells which moves to
+/// try first with more.
 pub(crate) fn deepen<G: Game>(
     game: &mut G,
     depth: u32,

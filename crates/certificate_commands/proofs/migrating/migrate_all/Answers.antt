@@ -1,4 +1,5 @@
-use Rattle.std.proofs.Common.{drop}
+use Rattle.std.proofs.Common.{ap, drop}
+use Rattle.std.specs.Prelude.{Err}
 use Rattle.certificate_commands.proofs.MigrateLaws.{all-writes, fault-writes}
 use Rattle.certificate_commands.proofs.migrating.migrate_all.Goals as goal
 
@@ -9,3 +10,7 @@ returns-in-Ok-clause-told g c = λ left told.
 
 pub returns-in-Err-clause-told : goal.returns-in-Err-clause-told
 returns-in-Err-clause-told g c = λ left told. fault-writes left c.in-Err.fault c.taken_of_fault.result _ _ _ c.taken_of_fault.ensures.told (c.in-Err.ensures.told left told)
+
+pub returns-in-Err-clause-read : goal.returns-in-Err-clause-read
+returns-in-Err-clause-read g c = λ text r.
+    c.taken_of_fault.ensures.read text _ _ (c.in-Err.ensures.read text r) (λ e. c.in-Err.ensures.failed (ap Err e)) (λ e. c.in-Err.ensures.full (ap Err e))

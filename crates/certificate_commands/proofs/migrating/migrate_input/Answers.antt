@@ -2,13 +2,11 @@ use Rattle.std.proofs.Common.{ap, ◌∙◌}
 use Rattle.std.specs.Option.{option_map}
 use Rattle.hive_model.specs.Lines.{lines}
 use Rattle.line_feed.proofs.AheadLemmas.{ahead_begin}
-use Rattle.text_verdicts.proofs.JudgeLaws.{read-as, read-none}
-use Rattle.certificate_commands.specs.Migrating.{judged_of}
+use Rattle.text_verdicts.proofs.JudgeLaws.{read-none}
 use Rattle.certificate_commands.proofs.migrating.migrate_input.Goals as goal
 
 pub returns-clause-told : goal.returns-clause-told
 returns-clause-told g c = λ text told. c.migrate_all.ensures.told (lines text) (ahead_begin c.in-Ok.reader _ c.in-Ok.ensures ∙ ap (option_map lines) told)
 
 pub returns-clause-read : goal.returns-clause-read
-returns-clause-read g c = λ text told.
-    read-as (judged_of c.migrate_all.result) text _ c.migrate_all.new.reader (c.migrate_all.ensures.read text (read-none text _ c.in-Ok.reader told c.in-Ok.ensures)) c.migrate_all.ensures.stops
+returns-clause-read g c = λ text told. c.migrate_all.ensures.read text (read-none text _ c.in-Ok.reader told c.in-Ok.ensures)

@@ -6,6 +6,7 @@ use Rattle.hive_model.specs.Courses.{position}
 use Rattle.move_text.specs.Moves.{move_of}
 use Rattle.certificate_text.specs.Text.{index_in}
 use Rattle.certificate_commands.proofs.MigrateLaws.{course-writes, value-writes}
+use Rattle.text_verdicts.proofs.JudgeLaws.{most-read}
 use Rattle.certificate_commands.proofs.migrating.migrate_text.Goals as goal
 
 pub returns-in-Ok-clause-told : goal.returns-in-Ok-clause-told
@@ -21,3 +22,6 @@ returns-in-Ok-clause-told g c = λ left told.
     c.in-Ok.ensures.computes ∙ (λ i. move_of head.game_type (board i) (c.items.ensures i)) in
     course-writes head left c.in-Ok.best start c.migrate_move.result _ _ c.requires.kind c.requires.made (omega (arith, known, old)) c.requires.inner.open_ read
     (value-writes (position start) start head.depth c.in-Ok.best (to_z w32 (of_z w32 head.value)) head.value (map index_in left) c.migrate_move.result _ _ bits (c.migrate_move.ensures.told left told))
+
+pub returns-in-Err-clause-read : goal.returns-in-Err-clause-read
+returns-in-Err-clause-read g c = λ text r. most-read 5 text _ _ r

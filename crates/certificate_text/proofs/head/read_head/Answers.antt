@@ -2,11 +2,12 @@ use mir.Syntax.{w32}
 use mir.Val.{SFits}
 use Rattle.std.proofs.lemmas.Int.{to_z-of_z}
 use Rattle.certificate_text.specs.Heads.{ReadsHead}
-use Rattle.std.proofs.Common.{rules, subst, to_z, of_z, ◌≡◌, sym, drop}
+use Rattle.std.proofs.Common.{arith, rules, subst, to_z, of_z, ◌≡◌, sym, drop}
 use Rattle.std.specs.Prelude.{Ok}
 use Rattle.line_feed.specs.Ahead.{ahead_of}
 use Rattle.certificate_text.specs.Text.{version_at, depth_at, move_at, value_at, with_line, with_game, head_of}
 use Rattle.certificate_text.proofs.TextLaws.{from_game, from_depth, from_text, from_value, head_is, GoesOn, head-begins, goes-on, ends-here, head-read}
+use Rattle.certificate_text.proofs.TakenLaws.{read-fault}
 use Rattle.certificate_text.proofs.head.read_head.Goals as goal
 
 pub returns-in-Err-clause-told : goal.returns-in-Err-clause-told
@@ -58,14 +59,23 @@ returns-clause-told g c =
     subst (λ x. ReadsHead (Ok (head_is c.in-Ok.version c.in-Ok-read_game_line.game c.in-Ok-read_depth.depth c.in-Ok-read_claim_text.claim_text x)) (head_of c.args.newest lines) lines (ahead_of c.read_value.new.reader (g.S.Source.rest c.read_value.new.source))) (sym same)
     (head-read (head_of c.args.newest lines) lines (head_is c.in-Ok.version c.in-Ok-read_game_line.game c.in-Ok-read_depth.depth c.in-Ok-read_claim_text.claim_text c.in-Ok-read_value.value) (ahead_of c.read_value.new.reader (g.S.Source.rest c.read_value.new.source)) so5)
 
+pub returns-in-Err-clause-read : goal.returns-in-Err-clause-read
+returns-in-Err-clause-read g c = λ input r. read-fault input _ _ c.in-Err.fault 1 5 (omega arith) (c.in-Err.ensures.read input r)
+
+pub returns-in-Err-read_game_line-clause-read : goal.returns-in-Err-read_game_line-clause-read
+returns-in-Err-read_game_line-clause-read g c = λ input r. read-fault input _ _ c.in-Err-read_game_line.fault 2 5 (omega arith) (c.in-Err-read_game_line.ensures.read input (c.in-Ok.ensures.read input r))
+
 pub returns-in-Err-read_depth-clause-read : goal.returns-in-Err-read_depth-clause-read
-returns-in-Err-read_depth-clause-read g c = λ input r. c.read_depth.ensures.read input (c.read_game_line.ensures.read input (c.read_version.ensures.read input r))
+returns-in-Err-read_depth-clause-read g c = λ input r. read-fault input _ _ c.in-Err-read_depth.fault 3 5 (omega arith) (c.in-Err-read_depth.ensures.read input (c.in-Ok-read_game_line.ensures.read input (c.in-Ok.ensures.read input r)))
 
 pub returns-in-Err-read_claim_text-clause-read : goal.returns-in-Err-read_claim_text-clause-read
-returns-in-Err-read_claim_text-clause-read g c = λ input r. c.read_claim_text.ensures.read input (c.read_depth.ensures.read input (c.read_game_line.ensures.read input (c.read_version.ensures.read input r)))
+returns-in-Err-read_claim_text-clause-read g c = λ input r. read-fault input _ _ c.in-Err-read_claim_text.fault 4 5 (omega arith)
+    (c.in-Err-read_claim_text.ensures.read input (c.in-Ok-read_depth.ensures.read input (c.in-Ok-read_game_line.ensures.read input (c.in-Ok.ensures.read input r))))
 
 pub returns-in-Err-read_value-clause-read : goal.returns-in-Err-read_value-clause-read
-returns-in-Err-read_value-clause-read g c = λ input r. c.read_value.ensures.read input (c.read_claim_text.ensures.read input (c.read_depth.ensures.read input (c.read_game_line.ensures.read input (c.read_version.ensures.read input r))))
+returns-in-Err-read_value-clause-read g c = λ input r.
+    c.in-Err-read_value.ensures.read input (c.in-Ok-read_claim_text.ensures.read input (c.in-Ok-read_depth.ensures.read input (c.in-Ok-read_game_line.ensures.read input (c.in-Ok.ensures.read input r))))
 
 pub returns-clause-read : goal.returns-clause-read
-returns-clause-read g c = λ input r. c.read_value.ensures.read input (c.read_claim_text.ensures.read input (c.read_depth.ensures.read input (c.read_game_line.ensures.read input (c.read_version.ensures.read input r))))
+returns-clause-read g c = λ input r.
+    c.in-Ok-read_value.ensures.read input (c.in-Ok-read_claim_text.ensures.read input (c.in-Ok-read_depth.ensures.read input (c.in-Ok-read_game_line.ensures.read input (c.in-Ok.ensures.read input r))))

@@ -1,0 +1,23 @@
+use Rattle.std.proofs.Common.{rules, subst}
+use Rattle.citing_text.specs.declared.migrating.Migrated.{Migrated}
+use Rattle.citing_text.specs.Migrating.{MigrateCountsRefused}
+use Rattle.citing_text.specs.Endings.{MigrateEnded}
+use Rattle.certificate_text.specs.Taken.{StopsAt}
+use Rattle.text_verdicts.proofs.JudgeLaws.{all-read, bad-read, refused-read}
+use Rattle.certificate_commands.proofs.migrating.taken_of.Goals as goal
+
+pub returns-in-Done-clause-read : goal.returns-in-Done-clause-read
+returns-in-Done-clause-read c = λ text rest reader r few stops.
+    all-read text rest reader _ r (subst (λ (x : Migrated). MigrateEnded (λ answer. StopsAt answer reader) x) c.in-Done.is stops)
+
+pub returns-in-WriteFault-clause-read : goal.returns-in-WriteFault-clause-read
+returns-in-WriteFault-clause-read c = λ text rest reader r few stops.
+    all-read text rest reader _ r (subst (λ (x : Migrated). MigrateEnded (λ answer. StopsAt answer reader) x) c.in-WriteFault.is stops)
+
+pub returns-in-Refused-clause-read : goal.returns-in-Refused-clause-read
+returns-in-Refused-clause-read c = λ text rest reader r few stops.
+    refused-read 5 c.in-Refused.place c.args.lines c.in-Refused.why text rest reader (subst (λ (x : Migrated). MigrateCountsRefused x c.args.lines) c.in-Refused.is few) r
+    (subst (λ (x : Migrated). MigrateEnded (λ answer. StopsAt answer reader) x) c.in-Refused.is stops)
+
+pub returns-in-Halted-Bad-clause-read : goal.returns-in-Halted-Bad-clause-read
+returns-in-Halted-Bad-clause-read c = λ text rest reader r few stops. bad-read 5 c.args.lines _ text rest reader (search rules) r

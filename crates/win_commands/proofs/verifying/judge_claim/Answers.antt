@@ -1,0 +1,5 @@
+use Rattle.text_verdicts.proofs.JudgeLaws.{most-read}
+use Rattle.win_commands.proofs.verifying.judge_claim.Goals as goal
+
+pub returns-then-is_over-clause-read : goal.returns-then-is_over-clause-read
+returns-then-is_over-clause-read g c = λ text r. most-read 4 text _ _ r
