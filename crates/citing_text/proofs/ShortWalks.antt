@@ -24,9 +24,9 @@ use Rattle.strategy_check.specs.Trace.{Steps, trace}
 use Rattle.strategy_check.proofs.IndexWalks as items
 use Rattle.strategy_lemmas.specs.declared.tokens.Token.{Token}
 use Rattle.strategy_lemmas.specs.declared.tokens.Token.TheVariants.{Index, Cite}
-use Rattle.strategy_lemmas.specs.declared.lemmas.Lemma.{Lemma}
-use Rattle.strategy_lemmas.specs.Lemmas.{with_lemma}
-use Rattle.strategy_lemmas.specs.Short.{ShortSteps, short_steps, passes_over, writes_index, short_take, server, short_rules}
+use Rattle.lemma_list.specs.declared.lemmas.Lemma.{Lemma}
+use Rattle.lemma_list.specs.Lemmas.{with_lemma, server}
+use Rattle.strategy_lemmas.specs.Short.{ShortSteps, short_steps, passes_over, writes_index, short_take, short_rules}
 use Rattle.certificate_text.specs.Text.{index_line}
 use Rattle.citing_text.specs.declared.draft.Draft.{Draft}
 use Rattle.citing_text.specs.declared.shortening.Shortened.{Shortened}

@@ -9,6 +9,7 @@ use Rattle.strategy_check.specs.declared.answers.Why.{Why}
 use Rattle.strategy_check.specs.declared.answers.Halt.TheVariants.{Bad, Failed, Full}
 use Rattle.strategy_check.specs.declared.answers.Checked.{Checked}
 use Rattle.strategy_check.specs.declared.answers.Checked.TheVariants.{Accepted, Refused as CheckRefused, Halted as CheckHalted}
+use Rattle.strategy_check.specs.Checks.{CountsRefused, looked_at}
 use Rattle.strategy_check.specs.Trace.{Steps, Holds, checked}
 use Rattle.strategy_lemmas.specs.Short.{ShortSteps, short}
 use Rattle.citing_text.specs.declared.draft.Draft.{Draft}
@@ -35,6 +36,12 @@ ShortCountsBad o (Some (CheckRefused place why)) count = ⊤
 ShortCountsBad o (Some (CheckHalted Bad)) count = (n : ℕ) × (o ≡ Halt n) × (count ≡ held (n + 1))
 ShortCountsBad o (Some (CheckHalted Failed)) count = ⊤
 ShortCountsBad o (Some (CheckHalted Full)) count = ⊤
+
+-- where a fault ends it, at most so many items were taken away: those before it, and what was looked
+-- at
+abbrev pub ShortCountsRefused : Option Checked → ℕ → Type 0
+ShortCountsRefused None count = ⊤
+ShortCountsRefused (Some checked) count = CountsRefused checked count
 
 -- the count of faults rose where it ended since the indices could not be read, and else stands; no
 -- more may be read where it ended for that reason
@@ -84,6 +91,15 @@ MigrateCountsBad o (Halted Bad) count = (n : ℕ) × (o ≡ Halt n) × (count �
 MigrateCountsBad o (Halted Failed) count = ⊤
 MigrateCountsBad o (Halted Full) count = ⊤
 MigrateCountsBad o Memory count = ⊤
+
+-- where a fault ended it, at most so many items were taken away: those before it, and what was
+-- looked at
+abbrev pub MigrateCountsRefused : Migrated → ℕ → Type 0
+MigrateCountsRefused Done count = ⊤
+MigrateCountsRefused WriteFault count = ⊤
+MigrateCountsRefused (Refused place why) count = count ≤ place + looked_at why
+MigrateCountsRefused (Halted why) count = ⊤
+MigrateCountsRefused Memory count = ⊤
 
 -- the count of faults rose where it ended since the indices could not be read, and else stands; no
 -- more may be read where it ended for that reason

@@ -13,8 +13,9 @@ use Rattle.strategy_check.specs.declared.answers.Halt.TheVariants.{Bad, Failed, 
 use Rattle.strategy_check.specs.declared.walk.Walked.{Walked}
 use Rattle.strategy_check.specs.declared.walk.Walked.TheVariants.{Done as WalkedDone, Refuses as WalkedRefuses, Halts as WalkedHalts}
 use Rattle.strategy_check.specs.Items.{Told}
-use Rattle.strategy_lemmas.specs.declared.lemmas.Lemma.{Lemma}
-use Rattle.strategy_lemmas.specs.Short.{ShortSteps, server, short_rules}
+use Rattle.lemma_list.specs.declared.lemmas.Lemma.{Lemma}
+use Rattle.strategy_lemmas.specs.Short.{ShortSteps, short_rules}
+use Rattle.lemma_list.specs.Lemmas.{server}
 use Rattle.citing_text.specs.declared.draft.Draft.{Draft}
 use Rattle.citing_text.specs.declared.shortening.Shortened.{Shortened}
 use Rattle.citing_text.specs.declared.shortening.Shortened.TheVariants.{Done, Refuses, Halts, NoMemory}

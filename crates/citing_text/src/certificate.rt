@@ -37,7 +37,12 @@ ghost use Rattle.citing_text.specs.Shortening.{
   short_trace,
 };
 ghost use Rattle.citing_text.specs.Endings.{ShortEndsAs, ShortEnded};
-ghost use Rattle.citing_text.specs.Migrating.{ShortAnswers, ShortCountsBad, ShortEndCauses};
+ghost use Rattle.citing_text.specs.Migrating.{
+  ShortAnswers,
+  ShortCountsBad,
+  ShortCountsRefused,
+  ShortEndCauses,
+};
 
 use crate::draft::Draft;
 use crate::shortening::{Shortened, shorten_child, shorten_moves};
@@ -67,11 +72,14 @@ fn answer_of<I: Indices>(shortened: Shortened, draft: &Draft, indices: &mut I) -
         → Meets short_sight o (short_ending shortened) (short_seen (I.left indices.old) draft.now)
         → TookItems shortened (I.count indices.old) draft.now.taken
         → ShortCountsBad (go_on o (finish short_rules)) result (I.count indices.new) }
+    ensures refused { TookItems shortened (I.count indices.old) draft.now.taken
+        → ShortCountsRefused result (I.count indices.new) }
     ensures cause { (first : ℕ)
         → ShortCauses shortened first (I.faults indices.old) (I.full indices.old)
         → ShortEndCauses result first (I.faults indices.new) (I.full indices.new) }
     ensures lenders { I.lenders indices.new ≡ I.lenders indices.old }
-    ensures known { (input : List ℕ) → I.known indices.old input → I.known indices.new input }
+    ensures known { (input : List ℕ) (before : ℕ) → I.known indices.old input before
+        → I.known indices.new input before }
     ensures met { ShortEndsAs (I.met indices.old) shortened
         → ShortEnded (I.met indices.new) result }
 {
@@ -129,7 +137,8 @@ fn shorten_root<G: Game, I: Indices>(
     ensures counted { ShortCountsOn result
         (I.count indices.old) (I.count indices.new) draft.old.taken draft.new.taken }
     ensures lenders { I.lenders indices.new ≡ I.lenders indices.old }
-    ensures known { (input : List ℕ) → I.known indices.old input → I.known indices.new input }
+    ensures known { (input : List ℕ) (before : ℕ) → I.known indices.old input before
+        → I.known indices.new input before }
     ensures met { ShortEndsAs (I.met indices.new) result }
     ensures game { G.course game.new ≡ G.course game.old }
     ensures stack { stack.new ≡ stack.old }
@@ -195,10 +204,13 @@ fn shorten_level<G: Game, I: Indices>(
         → I.count indices.old ≡ 0
         → ShortCountsBad (shortened (position (G.course game.old))
         claim.now.depth claim.now.best claim.now.value items) result (I.count indices.new) }
+    ensures refused { I.count indices.old ≡ 0
+        → ShortCountsRefused result (I.count indices.new) }
     ensures cause { ShortEndCauses result
         (I.faults indices.old) (I.faults indices.new) (I.full indices.new) }
     ensures lenders { I.lenders indices.new ≡ I.lenders indices.old }
-    ensures known { (input : List ℕ) → I.known indices.old input → I.known indices.new input }
+    ensures known { (input : List ℕ) (before : ℕ) → I.known indices.old input before
+        → I.known indices.new input before }
     ensures met { ShortEnded (I.met indices.new) result }
     ensures game { G.course game.new ≡ G.course game.old }
     ensures stack { stack.new ≡ stack.old }
@@ -242,10 +254,13 @@ pub fn shorten_certificate<G: Game, I: Indices>(
         → I.count indices.old ≡ 0
         → ShortCountsBad (shortened (position (G.course game.old))
         claim.now.depth claim.now.best claim.now.value items) result (I.count indices.new) }
+    ensures refused { I.count indices.old ≡ 0
+        → ShortCountsRefused result (I.count indices.new) }
     ensures cause { ShortEndCauses result
         (I.faults indices.old) (I.faults indices.new) (I.full indices.new) }
     ensures lenders { I.lenders indices.new ≡ I.lenders indices.old }
-    ensures known { (input : List ℕ) → I.known indices.old input → I.known indices.new input }
+    ensures known { (input : List ℕ) (before : ℕ) → I.known indices.old input before
+        → I.known indices.new input before }
     ensures met { ShortEnded (I.met indices.new) result }
     ensures game { G.course game.new ≡ G.course game.old }
     ensures stack { stack.new ≡ stack.old }

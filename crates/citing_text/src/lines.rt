@@ -1,6 +1,6 @@
 //! Tokens of which each stands on a line of its own.
 
-ghost use Rattle.std.specs.Prelude.{◌≡◌, [], ◌∷◌, nat_eq, map};
+ghost use Rattle.std.specs.Prelude.{◌≡◌, ◌+◌, [], ◌∷◌, nat_eq, map};
 ghost use Rattle.std.specs.Option.{option_map};
 ghost use Rattle.line_feed.specs.Feed.{input_limit};
 ghost use Rattle.line_feed.specs.Ahead.{ahead_of};
@@ -77,7 +77,8 @@ impl<S: Source> Tokens for LineTokens<'_, '_, S> {
       bytes = in_all s.reader.now (S.rest s.source.now);
     } };
 
-    ghost known = { λ s input. HasRead input (S.rest s.source.now) s.reader.now };
+    ghost known = { λ s input before.
+        HasRead input (S.rest s.source.now) s.reader.now (before + s.lines) };
 
     ghost met = { λ s answer. TokenStopsAt answer s.reader.now };
 

@@ -14,6 +14,7 @@ ghost use Rattle.citing_text.specs.Migrating.{
   MigrateAnswers,
   MigrateCauses,
   MigrateCountsBad,
+  MigrateCountsRefused,
   WritesLate,
 };
 
@@ -88,12 +89,15 @@ pub fn migrate<G: Game, I: Indices, K: Sink>(
         → I.count indices.old ≡ 0
         → MigrateCountsBad (checked (position (G.course game.old))
         claim.now.depth claim.now.best claim.now.value items) result (I.count indices.new) }
+    ensures refused { I.count indices.old ≡ 0
+        → MigrateCountsRefused result (I.count indices.new) }
     ensures reads { MigrateCauses result
         (I.faults indices.old) (I.faults indices.new) (I.full indices.new) }
     ensures writes { HasCause (result ≡ Migrated.WriteFault)
         (K.write_faults sink.old) (K.write_faults sink.new) }
     ensures lenders { I.lenders indices.new ≡ I.lenders indices.old }
-    ensures known { (input : List ℕ) → I.known indices.old input → I.known indices.new input }
+    ensures known { (input : List ℕ) (before : ℕ) → I.known indices.old input before
+        → I.known indices.new input before }
     ensures met { MigrateEnded (I.met indices.new) result }
     ensures game { G.course game.new ≡ G.course game.old }
     ensures stack { stack.new ≡ stack.old }

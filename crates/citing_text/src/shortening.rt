@@ -138,7 +138,8 @@ fn pass_over<G: Game, I: Indices>(
     ensures counted { ShortCountsOn result
         (I.count indices.old) (I.count indices.new) draft.old.taken draft.new.taken }
     ensures lenders { I.lenders indices.new ≡ I.lenders indices.old }
-    ensures known { (input : List ℕ) → I.known indices.old input → I.known indices.new input }
+    ensures known { (input : List ℕ) (before : ℕ) → I.known indices.old input before
+        → I.known indices.new input before }
     ensures met { ShortEndsAs (I.met indices.new) result }
     ensures game { G.course game.new ≡ G.course game.old }
     ensures stack { stack.new ≡ stack.old }
@@ -176,7 +177,8 @@ pub fn shorten<G: Game, I: Indices>(
     ensures counted { ShortCountsOn result
         (I.count indices.old) (I.count indices.new) draft.old.taken draft.new.taken }
     ensures lenders { I.lenders indices.new ≡ I.lenders indices.old }
-    ensures known { (input : List ℕ) → I.known indices.old input → I.known indices.new input }
+    ensures known { (input : List ℕ) (before : ℕ) → I.known indices.old input before
+        → I.known indices.new input before }
     ensures met { ShortEndsAs (I.met indices.new) result }
     ensures game { G.course game.new ≡ G.course game.old }
     ensures stack { stack.new ≡ stack.old }
@@ -225,7 +227,8 @@ fn shorten_node<G: Game, I: Indices>(
     ensures counted { ShortCountsOn result
         (I.count indices.old) (I.count indices.new) draft.old.taken draft.new.taken }
     ensures lenders { I.lenders indices.new ≡ I.lenders indices.old }
-    ensures known { (input : List ℕ) → I.known indices.old input → I.known indices.new input }
+    ensures known { (input : List ℕ) (before : ℕ) → I.known indices.old input before
+        → I.known indices.new input before }
     ensures met { ShortEndsAs (I.met indices.new) result }
     ensures game { G.course game.new ≡ G.course game.old }
     ensures stack { stack.new ≡ stack.old }
@@ -306,7 +309,8 @@ pub fn shorten_moves<G: Game, I: Indices>(
     ensures counted { ShortCountsOn result
         (I.count indices.old) (I.count indices.new) draft.old.taken draft.new.taken }
     ensures lenders { I.lenders indices.new ≡ I.lenders indices.old }
-    ensures known { (input : List ℕ) → I.known indices.old input → I.known indices.new input }
+    ensures known { (input : List ℕ) (before : ℕ) → I.known indices.old input before
+        → I.known indices.new input before }
     ensures met { ShortEndsAs (I.met indices.new) result }
     ensures game { G.course game.new ≡ G.course game.old }
     ensures stack { stack.new ≡ stack.old }
@@ -349,7 +353,8 @@ pub fn shorten_child<G: Game, I: Indices>(
     ensures counted { ShortCountsOn result
         (I.count indices.old) (I.count indices.new) draft.old.taken draft.new.taken }
     ensures lenders { I.lenders indices.new ≡ I.lenders indices.old }
-    ensures known { (input : List ℕ) → I.known indices.old input → I.known indices.new input }
+    ensures known { (input : List ℕ) (before : ℕ) → I.known indices.old input before
+        → I.known indices.new input before }
     ensures met { ShortEndsAs (I.met indices.new) result }
     ensures game { G.course game.new ≡ G.course game.old }
     ensures stack { stack.new ≡ stack.old }

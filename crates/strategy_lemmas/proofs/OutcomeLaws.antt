@@ -18,8 +18,9 @@ use Rattle.strategy_check.specs.declared.answers.Why.TheVariants.{BadIndex, Rest
 use Rattle.strategy_check.specs.Trace.{Steps, steps, take_index, index_rules, trace, checked, is_none_left}
 use Rattle.strategy_lemmas.specs.declared.tokens.Token.{Token}
 use Rattle.strategy_lemmas.specs.declared.tokens.Token.TheVariants.{Index, Cite}
-use Rattle.strategy_lemmas.specs.declared.lemmas.Lemma.{Lemma}
-use Rattle.strategy_lemmas.specs.Short.{ShortSteps, short_steps, passes_over, writes_index, short_take, server, short_rules, of_indices, shortened}
+use Rattle.lemma_list.specs.declared.lemmas.Lemma.{Lemma}
+use Rattle.strategy_lemmas.specs.Short.{ShortSteps, short_steps, passes_over, writes_index, short_take, short_rules, of_indices, shortened}
+use Rattle.lemma_list.specs.Lemmas.{server}
 
 go-same : (o : Outcome ShortSteps Why) (q : Outcome Steps Why) (f : ShortSteps → Outcome ShortSteps Why) (g : Steps → Outcome Steps Why) → of_indices o ≡ q →
     ((t : ShortSteps) → of_indices (f t) ≡ g t.items) → of_indices (go_on o f) ≡ go_on q g

@@ -41,3 +41,6 @@ returns-clause-bad g c =
     λ items e none. bad-as _ _ c.answer_of.result (g.I.Indices.count c.answer_of.new.indices) (certificate-at short_rules short_sight p c.args.claim.now.depth c.in-Some.place c.args.claim.now.best c.args.claim.now.value (short_steps (steps items 0) [] []) place)
     (c.answer_of.ensures.bad _ (c.shorten_root-shortened.ensures.told (short_steps (steps items 0) [] []) (seen-is _ (Some items) c.args.draft.now (draft_of (short_steps (steps items 0) [] [])) e c.requires.empty))
     (c.shorten_root-shortened.ensures.counted (none ∙ sym (ap (λ (d : Draft). d.taken) c.requires.empty))))
+
+pub returns-clause-refused : goal.returns-clause-refused
+returns-clause-refused g c = λ none. c.answer_of.ensures.refused (c.shorten_root-shortened.ensures.counted (none ∙ sym (ap (λ (d : Draft). d.taken) c.requires.empty)))

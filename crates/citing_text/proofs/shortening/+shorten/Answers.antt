@@ -19,8 +19,8 @@ use Rattle.claim_walks.specs.Follows.{Ending, Shown, Refused, BadItem, Follows}
 use Rattle.claim_walks.proofs.FollowLaws.{follows-leaf, follows-child, shown-child, turn-told, turn-shown, turn-stops, turn-past, node-every, node-names, node-stops, node-names_none, node-ends, shown-every, shown-index, number-small, small-turned}
 use Rattle.strategy_check.specs.declared.answers.Why.{Why}
 use Rattle.strategy_check.specs.declared.answers.Why.TheVariants.{TooShort}
-use Rattle.strategy_lemmas.specs.Lemmas.{with_lemma}
-use Rattle.strategy_lemmas.specs.Short.{server, short_rules}
+use Rattle.lemma_list.specs.Lemmas.{with_lemma, server}
+use Rattle.strategy_lemmas.specs.Short.{short_rules}
 use Rattle.citing_text.specs.declared.draft.Draft.{Draft}
 use Rattle.citing_text.specs.Drafts.{with_index}
 use Rattle.citing_text.specs.Shortening.{short_seen, short_sight, short_trace, short_ending, server_of}
@@ -94,7 +94,7 @@ shorten_moves-loop-i-preserved g t c =
       faults = no-fault _ _ _ _ done c.shorten_child-shortened.ensures.cause ∙ turn.faults;
       count = λ e. counted-done _ _ _ done (c.shorten_child-shortened.ensures.counted (turn.count e));
       lenders = c.shorten_child-shortened.ensures.lenders ∙ turn.lenders;
-      known = λ input before. c.shorten_child-shortened.ensures.known input (turn.known input before);
+      known = λ input before k. c.shorten_child-shortened.ensures.known input before (turn.known input before k);
     }
 
 pub shorten_moves-returns-clause-told : goal.shorten_moves-returns-clause-told

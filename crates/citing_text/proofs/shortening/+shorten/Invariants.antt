@@ -36,5 +36,5 @@ invariant-shorten_moves-loop-i g l =
       faults : g.I.Indices.faults l.indices ≡ g.I.Indices.faults l.fn.indices;
       count : g.I.Indices.count l.fn.indices ≡ l.fn.draft.taken → g.I.Indices.count l.indices ≡ l.draft.taken;
       lenders : g.I.Indices.lenders l.indices ≡ g.I.Indices.lenders l.fn.indices;
-      known : (input : List ℕ) → g.I.Indices.known l.fn.indices input → g.I.Indices.known l.indices input;
+      known : (input : List ℕ) (before : ℕ) → g.I.Indices.known l.fn.indices input before → g.I.Indices.known l.indices input before;
     }

@@ -2,7 +2,7 @@ use Rattle.std.proofs.Common.{ap}
 use Rattle.std.specs.Prelude.{map}
 use Rattle.std.specs.Option.{option_map}
 use Rattle.certificate_text.proofs.TextLaws.{end-told}
-use Rattle.certificate_text.proofs.TakenLaws.{read_on}
+use Rattle.certificate_text.proofs.TakenLaws.{read-item, read-none-given, lines_given}
 use Rattle.citing_text.specs.TokenText.{token_in}
 use Rattle.citing_text.proofs.TokenTextLaws.{no-tokens}
 use Rattle.citing_text.proofs.lines.LineTokensTokens.take.Goals as goal
@@ -14,19 +14,19 @@ returns-in-End-clause-item g c =
     (ap (option_map (map token_in)) (end-told _ _ _ _ bytes takes.left none0 none1), no-tokens _ none0)
 
 pub returns-in-Some-clause-known : goal.returns-in-Some-clause-known
-returns-in-Some-clause-known g c = read_on c.next_line.result _ _ _ _ c.next_line.ensures.fed c.next_line.ensures.bound c.next_line.ensures.little
+returns-in-Some-clause-known g c = read-item c.next_line.result _ _ _ _ c.next_line.ensures.fed c.next_line.ensures.bound c.next_line.ensures.little _ _ c.saturating_add-self.ensures
 
 pub returns-in-None-clause-known : goal.returns-in-None-clause-known
-returns-in-None-clause-known g c = read_on c.next_line.result _ _ _ _ c.next_line.ensures.fed c.next_line.ensures.bound c.next_line.ensures.little
+returns-in-None-clause-known g c = read-item c.next_line.result _ _ _ _ c.next_line.ensures.fed c.next_line.ensures.bound c.next_line.ensures.little _ _ c.saturating_add-self.ensures
 
 pub returns-in-TooLong-clause-known : goal.returns-in-TooLong-clause-known
-returns-in-TooLong-clause-known g c = read_on c.next_line.result _ _ _ _ c.next_line.ensures.fed c.next_line.ensures.bound c.next_line.ensures.little
+returns-in-TooLong-clause-known g c = read-item c.next_line.result _ _ _ _ c.next_line.ensures.fed c.next_line.ensures.bound c.next_line.ensures.little _ _ c.saturating_add-self-in-TooLong.ensures
 
 pub returns-in-End-clause-known : goal.returns-in-End-clause-known
-returns-in-End-clause-known g c = read_on c.next_line.result _ _ _ _ c.next_line.ensures.fed c.next_line.ensures.bound c.next_line.ensures.little
+returns-in-End-clause-known g c = λ input before. read-none-given c.next_line.result _ _ _ _ c.next_line.ensures.fed c.next_line.ensures.bound c.next_line.ensures.little (ap lines_given c.in-End.is) input _
 
 pub returns-in-Failed-clause-known : goal.returns-in-Failed-clause-known
-returns-in-Failed-clause-known g c = read_on c.next_line.result _ _ _ _ c.next_line.ensures.fed c.next_line.ensures.bound c.next_line.ensures.little
+returns-in-Failed-clause-known g c = λ input before. read-none-given c.next_line.result _ _ _ _ c.next_line.ensures.fed c.next_line.ensures.bound c.next_line.ensures.little (ap lines_given c.in-Failed.is) input _
 
 pub returns-in-Full-clause-known : goal.returns-in-Full-clause-known
-returns-in-Full-clause-known g c = read_on c.next_line.result _ _ _ _ c.next_line.ensures.fed c.next_line.ensures.bound c.next_line.ensures.little
+returns-in-Full-clause-known g c = λ input before. read-none-given c.next_line.result _ _ _ _ c.next_line.ensures.fed c.next_line.ensures.bound c.next_line.ensures.little (ap lines_given c.in-Full.is) input _

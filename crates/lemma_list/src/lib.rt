@@ -1,0 +1,10 @@
+//! What was shown on the way, found again by its key.
+#![tactic(auto)]
+
+mod last;
+mod lemmas;
+
+pub use lemmas::{Lemma, Lemmas};
+
+#[cfg(test)]
+mod tests;
