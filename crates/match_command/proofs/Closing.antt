@@ -18,10 +18,8 @@ use Rattle.match_command.specs.Wires.{ClosesTwo, CountsEither, HasFailed, IsFres
 
 -- a link that has failed has counted it
 failed : (w0 w : Wire) → IsFresh w0.reads w0.writes → HasFailed w0 w → 0 < w.reads + w.writes
-failed w0 w f (inl (inl x)) = omega (arith, x)
-failed w0 w f (inl (inr x)) = omega (arith, x)
-failed w0 w f (inr (inl x)) = omega (arith, x)
-failed w0 w f (inr (inr x)) = omega (arith, x)
+failed w0 w f (inl r) = elim r.higher [ inl x ↦ omega (arith, x) | inr x ↦ omega (arith, x) ]
+failed w0 w f (inr r) = elim r.higher [ inl x ↦ omega (arith, x) | inr x ↦ omega (arith, x) ]
 
 -- a side that broke was counted
 broke_counted : {white black rose : Type 0} (t : Standing) → BrokeOnly t white black → (white → rose) → (black → rose) → IsBroke t.verdict → rose

@@ -1,3 +1,2 @@
-pub mod SameSetup
 pub mod Closing
 pub mod Starting

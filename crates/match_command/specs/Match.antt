@@ -1,6 +1,6 @@
 -- What a match of two programs writes, plays, sends and counts, by the status with which it ends.
 use Rattle.std.specs.Prelude.{◌≡◌, ◌⊎◌, ℕ, ◌+◌, ◌*◌, ◌<◌, ◌≤◌, List, [], ◌∷◌, ◌++◌, length, take, Option, Some, None}
-use Rattle.io_edge.specs.Outside.{Told, ToldLists, Collects, Rose, behind}
+use Rattle.io_edge.specs.Outside.{Told, ToldLists, ToldPrograms, Collects, Rose, behind, with_last}
 use Rattle.hive_model.specs.declared.pieces.Colour.{Colour}
 use Rattle.hive_model.specs.declared.pieces.Colour.TheVariants.{White, Black}
 use Rattle.hive_model.specs.Lines.{lines}
@@ -181,6 +181,31 @@ MatchRun setup Usage before after = ⊥
 MatchRun setup ReadFault before after = ⊥
 MatchRun setup BadInput before after = ⊥
 MatchRun setup InputFull before after = ⊥
+
+-- What was started
+
+-- white's program was started by its words, and then black's
+abbrev pub BothStarted : List (List ℕ) → List (List ℕ) → ToldPrograms → ToldPrograms → Type 0
+BothStarted white black before after = after ≡ with_last (with_last before white) black
+
+-- no program was started, or white's alone
+abbrev pub FewerStarted : List (List ℕ) → ToldPrograms → ToldPrograms → Type 0
+FewerStarted white before after = (after ≡ before) ⊎ (after ≡ with_last before white)
+
+-- The programs that were started, each by its words, where a match of two programs ends with this
+-- status. A match that was played had both; where memory is wanting it may have had both, or fewer.
+abbrev pub MatchStarts :
+    Status → List (List ℕ) → List (List ℕ) → ToldPrograms → ToldPrograms → Type 0
+MatchStarts Done white black before after = BothStarted white black before after
+MatchStarts WriteFault white black before after = BothStarted white black before after
+MatchStarts SpawnFault white black before after = FewerStarted white before after
+MatchStarts Memory white black before after =
+    BothStarted white black before after ⊎ FewerStarted white before after
+MatchStarts Refused white black before after = ⊥
+MatchStarts Usage white black before after = ⊥
+MatchStarts ReadFault white black before after = ⊥
+MatchStarts BadInput white black before after = ⊥
+MatchStarts InputFull white black before after = ⊥
 
 -- no program that was started is left open: where it is told, as many were closed as were taken
 -- from those to come

@@ -3,7 +3,7 @@ use Rattle.std.specs.Prelude.{ℕ, List, [], ◌∷◌, ◌++◌, Option, Some, 
 use Rattle.hive_model.specs.declared.pieces.Colour.{Colour}
 use Rattle.hive_model.specs.declared.pieces.Colour.TheVariants.{White, Black}
 use Rattle.hive_model.specs.Fields.{state_bytes}
-use Rattle.hive_model.specs.Strings.{string}
+use Rattle.hive_model.specs.Strings.{string_under}
 use Rattle.match_core.specs.declared.answers.Setup.{Setup}
 use Rattle.match_core.specs.declared.answers.Cause.{Cause}
 use Rattle.match_core.specs.declared.answers.Cause.TheVariants.{NotAMove, Illegal, ErrLine, Flood, LongLine, Ended, Broke, Late}
@@ -51,6 +51,8 @@ abbrev pub ending_text : Setup → Option Verdict → List ℕ
 ending_text setup None = []
 ending_text setup (Some verdict) = verdict_text setup verdict
 
--- the game string of the moves that were played, and the verdict, each with its LF (10)
+-- the game string of the moves that were played, with the outcome under the setup's rule for its state, and the verdict, each
+-- with its LF (10)
 abbrev pub match_text : Setup → Standing → List ℕ
-match_text setup t = string setup.game_type t.moves ++ 10 ∷ (ending_text setup t.verdict ++ 10 ∷ [])
+match_text setup t =
+    string_under setup.repetition setup.game_type t.moves ++ 10 ∷ (ending_text setup t.verdict ++ 10 ∷ [])

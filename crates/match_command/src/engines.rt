@@ -1,9 +1,9 @@
 //! The two programs of a match: their start, the match over their links, and their end.
-ghost use Rattle.std.specs.Prelude.{◌≡◌, ◌+◌, ◌<◌, ◌≤◌, ℕ, length, IfOk, OnErr, IsErrOf};
-ghost use Rattle.io_edge.specs.Outside.{Collects, HasCause, Starts};
+ghost use Rattle.std.specs.Prelude.{◌≡◌, ◌+◌, ◌<◌, ◌≤◌, ℕ, length, map, string_bytes, IfOk, OnErr, IsErrOf};
+ghost use Rattle.io_edge.specs.Outside.{Collects, HasCause, Starts, with_last};
 ghost use Rattle.match_core.specs.Keeps.{IsSetup};
 ghost use Rattle.match_runner.specs.Turns.{watch};
-ghost use Rattle.match_command.specs.Match.{SendsNothing};
+ghost use Rattle.match_command.specs.Match.{BothStarted, FewerStarted, SendsNothing};
 ghost use Rattle.match_command.specs.Wires.{wire, ClosesAll, ClosesTwo, CountsEither, IsFresh, RanOver, StartsTwo};
 
 use hive_model::Game;
@@ -26,7 +26,10 @@ fn start_black<P: Spawner>(
         (P.Engine.rest e.1) (P.Engine.written e.1)) }
     ensures failed { IfOk result (λ e. P.engine_faults spawner.new ≡ P.engine_faults spawner.old) }
     ensures sent { IfOk result (λ e. P.sent spawner.new ≡ P.sent spawner.old) }
+    ensures named { IfOk result (λ e. P.started spawner.new
+        ≡ with_last (P.started spawner.old) (map string_bytes words.now)) }
     ensures refused { OnErr result (P.to_come spawner.new ≡ P.to_come spawner.old) }
+    ensures unnamed { OnErr result (P.started spawner.new ≡ P.started spawner.old) }
     ensures closed { OnErr result (Collects (P.sent spawner.old) (P.sent spawner.new)
         (P.Engine.written first)) }
     ensures cause { HasCause (IsErrOf result StartFault.Failed)
@@ -57,6 +60,11 @@ pub(crate) fn start_both<P: Spawner>(
         (P.Engine.rest e.0) (P.Engine.written e.0) (P.Engine.rest e.1) (P.Engine.written e.1)) }
     ensures failed { IfOk result (λ e. P.engine_faults spawner.new ≡ P.engine_faults spawner.old) }
     ensures sent { IfOk result (λ e. P.sent spawner.new ≡ P.sent spawner.old) }
+    ensures both { IfOk result (λ e. BothStarted
+        (map string_bytes white.now) (map string_bytes black.now)
+        (P.started spawner.old) (P.started spawner.new)) }
+    ensures fewer { OnErr result (FewerStarted
+        (map string_bytes white.now) (P.started spawner.old) (P.started spawner.new)) }
     ensures unsent { OnErr result (SendsNothing
         (P.to_come spawner.old) (P.sent spawner.old) (P.sent spawner.new)) }
     ensures closed { OnErr result (ClosesAll
@@ -106,6 +114,7 @@ pub(crate) fn close_both<P: Spawner>(white: P::Engine, black: P::Engine, spawner
         (P.engine_faults spawner.old) (P.engine_faults spawner.new) }
     ensures starts { P.start_faults spawner.new ≡ P.start_faults spawner.old }
     ensures to_come { P.to_come spawner.new ≡ P.to_come spawner.old }
+    ensures started { P.started spawner.new ≡ P.started spawner.old }
 {
     spawner.close(white);
     spawner.close(black);

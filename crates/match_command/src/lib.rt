@@ -8,6 +8,7 @@ mod texts;
 
 pub use laws::matches_are_done;
 pub use playing::play_match;
+pub use texts::{write_ending, write_number, write_shown};
 
 #[cfg(test)]
 mod tests;

@@ -1,10 +1,10 @@
 //! The command: both programs are started, the match is played, and its two lines are written.
-ghost use Rattle.std.specs.Prelude.{◌≡◌, ◌<◌, ◌≤◌, length, IfOk, IsErrOf};
+ghost use Rattle.std.specs.Prelude.{◌≡◌, ◌<◌, ◌≤◌, ◌⊎◌, length, map, string_bytes, IfOk, OnErr, IsErrOf};
 ghost use Rattle.io_edge.specs.Outside.{HasCause, Told};
 ghost use Rattle.match_core.specs.Keeps.{IsSetup};
 ghost use Rattle.match_core.specs.Standing.{Standing};
 ghost use Rattle.match_command.specs.Texts.{match_text};
-ghost use Rattle.match_command.specs.Match.{MatchRun, NoneIsOpen, Played, SendsNothing, means, scene};
+ghost use Rattle.match_command.specs.Match.{BothStarted, FewerStarted, MatchRun, MatchStarts, NoneIsOpen, Played, SendsNothing, means, scene};
 ghost use Rattle.match_command.specs.Wires.{wire, ClosesTwo, IsFresh, PlayedOver};
 
 use crate::engines::{close_both, run_over, start_both};
@@ -45,6 +45,7 @@ fn play_and_close<P: Spawner, C: Clock, G: Game + Drop>(
         × ClosesTwo (P.sent spawner.old) (P.sent spawner.new) w b }
     ensures starts { P.start_faults spawner.new ≡ P.start_faults spawner.old }
     ensures to_come { P.to_come spawner.new ≡ P.to_come spawner.old }
+    ensures started { P.started spawner.new ≡ P.started spawner.old }
     ensures later { C.last clock.old ≤ C.last clock.new }
 {
     let referee: Result<Referee<G>, AllocError> = run_over(
@@ -86,6 +87,16 @@ fn play<P: Spawner, C: Clock, G: Game + Drop>(
         (means (C.last clock.new) (C.readings clock.new)
         (P.to_come spawner.new) (P.sent spawner.new)
         (P.start_faults spawner.new) (P.engine_faults spawner.new)) }
+    ensures both { IfOk result (λ text. BothStarted
+        (map string_bytes white.now) (map string_bytes black.now)
+        (P.started spawner.old) (P.started spawner.new)) }
+    ensures fewer { IsErrOf result StartFault.Failed → FewerStarted
+        (map string_bytes white.now) (P.started spawner.old) (P.started spawner.new) }
+    ensures front { OnErr result (BothStarted
+        (map string_bytes white.now) (map string_bytes black.now)
+        (P.started spawner.old) (P.started spawner.new)
+        ⊎ FewerStarted
+        (map string_bytes white.now) (P.started spawner.old) (P.started spawner.new)) }
     ensures unsent { IsErrOf result StartFault.Failed → SendsNothing
         (P.to_come spawner.old) (P.sent spawner.old) (P.sent spawner.new) }
     ensures unread { IsErrOf result StartFault.Failed → clock.new ≡ clock.old }
@@ -117,6 +128,10 @@ fn play<P: Spawner, C: Clock, G: Game + Drop>(
 /// `Done` says that both lines were written. `WriteFault` says that a write has failed: of the two
 /// lines only a front, and not all, was written. `SpawnFault` says that a program did not start,
 /// and `Memory` that memory was wanting: nothing was written. No other status is answered.
+///
+/// Where the starter tells what was started, it tells white's words and then black's of a match
+/// that was played. Behind `SpawnFault` it tells nothing more than before, or white's words alone,
+/// and behind `Memory` one of all three.
 pub fn play_match<P: Spawner, K: Sink, C: Clock, G: Game + Drop>(
     alloc: Global,
     white: &[String],
@@ -145,6 +160,9 @@ pub fn play_match<P: Spawner, K: Sink, C: Clock, G: Game + Drop>(
         (means (C.last clock.new) (C.readings clock.new)
         (P.to_come spawner.new) (P.sent spawner.new)
         (P.start_faults spawner.new) (P.engine_faults spawner.new)) }
+    ensures started { MatchStarts result
+        (map string_bytes white.now) (map string_bytes black.now)
+        (P.started spawner.old) (P.started spawner.new) }
     ensures writes { HasCause (result ≡ Status.WriteFault)
         (K.write_faults output.old) (K.write_faults output.new) }
     ensures starts { HasCause (result ≡ Status.SpawnFault)

@@ -3,6 +3,7 @@ ghost use Rattle.match_core.specs.Keeps.{IsSetup};
 
 mod causes;
 mod faults;
+mod repetition;
 
 use crate::play_match;
 use command_runs::Status;
@@ -24,6 +25,7 @@ const DEPTH_ONE: Setup = Setup {
     game_type: BASE,
     level: Level::Depth { depth: 1 },
     limit: 400,
+    repetition: false,
 };
 
 const IN_A_SECOND: Setup = Setup {
@@ -33,6 +35,7 @@ const IN_A_SECOND: Setup = Setup {
         margin: 50,
     },
     limit: 1,
+    repetition: false,
 };
 
 /// White greets, begins, plays `wS1` and hears of it.
@@ -205,10 +208,10 @@ const WON: [&[u8]; 13] = [
     b"wA1 wB1-",
 ];
 
-/// What a side says in that game: it makes the moves of this parity, and hears of all.
-fn won_by(alloc: Global, parity: usize) -> Result<Vec<u8>, AllocError> {
+/// What a side says in a game: it makes the moves of this parity, and hears of all.
+fn said_by(alloc: Global, game: &[&[u8]], parity: usize) -> Result<Vec<u8>, AllocError> {
     let mut text = Vec::from_slice(alloc, b"ok\nok\n".as_slice())?;
-    for (number, line) in WON.iter().enumerate() {
+    for (number, line) in game.iter().enumerate() {
         if number % 2 == parity {
             text.extend_from_slice(line)?;
             text.extend_from_slice(b"\nok\n".as_slice())?;
@@ -220,8 +223,8 @@ fn won_by(alloc: Global, parity: usize) -> Result<Vec<u8>, AllocError> {
 
 #[test]
 fn a_match_ends_by_the_rules(rt: HostRuntime) -> Result<(), Fail> {
-    let white = won_by(rt.alloc(), 0)?;
-    let black = won_by(rt.alloc(), 1)?;
+    let white = said_by(rt.alloc(), &WON, 0)?;
+    let black = said_by(rt.alloc(), &WON, 1)?;
     let seen = play_deep(
         rt.alloc(),
         sound(white.as_slice(), 7),

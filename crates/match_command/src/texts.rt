@@ -2,7 +2,7 @@
 ghost use Rattle.std.specs.Prelude.{◌≡◌, ◌++◌, decimal, map, OnOk, IfOk};
 ghost use Rattle.match_command.specs.Texts.{shown, kept_text, late_text, cause_text, side_text, verdict_text, ending_text, match_text};
 
-use game_text::write_game;
+use game_text::write_game_under;
 use hive_model::{Colour, Game, ReplyText};
 use itoa::Buffer;
 use match_core::{Cause, Referee, Setup, Verdict};
@@ -16,8 +16,8 @@ fn shown(byte: u8) -> u8
     if byte < 32 || byte > 126 { b'?' } else { byte }
 }
 
-/// Appends the bytes of an engine's line as they are written.
-fn write_shown(out: &mut ReplyText, bytes: &[u8]) -> Result<(), AllocError>
+/// Appends the bytes of a line as they are written: each one outside 32 to 126 as a question mark.
+pub fn write_shown(out: &mut ReplyText, bytes: &[u8]) -> Result<(), AllocError>
     ensures { OnOk result (out.new ≡ out.old ++ map shown bytes.now) }
 {
     for byte in bytes {
@@ -39,7 +39,7 @@ fn write_kept(out: &mut ReplyText, word: &[u8], line: &[u8]) -> Result<(), Alloc
 }
 
 /// Appends a number.
-fn write_number(out: &mut ReplyText, number: u64) -> Result<(), AllocError>
+pub fn write_number(out: &mut ReplyText, number: u64) -> Result<(), AllocError>
     ensures { OnOk result (out.new ≡ out.old ++ decimal number) }
 {
     let mut buffer = Buffer::new();
@@ -108,7 +108,7 @@ fn write_verdict(out: &mut ReplyText, setup: Setup, verdict: &Verdict) -> Result
 }
 
 /// Appends the verdict of a match, where it has one.
-fn write_ending<G: Game + Drop>(
+pub fn write_ending<G: Game + Drop>(
     out: &mut ReplyText,
     setup: Setup,
     referee: &Referee<G>,
@@ -131,7 +131,7 @@ pub(crate) fn tell_match<G: Game + Drop>(
     ensures { IfOk result (λ text. text ≡ match_text setup referee.now) }
 {
     let mut text = ReplyText::new(alloc);
-    write_game(alloc, referee.game(), &mut text)?;
+    write_game_under(alloc, referee.game(), setup.repetition, &mut text)?;
     text.push(b'\n')?;
     write_ending(&mut text, setup, referee)?;
     text.push(b'\n')?;

@@ -1,5 +1,5 @@
 -- Every match is fair: what holds at each place of it.
-use Rattle.std.proofs.Common.{◌≡◌, ◌⊎◌, inl, inr, ℕ, Bool, true, false, cond, List, [], ◌∷◌, ◌++◌, length, refl, ap, sym, ◌∙◌, append_assoc, None, Some, IsTrue, unwrap_or, Result, Ok, Err}
+use Rattle.std.proofs.Common.{◌≡◌, ◌⊎◌, ◌+◌, inl, inr, ℕ, Bool, true, false, cond, List, [], ◌∷◌, ◌++◌, length, refl, ap, sym, ◌∙◌, append_assoc, None, Some, IsTrue, unwrap_or, Result, Ok, Err}
 use Rattle.std.specs.declared.option.Option.{Option}
 use Rattle.std.proofs.lemmas.List.{append-nil}
 use Rattle.std.specs.Prelude.{nat_le}
@@ -8,8 +8,12 @@ use Rattle.hive_model.specs.declared.pieces.Colour.TheVariants.{White, Black}
 use Rattle.hive_model.specs.declared.places.Move.{Move}
 use Rattle.hive_model.specs.Lists.{IsOn}
 use Rattle.hive_model.specs.Positions.{Position, opening}
-use Rattle.hive_model.specs.Games.{after, replay, AreLegal, outcome}
-use Rattle.hive_model.specs.Legal.{is_over_state, moves as legal_moves}
+use Rattle.hive_model.specs.Games.{after, replay, AreLegal}
+use Rattle.hive_model.specs.Legal.{state, is_over_state, moves as legal_moves}
+use Rattle.hive_model.specs.Keys.{KeyParts, key}
+use Rattle.hive_model.specs.Repetition.{same_board, count_same, keys, times, ends_as, outcome_under, StandsUnder}
+use Rattle.hive_model.specs.declared.pieces.GameType.{GameType}
+use Rattle.hive_model.proofs.StandLaws.{stands_by_moves}
 use Rattle.hive_model.specs.Courses.{is_listed}
 use Rattle.move_text.specs.declared.faults.MoveFault.{MoveFault}
 use Rattle.hive_model.proofs.ListedLaws.{listed_on}
@@ -25,7 +29,7 @@ use Rattle.match_core.specs.declared.answers.Verdict.{Verdict}
 use Rattle.match_core.specs.declared.answers.Verdict.TheVariants.{Rules, Limit, Forfeit}
 use Rattle.match_core.specs.Replies.{is_ok, is_error}
 use Rattle.match_core.specs.Texts.{read_of}
-use Rattle.match_core.specs.Standing.{Standing, Happening, Sent, Line, TooLong, Ended, Broke, Reading as ClockReading, start, match_after, next, after_all, act_at, answers, position_of, go, finish, ask, judge, judge_read, decide, accept, first_line, at_stage, is_late, keep, reply_ends, hear, question, forfeit, answered}
+use Rattle.match_core.specs.Standing.{Standing, Happening, Sent, Line, TooLong, Ended, Broke, Reading as ClockReading, start, match_after, next, after_all, act_at, answers, position_of, go, finish, ask, judge, judge_read, decide, accept, first_line, at_stage, is_late, keep, reply_ends, hear, question, forfeit, answered, outcome_of}
 use Rattle.match_core.specs.Fairness.{Answering, told_at, told, WasTold, Reply, Heard, nothing_heard, heard_at, heard, first_of}
 
 -- a move is accepted: it is legal, and is read from the first line of the last whole reply, which the side to move gave
@@ -86,8 +90,31 @@ HeardAt Before s k = k.begun ≡ []
 HeardAt After s k = (k.begun ≡ []) × (s.first ≡ first_option k.last.lines) × (k.last.side ≡ (position_of s).side)
 HeardAt Finished s k = Unit {0}
 
+-- the moves are a legal game, and none follows the end of the game
+pub record Plays (setup : Setup) (moves : List Move) : Type 0 where
+  pub legal : AreLegal (opening setup.game_type) moves
+  pub stands : StandsUnder setup.repetition setup.game_type moves
+
+-- the game is not over, but where a move is told it may be
+abbrev pub IsOpen : Setup → List Move → Type 0
+IsOpen setup moves = is_over_state (outcome_under setup.repetition setup.game_type moves) ≡ false
+
+abbrev pub OpenFor : Task → Setup → List Move → Type 0
+OpenFor Greet setup moves = IsOpen setup moves
+OpenFor Begin setup moves = IsOpen setup moves
+OpenFor Ask setup moves = IsOpen setup moves
+OpenFor (Tell m) setup moves = Unit {0}
+
+abbrev pub OpenAt : Stage → Setup → List Move → Type 0
+OpenAt (Send job side) setup moves = OpenFor job setup moves
+OpenAt (Read job side) setup moves = OpenFor job setup moves
+OpenAt Before setup moves = IsOpen setup moves
+OpenAt After setup moves = IsOpen setup moves
+OpenAt Finished setup moves = Unit {0}
+
 pub record Good (s : Standing) (k : Heard) (tw tb : List Move) : Type 0 where
-  pub legal : AreLegal (opening s.setup.game_type) s.moves
+  pub legal : Plays s.setup s.moves
+  pub yet : OpenAt s.stage s.setup s.moves
   pub told : ToldAt s.stage s.moves tw tb
   pub heard : HeardAt s.stage s k
 
@@ -121,22 +148,22 @@ told_some Before moves tw tb t = told_both t
 told_some After moves tw tb t = told_both t
 told_some Finished moves tw tb t = t
 
-finishes : (s : Standing) (v : Verdict) (k : Heard) (tw tb : List Move) (stage : Stage) → AreLegal (opening s.setup.game_type) s.moves → ToldAt stage s.moves tw tb → Steps s (finish s v) k tw tb
-finishes s v k tw tb stage legal t = record { good = record { legal = legal; told = told_some stage s.moves tw tb t; heard = tt }; moves = inl refl; same = refl }
+finishes : (s : Standing) (v : Verdict) (k : Heard) (tw tb : List Move) (stage : Stage) → Plays s.setup s.moves → ToldAt stage s.moves tw tb → Steps s (finish s v) k tw tb
+finishes s v k tw tb stage legal t = record { good = record { legal = legal; yet = tt; told = told_some stage s.moves tw tb t; heard = tt }; moves = inl refl; same = refl }
 
 -- both sides know all moves, and no reply is begun
 pub record Ready (s : Standing) (k : Heard) (tw tb : List Move) : Type 0 where
-  pub legal : AreLegal (opening s.setup.game_type) s.moves
+  pub legal : Plays s.setup s.moves
   pub both : Both s.moves tw tb
   pub begun : k.begun ≡ []
 
-asks_at : (s : Standing) (level : Level) (k : Heard) (tw tb : List Move) → Ready s k tw tb → Steps s (go s (question level (position_of s).side)) k tw tb
-asks_at s (Depth depth) k tw tb r = record { good = record { legal = r.legal; told = r.both; heard = (r.begun, refl) }; moves = inl refl; same = refl }
-asks_at s (Time budget margin) k tw tb r = record { good = record { legal = r.legal; told = r.both; heard = r.begun }; moves = inl refl; same = refl }
+asks_at : (s : Standing) (level : Level) (k : Heard) (tw tb : List Move) → Ready s k tw tb → IsOpen s.setup s.moves → Steps s (go s (question level (position_of s).side)) k tw tb
+asks_at s (Depth depth) k tw tb r yet = record { good = record { legal = r.legal; yet = yet; told = r.both; heard = (r.begun, refl) }; moves = inl refl; same = refl }
+asks_at s (Time budget margin) k tw tb r yet = record { good = record { legal = r.legal; yet = yet; told = r.both; heard = r.begun }; moves = inl refl; same = refl }
 
-asks : (s : Standing) (k : Heard) (tw tb : List Move) → Ready s k tw tb → Steps s (ask s) k tw tb
+asks : (s : Standing) (k : Heard) (tw tb : List Move) → Ready s k tw tb → IsOpen s.setup s.moves → Steps s (ask s) k tw tb
 unfolding ask
-asks s k tw tb r = asks_at s s.setup.level k tw tb r
+asks s k tw tb r yet = asks_at s s.setup.level k tw tb r yet
 
 pub either : (P : Standing → Type 0) (b : Bool) (x y : Standing) → (b ≡ true → P x) → (b ≡ false → P y) → P (cond b x y)
 either P true x y f g = f refl
@@ -150,68 +177,74 @@ decides : (s : Standing) (k : Heard) (tw tb : List Move) → Ready s k tw tb →
 unfolding decide
 decides s k tw tb r =
     let P : Standing → Type 0 = λ t. Steps s t k tw tb in
-    either P (is_over_state (outcome s.setup.game_type s.moves)) (finish s (Rules (outcome s.setup.game_type s.moves))) (cond (nat_le s.setup.limit (length s.moves)) (finish s Limit) (ask s))
-    (λ e. finishes s (Rules (outcome s.setup.game_type s.moves)) k tw tb Before r.legal r.both)
-    (λ e. either P (nat_le s.setup.limit (length s.moves)) (finish s Limit) (ask s) (λ f. finishes s Limit k tw tb Before r.legal r.both) (λ f. asks s k tw tb r))
+    either P (is_over_state (outcome_of s)) (finish s (Rules (outcome_of s))) (cond (nat_le s.setup.limit (length s.moves)) (finish s Limit) (ask s))
+    (λ e. finishes s (Rules (outcome_of s)) k tw tb Before r.legal r.both)
+    (λ e. either P (nat_le s.setup.limit (length s.moves)) (finish s Limit) (ask s) (λ f. finishes s Limit k tw tb Before r.legal r.both) (λ f. asks s k tw tb r e))
 
 legal_more : (p : Position) (ms : List Move) (m : Move) → AreLegal p ms → IsOn (legal_moves (replay p ms)) m → AreLegal p (ms ++ m ∷ [])
 legal_more p [] m a h = (h, tt)
 legal_more p (x ∷ ms) m a h = (a.0, legal_more (after p x) ms m a.1 h)
 
+plays_more : (setup : Setup) (ms : List Move) (m : Move) → Plays setup ms → IsOpen setup ms → IsOn (legal_moves (replay (opening setup.game_type) ms)) m → Plays setup (ms ++ m ∷ [])
+plays_more setup ms m plays yet on = record {
+  legal = legal_more (opening setup.game_type) ms m plays.legal on;
+  stands = (stands_by_moves setup.repetition setup.game_type ms m).1 (record { before = plays.stands; open_yet = yet });
+}
+
 first-of : (o : Option (List ℕ)) (lines : List (List ℕ)) → o ≡ first_option lines → unwrap_or o [] ≡ first_of lines
 first-of o [] e = rw e refl
 first-of o (line ∷ lines) e = rw e refl
 
-judges_as : (s : Standing) (line : List ℕ) (o : Result Move MoveFault) (k : Heard) (tw tb : List Move) → Ready s k tw tb → read_of s.setup.game_type (position_of s).board line ≡ o → line ≡ first_of k.last.lines → k.last.side ≡ (position_of s).side
+judges_as : (s : Standing) (line : List ℕ) (o : Result Move MoveFault) (k : Heard) (tw tb : List Move) → Ready s k tw tb → IsOpen s.setup s.moves → read_of s.setup.game_type (position_of s).board line ≡ o → line ≡ first_of k.last.lines → k.last.side ≡ (position_of s).side
     → Steps s (judge_read s line o) k tw tb
-judges_as s line (Err fault) k tw tb r e f side = finishes s (Forfeit (position_of s).side (NotAMove line)) k tw tb Before r.legal r.both
-judges_as s line (Ok m) k tw tb r e f side =
+judges_as s line (Err fault) k tw tb r yet e f side = finishes s (Forfeit (position_of s).side (NotAMove line)) k tw tb Before r.legal r.both
+judges_as s line (Ok m) k tw tb r yet e f side =
     let P : Standing → Type 0 = λ t. Steps s t k tw tb in
     either P (is_listed (position_of s) m) (accept s m) (forfeit s (position_of s).side (Illegal line))
     (λ l. record {
-      good = record { legal = legal_more (opening s.setup.game_type) s.moves m r.legal (listed_on (position_of s) m l); told = record { before = s.moves; made = refl; white = r.both.white; black = r.both.black }; heard = (r.begun, tt) };
+      good = record { legal = plays_more s.setup s.moves m r.legal yet (listed_on (position_of s) m l); yet = tt; told = record { before = s.moves; made = refl; white = r.both.white; black = r.both.black }; heard = (r.begun, tt) };
       moves = inr (m, refl, record { side = side; denotes = ap (read_of s.setup.game_type (position_of s).board) (sym f) ∙ e; legal = listed_on (position_of s) m l });
       same = refl;
     })
     (λ l. finishes s (Forfeit (position_of s).side (Illegal line)) k tw tb Before r.legal r.both)
 
-judges : (s : Standing) (k : Heard) (tw tb : List Move) → Ready s k tw tb → s.first ≡ first_option k.last.lines → k.last.side ≡ (position_of s).side → Steps s (judge s) k tw tb
+judges : (s : Standing) (k : Heard) (tw tb : List Move) → Ready s k tw tb → IsOpen s.setup s.moves → s.first ≡ first_option k.last.lines → k.last.side ≡ (position_of s).side → Steps s (judge s) k tw tb
 unfolding judge
-judges s k tw tb r f side = judges_as s (first_line s) (read_of s.setup.game_type (position_of s).board (first_line s)) k tw tb r refl (first-of s.first k.last.lines f) side
+judges s k tw tb r yet f side = judges_as s (first_line s) (read_of s.setup.game_type (position_of s).board (first_line s)) k tw tb r yet refl (first-of s.first k.last.lines f) side
 
-answers_at : (s : Standing) (level : Level) (k : Heard) (tw tb : List Move) → Ready s k tw tb → s.first ≡ first_option k.last.lines → k.last.side ≡ (position_of s).side → Steps s (answered s level) k tw tb
-answers_at s (Depth depth) k tw tb r f side = judges s k tw tb r f side
-answers_at s (Time budget margin) k tw tb r f side = record { good = record { legal = r.legal; told = r.both; heard = (r.begun, f, side) }; moves = inl refl; same = refl }
+answers_at : (s : Standing) (level : Level) (k : Heard) (tw tb : List Move) → Ready s k tw tb → IsOpen s.setup s.moves → s.first ≡ first_option k.last.lines → k.last.side ≡ (position_of s).side → Steps s (answered s level) k tw tb
+answers_at s (Depth depth) k tw tb r yet f side = judges s k tw tb r yet f side
+answers_at s (Time budget margin) k tw tb r yet f side = record { good = record { legal = r.legal; yet = yet; told = r.both; heard = (r.begun, f, side) }; moves = inl refl; same = refl }
 
 -- k is what was heard before the ok
-ends_reply : (s : Standing) (job : Task) (side : Colour) (lines : List (List ℕ)) (tw tb : List Move) → AreLegal (opening s.setup.game_type) s.moves → ToldAt (Read job side) s.moves tw tb
+ends_reply : (s : Standing) (job : Task) (side : Colour) (lines : List (List ℕ)) (tw tb : List Move) → Plays s.setup s.moves → OpenFor job s.setup s.moves → ToldAt (Read job side) s.moves tw tb
     → s.first ≡ first_option lines → IsAsked job side (position_of s).side → Steps s (reply_ends s job side) (record { begun = []; last = record { side = side; lines = lines } }) tw tb
-ends_reply s Greet White lines tw tb legal t f a = record { good = record { legal = legal; told = t; heard = (refl, tt) }; moves = inl refl; same = refl }
-ends_reply s Greet Black lines tw tb legal t f a = record { good = record { legal = legal; told = t; heard = (refl, tt) }; moves = inl refl; same = refl }
-ends_reply s Begin White lines tw tb legal t f a = record { good = record { legal = legal; told = t; heard = (refl, tt) }; moves = inl refl; same = refl }
-ends_reply s Begin Black lines tw tb legal t f a = asks s _ tw tb (record { legal = legal; both = t; begun = refl })
-ends_reply s Ask side lines tw tb legal t f a = answers_at s s.setup.level _ tw tb (record { legal = legal; both = t; begun = refl }) f a
-ends_reply s (Tell m) White lines tw tb legal t f a = record { good = record { legal = legal; told = t; heard = (refl, tt) }; moves = inl refl; same = refl }
-ends_reply s (Tell m) Black lines tw tb legal t f a = decides s _ tw tb (record { legal = legal; both = t; begun = refl })
+ends_reply s Greet White lines tw tb legal yet t f a = record { good = record { legal = legal; yet = yet; told = t; heard = (refl, tt) }; moves = inl refl; same = refl }
+ends_reply s Greet Black lines tw tb legal yet t f a = record { good = record { legal = legal; yet = yet; told = t; heard = (refl, tt) }; moves = inl refl; same = refl }
+ends_reply s Begin White lines tw tb legal yet t f a = record { good = record { legal = legal; yet = yet; told = t; heard = (refl, tt) }; moves = inl refl; same = refl }
+ends_reply s Begin Black lines tw tb legal yet t f a = asks s _ tw tb (record { legal = legal; both = t; begun = refl }) yet
+ends_reply s Ask side lines tw tb legal yet t f a = answers_at s s.setup.level _ tw tb (record { legal = legal; both = t; begun = refl }) yet f a
+ends_reply s (Tell m) White lines tw tb legal yet t f a = record { good = record { legal = legal; yet = yet; told = t; heard = (refl, tt) }; moves = inl refl; same = refl }
+ends_reply s (Tell m) Black lines tw tb legal yet t f a = decides s _ tw tb (record { legal = legal; both = t; begun = refl })
 
 first-keep : (o : Option (List ℕ)) (lines : List (List ℕ)) (line : List ℕ) → o ≡ first_option lines → Some (unwrap_or o line) ≡ first_option (lines ++ line ∷ [])
 first-keep o [] line e = rw e refl
 first-keep o (x ∷ lines) line e = rw e refl
 
-hears : (s : Standing) (job : Task) (side : Colour) (line : List ℕ) (k : Heard) (tw tb : List Move) → AreLegal (opening s.setup.game_type) s.moves → ToldAt (Read job side) s.moves tw tb
+hears : (s : Standing) (job : Task) (side : Colour) (line : List ℕ) (k : Heard) (tw tb : List Move) → Plays s.setup s.moves → OpenFor job s.setup s.moves → ToldAt (Read job side) s.moves tw tb
     → s.first ≡ first_option k.begun → IsAsked job side (position_of s).side → Steps s (hear s job side line) (heard_at (Read job side) k (Line line)) tw tb
-hears s job side line k tw tb legal t f a =
+hears s job side line k tw tb legal yet t f a =
     let P : Standing → Heard → Type 0 = λ x j. Steps s x j tw tb in
     let more : Heard = record { begun = k.begun ++ line ∷ []; last = k.last } in
     let Q : Standing → Type 0 = λ x. Steps s x more tw tb in
     either_two P (is_ok line) (reply_ends s job side) (cond (is_error line) (forfeit s side (ErrLine line)) (cond (nat_le 1000 s.count) (forfeit s side (Flood 1001)) (keep s (Read job side) line)))
     (record { begun = []; last = record { side = side; lines = k.begun } }) more
-    (λ e. ends_reply s job side k.begun tw tb legal t f a)
+    (λ e. ends_reply s job side k.begun tw tb legal yet t f a)
     (λ e. either Q (is_error line) (forfeit s side (ErrLine line)) (cond (nat_le 1000 s.count) (forfeit s side (Flood 1001)) (keep s (Read job side) line))
     (λ g. finishes s (Forfeit side (ErrLine line)) more tw tb (Read job side) legal t)
     (λ g. either Q (nat_le 1000 s.count) (forfeit s side (Flood 1001)) (keep s (Read job side) line)
     (λ h. finishes s (Forfeit side (Flood 1001)) more tw tb (Read job side) legal t)
-    (λ h. record { good = record { legal = legal; told = t; heard = (first-keep s.first k.begun line f, a) }; moves = inl refl; same = refl })))
+    (λ h. record { good = record { legal = legal; yet = yet; told = t; heard = (first-keep s.first k.begun line f, a) }; moves = inl refl; same = refl })))
 
 plain : {s t : Standing} {k : Heard} {tw tb : List Move} → Steps s t k tw tb → Steps s t k (tw ++ []) (tb ++ [])
 plain {s} {t} {k} {tw} {tb} p = rw (append-nil tw, append-nil tb) p
@@ -222,62 +255,62 @@ told_broke Begin side to = refl
 told_broke Ask side to = refl
 told_broke (Tell m) side to = refl
 
-sent_at_send : (s : Standing) (job : Task) (side : Colour) (k : Heard) (tw tb : List Move) → AreLegal (opening s.setup.game_type) s.moves → ToldAt (Send job side) s.moves tw tb → k.begun ≡ [] → IsAsked job side (position_of s).side
+sent_at_send : (s : Standing) (job : Task) (side : Colour) (k : Heard) (tw tb : List Move) → Plays s.setup s.moves → OpenFor job s.setup s.moves → ToldAt (Send job side) s.moves tw tb → k.begun ≡ [] → IsAsked job side (position_of s).side
     → Steps s (go s (Read job side)) k (tw ++ told_at (Send job side) Sent White) (tb ++ told_at (Send job side) Sent Black)
-sent_at_send s Greet side k tw tb legal t b a = plain (record { good = record { legal = legal; told = t; heard = (rw b refl, tt) }; moves = inl refl; same = refl })
-sent_at_send s Begin side k tw tb legal t b a = plain (record { good = record { legal = legal; told = t; heard = (rw b refl, tt) }; moves = inl refl; same = refl })
-sent_at_send s Ask side k tw tb legal t b a = plain (record { good = record { legal = legal; told = t; heard = (rw b refl, a) }; moves = inl refl; same = refl })
-sent_at_send s (Tell m) White k tw tb legal t b a = record {
-  good = record { legal = legal; told = record { before = t.before; made = t.made; white = rw t.white (sym t.made); black = append-nil tb ∙ t.black }; heard = (rw b refl, tt) };
+sent_at_send s Greet side k tw tb legal yet t b a = plain (record { good = record { legal = legal; yet = yet; told = t; heard = (rw b refl, tt) }; moves = inl refl; same = refl })
+sent_at_send s Begin side k tw tb legal yet t b a = plain (record { good = record { legal = legal; yet = yet; told = t; heard = (rw b refl, tt) }; moves = inl refl; same = refl })
+sent_at_send s Ask side k tw tb legal yet t b a = plain (record { good = record { legal = legal; yet = yet; told = t; heard = (rw b refl, a) }; moves = inl refl; same = refl })
+sent_at_send s (Tell m) White k tw tb legal yet t b a = record {
+  good = record { legal = legal; yet = yet; told = record { before = t.before; made = t.made; white = rw t.white (sym t.made); black = append-nil tb ∙ t.black }; heard = (rw b refl, tt) };
   moves = inl refl;
   same = refl;
 }
-sent_at_send s (Tell m) Black k tw tb legal t b a = record {
-  good = record { legal = legal; told = record { white = append-nil tw ∙ t.white; black = rw t.black (sym t.made) }; heard = (rw b refl, tt) };
+sent_at_send s (Tell m) Black k tw tb legal yet t b a = record {
+  good = record { legal = legal; yet = yet; told = record { white = append-nil tw ∙ t.white; black = rw t.black (sym t.made) }; heard = (rw b refl, tt) };
   moves = inl refl;
   same = refl;
 }
 
-broke_at_send : (s : Standing) (job : Task) (side : Colour) (k : Heard) (tw tb : List Move) → AreLegal (opening s.setup.game_type) s.moves → ToldAt (Send job side) s.moves tw tb
+broke_at_send : (s : Standing) (job : Task) (side : Colour) (k : Heard) (tw tb : List Move) → Plays s.setup s.moves → ToldAt (Send job side) s.moves tw tb
     → Steps s (forfeit s side BrokeCause) k (tw ++ told_at (Send job side) Broke White) (tb ++ told_at (Send job side) Broke Black)
 broke_at_send s job side k tw tb legal t = rw (told_broke job side White, told_broke job side Black) (plain (finishes s (Forfeit side BrokeCause) k tw tb (Send job side) legal t))
 
-steps_at : (stage : Stage) (s : Standing) (k : Heard) (tw tb : List Move) (h : Happening) → AreLegal (opening s.setup.game_type) s.moves → ToldAt stage s.moves tw tb → HeardAt stage s k → IsTrue (answers (act_at stage) h)
+steps_at : (stage : Stage) (s : Standing) (k : Heard) (tw tb : List Move) (h : Happening) → Plays s.setup s.moves → OpenAt stage s.setup s.moves → ToldAt stage s.moves tw tb → HeardAt stage s k → IsTrue (answers (act_at stage) h)
     → Steps s (at_stage s stage h) (heard_at stage k h) (tw ++ told_at stage h White) (tb ++ told_at stage h Black)
-steps_at (Send job side) s k tw tb Sent legal t (b, a) w = sent_at_send s job side k tw tb legal t b a
-steps_at (Send job side) s k tw tb Broke legal t (b, a) w = broke_at_send s job side k tw tb legal t
-steps_at (Send job side) s k tw tb (Line bytes) legal t (b, a) w = absurd (cc)
-steps_at (Send job side) s k tw tb TooLong legal t (b, a) w = absurd (cc)
-steps_at (Send job side) s k tw tb Ended legal t (b, a) w = absurd (cc)
-steps_at (Send job side) s k tw tb (ClockReading at) legal t (b, a) w = absurd (cc)
-steps_at (Read job side) s k tw tb (Line bytes) legal t (f, a) w = plain (hears s job side bytes k tw tb legal t f a)
-steps_at (Read job side) s k tw tb TooLong legal t (f, a) w = plain (finishes s (Forfeit side LongLine) k tw tb (Read job side) legal t)
-steps_at (Read job side) s k tw tb Ended legal t (f, a) w = plain (finishes s (Forfeit side EndedCause) k tw tb (Read job side) legal t)
-steps_at (Read job side) s k tw tb Broke legal t (f, a) w = plain (finishes s (Forfeit side BrokeCause) k tw tb (Read job side) legal t)
-steps_at (Read job side) s k tw tb Sent legal t (f, a) w = absurd (cc)
-steps_at (Read job side) s k tw tb (ClockReading at) legal t (f, a) w = absurd (cc)
-steps_at Before s k tw tb (ClockReading at) legal t b w = plain (record { good = record { legal = legal; told = t; heard = (b, refl) }; moves = inl refl; same = refl })
-steps_at Before s k tw tb Sent legal t b w = absurd (cc)
-steps_at Before s k tw tb Broke legal t b w = absurd (cc)
-steps_at Before s k tw tb (Line bytes) legal t b w = absurd (cc)
-steps_at Before s k tw tb TooLong legal t b w = absurd (cc)
-steps_at Before s k tw tb Ended legal t b w = absurd (cc)
-steps_at After s k tw tb (ClockReading at) legal t (b, f, side) w =
+steps_at (Send job side) s k tw tb Sent legal yet t (b, a) w = sent_at_send s job side k tw tb legal yet t b a
+steps_at (Send job side) s k tw tb Broke legal yet t (b, a) w = broke_at_send s job side k tw tb legal t
+steps_at (Send job side) s k tw tb (Line bytes) legal yet t (b, a) w = absurd (cc)
+steps_at (Send job side) s k tw tb TooLong legal yet t (b, a) w = absurd (cc)
+steps_at (Send job side) s k tw tb Ended legal yet t (b, a) w = absurd (cc)
+steps_at (Send job side) s k tw tb (ClockReading at) legal yet t (b, a) w = absurd (cc)
+steps_at (Read job side) s k tw tb (Line bytes) legal yet t (f, a) w = plain (hears s job side bytes k tw tb legal yet t f a)
+steps_at (Read job side) s k tw tb TooLong legal yet t (f, a) w = plain (finishes s (Forfeit side LongLine) k tw tb (Read job side) legal t)
+steps_at (Read job side) s k tw tb Ended legal yet t (f, a) w = plain (finishes s (Forfeit side EndedCause) k tw tb (Read job side) legal t)
+steps_at (Read job side) s k tw tb Broke legal yet t (f, a) w = plain (finishes s (Forfeit side BrokeCause) k tw tb (Read job side) legal t)
+steps_at (Read job side) s k tw tb Sent legal yet t (f, a) w = absurd (cc)
+steps_at (Read job side) s k tw tb (ClockReading at) legal yet t (f, a) w = absurd (cc)
+steps_at Before s k tw tb (ClockReading at) legal yet t b w = plain (record { good = record { legal = legal; yet = yet; told = t; heard = (b, refl) }; moves = inl refl; same = refl })
+steps_at Before s k tw tb Sent legal yet t b w = absurd (cc)
+steps_at Before s k tw tb Broke legal yet t b w = absurd (cc)
+steps_at Before s k tw tb (Line bytes) legal yet t b w = absurd (cc)
+steps_at Before s k tw tb TooLong legal yet t b w = absurd (cc)
+steps_at Before s k tw tb Ended legal yet t b w = absurd (cc)
+steps_at After s k tw tb (ClockReading at) legal yet t (b, f, side) w =
     let P : Standing → Type 0 = λ x. Steps s x k tw tb in
     plain (either P (is_late s at) (forfeit s (position_of s).side (Late s.asked at)) (judge s)
     (λ e. finishes s (Forfeit (position_of s).side (Late s.asked at)) k tw tb After legal t)
-    (λ e. judges s k tw tb (record { legal = legal; both = t; begun = b }) f side))
-steps_at After s k tw tb Sent legal t b w = absurd (cc)
-steps_at After s k tw tb Broke legal t b w = absurd (cc)
-steps_at After s k tw tb (Line bytes) legal t b w = absurd (cc)
-steps_at After s k tw tb TooLong legal t b w = absurd (cc)
-steps_at After s k tw tb Ended legal t b w = absurd (cc)
-steps_at Finished s k tw tb h legal t b w = absurd (cc)
+    (λ e. judges s k tw tb (record { legal = legal; both = t; begun = b }) yet f side))
+steps_at After s k tw tb Sent legal yet t b w = absurd (cc)
+steps_at After s k tw tb Broke legal yet t b w = absurd (cc)
+steps_at After s k tw tb (Line bytes) legal yet t b w = absurd (cc)
+steps_at After s k tw tb TooLong legal yet t b w = absurd (cc)
+steps_at After s k tw tb Ended legal yet t b w = absurd (cc)
+steps_at Finished s k tw tb h legal yet t b w = absurd (cc)
 
 pub steps : (s : Standing) (k : Heard) (tw tb : List Move) (h : Happening) → Good s k tw tb → IsTrue (answers (act_at s.stage) h)
     → Steps s (next s h) (heard_at s.stage k h) (tw ++ told_at s.stage h White) (tb ++ told_at s.stage h Black)
 unfolding next
-steps s k tw tb h g w = steps_at s.stage s k tw tb h g.legal g.told g.heard w
+steps s k tw tb h g w = steps_at s.stage s k tw tb h g.legal g.yet g.told g.heard w
 
 -- along a list of events
 pub record All (s t : Standing) (k : Heard) (tw tb : List Move) : Type 0 where
@@ -293,8 +326,28 @@ goes (h ∷ hs) s k tw tb g (w, a) =
     let f : (tb ++ told_at s.stage h Black) ++ told (next s h) hs Black ≡ tb ++ told s (h ∷ hs) Black = append_assoc tb (told_at s.stage h Black) (told (next s h) hs Black) in
     record { good = rw (← e, ← f) r.good; same = r.same ∙ st.same }
 
+-- no piece is on the board at the start, and the game is not over
+plays_none : (setup : Setup) → Plays setup []
+plays_none setup = record { legal = tt; stands = none }
+  where
+    none : StandsUnder setup.repetition setup.game_type []
+    none [] m rest e = absurd (cc)
+    none (k ∷ front) m rest e = absurd (cc)
+
+one_key : (k : KeyParts) → nat_le 3 (count_same k (k ∷ [])) ≡ false
+one_key k = go (same_board k k)
+  where
+    go : (b : Bool) → nat_le 3 (0 + cond b 1 0) ≡ false
+    go true = refl
+    go false = refl
+
+open_start : (r : Bool) (t : GameType) → is_over_state (outcome_under r t []) ≡ false
+unfolding state keys times
+open_start false t = refl
+open_start true t = ap (λ b. is_over_state (ends_as b (state (opening t)))) (one_key (key (opening t)))
+
 pub good_start : (setup : Setup) → Good (start setup) nothing_heard [] []
-good_start setup = record { legal = tt; told = record { white = refl; black = refl }; heard = (refl, tt) }
+good_start setup = record { legal = plays_none setup; yet = open_start setup.repetition setup.game_type; told = record { white = refl; black = refl }; heard = (refl, tt) }
 
 answering_front : (hs : List Happening) (s : Standing) (h : Happening) → Answering s (hs ++ h ∷ []) → Answering s hs × IsTrue (answers (act_at (after_all s hs).stage) h)
 answering_front [] s h a = (tt, a.0)
@@ -321,4 +374,4 @@ reads setup hs h a =
     let (b, w) = answering_front hs (start setup) h a in
     let r = goes hs (start setup) nothing_heard [] [] (good_start setup) b in
     let st = steps (match_after setup hs) _ _ _ h r.good w in
-    record { fits = b; answered = w; legal = r.good.legal; same = r.same; moves = rw (after_all-snoc hs (start setup) h, heard-snoc hs (start setup) nothing_heard h) st.moves }
+    record { fits = b; answered = w; legal = r.good.legal.legal; same = r.same; moves = rw (after_all-snoc hs (start setup) h, heard-snoc hs (start setup) nothing_heard h) st.moves }

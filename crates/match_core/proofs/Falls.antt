@@ -2,7 +2,6 @@ use Rattle.std.specs.Prelude.{nat_le}
 use Rattle.hive_model.specs.declared.pieces.Colour.{Colour}
 use Rattle.hive_model.specs.declared.pieces.Colour.TheVariants.{White, Black}
 use Rattle.hive_model.specs.declared.places.Move.{Move}
-use Rattle.hive_model.specs.Games.{outcome}
 use Rattle.hive_model.specs.Legal.{is_over_state}
 use Rattle.hive_model.specs.Courses.{is_listed}
 use Rattle.move_text.specs.declared.faults.MoveFault.{MoveFault}
@@ -16,7 +15,7 @@ use Rattle.match_core.specs.declared.answers.Cause.TheVariants.{NotAMove, Illega
 use Rattle.match_core.specs.declared.answers.Verdict.{Verdict}
 use Rattle.match_core.specs.declared.answers.Verdict.TheVariants.{Rules, Limit, Forfeit}
 use Rattle.match_core.specs.Replies.{is_ok, is_error}
-use Rattle.match_core.specs.Standing.{Standing, Happening, Sent, Line, TooLong, Ended, Broke, Reading, next, act_at, answers, position_of, go, finish, ask, judge, judge_read, decide, accept, first_line, at_stage, is_late, keep, reply_ends, hear, question, forfeit, answered}
+use Rattle.match_core.specs.Standing.{Standing, Happening, Sent, Line, TooLong, Ended, Broke, Reading, next, act_at, answers, position_of, go, finish, ask, judge, judge_read, decide, accept, first_line, at_stage, is_late, keep, reply_ends, hear, question, forfeit, answered, outcome_of}
 use Rattle.std.proofs.Common.{◌≡◌, ◌<◌, ◌≤◌, ℕ, ◌+◌, ◌-◌, ◌*◌, false, cond, List, [], ◌∷◌, ◌++◌, length, refl, length-append, IsTrue, arith, Result, Ok, Err}
 use Rattle.match_core.specs.Keeps.{HasNext}
 use Rattle.match_core.specs.Texts.{read_of}
@@ -46,8 +45,8 @@ decides : (s : Standing) (n : ℕ) → length s.moves ≤ s.setup.limit → 8008
 unfolding decide
 decides s n h l v =
     let P : Standing → Type 0 = λ t. Falls t n in
-    either P (is_over_state (outcome s.setup.game_type s.moves)) (finish s (Rules (outcome s.setup.game_type s.moves))) (cond (nat_le s.setup.limit (length s.moves)) (finish s Limit) (ask s))
-    (λ e. ends_at s (Rules (outcome s.setup.game_type s.moves)) n (omega arith))
+    either P (is_over_state (outcome_of s)) (finish s (Rules (outcome_of s))) (cond (nat_le s.setup.limit (length s.moves)) (finish s Limit) (ask s))
+    (λ e. ends_at s (Rules (outcome_of s)) n (omega arith))
     (λ e. either P (nat_le s.setup.limit (length s.moves)) (finish s Limit) (ask s) (λ f. ends_at s Limit n (omega arith)) (λ f. asks s n (le_false s.setup.limit (length s.moves) f) l v))
 
 accepts : (s : Standing) (m : Move) (n : ℕ) → length s.moves < s.setup.limit → 8008 * (s.setup.limit - length s.moves) ≤ n → false ≡ has_verdict s.verdict → Falls (accept s m) n

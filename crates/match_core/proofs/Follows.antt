@@ -2,7 +2,6 @@ use Rattle.std.specs.Prelude.{nat_le, nat_lt}
 use Rattle.hive_model.specs.declared.pieces.Colour.{Colour}
 use Rattle.hive_model.specs.declared.pieces.Colour.TheVariants.{White, Black}
 use Rattle.hive_model.specs.declared.places.Move.{Move}
-use Rattle.hive_model.specs.Games.{outcome}
 use Rattle.hive_model.specs.Legal.{is_over_state}
 use Rattle.hive_model.specs.Courses.{is_listed}
 use Rattle.move_text.specs.declared.faults.MoveFault.{MoveFault}
@@ -16,7 +15,7 @@ use Rattle.match_core.specs.declared.answers.Stage.TheVariants.{Send, Read, Befo
 use Rattle.match_core.specs.declared.answers.Cause.TheVariants.{Illegal, ErrLine, Flood}
 use Rattle.match_core.specs.declared.answers.Verdict.TheVariants.{Rules, Limit}
 use Rattle.match_core.specs.Replies.{is_ok, is_error}
-use Rattle.match_core.specs.Standing.{Standing, Happening, Sent, Line, TooLong, Ended, Broke, Reading, start, next, after_all, act_at, answers, position_of, finish, ask, judge, judge_read, decide, accept, first_line, at_stage, is_late, keep, reply_ends, hear, forfeit, answered, latest}
+use Rattle.match_core.specs.Standing.{Standing, Happening, Sent, Line, TooLong, Ended, Broke, Reading, start, next, after_all, act_at, answers, position_of, finish, ask, judge, judge_read, decide, accept, first_line, at_stage, is_late, keep, reply_ends, hear, forfeit, answered, latest, outcome_of}
 use Rattle.match_core.specs.Texts.{read_of}
 use Rattle.std.proofs.Common.{◌≡◌, ◌⊎◌, inl, inr, ◌≤◌, ℕ, zero, suc, Bool, true, false, cond, List, [], ◌∷◌, ◌++◌, length, refl, ap, sym, ◌∙◌, None, Some, IsTrue, arith, subst, Result, Ok, Err}
 use Rattle.std.specs.Option.{option_map}
@@ -40,7 +39,7 @@ asks s a = refl
 decides : (s : Standing) (a : ℕ) → decide (with_asked s a) ≡ with_asked (decide s) a
 unfolding decide
 decides s a =
-    conds (is_over_state (outcome s.setup.game_type s.moves)) (finish s (Rules (outcome s.setup.game_type s.moves))) (cond (nat_le s.setup.limit (length s.moves)) (finish s Limit) (ask s)) _ _ a refl
+    conds (is_over_state (outcome_of s)) (finish s (Rules (outcome_of s))) (cond (nat_le s.setup.limit (length s.moves)) (finish s Limit) (ask s)) _ _ a refl
     (conds (nat_le s.setup.limit (length s.moves)) (finish s Limit) (ask s) _ _ a refl (asks s a))
 
 judges_as : (s : Standing) (a : ℕ) (line : List ℕ) (o : Result Move MoveFault) → judge_read (with_asked s a) line o ≡ with_asked (judge_read s line o) a

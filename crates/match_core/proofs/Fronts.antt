@@ -2,7 +2,6 @@ use Rattle.std.specs.Prelude.{nat_le}
 use Rattle.hive_model.specs.declared.pieces.Colour.{Colour}
 use Rattle.hive_model.specs.declared.pieces.Colour.TheVariants.{White, Black}
 use Rattle.hive_model.specs.declared.places.Move.{Move}
-use Rattle.hive_model.specs.Games.{outcome}
 use Rattle.hive_model.specs.Legal.{is_over_state}
 use Rattle.hive_model.specs.Courses.{is_listed}
 use Rattle.move_text.specs.declared.faults.MoveFault.{MoveFault}
@@ -15,7 +14,7 @@ use Rattle.match_core.specs.declared.answers.Stage.TheVariants.{Send, Read, Befo
 use Rattle.match_core.specs.declared.answers.Cause.TheVariants.{Illegal, ErrLine, Flood, Late}
 use Rattle.match_core.specs.declared.answers.Verdict.TheVariants.{Rules, Limit}
 use Rattle.match_core.specs.Replies.{is_ok, is_error}
-use Rattle.match_core.specs.Standing.{Standing, Happening, Sent, Line, TooLong, Ended, Broke, Reading, start, match_after, next, after_all, position_of, finish, ask, judge, judge_read, decide, accept, first_line, at_stage, is_late, keep, reply_ends, hear, forfeit, answered}
+use Rattle.match_core.specs.Standing.{Standing, Happening, Sent, Line, TooLong, Ended, Broke, Reading, start, match_after, next, after_all, position_of, finish, ask, judge, judge_read, decide, accept, first_line, at_stage, is_late, keep, reply_ends, hear, forfeit, answered, outcome_of}
 use Rattle.match_core.specs.Texts.{read_of}
 use Rattle.std.proofs.Common.{◌≡◌, inl, inr, ◌≤◌, ℕ, zero, suc, true, cond, List, [], ◌∷◌, ◌++◌, length, refl, ap, sym, ◌∙◌, Some, arith, subst, Result, Ok, Err, append_assoc}
 use Rattle.hive_model.specs.Lines.{Line as Mark, ToldLines}
@@ -43,7 +42,7 @@ decides : (s : Standing) → Grows s (decide s)
 unfolding decide
 decides s =
     let P : Standing → Type 0 = λ t. Grows s t in
-    either P (is_over_state (outcome s.setup.game_type s.moves)) (finish s (Rules (outcome s.setup.game_type s.moves))) (cond (nat_le s.setup.limit (length s.moves)) (finish s Limit) (ask s)) (λ e. no_move s (finish s Limit) refl)
+    either P (is_over_state (outcome_of s)) (finish s (Rules (outcome_of s))) (cond (nat_le s.setup.limit (length s.moves)) (finish s Limit) (ask s)) (λ e. no_move s (finish s Limit) refl)
     (λ e. either P (nat_le s.setup.limit (length s.moves)) (finish s Limit) (ask s) (λ f. no_move s (finish s Limit) refl) (λ f. asks s))
 
 judges_as : (s : Standing) (line : List ℕ) (o : Result Move MoveFault) → Grows s (judge_read s line o)

@@ -1,3 +1,4 @@
+pub mod Sees
 pub mod Fair
 pub mod Tells
 pub mod Falls

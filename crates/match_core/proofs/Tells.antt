@@ -1,11 +1,12 @@
 -- The lines that tell a side its moves are those of the moves that it is told, one after the other.
-use Rattle.std.proofs.Common.{◌≡◌, ℕ, suc, ◌-◌, cond, List, [], ◌∷◌, ◌++◌, length, take, refl, ap, sym, ◌∙◌, subst, append_assoc, arith}
+use Rattle.std.proofs.Common.{◌≡◌, ℕ, ◌-◌, cond, List, [], ◌∷◌, ◌++◌, length, take, refl, ap, sym, ◌∙◌, subst, append_assoc}
 use Rattle.std.proofs.lemmas.List.{append-nil}
 use Rattle.hive_model.specs.declared.pieces.Colour.{Colour}
 use Rattle.hive_model.specs.declared.pieces.Colour.TheVariants.{White, Black}
 use Rattle.hive_model.specs.declared.places.Move.{Move}
 use Rattle.hive_model.specs.Positions.{Position, opening}
 use Rattle.hive_model.specs.Games.{after, replay, AreLegal}
+use Rattle.hive_model.specs.Repetition.{StandsUnder}
 use Rattle.match_core.specs.declared.answers.Setup.{Setup}
 use Rattle.match_core.specs.declared.answers.Task.TheVariants.{Greet, Begin, Ask, Tell}
 use Rattle.match_core.specs.declared.answers.Stage.{Stage}
@@ -13,21 +14,12 @@ use Rattle.match_core.specs.declared.answers.Stage.TheVariants.{Send, Read, Befo
 use Rattle.match_core.specs.Texts.{tell_line}
 use Rattle.match_core.specs.Standing.{Standing, Happening, Sent, Line, TooLong, Ended, Broke, Reading, start, match_after, next}
 use Rattle.match_core.specs.Fairness.{Answering, Heard, nothing_heard, heard_at, sent_at, told_at, told, is_telling, telling_lines, tell_lines, IsFair}
+use Rattle.match_core.proofs.Sees.{taken_back}
 use Rattle.match_core.proofs.Fair.{Good, ToldAt, steps, goes, good_start, told_some}
 
 lines-snoc : (p : Position) (ms : List Move) (m : Move) → tell_lines p (ms ++ m ∷ []) ≡ tell_lines p ms ++ tell_line (replay p ms) m ∷ []
 lines-snoc p [] m = refl
 lines-snoc p (x ∷ ms) m = ap (λ (r : List (List ℕ)). tell_line p x ∷ r) (lines-snoc (after p x) ms m)
-
-taken_back : (ms : List Move) (m : Move) → take (length (ms ++ m ∷ []) - 1) (ms ++ m ∷ []) ≡ ms
-taken_back [] m = refl
-taken_back (k ∷ ms) m =
-    let long : length (k ∷ (ms ++ m ∷ [])) - 1 ≡ suc (length (ms ++ m ∷ []) - 1) = longer ms in
-    ap (λ n. take n (k ∷ (ms ++ m ∷ []))) long ∙ ap (λ (r : List Move). k ∷ r) (taken_back ms m)
-  where
-    longer : (ms : List Move) → length (k ∷ (ms ++ m ∷ [])) - 1 ≡ suc (length (ms ++ m ∷ []) - 1)
-    longer [] = refl
-    longer (x ∷ xs) = omega arith
 
 -- a move was made after those that a side knows, and it is told now
 one_more : (p : Position) (moves before tw : List Move) (m : Move) → moves ≡ before ++ m ∷ [] → tw ≡ before
@@ -110,7 +102,8 @@ fair setup hs a =
     let kind : (match_after setup hs).setup.game_type ≡ setup.game_type = ap (λ (x : Setup). x.game_type) r.same in
     let some = told_some (match_after setup hs).stage (match_after setup hs).moves _ _ r.good.told in
     record {
-      legal = subst (λ t. AreLegal (opening t) (match_after setup hs).moves) kind r.good.legal;
+      legal = subst (λ t. AreLegal (opening t) (match_after setup hs).moves) kind r.good.legal.legal;
+      stands = subst (λ (x : Setup). StandsUnder x.repetition x.game_type (match_after setup hs).moves) r.same r.good.legal.stands;
       white = some.0;
       black = some.1;
       white_lines = sym (tells_white hs (start setup) nothing_heard [] [] (good_start setup) a);

@@ -7,6 +7,7 @@ use Rattle.hive_model.specs.Denotes.{Denotes}
 use Rattle.hive_model.specs.Lists.{IsOn}
 use Rattle.hive_model.specs.Positions.{Position, opening}
 use Rattle.hive_model.specs.Games.{after, IsGame}
+use Rattle.hive_model.specs.Repetition.{StandsUnder}
 use Rattle.hive_model.specs.Legal.{moves as legal_moves}
 use Rattle.match_core.specs.declared.answers.Setup.{Setup}
 use Rattle.match_core.specs.declared.answers.Task.TheVariants.{Greet, Begin, Ask, Tell}
@@ -141,10 +142,11 @@ pub record Accepts (s : Standing) (reply : Reply) (m : Move) : Type 0 where
 abbrev pub MovesOn : Standing → Standing → Reply → Type 0
 MovesOn s t reply = (t.moves ≡ s.moves) ⊎ ((m : Move) × (t.moves ≡ s.moves ++ m ∷ []) × Accepts s reply m)
 
--- The moves are a legal game. Each side was told all of them, or all but the last, each once and in order, and the lines that
--- told it a move are those of these moves.
+-- The moves are a legal game, and none follows the end of the game. Each side was told all of them, or all but the last, each
+-- once and in order, and the lines that told it a move are those of these moves.
 pub record IsFair (setup : Setup) (hs : List Happening) : Type 0 where
   pub legal : IsGame setup.game_type (match_after setup hs).moves
+  pub stands : StandsUnder setup.repetition setup.game_type (match_after setup hs).moves
   pub white : WasTold (told (start setup) hs White) (match_after setup hs).moves
   pub black : WasTold (told (start setup) hs Black) (match_after setup hs).moves
   pub white_lines : telling_lines (start setup) hs White ≡ tell_lines (opening setup.game_type) (told (start setup) hs White)

@@ -1,6 +1,8 @@
 -- What a referee keeps.
 use Rattle.std.specs.Prelude.{◌≡◌, ℕ, ◌+◌, ◌%◌, unwrap_or, ◌^◌, ◌<◌, ◌≤◌, List, [], length}
-use Rattle.hive_model.specs.Courses.{Course}
+use Rattle.hive_model.specs.Courses.{Course, without_last}
+use Rattle.game_text.specs.declared.seen.Seen.{Seen}
+use Rattle.game_text.specs.Seen.{Sees}
 use Rattle.match_core.specs.declared.answers.Setup.{Setup}
 use Rattle.match_core.specs.declared.answers.Level.{Level}
 use Rattle.match_core.specs.declared.answers.Level.TheVariants.{Depth, Time}
@@ -39,8 +41,60 @@ FitsStage Before s text = length s.moves < s.setup.limit
 FitsStage After s text = length s.moves < s.setup.limit
 FitsStage Finished s text = Unit {0}
 
--- the game is the one of the moves, with room for the rest; the line to send is ready
-pub record IsReferee (s : Standing) (game : Course) (text : List ℕ) (room : ℕ) : Type 0 where
+-- at least one move was made, and the keys that are kept are those of the positions before the last
+pub record SeesBefore (seen : Seen) (game : Course) : Type 0 where
+  pub made : 1 ≤ length game.made
+  pub keys : Sees seen (without_last game)
+
+-- while a move is told, the key of the position that it leads to is not yet kept
+abbrev pub SeesFor : Task → Seen → Course → Type 0
+SeesFor Greet seen game = Sees seen game
+SeesFor Begin seen game = Sees seen game
+SeesFor Ask seen game = Sees seen game
+SeesFor (Tell told) seen game = SeesBefore seen game
+
+-- The keys that are kept are those of all positions of the game, or of all but the last while a move is told. Of a match that is
+-- over nothing is said.
+abbrev pub SeesAt : Stage → Seen → Course → Type 0
+SeesAt (Send job side) seen game = SeesFor job seen game
+SeesAt (Read job side) seen game = SeesFor job seen game
+SeesAt Before seen game = Sees seen game
+SeesAt After seen game = Sees seen game
+SeesAt Finished seen game = Unit {0}
+
+-- a side is told a move
+abbrev pub IsTold : Task → Type 0
+IsTold Greet = ⊥
+IsTold Begin = ⊥
+IsTold Ask = ⊥
+IsTold (Tell told) = Unit {0}
+
+-- a move is being told: not every side knows it yet
+abbrev pub IsTelling : Stage → Type 0
+IsTelling (Send job side) = IsTold job
+IsTelling (Read job side) = IsTold job
+IsTelling Before = ⊥
+IsTelling After = ⊥
+IsTelling Finished = ⊥
+
+-- a side is told no move
+abbrev pub IsNotTold : Task → Type 0
+IsNotTold Greet = Unit {0}
+IsNotTold Begin = Unit {0}
+IsNotTold Ask = Unit {0}
+IsNotTold (Tell told) = ⊥
+
+-- the match is not over, and both sides know all moves
+abbrev pub IsSettled : Stage → Type 0
+IsSettled (Send job side) = IsNotTold job
+IsSettled (Read job side) = IsNotTold job
+IsSettled Before = Unit {0}
+IsSettled After = Unit {0}
+IsSettled Finished = ⊥
+
+-- The game is the one of the moves, with room for the rest, and the rule of third repetition is the setup's. The keys of the
+-- positions are kept, and the line to send is ready.
+pub record IsReferee (s : Standing) (game : Course) (seen : Seen) (text : List ℕ) (room : ℕ) : Type 0 where
   pub kind : game.game_type ≡ s.setup.game_type
   pub same : game.made ≡ s.moves
   pub spare : s.setup.limit ≤ length s.moves + game.spare
@@ -48,6 +102,8 @@ pub record IsReferee (s : Standing) (game : Course) (text : List ℕ) (room : �
   pub asked : s.asked < 2 ^ 62
   pub count : s.count ≤ 1000
   pub short : length (unwrap_or s.first []) ≤ 65536
+  pub rule : seen.repetition ≡ s.setup.repetition
+  pub sees : SeesAt s.stage seen game
   pub fits : FitsStage s.stage s text
   pub has_room : most_sent ≤ room
 

@@ -4,8 +4,10 @@ use Rattle.hive_model.specs.declared.pieces.Colour.{Colour}
 use Rattle.hive_model.specs.declared.pieces.Colour.TheVariants.{White, Black}
 use Rattle.hive_model.specs.declared.places.Move.{Move}
 use Rattle.hive_model.specs.Positions.{Position, opening}
-use Rattle.hive_model.specs.Games.{replay, outcome}
+use Rattle.hive_model.specs.declared.places.State.{State}
+use Rattle.hive_model.specs.Games.{replay}
 use Rattle.hive_model.specs.Legal.{is_over_state}
+use Rattle.hive_model.specs.Repetition.{outcome_under}
 use Rattle.hive_model.specs.Courses.{is_listed}
 use Rattle.move_text.specs.declared.faults.MoveFault.{MoveFault}
 use Rattle.match_core.specs.declared.answers.Setup.{Setup}
@@ -120,10 +122,15 @@ judge_read s line (Ok m) = cond (is_listed (position_of s) m) (accept s m) (forf
 unfoldable pub judge : Standing → Standing
 judge s = judge_read s (first_line s) (read_of s.setup.game_type (position_of s).board (first_line s))
 
+-- How the game goes on or ended: by its position where that ends it; else it is drawn where the match is played with the rule of
+-- third repetition and the position stands for the third time.
+abbrev pub outcome_of : Standing → State
+outcome_of s = outcome_under s.setup.repetition s.setup.game_type s.moves
+
 -- both sides know the last move
 unfoldable pub decide : Standing → Standing
 decide s =
-    cond (is_over_state (outcome s.setup.game_type s.moves)) (finish s (Rules (outcome s.setup.game_type s.moves)))
+    cond (is_over_state (outcome_of s)) (finish s (Rules (outcome_of s)))
     (cond (nat_le s.setup.limit (length s.moves)) (finish s Limit) (ask s))
 
 -- a reply to a question has ended: where it has a time, the clock is read before it is judged

@@ -3,8 +3,9 @@ ghost use Rattle.match_core.specs.Fairness.{MatchesAreFair};
 ghost use Rattle.match_core.specs.Plays.{MatchesNearTheirEnd, MatchesEnd, MatchesAreJudged};
 ghost use Rattle.match_core.specs.Feeds.{MatchesAreOfTheirLines, MatchesBegin};
 
-/// Over every list of events that answer the acts the moves are a legal game, each is what the reply of the side to move
-/// denotes, and each side was told all of them, or all but the last, in lines that are those of these moves.
+/// Over every list of events that answer the acts the moves are a legal game, none follows the end
+/// of the game, each is what the reply of the side to move denotes, and each side was told all of
+/// them, or all but the last, in lines that are those of these moves.
 pub fn matches_are_fair()
     ensures { MatchesAreFair }
 {}
@@ -14,7 +15,8 @@ pub fn matches_near_their_end()
     ensures { MatchesNearTheirEnd }
 {}
 
-/// A whole match that took just these lines, with no fault and no late answer, is the match of these lines.
+/// A whole match that took just these lines, with no fault and no late answer, is the match of
+/// these lines.
 pub fn matches_are_of_their_lines()
     ensures { MatchesAreOfTheirLines }
 {}
@@ -29,7 +31,8 @@ pub fn matches_are_judged()
     ensures { MatchesAreJudged }
 {}
 
-/// A match that took just these lines so far, with no fault and no late answer, is a front of the match of these lines.
+/// A match that took just these lines so far, with no fault and no late answer, is a front of the
+/// match of these lines.
 pub fn matches_begin()
     ensures { MatchesBegin }
 {}

@@ -7,20 +7,24 @@ mod judging;
 mod steps;
 
 use crate::answers::{Act, Event, Setup, Stage, Task, Verdict};
+use game_text::Seen;
 use hive_model::{Colour, Game, LineText};
 use std::alloc::{AllocError, Global};
 use std::marker::Model;
 
 /// A match that is under way, as it stands after what has happened in it.
 ///
-/// Each engine greets first, white before black, and is then told to begin a new game. The side to move is asked for its best
-/// move; the first line of its reply is judged, and a legal move is played and told to white and then to black. The match ends by
-/// the rules, at its limit of plies, or by a forfeit.
+/// Each engine greets first, white before black, and is then told to begin a new game. The side to
+/// move is asked for its best move; the first line of its reply is judged, and a legal move is
+/// played and told to white and then to black. The match ends by the rules, at its limit of plies,
+/// or by a forfeit. Where the setup says so, a position that stands for the third time draws the
+/// game.
 #[derive(Drop)]
 pub struct Referee<G: Game> {
     alloc: Global,
     setup: Setup,
     game: G,
+    seen: Seen,
     stage: Stage,
     asked: u64,
     first: Option<LineText>,
@@ -36,24 +40,44 @@ impl<G: Game> Model for Referee<G> {
 
     ghost Value = { Standing };
 
-    ghost view = { λ r. record { setup = r.setup; moves = (G.course r.game).made; stage = r.stage; asked = r.asked; first = r.first; count = r.count; verdict = r.verdict } };
+    ghost view = { λ r. record {
+      setup = r.setup;
+      moves = (G.course r.game).made;
+      stage = r.stage;
+      asked = r.asked;
+      first = r.first;
+      count = r.count;
+      verdict = r.verdict;
+    } };
 
-    ghost invariant = { λ r. IsReferee (record { setup = r.setup; moves = (G.course r.game).made; stage = r.stage; asked = r.asked; first = r.first; count = r.count; verdict = r.verdict }) (G.course r.game) r.text.items (vec_capacity r.text) };
+    ghost invariant = { λ r. IsReferee (record {
+      setup = r.setup;
+      moves = (G.course r.game).made;
+      stage = r.stage;
+      asked = r.asked;
+      first = r.first;
+      count = r.count;
+      verdict = r.verdict;
+    }) (G.course r.game) r.seen r.text.items
+        (vec_capacity r.text) };
 }
 
 impl<G: Game + Drop> Referee<G> {
-    /// The referee of a match that begins. It makes room for the whole match, and answers `AllocError` where there is none.
+    /// The referee of a match that begins. It makes room for the whole match, and answers
+    /// `AllocError` where there is none.
     pub fn new(alloc: Global, setup: Setup) -> Result<Referee<G>, AllocError>
         requires { IsSetup setup }
         ensures { IfOk result (λ r. r ≡ start setup) }
     {
         let mut game = G::opening(alloc, setup.game_type)?;
         game.reserve(setup.limit)?;
+        let seen = Seen::of(alloc, setup.repetition, &game)?;
         let text = Vec::with_capacity(alloc, 64)?;
         Ok(Referee {
             alloc,
             setup,
             game,
+            seen,
             stage: Stage::Read {
                 task: Task::Greet,
                 side: Colour::White,
@@ -91,7 +115,8 @@ impl<G: Game + Drop> Referee<G> {
 
     /// The verdict: none until the match is over.
     pub fn verdict(&self) -> Option<&Verdict>
-        ensures { MatchOption result (self.now.verdict ≡ None) (λ v. self.now.verdict ≡ Some v.now) }
+        ensures { MatchOption result (self.now.verdict ≡ None)
+            (λ v. self.now.verdict ≡ Some v.now) }
     {
         self.verdict.as_ref()
     }
@@ -106,12 +131,14 @@ impl<G: Game + Drop> Referee<G> {
 }
 
 impl<G: Game + Drop> Referee<G> {
-    /// Moves on by one event, which answers the act that was to be done. The line counts for the event `Line` alone; it has at most
-    /// 65,536 bytes. A reading of the clock is below 2 to the power 62.
+    /// Moves on by one event, which answers the act that was to be done. The line counts for the
+    /// event `Line` alone; it has at most 65,536 bytes. A reading of the clock is below 2 to the
+    /// power 62.
     ///
     /// # Errors
     ///
-    /// Only a line can want memory, for a copy that is kept. Then the match stands as before.
+    /// Only a line can want memory, for a copy or the key of a position that is kept. Then the
+    /// match stands as before.
     #[tactic(auto, unfolding(crate::specs::Standing::next))]
     pub fn step(&mut self, event: Event, line: &[u8]) -> Result<(), AllocError>
         requires answers { IsTrue (answers (act_at self.old.stage) (happening event line.now)) }

@@ -4,27 +4,19 @@ ghost use Rattle.hive_model.specs.Courses.{position};
 ghost use Rattle.hive_model.specs.Legal.{moves};
 ghost use Rattle.hive_model.specs.Lists.{IsOn};
 ghost use Rattle.match_core.specs.Keeps.{IsLevel};
-ghost use Rattle.hive_model.specs.Games.{outcome};
 ghost use Rattle.match_core.specs.Texts.{read_of, begin_line, ask_line, tell_line, most_sent};
 
 use crate::answers::Level;
-use hive_model::{Game, GameType, Move, State};
+use hive_model::{Game, GameType, Move};
 use itoa::Buffer;
 use move_text::{MoveFault, read_move, time_text, type_text, write_move};
-
-/// How the game stands.
-#[tactic(auto, unfolding(hive_model::specs::Games::outcome))]
-pub(crate) fn outcome<G: Game>(game: &G) -> State
-    ensures { result ≡ outcome (G.course game.now).game_type (G.course game.now).made }
-{
-    game.state()
-}
 
 /// The move that a line denotes on the game's board, or why it denotes none.
 #[tactic(auto, unfolding(crate::specs::Texts::read_of))]
 pub(crate) fn read_line<G: Game>(game: &G, line: &[u8]) -> Result<Move, MoveFault>
     requires { length line.now ≤ 65536 }
-    ensures { result ≡ read_of (G.course game.now).game_type (position (G.course game.now)).board line.now }
+    ensures { result ≡ read_of (G.course game.now).game_type (position (G.course game.now)).board
+        line.now }
 {
     let _state = game.state();
     read_move(game.game_type(), game, line)

@@ -7,7 +7,6 @@ use Rattle.hive_model.specs.Lists.{IsOn}
 use Rattle.hive_model.specs.Positions.{Position, opening}
 use Rattle.hive_model.specs.Legal.{is_over_state}
 use Rattle.hive_model.specs.Courses.{is_listed}
-use Rattle.hive_model.specs.Games.{outcome}
 use Rattle.move_text.specs.declared.faults.MoveFault.{MoveFault}
 use Rattle.match_core.specs.declared.answers.Setup.{Setup}
 use Rattle.match_core.specs.declared.answers.Level.{Level}
@@ -21,7 +20,7 @@ use Rattle.match_core.specs.declared.answers.Cause.TheVariants.{NotAMove, Illega
 use Rattle.match_core.specs.declared.answers.Verdict.{Verdict}
 use Rattle.match_core.specs.declared.answers.Verdict.TheVariants.{Rules, Limit, Forfeit}
 use Rattle.match_core.specs.Replies.{is_ok, is_error}
-use Rattle.match_core.specs.Standing.{Standing, Happening, Sent, Line, TooLong, Ended, Broke, Reading, start, match_after, next, after_all, act_at, answers, position_of, go, finish, ask, judge, judge_read, decide, accept, first_line, at_stage, is_late, keep, reply_ends, hear, question, forfeit, answered}
+use Rattle.match_core.specs.Standing.{Standing, Happening, Sent, Line, TooLong, Ended, Broke, Reading, start, match_after, next, after_all, act_at, answers, position_of, go, finish, ask, judge, judge_read, decide, accept, first_line, at_stage, is_late, keep, reply_ends, hear, question, forfeit, answered, outcome_of}
 use Rattle.match_core.specs.Texts.{read_of}
 use Rattle.match_core.specs.Keeps.{IsSetup}
 use Rattle.match_core.specs.declared.answers.Act.TheVariants.{Finish, Send as SendAct, Read as ReadAct}
@@ -63,7 +62,7 @@ decides : (s : Standing) (n : ℕ) → n ≤ 2 * length s.moves → Read_so n (d
 unfolding decide
 decides s n h =
     let P : Standing → Type 0 = λ t. Read_so n t in
-    either P (is_over_state (outcome s.setup.game_type s.moves)) (finish s (Rules (outcome s.setup.game_type s.moves))) (cond (nat_le s.setup.limit (length s.moves)) (finish s Limit) (ask s)) (λ e. omega arith)
+    either P (is_over_state (outcome_of s)) (finish s (Rules (outcome_of s))) (cond (nat_le s.setup.limit (length s.moves)) (finish s Limit) (ask s)) (λ e. omega arith)
     (λ e. either P (nat_le s.setup.limit (length s.moves)) (finish s Limit) (ask s) (λ f. omega arith) (λ f. asks s n h))
 
 judges_as : (s : Standing) (line : List ℕ) (o : Result Move MoveFault) (n : ℕ) → n ≤ 2 * length s.moves + 2 → Read_so n (judge_read s line o)

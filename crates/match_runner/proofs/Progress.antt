@@ -138,7 +138,7 @@ no_look_finish After e = absurd (cc)
 no_look_finish FinishedStage e = refl
 
 pub rose_from : (a b c : ℕ) → a ≤ b → Rose b c → Rose a c
-rose_from a b c h r = elim r [ inl x ↦ inl (omega (arith, h, x)) | inr y ↦ inr y ]
+rose_from a b c h r = record { higher = elim r.higher [ inl x ↦ inl (omega (arith, h, x)) | inr y ↦ inr y ]; below = r.below }
 
 pub cut_read : (side : Colour) (setup : Setup) (s t : Standing) (w0 w w2 b0 b b2 : Side) (r0 r r2 : Watch) (P Q : Type 0) → Run setup s w0 w b0 b r0 r → (act_at s.stage ≡ ReadAct side) × Breaks s t w w2 b b2 × (r2.last ≡ r.last) → r2.readings ≤ r.readings + looks_at s.stage
     → (ReadFault side ≡ ReadFault White → P) → (ReadFault side ≡ ReadFault Black → Q) → Ran setup t w0 w2 b0 b2 r0 r2 P Q

@@ -45,10 +45,8 @@ late_or_not (Some (Forfeit side BrokeCause)) = inr (λ x. x)
 late_or_not (Some (Forfeit side (Late asked answered))) = inl tt
 
 stands : SideRose 0 0 0 0 → ⊥
-stands (inl (inl x)) = omega (arith, x)
-stands (inl (inr x)) = omega (arith, x)
-stands (inr (inl x)) = omega (arith, x)
-stands (inr (inr x)) = omega (arith, x)
+stands (inl r) = elim r.higher [ inl x ↦ omega (arith, x) | inr x ↦ omega (arith, x) ]
+stands (inr r) = elim r.higher [ inl x ↦ omega (arith, x) | inr x ↦ omega (arith, x) ]
 
 verdict_final : (setup : Setup) (t : Standing) (w_rest w_old w_new b_rest b_old b_new w_left b_left : Told) (r0 r : Watch) (i0 i1 i2 i3 i4 i5 i6 i7 : ℕ) → IsSetup setup → FinalRun setup t w_rest w_old w_new b_rest b_old b_new w_left b_left r0 r i0 i1 i2 i3 i4 i5 i6 i7
     → VerdictRun setup t w_rest b_rest (SideRose i0 i1 i2 i3) (SideRose i4 i5 i6 i7)

@@ -35,7 +35,8 @@ fn tell<L: Link, G: Game + Drop>(referee: &mut Referee<G>, link: &mut L, side: C
     ensures rest { L.rest link.new ≡ L.rest link.old }
     ensures reads { L.read_faults link.new ≡ L.read_faults link.old }
     ensures side { (at : Colour) → result ≡ Turn.WriteFault at → at ≡ side }
-    ensures cause { HasCause (result ≡ Turn.WriteFault side) (L.write_faults link.old) (L.write_faults link.new) }
+    ensures cause { HasCause (result ≡ Turn.WriteFault side) (L.write_faults link.old)
+        (L.write_faults link.new) }
 {
     if write_all(link, referee.text()) {
         match referee.step(Event::Sent, &[]) {
@@ -60,12 +61,14 @@ fn listen<L: Link, G: Game + Drop>(
     requires act { act_at referee.old.stage ≡ Act.Read side }
     requires room { reader.old.passed + 65536 < input_limit }
     ensures little { HoldsLittle reader.new }
-    ensures heard { Hears result referee.old referee.new (ahead_of reader.old (L.rest link.old)) (ahead_of reader.new (L.rest link.new)) }
+    ensures heard { Hears result referee.old referee.new (ahead_of reader.old (L.rest link.old))
+        (ahead_of reader.new (L.rest link.new)) }
     ensures room { Room result referee.old reader.old.passed referee.new reader.new.passed }
     ensures written { L.written link.new ≡ L.written link.old }
     ensures writes { L.write_faults link.new ≡ L.write_faults link.old }
     ensures side { (at : Colour) → result ≡ Turn.ReadFault at → at ≡ side }
-    ensures cause { HasCause (result ≡ Turn.ReadFault side) (L.read_faults link.old) (L.read_faults link.new) }
+    ensures cause { HasCause (result ≡ Turn.ReadFault side) (L.read_faults link.old)
+        (L.read_faults link.new) }
 {
     match reader.next_line(link) {
         LineAnswer::Line => match referee.step(Event::Line, reader.line()) {
@@ -96,7 +99,8 @@ fn look<C: Clock, G: Game + Drop>(referee: &mut Referee<G>, clock: &mut C) -> Tu
     requires { act_at referee.old.stage ≡ Act.Clock }
     ensures looked { Looks result referee.old referee.new (C.last clock.old) (C.last clock.new) }
     ensures later { C.last clock.old ≤ C.last clock.new }
-    ensures counted { (C.readings clock.old ≤ C.readings clock.new) × (C.readings clock.new ≤ C.readings clock.old + 1) }
+    ensures counted { (C.readings clock.old ≤ C.readings clock.new)
+        × (C.readings clock.new ≤ C.readings clock.old + 1) }
 {
     let at = clock.now();
     match referee.step(Event::Reading { at }, &[]) {
@@ -115,22 +119,35 @@ pub(crate) fn one_act<L: Link, C: Clock, G: Game + Drop>(
     black_lines: &mut LineReader,
     clock: &mut C,
 ) -> Turn
-    requires white_room { is_finished referee.old.stage ≡ false → white_lines.old.passed + 65536 < input_limit }
-    requires black_room { is_finished referee.old.stage ≡ false → black_lines.old.passed + 65536 < input_limit }
+    requires white_room { is_finished referee.old.stage ≡ false
+        → white_lines.old.passed + 65536 < input_limit }
+    requires black_room { is_finished referee.old.stage ≡ false
+        → black_lines.old.passed + 65536 < input_limit }
     requires white_little { HoldsLittle white_lines.old }
     requires black_little { HoldsLittle black_lines.old }
     ensures white_little { HoldsLittle white_lines.new }
     ensures black_little { HoldsLittle black_lines.new }
-    ensures turned { Turns result referee.old referee.new (side_of white_lines.old (L.rest white.old) (L.written white.old)) (side_of white_lines.new (L.rest white.new) (L.written white.new))
-        (side_of black_lines.old (L.rest black.old) (L.written black.old)) (side_of black_lines.new (L.rest black.new) (L.written black.new)) (C.last clock.old) (C.last clock.new) }
-    ensures white_room { Room result referee.old white_lines.old.passed referee.new white_lines.new.passed }
-    ensures black_room { Room result referee.old black_lines.old.passed referee.new black_lines.new.passed }
-    ensures white_reads { HasCause (result ≡ Turn.ReadFault Colour.White) (L.read_faults white.old) (L.read_faults white.new) }
-    ensures white_writes { HasCause (result ≡ Turn.WriteFault Colour.White) (L.write_faults white.old) (L.write_faults white.new) }
-    ensures black_reads { HasCause (result ≡ Turn.ReadFault Colour.Black) (L.read_faults black.old) (L.read_faults black.new) }
-    ensures black_writes { HasCause (result ≡ Turn.WriteFault Colour.Black) (L.write_faults black.old) (L.write_faults black.new) }
+    ensures turned { Turns result referee.old referee.new
+        (side_of white_lines.old (L.rest white.old) (L.written white.old))
+        (side_of white_lines.new (L.rest white.new) (L.written white.new))
+        (side_of black_lines.old (L.rest black.old) (L.written black.old))
+        (side_of black_lines.new (L.rest black.new) (L.written black.new)) (C.last clock.old)
+        (C.last clock.new) }
+    ensures white_room { Room result referee.old white_lines.old.passed referee.new
+        white_lines.new.passed }
+    ensures black_room { Room result referee.old black_lines.old.passed referee.new
+        black_lines.new.passed }
+    ensures white_reads { HasCause (result ≡ Turn.ReadFault Colour.White) (L.read_faults white.old)
+        (L.read_faults white.new) }
+    ensures white_writes { HasCause (result ≡ Turn.WriteFault Colour.White)
+        (L.write_faults white.old) (L.write_faults white.new) }
+    ensures black_reads { HasCause (result ≡ Turn.ReadFault Colour.Black) (L.read_faults black.old)
+        (L.read_faults black.new) }
+    ensures black_writes { HasCause (result ≡ Turn.WriteFault Colour.Black)
+        (L.write_faults black.old) (L.write_faults black.new) }
     ensures later { C.last clock.old ≤ C.last clock.new }
-    ensures counted { (C.readings clock.old ≤ C.readings clock.new) × (C.readings clock.new ≤ C.readings clock.old + looks_at referee.old.stage) }
+    ensures counted { (C.readings clock.old ≤ C.readings clock.new)
+        × (C.readings clock.new ≤ C.readings clock.old + looks_at referee.old.stage) }
 {
     match referee.next() {
         Act::Send {

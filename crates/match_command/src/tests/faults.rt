@@ -5,6 +5,7 @@ use super::{
     sound, spawner_of,
 };
 use command_runs::Status;
+use hive_model::Colour;
 use io_edge::StepClock;
 use std::alloc::{AllocError, Global};
 use std::process::Abort;
@@ -56,24 +57,6 @@ fn tells_broke(text: &[u8], side: &[u8]) -> bool {
     }
 }
 
-/// Plays the match in which a call of a link fails: its side breaks, and both sides are sent a
-/// front of what they would be sent.
-fn expect_broke<R: Abort>(
-    rt: &R,
-    alloc: Global,
-    white: Says<'_>,
-    black: Says<'_>,
-    verdict: &[u8],
-) -> Result<(), AllocError> {
-    let seen = play_deep(alloc, white, black)?;
-    assert_eq!(rt; seen.status, Status::Done);
-    assert!(rt; tells_broke(seen.output.bytes(), verdict));
-    assert_eq!(rt; seen.spawner.closed().len(), 2);
-    assert!(rt; TO_WHITE.starts_with(sent(&seen, 0)));
-    assert!(rt; TO_BLACK.starts_with(sent(&seen, 1)));
-    Ok(())
-}
-
 /// What a side says of which one call fails, in pieces of four bytes.
 fn failing(text: &[u8], failing_read: u64, failing_write: u64) -> Says<'_> {
     Says {
@@ -84,16 +67,80 @@ fn failing(text: &[u8], failing_read: u64, failing_write: u64) -> Says<'_> {
     }
 }
 
+/// Plays the match in which this call of a side's link fails: the side breaks, and both sides are
+/// sent a front of what they would be sent.
+fn expect_broke<R: Abort>(
+    rt: &R,
+    alloc: Global,
+    side: Colour,
+    read: u64,
+    write: u64,
+) -> Result<(), AllocError> {
+    let (seen, verdict) = match side {
+        Colour::White => (
+            play_deep(alloc, failing(WHITE, read, write), sound(BLACK, 4))?,
+            b"forfeit white broke\n".as_slice(),
+        ),
+        Colour::Black => (
+            play_deep(alloc, sound(WHITE, 4), failing(BLACK, read, write))?,
+            b"forfeit black broke\n".as_slice(),
+        ),
+    };
+    assert_eq!(rt; seen.status, Status::Done);
+    assert!(rt; tells_broke(seen.output.bytes(), verdict));
+    assert_eq!(rt; seen.spawner.closed().len(), 2);
+    assert!(rt; TO_WHITE.starts_with(sent(&seen, 0)));
+    assert!(rt; TO_BLACK.starts_with(sent(&seen, 1)));
+    Ok(())
+}
+
+/// White says its 25 bytes in seven pieces of four bytes at most.
+const WHITE_READS: u64 = 7;
+
+/// Black says its 29 bytes in eight.
+const BLACK_READS: u64 = 8;
+
+/// Each side is told lines of 13, 17 and 9 bytes, in such pieces by four writes, five and three.
+const WRITES: u64 = 12;
+
+/// Each of the reads of a side's link fails in turn.
+fn each_read_fails<R: Abort>(
+    rt: &R,
+    alloc: Global,
+    side: Colour,
+    reads: u64,
+) -> Result<(), AllocError> {
+    for read in 1..=reads {
+        expect_broke(rt, alloc, side, read, 0)?;
+    }
+    Ok(())
+}
+
+/// Each of the writes to a side's link fails in turn.
+fn each_write_fails<R: Abort>(rt: &R, alloc: Global, side: Colour) -> Result<(), AllocError> {
+    for write in 1..=WRITES {
+        expect_broke(rt, alloc, side, 0, write)?;
+    }
+    Ok(())
+}
+
 #[test]
 fn a_link_fails(rt: HostRuntime) -> Result<(), Fail> {
-    let alloc = rt.alloc();
-    let white = b"forfeit white broke\n".as_slice();
-    let black = b"forfeit black broke\n".as_slice();
-    for call in 1..8u64 {
-        expect_broke(&rt, alloc, failing(WHITE, call, 0), sound(BLACK, 4), white)?;
-        expect_broke(&rt, alloc, failing(WHITE, 0, call), sound(BLACK, 4), white)?;
-        expect_broke(&rt, alloc, sound(WHITE, 4), failing(BLACK, call, 0), black)?;
-        expect_broke(&rt, alloc, sound(WHITE, 4), failing(BLACK, 0, call), black)?;
-    }
+    each_read_fails(&rt, rt.alloc(), Colour::White, WHITE_READS)?;
+    each_write_fails(&rt, rt.alloc(), Colour::White)?;
+    each_read_fails(&rt, rt.alloc(), Colour::Black, BLACK_READS)?;
+    each_write_fails(&rt, rt.alloc(), Colour::Black)?;
+    Ok(())
+}
+
+#[test]
+fn a_link_has_no_more_calls(rt: HostRuntime) -> Result<(), Fail> {
+    let white = failing(WHITE, WHITE_READS + 1, WRITES + 1);
+    let black = failing(BLACK, BLACK_READS + 1, WRITES + 1);
+    let seen = play_deep(rt.alloc(), white, black)?;
+    assert_eq!(rt; seen.status, Status::Done);
+    assert_eq!(rt; seen.output.bytes(), ILLEGAL);
+    assert_eq!(rt; sent(&seen, 0), TO_WHITE);
+    assert_eq!(rt; sent(&seen, 1), TO_BLACK);
     Ok(())
 }

@@ -1,14 +1,15 @@
 //! How a match goes on once a reply is whole.
-ghost use Rattle.std.specs.Prelude.{◌≡◌, ◌<◌, ◌≤◌, length, None, unwrap_or, []};
+ghost use Rattle.std.specs.Prelude.{◌≡◌, ◌<◌, ◌≤◌, length, None, unwrap_or, [], OnOk, OnErr};
 ghost use Rattle.hive_model.specs.Legal.{moves};
 ghost use Rattle.hive_model.specs.Lists.{IsOn};
 ghost use Rattle.match_core.specs.Standing.{ask, judge, decide, forfeit, finish, accept, position_of};
+ghost use Rattle.match_core.specs.Keeps.{IsSettled, IsTelling};
 
 use super::Referee;
 use crate::answers::{Cause, Level, Stage, Task, Verdict};
-use crate::texts::{outcome, read_line, write_ask, write_tell};
+use crate::texts::{read_line, write_ask, write_tell};
 use hive_model::{Colour, Game, LineText, Move};
-use std::alloc::Global;
+use std::alloc::{AllocError, Global};
 
 /// Takes the first line, empty where there is none.
 fn take_first(alloc: Global, first: &mut Option<LineText>) -> LineText
@@ -42,7 +43,8 @@ impl<G: Game + Drop> Referee<G> {
     /// The side to move is asked; where it has a time, the clock is read first.
     #[tactic(auto, unfolding(crate::specs::Standing::ask))]
     pub(super) fn ask(&mut self)
-        requires { length self.old.moves < self.old.setup.limit }
+        requires more { length self.old.moves < self.old.setup.limit }
+        requires settled { IsSettled self.old.stage }
         ensures { self.new ≡ ask self.old }
     {
         self.first = None;
@@ -61,27 +63,37 @@ impl<G: Game + Drop> Referee<G> {
         }
     }
 
-    /// Both sides know the last move: the rules end the game, or the limit does, or it goes on.
-    #[tactic(auto, unfolding(crate::specs::Standing::decide))]
-    pub(super) fn decide(&mut self)
-        requires { length self.old.moves ≤ self.old.setup.limit }
-        ensures { self.new ≡ decide self.old }
+    /// Both sides know the last move, and the key of its position is kept: the rules end the game,
+    /// or the limit does, or it goes on. From then on no move is being told. After want of memory
+    /// the match is as before.
+    #[tactic(auto, unfolding(crate::specs::Standing::decide, crate::specs::Standing::ask))]
+    pub(super) fn decide(&mut self) -> Result<(), AllocError>
+        requires more { length self.old.moves ≤ self.old.setup.limit }
+        requires told { IsTelling self.old.stage }
+        ensures ok { OnOk result (self.new ≡ decide self.old) }
+        ensures err { OnErr result (self.new ≡ self.old) }
     {
-        let state = outcome(&self.game);
+        self.seen.note(&self.game)?;
+        let state = self.seen.outcome(&self.game);
         if state.is_over() {
+            self.stage = Stage::Finished;
             self.finish(Verdict::Rules { state });
-            return;
+            return Ok(());
         }
         if self.game.plies() >= self.setup.limit {
+            self.stage = Stage::Finished;
             self.finish(Verdict::Limit);
-            return;
+            return Ok(());
         }
+        self.stage = Stage::Before;
         self.ask();
+        Ok(())
     }
 
     /// A legal move is played, and is to be told to white first.
     fn accept(&mut self, m: Move)
         requires more { length self.old.moves < self.old.setup.limit }
+        requires settled { IsSettled self.old.stage }
         requires legal { IsOn (moves (position_of self.old)) m }
         ensures { self.new ≡ accept self.old m }
     {
@@ -98,7 +110,8 @@ impl<G: Game + Drop> Referee<G> {
     /// The first line of the reply is to be a legal move.
     #[tactic(auto, unfolding(crate::specs::Standing::judge))]
     pub(super) fn judge(&mut self)
-        requires { length self.old.moves < self.old.setup.limit }
+        requires more { length self.old.moves < self.old.setup.limit }
+        requires settled { IsSettled self.old.stage }
         ensures { self.new ≡ judge self.old }
     {
         let side = self.game.side();

@@ -1,7 +1,7 @@
 //! What each event does to a match.
 ghost use Rattle.std.specs.Prelude.{◌≡◌, ◌+◌, ◌<◌, ◌≤◌, ◌^◌, length, OnOk, OnErr, List, ℕ};
 ghost use Rattle.match_core.specs.Standing.{happening, reply_ends, hear, go, keep, latest, at_send, at_read, at_before, at_after, answered};
-ghost use Rattle.match_core.specs.Keeps.{IsLevel, IsEarly, HasNext};
+ghost use Rattle.match_core.specs.Keeps.{IsLevel, IsEarly, HasNext, IsSettled};
 
 use super::Referee;
 use crate::answers::{Cause, Event, Level, Stage, Task};
@@ -26,7 +26,8 @@ fn latest(level: Level, asked: u64) -> u64
 impl<G: Game + Drop> Referee<G> {
     /// A side is told to begin a new game.
     fn begin(&mut self, side: Colour)
-        requires { length self.old.moves < self.old.setup.limit }
+        requires more { length self.old.moves < self.old.setup.limit }
+        requires settled { IsSettled self.old.stage }
         ensures { self.new ≡ go self.old (Stage.Send Task.Begin side) }
     {
         write_begin(&mut self.text, self.setup.game_type);
@@ -53,7 +54,8 @@ impl<G: Game + Drop> Referee<G> {
 
     /// The reply of the side to move has ended.
     fn answered(&mut self)
-        requires { length self.old.moves < self.old.setup.limit }
+        requires more { length self.old.moves < self.old.setup.limit }
+        requires settled { IsSettled self.old.stage }
         ensures { self.new ≡ answered self.old self.old.setup.level }
     {
         match self.setup.level {
@@ -77,11 +79,12 @@ impl<G: Game + Drop> Referee<G> {
         };
     }
 
-    /// A reply has ended.
-    fn reply_ends(&mut self, task: Task, side: Colour)
+    /// A reply has ended. After want of memory the match is as before.
+    fn reply_ends(&mut self, task: Task, side: Colour) -> Result<(), AllocError>
         requires more { HasNext task (length self.old.moves) self.old.setup.limit }
         requires stage { self.old.stage ≡ Stage.Read task side }
-        ensures { self.new ≡ reply_ends self.old task side }
+        ensures ok { OnOk result (self.new ≡ reply_ends self.old task side) }
+        ensures err { OnErr result (self.new ≡ self.old) }
     {
         match (task, side) {
             (Task::Greet, Colour::White) => self.greet(Colour::Black),
@@ -90,8 +93,9 @@ impl<G: Game + Drop> Referee<G> {
             (Task::Begin, Colour::Black) => self.ask(),
             (Task::Ask, _) => self.answered(),
             (Task::Tell { told }, Colour::White) => self.tell_black(told),
-            (Task::Tell { told: _ }, Colour::Black) => self.decide(),
+            (Task::Tell { told: _ }, Colour::Black) => self.decide()?,
         }
+        Ok(())
     }
 
     /// Counts a line, and keeps the first.
@@ -120,8 +124,7 @@ impl<G: Game + Drop> Referee<G> {
         ensures err { OnErr result (self.new ≡ self.old) }
     {
         if is_ok(line) {
-            self.reply_ends(task, side);
-            return Ok(());
+            return self.reply_ends(task, side);
         }
         if is_error(line) {
             let line = copy_line(self.alloc, line)?;
@@ -162,7 +165,8 @@ impl<G: Game + Drop> Referee<G> {
         requires more { HasNext task (length self.old.moves) self.old.setup.limit }
         requires short { length line.now ≤ 65536 }
         requires stage { self.old.stage ≡ Stage.Read task side }
-        ensures ok { OnOk result (self.new ≡ at_read self.old task side (happening event line.now)) }
+        ensures ok { OnOk result (self.new ≡ at_read self.old task side
+            (happening event line.now)) }
         ensures err { OnErr result (self.new ≡ self.old) }
         ensures memory { OnErr result (event ≡ Event.Line) }
     {

@@ -1,5 +1,5 @@
 use Rattle.match_runner.specs.Turns.{watch}
-use Rattle.match_command.proofs.SameSetup.{final_same}
+use Rattle.match_runner.proofs.SameSetup.{final_same}
 use Rattle.match_command.proofs.engines.run_over.Goals as goal
 
 pub returns-clause-ran : goal.returns-clause-ran

@@ -1,0 +1,89 @@
+-- The keys that a referee keeps, at each place of a match.
+use Rattle.std.proofs.Common.{◌≡◌, suc, ◌+◌, ◌-◌, ◌<◌, ◌≤◌, List, [], ◌∷◌, ◌++◌, length, take, refl, sym, ◌∙◌, ap, arith}
+use Rattle.std.specs.Prelude.{if◌then◌else◌}
+use Rattle.hive_model.specs.declared.places.Move.{Move}
+use Rattle.hive_model.specs.Keys.{key}
+use Rattle.hive_model.specs.Courses.{Course, position, with_move, without_last}
+use Rattle.game_text.specs.declared.seen.Seen.{Seen}
+use Rattle.game_text.specs.Seen.{Sees}
+use Rattle.game_text.proofs.SeenLaws.{seen_few, sees_on, sees_same}
+use Rattle.game_text.proofs.WriteLaws.{taken_size}
+use Rattle.match_core.specs.declared.answers.Task.{Task}
+use Rattle.match_core.specs.declared.answers.Task.TheVariants.{Greet, Begin, Ask, Tell}
+use Rattle.match_core.specs.declared.answers.Stage.{Stage}
+use Rattle.match_core.specs.declared.answers.Stage.TheVariants.{Send, Read, Before, After, Finished}
+use Rattle.match_core.specs.Keeps.{SeesBefore, SeesFor, SeesAt, IsTold, IsTelling, IsNotTold, IsSettled}
+
+-- where no move is being told, the keys are those of all positions
+settled_for : (job : Task) (seen : Seen) (game : Course) → IsNotTold job → SeesFor job seen game → Sees seen game
+settled_for Greet seen game n h = h
+settled_for Begin seen game n h = h
+settled_for Ask seen game n h = h
+settled_for (Tell told) seen game n h = absurd n
+
+pub settled : (stage : Stage) (seen : Seen) (game : Course) → IsSettled stage → SeesAt stage seen game → Sees seen game
+settled (Send job side) seen game n h = settled_for job seen game n h
+settled (Read job side) seen game n h = settled_for job seen game n h
+settled Before seen game n h = h
+settled After seen game n h = h
+settled Finished seen game n h = absurd n
+
+-- while a move is told, they are those of all but the last
+telling_for : (job : Task) (seen : Seen) (game : Course) → IsTold job → SeesFor job seen game → SeesBefore seen game
+telling_for Greet seen game n h = absurd n
+telling_for Begin seen game n h = absurd n
+telling_for Ask seen game n h = absurd n
+telling_for (Tell told) seen game n h = h
+
+pub telling : (stage : Stage) (seen : Seen) (game : Course) → IsTelling stage → SeesAt stage seen game → SeesBefore seen game
+telling (Send job side) seen game n h = telling_for job seen game n h
+telling (Read job side) seen game n h = telling_for job seen game n h
+telling Before seen game n h = absurd n
+telling After seen game n h = absurd n
+telling Finished seen game n h = absurd n
+
+-- the moves before the last, and the last
+last_move : (ms : List Move) → 1 ≤ length ms → (m : Move) × (ms ≡ take (length ms - 1) ms ++ m ∷ [])
+last_move [] some = absurd (omega (arith, some))
+last_move (m ∷ []) some = (m, refl)
+last_move (m ∷ k ∷ ms) some =
+    let h = last_move (k ∷ ms) (omega arith) in
+    let long : length (m ∷ k ∷ ms) - 1 ≡ suc (length (k ∷ ms) - 1) = omega arith in
+    (h.0, ap (λ (z : List Move). m ∷ z) h.1 ∙ ap (λ n. take n (m ∷ k ∷ ms) ++ h.0 ∷ []) (sym long))
+
+pub before_few : (seen : Seen) (game : Course) → SeesBefore seen game → length game.made ≤ 1000 → length seen.keys < 10000
+before_few seen game h few =
+    let size = taken_size game.made (length game.made - 1) in
+    seen_few seen (without_last game) h.keys (omega (arith, few, size))
+
+-- the key of the position that the last move leads to is kept
+pub noted : (seen new : Seen) (game : Course) → SeesBefore seen game → new.repetition ≡ seen.repetition
+    → new.keys ≡ (if seen.repetition then seen.keys ++ key (position game) ∷ [] else seen.keys) → Sees new game
+noted seen new game h same pushed =
+    let last = last_move game.made h.made in
+    let next : game ≡ with_move (without_last game) last.0 = λ i. record { game_type = game.game_type; made = last.1 i; spare = (let e : game.spare ≡ game.spare + 1 - 1 = omega arith in e) i } in
+    sees_on seen.repetition new.repetition seen.keys new.keys (without_last game) game last.0 h.keys next same pushed
+
+-- a move is made, and its key is not yet kept
+pub taken_back : (ms : List Move) (m : Move) → take (length (ms ++ m ∷ []) - 1) (ms ++ m ∷ []) ≡ ms
+taken_back [] m = refl
+taken_back (k ∷ ms) m =
+    let long : length (k ∷ (ms ++ m ∷ [])) - 1 ≡ suc (length (ms ++ m ∷ []) - 1) = longer ms in
+    ap (λ n. take n (k ∷ (ms ++ m ∷ []))) long ∙ ap (λ (r : List Move). k ∷ r) (taken_back ms m)
+  where
+    longer : (ms : List Move) → length (k ∷ (ms ++ m ∷ [])) - 1 ≡ suc (length (ms ++ m ∷ []) - 1)
+    longer [] = refl
+    longer (x ∷ xs) = omega arith
+
+made_some : (ms : List Move) (m : Move) → 1 ≤ length (ms ++ m ∷ [])
+made_some [] m = omega arith
+made_some (k ∷ ms) m = omega arith
+
+pub before_made : (seen : Seen) (old game : Course) (m : Move) → Sees seen old → game ≡ with_move old m → SeesBefore seen game
+before_made seen old game m h moved =
+    let kind : old.game_type ≡ game.game_type = ap (λ (z : Course). z.game_type) (sym moved) in
+    let made : game.made ≡ old.made ++ m ∷ [] = ap (λ (z : Course). z.made) moved in
+    let size = ap length made in
+    let some = made_some old.made m in
+    let back : old.made ≡ take (length game.made - 1) game.made = sym (ap (λ (ms : List Move). take (length ms - 1) ms) made ∙ taken_back old.made m) in
+    record { made = omega (arith, size, some); keys = sees_same seen old (without_last game) kind back h }
