@@ -1,3 +1,4 @@
 pub mod Cup
+pub mod Engines
 pub mod Laws
 pub mod Ranks

@@ -4,12 +4,14 @@
 mod laws;
 mod pairing;
 mod points;
+mod program;
 mod ranking;
 mod standing;
 
 pub use laws::points_add_up;
 pub use pairing::{Pairing, pairings};
 pub use points::points_of;
+pub use program::Program;
 pub use ranking::standings;
 pub use standing::{Standing, StandingList};
 

@@ -5,7 +5,6 @@ use Rattle.std.specs.Bool.{⊤}
 use Rattle.hive_model.specs.declared.pieces.Colour.{Colour}
 use Rattle.hive_model.specs.declared.pieces.Colour.TheVariants.{White, Black}
 use Rattle.hive_model.specs.declared.places.Move.{Move}
-use Rattle.hive_model.specs.Games.{outcome}
 use Rattle.hive_model.specs.Legal.{is_over_state}
 use Rattle.hive_model.specs.Courses.{is_listed}
 use Rattle.move_text.specs.declared.faults.MoveFault.{MoveFault}
@@ -21,7 +20,7 @@ use Rattle.match_core.specs.declared.answers.Verdict.{Verdict}
 use Rattle.match_core.specs.declared.answers.Verdict.TheVariants.{Rules, Limit, Forfeit}
 use Rattle.match_core.specs.Replies.{is_ok, is_error}
 use Rattle.match_core.specs.Texts.{read_of}
-use Rattle.match_core.specs.Standing.{Standing, Happening, Sent, Line, TooLong, Ended, Broke, Reading, start, next, after_all, position_of, go, finish, ask, judge, judge_read, decide, accept, first_line, at_stage, keep, reply_ends, hear, question, forfeit, answered}
+use Rattle.match_core.specs.Standing.{Standing, Happening, Sent, Line, TooLong, Ended, Broke, Reading, start, next, after_all, position_of, go, finish, ask, judge, judge_read, decide, accept, first_line, at_stage, keep, reply_ends, hear, question, forfeit, answered, outcome_of}
 use Rattle.match_core.proofs.Fair.{either}
 use Rattle.match_runner.specs.Turns.{Side, Watch}
 use Rattle.match_runner.specs.Runs.{Ran, Run, Whole, Cut, IsLate}
@@ -54,8 +53,8 @@ asks s t = asks_at s s.setup.level (position_of s).side t.depth t
 decides : (s : Standing) → InTime s → InTime (decide s)
 unfolding decide
 decides s t =
-    either InTime (is_over_state (outcome s.setup.game_type s.moves)) (finish s (Rules (outcome s.setup.game_type s.moves))) (cond (nat_le s.setup.limit (length s.moves)) (finish s Limit) (ask s))
-    (λ e. finishes s (Rules (outcome s.setup.game_type s.moves)) (λ x. x) t)
+    either InTime (is_over_state (outcome_of s)) (finish s (Rules (outcome_of s))) (cond (nat_le s.setup.limit (length s.moves)) (finish s Limit) (ask s))
+    (λ e. finishes s (Rules (outcome_of s)) (λ x. x) t)
     (λ e. either InTime (nat_le s.setup.limit (length s.moves)) (finish s Limit) (ask s) (λ f. finishes s Limit (λ x. x) t) (λ f. asks s t))
 
 judges_as : (s : Standing) (line : List ℕ) (o : Result Move MoveFault) → InTime s → InTime (judge_read s line o)

@@ -46,8 +46,9 @@ pub record IsJob (white black : ℕ) (setup : Setup) : Type 0 where
 abbrev pub HasRisen : Side → Side → Type 0
 HasRisen old new = SideRose old.read_faults new.read_faults old.write_faults new.write_faults
 
--- the referee has the verdict of the match of the lines of these two links, which is never a late answer
+-- the referee is of this setup, and has the verdict of the match of the lines of these two links, which is never a late answer
 pub record IsRefereed (setup : Setup) (r : Standing) (white0 white black0 black : Side) : Type 0 where
+  pub same : r.setup ≡ setup
   pub judged : IsJudged r
   pub in_time : IsLate r.verdict → ⊥
   pub front : FrontRun setup r white0.rest white0.written white.written black0.rest black0.written black.written

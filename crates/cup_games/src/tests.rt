@@ -22,6 +22,7 @@ const ONE_PLY: Setup = Setup {
     },
     level: Level::Depth { depth: 1 },
     limit: 1,
+    repetition: false,
 };
 
 /// What white is sent in a game of one ply.

@@ -1,0 +1,9 @@
+pub mod Chains
+pub mod Pairs
+pub mod Heard
+pub mod Breaks
+pub mod Ended
+pub mod Ends
+pub mod Kept
+pub mod Steps
+pub mod Early

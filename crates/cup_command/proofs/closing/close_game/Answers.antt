@@ -1,0 +1,14 @@
+use Rattle.std.proofs.Common.{ap, refl, subst}
+use Rattle.io_edge.specs.Outside.{Collects}
+use Rattle.cup_games.specs.Played.{Side}
+use Rattle.cup_command.proofs.closing.close_game.Goals as goal
+
+pub returns-clause-sent : goal.returns-clause-sent
+returns-clause-sent g c =
+    let old = g.P.Spawner.sent c.args.spawner.now in
+    let mid = g.P.Spawner.sent c.close.new.self in
+    let new = g.P.Spawner.sent c.close-2.new.self in (
+      mid,
+      subst (λ told. Collects old mid told) (ap (λ (s : Side). s.written) c.links-white.ensures.white) c.close.ensures.sent,
+      (new, subst (λ told. Collects mid new told) (ap (λ (s : Side). s.written) c.links-white.ensures.black) c.close-2.ensures.sent, refl),
+    )

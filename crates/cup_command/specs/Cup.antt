@@ -1,0 +1,238 @@
+-- What a cup of programs writes, plays, starts, sends and counts, by the status with which it ends.
+use Rattle.std.specs.Prelude.{◌≡◌, ◌⊎◌, ⊤, ℕ, ◌+◌, ◌-◌, ◌^◌, ◌<◌, ◌≤◌, Bool, false, List, [], ◌∷◌, ◌++◌, length, map, take, drop, replicate, Option, Some, None, slice_get, if◌then◌else◌}
+use Rattle.std.specs.List.{All, AllZip, flat_map, sum_by}
+use Rattle.std.specs.Option.{option_map}
+use Rattle.io_edge.specs.Outside.{Told, ToldLists, ToldPrograms, Rose, behind}
+use Rattle.hive_model.specs.Lists.{IsOn}
+use Rattle.command_runs.specs.declared.status.Status.{Status}
+use Rattle.command_runs.specs.declared.status.Status.TheVariants.{Done, Refused, Usage, ReadFault, WriteFault, SpawnFault, BadInput, Memory, InputFull}
+use Rattle.match_core.specs.declared.answers.Setup.{Setup}
+use Rattle.match_core.specs.declared.answers.Verdict.{Verdict}
+use Rattle.match_core.specs.Standing.{Standing}
+use Rattle.match_core.specs.Feeds.{IsFront}
+use Rattle.match_runner.specs.Runs.{IsJudged, IsLate}
+use Rattle.match_command.specs.Match.{AreFronts, AreSent, IsBroke, end_of}
+use Rattle.cup_core.specs.declared.pairing.Pairing.{Pairing}
+use Rattle.cup_core.specs.declared.standing.Standing.{Standing as Place}
+use Rattle.cup_core.specs.Cup.{AreStandings, pairings}
+use Rattle.cup_core.specs.Engines.{Engine}
+use Rattle.cup_command.specs.Texts.{cup_text}
+
+-- What a run can change
+
+-- of what starts programs: what the programs to come will say, what was written to those that were
+-- closed, and which were started, where it is told; how often a start failed, and how many closed
+-- programs had failed
+pub record Starter : Type 0 where
+  pub to_come : ToldLists
+  pub sent : ToldLists
+  pub started : ToldPrograms
+  pub start_faults : ℕ
+  pub engine_faults : ℕ
+
+abbrev pub starter : ToldLists → ToldLists → ToldPrograms → ℕ → ℕ → Starter
+starter to_come sent started start_faults engine_faults = record {
+  to_come = to_come;
+  sent = sent;
+  started = started;
+  start_faults = start_faults;
+  engine_faults = engine_faults;
+}
+
+-- all that a run can change: what was written, and what starts programs
+pub record Scene : Type 0 where
+  pub written : Told
+  pub starter : Starter
+
+abbrev pub scene : Told → Starter → Scene
+scene written starter = record { written = written; starter = starter }
+
+-- What is started
+
+-- the words of a program; none where there is no program
+abbrev pub words_in : Option Engine → List (List ℕ)
+words_in None = []
+words_in (Some engine) = engine.words
+
+-- the words of the engine with this number, the first one being 1
+abbrev pub words_of : List Engine → ℕ → List (List ℕ)
+words_of engines number = words_in (slice_get engines (number - 1))
+
+-- the words of the two programs of a game, white's first
+abbrev pub game_words : List Engine → Pairing → List (List (List ℕ))
+game_words engines game = words_of engines game.white ∷ (words_of engines game.black ∷ [])
+
+-- the words of all programs of a cup, game by game
+abbrev pub cup_words : List Engine → List (List (List ℕ))
+cup_words engines = flat_map (game_words engines) (pairings (length engines))
+
+-- the told programs, with these behind
+abbrev pub started_after : ToldPrograms → List (List (List ℕ)) → ToldPrograms
+started_after told programs = option_map (λ before. before ++ programs) told
+
+-- What was played
+
+-- what is told of a game: what its two programs say, what each of them got, and whether the game is
+-- excepted, since a program of it has failed
+pub record Heard : Type 0 where
+  pub white_says : List ℕ
+  pub black_says : List ℕ
+  pub white_got : List ℕ
+  pub black_got : List ℕ
+  pub excepted : Bool
+
+-- what all programs say, in the order of the starts
+abbrev pub said : List Heard → List (List ℕ)
+said games = flat_map (λ g. g.white_says ∷ (g.black_says ∷ [])) games
+
+-- what all programs got, in the order of the starts
+abbrev pub got : List Heard → List (List ℕ)
+got games = flat_map (λ g. g.white_got ∷ (g.black_got ∷ [])) games
+
+-- the number of excepted games
+abbrev pub exceptions : List Heard → ℕ
+exceptions games = sum_by (λ g. if g.excepted then 1 else 0) games
+
+-- moves, verdict and bytes sent are those of the match of the two programs
+pub record IsTheirs (setup : Setup) (t : Standing) (game : Heard) : Type 0 where
+  pub moves : t.moves ≡ (end_of setup game.white_says game.black_says).moves
+  pub verdict : t.verdict ≡ (end_of setup game.white_says game.black_says).verdict
+  pub sent : AreSent setup game.white_says game.black_says game.white_got game.black_got
+
+-- a game was played: its moves and the bytes sent are the first ones of the match of its two
+-- programs, and its verdict is that of the match, or a side broke; in a game that is not excepted all
+-- are those of the match
+pub record IsGame (setup : Setup) (t : Standing) (game : Heard) : Type 0 where
+  pub moves : IsFront t.moves (end_of setup game.white_says game.black_says).moves
+  pub verdict :
+      (t.verdict ≡ (end_of setup game.white_says game.black_says).verdict) ⊎ IsBroke t.verdict
+  pub sent : AreFronts setup game.white_says game.black_says game.white_got game.black_got
+  pub whole : game.excepted ≡ false → IsTheirs setup t game
+
+-- where it is told after the run what was sent, it gained just these
+abbrev pub Gains : ToldLists → ToldLists → List (List ℕ) → Type 0
+Gains before None gained = ⊤
+Gains None (Some after) gained = ⊥
+Gains (Some before) (Some after) gained = after ≡ before ++ gained
+
+-- a count rose by at least this number, or stands at its greatest value, that of a u64
+abbrev pub RoseBy : ℕ → ℕ → ℕ → Type 0
+RoseBy number before now = (before + number ≤ now) ⊎ (now ≡ 2 ^ 64 - 1)
+
+-- of the programs to come the first ones were started, two for each game and white's first, and
+-- played; no others were started. What they got was gained in this order, and no more games are
+-- excepted than programs were counted that had failed
+pub record PlayedBy
+    (all : List (List ℕ)) (setup : Setup) (ends : List Standing) (before after : Starter)
+    : Type 0 where
+  pub games : List Heard
+  pub others : List (List ℕ)
+  pub first_ones : all ≡ said games ++ others
+  pub left : after.to_come ≡ Some others
+  pub each : AllZip (IsGame setup) ends games
+  pub gains : Gains before.sent after.sent (got games)
+  pub few : RoseBy (exceptions games) before.engine_faults after.engine_faults
+
+-- a game was played by this setup to a verdict, which is not that an answer was late
+pub record IsEnded (setup : Setup) (t : Standing) : Type 0 where
+  pub same : t.setup ≡ setup
+  pub judged : IsJudged t
+  pub in_time : ¬ IsLate t.verdict
+
+-- all games of a cup were played to these ends, over programs that were started in their order;
+-- where a side broke, a program was counted that had failed
+pub record Played
+    (engines : List Engine) (setup : Setup) (ends : List Standing) (before after : Starter)
+    : Type 0 where
+  pub all_games : length ends ≡ length (pairings (length engines))
+  pub started : after.started ≡ started_after before.started (cup_words engines)
+  pub ended : All (IsEnded setup) ends
+  pub broke :
+      (t : Standing)
+      → IsOn ends t
+      → IsBroke t.verdict
+      → Rose before.engine_faults after.engine_faults
+  pub programs :
+      (all : List (List ℕ)) → before.to_come ≡ Some all → PlayedBy all setup ends before after
+
+-- the standings of the engines by the verdicts of the games, each of which has one
+abbrev pub AreCupStandings : ℕ → List Standing → List Place → Type 0
+AreCupStandings engines ends places =
+    (verdicts : List Verdict)
+    × (map (λ t. t.verdict) ends ≡ map Some verdicts)
+    × AreStandings engines verdicts places
+
+-- The run
+
+-- the text of a cup that was played was written
+pub record Tells
+    (engines : List Engine) (setup : Setup) (ends : List Standing) (places : List Place)
+    (before after : Scene) : Type 0 where
+  pub played : Played engines setup ends before.starter after.starter
+  pub standings : AreCupStandings (length engines) ends places
+  pub wrote : after.written ≡ behind before.written (cup_text setup engines ends places)
+
+-- of the text of a cup that was played the first n bytes were written, and not all
+pub record TellsPart
+    (engines : List Engine) (setup : Setup) (ends : List Standing) (places : List Place) (n : ℕ)
+    (before after : Scene) : Type 0 where
+  pub played : Played engines setup ends before.starter after.starter
+  pub standings : AreCupStandings (length engines) ends places
+  pub cut : n < length (cup_text setup engines ends places)
+  pub wrote : after.written ≡ behind before.written (take n (cup_text setup engines ends places))
+
+-- so many programs were started in their order, and not all; where it is told what was to come,
+-- they were the first ones of those, and none of them got a byte
+pub record BreaksOff (engines : List Engine) (before after : Starter) : Type 0 where
+  pub count : ℕ
+  pub few : count < length (cup_words engines)
+  pub started : after.started ≡ started_after before.started (take count (cup_words engines))
+  pub programs :
+      (all : List (List ℕ))
+      → before.to_come ≡ Some all
+      → (count ≤ length all)
+      × (after.to_come ≡ Some (drop count all))
+      × Gains before.sent after.sent (replicate count [])
+
+-- no game was begun, and nothing was written
+pub record NotBegun (engines : List Engine) (before after : Scene) : Type 0 where
+  pub written : after.written ≡ before.written
+  pub starts : BreaksOff engines before.starter after.starter
+
+-- so many programs were started in their order, perhaps all; where it is told what was to come,
+-- they were the first ones of those, and as many were closed: what each of them got was gained
+pub record EndsEarly (engines : List Engine) (before after : Starter) : Type 0 where
+  pub count : ℕ
+  pub few : count ≤ length (cup_words engines)
+  pub started : after.started ≡ started_after before.started (take count (cup_words engines))
+  pub programs :
+      (all : List (List ℕ))
+      → before.to_come ≡ Some all
+      → (count ≤ length all)
+      × (after.to_come ≡ Some (drop count all))
+      × (gained : List (List ℕ))
+      × (length gained ≡ count)
+      × Gains before.sent after.sent gained
+
+-- memory was wanting: nothing was written
+pub record Starved (engines : List Engine) (before after : Scene) : Type 0 where
+  pub written : after.written ≡ before.written
+  pub starts : EndsEarly engines before.starter after.starter
+
+-- What was written and played where a cup of programs ends with this status. Five statuses are not
+-- its own.
+abbrev pub CupRun : List Engine → Setup → Status → Scene → Scene → Type 0
+CupRun engines setup Done before after =
+    (ends : List Standing) × (places : List Place) × Tells engines setup ends places before after
+CupRun engines setup WriteFault before after =
+    (ends : List Standing)
+    × (places : List Place)
+    × (n : ℕ)
+    × TellsPart engines setup ends places n before after
+CupRun engines setup SpawnFault before after = NotBegun engines before after
+CupRun engines setup Memory before after = Starved engines before after
+CupRun engines setup Refused before after = ⊥
+CupRun engines setup Usage before after = ⊥
+CupRun engines setup ReadFault before after = ⊥
+CupRun engines setup BadInput before after = ⊥
+CupRun engines setup InputFull before after = ⊥

@@ -1,0 +1,20 @@
+-- What follows from the clauses of a run.
+use Rattle.std.specs.Prelude.{◌≡◌, ◌⊎◌, ℕ, List}
+use Rattle.io_edge.specs.Outside.{HasCause, Rose}
+use Rattle.command_runs.specs.declared.status.Status.{Status}
+use Rattle.command_runs.specs.declared.status.Status.TheVariants.{Done, WriteFault, SpawnFault, Memory}
+use Rattle.match_core.specs.declared.answers.Setup.{Setup}
+use Rattle.cup_core.specs.Engines.{Engine}
+use Rattle.cup_command.specs.Cup.{CupRun, Scene}
+
+-- Where no write to the output failed and no start did, a cup of programs is done, unless memory is
+-- wanting.
+abbrev pub CupsAreDone : Type 0
+CupsAreDone =
+    (engines : List Engine) (setup : Setup) (status : Status) (before after : Scene) (writes_before writes_after : ℕ)
+    → CupRun engines setup status before after
+    → HasCause (status ≡ WriteFault) writes_before writes_after
+    → ¬ Rose writes_before writes_after
+    → HasCause (status ≡ SpawnFault) before.starter.start_faults after.starter.start_faults
+    → ¬ Rose before.starter.start_faults after.starter.start_faults
+    → (status ≡ Done) ⊎ (status ≡ Memory)

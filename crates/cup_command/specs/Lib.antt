@@ -1,0 +1,4 @@
+pub mod Texts
+pub mod Cup
+pub mod Links
+pub mod Laws

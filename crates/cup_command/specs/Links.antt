@@ -1,0 +1,108 @@
+-- The links of a cup: their starts and their closes, one after another.
+use Rattle.std.specs.Prelude.{◌≡◌, ◌≢◌, ℕ, ◌+◌, ◌<◌, ◌≤◌, Bool, List, [], ◌∷◌, ◌++◌, length, take, Option, Some, None, nat_lt, if◌then◌else◌}
+use Rattle.std.specs.List.{flat_map, sum_by}
+use Rattle.io_edge.specs.Outside.{ToldLists, ToldPrograms, Starts, Collects, one_more}
+use Rattle.match_core.specs.declared.answers.Setup.{Setup}
+use Rattle.match_core.specs.Standing.{Standing}
+use Rattle.cup_core.specs.declared.pairing.Pairing.{Pairing}
+use Rattle.cup_games.specs.Played.{Job, Side}
+use Rattle.cup_command.specs.Cup.{started_after}
+use Rattle.cup_command.specs.Texts.{game_text}
+
+-- Starts
+
+-- no read and no write of the link has failed yet
+pub record IsFresh (link : Side) : Type 0 where
+  pub reads : link.read_faults ≡ 0
+  pub writes : link.write_faults ≡ 0
+
+-- the two links of a game, white's first
+abbrev pub links_of : Job → List Side
+links_of job = job.white_link ∷ (job.black_link ∷ [])
+
+-- the links of all games, in the order of the starts
+abbrev pub all_links : List Job → List Side
+all_links jobs = flat_map links_of jobs
+
+-- programs were started, one after the other, and these are their links
+abbrev pub StartsAll : ToldLists → ToldLists → List Side → Type 0
+StartsAll before after [] = after ≡ before
+StartsAll before after (link ∷ links) =
+    (between : ToldLists)
+    × Starts before between link.rest link.written
+    × StartsAll between after links
+
+-- a game is one of two different engines, whose numbers go from 1 to this
+pub record IsPaired (engines : ℕ) (game : Pairing) : Type 0 where
+  pub white_low : 1 ≤ game.white
+  pub white_high : game.white ≤ engines
+  pub black_low : 1 ≤ game.black
+  pub black_high : game.black ≤ engines
+  pub other : game.white ≢ game.black
+
+-- a game that was not played, by this setup and over these links
+abbrev pub ready : Setup → Pairing → Side → Side → Job
+ready setup game white black = record {
+  white = game.white;
+  black = game.black;
+  white_link = white;
+  black_link = black;
+  setup = setup;
+  referee = None;
+}
+
+-- the game was not played, and its links are fresh
+pub record IsReady (setup : Setup) (job : Job) : Type 0 where
+  pub same : job.setup ≡ setup
+  pub white : IsFresh job.white_link
+  pub black : IsFresh job.black_link
+
+-- Closes
+
+-- programs were closed, one after the other, and these were their links
+abbrev pub ClosesLinks : ToldLists → ToldLists → List Side → Type 0
+ClosesLinks before after [] = after ≡ before
+ClosesLinks before after (link ∷ links) =
+    (between : ToldLists) × Collects before between link.written × ClosesLinks between after links
+
+-- whether a read or a write of the link has failed
+abbrev pub has_failed : Side → Bool
+has_failed link = nat_lt 0 (link.read_faults + link.write_faults)
+
+-- the count of programs that had failed, after the closes of these links
+abbrev pub counted : List Side → ℕ → ℕ
+counted [] count = count
+counted (link ∷ links) count =
+    counted links (if has_failed link then one_more count else count)
+
+-- how many of the links have failed
+abbrev pub failures : List Side → ℕ
+failures links = sum_by (λ link. if has_failed link then 1 else 0) links
+
+-- of the programs with these words the first ones were started, and all of them where none failed to
+-- start; and then all links were closed, those that were there before first
+pub record GivesUp
+    (failed : Type 0) (words : List (List (List ℕ))) (there : List Side)
+    (to_come to_come_now sent sent_now : ToldLists) (started started_now : ToldPrograms)
+    : Type 0 where
+  pub late : List Side
+  pub few : length late ≤ length words
+  pub short : failed → length late < length words
+  pub starts : StartsAll to_come to_come_now late
+  pub closes : ClosesLinks sent sent_now (there ++ late)
+  pub named : started_now ≡ started_after started (take (length late) words)
+
+-- Texts
+
+-- the game was not played, or it was played by this setup
+abbrev pub IsOf : Setup → Job → Type 0
+IsOf setup job = (t : Standing) → job.referee ≡ Some t → t.setup ≡ setup
+
+-- the lines of a game, where it was played
+abbrev pub ended_text : Setup → Pairing → Option Standing → List ℕ
+ended_text setup game None = []
+ended_text setup game (Some t) = game_text setup game t
+
+-- the lines of games
+abbrev pub jobs_text : Setup → List (Pairing × Job) → List ℕ
+jobs_text setup games = flat_map (λ g. ended_text setup g.0 g.1.referee) games

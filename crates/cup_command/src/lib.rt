@@ -1,0 +1,14 @@
+//! A cup of programs, from their starts to the text that tells it.
+#![tactic(auto)]
+
+mod closing;
+mod laws;
+mod links;
+mod playing;
+mod texts;
+
+pub use laws::cups_are_done;
+pub use playing::play_cup;
+
+#[cfg(test)]
+mod tests;

@@ -1,0 +1,173 @@
+//! The starts of the programs of a cup, game by game.
+ghost use Rattle.std.specs.Prelude.{◌≡◌, ◌≢◌, ◌≤◌, ◌<◌, ◌++◌, [], ◌∷◌, length, map, string_bytes, IfOk, OnOk, OnErr, IsErrOf};
+ghost use Rattle.std.specs.List.{All, flat_map};
+ghost use Rattle.io_edge.specs.Outside.{HasCause, Starts};
+ghost use Rattle.match_core.specs.Keeps.{IsSetup};
+ghost use Rattle.cup_core.specs.Cup.{pairings};
+ghost use Rattle.cup_games.specs.Played.{IsDepth, Side, pairing, side};
+ghost use Rattle.cup_command.specs.Cup.{cup_words, game_words, started_after, words_of};
+ghost use Rattle.cup_command.specs.Links.{ClosesLinks, GivesUp, IsFresh, IsPaired, IsReady, StartsAll, all_links, links_of, ready};
+
+use crate::closing::{close_game, close_links};
+use cup_core::{Pairing, Program};
+use cup_games::CupJob;
+use hive_model::Game;
+use io_edge::{Spawner, StartFault};
+use match_core::Setup;
+use std::alloc::Global;
+
+/// The words of the program with this number, the first one being 1.
+fn words_of(programs: &[Program], number: u32) -> &[String]
+    requires low { 1 ≤ number }
+    requires high { number ≤ length programs.now }
+    ensures some { 0 < length result.now }
+    ensures words { map string_bytes result.now ≡ words_of programs.now number }
+{
+    programs[(number - 1) as usize].words()
+}
+
+/// The games with one more. Where there is no memory for it, all links are closed.
+fn keep_game<P: Spawner, G: Game + Drop>(
+    job: CupJob<P::Engine, G>,
+    mut jobs: Vec<CupJob<P::Engine, G>>,
+    spawner: &mut P,
+) -> Result<Vec<CupJob<P::Engine, G>>, StartFault>
+    ensures kept { IfOk result (λ games. games.items ≡ jobs.items ++ job ∷ []) }
+    ensures sent { OnOk result (P.sent spawner.new ≡ P.sent spawner.old) }
+    ensures failed { OnOk result (P.engine_faults spawner.new ≡ P.engine_faults spawner.old) }
+    ensures closed { OnErr result (ClosesLinks (P.sent spawner.old) (P.sent spawner.new)
+        (all_links jobs.items ++ links_of job)) }
+    ensures memory { IsErrOf result StartFault.Failed → ⊥ }
+    ensures starts { P.start_faults spawner.new ≡ P.start_faults spawner.old }
+    ensures to_come { P.to_come spawner.new ≡ P.to_come spawner.old }
+    ensures started { P.started spawner.new ≡ P.started spawner.old }
+{
+    match jobs.push(job) {
+        Ok(()) => Ok(jobs),
+        Err(failed) => {
+            close_links(jobs, spawner);
+            close_game(failed.value, spawner);
+            Err(StartFault::Memory)
+        }
+    }
+}
+
+/// Starts black's program of a game, and keeps the game behind the others. Where it does not start,
+/// all links are closed, white's of this game last.
+fn start_black<P: Spawner, G: Game + Drop>(
+    white: P::Engine,
+    programs: &[Program],
+    game: Pairing,
+    setup: Setup,
+    jobs: Vec<CupJob<P::Engine, G>>,
+    spawner: &mut P,
+) -> Result<Vec<CupJob<P::Engine, G>>, StartFault>
+    requires setup { IsSetup setup }
+    requires depth { IsDepth setup.level }
+    requires paired { IsPaired (length programs.now) game }
+    ensures kept { IfOk result (λ games. (black : Side) × IsFresh black
+        × Starts (P.to_come spawner.old) (P.to_come spawner.new) black.rest black.written
+        × (games.items ≡ jobs.items ++ ready setup game
+        (side (P.Engine.rest white) (P.Engine.written white)
+        (P.Engine.read_faults white) (P.Engine.write_faults white)) black ∷ [])) }
+    ensures named { OnOk result (P.started spawner.new
+        ≡ started_after (P.started spawner.old) (words_of programs.now game.black ∷ [])) }
+    ensures sent { OnOk result (P.sent spawner.new ≡ P.sent spawner.old) }
+    ensures failed { OnOk result (P.engine_faults spawner.new ≡ P.engine_faults spawner.old) }
+    ensures closed { OnErr result (GivesUp (IsErrOf result StartFault.Failed)
+        (words_of programs.now game.black ∷ [])
+        (all_links jobs.items ++ side (P.Engine.rest white) (P.Engine.written white)
+        (P.Engine.read_faults white) (P.Engine.write_faults white) ∷ [])
+        (P.to_come spawner.old) (P.to_come spawner.new)
+        (P.sent spawner.old) (P.sent spawner.new)
+        (P.started spawner.old) (P.started spawner.new)) }
+    ensures cause { HasCause (IsErrOf result StartFault.Failed)
+        (P.start_faults spawner.old) (P.start_faults spawner.new) }
+{
+    match spawner.start(words_of(programs, game.black)) {
+        Ok(black) => {
+            let job = CupJob::new(game.white, game.black, white, black, setup);
+            keep_game(job, jobs, spawner)
+        }
+        Err(fault) => {
+            close_links(jobs, spawner);
+            spawner.close(white);
+            Err(fault)
+        }
+    }
+}
+
+/// Starts the two programs of a game, white's first, and keeps the game behind the others. Where
+/// one does not start, all links are closed, in the order of their starts.
+fn start_game<P: Spawner, G: Game + Drop>(
+    programs: &[Program],
+    game: Pairing,
+    setup: Setup,
+    jobs: Vec<CupJob<P::Engine, G>>,
+    spawner: &mut P,
+) -> Result<Vec<CupJob<P::Engine, G>>, StartFault>
+    requires setup { IsSetup setup }
+    requires depth { IsDepth setup.level }
+    requires paired { IsPaired (length programs.now) game }
+    ensures kept { IfOk result (λ games. (white : Side) × (black : Side)
+        × IsFresh white × IsFresh black
+        × StartsAll (P.to_come spawner.old) (P.to_come spawner.new) (white ∷ (black ∷ []))
+        × (games.items ≡ jobs.items ++ ready setup game white black ∷ [])) }
+    ensures named { OnOk result (P.started spawner.new
+        ≡ started_after (P.started spawner.old) (game_words programs.now game)) }
+    ensures sent { OnOk result (P.sent spawner.new ≡ P.sent spawner.old) }
+    ensures failed { OnOk result (P.engine_faults spawner.new ≡ P.engine_faults spawner.old) }
+    ensures closed { OnErr result (GivesUp (IsErrOf result StartFault.Failed)
+        (game_words programs.now game) (all_links jobs.items)
+        (P.to_come spawner.old) (P.to_come spawner.new)
+        (P.sent spawner.old) (P.sent spawner.new)
+        (P.started spawner.old) (P.started spawner.new)) }
+    ensures cause { HasCause (IsErrOf result StartFault.Failed)
+        (P.start_faults spawner.old) (P.start_faults spawner.new) }
+{
+    match spawner.start(words_of(programs, game.white)) {
+        Ok(white) => start_black(white, programs, game, setup, jobs, spawner),
+        Err(fault) => {
+            close_links(jobs, spawner);
+            Err(fault)
+        }
+    }
+}
+
+/// Starts the programs of all games, game by game and white's first. Where one does not start, all
+/// links are closed, in the order of their starts.
+pub(crate) fn start_links<P: Spawner, G: Game + Drop>(
+    alloc: Global,
+    programs: &[Program],
+    games: &[Pairing],
+    setup: Setup,
+    spawner: &mut P,
+) -> Result<Vec<CupJob<P::Engine, G>>, StartFault>
+    requires setup { IsSetup setup }
+    requires depth { IsDepth setup.level }
+    requires games { games.now ≡ pairings (length programs.now) }
+    ensures kept { IfOk result (λ jobs. map pairing jobs.items ≡ games.now) }
+    ensures ready { IfOk result (λ jobs. All (IsReady setup) jobs.items) }
+    ensures next { IfOk result (λ jobs. StartsAll (P.to_come spawner.old) (P.to_come spawner.new)
+        (all_links jobs.items)) }
+    ensures named { OnOk result (P.started spawner.new
+        ≡ started_after (P.started spawner.old) (cup_words programs.now)) }
+    ensures sent { OnOk result (P.sent spawner.new ≡ P.sent spawner.old) }
+    ensures failed { OnOk result (P.engine_faults spawner.new ≡ P.engine_faults spawner.old) }
+    ensures closed { OnErr result (GivesUp (IsErrOf result StartFault.Failed)
+        (cup_words programs.now) []
+        (P.to_come spawner.old) (P.to_come spawner.new)
+        (P.sent spawner.old) (P.sent spawner.new)
+        (P.started spawner.old) (P.started spawner.new)) }
+    ensures cause { HasCause (IsErrOf result StartFault.Failed)
+        (P.start_faults spawner.old) (P.start_faults spawner.new) }
+{
+    let mut jobs = Vec::new(alloc);
+    for place in 0..games.len() {
+        match start_game(programs, games[place], setup, jobs, spawner) {
+            Ok(more) => jobs = more,
+            Err(fault) => return Err(fault),
+        }
+    }
+    Ok(jobs)
+}

@@ -1,0 +1,211 @@
+//! The command: all programs are started, the games are played, and the text that tells them is
+//! written.
+ghost use Rattle.std.specs.Prelude.{◌≡◌, ◌<◌, ◌≤◌, ◌++◌, List, length, map, IfOk, OnOk, IsErrOf};
+ghost use Rattle.std.specs.List.{All, AllZip, flat_map, zip};
+ghost use Rattle.io_edge.specs.Outside.{HasCause};
+ghost use Rattle.match_core.specs.Keeps.{IsSetup};
+ghost use Rattle.match_core.specs.Standing.{Standing};
+ghost use Rattle.match_command.specs.Wires.{ClosesAll};
+ghost use Rattle.cup_core.specs.Cup.{pairings};
+ghost use Rattle.cup_core.specs.declared.standing.Standing.{Standing as AnyPlace};
+ghost use Rattle.cup_games.specs.Played.{AreStandingsOf, IsDepth, IsPlayed, pairing};
+ghost use Rattle.cup_command.specs.Cup.{AreCupStandings, BreaksOff, CupRun, EndsEarly, Played, scene, starter};
+ghost use Rattle.cup_command.specs.Links.{IsReady, jobs_text};
+ghost use Rattle.cup_command.specs.Texts.{cup_text, standing_text};
+
+use crate::closing::close_links;
+use crate::links::start_links;
+use crate::texts::tell_cup;
+use command_runs::Status;
+use cup_core::{Pairing, Program, pairings};
+use cup_games::{CupGate, CupJob, run_cup};
+use hive_model::{Game, ReplyText};
+use io_edge::{Link, Sink, Spawner, StartFault, write_all};
+use match_core::Setup;
+use std::alloc::{AllocError, Global};
+use std::thread::Threads;
+
+/// Plays the games of a cup that was started: the text that tells it.
+fn run_and_tell<R: Threads + Sync, L: Link + Send, G: Game + Send + Drop, T: CupGate + Sync>(
+    rt: &R,
+    alloc: Global,
+    programs: &[Program],
+    setup: Setup,
+    games: &[Pairing],
+    jobs: &mut [CupJob<L, G>],
+    gate: &T,
+) -> Result<ReplyText, AllocError>
+    requires some { 2 ≤ length programs.now }
+    requires few { length programs.now ≤ 8 }
+    requires games { games.now ≡ pairings (length programs.now) }
+    requires jobs { map pairing jobs.old ≡ games.now }
+    requires ready { All (IsReady setup) jobs.old }
+    ensures long { length jobs.new ≡ length jobs.old }
+    ensures played { OnOk result (AllZip IsPlayed jobs.old jobs.new) }
+    ensures told { IfOk result (λ text. (places : List AnyPlace)
+        × AreStandingsOf (length programs.now) jobs.new places
+        × (text ≡ jobs_text setup (zip games.now jobs.new)
+        ++ flat_map (standing_text programs.now) places)) }
+{
+    run_cup(rt, alloc, jobs, gate)?;
+    tell_cup(alloc, programs, setup, games, jobs)
+}
+
+/// Starts all programs, plays their games and closes them: the text that tells the cup. For want of
+/// memory `Memory` is answered, wherever it was wanting.
+fn play_games<R: Threads + Sync, P: Spawner, G: Game + Send + Drop, T: CupGate + Sync>(
+    rt: &R,
+    alloc: Global,
+    programs: &[Program],
+    setup: Setup,
+    games: &[Pairing],
+    spawner: &mut P,
+    gate: &T,
+) -> Result<ReplyText, StartFault>
+    requires some { 2 ≤ length programs.now }
+    requires few { length programs.now ≤ 8 }
+    requires setup { IsSetup setup }
+    requires depth { IsDepth setup.level }
+    requires games { games.now ≡ pairings (length programs.now) }
+    ensures told { IfOk result (λ text. (ends : List Standing) × (places : List AnyPlace)
+        × Played programs.now setup ends
+        (starter (P.to_come spawner.old) (P.sent spawner.old) (P.started spawner.old)
+        (P.start_faults spawner.old) (P.engine_faults spawner.old))
+        (starter (P.to_come spawner.new) (P.sent spawner.new) (P.started spawner.new)
+        (P.start_faults spawner.new) (P.engine_faults spawner.new))
+        × AreCupStandings (length programs.now) ends places
+        × (text ≡ cup_text setup programs.now ends places)) }
+    ensures broken { IsErrOf result StartFault.Failed → BreaksOff programs.now
+        (starter (P.to_come spawner.old) (P.sent spawner.old) (P.started spawner.old)
+        (P.start_faults spawner.old) (P.engine_faults spawner.old))
+        (starter (P.to_come spawner.new) (P.sent spawner.new) (P.started spawner.new)
+        (P.start_faults spawner.new) (P.engine_faults spawner.new)) }
+    ensures early { IsErrOf result StartFault.Memory → EndsEarly programs.now
+        (starter (P.to_come spawner.old) (P.sent spawner.old) (P.started spawner.old)
+        (P.start_faults spawner.old) (P.engine_faults spawner.old))
+        (starter (P.to_come spawner.new) (P.sent spawner.new) (P.started spawner.new)
+        (P.start_faults spawner.new) (P.engine_faults spawner.new)) }
+    ensures closed { ClosesAll (P.to_come spawner.old) (P.to_come spawner.new)
+        (P.sent spawner.old) (P.sent spawner.new) }
+    ensures cause { HasCause (IsErrOf result StartFault.Failed)
+        (P.start_faults spawner.old) (P.start_faults spawner.new) }
+{
+    match start_links::<P, G>(alloc, programs, games, setup, spawner) {
+        Ok(mut jobs) => {
+            let text = run_and_tell(rt, alloc, programs, setup, games, &mut jobs, gate);
+            close_links(jobs, spawner);
+            match text {
+                Ok(text) => Ok(text),
+                Err(_) => Err(StartFault::Memory),
+            }
+        }
+        Err(fault) => Err(fault),
+    }
+}
+
+/// The text of a cup, whose programs were started, played and closed.
+fn play<R: Threads + Sync, P: Spawner, G: Game + Send + Drop, T: CupGate + Sync>(
+    rt: &R,
+    alloc: Global,
+    programs: &[Program],
+    setup: Setup,
+    spawner: &mut P,
+    gate: &T,
+) -> Result<ReplyText, StartFault>
+    requires some { 2 ≤ length programs.now }
+    requires few { length programs.now ≤ 8 }
+    requires setup { IsSetup setup }
+    requires depth { IsDepth setup.level }
+    ensures told { IfOk result (λ text. (ends : List Standing) × (places : List AnyPlace)
+        × Played programs.now setup ends
+        (starter (P.to_come spawner.old) (P.sent spawner.old) (P.started spawner.old)
+        (P.start_faults spawner.old) (P.engine_faults spawner.old))
+        (starter (P.to_come spawner.new) (P.sent spawner.new) (P.started spawner.new)
+        (P.start_faults spawner.new) (P.engine_faults spawner.new))
+        × AreCupStandings (length programs.now) ends places
+        × (text ≡ cup_text setup programs.now ends places)) }
+    ensures broken { IsErrOf result StartFault.Failed → BreaksOff programs.now
+        (starter (P.to_come spawner.old) (P.sent spawner.old) (P.started spawner.old)
+        (P.start_faults spawner.old) (P.engine_faults spawner.old))
+        (starter (P.to_come spawner.new) (P.sent spawner.new) (P.started spawner.new)
+        (P.start_faults spawner.new) (P.engine_faults spawner.new)) }
+    ensures early { IsErrOf result StartFault.Memory → EndsEarly programs.now
+        (starter (P.to_come spawner.old) (P.sent spawner.old) (P.started spawner.old)
+        (P.start_faults spawner.old) (P.engine_faults spawner.old))
+        (starter (P.to_come spawner.new) (P.sent spawner.new) (P.started spawner.new)
+        (P.start_faults spawner.new) (P.engine_faults spawner.new)) }
+    ensures closed { ClosesAll (P.to_come spawner.old) (P.to_come spawner.new)
+        (P.sent spawner.old) (P.sent spawner.new) }
+    ensures cause { HasCause (IsErrOf result StartFault.Failed)
+        (P.start_faults spawner.old) (P.start_faults spawner.new) }
+{
+    match pairings(alloc, programs.len() as u32) {
+        Ok(games) => play_games::<R, P, G, T>(
+            rt,
+            alloc,
+            programs,
+            setup,
+            games.as_slice(),
+            spawner,
+            gate,
+        ),
+        Err(_) => Err(StartFault::Memory),
+    }
+}
+
+/// Plays a cup of programs and tells it.
+///
+/// The engines have numbers from 1 on, in the order of the programs, and each plays white once
+/// against each other one, in the order of white's number and then of black's. All programs are
+/// started game by game, white's first, before anything else is done: for each game both of its
+/// programs, each by its words. Then the games are played at once where threads can be had; before
+/// each one the gate is called. Then all engines are closed, in the order of their starts, and only
+/// then the text is written: two lines for each game, its game string and its verdict, and one for
+/// each engine of the standings. Each engine that was started is closed before the call returns,
+/// whatever happens.
+///
+/// There are 2 to 8 programs. A setup has a depth from 1 to 64, and a limit of 1 to 1,000 plies.
+///
+/// `Done` says that the whole text was written. `WriteFault` says that a write has failed: of the
+/// text only a front, and not all, was written. `SpawnFault` says that a program did not start, and
+/// `Memory` that memory was wanting, before or after the starts: nothing was written, and the
+/// programs that were started are the first ones. No other status is answered.
+pub fn play_cup<R: Threads + Sync, P: Spawner, K: Sink, G: Game + Send + Drop, T: CupGate + Sync>(
+    rt: &R,
+    alloc: Global,
+    programs: &[Program],
+    setup: Setup,
+    output: &mut K,
+    spawner: &mut P,
+    gate: &T,
+) -> Status
+    requires some { 2 ≤ length programs.now }
+    requires few { length programs.now ≤ 8 }
+    requires setup { IsSetup setup }
+    requires depth { IsDepth setup.level }
+    ensures run { CupRun programs.now setup result
+        (scene (K.written output.old)
+        (starter (P.to_come spawner.old) (P.sent spawner.old) (P.started spawner.old)
+        (P.start_faults spawner.old) (P.engine_faults spawner.old)))
+        (scene (K.written output.new)
+        (starter (P.to_come spawner.new) (P.sent spawner.new) (P.started spawner.new)
+        (P.start_faults spawner.new) (P.engine_faults spawner.new))) }
+    ensures closed { ClosesAll (P.to_come spawner.old) (P.to_come spawner.new)
+        (P.sent spawner.old) (P.sent spawner.new) }
+    ensures writes { HasCause (result ≡ Status.WriteFault)
+        (K.write_faults output.old) (K.write_faults output.new) }
+    ensures starts { HasCause (result ≡ Status.SpawnFault)
+        (P.start_faults spawner.old) (P.start_faults spawner.new) }
+{
+    match play::<R, P, G, T>(rt, alloc, programs, setup, spawner, gate) {
+        Ok(text) => {
+            if write_all(output, text.items()) {
+                Status::Done
+            } else {
+                Status::WriteFault
+            }
+        }
+        Err(StartFault::Failed) => Status::SpawnFault,
+        Err(StartFault::Memory) => Status::Memory,
+    }
+}
