@@ -1,9 +1,8 @@
 -- The words that ask for something begin with the name of a command.
-use Rattle.std.proofs.Common.{◌≡◌, ◌∙◌, refl, ap, sym, List, ◌∷◌, ℕ, map, inl, inr, codes, String, Global, None, Some}
+use Rattle.std.proofs.Common.{◌≡◌, ◌∙◌, ap, sym, List, map, inl, inr, String, Global, None, Some}
 use Rattle.std.specs.Prelude.{string_bytes}
-use Rattle.std.specs.declared.option.Option.{Option}
 use Rattle.command_words.specs.declared.asked.Asked.{Asked}
-use Rattle.command_words.specs.declared.asked.Asked.TheVariants.{Session, Replay, Count, Grow, Certify, Check, Solve, Verify, Match, Book, Migrate}
+use Rattle.command_words.specs.declared.asked.Asked.TheVariants.{Session, Replay, Count, Grow, Certify, Check, Solve, Verify, Match, Cup, Book, Migrate}
 use Rattle.command_words.specs.declared.name.Name.{Name}
 use Rattle.command_words.specs.Names.{named}
 use Rattle.command_words.specs.Words.{Words, name_of}
@@ -12,7 +11,7 @@ use Rattle.command_words.specs.Words.{Words, name_of}
 pub named_asked : (words : List (String Global)) (a : Asked) → Words words a → named (map string_bytes words) ≡ Some (name_of a)
 named_asked words Session (inl none) = ap named none
 named_asked words Session (inr alone) = ap named alone
-named_asked words Replay alone = ap named alone
+named_asked words (Replay repetition) w = ap named w.give.ask.begin
 named_asked words (Count plies) w = ap named w.give.ask.begin
 named_asked words (Grow seed plies) w = ap named w.give.ask.begin
 named_asked words (Certify depth) w = ap named w.give.ask.begin
@@ -20,6 +19,7 @@ named_asked words Check alone = ap named alone
 named_asked words (Solve plies) w = ap named w.give.ask.begin
 named_asked words Verify alone = ap named alone
 named_asked words (Match setup) w = ap named w.give.ask.begin
+named_asked words (Cup setup) w = ap named w.give.ask.begin
 named_asked words Book alone = ap named alone
 named_asked words Migrate alone = ap named alone
 

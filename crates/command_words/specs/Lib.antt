@@ -1,4 +1,5 @@
 pub mod Names
 pub mod Programs
 pub mod Matches
+pub mod Cups
 pub mod Words

@@ -1,5 +1,5 @@
 -- The words that ask for a match of two programs.
-use Rattle.std.specs.Prelude.{◌≡◌, ◌≢◌, ℕ, Bool, true, false, List, [], ◌∷◌, All, nat_eq, codes, map, option_map, string_bytes, Option, None, Some, if◌then◌else◌}
+use Rattle.std.specs.Prelude.{◌≡◌, ℕ, Bool, false, List, [], ◌∷◌, nat_eq, codes, map, string_bytes, Option, None, Some, if◌then◌else◌}
 use Rattle.std.specs.declared.string.String.{String}
 use Rattle.std.specs.declared.alloc.Global.{Global}
 use Rattle.hive_model.specs.declared.pieces.GameType.{GameType}
@@ -45,6 +45,10 @@ abbrev pub IsTypeOr : Option (List ℕ) → GameType → Type 0
 IsTypeOr None t = t ≡ record { mosquito = false; ladybug = false; pillbug = false }
 IsTypeOr (Some text) t = text ≡ type_bytes t
 
+-- the rule of third repetition: 1 switches it on, 0 leaves it off, as does no value
+abbrev pub IsRuleOf : Option (List ℕ) → Bool → Type 0
+IsRuleOf text r = (n : ℕ) × IsNumberOr text 0 1 0 n × (r ≡ nat_eq n 1)
+
 -- The engines are asked to a depth, to 2 where none is given; or in a time, with this margin; and never in both ways.
 abbrev pub IsLevelOf : Option (List ℕ) → Option (List ℕ) → ℕ → Level → Type 0
 IsLevelOf depth None margin level = (n : ℕ) × IsNumberOr depth 1 64 2 n × (level ≡ Depth n)
@@ -58,6 +62,7 @@ pub record Choices : Type 0 where
   pub time : Option (List ℕ)
   pub margin : Option (List ℕ)
   pub plies : Option (List ℕ)
+  pub repetition : Option (List ℕ)
 
 -- A match is played by this setup. The margin, a second where none is given, has its range where no time is given, too.
 pub record IsSetupOf (choices : Choices) (setup : Setup) : Type 0 where
@@ -66,14 +71,19 @@ pub record IsSetupOf (choices : Choices) (setup : Setup) : Type 0 where
   pub margin_is : IsNumberOr choices.margin 0 3600000 1000 margin
   pub level : IsLevelOf choices.depth choices.time margin setup.level
   pub limit : IsNumberOr choices.plies 1 1000 400 setup.limit
+  pub rule : IsRuleOf choices.repetition setup.repetition
 
+-- the options of a match, in the order in which their values are given
 abbrev pub match_options : List (List ℕ)
 match_options =
-    codes "white" ∷ (codes "black" ∷ (codes "type" ∷ (codes "depth" ∷ (codes "time" ∷ (codes "margin" ∷ (codes "plies" ∷ []))))))
+    codes "white" ∷ (codes "black" ∷ (codes "type" ∷ (codes "depth" ∷
+    (codes "time" ∷ (codes "margin" ∷ (codes "plies" ∷ (codes "repetition" ∷ [])))))))
 
+-- their values: the texts of the two programs, and what is chosen of the others
 abbrev pub match_values : List ℕ → List ℕ → Choices → List (Option (List ℕ))
 match_values white black choices =
-    Some white ∷ (Some black ∷ (choices.game_type ∷ (choices.depth ∷ (choices.time ∷ (choices.margin ∷ (choices.plies ∷ []))))))
+    Some white ∷ (Some black ∷ (choices.game_type ∷ (choices.depth ∷
+    (choices.time ∷ (choices.margin ∷ (choices.plies ∷ (choices.repetition ∷ [])))))))
 
 -- `match` and its options, of which the programs of white and of black are required
 pub record AreMatchWords (words : List (String Global)) (setup : Setup) : Type 0 where

@@ -1,15 +1,16 @@
 -- The words of the command line, and what they ask for.
-use Rattle.std.specs.Prelude.{◌≡◌, ◌⊎◌, ℕ, ◌-◌, ◌^◌, ◌≤◌, List, [], ◌∷◌, map, codes, string_bytes, Some, IsTrue}
+use Rattle.std.specs.Prelude.{◌≡◌, ◌⊎◌, ℕ, ◌-◌, ◌^◌, ◌≤◌, Bool, List, [], ◌∷◌, map, codes, string_bytes, Option, Some, IsTrue}
 use Rattle.std.specs.declared.string.String.{String}
 use Rattle.std.specs.declared.alloc.Global.{Global}
 use Rattle.hive_model.specs.Fields.{IsNumberText}
 use Rattle.match_core.specs.Keeps.{IsSetup}
 use Rattle.option_words.specs.Options.{GiveOne, Gives}
 use Rattle.command_words.specs.declared.asked.Asked.{Asked}
-use Rattle.command_words.specs.declared.asked.Asked.TheVariants.{Session, Replay, Count, Grow, Certify, Check, Solve, Verify, Match, Book, Migrate}
+use Rattle.command_words.specs.declared.asked.Asked.TheVariants.{Session, Replay, Count, Grow, Certify, Check, Solve, Verify, Match, Cup, Book, Migrate}
 use Rattle.command_words.specs.declared.name.Name.{Name}
-use Rattle.command_words.specs.declared.name.Name.TheVariants.{Uhp, Replay as ReplayName, Count as CountName, Grow as GrowName, Certify as CertifyName, Check as CheckName, Solve as SolveName, Verify as VerifyName, Match as MatchName, Book as BookName, Migrate as MigrateName}
-use Rattle.command_words.specs.Matches.{AreMatchWords}
+use Rattle.command_words.specs.declared.name.Name.TheVariants.{Uhp, Replay as ReplayName, Count as CountName, Grow as GrowName, Certify as CertifyName, Check as CheckName, Solve as SolveName, Verify as VerifyName, Match as MatchName, Cup as CupName, Book as BookName, Migrate as MigrateName}
+use Rattle.command_words.specs.Cups.{AreCupWords}
+use Rattle.command_words.specs.Matches.{AreMatchWords, IsRuleOf}
 use Rattle.command_words.specs.Names.{name_text, named, takes_option}
 
 -- the name of a command, alone
@@ -38,10 +39,16 @@ pub record AreGrowWords (words : List (String Global)) (seed plies : ℕ) : Type
   pub give : Gives (map string_bytes words) (codes "grow") (codes "seed" ∷ (codes "plies" ∷ [])) (Some seed_text ∷ (Some plies_text ∷ []))
   pub growth : AreGrowth seed_text plies_text seed plies
 
+-- `replay`, alone or with the option `repetition`
+pub record AreReplayWords (words : List (String Global)) (repetition : Bool) : Type 0 where
+  pub value : Option (List ℕ)
+  pub give : Gives (map string_bytes words) (codes "replay") (codes "repetition" ∷ []) (value ∷ [])
+  pub rule : IsRuleOf value repetition
+
 -- the words ask for this
 abbrev pub Words : List (String Global) → Asked → Type 0
 Words words Session = AreUhpWords words
-Words words Replay = AreAlone words ReplayName
+Words words (Replay repetition) = AreReplayWords words repetition
 Words words (Count plies) = AreNumbered words (codes "count") (codes "plies") 1 8 plies
 Words words (Grow seed plies) = AreGrowWords words seed plies
 Words words (Certify depth) = AreNumbered words (codes "certify") (codes "depth") 1 64 depth
@@ -49,6 +56,7 @@ Words words Check = AreAlone words CheckName
 Words words (Solve plies) = AreNumbered words (codes "solve") (codes "plies") 1 16 plies
 Words words Verify = AreAlone words VerifyName
 Words words (Match setup) = AreMatchWords words setup
+Words words (Cup setup) = AreCupWords words setup
 Words words Book = AreAlone words BookName
 Words words Migrate = AreAlone words MigrateName
 
@@ -59,7 +67,7 @@ AreOfNoCommand words = (asked : Asked) → ¬ Words words asked
 -- the command that is asked for
 abbrev pub name_of : Asked → Name
 name_of Session = Uhp
-name_of Replay = ReplayName
+name_of (Replay repetition) = ReplayName
 name_of (Count plies) = CountName
 name_of (Grow seed plies) = GrowName
 name_of (Certify depth) = CertifyName
@@ -67,6 +75,7 @@ name_of Check = CheckName
 name_of (Solve plies) = SolveName
 name_of Verify = VerifyName
 name_of (Match setup) = MatchName
+name_of (Cup setup) = CupName
 name_of Book = BookName
 name_of Migrate = MigrateName
 
@@ -77,7 +86,7 @@ TakeOption words = (name : Name) × (named words ≡ Some name) × IsTrue (takes
 -- the numbers that are asked for are in their ranges
 abbrev pub IsInRange : Asked → Type 0
 IsInRange Session = Unit {0}
-IsInRange Replay = Unit {0}
+IsInRange (Replay repetition) = Unit {0}
 IsInRange (Count plies) = (1 ≤ plies) × (plies ≤ 8)
 IsInRange (Grow seed plies) = (1 ≤ plies) × (plies ≤ 1000)
 IsInRange (Certify depth) = (1 ≤ depth) × (depth ≤ 64)
@@ -85,5 +94,6 @@ IsInRange Check = Unit {0}
 IsInRange (Solve plies) = (1 ≤ plies) × (plies ≤ 16)
 IsInRange Verify = Unit {0}
 IsInRange (Match setup) = IsSetup setup
+IsInRange (Cup setup) = IsSetup setup
 IsInRange Book = Unit {0}
 IsInRange Migrate = Unit {0}

@@ -4,10 +4,12 @@ ghost use Rattle.command_words.specs.declared.asked.Asked.{Asked};
 ghost use Rattle.command_words.specs.Names.{takes_option};
 ghost use Rattle.command_words.specs.Words.{IsInRange, TakeOption, Words, name_of};
 
+use crate::cups::cup_of;
 use crate::grown::growth_of;
 use crate::matched::match_of;
 use crate::name::{Name, named};
 use crate::numbered::number_of;
+use crate::replayed::replay_of;
 use match_core::Setup;
 use std::alloc::{AllocError, Global};
 
@@ -16,8 +18,9 @@ use std::alloc::{AllocError, Global};
 pub enum Asked {
     /// A session of the Universal Hive Protocol.
     Session,
-    /// The written form of each game of the input.
-    Replay,
+    /// The written form of each game of the input, where the rule of third repetition is switched
+    /// on or off.
+    Replay { repetition: bool },
     /// How many lists of so many legal moves and fewer there are: 1 to 8.
     Count(u32),
     /// The game that a number makes, of at most so many plies: 1 to 1,000.
@@ -32,6 +35,8 @@ pub enum Asked {
     Verify,
     /// A match of the two programs that the words name, played so.
     Match(Setup),
+    /// A cup of the programs that the words name, each game played so.
+    Cup(Setup),
     /// The move of a position that was made most often in played games.
     Book,
     /// A certificate made into one that cites what it showed before.
@@ -60,70 +65,38 @@ fn session(words: &[String]) -> Option<Asked>
     }
 }
 
-/// A replay is asked for by its name alone.
-fn replay(words: &[String]) -> Option<Asked>
+/// What is asked for by the name of a command alone, where that command is asked for nothing else.
+fn by_name(words: &[String], name: &str, asked: Asked) -> Option<Asked>
+    requires means { Words words.now asked ↔ map string_bytes words.now ≡ name.now ∷ [] }
+    requires one { (a : Asked) → name_of a ≡ name_of asked → a ≡ asked }
     ensures found { IfSome result (λ a. Words words.now a) }
-    ensures only { (a : Asked) → Words words.now a → name_of a ≡ Name.Replay → result ≡ Some a }
+    ensures only { (a : Asked) → Words words.now a → name_of a ≡ name_of asked → result ≡ Some a }
 {
-    if are_alone(words, "replay") {
-        Some(Asked::Replay)
+    if are_alone(words, name) {
+        Some(asked)
     } else {
         None
     }
 }
 
-/// A check of a certificate is asked for by its name alone.
-fn check(words: &[String]) -> Option<Asked>
-    ensures found { IfSome result (λ a. Words words.now a) }
-    ensures only { (a : Asked) → Words words.now a → name_of a ≡ Name.Check → result ≡ Some a }
+/// A replay is asked for by its name, alone or with the rule of third repetition on or off.
+fn replay(alloc: Global, words: &[String]) -> Result<Option<Asked>, AllocError>
+    ensures found { IfOk result (λ o. IfSome o (λ a. Words words.now a)) }
+    ensures only { IfOk result (λ o. (a : Asked) → Words words.now a → name_of a ≡ Name.Replay → o
+        ≡ Some a) }
 {
-    if are_alone(words, "check") {
-        Some(Asked::Check)
-    } else {
-        None
-    }
-}
-
-/// A check of a proof of a forced win is asked for by its name alone.
-fn verify(words: &[String]) -> Option<Asked>
-    ensures found { IfSome result (λ a. Words words.now a) }
-    ensures only { (a : Asked) → Words words.now a → name_of a ≡ Name.Verify → result ≡ Some a }
-{
-    if are_alone(words, "verify") {
-        Some(Asked::Verify)
-    } else {
-        None
-    }
-}
-
-/// The book of a position is asked for by its name alone.
-fn book(words: &[String]) -> Option<Asked>
-    ensures found { IfSome result (λ a. Words words.now a) }
-    ensures only { (a : Asked) → Words words.now a → name_of a ≡ Name.Book → result ≡ Some a }
-{
-    if are_alone(words, "book") {
-        Some(Asked::Book)
-    } else {
-        None
-    }
-}
-
-/// A certificate that cites is asked for by its name alone.
-fn migrate(words: &[String]) -> Option<Asked>
-    ensures found { IfSome result (λ a. Words words.now a) }
-    ensures only { (a : Asked) → Words words.now a → name_of a ≡ Name.Migrate → result ≡ Some a }
-{
-    if are_alone(words, "migrate") {
-        Some(Asked::Migrate)
-    } else {
-        None
+    match replay_of(alloc, words) {
+        Ok(Some(repetition)) => Ok(Some(Asked::Replay { repetition })),
+        Ok(None) => Ok(None),
+        Err(error) => Err(error),
     }
 }
 
 /// Counts are asked for with a number of plies.
 fn count(alloc: Global, words: &[String]) -> Result<Option<Asked>, AllocError>
     ensures found { IfOk result (λ o. IfSome o (λ a. Words words.now a)) }
-    ensures only { IfOk result (λ o. (a : Asked) → Words words.now a → name_of a ≡ Name.Count → o ≡ Some a) }
+    ensures only { IfOk result (λ o. (a : Asked) → Words words.now a → name_of a ≡ Name.Count → o
+        ≡ Some a) }
 {
     match number_of(alloc, words, "count", "plies", 1, 8) {
         Ok(Some(plies)) => Ok(Some(Asked::Count(plies as u32))),
@@ -135,7 +108,8 @@ fn count(alloc: Global, words: &[String]) -> Result<Option<Asked>, AllocError>
 /// A certificate is asked for with a depth.
 fn certify(alloc: Global, words: &[String]) -> Result<Option<Asked>, AllocError>
     ensures found { IfOk result (λ o. IfSome o (λ a. Words words.now a)) }
-    ensures only { IfOk result (λ o. (a : Asked) → Words words.now a → name_of a ≡ Name.Certify → o ≡ Some a) }
+    ensures only { IfOk result (λ o. (a : Asked) → Words words.now a → name_of a ≡ Name.Certify → o
+        ≡ Some a) }
 {
     match number_of(alloc, words, "certify", "depth", 1, 64) {
         Ok(Some(depth)) => Ok(Some(Asked::Certify(depth as u32))),
@@ -147,7 +121,8 @@ fn certify(alloc: Global, words: &[String]) -> Result<Option<Asked>, AllocError>
 /// A forced win is asked for with a number of plies.
 fn solve(alloc: Global, words: &[String]) -> Result<Option<Asked>, AllocError>
     ensures found { IfOk result (λ o. IfSome o (λ a. Words words.now a)) }
-    ensures only { IfOk result (λ o. (a : Asked) → Words words.now a → name_of a ≡ Name.Solve → o ≡ Some a) }
+    ensures only { IfOk result (λ o. (a : Asked) → Words words.now a → name_of a ≡ Name.Solve → o
+        ≡ Some a) }
 {
     match number_of(alloc, words, "solve", "plies", 1, 16) {
         Ok(Some(plies)) => Ok(Some(Asked::Solve(plies as u32))),
@@ -159,7 +134,8 @@ fn solve(alloc: Global, words: &[String]) -> Result<Option<Asked>, AllocError>
 /// A made game is asked for with a seed and a number of plies.
 fn grow(alloc: Global, words: &[String]) -> Result<Option<Asked>, AllocError>
     ensures found { IfOk result (λ o. IfSome o (λ a. Words words.now a)) }
-    ensures only { IfOk result (λ o. (a : Asked) → Words words.now a → name_of a ≡ Name.Grow → o ≡ Some a) }
+    ensures only { IfOk result (λ o. (a : Asked) → Words words.now a → name_of a ≡ Name.Grow → o
+        ≡ Some a) }
 {
     match growth_of(alloc, words) {
         Ok(Some(growth)) => Ok(Some(Asked::Grow {
@@ -174,7 +150,8 @@ fn grow(alloc: Global, words: &[String]) -> Result<Option<Asked>, AllocError>
 /// A match is asked for with its two programs.
 fn matched(alloc: Global, words: &[String]) -> Result<Option<Asked>, AllocError>
     ensures found { IfOk result (λ o. IfSome o (λ a. Words words.now a)) }
-    ensures only { IfOk result (λ o. (a : Asked) → Words words.now a → name_of a ≡ Name.Match → o ≡ Some a) }
+    ensures only { IfOk result (λ o. (a : Asked) → Words words.now a → name_of a ≡ Name.Match → o
+        ≡ Some a) }
 {
     match match_of(alloc, words) {
         Ok(Some(setup)) => Ok(Some(Asked::Match(setup))),
@@ -183,29 +160,45 @@ fn matched(alloc: Global, words: &[String]) -> Result<Option<Asked>, AllocError>
     }
 }
 
+/// A cup is asked for with its programs.
+fn cup(alloc: Global, words: &[String]) -> Result<Option<Asked>, AllocError>
+    ensures found { IfOk result (λ o. IfSome o (λ a. Words words.now a)) }
+    ensures only { IfOk result (λ o. (a : Asked) → Words words.now a → name_of a ≡ Name.Cup → o
+        ≡ Some a) }
+{
+    match cup_of(alloc, words) {
+        Ok(Some(setup)) => Ok(Some(Asked::Cup(setup))),
+        Ok(None) => Ok(None),
+        Err(error) => Err(error),
+    }
+}
+
 /// What the words ask this command for.
 fn asked_by(alloc: Global, words: &[String], name: Name) -> Result<Option<Asked>, AllocError>
     ensures found { IfOk result (λ o. IfSome o (λ a. Words words.now a)) }
-    ensures only { IfOk result (λ o. (a : Asked) → Words words.now a → name_of a ≡ name → o ≡ Some a) }
+    ensures only { IfOk result (λ o. (a : Asked) → Words words.now a → name_of a ≡ name → o
+        ≡ Some a) }
     ensures memory { OnErr result (IsTrue (takes_option name)) }
 {
     match name {
         Name::Uhp => Ok(session(words)),
-        Name::Replay => Ok(replay(words)),
+        Name::Replay => replay(alloc, words),
         Name::Count => count(alloc, words),
         Name::Grow => grow(alloc, words),
         Name::Certify => certify(alloc, words),
-        Name::Check => Ok(check(words)),
+        Name::Check => Ok(by_name(words, "check", Asked::Check)),
         Name::Solve => solve(alloc, words),
-        Name::Verify => Ok(verify(words)),
+        Name::Verify => Ok(by_name(words, "verify", Asked::Verify)),
         Name::Match => matched(alloc, words),
-        Name::Book => Ok(book(words)),
-        Name::Migrate => Ok(migrate(words)),
+        Name::Cup => cup(alloc, words),
+        Name::Book => Ok(by_name(words, "book", Asked::Book)),
+        Name::Migrate => Ok(by_name(words, "migrate", Asked::Migrate)),
     }
 }
 
-/// What the words ask for, or none where they ask for nothing that the program does. An `AllocError` where memory runs out before that
-/// is known, and only where the first word is that of a command that takes an option.
+/// What the words ask for, or none where they ask for nothing that the program does. An
+/// `AllocError` where memory runs out before that is known, and only where the first word is that
+/// of a command that takes an option.
 pub fn asked_of(alloc: Global, words: &[String]) -> Result<Option<Asked>, AllocError>
     ensures asked { IfOk result (λ o. IfSome o (λ a. Words words.now a)) }
     ensures range { IfOk result (λ o. IfSome o (λ a. IsInRange a)) }

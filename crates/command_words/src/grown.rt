@@ -16,7 +16,8 @@ pub(crate) struct Growth {
 /// The seed and the plies of two texts, if they are numbers in their ranges.
 fn growth_at(seed: &str, plies: &str) -> Option<Growth>
     ensures found { IfSome result (λ g. AreGrowth seed.now plies.now g.seed g.plies) }
-    ensures only { (s n : ℕ) → AreGrowth seed.now plies.now s n → result ≡ Some (record { seed = s; plies = n }) }
+    ensures only { (s n : ℕ) → AreGrowth seed.now plies.now s n → result
+        ≡ Some (record { seed = s; plies = n }) }
 {
     let seed = read_number(seed.as_bytes(), 0, u64::MAX)?;
     let plies = read_number(plies.as_bytes(), 1, 1000)?;
@@ -30,7 +31,8 @@ fn growth_at(seed: &str, plies: &str) -> Option<Growth>
 /// `AllocError` where memory runs out before that is known.
 pub(crate) fn growth_of(alloc: Global, words: &[String]) -> Result<Option<Growth>, AllocError>
     ensures found { IfOk result (λ o. IfSome o (λ g. AreGrowWords words.now g.seed g.plies)) }
-    ensures only { IfOk result (λ o. (s n : ℕ) → AreGrowWords words.now s n → o ≡ Some (record { seed = s; plies = n })) }
+    ensures only { IfOk result (λ o. (s n : ℕ) → AreGrowWords words.now s n → o
+        ≡ Some (record { seed = s; plies = n })) }
 {
     let Some(given) = options_of(alloc, words, "grow", &["seed", "plies"])? else {
         return Ok(None);

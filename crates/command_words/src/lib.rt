@@ -2,14 +2,17 @@
 #![tactic(auto)]
 
 mod asked;
+mod cups;
 mod grown;
 mod matched;
 mod name;
 mod numbered;
 mod program;
+mod replayed;
 mod setup;
 
 pub use asked::{Asked, asked_of};
+pub use cups::engines_of;
 pub use matched::{Programs, programs_of};
 pub use name::Name;
 

@@ -10,17 +10,27 @@ use option_words::{GivenOptions, options_of};
 use std::alloc::{AllocError, Global};
 
 /// The options of a match, in the order in which their values are asked for.
-const OPTIONS: [&str; 7] = ["white", "black", "type", "depth", "time", "margin", "plies"];
+const OPTIONS: [&str; 8] = [
+    "white",
+    "black",
+    "type",
+    "depth",
+    "time",
+    "margin",
+    "plies",
+    "repetition",
+];
 
 /// Whether a text is a program and its words.
-fn is_program(text: &str) -> bool
+pub(crate) fn is_program(text: &str) -> bool
     ensures { IsTrue result ↔ IsProgram text.now }
 {
     begins_words(text.as_bytes())
 }
 
-/// How the match is played that the words ask for: `match` and its options, of which the programs of white and of black are required.
-/// None where they ask for none; an `AllocError` where memory runs out before that is known.
+/// How the match is played that the words ask for: `match` and its options, of which the programs
+/// of white and of black are required. None where they ask for none; an `AllocError` where memory
+/// runs out before that is known.
 pub(crate) fn match_of(alloc: Global, words: &[String]) -> Result<Option<Setup>, AllocError>
     ensures found { IfOk result (λ o. IfSome o (λ s. AreMatchWords words.now s)) }
     ensures only { IfOk result (λ o. (s : AnySetup) → AreMatchWords words.now s → o ≡ Some s) }
@@ -46,6 +56,7 @@ pub(crate) fn match_of(alloc: Global, words: &[String]) -> Result<Option<Setup>,
         given.value(4),
         given.value(5),
         given.value(6),
+        given.value(7),
     ))
 }
 
@@ -66,13 +77,14 @@ fn programs_in(alloc: Global, white: &str, black: &str) -> Result<Programs, Allo
     Ok(Programs { white, black })
 }
 
-/// The programs of the match that the words ask for: for each side the words that its option gives, separated by single spaces, in
-/// order.
+/// The programs of the match that the words ask for: for each side the words that its option gives,
+/// separated by single spaces, in order.
 pub fn programs_of(alloc: Global, words: &[String]) -> Result<Programs, AllocError>
     requires { (setup : AnySetup) × AreMatchWords words.now setup }
     ensures white { IfOk result (λ p. 0 < length p.white.items) }
     ensures black { IfOk result (λ p. 0 < length p.black.items) }
-    ensures programs { IfOk result (λ p. AskForPrograms words.now (map string_bytes p.white.items) (map string_bytes p.black.items)) }
+    ensures programs { IfOk result (λ p. AskForPrograms words.now (map string_bytes p.white.items)
+        (map string_bytes p.black.items)) }
 {
     let Some(given) = options_of(alloc, words, "match", &OPTIONS)? else {
         unreachable!();

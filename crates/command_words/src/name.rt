@@ -14,6 +14,7 @@ pub enum Name {
     Solve,
     Verify,
     Match,
+    Cup,
     Book,
     Migrate,
 }
@@ -48,6 +49,9 @@ fn name_at(word: &str) -> Option<Name>
     }
     if word == "match" {
         return Some(Name::Match);
+    }
+    if word == "cup" {
+        return Some(Name::Cup);
     }
     if word == "book" {
         return Some(Name::Book);

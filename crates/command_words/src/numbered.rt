@@ -17,8 +17,10 @@ pub(crate) fn number_of(
     most: u64,
 ) -> Result<Option<u64>, AllocError>
     requires { 0 < length option.now }
-    ensures found { IfOk result (λ o. IfSome o (λ n. AreNumbered words.now command.now option.now least most n)) }
-    ensures only { IfOk result (λ o. (n : ℕ) → AreNumbered words.now command.now option.now least most n → o ≡ Some n) }
+    ensures found { IfOk result (λ o. IfSome o
+        (λ n. AreNumbered words.now command.now option.now least most n)) }
+    ensures only { IfOk result (λ o. (n : ℕ) → AreNumbered words.now command.now option.now least
+        most n → o ≡ Some n) }
 {
     let Some(value) = one_option(alloc, words, command, option)? else {
         return Ok(None);

@@ -1,5 +1,5 @@
 //! A program and its words, in one text.
-ghost use Rattle.std.specs.Prelude.{◌≡◌, map, string_bytes, IfOk};
+ghost use Rattle.std.specs.Prelude.{◌≡◌, ◌<◌, length, map, string_bytes, IfOk};
 ghost use Rattle.command_words.specs.Matches.{between_spaces};
 ghost use Rattle.command_words.specs.Programs.{begins_word};
 
@@ -22,14 +22,16 @@ pub(crate) fn begins_words(text: &[u8]) -> bool
 
 /// What stands between the spaces of a text, in order.
 fn pieces_of(alloc: Global, text: &str) -> Result<Vec<&str>, AllocError>
-    ensures { IfOk result (λ pieces. map (λ piece. piece.now) pieces.items ≡ between_spaces text.now) }
+    ensures { IfOk result (λ pieces. map (λ piece. piece.now) pieces.items
+        ≡ between_spaces text.now) }
 {
     text.split(' ').collect(alloc)
 }
 
 /// Texts of their own with these bytes, in order.
 fn strings_of(alloc: Global, pieces: &[&str]) -> Result<Vec<String>, AllocError>
-    ensures { IfOk result (λ words. map string_bytes words.items ≡ map (λ piece. piece.now) pieces.now) }
+    ensures { IfOk result (λ words. map string_bytes words.items
+        ≡ map (λ piece. piece.now) pieces.now) }
 {
     let mut words = Vec::new(alloc);
     for piece in pieces {
@@ -40,7 +42,8 @@ fn strings_of(alloc: Global, pieces: &[&str]) -> Result<Vec<String>, AllocError>
 
 /// The words of a text: what stands between its spaces, in order.
 pub(crate) fn words_of(alloc: Global, text: &str) -> Result<Vec<String>, AllocError>
-    ensures { IfOk result (λ words. map string_bytes words.items ≡ between_spaces text.now) }
+    ensures some { IfOk result (λ words. 0 < length words.items) }
+    ensures words { IfOk result (λ words. map string_bytes words.items ≡ between_spaces text.now) }
 {
     let pieces = pieces_of(alloc, text)?;
     strings_of(alloc, pieces.as_slice())

@@ -1,9 +1,9 @@
 //! How a match is played: the options that have a default.
-ghost use Rattle.std.specs.Prelude.{◌≡◌, ℕ, None, Some, IfSome, option_map};
+ghost use Rattle.std.specs.Prelude.{◌≡◌, ℕ, Bool, None, Some, IfSome, option_map};
 ghost use Rattle.hive_model.specs.declared.pieces.GameType.{GameType as AnyType};
 ghost use Rattle.match_core.specs.declared.answers.Level.{Level as AnyLevel};
 ghost use Rattle.match_core.specs.declared.answers.Setup.{Setup as AnySetup};
-ghost use Rattle.command_words.specs.Matches.{IsLevelOf, IsNumberOr, IsSetupOf, IsTypeOr};
+ghost use Rattle.command_words.specs.Matches.{IsLevelOf, IsNumberOr, IsRuleOf, IsSetupOf, IsTypeOr};
 
 use hive_model::GameType;
 use match_core::{Level, Setup};
@@ -11,13 +11,25 @@ use move_text::{read_number, read_time, read_type};
 
 /// The number from `least` to `most` that a text is, or the default where there is no text.
 fn number_or(text: Option<&str>, least: u64, most: u64, default: u64) -> Option<u64>
-    ensures found { IfSome result (λ n. IsNumberOr (option_map (λ t. t.now) text.entry) least most default n) }
-    ensures only { (n : ℕ) → IsNumberOr (option_map (λ t. t.now) text.entry) least most default n → result ≡ Some n }
+    ensures found { IfSome result (λ n. IsNumberOr (option_map (λ t. t.now) text.entry) least most
+        default n) }
+    ensures only { (n : ℕ) → IsNumberOr (option_map (λ t. t.now) text.entry) least most default n
+        → result ≡ Some n }
 {
     match text {
         Some(text) => read_number(text.as_bytes(), least, most),
         None => Some(default),
     }
+}
+
+/// Whether the rule of third repetition is switched on: by the text `1`, and neither by `0` nor
+/// where there is no text. None at any other text.
+pub(crate) fn rule_of(text: Option<&str>) -> Option<bool>
+    ensures found { IfSome result (λ r. IsRuleOf (option_map (λ t. t.now) text.entry) r) }
+    ensures only { (r : Bool) → IsRuleOf (option_map (λ t. t.now) text.entry) r → result ≡ Some r }
+{
+    let number = number_or(text, 0, 1, 0)?;
+    Some(number == 1)
 }
 
 /// The game type that a text is, or the base game where there is no text.
@@ -46,8 +58,10 @@ fn timed_level(time: &str, margin: u64) -> Option<Level>
 
 /// How the engines are asked, where at most one of depth and time is given.
 fn level_of(depth: Option<&str>, time: Option<&str>, margin: u64) -> Option<Level>
-    ensures found { IfSome result (λ l. IsLevelOf (option_map (λ t. t.now) depth.entry) (option_map (λ t. t.now) time.entry) margin l) }
-    ensures only { (l : AnyLevel) → IsLevelOf (option_map (λ t. t.now) depth.entry) (option_map (λ t. t.now) time.entry) margin l → result ≡ Some l }
+    ensures found { IfSome result (λ l. IsLevelOf (option_map (λ t. t.now) depth.entry)
+        (option_map (λ t. t.now) time.entry) margin l) }
+    ensures only { (l : AnyLevel) → IsLevelOf (option_map (λ t. t.now) depth.entry)
+        (option_map (λ t. t.now) time.entry) margin l → result ≡ Some l }
 {
     match (depth, time) {
         (depth, None) => {
@@ -68,6 +82,7 @@ pub(crate) fn setup_of(
     time: Option<&str>,
     margin: Option<&str>,
     plies: Option<&str>,
+    repetition: Option<&str>,
 ) -> Option<Setup>
     ensures found { IfSome result (λ s. IsSetupOf (record {
       game_type = option_map (λ t. t.now) game_type.entry;
@@ -75,6 +90,7 @@ pub(crate) fn setup_of(
       time = option_map (λ t. t.now) time.entry;
       margin = option_map (λ t. t.now) margin.entry;
       plies = option_map (λ t. t.now) plies.entry;
+      repetition = option_map (λ t. t.now) repetition.entry;
     }) s) }
     ensures only { (s : AnySetup) → IsSetupOf (record {
       game_type = option_map (λ t. t.now) game_type.entry;
@@ -82,15 +98,18 @@ pub(crate) fn setup_of(
       time = option_map (λ t. t.now) time.entry;
       margin = option_map (λ t. t.now) margin.entry;
       plies = option_map (λ t. t.now) plies.entry;
+      repetition = option_map (λ t. t.now) repetition.entry;
     }) s → result ≡ Some s }
 {
     let game_type = type_or(game_type)?;
     let margin = number_or(margin, 0, 3_600_000, 1000)?;
     let level = level_of(depth, time, margin)?;
     let limit = number_or(plies, 1, 1000, 400)?;
+    let repetition = rule_of(repetition)?;
     Some(Setup {
         game_type,
         level,
         limit: limit as u32,
+        repetition,
     })
 }

@@ -1,5 +1,5 @@
 //! Words and what they ask for.
-use crate::{Asked, asked_of, programs_of};
+use crate::{Asked, asked_of, engines_of, programs_of};
 use hive_model::GameType;
 use match_core::{Level, Setup};
 use std::alloc::Global;
@@ -7,12 +7,26 @@ use std::process::Abort;
 use std::test::Fail;
 
 /// Words, separated by single spaces, and what they ask for.
-const ROWS: [(&str, Option<Asked>); 34] = [
+const ROWS: [(&str, Option<Asked>); 42] = [
     ("", Some(Asked::Session)),
     ("uhp", Some(Asked::Session)),
     ("uhp x", None),
     ("x", None),
-    ("replay", Some(Asked::Replay)),
+    ("replay", Some(Asked::Replay { repetition: false })),
+    (
+        "replay --repetition 1",
+        Some(Asked::Replay { repetition: true }),
+    ),
+    (
+        "replay --repetition=0",
+        Some(Asked::Replay { repetition: false }),
+    ),
+    ("replay --repetition 2", None),
+    ("replay --repetition 01", None),
+    ("replay --repetition", None),
+    ("replay --repetition 1 --repetition 1", None),
+    ("replay --plies 1", None),
+    ("replay 1", None),
     ("replay x", None),
     ("count --plies 8", Some(Asked::Count(8))),
     ("count --plies=1", Some(Asked::Count(1))),
@@ -69,7 +83,8 @@ const ALL: GameType = GameType {
     pillbug: true,
 };
 
-/// Options of a match behind those of its two programs, separated by `|`, and how it is played.
+/// Options of a match behind those of its two programs, separated by `|`, and how it is played,
+/// where the rule of third repetition is off.
 const MATCHES: [(&str, GameType, Level, u32); 14] = [
     ("", BASE, Level::Depth { depth: 2 }, 400),
     ("|--plies|1", BASE, Level::Depth { depth: 2 }, 1),
@@ -129,8 +144,16 @@ const MATCHES: [(&str, GameType, Level, u32); 14] = [
     ),
 ];
 
+/// Further options of such a match, and whether the rule of third repetition is on.
+const RULES: [(&str, bool); 4] = [
+    ("", false),
+    ("|--repetition|0", false),
+    ("|--repetition|1", true),
+    ("|--plies=400|--repetition=1|--depth|2", true),
+];
+
 /// Words, separated by `|`, that ask for no match.
-const NO_MATCHES: [&str; 22] = [
+const NO_MATCHES: [&str; 25] = [
     "match",
     "match|--white|a",
     "match|--black|b",
@@ -153,6 +176,9 @@ const NO_MATCHES: [&str; 22] = [
     "match|--white|a|--white|a|--black|b",
     "match|--white|a|--black|b|--plies|1|--plies|1",
     "match|--white|a|--black|b|--seed|1",
+    "match|--white|a|--black|b|--repetition|2",
+    "match|--white|a|--black|b|--repetition",
+    "match|--white|a|--black|b|--repetition|1|--repetition|1",
 ];
 
 fn words_of(alloc: Global, text: &str, separator: char) -> Result<Vec<String>, Fail> {
@@ -184,6 +210,7 @@ fn matches_are_asked_for(rt: HostRuntime) -> Result<(), Fail> {
             game_type,
             level,
             limit,
+            repetition: false,
         };
         let asked = asked_of(alloc, words.as_slice())?;
         assert_eq!(rt; asked, Some(Asked::Match(setup)), "at {options}");
@@ -191,6 +218,24 @@ fn matches_are_asked_for(rt: HostRuntime) -> Result<(), Fail> {
     for text in NO_MATCHES {
         let words = words_of(alloc, text, '|')?;
         assert_eq!(rt; asked_of(alloc, words.as_slice())?, None, "at {text}");
+    }
+    Ok(())
+}
+
+#[test]
+fn matches_are_asked_for_by_a_rule(rt: HostRuntime) -> Result<(), Fail> {
+    let alloc = rt.alloc();
+    for (options, repetition) in RULES {
+        let text = format!(in alloc; "match|--white|a|--black|b{options}")?;
+        let words = words_of(alloc, text.as_str(), '|')?;
+        let setup = Setup {
+            game_type: BASE,
+            level: Level::Depth { depth: 2 },
+            limit: 400,
+            repetition,
+        };
+        let asked = asked_of(alloc, words.as_slice())?;
+        assert_eq!(rt; asked, Some(Asked::Match(setup)), "at {options}");
     }
     Ok(())
 }
@@ -234,5 +279,102 @@ fn programs_have_their_words(rt: HostRuntime) -> Result<(), Fail> {
     ] {
         expect_programs(&rt, alloc, text, white, black)?;
     }
+    Ok(())
+}
+
+/// Words of a cup, separated by `|`, and how each of its games is played.
+const CUPS: [(&str, GameType, u32, u32); 8] = [
+    ("cup|--engines|a;b", BASE, 2, 400),
+    ("cup|--engines=a x;b", BASE, 2, 400),
+    ("cup|--engines|a;b;c;d;e;f;g;h", BASE, 2, 400),
+    ("cup|--engines|a;a x;a x y;a=", BASE, 2, 400),
+    ("cup|--engines|a;b|--type|Base+MLP", ALL, 2, 400),
+    ("cup|--engines|a;b|--depth=1|--plies|1", BASE, 1, 1),
+    ("cup|--plies=1000|--depth|64|--engines=a;b", BASE, 64, 1000),
+    (
+        "cup|--type=Base+MLP|--plies|7|--engines|a;b;c|--depth=3",
+        ALL,
+        3,
+        7,
+    ),
+];
+
+/// Words, separated by `|`, that ask for no cup.
+const NO_CUPS: [&str; 28] = [
+    "cup",
+    "cup|--depth|2",
+    "cup|--engines|a",
+    "cup|--engines|a;a",
+    "cup|--engines|a;b;a",
+    "cup|--engines|a x;b;a x",
+    "cup|--engines|a;b;c;d;e;f;g;h;i",
+    "cup|--engines|a;",
+    "cup|--engines|;a",
+    "cup|--engines|a;;b",
+    "cup|--engines|;",
+    "cup|--engines|a; b",
+    "cup|--engines|a ;b",
+    "cup|--engines|a  x;b",
+    "cup|--engines|a;b ",
+    "cup|--engines|a;b|--time|00:00:05",
+    "cup|--engines|a;b|--margin|0",
+    "cup|--engines|a;b|--white|a",
+    "cup|--engines|a;b|--depth|0",
+    "cup|--engines|a;b|--depth|65",
+    "cup|--engines|a;b|--plies|0",
+    "cup|--engines|a;b|--plies|1001",
+    "cup|--engines|a;b|--type|MLP",
+    "cup|--engines|a;b|--repetition|0",
+    "cup|--engines|a;b|--repetition|1",
+    "cup|--engines|a;b|--engines|a;b",
+    "cup|--engines",
+    "match|--engines|a;b",
+];
+
+#[test]
+fn cups_are_asked_for(rt: HostRuntime) -> Result<(), Fail> {
+    let alloc = rt.alloc();
+    for (text, game_type, depth, limit) in CUPS {
+        let words = words_of(alloc, text, '|')?;
+        let setup = Setup {
+            game_type,
+            level: Level::Depth { depth },
+            limit,
+            repetition: false,
+        };
+        let asked = asked_of(alloc, words.as_slice())?;
+        assert_eq!(rt; asked, Some(Asked::Cup(setup)), "at {text}");
+    }
+    for text in NO_CUPS {
+        let words = words_of(alloc, text, '|')?;
+        assert_eq!(rt; asked_of(alloc, words.as_slice())?, None, "at {text}");
+    }
+    Ok(())
+}
+
+/// That a cup is asked for whose programs have these texts, separated by `;`.
+fn expect_engines<R: Abort>(rt: &R, alloc: Global, engines: &str) -> Result<(), Fail> {
+    let text = format!(in alloc; "cup|--depth=3|--engines|{engines}")?;
+    let words = words_of(alloc, text.as_str(), '|')?;
+    let Some(Asked::Cup(_)) = asked_of(alloc, words.as_slice())? else {
+        assert!(rt; false, "no cup of {engines}");
+        return Ok(());
+    };
+    let programs = engines_of(alloc, words.as_slice())?;
+    let texts = words_of(alloc, engines, ';')?;
+    assert_eq!(rt; programs.len(), texts.len(), "at {engines}");
+    for (program, text) in programs.iter().zip(texts.iter()) {
+        let words = words_of(alloc, text.as_str(), ' ')?;
+        assert_eq!(rt; program.text(), text.as_bytes(), "at {engines}");
+        assert_eq!(rt; program.words(), words.as_slice(), "at {engines}");
+    }
+    Ok(())
+}
+
+#[test]
+fn programs_of_a_cup_have_their_words(rt: HostRuntime) -> Result<(), Fail> {
+    let alloc = rt.alloc();
+    expect_engines(&rt, alloc, "a x;b")?;
+    expect_engines(&rt, alloc, "./one --y=1 -z;two;hive uhp")?;
     Ok(())
 }

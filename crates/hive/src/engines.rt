@@ -1,4 +1,5 @@
-//! A started program as a link: what it says is read, and what it is told is written. It does not tell its bytes.
+//! A started program as a link: what it says is read, and what it is told is written. It does not
+//! tell its bytes.
 ghost use Rattle.std.specs.Prelude.{◌≡◌, ◌<◌, ◌+◌, ◌↔◌, IsTrue, None, refl};
 
 use crate::streams::{InputStream, OutputStream};
@@ -8,10 +9,12 @@ use std::process::{Child, OpenProcess};
 /// The most bytes that are read of a program that is let go: 1 MiB.
 const MOST_PASSED: usize = 1_048_576;
 
-/// A program that was started, with both ends of its pipes. Its standard error is that of this program.
+/// A program that was started, with both ends of its pipes. Its standard error is that of this
+/// program.
 ///
-/// Where it is let go, its input is closed. What it still says is read and dropped, up to its end or to 1 MiB, so that a slow
-/// program can say its last line; then its output is closed, so that one that floods is stopped; then its end is waited for.
+/// Where it is let go, its input is closed. What it still says is read and dropped, up to its end
+/// or to 1 MiB, so that a slow program can say its last line; then its output is closed, so that
+/// one that floods is stopped; then its end is waited for.
 pub struct Engine<P: OpenProcess + Drop> {
     child: Child<P>,
     input: OutputStream<P::Stdin>,

@@ -1,6 +1,8 @@
-//! The program `hive`: a Hive engine that speaks the Universal Hive Protocol on standard input and output.
+//! The program `hive`: a Hive engine that speaks the Universal Hive Protocol on standard input and
+//! output.
 //!
-//! It ends with the number of the status of its run. Where the run could not be done, one line on standard error says why.
+//! It ends with the number of the status of its run. Where the run could not be done, one line on
+//! standard error says why.
 #![tactic(auto)]
 
 ghost use Rattle.std.specs.Prelude.{◌≡◌, ◌≢◌, ◌⊎◌, drop, map, option_map, string_bytes};
@@ -21,7 +23,7 @@ use machine_clock::MachineClock;
 use programs::Programs;
 use std::env::Env;
 use std::io::ErrorKind;
-use std::process::{ExitCode, Processes};
+use std::process::{ExitCode, OpenProcess, Processes};
 use std::thread::Threads;
 use std::{env, io, time};
 use streams::{InputStream, OutputStream};
@@ -47,7 +49,8 @@ fn without_name(mut words: Vec<String>) -> Vec<String>
     words
 }
 
-/// The words of the command line after the program's name, or the status of a run that cannot have them.
+/// The words of the command line after the program's name, or the status of a run that cannot have
+/// them.
 fn words<R: Env + AllocGlobal>(rt: &R) -> Result<Vec<String>, Status> {
     let all = env::args(rt).map_err(|error| status_of(error.kind()))?;
     let words = all.collect(rt.alloc()).map_err(|_| Status::Memory)?;
@@ -59,9 +62,16 @@ fn run_on_streams<R: Input + Print + AllocGlobal + Threads + Sync + time::Clock 
     rt: &R,
     words: &[String],
 ) -> Status
+where
+    R::Started: Send,
+    <R::Started as OpenProcess>::Stdin: Send,
+    <R::Started as OpenProcess>::Stdout: Send,
+    <R::Started as OpenProcess>::Stderr: Send,
     ensures usage { result ≡ Status.Usage → AreOfNoCommand words.now }
-    ensures refused { AreOfNoCommand words.now → (result ≡ Status.Usage) ⊎ (result ≡ Status.Memory) }
-    ensures exact { AreOfNoCommand words.now → ¬ TakeOption (map string_bytes words.now) → result ≡ Status.Usage }
+    ensures refused { AreOfNoCommand words.now → (result ≡ Status.Usage) ⊎
+        (result ≡ Status.Memory) }
+    ensures exact { AreOfNoCommand words.now → ¬ TakeOption (map string_bytes words.now) → result
+        ≡ Status.Usage }
 {
     let mut input = InputStream::new(rt.reader());
     let mut output = OutputStream::new(io::writer(rt));

@@ -5,9 +5,9 @@ use crate::engines::Engine;
 use io_edge::{Spawner, StartFault};
 use std::alloc::Global;
 use std::io;
-use std::process::{Command, Processes, Stdio};
+use std::process::{Command, OpenProcess, Processes, Stdio};
 
-/// What starts programs of the system. It does not tell what they say or are told.
+/// What starts programs of the system. It tells neither their words nor what they say or are told.
 #[derive(Drop)]
 pub struct Programs<'a, R: Processes> {
     rt: &'a R,
@@ -55,12 +55,20 @@ fn start_program<R: Processes>(
     }
 }
 
-impl<'a, R: Processes> Spawner for Programs<'a, R> {
+impl<'a, R: Processes> Spawner for Programs<'a, R>
+where
+    R::Started: Send,
+    <R::Started as OpenProcess>::Stdin: Send,
+    <R::Started as OpenProcess>::Stdout: Send,
+    <R::Started as OpenProcess>::Stderr: Send,
+{
     type Engine = Engine<R::Started>;
 
     ghost to_come = { λ _. None };
 
     ghost sent = { λ _. None };
+
+    ghost started = { λ _. None };
 
     ghost start_faults = { λ s. s.start_faults };
 

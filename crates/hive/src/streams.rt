@@ -48,8 +48,8 @@ impl<R: Read> Source for InputStream<R> {
     }
 }
 
-/// A writer as a sink, flushed after each write. Each write or flush that fails is counted, and so is a write that takes no
-/// byte.
+/// A writer as a sink, flushed after each write. Each write or flush that fails is counted, and so
+/// is a write that takes no byte.
 #[derive(Drop)]
 pub struct OutputStream<W> {
     writer: W,

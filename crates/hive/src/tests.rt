@@ -7,7 +7,8 @@ use std::io;
 use std::io::{Read, Write};
 use std::sync::atomic::{AtomicU64, Ordering};
 
-/// Answers each read and each write with this number of bytes, or fails; it counts how often it is flushed.
+/// Answers each read and each write with this number of bytes, or fails; it counts how often it is
+/// flushed.
 #[derive(Drop)]
 struct Told<'a> {
     answer: Option<usize>,

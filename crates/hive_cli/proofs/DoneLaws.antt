@@ -49,9 +49,9 @@ sessions_done = λ status before after run rb ra rc rn wb wa wc wn input told be
 -- Replays
 
 -- the replies to lines are their answers
-replay_replies : (b : Bool) (left : List ℕ) (ls : List Line) → replies replays b left ls ≡ map replay_answer ls
-replay_replies b left [] = refl
-replay_replies b left (line ∷ ls) = ap (λ ts. replay_answer line ∷ ts) (replay_replies (b || refuses line) left ls)
+replay_replies : (r b : Bool) (left : List ℕ) (ls : List Line) → replies (replays r) b left ls ≡ map (replay_answer r) ls
+replay_replies r b left [] = refl
+replay_replies r b left (line ∷ ls) = ap (λ ts. replay_answer r line ∷ ts) (replay_replies r (b || refuses r line) left ls)
 
 or_false : (b : Bool) → b ≡ (b || false)
 or_false true = refl
@@ -62,28 +62,28 @@ or_or true b c = refl
 or_or false b c = refl
 
 -- a line was refused before, or is among these
-replay_last : (b : Bool) (left : List ℕ) (ls : List Line) → last_of replays b left ls ≡ (b || list_any refuses ls)
-replay_last b left [] = or_false b
-replay_last b left (line ∷ ls) = replay_last (b || refuses line) left ls ∙ or_or b (refuses line) (list_any refuses ls)
+replay_last : (r b : Bool) (left : List ℕ) (ls : List Line) → last_of (replays r) b left ls ≡ (b || list_any (refuses r) ls)
+replay_last r b left [] = or_false b
+replay_last r b left (line ∷ ls) = replay_last r (b || refuses r line) left ls ∙ or_or b (refuses r line) (list_any (refuses r) ls)
 
 -- no line ends a replay
-replay_open : (b : Bool) (left : List ℕ) (ls : List Line) → ¬ HasExit replays b left ls
-replay_open b left [] = λ h. h
-replay_open b left (line ∷ ls) = replay_open (b || refuses line) left ls
+replay_open : (r b : Bool) (left : List ℕ) (ls : List Line) → ¬ HasExit (replays r) b left ls
+replay_open r b left [] = λ h. h
+replay_open r b left (line ∷ ls) = replay_open r (b || refuses r line) left ls
 
 -- no line asks for a search
-replay_asks : (b : Bool) (left : List ℕ) (ls : List Line) → searches replays b left ls ≡ []
-replay_asks b left [] = refl
-replay_asks b left (line ∷ ls) = replay_asks (b || refuses line) left ls
+replay_asks : (r b : Bool) (left : List ℕ) (ls : List Line) → searches (replays r) b left ls ≡ []
+replay_asks r b left [] = refl
+replay_asks r b left (line ∷ ls) = replay_asks r (b || refuses r line) left ls
 
-pub replay_of_lines : (left : List ℕ) (ls : List Line) → Replays left ls
-replay_of_lines left ls = record {
-  writes = ap joined (replay_replies false left ls);
-  refuses = replay_last false left ls;
-  goes_on = replay_open false left ls;
-  asks = replay_asks false left ls;
+pub replay_of_lines : (r : Bool) (left : List ℕ) (ls : List Line) → Replays r left ls
+replay_of_lines r left ls = record {
+  writes = ap joined (replay_replies r false left ls);
+  refuses = replay_last r false left ls;
+  goes_on = replay_open r false left ls;
+  asks = replay_asks r false left ls;
 }
 
 pub replays_done : ReplaysAreDone
-replays_done = λ status before after run rb ra rc rn wb wa wc wn input told below none.
-    ends_done replays status before after run.ends rb ra rc rn wb wa wc wn input told below (λ left. (replay_of_lines left (lines input)).refuses ∙ none)
+replays_done = λ r status before after run rb ra rc rn wb wa wc wn input told below none.
+    ends_done (replays r) status before after run.ends rb ra rc rn wb wa wc wn input told below (λ left. (replay_of_lines r left (lines input)).refuses ∙ none)

@@ -1,19 +1,29 @@
 -- How a run ends, by what is asked for.
-use Rattle.std.proofs.Common.{◌≡◌, ◌+◌, ◌∙◌, ℕ, List, length, ap, sym, refl, subst, Some}
-use Rattle.io_edge.specs.Outside.{ToldLists}
+use Rattle.std.proofs.Common.{◌≡◌, ◌+◌, ◌∙◌, ℕ, List, length, map, ap, sym, refl, subst, Some, inl, inr, String, Global}
+use Rattle.io_edge.specs.Outside.{ToldLists, ToldPrograms}
 use Rattle.hive_model.specs.declared.answers.Timed.{Timed}
 use Rattle.uhp_session.specs.Searches.{TakesNoTime, Times}
 use Rattle.hive_cli.specs.ServiceRun.{EndsAs}
 use Rattle.hive_cli.specs.Session.{session}
 use Rattle.hive_cli.specs.Replay.{replays}
 use Rattle.hive_cli.specs.Count.{CountRun}
-use Rattle.hive_cli.specs.Run.{IsNoMatch, RunOf, World, means_in}
-use Rattle.match_command.specs.Match.{MatchRun, Means, NoneIsOpen, scene}
+use Rattle.hive_cli.specs.Run.{IsAlone, RunOf, World, means_in, starter_in}
+use Rattle.command_words.specs.Cups.{AreCupWords, AskForEngines, engine_of, program_texts}
+use Rattle.command_words.specs.Matches.{AreMatchWords, AskForPrograms, IsLevelOf, between_spaces}
+use Rattle.cup_core.specs.Engines.{Engine}
+use Rattle.cup_games.specs.Played.{IsDepth}
+use Rattle.match_core.specs.declared.answers.Level.{Level}
+use Rattle.std.specs.Prelude.{Option, None}
+use Rattle.command_words.specs.Words.{Words}
+use Rattle.cup_command.proofs.Early.{early-none}
+use Rattle.cup_command.specs.Cup.{CupRun, scene as cup_scene}
+use Rattle.match_command.specs.Wires.{ClosesAll}
+use Rattle.match_command.specs.Match.{MatchRun, MatchStarts, Means, NoneIsOpen, scene}
 use Rattle.match_core.specs.declared.answers.Setup.{Setup}
 use Rattle.command_runs.specs.declared.status.Status.{Status}
 use Rattle.command_runs.specs.declared.status.Status.TheVariants.{Usage, SpawnFault, Memory}
 use Rattle.command_words.specs.declared.asked.Asked.{Asked}
-use Rattle.command_words.specs.declared.asked.Asked.TheVariants.{Session, Replay, Count, Grow, Certify, Check, Solve, Verify, Match, Book, Migrate}
+use Rattle.command_words.specs.declared.asked.Asked.TheVariants.{Session, Replay, Count, Grow, Certify, Check, Solve, Verify, Match, Cup, Book, Migrate}
 use Rattle.book_command.specs.Runs.{BookRun}
 use Rattle.certificate_commands.specs.Certifying.{CertifyRun}
 use Rattle.certificate_commands.specs.Verdicts.{CheckRun}
@@ -25,33 +35,36 @@ use Rattle.command_runs.proofs.OneGameLemmas.{none_read}
 use Rattle.hive_cli.proofs.Progress.{no_memory}
 
 -- a run that is asked for is no faulty command line
-pub never_usage : (asked : Asked) (status : Status) (before after : World) → RunOf asked status before after → status ≡ Usage → ⊥
-never_usage Session status before after run e = subst (λ s. EndsAs session s before.scene after.scene) e run.ends
-never_usage Replay status before after (run, time) e = subst (λ s. EndsAs replays s before.scene after.scene) e run.ends
-never_usage (Count plies) status before after (run, time) e = subst (λ s. CountRun plies s before.scene.sides after.scene.sides) e run
-never_usage (Grow seed plies) status before after (run, time) e = subst (λ s. GrowRun seed plies s before.scene.sides.written after.scene.sides.written) e run.made
-never_usage (Certify depth) status before after (run, time) e = subst (λ s. CertifyRun depth s before.scene.sides after.scene.sides) e run
-never_usage Check status before after (run, time) e = subst (λ s. CheckRun s before.scene.sides after.scene.sides) e run
-never_usage (Solve plies) status before after (run, time) e = subst (λ s. SolveRun plies s before.scene.sides after.scene.sides) e run
-never_usage Verify status before after (run, time) e = subst (λ s. VerifyRun s before.scene.sides after.scene.sides) e run
-never_usage Book status before after (run, time) e = subst (λ s. BookRun s before.scene.sides after.scene.sides) e run
-never_usage Migrate status before after (run, time) e = subst (λ s. MigrateRun s before.scene.sides after.scene.sides) e run
-never_usage (Match setup) status before after run e =
+pub never_usage : (words : List (String Global)) (asked : Asked) (status : Status) (before after : World) → RunOf words asked status before after → status ≡ Usage → ⊥
+never_usage words Session status before after run e = subst (λ s. EndsAs session s before.scene after.scene) e run.ends
+never_usage words (Replay r) status before after (run, time) e = subst (λ s. EndsAs (replays r) s before.scene after.scene) e run.ends
+never_usage words (Count plies) status before after (run, time) e = subst (λ s. CountRun plies s before.scene.sides after.scene.sides) e run
+never_usage words (Grow seed plies) status before after (run, time) e = subst (λ s. GrowRun seed plies s before.scene.sides.written after.scene.sides.written) e run.made
+never_usage words (Certify depth) status before after (run, time) e = subst (λ s. CertifyRun depth s before.scene.sides after.scene.sides) e run
+never_usage words Check status before after (run, time) e = subst (λ s. CheckRun s before.scene.sides after.scene.sides) e run
+never_usage words (Solve plies) status before after (run, time) e = subst (λ s. SolveRun plies s before.scene.sides after.scene.sides) e run
+never_usage words Verify status before after (run, time) e = subst (λ s. VerifyRun s before.scene.sides after.scene.sides) e run
+never_usage words Book status before after (run, time) e = subst (λ s. BookRun s before.scene.sides after.scene.sides) e run
+never_usage words Migrate status before after (run, time) e = subst (λ s. MigrateRun s before.scene.sides after.scene.sides) e run
+never_usage words (Match setup) status before after run e =
     subst (λ s. MatchRun setup s (scene before.scene.sides.written (means_in before)) (scene after.scene.sides.written (means_in after))) e run.played
+never_usage words (Cup setup) status before after run e =
+    subst (λ s. CupRun run.engines setup s (cup_scene before.scene.sides.written (starter_in before)) (cup_scene after.scene.sides.written (starter_in after))) e run.played
 
--- no run but a match starts a program
-pub never_spawns : (asked : Asked) (status : Status) (before after : World) → IsNoMatch asked → RunOf asked status before after → status ≡ SpawnFault → ⊥
-never_spawns Session status before after alone run e = subst (λ s. EndsAs session s before.scene after.scene) e run.ends
-never_spawns Replay status before after alone (run, time) e = subst (λ s. EndsAs replays s before.scene after.scene) e run.ends
-never_spawns (Count plies) status before after alone (run, time) e = subst (λ s. CountRun plies s before.scene.sides after.scene.sides) e run
-never_spawns (Grow seed plies) status before after alone (run, time) e = subst (λ s. GrowRun seed plies s before.scene.sides.written after.scene.sides.written) e run.made
-never_spawns (Certify depth) status before after alone (run, time) e = subst (λ s. CertifyRun depth s before.scene.sides after.scene.sides) e run
-never_spawns Check status before after alone (run, time) e = subst (λ s. CheckRun s before.scene.sides after.scene.sides) e run
-never_spawns (Solve plies) status before after alone (run, time) e = subst (λ s. SolveRun plies s before.scene.sides after.scene.sides) e run
-never_spawns Verify status before after alone (run, time) e = subst (λ s. VerifyRun s before.scene.sides after.scene.sides) e run
-never_spawns Book status before after alone (run, time) e = subst (λ s. BookRun s before.scene.sides after.scene.sides) e run
-never_spawns Migrate status before after alone (run, time) e = subst (λ s. MigrateRun s before.scene.sides after.scene.sides) e run
-never_spawns (Match setup) status before after never run e = never
+-- no run but a match and a cup starts a program
+pub never_spawns : (words : List (String Global)) (asked : Asked) (status : Status) (before after : World) → IsAlone asked → RunOf words asked status before after → status ≡ SpawnFault → ⊥
+never_spawns words Session status before after alone run e = subst (λ s. EndsAs session s before.scene after.scene) e run.ends
+never_spawns words (Replay r) status before after alone (run, time) e = subst (λ s. EndsAs (replays r) s before.scene after.scene) e run.ends
+never_spawns words (Count plies) status before after alone (run, time) e = subst (λ s. CountRun plies s before.scene.sides after.scene.sides) e run
+never_spawns words (Grow seed plies) status before after alone (run, time) e = subst (λ s. GrowRun seed plies s before.scene.sides.written after.scene.sides.written) e run.made
+never_spawns words (Certify depth) status before after alone (run, time) e = subst (λ s. CertifyRun depth s before.scene.sides after.scene.sides) e run
+never_spawns words Check status before after alone (run, time) e = subst (λ s. CheckRun s before.scene.sides after.scene.sides) e run
+never_spawns words (Solve plies) status before after alone (run, time) e = subst (λ s. SolveRun plies s before.scene.sides after.scene.sides) e run
+never_spawns words Verify status before after alone (run, time) e = subst (λ s. VerifyRun s before.scene.sides after.scene.sides) e run
+never_spawns words Book status before after alone (run, time) e = subst (λ s. BookRun s before.scene.sides after.scene.sides) e run
+never_spawns words Migrate status before after alone (run, time) e = subst (λ s. MigrateRun s before.scene.sides after.scene.sides) e run
+never_spawns words (Match setup) status before after never run e = never
+never_spawns words (Cup setup) status before after never run e = never
 
 no_time : (t : Times) → TakesNoTime t t
 no_time t = record { last = refl; readings = refl; timed = refl }
@@ -66,41 +79,110 @@ same_told t e f = some_list (sym e ∙ f)
 none_open : (m : Means) → NoneIsOpen m m
 none_open m coming later opened closed a b c d = ap (λ xs. length xs + length opened) (same_told m.to_come a b) ∙ ap (λ xs. length later + length xs) (same_told m.sent c d)
 
-starved_here : (asked : Asked) (w : World) → RunOf asked Memory w w
-starved_here Session w = no_memory session w.scene w.scene refl (no_time w.scene.times)
-starved_here Replay w = (no_memory replays w.scene w.scene refl (no_time w.scene.times), no_time w.scene.times)
-starved_here (Count plies) w = ((refl, λ input told. none_read input w.scene.sides.rest told), no_time w.scene.times)
-starved_here (Grow seed plies) w = (record { made = refl; unread = refl }, no_time w.scene.times)
-starved_here (Certify depth) w = ((refl, λ input told. none_read input w.scene.sides.rest told), no_time w.scene.times)
-starved_here Check w = (refl, no_time w.scene.times)
-starved_here (Solve plies) w = ((refl, λ input told. none_read input w.scene.sides.rest told), no_time w.scene.times)
-starved_here Verify w = (refl, no_time w.scene.times)
-starved_here Book w = ((refl, unread w.scene.sides.rest), no_time w.scene.times)
-starved_here Migrate w = (refl, no_time w.scene.times)
-starved_here (Match setup) w = record { played = refl; closed = none_open (means_in w); unread = refl; timed = refl }
+-- the words of a match ask for the programs that its options give
+pub asks_programs : (words : List (String Global)) (setup : Setup) → AreMatchWords words setup → (white : List (List ℕ)) × (black : List (List ℕ)) × AskForPrograms words white black
+asks_programs words setup h = (
+  between_spaces h.white,
+  between_spaces h.black,
+  record {
+    white_text = h.white;
+    black_text = h.black;
+    choices = h.choices;
+    give = h.give;
+    white_is = refl;
+    black_is = refl;
+  },
+)
+
+-- where memory was wanting before a program was started, none was
+pub starved_starts : (words : List (String Global)) (setup : Setup) (told : ToldPrograms) → AreMatchWords words setup → (white : List (List ℕ)) × (black : List (List ℕ)) × AskForPrograms words white black × MatchStarts Memory white black told told
+starved_starts words setup told h = let (white, black, asked) = asks_programs words setup h in (white, black, asked, inr (inl refl))
+
+-- the words of a cup ask for the engines that its option gives
+pub asks_engines : (words : List (String Global)) (setup : Setup) → AreCupWords words setup → (engines : List Engine) × AskForEngines words engines
+asks_engines words setup h = (
+  map engine_of (program_texts h.engines),
+  record {
+    text = h.engines;
+    game_type = h.game_type;
+    depth = h.depth;
+    plies = h.plies;
+    give = h.give;
+    engines_are = refl;
+  },
+)
+
+level_is_depth : (o : Option (List ℕ)) (margin : ℕ) (level : Level) → IsLevelOf o None margin level → IsDepth level
+level_is_depth None margin level (n, is, e) = subst IsDepth (sym e) tt
+level_is_depth (Some text) margin level (n, is, e) = subst IsDepth (sym e) tt
+
+-- a cup is played to a depth
+pub cup_depth : (words : List (String Global)) (setup : Setup) → AreCupWords words setup → IsDepth setup.level
+cup_depth words setup h = level_is_depth h.depth h.setup_is.margin setup.level h.setup_is.level
+
+-- a match that wanted memory before a program was started
+starved_match : (words : List (String Global)) (setup : Setup) (w : World) → AreMatchWords words setup → RunOf words (Match setup) Memory w w
+starved_match words setup w asked = record {
+  played = refl;
+  programs = starved_starts words setup w.engines.started asked;
+  closed = none_open (means_in w);
+  unread = refl;
+  timed = refl;
+}
+
+-- where nothing was started, no program of a cup is open
+pub all_closed : (to_come sent : ToldLists) → ClosesAll to_come to_come sent sent
+all_closed to_come sent coming later opened closed a b c d =
+    ap (λ xs. length xs + length opened) (same_told to_come a b) ∙ ap (λ xs. length later + length xs) (same_told sent c d)
+
+-- a cup that wanted memory before a program was started
+starved_cup : (words : List (String Global)) (setup : Setup) (w : World) → AreCupWords words setup → RunOf words (Cup setup) Memory w w
+starved_cup words setup w asked = let (engines, asks) = asks_engines words setup asked in record {
+  engines = engines;
+  asked = asks;
+  played = record { written = refl; starts = early-none engines (starter_in w) };
+  closed = all_closed w.engines.to_come w.engines.sent;
+  unread = refl;
+  untimed = no_time w.scene.times;
+}
+
+starved_here : (words : List (String Global)) (asked : Asked) (w : World) → Words words asked → RunOf words asked Memory w w
+starved_here words Session w h = no_memory session w.scene w.scene refl (no_time w.scene.times)
+starved_here words (Replay r) w h = (no_memory (replays r) w.scene w.scene refl (no_time w.scene.times), no_time w.scene.times)
+starved_here words (Count plies) w h = ((refl, λ input told. none_read input w.scene.sides.rest told), no_time w.scene.times)
+starved_here words (Grow seed plies) w h = (record { made = refl; unread = refl }, no_time w.scene.times)
+starved_here words (Certify depth) w h = ((refl, λ input told. none_read input w.scene.sides.rest told), no_time w.scene.times)
+starved_here words Check w h = (refl, no_time w.scene.times)
+starved_here words (Solve plies) w h = ((refl, λ input told. none_read input w.scene.sides.rest told), no_time w.scene.times)
+starved_here words Verify w h = (refl, no_time w.scene.times)
+starved_here words Book w h = ((refl, unread w.scene.sides.rest), no_time w.scene.times)
+starved_here words Migrate w h = (refl, no_time w.scene.times)
+starved_here words (Match setup) w h = starved_match words setup w h
+starved_here words (Cup setup) w h = starved_cup words setup w h
 
 -- memory was wanting before anything was done
-pub starved : (asked : Asked) (w : World) (timed : List Timed) → timed ≡ w.scene.times.timed
-    → RunOf asked Memory w (record { scene = record { sides = w.scene.sides; times = record { last = w.scene.times.last; readings = w.scene.times.readings; timed = timed } }; engines = w.engines })
-starved asked w timed same = subst (λ (t : List Timed). RunOf asked Memory w (record { scene = record { sides = w.scene.sides; times = record { last = w.scene.times.last; readings = w.scene.times.readings; timed = t } }; engines = w.engines })) (sym same) (starved_here asked w)
+pub starved : (words : List (String Global)) (asked : Asked) (w : World) (timed : List Timed) → Words words asked → timed ≡ w.scene.times.timed
+    → RunOf words asked Memory w (record { scene = record { sides = w.scene.sides; times = record { last = w.scene.times.last; readings = w.scene.times.readings; timed = timed } }; engines = w.engines })
+starved words asked w timed h same = subst (λ (t : List Timed). RunOf words asked Memory w (record { scene = record { sides = w.scene.sides; times = record { last = w.scene.times.last; readings = w.scene.times.readings; timed = t } }; engines = w.engines })) (sym same) (starved_here words asked w h)
 
 some_same : {a b : Asked} → Some a ≡ Some b → a ≡ b
 some_same e = cc
 
 -- what was done is what the words ask for
-pub run_of : (did asked : Asked) (status : Status) (before after : World) → RunOf did status before after → Some did ≡ Some asked → RunOf asked status before after
-run_of did asked status before after run e = subst (λ a. RunOf a status before after) (some_same e) run
+pub run_of : (words : List (String Global)) (did asked : Asked) (status : Status) (before after : World) → RunOf words did status before after → Some did ≡ Some asked → RunOf words asked status before after
+run_of words did asked status before after run e = subst (λ a. RunOf words a status before after) (some_same e) run
 
--- what is not a match
-pub no_match : (asked : Asked) → ((setup : Setup) → asked ≡ Match setup → ⊥) → IsNoMatch asked
-no_match Session never = tt
-no_match Replay never = tt
-no_match (Count plies) never = tt
-no_match (Grow seed plies) never = tt
-no_match (Certify depth) never = tt
-no_match Check never = tt
-no_match (Solve plies) never = tt
-no_match Verify never = tt
-no_match Book never = tt
-no_match Migrate never = tt
-no_match (Match setup) never = never setup refl
+-- what is neither a match nor a cup
+pub is_alone : (asked : Asked) → ((setup : Setup) → asked ≡ Match setup → ⊥) → ((setup : Setup) → asked ≡ Cup setup → ⊥) → IsAlone asked
+is_alone Session no_match no_cup = tt
+is_alone (Replay r) no_match no_cup = tt
+is_alone (Count plies) no_match no_cup = tt
+is_alone (Grow seed plies) no_match no_cup = tt
+is_alone (Certify depth) no_match no_cup = tt
+is_alone Check no_match no_cup = tt
+is_alone (Solve plies) no_match no_cup = tt
+is_alone Verify no_match no_cup = tt
+is_alone Book no_match no_cup = tt
+is_alone Migrate no_match no_cup = tt
+is_alone (Match setup) no_match no_cup = no_match setup refl
+is_alone (Cup setup) no_match no_cup = no_cup setup refl

@@ -1,5 +1,5 @@
 -- What follows from the clauses of a run.
-use Rattle.std.specs.Prelude.{◌≡◌, ◌⊎◌, ℕ, ◌<◌, false, List, [], length, Some, Ok}
+use Rattle.std.specs.Prelude.{◌≡◌, ◌⊎◌, ℕ, ◌<◌, Bool, false, List, [], length, Some, Ok}
 use Rattle.io_edge.specs.Outside.{HasCause, Rose}
 use Rattle.line_feed.specs.Feed.{input_limit}
 use Rattle.hive_model.specs.Lines.{Line, lines}
@@ -24,13 +24,13 @@ SessionsAreDone =
     → (input : List ℕ) → before.sides.rest ≡ Some input → length input < input_limit → (status ≡ Done) ⊎ (status ≡ Memory)
 
 -- Where neither count of faults rose, the replay of an input below the limit whose every line is a game is done, unless memory
--- is wanting.
+-- is wanting. The lines are games under the rule of the replay.
 abbrev pub ReplaysAreDone : Type 0
 ReplaysAreDone =
-    (status : Status) → (before : Scene) → (after : Scene) → ReplayRun status before after
+    (r : Bool) → (status : Status) → (before : Scene) → (after : Scene) → ReplayRun r status before after
     → (reads_before : ℕ) → (reads_after : ℕ) → HasCause (status ≡ ReadFault) reads_before reads_after → ¬ Rose reads_before reads_after
     → (writes_before : ℕ) → (writes_after : ℕ) → HasCause (status ≡ WriteFault) writes_before writes_after → ¬ Rose writes_before writes_after
-    → (input : List ℕ) → before.sides.rest ≡ Some input → length input < input_limit → some_refused (lines input) ≡ false
+    → (input : List ℕ) → before.sides.rest ≡ Some input → length input < input_limit → some_refused r (lines input) ≡ false
     → (status ≡ Done) ⊎ (status ≡ Memory)
 
 -- The same of a count whose input is exactly one line, a game that is not over.
@@ -44,11 +44,11 @@ CountsAreDone =
 
 -- what a replay makes of lines: it answers each of them, one after another, it has refused a line just where one of them is
 -- refused, none of them ends it, and none asks for a search, so that it has no use for depths
-pub record Replays (left : List ℕ) (ls : List Line) : Type 0 where
-  pub writes : output replays left ls ≡ answers ls
-  pub refuses : last_of replays false left ls ≡ some_refused ls
-  pub goes_on : ¬ HasExit replays false left ls
-  pub asks : searches replays false left ls ≡ []
+pub record Replays (r : Bool) (left : List ℕ) (ls : List Line) : Type 0 where
+  pub writes : output (replays r) left ls ≡ answers r ls
+  pub refuses : last_of (replays r) false left ls ≡ some_refused r ls
+  pub goes_on : ¬ HasExit (replays r) false left ls
+  pub asks : searches (replays r) false left ls ≡ []
 
 abbrev pub ReplaysAnswerEachLine : Type 0
-ReplaysAnswerEachLine = (left : List ℕ) → (ls : List Line) → Replays left ls
+ReplaysAnswerEachLine = (r : Bool) → (left : List ℕ) → (ls : List Line) → Replays r left ls

@@ -1,11 +1,12 @@
--- A replay as a service: each line, a game string, is answered by the written form of its game, or refused. And its run.
+-- A replay as a service: each line, a game string, is answered by the written form of its game, or refused, where the rule of
+-- third repetition is switched on or off. And its run.
 use Rattle.std.specs.Prelude.{ℕ, Bool, true, false, ◌||◌, List, [], ◌∷◌, ◌++◌, map, codes, Result, Ok, Err, Some, None}
 use Rattle.std.specs.List.{list_any}
 use Rattle.hive_model.specs.Lines.{Line, Text, TooLong as LongLine}
-use Rattle.hive_model.specs.Strings.{string}
+use Rattle.hive_model.specs.Strings.{string_under}
 use Rattle.game_text.specs.declared.faults.GameFault.{GameFault}
 use Rattle.game_text.specs.declared.parsed.Parsed.{Parsed}
-use Rattle.game_text.specs.Reading.{game_of}
+use Rattle.game_text.specs.Reading.{game_under}
 use Rattle.command_runs.specs.Reasons.{reason}
 use Rattle.hive_cli.specs.Service.{Service, joined}
 use Rattle.hive_cli.specs.ServiceRun.{Scene, ServiceRun}
@@ -18,46 +19,46 @@ abbrev pub refusal : List ℕ → List ℕ
 refusal why = codes "refused " ++ (why ++ 10 ∷ [])
 
 -- a game is answered by its written form, whether it is over or not, and any other text by the reason of its refusal
-abbrev pub game_answer : Result Parsed GameFault → List ℕ
-game_answer (Ok game) = string game.game_type game.moves ++ 10 ∷ []
-game_answer (Err fault) = refusal (reason fault)
+abbrev pub game_answer : Bool → Result Parsed GameFault → List ℕ
+game_answer r (Ok game) = string_under r game.game_type game.moves ++ 10 ∷ []
+game_answer r (Err fault) = refusal (reason fault)
 
 abbrev pub is_fault : Result Parsed GameFault → Bool
 is_fault (Ok game) = false
 is_fault (Err fault) = true
 
 -- the line that answers a line, its LF included
-unfoldable pub replay_answer : Line → List ℕ
-replay_answer (Text bytes) = game_answer (game_of bytes)
-replay_answer LongLine = refusal (codes "line too long")
+unfoldable pub replay_answer : Bool → Line → List ℕ
+replay_answer r (Text bytes) = game_answer r (game_under r bytes)
+replay_answer r LongLine = refusal (codes "line too long")
 
 -- the line is refused
-unfoldable pub refuses : Line → Bool
-refuses (Text bytes) = is_fault (game_of bytes)
-refuses LongLine = true
+unfoldable pub refuses : Bool → Line → Bool
+refuses r (Text bytes) = is_fault (game_under r bytes)
+refuses r LongLine = true
 
 -- the answers to lines, one after another
-abbrev pub answers : List Line → List ℕ
-answers ls = joined (map replay_answer ls)
+abbrev pub answers : Bool → List Line → List ℕ
+answers r ls = joined (map (replay_answer r) ls)
 
 -- some of the lines is refused
-abbrev pub some_refused : List Line → Bool
-some_refused ls = list_any refuses ls
+abbrev pub some_refused : Bool → List Line → Bool
+some_refused r ls = list_any (refuses r) ls
 
 -- The run
 
 -- Nothing before the first line, and the answer to each; it counts whether a line was refused. No line
 -- ends the run, and none asks for a search.
-abbrev pub replays : Service Bool
-replays = record {
+abbrev pub replays : Bool → Service Bool
+replays r = record {
   begins = false;
   preface = [];
   asks = λ refused line. None;
-  reply = λ refused line depth. Some (replay_answer line);
-  next = λ refused line. refused || refuses line;
+  reply = λ refused line depth. Some (replay_answer r line);
+  next = λ refused line. refused || refuses r line;
   has_refused = λ refused. refused;
 }
 
 -- what was written and read where a replay ends with this status
-abbrev pub ReplayRun : Status → Scene → Scene → Type 0
-ReplayRun status before after = ServiceRun replays status before after
+abbrev pub ReplayRun : Bool → Status → Scene → Scene → Type 0
+ReplayRun r status before after = ServiceRun (replays r) status before after

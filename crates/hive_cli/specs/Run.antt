@@ -9,13 +9,18 @@ use Rattle.certificate_commands.specs.Migrating.{MigrateRun}
 use Rattle.command_runs.specs.Input.{Sides}
 use Rattle.command_runs.specs.declared.status.Status.{Status}
 use Rattle.command_words.specs.Words.{Words}
+use Rattle.command_words.specs.Cups.{AskForEngines}
+use Rattle.command_words.specs.Matches.{AskForPrograms}
 use Rattle.command_words.specs.declared.asked.Asked.{Asked}
-use Rattle.command_words.specs.declared.asked.Asked.TheVariants.{Session, Replay, Count, Grow, Certify, Check, Solve, Verify, Match, Book, Migrate}
+use Rattle.command_words.specs.declared.asked.Asked.TheVariants.{Session, Replay, Count, Grow, Certify, Check, Solve, Verify, Match, Cup, Book, Migrate}
+use Rattle.cup_command.specs.Cup.{CupRun, Starter, starter, scene as cup_scene}
+use Rattle.cup_core.specs.Engines.{Engine}
 use Rattle.grow_command.specs.Runs.{GrowRun}
 use Rattle.uhp_session.specs.Searches.{TakesNoTime}
 use Rattle.win_commands.specs.Runs.{SolveRun, VerifyRun}
-use Rattle.io_edge.specs.Outside.{ToldLists}
-use Rattle.match_command.specs.Match.{MatchRun, Means, NoneIsOpen, means, scene}
+use Rattle.io_edge.specs.Outside.{ToldLists, ToldPrograms}
+use Rattle.match_command.specs.Match.{MatchRun, MatchStarts, Means, NoneIsOpen, means, scene}
+use Rattle.match_command.specs.Wires.{ClosesAll}
 use Rattle.match_core.specs.declared.answers.Setup.{Setup}
 use Rattle.hive_cli.specs.Session.{SessionRun}
 use Rattle.hive_cli.specs.Replay.{ReplayRun}
@@ -23,10 +28,11 @@ use Rattle.hive_cli.specs.Count.{CountRun}
 use Rattle.hive_cli.specs.ServiceRun.{Scene}
 
 -- what is told of the programs that a run starts: what those still to be started will say, what was written to those that were closed,
--- how often a start has failed, and how many closed programs had failed
+-- by which words programs were started, how often a start has failed, and how many closed programs had failed
 pub record Engines : Type 0 where
   pub to_come : ToldLists
   pub sent : ToldLists
+  pub started : ToldPrograms
   pub start_faults : ℕ
   pub engine_faults : ℕ
 
@@ -44,9 +50,16 @@ pub record MadeGame (seed plies : ℕ) (status : Status) (before after : Sides) 
 abbrev pub means_in : World → Means
 means_in w = means w.scene.times.last w.scene.times.readings w.engines.to_come w.engines.sent w.engines.start_faults w.engines.engine_faults
 
+-- the programs of the match that the words ask for were started, white's and then black's, each by its words
+abbrev pub StartsPrograms : List (String Global) → Status → World → World → Type 0
+StartsPrograms words status before after =
+    (white : List (List ℕ)) × (black : List (List ℕ)) × AskForPrograms words white black
+    × MatchStarts status white black before.engines.started after.engines.started
+
 -- A match was played, told and ended with this status. The input was left alone, and no search was answered.
-pub record PlayedMatch (setup : Setup) (status : Status) (before after : World) : Type 0 where
+pub record PlayedMatch (words : List (String Global)) (setup : Setup) (status : Status) (before after : World) : Type 0 where
   pub played : MatchRun setup status (scene before.scene.sides.written (means_in before)) (scene after.scene.sides.written (means_in after))
+  pub programs : StartsPrograms words status before after
   pub closed : NoneIsOpen (means_in before) (means_in after)
   pub unread : after.scene.sides.rest ≡ before.scene.sides.rest
   pub timed : after.scene.times.timed ≡ before.scene.times.timed
@@ -55,24 +68,38 @@ pub record PlayedMatch (setup : Setup) (status : Status) (before after : World) 
 abbrev pub Untimed : World → World → Type 0
 Untimed before after = TakesNoTime before.scene.times after.scene.times
 
--- what a run that is asked for this does where it ends with this status
-abbrev pub RunOf : Asked → Status → World → World → Type 0
-RunOf Session status before after = SessionRun status before.scene after.scene
-RunOf Replay status before after = ReplayRun status before.scene after.scene × Untimed before after
-RunOf (Count plies) status before after = CountRun plies status before.scene.sides after.scene.sides × Untimed before after
-RunOf (Grow seed plies) status before after = MadeGame seed plies status before.scene.sides after.scene.sides × Untimed before after
-RunOf (Certify depth) status before after = CertifyRun depth status before.scene.sides after.scene.sides × Untimed before after
-RunOf Check status before after = CheckRun status before.scene.sides after.scene.sides × Untimed before after
-RunOf (Solve plies) status before after = SolveRun plies status before.scene.sides after.scene.sides × Untimed before after
-RunOf Verify status before after = VerifyRun status before.scene.sides after.scene.sides × Untimed before after
-RunOf (Match setup) status before after = PlayedMatch setup status before after
-RunOf Book status before after = BookRun status before.scene.sides after.scene.sides × Untimed before after
-RunOf Migrate status before after = MigrateRun status before.scene.sides after.scene.sides × Untimed before after
+-- what starts the programs of a cup
+abbrev pub starter_in : World → Starter
+starter_in w = starter w.engines.to_come w.engines.sent w.engines.started w.engines.start_faults w.engines.engine_faults
+
+-- A cup of the engines that the words ask for was played, told and ended with this status. The input was left alone.
+pub record PlayedCup (words : List (String Global)) (setup : Setup) (status : Status) (before after : World) : Type 0 where
+  pub engines : List Engine
+  pub asked : AskForEngines words engines
+  pub played : CupRun engines setup status (cup_scene before.scene.sides.written (starter_in before)) (cup_scene after.scene.sides.written (starter_in after))
+  pub closed : ClosesAll before.engines.to_come after.engines.to_come before.engines.sent after.engines.sent
+  pub unread : after.scene.sides.rest ≡ before.scene.sides.rest
+  pub untimed : Untimed before after
+
+-- what a run whose words ask for this does where it ends with this status
+abbrev pub RunOf : List (String Global) → Asked → Status → World → World → Type 0
+RunOf words Session status before after = SessionRun status before.scene after.scene
+RunOf words (Replay repetition) status before after = ReplayRun repetition status before.scene after.scene × Untimed before after
+RunOf words (Count plies) status before after = CountRun plies status before.scene.sides after.scene.sides × Untimed before after
+RunOf words (Grow seed plies) status before after = MadeGame seed plies status before.scene.sides after.scene.sides × Untimed before after
+RunOf words (Certify depth) status before after = CertifyRun depth status before.scene.sides after.scene.sides × Untimed before after
+RunOf words Check status before after = CheckRun status before.scene.sides after.scene.sides × Untimed before after
+RunOf words (Solve plies) status before after = SolveRun plies status before.scene.sides after.scene.sides × Untimed before after
+RunOf words Verify status before after = VerifyRun status before.scene.sides after.scene.sides × Untimed before after
+RunOf words (Match setup) status before after = PlayedMatch words setup status before after
+RunOf words (Cup setup) status before after = PlayedCup words setup status before after
+RunOf words Book status before after = BookRun status before.scene.sides after.scene.sides × Untimed before after
+RunOf words Migrate status before after = MigrateRun status before.scene.sides after.scene.sides × Untimed before after
 
 -- a run that is asked for this may read the clock: that of a session, for its searches, and a match
 abbrev pub UsesClock : Asked → Type 0
 UsesClock Session = Unit {0}
-UsesClock Replay = ⊥
+UsesClock (Replay repetition) = ⊥
 UsesClock (Count plies) = ⊥
 UsesClock (Grow seed plies) = ⊥
 UsesClock (Certify depth) = ⊥
@@ -80,13 +107,14 @@ UsesClock Check = ⊥
 UsesClock (Solve plies) = ⊥
 UsesClock Verify = ⊥
 UsesClock (Match setup) = Unit {0}
+UsesClock (Cup setup) = ⊥
 UsesClock Book = ⊥
 UsesClock Migrate = ⊥
 
--- a run that is asked for this may start programs: a match does
+-- a run that is asked for this may start programs: a match does, and a cup
 abbrev pub UsesSpawner : Asked → Type 0
 UsesSpawner Session = ⊥
-UsesSpawner Replay = ⊥
+UsesSpawner (Replay repetition) = ⊥
 UsesSpawner (Count plies) = ⊥
 UsesSpawner (Grow seed plies) = ⊥
 UsesSpawner (Certify depth) = ⊥
@@ -94,13 +122,15 @@ UsesSpawner Check = ⊥
 UsesSpawner (Solve plies) = ⊥
 UsesSpawner Verify = ⊥
 UsesSpawner (Match setup) = Unit {0}
+UsesSpawner (Cup setup) = Unit {0}
 UsesSpawner Book = ⊥
 UsesSpawner Migrate = ⊥
 
--- no match is asked for
-abbrev pub IsNoMatch : Asked → Type 0
-IsNoMatch (Match setup) = ⊥
-IsNoMatch _ = Unit {0}
+-- neither a match nor a cup is asked for
+abbrev pub IsAlone : Asked → Type 0
+IsAlone (Match setup) = ⊥
+IsAlone (Cup setup) = ⊥
+IsAlone _ = Unit {0}
 
 -- whatever the words ask for, this is not so
 abbrev pub Never : List (String Global) → (Asked → Type 0) → Type 0

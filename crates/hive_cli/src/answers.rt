@@ -1,14 +1,14 @@
 //! The line that a replay writes for a line.
 ghost use Rattle.std.specs.Prelude.{◌≡◌, ◌≢◌, ◌≤◌, [], ◌∷◌, ◌++◌, length, decimal, true, false, IfOk, OnOk};
 ghost use Rattle.hive_model.specs.Games.{IsGame};
-ghost use Rattle.hive_model.specs.Strings.{string};
-ghost use Rattle.game_text.specs.Reading.{game_of};
+ghost use Rattle.hive_model.specs.Strings.{string_under};
+ghost use Rattle.game_text.specs.Reading.{game_under};
 ghost use Rattle.uhp_session.specs.Answers.{line_in, IsShort};
 ghost use Rattle.command_runs.specs.Reasons.{reason};
 ghost use Rattle.hive_cli.specs.Replay.{game_answer, is_fault, refusal, refuses, replay_answer};
 
 use command_runs::{line_for, reason_of};
-use game_text::{GameFault, played, read_game, write_game};
+use game_text::{GameFault, played, read_game_under, write_game_under};
 use hive_model::{Game, GameType, Move, ReplyText};
 use std::alloc::{AllocError, Global};
 use uhp_session::LineIn;
@@ -27,7 +27,8 @@ fn refuse_for(alloc: Global, why: &[u8]) -> Result<ReplyText, AllocError>
     line_for(alloc, b"refused ", why)
 }
 
-/// The line that refuses a text that is no game. Want of memory is no fault of the text, and is passed on.
+/// The line that refuses a text that is no game. Want of memory is no fault of the text, and is
+/// passed on.
 fn refuse(alloc: Global, fault: GameFault) -> Result<ReplyText, AllocError>
     ensures refusal { IfOk result (λ t. t ≡ refusal (reason fault)) }
     ensures memory { OnOk result (fault ≢ GameFault.Memory) }
@@ -39,29 +40,34 @@ fn refuse(alloc: Global, fault: GameFault) -> Result<ReplyText, AllocError>
 /// The written form of the game of this type and these moves, and an LF.
 fn written<G: Game + Drop>(
     alloc: Global,
+    repetition: bool,
     game_type: GameType,
     moves: &[Move],
 ) -> Result<ReplyText, AllocError>
     requires game { IsGame game_type moves.now }
     requires few { length moves.now ≤ 5064 }
-    ensures { IfOk result (λ t. t ≡ string game_type moves.now ++ 10 ∷ []) }
+    ensures { IfOk result (λ t. t ≡ string_under repetition game_type moves.now ++ 10 ∷ []) }
 {
     let game = played::<G>(alloc, game_type, moves, 0)?;
     let mut text = ReplyText::new(alloc);
-    write_game(alloc, &game, &mut text)?;
+    write_game_under(alloc, &game, repetition, &mut text)?;
     text.push(b'\n')?;
     Ok(text)
 }
 
 /// The answer to a text: the written form of the game that it is, or the reason why it is none.
-fn answer_text<G: Game + Drop>(alloc: Global, line: &[u8]) -> Result<Answer, AllocError>
+fn answer_text<G: Game + Drop>(
+    alloc: Global,
+    repetition: bool,
+    line: &[u8],
+) -> Result<Answer, AllocError>
     requires { length line.now ≤ 65536 }
-    ensures text { IfOk result (λ a. a.text ≡ game_answer (game_of line.now)) }
-    ensures refused { IfOk result (λ a. a.refused ≡ is_fault (game_of line.now)) }
+    ensures text { IfOk result (λ a. a.text ≡ game_answer repetition (game_under repetition line.now)) }
+    ensures refused { IfOk result (λ a. a.refused ≡ is_fault (game_under repetition line.now)) }
 {
-    match read_game::<G>(alloc, line) {
+    match read_game_under::<G>(alloc, line, repetition) {
         Ok(game) => {
-            let text = written::<G>(alloc, game.game_type, game.moves.items())?;
+            let text = written::<G>(alloc, repetition, game.game_type, game.moves.items())?;
             Ok(Answer {
                 text,
                 refused: false,
@@ -77,18 +83,20 @@ fn answer_text<G: Game + Drop>(alloc: Global, line: &[u8]) -> Result<Answer, All
     }
 }
 
-/// The answer to a line. A line that is too long is refused.
+/// The answer to a line, where the rule of third repetition is switched on or off. A line that is
+/// too long is refused.
 #[tactic(auto, unfolding(crate::specs::Replay::replay_answer, crate::specs::Replay::refuses))]
 pub(crate) fn answer_line<G: Game + Drop>(
     alloc: Global,
+    repetition: bool,
     line: LineIn<'_>,
 ) -> Result<Answer, AllocError>
     requires { IsShort (line_in line) }
-    ensures text { IfOk result (λ a. a.text ≡ replay_answer (line_in line.entry)) }
-    ensures refused { IfOk result (λ a. a.refused ≡ refuses (line_in line.entry)) }
+    ensures text { IfOk result (λ a. a.text ≡ replay_answer repetition (line_in line.entry)) }
+    ensures refused { IfOk result (λ a. a.refused ≡ refuses repetition (line_in line.entry)) }
 {
     match line {
-        LineIn::Text(bytes) => answer_text::<G>(alloc, bytes),
+        LineIn::Text(bytes) => answer_text::<G>(alloc, repetition, bytes),
         LineIn::TooLong => {
             let text = refuse_for(alloc, b"line too long")?;
             Ok(Answer {

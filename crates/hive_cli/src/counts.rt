@@ -28,7 +28,8 @@ fn count_line(plies: u32, lists: u128) -> ArrayString<96>
     line
 }
 
-/// Writes for each number of plies from 1 on its line as soon as it is known. The answer is whether all were written.
+/// Writes for each number of plies from 1 on its line as soon as it is known. The answer is whether
+/// all were written.
 fn write_counts<K: Sink, G: Game>(
     game: &mut G,
     plies: u32,
@@ -39,10 +40,12 @@ fn write_counts<K: Sink, G: Game>(
     requires few { plies ≤ 8 }
     requires spare { plies ≤ (G.course game.old).spare }
     requires room { plies ≤ stack.old.free }
-    ensures all { OnTrue result (K.written output.new ≡ behind (K.written output.old) (count_text (position (G.course game.old)) plies)) }
+    ensures all { OnTrue result (K.written output.new
+        ≡ behind (K.written output.old) (count_text (position (G.course game.old)) plies)) }
     ensures part { OnFalse result ((n : ℕ) × (n < length (count_text (position (G.course game.old)) plies))
         × (K.written output.new ≡ behind (K.written output.old) (take n (count_text (position (G.course game.old)) plies)))) }
-    ensures cause { HasCause (result ≡ false) (K.write_faults output.old) (K.write_faults output.new) }
+    ensures cause { HasCause (result ≡ false) (K.write_faults output.old)
+        (K.write_faults output.new) }
 {
     for n in 1..=plies {
         let line = count_line(n, count_lines(game, n, stack));
@@ -63,8 +66,10 @@ fn tell_counts<K: Sink, G: Game + Drop>(
     requires some { 1 ≤ plies }
     requires few { plies ≤ 8 }
     requires spare { plies ≤ (G.course game).spare }
-    ensures told { WritesAnswer (count_text (position (G.course game)) plies) result (K.written output.old) (K.written output.new) }
-    ensures cause { HasCause (result ≡ Status.WriteFault) (K.write_faults output.old) (K.write_faults output.new) }
+    ensures told { WritesAnswer (count_text (position (G.course game)) plies) result
+        (K.written output.old) (K.written output.new) }
+    ensures cause { HasCause (result ≡ Status.WriteFault) (K.write_faults output.old)
+        (K.write_faults output.new) }
 {
     let Ok(mut stack) = MoveStack::new(alloc, plies) else {
         return Status::Memory;
@@ -76,8 +81,8 @@ fn tell_counts<K: Sink, G: Game + Drop>(
     }
 }
 
-/// Reads the one game of the input, and writes for each number of plies from 1 on how many lists of so many legal moves it can go
-/// on with; or the line that says why the input is bad.
+/// Reads the one game of the input, and writes for each number of plies from 1 on how many lists of
+/// so many legal moves it can go on with; or the line that says why the input is bad.
 pub(crate) fn count<S: Source, K: Sink, G: Game + Drop>(
     alloc: Global,
     plies: u32,
@@ -89,8 +94,10 @@ pub(crate) fn count<S: Source, K: Sink, G: Game + Drop>(
     ensures count { CountRun plies result
         (record { rest = S.rest input.old; written = K.written output.old })
         (record { rest = S.rest input.new; written = K.written output.new }) }
-    ensures reads { HasCause (result ≡ Status.ReadFault) (S.read_faults input.old) (S.read_faults input.new) }
-    ensures writes { HasCause (result ≡ Status.WriteFault) (K.write_faults output.old) (K.write_faults output.new) }
+    ensures reads { HasCause (result ≡ Status.ReadFault) (S.read_faults input.old)
+        (S.read_faults input.new) }
+    ensures writes { HasCause (result ≡ Status.WriteFault) (K.write_faults output.old)
+        (K.write_faults output.new) }
 {
     match read_one_game::<S, G>(alloc, input, plies) {
         Ok(game) => tell_counts(alloc, game, plies, output),

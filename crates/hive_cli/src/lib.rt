@@ -1,4 +1,5 @@
-//! The program over any source, sink, clock and starter of programs: what the words of its command line ask for.
+//! The program over any source, sink, clock and starter of programs: what the words of its command
+//! line ask for.
 #![tactic(auto)]
 
 mod answers;

@@ -1,24 +1,62 @@
 //! A replay as a service: each line is answered by the written form of its game, or refused.
-ghost use Rattle.std.specs.Prelude.{◌≡◌, false};
-ghost use Rattle.hive_cli.specs.Replay.{replays};
+ghost use Rattle.std.specs.Prelude.{◌≡◌, Bool, true, false};
+ghost use Rattle.io_edge.specs.Outside.{HasCause};
+ghost use Rattle.hive_cli.specs.Replay.{ReplayRun, replays};
 
 use crate::answers::answer_line;
-use crate::service::LineService;
+use crate::service::{LineService, serve};
+use command_runs::Status;
 use hive_model::{Game, TimedList};
-use io_edge::Clock;
+use io_edge::{Clock, Sink, Source};
 use std::alloc::{AllocError, Global};
 use std::marker::{Model, PhantomData};
 use std::thread::Threads;
 use uhp_session::{LineIn, Reply};
 
-/// A replay, seen as whether a line was refused, over games of this kind.
-#[derive(Drop)]
-pub(crate) struct Replay<G: Game> {
-    refused: bool,
-    games: PhantomData<G>,
+/// A type that tells whether the rule of third repetition is switched on.
+trait Rule {
+    /// Whether it is switched on.
+    ghost is_on: { Bool };
+
+    /// The answer, for code.
+    fn is_on() -> bool
+        ensures { result ≡ is_on };
 }
 
-impl<G: Game> Model for Replay<G> {
+/// Third repetition draws a game.
+#[derive(Drop)]
+struct SwitchedOn;
+
+/// Third repetition draws no game.
+#[derive(Drop)]
+struct SwitchedOff;
+
+impl Rule for SwitchedOn {
+    ghost is_on = { true };
+
+    fn is_on() -> bool {
+        true
+    }
+}
+
+impl Rule for SwitchedOff {
+    ghost is_on = { false };
+
+    fn is_on() -> bool {
+        false
+    }
+}
+
+/// A replay, seen as whether a line was refused, over games of this kind and by this rule of third
+/// repetition.
+#[derive(Drop)]
+struct Replay<G: Game, L: Rule> {
+    refused: bool,
+    games: PhantomData<G>,
+    rule: PhantomData<L>,
+}
+
+impl<G: Game, L: Rule> Model for Replay<G, L> {
     ghost use Rattle.std.specs.Prelude.{Bool};
 
     ghost Value = { Bool };
@@ -26,20 +64,21 @@ impl<G: Game> Model for Replay<G> {
     ghost view = { λ r. r.refused };
 }
 
-impl<G: Game> Replay<G> {
+impl<G: Game, L: Rule> Replay<G, L> {
     /// No line was refused yet.
-    pub(crate) fn new() -> Self
+    fn new() -> Self
         ensures { result ≡ false }
     {
         Replay {
             refused: false,
             games: PhantomData,
+            rule: PhantomData,
         }
     }
 }
 
-impl<G: Game + Drop> LineService for Replay<G> {
-    ghost service = { replays };
+impl<G: Game + Drop, L: Rule + Drop> LineService for Replay<G, L> {
+    ghost service = { replays L.is_on };
 
     ghost takes_time = { false };
 
@@ -55,12 +94,55 @@ impl<G: Game + Drop> LineService for Replay<G> {
         clock: &mut C,
         timed: &mut TimedList,
     ) -> Result<Reply, AllocError> {
-        let answer = answer_line::<G>(alloc, line)?;
+        let answer = answer_line::<G>(alloc, L::is_on(), line)?;
         self.refused = self.refused || answer.refused;
         Ok(Reply::Text(answer.text))
     }
 
     fn has_refused(&self) -> bool {
         self.refused
+    }
+}
+
+/// Runs a replay over games of this kind, by the rule of third repetition or without it.
+pub(crate) fn serve_replay<R: Threads + Sync, S: Source, K: Sink, C: Clock, G: Game + Drop>(
+    rt: &R,
+    alloc: Global,
+    repetition: bool,
+    input: &mut S,
+    output: &mut K,
+    clock: &mut C,
+    timed: &mut TimedList,
+) -> Status
+    ensures run { ReplayRun repetition result
+        (record {
+          sides = record { rest = S.rest input.old; written = K.written output.old };
+          times = record {
+            last = C.last clock.old;
+            readings = C.readings clock.old;
+            timed = timed.old;
+          };
+        })
+        (record {
+          sides = record { rest = S.rest input.new; written = K.written output.new };
+          times = record {
+            last = C.last clock.new;
+            readings = C.readings clock.new;
+            timed = timed.new;
+          };
+        }) }
+    ensures reads { HasCause (result ≡ Status.ReadFault) (S.read_faults input.old)
+        (S.read_faults input.new) }
+    ensures writes { HasCause (result ≡ Status.WriteFault) (K.write_faults output.old)
+        (K.write_faults output.new) }
+    ensures clock { clock.new ≡ clock.old }
+    ensures timed { timed.new ≡ timed.old }
+{
+    if repetition {
+        let mut service: Replay<G, SwitchedOn> = Replay::new();
+        serve(rt, alloc, &mut service, input, output, clock, timed)
+    } else {
+        let mut service: Replay<G, SwitchedOff> = Replay::new();
+        serve(rt, alloc, &mut service, input, output, clock, timed)
     }
 }

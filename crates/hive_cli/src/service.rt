@@ -1,4 +1,5 @@
-//! A service over a source and a sink: the reply to each line is written before the next line is read.
+//! A service over a source and a sink: the reply to each line is written before the next line is
+//! read.
 ghost use Rattle.std.specs.Prelude.{◌≡◌, ◌≤◌, Bool, false, Some, IfOk, OnOk, OnErr};
 ghost use Rattle.std.specs.Thread.{IsSync};
 ghost use Rattle.io_edge.specs.Outside.{HasCause};
@@ -29,8 +30,9 @@ pub(crate) trait LineService {
 
     /// Answers a line. `Exit` ends the run.
     ///
-    /// Where the line asks for a search for a time, one entry that tells of it is appended, and the reply is that at the entry's
-    /// depth. Where it asks for none, the clock is not read. After want of memory no entry is appended.
+    /// Where the line asks for a search for a time, one entry that tells of it is appended, and the
+    /// reply is that at the entry's depth. Where it asks for none, the clock is not read. After
+    /// want of memory no entry is appended.
     fn answer<R: Threads + Sync, C: Clock>(
         &mut self,
         rt: &R,
@@ -105,7 +107,8 @@ fn answer<R: Threads + Sync, K: Sink, C: Clock, V: LineService>(
     ensures answers { Answers V.service result (line_in line.entry) service.old service.new (K.written output.old) (K.written output.new)
         (record { last = C.last clock.old; readings = C.readings clock.old; timed = timed.old })
         (record { last = C.last clock.new; readings = C.readings clock.new; timed = timed.new }) }
-    ensures cause { HasCause (result ≡ Some Stop.WriteFailed) (K.write_faults output.old) (K.write_faults output.new) }
+    ensures cause { HasCause (result ≡ Some Stop.WriteFailed) (K.write_faults output.old)
+        (K.write_faults output.new) }
     ensures clock { V.takes_time ≡ false → clock.new ≡ clock.old }
     ensures timed { V.takes_time ≡ false → timed.new ≡ timed.old }
 {
@@ -150,8 +153,10 @@ fn serve_line<R: Threads + Sync, S: Source, K: Sink, C: Clock, V: LineService>(
             times = record { last = C.last clock.new; readings = C.readings clock.new; timed = timed.new };
           };
         }) }
-    ensures reads { HasCause (result ≡ Some Stop.ReadFailed) (S.read_faults input.old) (S.read_faults input.new) }
-    ensures writes { HasCause (result ≡ Some Stop.WriteFailed) (K.write_faults output.old) (K.write_faults output.new) }
+    ensures reads { HasCause (result ≡ Some Stop.ReadFailed) (S.read_faults input.old)
+        (S.read_faults input.new) }
+    ensures writes { HasCause (result ≡ Some Stop.WriteFailed) (K.write_faults output.old)
+        (K.write_faults output.new) }
     ensures clock { V.takes_time ≡ false → clock.new ≡ clock.old }
     ensures timed { V.takes_time ≡ false → timed.new ≡ timed.old }
 {
@@ -165,8 +170,8 @@ fn serve_line<R: Threads + Sync, S: Source, K: Sink, C: Clock, V: LineService>(
     answer(rt, alloc, service, line, output, clock, timed)
 }
 
-/// Runs a service: writes its preface, and then the reply to each line before the next line is read, until a line ends the run or the
-/// input ends.
+/// Runs a service: writes its preface, and then the reply to each line before the next line is
+/// read, until a line ends the run or the input ends.
 pub(crate) fn serve<R: Threads + Sync, S: Source, K: Sink, C: Clock, V: LineService>(
     rt: &R,
     alloc: Global,
@@ -186,8 +191,10 @@ pub(crate) fn serve<R: Threads + Sync, S: Source, K: Sink, C: Clock, V: LineServ
           sides = record { rest = S.rest input.new; written = K.written output.new };
           times = record { last = C.last clock.new; readings = C.readings clock.new; timed = timed.new };
         }) }
-    ensures reads { HasCause (result ≡ Status.ReadFault) (S.read_faults input.old) (S.read_faults input.new) }
-    ensures writes { HasCause (result ≡ Status.WriteFault) (K.write_faults output.old) (K.write_faults output.new) }
+    ensures reads { HasCause (result ≡ Status.ReadFault) (S.read_faults input.old)
+        (S.read_faults input.new) }
+    ensures writes { HasCause (result ≡ Status.WriteFault) (K.write_faults output.old)
+        (K.write_faults output.new) }
     ensures clock { V.takes_time ≡ false → clock.new ≡ clock.old }
     ensures timed { V.takes_time ≡ false → timed.new ≡ timed.old }
 {

@@ -1,21 +1,27 @@
 //! The run: what the words of the command line ask for.
-ghost use Rattle.std.specs.Prelude.{◌≡◌, ◌⊎◌, [], map, string_bytes};
+ghost use Rattle.std.specs.Prelude.{◌≡◌, ◌⊎◌, ℕ, List, [], map, string_bytes};
 ghost use Rattle.io_edge.specs.Outside.{HasCause};
 ghost use Rattle.command_words.specs.Words.{AreOfNoCommand, IsInRange, TakeOption, Words};
-ghost use Rattle.command_words.specs.Matches.{AreMatchWords};
-ghost use Rattle.match_command.specs.Match.{MatchRun, NoneIsOpen, means, scene};
+ghost use Rattle.command_words.specs.Cups.{AreCupWords, AskForEngines};
+ghost use Rattle.command_words.specs.Matches.{AreMatchWords, AskForPrograms};
+ghost use Rattle.cup_command.specs.Cup.{CupRun, starter, scene as cup_scene};
+ghost use Rattle.cup_core.specs.Engines.{Engine};
+ghost use Rattle.match_command.specs.Match.{MatchRun, MatchStarts, NoneIsOpen, means, scene};
+ghost use Rattle.match_command.specs.Wires.{ClosesAll};
 ghost use Rattle.match_core.specs.Keeps.{IsSetup};
-ghost use Rattle.hive_cli.specs.Run.{Engines, IsNoMatch, Never, RunOf, UsesClock, UsesSpawner};
+ghost use Rattle.hive_cli.specs.Run.{Engines, IsAlone, Never, RunOf, UsesClock, UsesSpawner};
 ghost use Rattle.command_words.specs.declared.asked.Asked.{Asked};
 
 use crate::counts::count;
 use crate::outcome::Outcome;
-use crate::replays::Replay;
+use crate::replays::serve_replay;
 use crate::service::serve;
 use book_command::book;
 use certificate_commands::{certify, check, migrate};
 use command_runs::Status;
-use command_words::{Asked, asked_of, programs_of};
+use command_words::{Asked, asked_of, engines_of, programs_of};
+use cup_command::play_cup;
+use cup_games::FreeCupGate;
 use fast_game::FastGame;
 use grow_command::grow;
 use hive_model::{Game, TimedList};
@@ -32,35 +38,44 @@ type Played = FastGame;
 
 /// Does what the words of the command line ask for; the program's name is left out of them.
 ///
-/// No word, or the word `uhp`, asks for a session of the Universal Hive Protocol: the greeting is written, and then the reply
-/// to each line of the input before the next line is read, until a line ends the run or the input ends. It is `Done` then.
-/// The first read or write that fails ends it with `ReadFault` or `WriteFault`, an input of 1,099,511,627,776 bytes or more
-/// with `InputFull`, and want of memory with `Memory`; what was written until then stays.
+/// No word, or the word `uhp`, asks for a session of the Universal Hive Protocol: the greeting is
+/// written, and then the reply to each line of the input before the next line is read, until a line
+/// ends the run or the input ends. It is `Done` then. The first read or write that fails ends it
+/// with `ReadFault` or `WriteFault`, an input of 1,099,511,627,776 bytes or more with `InputFull`,
+/// and want of memory with `Memory`; what was written until then stays.
 ///
-/// A line of a session may ask for the best move in a time. It is answered at the last depth, from 1 to 64, that its search has
-/// completed, and one entry of `timed` tells of it: the line's budget, that depth, and the first and the last reading of the clock.
-/// The entries stand in the order of these lines, and the searches do not overlap. Fewer than 64 plies are searched only where the
-/// budget was over at the last reading. The clock is read for nothing else. Where memory was wanting, the search of the last
-/// line has no entry.
+/// A line of a session may ask for the best move in a time. It is answered at the last depth, from
+/// 1 to 64, that its search has completed, and one entry of `timed` tells of it: the line's budget,
+/// that depth, and the first and the last reading of the clock. The entries stand in the order of
+/// these lines, and the searches do not overlap. Fewer than 64 plies are searched only where the
+/// budget was over at the last reading. The clock is read for nothing else. Where memory was
+/// wanting, the search of the last line has no entry.
 ///
-/// The word `replay` asks for a replay: each line of the input is answered by one line before the next line is read. Where it is
-/// a game string, of a finished game too, the answer is the written form of its game, and else `refused` and why. The run goes on
-/// after a refusal. At the end of the input it is `Refused` where a line was refused, and else `Done`; faults, a full input and
-/// want of memory end it as they end a session.
+/// The word `replay` asks for a replay: each line of the input is answered by one line before the
+/// next line is read. Where it is a game string, of a finished game too, the answer is the written
+/// form of its game, and else `refused` and why. With `--repetition 1` a position that stands for
+/// the third time ends its game with a draw. The run goes on after a refusal. At the end of the
+/// input it is `Refused` where a line was refused, and else `Done`; faults, a full input and want
+/// of memory end it as they end a session.
 ///
-/// The words `count` and `--plies N`, or `--plies=N`, with N from 1 to 8, ask for counts: the input is to be one line, a game string
-/// of a game that is not over. Once it was read to its end, a line is written for each n from 1 to N, as soon as it is known: n, a
-/// space, and the number of lists of n legal moves that the game can go on with. It is `Done` then. Where the input is something
-/// else, it is `BadInput`, and one line that begins with `bad` says why. That line is written as soon as the fault is seen, and
-/// nothing further is read. A read that fails, a full input and want of memory end it with nothing written.
+/// The words `count` and `--plies N`, or `--plies=N`, with N from 1 to 8, ask for counts: the input
+/// is to be one line, a game string of a game that is not over. Once it was read to its end, a line
+/// is written for each n from 1 to N, as soon as it is known: n, a space, and the number of lists
+/// of n legal moves that the game can go on with. It is `Done` then. Where the input is something
+/// else, it is `BadInput`, and one line that begins with `bad` says why. That line is written as
+/// soon as the fault is seen, and nothing further is read. A read that fails, a full input and want
+/// of memory end it with nothing written.
 ///
-/// The word `book` asks for the move of a position that was made most often: the first line of the input is to be a game string of a game
-/// that is not over, and each further line a game string. It is `Done` once one line was written, and else `BadInput`, as `count` is.
+/// The word `book` asks for the move of a position that was made most often: the first line of the
+/// input is to be a game string of a game that is not over, and each further line a game string. It
+/// is `Done` once one line was written, and else `BadInput`, as `count` is.
 ///
-/// The other commands are those of `grow_command`, `certificate_commands`, `win_commands` and `match_command`, and do what is said there.
+/// The other commands are those of `grow_command`, `certificate_commands`, `win_commands`,
+/// `match_command` and `cup_command`, and do what is said there. Where the starter tells what was
+/// started, the programs of a match and of a cup are those that its words name.
 ///
-/// Every other list of words is `Usage`; nothing is read or written. Where its first word is that of a command that takes an option, it
-/// is `Memory` where memory runs out before that is known.
+/// Every other list of words is `Usage`; nothing is read or written. Where its first word is that
+/// of a command that takes an option, it is `Memory` where memory runs out before that is known.
 pub fn run<R: Threads + Sync, S: Source, K: Sink, C: Clock, P: Spawner>(
     rt: &R,
     alloc: Global,
@@ -71,12 +86,14 @@ pub fn run<R: Threads + Sync, S: Source, K: Sink, C: Clock, P: Spawner>(
     spawner: &mut P,
 ) -> Outcome
     ensures usage { result.status ≡ Status.Usage → AreOfNoCommand words.now }
-    ensures refused { AreOfNoCommand words.now → (result.status ≡ Status.Usage) ⊎ (result.status ≡ Status.Memory) }
-    ensures exact { AreOfNoCommand words.now → ¬ TakeOption (map string_bytes words.now) → result.status ≡ Status.Usage }
+    ensures refused { AreOfNoCommand words.now → (result.status ≡ Status.Usage)
+        ⊎ (result.status ≡ Status.Memory) }
+    ensures exact { AreOfNoCommand words.now → ¬ TakeOption (map string_bytes words.now)
+        → result.status ≡ Status.Usage }
     ensures unread { AreOfNoCommand words.now → input.new ≡ input.old }
     ensures unwritten { AreOfNoCommand words.now → output.new ≡ output.old }
     ensures untimed { AreOfNoCommand words.now → result.timed ≡ [] }
-    ensures does { (asked : Asked) → Words words.now asked → RunOf asked result.status
+    ensures does { (asked : Asked) → Words words.now asked → RunOf words.now asked result.status
         (record {
           scene = record {
             sides = record { rest = S.rest input.old; written = K.written output.old };
@@ -85,6 +102,7 @@ pub fn run<R: Threads + Sync, S: Source, K: Sink, C: Clock, P: Spawner>(
           engines = record {
             to_come = P.to_come spawner.old;
             sent = P.sent spawner.old;
+            started = P.started spawner.old;
             start_faults = P.start_faults spawner.old;
             engine_faults = P.engine_faults spawner.old;
           };
@@ -97,13 +115,17 @@ pub fn run<R: Threads + Sync, S: Source, K: Sink, C: Clock, P: Spawner>(
           engines = record {
             to_come = P.to_come spawner.new;
             sent = P.sent spawner.new;
+            started = P.started spawner.new;
             start_faults = P.start_faults spawner.new;
             engine_faults = P.engine_faults spawner.new;
           };
         }) }
-    ensures reads { HasCause (result.status ≡ Status.ReadFault) (S.read_faults input.old) (S.read_faults input.new) }
-    ensures writes { HasCause (result.status ≡ Status.WriteFault) (K.write_faults output.old) (K.write_faults output.new) }
-    ensures starts { HasCause (result.status ≡ Status.SpawnFault) (P.start_faults spawner.old) (P.start_faults spawner.new) }
+    ensures reads { HasCause (result.status ≡ Status.ReadFault) (S.read_faults input.old)
+        (S.read_faults input.new) }
+    ensures writes { HasCause (result.status ≡ Status.WriteFault) (K.write_faults output.old)
+        (K.write_faults output.new) }
+    ensures starts { HasCause (result.status ≡ Status.SpawnFault) (P.start_faults spawner.old)
+        (P.start_faults spawner.new) }
     ensures clock { Never words.now UsesClock → clock.new ≡ clock.old }
     ensures spawner { Never words.now UsesSpawner → spawner.new ≡ spawner.old }
 {
@@ -137,11 +159,16 @@ fn matched<K: Sink, C: Clock, P: Spawner, G: Game + Drop>(
     ensures run { MatchRun setup result
         (scene (K.written output.old) (means (C.last clock.old) (C.readings clock.old) (P.to_come spawner.old) (P.sent spawner.old) (P.start_faults spawner.old) (P.engine_faults spawner.old)))
         (scene (K.written output.new) (means (C.last clock.new) (C.readings clock.new) (P.to_come spawner.new) (P.sent spawner.new) (P.start_faults spawner.new) (P.engine_faults spawner.new))) }
+    ensures programs { (white : List (List ℕ)) × (black : List (List ℕ))
+        × AskForPrograms words.now white black
+        × MatchStarts result white black (P.started spawner.old) (P.started spawner.new) }
     ensures closed { NoneIsOpen
         (means (C.last clock.old) (C.readings clock.old) (P.to_come spawner.old) (P.sent spawner.old) (P.start_faults spawner.old) (P.engine_faults spawner.old))
         (means (C.last clock.new) (C.readings clock.new) (P.to_come spawner.new) (P.sent spawner.new) (P.start_faults spawner.new) (P.engine_faults spawner.new)) }
-    ensures writes { HasCause (result ≡ Status.WriteFault) (K.write_faults output.old) (K.write_faults output.new) }
-    ensures starts { HasCause (result ≡ Status.SpawnFault) (P.start_faults spawner.old) (P.start_faults spawner.new) }
+    ensures writes { HasCause (result ≡ Status.WriteFault) (K.write_faults output.old)
+        (K.write_faults output.new) }
+    ensures starts { HasCause (result ≡ Status.SpawnFault) (P.start_faults spawner.old)
+        (P.start_faults spawner.new) }
 {
     let Ok(programs) = programs_of(alloc, words) else {
         return Status::Memory;
@@ -154,6 +181,47 @@ fn matched<K: Sink, C: Clock, P: Spawner, G: Game + Drop>(
         output,
         clock,
         spawner,
+    )
+}
+
+/// Plays the cup that the words ask for, each game by this setup.
+fn cupped<R: Threads + Sync, K: Sink, P: Spawner, G: Game + Send + Drop>(
+    rt: &R,
+    alloc: Global,
+    words: &[String],
+    setup: Setup,
+    output: &mut K,
+    spawner: &mut P,
+) -> Status
+    requires words { AreCupWords words.now setup }
+    requires setup { IsSetup setup }
+    ensures run { (engines : List Engine)
+        × AskForEngines words.now engines
+        × CupRun engines setup result
+        (cup_scene (K.written output.old)
+        (starter (P.to_come spawner.old) (P.sent spawner.old) (P.started spawner.old)
+        (P.start_faults spawner.old) (P.engine_faults spawner.old)))
+        (cup_scene (K.written output.new)
+        (starter (P.to_come spawner.new) (P.sent spawner.new) (P.started spawner.new)
+        (P.start_faults spawner.new) (P.engine_faults spawner.new))) }
+    ensures closed { ClosesAll (P.to_come spawner.old) (P.to_come spawner.new)
+        (P.sent spawner.old) (P.sent spawner.new) }
+    ensures writes { HasCause (result ≡ Status.WriteFault) (K.write_faults output.old)
+        (K.write_faults output.new) }
+    ensures starts { HasCause (result ≡ Status.SpawnFault) (P.start_faults spawner.old)
+        (P.start_faults spawner.new) }
+{
+    let Ok(engines) = engines_of(alloc, words) else {
+        return Status::Memory;
+    };
+    play_cup::<R, P, K, G, FreeCupGate>(
+        rt,
+        alloc,
+        engines.as_slice(),
+        setup,
+        output,
+        spawner,
+        &FreeCupGate,
     )
 }
 
@@ -172,7 +240,7 @@ fn perform<R: Threads + Sync, S: Source, K: Sink, C: Clock, P: Spawner, G: Game 
     requires asked { Words words.now asked }
     requires range { IsInRange asked }
     requires none { timed ≡ [] }
-    ensures does { RunOf asked result.status
+    ensures does { RunOf words.now asked result.status
         (record {
           scene = record {
             sides = record { rest = S.rest input.old; written = K.written output.old };
@@ -181,6 +249,7 @@ fn perform<R: Threads + Sync, S: Source, K: Sink, C: Clock, P: Spawner, G: Game 
           engines = record {
             to_come = P.to_come spawner.old;
             sent = P.sent spawner.old;
+            started = P.started spawner.old;
             start_faults = P.start_faults spawner.old;
             engine_faults = P.engine_faults spawner.old;
           };
@@ -193,13 +262,17 @@ fn perform<R: Threads + Sync, S: Source, K: Sink, C: Clock, P: Spawner, G: Game 
           engines = record {
             to_come = P.to_come spawner.new;
             sent = P.sent spawner.new;
+            started = P.started spawner.new;
             start_faults = P.start_faults spawner.new;
             engine_faults = P.engine_faults spawner.new;
           };
         }) }
-    ensures reads { HasCause (result.status ≡ Status.ReadFault) (S.read_faults input.old) (S.read_faults input.new) }
-    ensures writes { HasCause (result.status ≡ Status.WriteFault) (K.write_faults output.old) (K.write_faults output.new) }
-    ensures starts { HasCause (result.status ≡ Status.SpawnFault) (P.start_faults spawner.old) (P.start_faults spawner.new) }
+    ensures reads { HasCause (result.status ≡ Status.ReadFault) (S.read_faults input.old)
+        (S.read_faults input.new) }
+    ensures writes { HasCause (result.status ≡ Status.WriteFault) (K.write_faults output.old)
+        (K.write_faults output.new) }
+    ensures starts { HasCause (result.status ≡ Status.SpawnFault) (P.start_faults spawner.old)
+        (P.start_faults spawner.new) }
     ensures clock { ¬ UsesClock asked → clock.new ≡ clock.old }
     ensures spawner { ¬ UsesSpawner asked → spawner.new ≡ spawner.old }
 {
@@ -208,24 +281,31 @@ fn perform<R: Threads + Sync, S: Source, K: Sink, C: Clock, P: Spawner, G: Game 
             status: matched::<K, C, P, G>(alloc, words, setup, output, clock, spawner),
             timed,
         },
-        other => perform_alone::<R, S, K, C, G>(rt, alloc, other, input, output, clock, timed),
+        Asked::Cup(setup) => Outcome {
+            status: cupped::<R, K, P, G>(rt, alloc, words, setup, output, spawner),
+            timed,
+        },
+        other => {
+            perform_alone::<R, S, K, C, G>(rt, alloc, words, other, input, output, clock, timed)
+        }
     }
 }
 
-/// Does what is asked for, if it is no match.
+/// Does what is asked for, if it is neither a match nor a cup.
 fn perform_alone<R: Threads + Sync, S: Source, K: Sink, C: Clock, G: Game + Send + Drop>(
     rt: &R,
     alloc: Global,
+    words: &[String],
     asked: Asked,
     input: &mut S,
     output: &mut K,
     clock: &mut C,
     mut timed: TimedList,
 ) -> Outcome
-    requires alone { IsNoMatch asked }
+    requires alone { IsAlone asked }
     requires range { IsInRange asked }
     requires none { timed ≡ [] }
-    ensures does { (engines : Engines) → RunOf asked result.status
+    ensures does { (engines : Engines) → RunOf words.now asked result.status
         (record {
           scene = record {
             sides = record { rest = S.rest input.old; written = K.written output.old };
@@ -240,8 +320,10 @@ fn perform_alone<R: Threads + Sync, S: Source, K: Sink, C: Clock, G: Game + Send
           };
           engines = engines;
         }) }
-    ensures reads { HasCause (result.status ≡ Status.ReadFault) (S.read_faults input.old) (S.read_faults input.new) }
-    ensures writes { HasCause (result.status ≡ Status.WriteFault) (K.write_faults output.old) (K.write_faults output.new) }
+    ensures reads { HasCause (result.status ≡ Status.ReadFault) (S.read_faults input.old)
+        (S.read_faults input.new) }
+    ensures writes { HasCause (result.status ≡ Status.WriteFault) (K.write_faults output.old)
+        (K.write_faults output.new) }
     ensures clock { ¬ UsesClock asked → clock.new ≡ clock.old }
 {
     let status = match asked {
@@ -249,9 +331,8 @@ fn perform_alone<R: Threads + Sync, S: Source, K: Sink, C: Clock, G: Game + Send
             let mut session: Session<FastGame> = Session::new();
             serve(rt, alloc, &mut session, input, output, clock, &mut timed)
         }
-        Asked::Replay => {
-            let mut replay: Replay<G> = Replay::new();
-            serve(rt, alloc, &mut replay, input, output, clock, &mut timed)
+        Asked::Replay { repetition } => {
+            serve_replay::<R, S, K, C, G>(rt, alloc, repetition, input, output, clock, &mut timed)
         }
         Asked::Count(plies) => count::<S, K, G>(alloc, plies, input, output),
         Asked::Grow { seed, plies } => grow::<K, G>(alloc, seed, plies, output),
@@ -261,7 +342,7 @@ fn perform_alone<R: Threads + Sync, S: Source, K: Sink, C: Clock, G: Game + Send
         Asked::Verify => verify::<S, K, G>(alloc, input, output),
         Asked::Book => book::<S, K, G>(alloc, input, output),
         Asked::Migrate => migrate::<S, K, G>(alloc, input, output),
-        Asked::Match(_) => unreachable!(),
+        Asked::Match(_) | Asked::Cup(_) => unreachable!(),
     };
     Outcome { status, timed }
 }

@@ -5,7 +5,9 @@ mod commands;
 mod counted;
 mod faults;
 mod lists;
+mod programs;
 mod refused;
+mod repeated;
 mod replayed;
 mod turns;
 mod worked;
@@ -21,8 +23,9 @@ use turns::{CountedSink, TurnSource};
 
 const GREETING: &str = "id HiveReferee 1.0\nMosquito;Ladybug;Pillbug\nok\n";
 
-/// A run in memory: its words, its input, the greatest sizes of the pieces in which both sides pass bytes (none: no bound), and
-/// the numbers, from 1, of the read and of the write that fail (0: none fails).
+/// A run in memory: its words, its input, the greatest sizes of the pieces in which both sides pass
+/// bytes (none: no bound), and the numbers, from 1, of the read and of the write that fail (0: none
+/// fails).
 #[derive(Clone, Copy)]
 struct Setting<'a> {
     words: &'a [&'a str],
@@ -122,8 +125,8 @@ fn expect_run<R: Threads + Sync + Abort>(
     Ok(())
 }
 
-/// Gives the lines, which these texts make, in pieces of one byte, of seven, and without bound, and compares all that is written
-/// with the greeting and these replies.
+/// Gives the lines, which these texts make, in pieces of one byte, of seven, and without bound, and
+/// compares all that is written with the greeting and these replies.
 fn expect_session<R: Threads + Sync + Abort>(
     rt: &R,
     alloc: Global,

@@ -36,7 +36,8 @@ fn talk_lines(alloc: Global) -> Result<Vec<u8>, AllocError> {
     Ok(lines)
 }
 
-/// What is written where so many bytes of the lines were read: the greeting, and the reply to each line whose LF is among them.
+/// What is written where so many bytes of the lines were read: the greeting, and the reply to each
+/// line whose LF is among them.
 fn written_for(alloc: Global, read: usize) -> Result<Vec<u8>, AllocError> {
     let mut written = joined(alloc, GREETING, &[])?;
     let mut end: usize = 0;
@@ -49,7 +50,8 @@ fn written_for(alloc: Global, read: usize) -> Result<Vec<u8>, AllocError> {
     Ok(written)
 }
 
-/// The sizes of all writes, where each takes at most so many bytes: the greeting and each reply begin a write of their own.
+/// The sizes of all writes, where each takes at most so many bytes: the greeting and each reply
+/// begin a write of their own.
 fn write_sizes(alloc: Global, piece: usize) -> Result<Vec<usize>, AllocError> {
     let mut sizes = Vec::new(alloc);
     add_sizes(&mut sizes, GREETING.len(), piece)?;

@@ -25,7 +25,7 @@ fn a_line_that_is_no_command_is_refused(rt: HostRuntime) -> Result<(), Fail> {
         let lines = [line, "options\n"];
         let replies = [
             reply,
-            "\nok\nTable;int;65536;65536;1;1048576\nWorkers;int;1;1;1;16\nok\n",
+            "\nok\nTable;int;65536;65536;1;1048576\nWorkers;int;1;1;1;16\nRepetition;int;0;0;0;1\nok\n",
         ];
         expect_session(&rt, rt.alloc(), &lines, &replies)?;
     }
@@ -94,7 +94,7 @@ fn moves_are_taken_back_as_far_as_the_start(rt: HostRuntime) -> Result<(), Fail>
 fn options_outlive_a_new_game(rt: HostRuntime) -> Result<(), Fail> {
     let lines = ["options\noptions set Workers 2\nnewgame\noptions get Workers\n"];
     let replies = [
-        "Table;int;65536;65536;1;1048576\nWorkers;int;1;1;1;16\nok\n",
+        "Table;int;65536;65536;1;1048576\nWorkers;int;1;1;1;16\nRepetition;int;0;0;0;1\nok\n",
         "Workers;int;2;1;1;16\nok\n",
         "Base;NotStarted;White[1]\nok\n",
         "Workers;int;2;1;1;16\nok\n",

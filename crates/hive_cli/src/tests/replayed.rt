@@ -39,3 +39,55 @@ fn replays_write_an_answer_to_each_line(rt: HostRuntime) -> Result<(), Fail> {
     }
     Ok(())
 }
+
+/// A game whose last position stands for the third time.
+const DRAWN: &str = "Base;Draw;White[7];wA1;bA1 wA1-;wQ -wA1;bQ bA1-;wQ \\wA1;bQ bA1/;\
+                     wQ -wA1;bQ bA1-;wQ \\wA1;bQ bA1/;wQ -wA1;bQ bA1-\n";
+
+/// The same game, which went on.
+const WENT_ON: &str = "Base;InProgress;Black[7];wA1;bA1 wA1-;wQ -wA1;bQ bA1-;wQ \\wA1;bQ bA1/;\
+                       wQ -wA1;bQ bA1-;wQ \\wA1;bQ bA1/;wQ -wA1;bQ bA1-;wQ \\wA1\n";
+
+#[test]
+fn replays_know_the_rule_that_they_are_asked_for(rt: HostRuntime) -> Result<(), Fail> {
+    let off = "refused other state\n";
+    let on = "refused illegal move 13\n";
+    for (words, input, status, written) in [
+        (
+            ["replay", "--repetition", "1"].as_slice(),
+            DRAWN,
+            Status::Done,
+            DRAWN,
+        ),
+        (
+            ["replay", "--repetition=0"].as_slice(),
+            DRAWN,
+            Status::Refused,
+            off,
+        ),
+        (["replay"].as_slice(), DRAWN, Status::Refused, off),
+        (["replay"].as_slice(), WENT_ON, Status::Done, WENT_ON),
+        (
+            ["replay", "--repetition=1"].as_slice(),
+            WENT_ON,
+            Status::Refused,
+            on,
+        ),
+        (
+            ["replay", "--repetition", "2"].as_slice(),
+            DRAWN,
+            Status::Usage,
+            "",
+        ),
+    ] {
+        let setting = Setting {
+            words,
+            input: input.as_bytes(),
+            pieces: &[],
+            failing_read: 0,
+            failing_write: 0,
+        };
+        expect_run(&rt, rt.alloc(), setting, status, written.as_bytes())?;
+    }
+    Ok(())
+}

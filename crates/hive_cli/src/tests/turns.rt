@@ -1,12 +1,13 @@
-//! A source and a sink that take turns: a line is given only once all that was to be written before it was taken.
+//! A source and a sink that take turns: a line is given only once all that was to be written before
+//! it was taken.
 ghost use Rattle.std.specs.Prelude.{None};
 ghost use Rattle.io_edge.specs.Outside.{no_side};
 
 use io_edge::{ReadAnswer, Sink, Source, WriteAnswer};
 use std::sync::atomic::{AtomicU64, Ordering};
 
-/// Gives lines, each ended by an LF and a byte at a read, and fails where one is wanted before the replies to those before it were
-/// taken.
+/// Gives lines, each ended by an LF and a byte at a read, and fails where one is wanted before the
+/// replies to those before it were taken.
 #[derive(Drop)]
 pub struct TurnSource<'a> {
     taken: &'a AtomicU64,

@@ -12,7 +12,8 @@ const SECONDS: &str = "bS1 -wS1;bS1 /wS1;bS1 \\wS1;bS1 wS1\\;bS1 wS1/;bS1 wS1-;\
                        bG1 -wS1;bG1 /wS1;bG1 \\wS1;bG1 wS1\\;bG1 wS1/;bG1 wS1-;\
                        bA1 -wS1;bA1 /wS1;bA1 \\wS1;bA1 wS1\\;bA1 wS1/;bA1 wS1-";
 
-/// A game in which four places that the ant `wA1` can walk to are also places that the pillbug can throw it to.
+/// A game in which four places that the ant `wA1` can walk to are also places that the pillbug can
+/// throw it to.
 const WALKED_OR_THROWN: &str =
     "Base+P;InProgress;White[5];wS1;bS1 wS1-;wQ -wS1;bQ bS1-;wP -wQ;bG1 bQ-;wA1 -wP;bA1 bG1-";
 

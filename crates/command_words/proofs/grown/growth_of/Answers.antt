@@ -1,4 +1,4 @@
-use Rattle.std.proofs.Common.{◌≡◌, ◌∙◌, ap, sym, subst, ℕ, List, [], ◌∷◌, Option, None, Some, MatchOption}
+use Rattle.std.proofs.Common.{◌≡◌, ◌∙◌, ap, sym, subst, [], ◌∷◌, Some, MatchOption}
 use Rattle.option_words.specs.Options.{value_at}
 use Rattle.command_words.specs.Words.{AreGrowth}
 use Rattle.command_words.proofs.GivenLemmas.{none_given, some_given}

@@ -1,5 +1,4 @@
-use Rattle.std.proofs.Common.{◌≡◌, ◌↔◌, sym, ◌∙◌, ap, subst, IsTrue}
-use Rattle.command_words.specs.Matches.{IsProgram}
+use Rattle.std.proofs.Common.{◌≡◌, sym, ◌∙◌, ap, subst, IsTrue}
 use Rattle.command_words.specs.Programs.{begins_word}
 use Rattle.command_words.proofs.ProgramLaws.{program_is_tested}
 use Rattle.command_words.proofs.matched.is_program.Goals as goal

@@ -1,6 +1,5 @@
-use Rattle.std.proofs.Common.{◌≡◌, ◌∙◌, ap, sym, subst, ℕ, List, map, codes, Option, None, Some, MatchOption, IfSome, IsTrue, refl, true, false, option_map}
+use Rattle.std.proofs.Common.{◌≡◌, ◌∙◌, ap, sym, subst, map, codes, MatchOption, refl, true, false, option_map}
 use Rattle.std.specs.Prelude.{string_bytes}
-use Rattle.match_core.specs.declared.answers.Setup.{Setup}
 use Rattle.option_words.specs.Options.{Gives, value_at}
 use Rattle.command_words.specs.Matches.{AreMatchWords, Choices, IsProgram, IsSetupOf, match_options, match_values}
 use Rattle.command_words.proofs.GivenLemmas.{none_given, some_given}
@@ -44,11 +43,12 @@ returns-clause-found c =
       time = option_map (λ t. t.now) c.value-5.result;
       margin = option_map (λ t. t.now) c.value-6.result;
       plies = option_map (λ t. t.now) c.value-7.result;
+      repetition = option_map (λ t. t.now) c.value-8.result;
     } in
     let gives = rw c.in-Some.is at c.in_ok-given.ensures.values in
     let white = value_read c.value.result c.in-Some-value.white _ c.in-Some-value.is c.value.ensures in
     let black = value_read c.value-2.result c.in-Some-value-2.black _ c.in-Some-value-2.is c.value-2.ensures in
-    let same = values_read _ gives.items c.in-Some-value.white.now c.in-Some-value-2.black.now choices gives.values_are white black c.value-3.ensures c.value-4.ensures c.value-5.ensures c.value-6.ensures c.value-7.ensures in
+    let same = values_read _ gives.items c.in-Some-value.white.now c.in-Some-value-2.black.now choices gives.values_are white black c.value-3.ensures c.value-4.ensures c.value-5.ensures c.value-6.ensures c.value-7.ensures c.value-8.ensures in
     weaker c.setup_of.result (IsSetupOf choices) (AreMatchWords c.args.words.now) (λ s is. record {
       white = c.in-Some-value.white.now;
       black = c.in-Some-value-2.black.now;
@@ -68,11 +68,13 @@ returns-clause-only c = λ s w.
       time = option_map (λ t. t.now) c.value-5.result;
       margin = option_map (λ t. t.now) c.value-6.result;
       plies = option_map (λ t. t.now) c.value-7.result;
+      repetition = option_map (λ t. t.now) c.value-8.result;
     } in
     let at2 = c.value-3.ensures ∙ ap (λ given. value_at given 2) values in
     let at3 = c.value-4.ensures ∙ ap (λ given. value_at given 3) values in
     let at4 = c.value-5.ensures ∙ ap (λ given. value_at given 4) values in
     let at5 = c.value-6.ensures ∙ ap (λ given. value_at given 5) values in
     let at6 = c.value-7.ensures ∙ ap (λ given. value_at given 6) values in
-    let same : choices ≡ w.choices = λ j. record { game_type = at2 j; depth = at3 j; time = at4 j; margin = at5 j; plies = at6 j } in
+    let at7 = c.value-8.ensures ∙ ap (λ given. value_at given 7) values in
+    let same : choices ≡ w.choices = λ j. record { game_type = at2 j; depth = at3 j; time = at4 j; margin = at5 j; plies = at6 j; repetition = at7 j } in
     c.setup_of.ensures.only s (subst (λ k. IsSetupOf k s) (sym same) w.setup_is)

@@ -44,10 +44,11 @@ returns-clause-programs c =
       time = value_at c.in-Some.given 4;
       margin = value_at c.in-Some.given 5;
       plies = value_at c.in-Some.given 6;
+      repetition = value_at c.in-Some.given 7;
     } in
     let white = value_read c.value.result c.in-Some-value.white _ c.in-Some-value.is c.value.ensures in
     let black = value_read c.value-2.result c.in-Some-value-2.black _ c.in-Some-value-2.is c.value-2.ensures in
-    let same = values_read c.in-Some.given gives.items c.in-Some-value.white.now c.in-Some-value-2.black.now choices gives.values_are white black refl refl refl refl refl in
+    let same = values_read c.in-Some.given gives.items c.in-Some-value.white.now c.in-Some-value-2.black.now choices gives.values_are white black refl refl refl refl refl refl in
     both-ok c.programs_in.result (λ (p : Programs). map string_bytes p.white.items ≡ between_spaces c.in-Some-value.white.now) (λ (p : Programs). map string_bytes p.black.items ≡ between_spaces c.in-Some-value-2.black.now)
     (λ (p : Programs). AskForPrograms c.args.words.now (map string_bytes p.white.items) (map string_bytes p.black.items)) (λ p w b. record {
       white_text = c.in-Some-value.white.now;

@@ -1,4 +1,3 @@
-use Rattle.std.proofs.Common.{◌≡◌}
 use Rattle.command_words.proofs.setup.level_of.Goals as goal
 
 pub returns-in-None-Some-clause-only : goal.returns-in-None-Some-clause-only

@@ -1,0 +1,67 @@
+-- The words that ask for a cup of programs.
+use Rattle.std.specs.Prelude.{◌≡◌, ◌≢◌, ◌≤◌, ℕ, List, [], ◌∷◌, All, AllPairs, nat_eq, codes, length, map, string_bytes, Option, None, Some}
+use Rattle.std.specs.List.{slice_split}
+use Rattle.std.specs.declared.string.String.{String}
+use Rattle.std.specs.declared.alloc.Global.{Global}
+use Rattle.match_core.specs.declared.answers.Setup.{Setup}
+use Rattle.option_words.specs.Options.{Gives}
+use Rattle.cup_core.specs.Engines.{Engine}
+use Rattle.command_words.specs.Matches.{Choices, IsProgram, IsSetupOf, between_spaces}
+
+-- the texts between the semicolons (59) of a text
+abbrev pub program_texts : List ℕ → List (List ℕ)
+program_texts text = slice_split (λ b. nat_eq b 59) text
+
+-- no two of these texts are equal
+abbrev pub AreDistinct : List (List ℕ) → Type 0
+AreDistinct texts = AllPairs (λ a b. a ≢ b) texts
+
+-- 2 to 8 programs with semicolons between them, each with its words separated by single spaces, none empty, and no two programs
+-- equal
+pub record ArePrograms (text : List ℕ) : Type 0 where
+  pub some : 2 ≤ length (program_texts text)
+  pub few : length (program_texts text) ≤ 8
+  pub each : All IsProgram (program_texts text)
+  pub distinct : AreDistinct (program_texts text)
+
+abbrev pub cup_options : List (List ℕ)
+cup_options = codes "engines" ∷ (codes "type" ∷ (codes "depth" ∷ (codes "plies" ∷ [])))
+
+abbrev pub cup_values : List ℕ → Option (List ℕ) → Option (List ℕ) → Option (List ℕ) → List (Option (List ℕ))
+cup_values engines game_type depth plies = Some engines ∷ (game_type ∷ (depth ∷ (plies ∷ [])))
+
+-- the options of a match that a cup has, too: it is played to a depth, and without the rule of third repetition
+abbrev pub cup_choices : Option (List ℕ) → Option (List ℕ) → Option (List ℕ) → Choices
+cup_choices game_type depth plies =
+    record {
+      game_type = game_type;
+      depth = depth;
+      time = None;
+      margin = None;
+      plies = plies;
+      repetition = None;
+    }
+
+-- `cup` and its options, of which the programs are required. Each game is played by the setup of a match to a depth,
+-- without the rule of third repetition.
+pub record AreCupWords (words : List (String Global)) (setup : Setup) : Type 0 where
+  pub engines : List ℕ
+  pub game_type : Option (List ℕ)
+  pub depth : Option (List ℕ)
+  pub plies : Option (List ℕ)
+  pub give : Gives (map string_bytes words) (codes "cup") cup_options (cup_values engines game_type depth plies)
+  pub programs : ArePrograms engines
+  pub setup_is : IsSetupOf (cup_choices game_type depth plies) setup
+
+-- the program that a text names: the text, and its words, which stand between its spaces
+abbrev pub engine_of : List ℕ → Engine
+engine_of text = record { text = text; words = between_spaces text }
+
+-- The words ask for a cup of these programs, in this order: of the texts between the semicolons of the value of the option `engines`.
+pub record AskForEngines (words : List (String Global)) (engines : List Engine) : Type 0 where
+  pub text : List ℕ
+  pub game_type : Option (List ℕ)
+  pub depth : Option (List ℕ)
+  pub plies : Option (List ℕ)
+  pub give : Gives (map string_bytes words) (codes "cup") cup_options (cup_values text game_type depth plies)
+  pub engines_are : engines ≡ map engine_of (program_texts text)
