@@ -27,8 +27,8 @@ const FIRST_BOUND: i32 = -1_000_090;
 /// More than any move is worth.
 const HIGHEST: i32 = 1_000_100;
 
-/// What is known before the moves of a root are tried in turn: the place of the move that was tried first, and what it is worth; or,
-/// where none was, a number that is less than any move is worth.
+/// What is known before the moves of a root are tried in turn: the place of the move that was tried
+/// first, and what it is worth; or, where none was, a number that is less than any move is worth.
 #[derive(Clone, Copy)]
 struct Begun {
     hint: Option<u32>,
@@ -42,9 +42,10 @@ struct Top {
     best: Best,
 }
 
-/// The first of the legal moves that is worth most with `depth` plies searched in all, and what it is worth, or none where the deadline
-/// came first. The move that the table names, or that looks best, is tried before the others. The clock was last read before the
-/// deadline. What is found is kept in the table.
+/// The first of the legal moves that is worth most with `depth` plies searched in all, and what it
+/// is worth, or none where the deadline came first. The move that the table names, or that looks
+/// best, is tried before the others. The clock was last read before the deadline. What is found is
+/// kept in the table.
 pub(crate) fn best_reply<G: Game, C: Clock>(
     game: &mut G,
     depth: u32,
@@ -64,8 +65,10 @@ pub(crate) fn best_reply<G: Game, C: Clock>(
     ensures game { G.course game.new ≡ G.course game.old }
     ensures stack { stack.new ≡ stack.old }
     ensures stopped { result ≡ None → HasStopped ticker.old ticker.new (C.last clock.new) }
-    ensures time { KeepsTime ticker.old ticker.new (C.readings clock.old) (C.readings clock.new) (C.last clock.old) (C.last clock.new) (nodes (position (G.course game.old)) depth) }
-    ensures played { G.played game.new ≤ G.played game.old + share (position (G.course game.old)) depth 0 1 }
+    ensures time { KeepsTime ticker.old ticker.new (C.readings clock.old) (C.readings clock.new)
+        (C.last clock.old) (C.last clock.new) (nodes (position (G.course game.old)) depth) }
+    ensures played { G.played game.new ≤ G.played game.old + share (position (G.course game.old))
+        depth 0 1 }
 {
     let key = game.key();
     let level = stack.levels();
@@ -86,8 +89,8 @@ pub(crate) fn best_reply<G: Game, C: Clock>(
     Some(top.best)
 }
 
-/// The same over the legal moves, which stand on a level. The move at the place `hint` of the list, if there is one, is tried before
-/// the others.
+/// The same over the legal moves, which stand on a level. The move at the place `hint` of the list,
+/// if there is one, is tried before the others.
 fn try_all<G: Game, C: Clock>(
     game: &mut G,
     level: u32,
@@ -104,13 +107,16 @@ fn try_all<G: Game, C: Clock>(
     requires room { depth - 1 ≤ stack.old.free }
     requires level { level < length stack.old.lists }
     requires listed { level_of stack.old level ≡ moves (position (G.course game.old)) }
-    ensures first { IfSome result (λ t. best (position (G.course game.old)) depth ≡ Some t.best.best) }
+    ensures first { IfSome result (λ t. best (position (G.course game.old)) depth
+        ≡ Some t.best.best) }
     ensures worth { IfSome result (λ t. t.best.value ≡ value (position (G.course game.old)) depth) }
     ensures game { G.course game.new ≡ G.course game.old }
     ensures stack { stack.new ≡ stack.old }
     ensures stopped { result ≡ None → HasStopped ticker.old ticker.new (C.last clock.new) }
-    ensures time { KeepsTime ticker.old ticker.new (C.readings clock.old) (C.readings clock.new) (C.last clock.old) (C.last clock.new) (nodes (position (G.course game.old)) depth) }
-    ensures played { G.played game.new ≤ G.played game.old + share (position (G.course game.old)) depth 0 1 }
+    ensures time { KeepsTime ticker.old ticker.new (C.readings clock.old) (C.readings clock.new)
+        (C.last clock.old) (C.last clock.new) (nodes (position (G.course game.old)) depth) }
+    ensures played { G.played game.new ≤ G.played game.old + share (position (G.course game.old))
+        depth 0 1 }
 {
     if let Some(first) = hint {
         if first < stack.level_len(level) {
@@ -131,9 +137,10 @@ fn try_all<G: Game, C: Clock>(
     try_in_turn(game, level, depth, begun, stack, table, ticker, clock)
 }
 
-/// The same in the order of the list, after a first move was tried or none. Each other move is searched in the window from one less than
-/// the greatest worth so far, so that a move worth as much as that is told from one worth more; the greatest worth so far begins one
-/// below what is known, so that an earlier move that is worth as much as the one tried first is found too.
+/// The same in the order of the list, after a first move was tried or none. Each other move is
+/// searched in the window from one less than the greatest worth so far, so that a move worth as
+/// much as that is told from one worth more; the greatest worth so far begins one below what is
+/// known, so that an earlier move that is worth as much as the one tried first is found too.
 fn try_in_turn<G: Game, C: Clock>(
     game: &mut G,
     level: u32,
@@ -154,13 +161,18 @@ fn try_in_turn<G: Game, C: Clock>(
     requires high { begun.worth ≤ℤ value (position (G.course game.old)) depth }
     requires known { IfSome begun.hint (λ i. (m : AnyMove) → slice_get (moves (position (G.course game.old))) i ≡ Some m
         → reply_value (position (G.course game.old)) (depth - 1) m ≡ begun.worth) }
-    ensures first { IfSome result (λ t. best (position (G.course game.old)) depth ≡ Some t.best.best) }
+    ensures first { IfSome result (λ t. best (position (G.course game.old)) depth
+        ≡ Some t.best.best) }
     ensures worth { IfSome result (λ t. t.best.value ≡ value (position (G.course game.old)) depth) }
     ensures game { G.course game.new ≡ G.course game.old }
     ensures stack { stack.new ≡ stack.old }
     ensures stopped { result ≡ None → HasStopped ticker.old ticker.new (C.last clock.new) }
-    ensures time { KeepsTime ticker.old ticker.new (C.readings clock.old) (C.readings clock.new) (C.last clock.old) (C.last clock.new) (sum_but begun.hint 0 (behind (position (G.course game.old)) (depth - 1)) (moves (position (G.course game.old)))) }
-    ensures played { G.played game.new ≤ G.played game.old + turns_share (position (G.course game.old)) depth }
+    ensures time { KeepsTime ticker.old ticker.new (C.readings clock.old) (C.readings clock.new)
+        (C.last clock.old) (C.last clock.new)
+        (sum_but begun.hint 0 (behind (position (G.course game.old)) (depth - 1))
+        (moves (position (G.course game.old)))) }
+    ensures played { G.played game.new ≤ G.played game.old + turns_share
+        (position (G.course game.old)) depth }
 {
     let count = stack.level_len(level);
     let mut best = stack.get(level, 0);
@@ -197,7 +209,8 @@ fn try_in_turn<G: Game, C: Clock>(
     Some(Top { first, best })
 }
 
-/// What the move at the place `i` is worth: what is known of it, where it was tried first, and else what `reply` tells of it.
+/// What the move at the place `i` is worth: what is known of it, where it was tried first, and else
+/// what `reply` tells of it.
 fn worth_of<G: Game, C: Clock>(
     game: &mut G,
     m: Move,
@@ -217,14 +230,18 @@ fn worth_of<G: Game, C: Clock>(
     requires legal { IsOn (moves (position (G.course game.old))) m }
     requires spare { depth < (G.course game.old).spare }
     requires room { depth ≤ stack.old.free }
-    requires known { begun.hint ≡ Some i → reply_value (position (G.course game.old)) depth m ≡ begun.worth }
-    ensures found { IfSome result (λ v. IsFound (reply_value (position (G.course game.old)) depth m) window v) }
+    requires known { begun.hint ≡ Some i → reply_value (position (G.course game.old)) depth m
+        ≡ begun.worth }
+    ensures found { IfSome result (λ v. IsFound (reply_value (position (G.course game.old)) depth m)
+        window v) }
     ensures game { G.course game.new ≡ G.course game.old }
     ensures stack { stack.new ≡ stack.old }
     ensures stopped { result ≡ None → HasStopped ticker.old ticker.new (C.last clock.new) }
     ensures time { KeepsTime ticker.old ticker.new (C.readings clock.old) (C.readings clock.new) (C.last clock.old) (C.last clock.new)
         (if option_eq nat_eq begun.hint (Some i) then 0 else behind (position (G.course game.old)) depth m) }
-    ensures played { G.played game.new ≤ G.played game.old + (1 + cost (after (position (G.course game.old)) m) depth (neg_ℤ window.beta) (neg_ℤ window.alpha)) }
+    ensures played { G.played game.new ≤ G.played game.old +
+        (1 + cost (after (position (G.course game.old)) m) depth (neg_ℤ window.beta)
+        (neg_ℤ window.alpha)) }
 {
     if begun.hint == Some(i) {
         return Some(begun.worth);

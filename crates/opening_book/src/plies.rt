@@ -17,8 +17,8 @@ ghost use Rattle.opening_book.specs.Plies.{IsPlaced, AreShifts, is_taken_to, one
 use hive_model::{Game, Key, Move, Place};
 use symmetry::{Symmetry, alike};
 
-/// Adds to the count of each move the plies of the game whose move a symmetry takes to it, and takes
-/// the game back to its opening.
+/// Adds to the count of each move the plies of the game whose move a symmetry takes to it, and
+/// takes the game back to its opening.
 pub fn count_plies<G: Game>(root: &Key, moves: &[Move], counts: &mut [u64], played: &mut G)
     requires long { length counts.old ≡ length moves.now }
     requires few { (j : ℕ) → j < length counts.old → slice_index counts.old j < 2 ^ 40 }
@@ -48,7 +48,8 @@ fn count_ply(moves: &[Move], counts: &mut [u64], shifts: &[Option<Place>; 12], p
     requires long { length counts.old ≡ length moves.now }
     requires few { (j : ℕ) → j < length counts.old → slice_index counts.old j < 2 ^ 41 }
     requires placed { IsPlaced played.now }
-    requires within { (s : ℕ) (t : Place) → slice_index_or shifts.now s None ≡ Some t → IsWithin 40000 t }
+    requires within { (s : ℕ) (t : Place) → slice_index_or shifts.now s None ≡ Some t
+        → IsWithin 40000 t }
     ensures { (j : ℕ) (m : Move) → slice_get moves.now j ≡ Some m
         → slice_index counts.new j
         ≡ slice_index counts.old j + one_if (is_taken_to shifts.now played.now m) }
@@ -74,7 +75,8 @@ fn shifts_between(from: &Key, to: &Key) -> [Option<Place>; 12]
 /// Whether one of the symmetries takes the move to the other, with its shift.
 fn is_taken_to(shifts: &[Option<Place>; 12], from: &Move, to: &Move) -> bool
     requires placed { IsPlaced from.now }
-    requires within { (s : ℕ) (t : Place) → slice_index_or shifts.now s None ≡ Some t → IsWithin 40000 t }
+    requires within { (s : ℕ) (t : Place) → slice_index_or shifts.now s None ≡ Some t
+        → IsWithin 40000 t }
     ensures { result ≡ is_taken_to shifts.now from.now to.now }
 {
     for index in 0..12u8 {

@@ -37,8 +37,8 @@ impl Model for Tally {
 }
 
 impl Tally {
-    /// The counts of the game's position over no games. The game is not over; it and the stack, which
-    /// needs room for one level, are as before. All memory is taken here.
+    /// The counts of the game's position over no games. The game is not over; it and the stack,
+    /// which needs room for one level, are as before. All memory is taken here.
     pub fn of<G: Game>(
         alloc: Global,
         game: &mut G,

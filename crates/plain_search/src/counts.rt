@@ -9,8 +9,8 @@ ghost use Rattle.hive_model.specs.Courses.{position};
 
 use hive_model::{Game, Move, MoveStack};
 
-/// How many lists of so many legal moves, at most 8, the game can go on with. The last ply of them is counted by the length of its
-/// list of moves, not played. The game and the stack are as before.
+/// How many lists of so many legal moves, at most 8, the game can go on with. The last ply of them
+/// is counted by the length of its list of moves, not played. The game and the stack are as before.
 pub fn count_lines<G: Game>(game: &mut G, plies: u32, stack: &mut MoveStack) -> u128
     requires few { plies ≤ 8 }
     requires spare { plies ≤ (G.course game.old).spare }

@@ -1,5 +1,5 @@
-//! What a position is worth and how many lists of legal moves it has, as they are defined: every line of play is tried, with no
-//! window and no table.
+//! What a position is worth and how many lists of legal moves it has, as they are defined: every
+//! line of play is tried, with no window and no table.
 #![tactic(auto)]
 
 mod counts;

@@ -12,9 +12,10 @@ use search_laws::leaf_value;
 /// Below what any position is worth.
 const LOWEST: i32 = -1_000_100;
 
-/// What the position is worth to its side to move after `depth` plies of best play of both sides, from 0 to 64: every line of play
-/// is searched, with no window and no table. At depth 0, and where the game is over, that is the worth of the position itself. The
-/// game and the stack are as before.
+/// What the position is worth to its side to move after `depth` plies of best play of both sides,
+/// from 0 to 64: every line of play is searched, with no window and no table. At depth 0, and where
+/// the game is over, that is the worth of the position itself. The game and the stack are as
+/// before.
 #[cycle(minimax)]
 pub fn minimax<G: Game>(game: &mut G, depth: u32, stack: &mut MoveStack) -> i32
     requires deep { depth ≤ 64 }

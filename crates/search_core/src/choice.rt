@@ -1,12 +1,13 @@
-//! Which of the legal moves to try first. Any choice is right; a good one makes a search play fewer moves.
+//! Which of the legal moves to try first. Any choice is right; a good one makes a search play fewer
+//! moves.
 
 ghost use Rattle.std.specs.Prelude.{◌<◌, length};
 
 use hive_model::{Game, Key, Move, MoveStack, Place};
 use value_table::{Bound, ValueTable};
 
-/// The place of the move that the kept entry of this key names, at whatever depth it was found. An entry that is but an upper bound
-/// names none, since there no move was found to be good.
+/// The place of the move that the kept entry of this key names, at whatever depth it was found. An
+/// entry that is but an upper bound names none, since there no move was found to be good.
 pub fn kept_hint(table: &ValueTable, key: &Key) -> Option<u32> {
     let entry = table.peek(key)?;
     if entry.bound() == Bound::AtMost {
@@ -15,8 +16,8 @@ pub fn kept_hint(table: &ValueTable, key: &Key) -> Option<u32> {
     Some(entry.hint() as u32)
 }
 
-/// The place, in a list of the game's legal moves, of the move to try first: the hint, else the move that last cut off after as many
-/// plies, if it is in the list.
+/// The place, in a list of the game's legal moves, of the move to try first: the hint, else the
+/// move that last cut off after as many plies, if it is in the list.
 pub fn first_choice<G: Game>(
     hint: Option<u32>,
     game: &G,
@@ -33,7 +34,8 @@ pub fn first_choice<G: Game>(
     place_of(stack, level, &cut)
 }
 
-/// The same at a root, where the first move that goes beside the other side's queen from elsewhere is tried if nothing else names one.
+/// The same at a root, where the first move that goes beside the other side's queen from elsewhere
+/// is tried if nothing else names one.
 pub fn root_choice<G: Game>(
     hint: Option<u32>,
     game: &G,
@@ -62,7 +64,8 @@ fn place_of(stack: &MoveStack, level: u32, m: &Move) -> Option<u32>
     None
 }
 
-/// The place of the first move of a level that goes beside the queen of the side that does not move.
+/// The place of the first move of a level that goes beside the queen of the side that does not
+/// move.
 fn toward_queen<G: Game>(game: &G, stack: &MoveStack, level: u32) -> Option<u32>
     requires { level < length stack.now.lists }
 {

@@ -1,5 +1,5 @@
-//! What every search stands on: laws of minimax and of the plays of a search, the window of a search, and the value of a position
-//! at which no move is tried.
+//! What every search stands on: laws of minimax and of the plays of a search, the window of a
+//! search, and the value of a position at which no move is tried.
 #![tactic(auto)]
 
 mod laws;

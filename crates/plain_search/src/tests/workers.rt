@@ -32,7 +32,8 @@ fn wins() -> Move {
     }
 }
 
-/// Before its first child each of two workers tells that it is here, and then looks whether the other is.
+/// Before its first child each of two workers tells that it is here, and then looks whether the
+/// other is.
 #[derive(Drop)]
 struct Meeting {
     here: [AtomicBool; 2],
@@ -140,7 +141,8 @@ fn found_by<R: Threads + Sync, T: Gate + Sync>(
     Ok(Some((best, workers)))
 }
 
-/// The plays of one of two workers where one of them is held; none where the hold did not end in time.
+/// The plays of one of two workers where one of them is held; none where the hold did not end in
+/// time.
 fn plays_beside<R: Threads + Sync>(
     rt: &R,
     alloc: Global,
