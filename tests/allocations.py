@@ -21,9 +21,11 @@ CERTIFICATE = ["hive-certificate 1", "Base;NotStarted;White[1]", "depth 2", "mov
 SOLUTION = ["hive-solution 1", "Base;NotStarted;White[1]", "plies 2", "answer no", "0", "0", "0", "0"]
 RUNS = [
     ("a short session", ["uhp"], ["newgame", "validmoves", "play wS1", "undo", "options set Table 1", "help", "newgame Base+MLP", "validmoves"]),
+    ("a game under the rule of third repetition", ["uhp"], ["options set Repetition 1", "newgame", "play wA1", "play bA1 wA1-", "undo"]),
     ("a drawn game", ["uhp"], ["newgame " + DRAWN, "validmoves", "undo", "validmoves"]),
     ("a win", ["uhp"], ["newgame " + WON, "bestmove depth 1", "bestmove depth 2", "play wA1 wB1-"]),
     ("a replay", ["replay"], [DRAWN, "Base;InProgress;White[1]", "Base"]),
+    ("a replay under the rule of third repetition", ["replay", "--repetition", "1"], [DRAWN, "Base;InProgress;White[2];wA1;bA1 wA1-"]),
     ("a count", ["count", "--plies", "2"], ["Base+MLP"]),
     ("a search for a time", ["uhp"], ["newgame " + WON, "bestmove time 00:00:00", "options set Workers 2", "bestmove depth 1"]),
     ("a certificate", ["certify", "--depth", "2"], ["Base"]),
@@ -80,8 +82,10 @@ def ends_of_replies(words, output):
 
 
 def main(program, library, folder):
-    match = ["match", "--white", write_engine(folder, "white"), "--black", write_engine(folder, "black"), "--depth", "1"]
-    for name, words, lines in RUNS + [("a match", match, [])]:
+    white, black = write_engine(folder, "white"), write_engine(folder, "black")
+    match = ["match", "--white", white, "--black", black, "--depth", "1"]
+    cup = ["cup", "--engines", f"{white};{black}", "--depth", "1", "--plies", "2"]
+    for name, words, lines in RUNS + [("a match", match, []), ("a cup", cup, [])]:
         status, whole, requests = undisturbed(program, library, words, lines)
         ends = ends_of_replies(words, whole)
         refused = 0

@@ -1,5 +1,5 @@
 #!/usr/bin/env python3
-"""Matches of the built program against itself and against engines that misbehave: each ends with its verdict, and no process is left.
+"""Matches and cups of the built program against itself and against engines that misbehave: each ends with its verdicts, and no process is left.
 
 Usage: matches.py PROGRAM. Ends with status 0 where all is as expected.
 """
@@ -40,6 +40,62 @@ def verdict(program, white, black, words):
     expect(f"status of {white} against {black}", status, 0)
     game, last = text.rstrip("\n").split("\n")
     return game, last
+
+
+def cup(program, engines, words):
+    run = subprocess.run([program, "cup", "--engines", ";".join(engines)] + words, stdout=subprocess.PIPE, timeout=100)
+    return run.returncode, run.stdout.decode("ascii").rstrip("\n").split("\n")
+
+
+def points_of(verdict, game):
+    """What a verdict gives to the two engines of a game: 2 to the winner, or to the one that did not forfeit, and 1 to each of a draw or at the limit."""
+    white, black = game
+    words = verdict.split(" ")
+    if words[0] == "limit" or words == ["result", "Draw"]:
+        return {white: 1, black: 1}
+    winner = white if words in (["result", "WhiteWins"],) or words[:2] == ["forfeit", "black"] else black
+    return {winner: 2}
+
+
+def check_cup(name, engines, answer):
+    """Compares the standings of a cup with those of its verdicts, and gives the verdicts by game."""
+    status, lines = answer
+    expect(f"{name}: status", status, 0)
+    numbers = range(1, len(engines) + 1)
+    games = [(white, black) for white in numbers for black in numbers if white != black]
+    points, verdicts = dict.fromkeys(numbers, 0), {}
+    for place, (white, black) in enumerate(games):
+        game, verdict = lines[2 * place : 2 * place + 2]
+        expect(f"{name}: game", game.split(" ")[:3], ["game", str(white), str(black)])
+        expect(f"{name}: verdict", verdict.split(" ")[:3], ["verdict", str(white), str(black)])
+        verdicts[white, black] = verdict.split(" ", 3)[3]
+        for engine, more in points_of(verdicts[white, black], (white, black)).items():
+            points[engine] += more
+    order = sorted(numbers, key=lambda it: (-points[it], it))
+    wanted = [f"{engines[it - 1]} points {points[it]} games {2 * len(engines) - 2}" for it in order]
+    expect(f"{name}: standings", lines[2 * len(games) :], wanted)
+    expect(f"{name}: all points", sum(points.values()), 2 * len(engines) * (len(engines) - 1))
+    return verdicts
+
+
+def try_cups(program, folder):
+    """Cups of three engines that ask the program to different depths, of which one then dies in its third game, floods, or is not there."""
+    hive = f"exec {program} uhp"
+    deep = [write_engine(folder, f"deep{depth}", f"sed -u 's/depth 1/depth {depth}/' | {hive[5:]}") for depth in (1, 2, 3)]
+    words = ["--depth", "1", "--plies", "16"]
+    once = cup(program, deep, words)
+    check_cup("a cup of three depths", deep, once)
+    expect("the same cup again", cup(program, deep, words), once)
+    # each start of this engine takes a number of its own; the one with number 3 leaves after its greeting
+    dies = write_engine(folder, "dies", f"n=1\nwhile ! mkdir {folder}/start$n 2>/dev/null; do n=$((n+1)); done\n[ $n -ne 3 ] || {{ printf 'id x\\nok\\n'; exit 0; }}\n{hive}")
+    verdicts = check_cup("a cup whose second engine dies", [deep[0], dies, deep[1]], cup(program, [deep[0], dies, deep[1]], words))
+    lost = [game for game, verdict in verdicts.items() if verdict.split(" ")[-1] in ("ended", "broke")]
+    expect(f"it dies in one of its games: {lost}", len(lost) == 1 and 2 in lost[0], True)
+    expect("it is its engine that forfeits", verdicts[lost[0]].split(" ")[1], "white" if lost[0][0] == 2 else "black")
+    floods = write_engine(folder, "floods3", "printf 'id x\\nok\\n'\nread -r line\nwhile :; do echo y; done")
+    verdicts = check_cup("a cup with one that floods", [floods, deep[0], deep[1]], cup(program, [floods, deep[0], deep[1]], words))
+    expect("it floods in each game", {verdict for game, verdict in verdicts.items() if 1 in game}, {"forfeit white flood 1001", "forfeit black flood 1001"})
+    expect("one that is not there", cup(program, [deep[0], str(folder / "none"), deep[1]], words), (5, [""]))
 
 
 def left_behind(folder):
@@ -89,5 +145,6 @@ if __name__ == "__main__":
         last = verdict(program, hive, returns + " --quiet", ["--depth", "1", "--plies", "4"])[1]
         expect("an engine with CR LF", last, "forfeit black notamove")
         expect("an engine that is not there", play(program, hive, str(folder / "none"), ["--depth", "1"]), (5, ""))
+        try_cups(program, folder)
         expect("no process is left", gone(folder), True)
     print("matches: all is as expected")

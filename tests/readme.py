@@ -26,7 +26,7 @@ def commands(program, block):
     for part in re.split(r"^\$ ", "\n".join(block), flags=re.MULTILINE)[1:]:
         command, _, shown = part.partition("\n")
         run = subprocess.run(["bash", "-c", command.replace("./hive", program)], stdout=subprocess.PIPE, text=True, timeout=120)
-        expect(command, run.stdout.rstrip("\n"), shown.rstrip("\n"))
+        expect(command, run.stdout.replace(program, "./hive").rstrip("\n"), shown.rstrip("\n"))
 
 
 def wrong_bodies():

@@ -319,10 +319,10 @@ def is_number(text, least, most):
 
 
 class Play:
-    """A game: its type, its moves, and the positions and texts on the way."""
+    """A game: its type, its moves, the positions and texts on the way, and whether a third repetition ends it."""
 
-    def __init__(self, game_type):
-        self.positions, self.texts = [Position.opening(game_type)], []
+    def __init__(self, game_type, repetition=False):
+        self.positions, self.texts, self.repetition = [Position.opening(game_type)], [], repetition
 
     def position(self):
         return self.positions[-1]
@@ -335,13 +335,24 @@ class Play:
         del self.positions[-plies:]
         del self.texts[-plies:]
 
+    def outcome(self):
+        last = self.position()
+        if self.repetition and not last.is_over():
+            times = sum((one.board, one.side, one.rest) == (last.board, last.side, last.rest) for one in self.positions)
+            if times >= 3:
+                return "Draw"
+        return last.state()
+
+    def is_over(self):
+        return self.outcome() in ("Draw", "WhiteWins", "BlackWins")
+
     def turn(self):
         position = self.position()
         return f"{'White' if position.side == 'w' else 'Black'}[{position.turn}]"
 
     def string(self):
         position = self.position()
-        return ";".join([position.game_type, position.state(), self.turn()] + self.texts)
+        return ";".join([position.game_type, self.outcome(), self.turn()] + self.texts)
 
 
 def read_turn(text):
@@ -351,12 +362,12 @@ def read_turn(text):
     return False
 
 
-def read_game(text):
-    """The game that a game string is, or the reason why it is none, as a refusal."""
+def read_game(text, repetition=False):
+    """The game that a game string is under the rule, or the reason why it is none, as a refusal."""
     parts = text.split(";")
     if parts[0] not in TYPES:
         raise Refusal("4 malformed part 1")
-    play = Play(parts[0])
+    play = Play(parts[0], repetition)
     if len(parts) == 1:
         return play
     if parts[1] not in ("NotStarted", "InProgress", "Draw", "WhiteWins", "BlackWins"):
@@ -373,10 +384,10 @@ def read_game(text):
             move = play.position().read(text)
         except Refusal:
             raise Refusal(f"6 illegal move {number}") from None
-        if move not in play.position().moves():
+        if play.is_over() or move not in play.position().moves():
             raise Refusal(f"6 illegal move {number}")
         play.make(move)
-    if play.position().state() != parts[1]:
+    if play.outcome() != parts[1]:
         raise Refusal("5 other state")
     if play.turn() != parts[2]:
         raise Refusal("5 other turn")
@@ -386,7 +397,7 @@ def read_game(text):
 class Session:
     """The answers to lines, as lists of lines without the last one, `ok`."""
 
-    LIMITS = {"Table": (65536, 1, 1048576), "Workers": (1, 1, 16)}
+    LIMITS = {"Table": (65536, 1, 1048576), "Workers": (1, 1, 16), "Repetition": (0, 0, 1)}
 
     def __init__(self):
         self.play = None
@@ -436,7 +447,7 @@ class Session:
 
     def newgame(self, text):
         try:
-            self.play = read_game(text)
+            self.play = read_game(text, self.options["Repetition"] == 1)
         except Refusal as reason:
             raise Refusal(f"err {reason}") from None
         return [self.play.string()]
@@ -444,7 +455,7 @@ class Session:
     def move(self, text):
         self.must(self.play, "err 3 no game")
         position = self.play.position()
-        self.must(not position.is_over(), "invalidmove 4 game over")
+        self.must(not self.play.is_over(), "invalidmove 4 game over")
         self.must(len(self.play.texts) < MOST_PLIES, "err 11 too many plies")
         move = position.read(text)
         self.must(move in position.moves(), "invalidmove 3 not legal")
@@ -453,7 +464,7 @@ class Session:
 
     def open_position(self):
         self.must(self.play, "err 3 no game")
-        self.must(not self.play.position().is_over(), "err 8 game over")
+        self.must(not self.play.is_over(), "err 8 game over")
         return self.play.position()
 
     def bestmove(self, rest):

@@ -76,7 +76,7 @@ class Maker:
         if chance < 0.78:
             return self.random.choice([b"pass", b"info", b" pass ", b"play pass", b"info\r"])
         if chance < 0.82:
-            name, value = self.random.choice(["Table", "Workers", "Hash"]), self.random.choice(["1", "2", "16", "17", "0", "x", "65536", "1048577"])
+            name, value = self.random.choice(["Table", "Workers", "Repetition", "Hash"]), self.random.choice(["1", "2", "16", "17", "0", "x", "65536", "1048577"])
             return self.random.choice([f"options get {name}", f"options set {name} {value}", "options", "options  set", f"options put {name}"]).encode()
         if chance < 0.83 and self.known.play and len(self.known.play.texts) < 12:
             return f"bestmove depth {self.random.choice([1, 1, 2, 0, 65])}".encode()

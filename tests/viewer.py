@@ -64,7 +64,7 @@ def short_game(program):
         ("newgame Base+MLP", ["Base+MLP;NotStarted;White[1]"]),
         ("validmoves", ["wS1;wB1;wG1;wA1;wM;wL;wP"]),
         ("newgame Base+PM", ["err 4 malformed part 1"]),
-        ("options", ["Table;int;65536;65536;1;1048576", "Workers;int;1;1;1;16"]),
+        ("options", ["Table;int;65536;65536;1;1048576", "Workers;int;1;1;1;16", "Repetition;int;0;0;0;1"]),
         ("options set Workers 2", ["Workers;int;2;1;1;16"]),
         ("options set Workers 17", ["err 9 value out of range"]),
         ("options get Hash", ["err 9 no such option"]),
