@@ -76,11 +76,7 @@ impl Seen {
         requires { IsTrue self.now.repetition → 1 ≤ length self.now.keys }
         ensures { result ≡ is_third self.now.repetition self.now.keys }
     {
-        if self.repetition {
-            3 <= self.keys.times()
-        } else {
-            false
-        }
+        self.repetition && self.keys.is_third()
     }
 
     /// How the game goes on or ended, where its position has this state.

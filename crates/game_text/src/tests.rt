@@ -100,23 +100,24 @@ fn tells_each_fault(rt: HostRuntime) -> Result<(), Fail> {
 }
 
 #[test]
-fn counts_repeats(rt: HostRuntime) -> Result<(), Fail> {
+fn tells_the_third(rt: HostRuntime) -> Result<(), Fail> {
     let board = PlainBoard::new(rt.alloc())?;
     let mut repeats = Repeats::new(rt.alloc());
-    let start = Key::of(WITH_MOSQUITO, &board, Colour::White, 1, None);
-    repeats.push(start)?;
-    assert_eq!(rt; repeats.times(), 1);
-    let later = Key::of(WITH_MOSQUITO, &board, Colour::White, 3, None);
-    repeats.push(later)?;
-    assert_eq!(rt; repeats.times(), 2);
-    let other = Key::of(WITH_MOSQUITO, &board, Colour::Black, 3, None);
-    repeats.push(other)?;
-    assert_eq!(rt; repeats.times(), 1);
-    let resting = Key::of(WITH_MOSQUITO, &board, Colour::White, 3, Some(Piece::at(1)));
-    repeats.push(resting)?;
-    assert_eq!(rt; repeats.times(), 1);
+    for turn in 1..3 {
+        repeats.push(Key::of(WITH_MOSQUITO, &board, Colour::White, turn, None))?;
+        assert!(rt; !repeats.is_third());
+    }
+    for other in [
+        Key::of(WITH_MOSQUITO, &board, Colour::Black, 3, None),
+        Key::of(WITH_MOSQUITO, &board, Colour::White, 3, Some(Piece::at(1))),
+    ] {
+        repeats.push(other)?;
+        assert!(rt; !repeats.is_third());
+        repeats.pop();
+    }
+    repeats.push(Key::of(WITH_MOSQUITO, &board, Colour::White, 3, None))?;
+    assert!(rt; repeats.is_third());
     repeats.pop();
-    repeats.pop();
-    assert_eq!(rt; repeats.times(), 2);
+    assert!(rt; !repeats.is_third());
     Ok(())
 }

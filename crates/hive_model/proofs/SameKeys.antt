@@ -1,24 +1,14 @@
 -- `==` of keys answers whether they are equal.
-use Rattle.std.proofs.Common.{◌≡◌, Bool, true, false, rules, subst, Some, None, nat_eq, refl, sym, ap, ◌∙◌, ◌&&◌}
+use Rattle.std.proofs.Common.{◌≡◌, Bool, true, rules, subst, nat_eq, refl, sym, ◌∙◌, ◌&&◌}
 use Rattle.std.proofs.lemmas.Bool.{and_parts}
 use lib.Pointwise.{pointwise, pointwise_decides}
 use Rattle.std.specs.Option.{option_eq}
 use Rattle.hive_model.specs.Keys.{KeyParts}
-use Rattle.hive_model.specs.contracts.places.PlacePartialEq.TheImpl as place
 use Rattle.hive_model.specs.contracts.places.SpotPartialEq.TheImpl as spot
 use Rattle.hive_model.specs.contracts.pieces.ColourPartialEq.TheImpl as colour
 use Rattle.hive_model.specs.contracts.pieces.GameTypePartialEq.TheImpl as game
 use Rattle.hive_model.specs.SameKeys.{same_key}
-
--- the test answers whether the two are equal
-abbrev pub Decides : {X : Type 0} → (X → X → Bool) → Type 0
-Decides {X} E = (x y : X) → (E x y ≡ true → x ≡ y) × (x ≡ y → E x y ≡ true)
-
-places : Decides place.eq-value.it
-places p q = (search rules, search rules)
-
-spots : Decides spot.eq-value.it
-spots p q = (search rules, search rules)
+use Rattle.hive_model.specs.SameSpots.{Decides, options, spots}
 
 colours : Decides colour.eq-value.it
 colours p q = (search rules, search rules)
@@ -28,12 +18,6 @@ games p q = (search rules, search rules)
 
 numbers : Decides nat_eq
 numbers p q = (search rules, search rules)
-
-options : {X : Type 0} {E : X → X → Bool} → Decides E → Decides (option_eq E)
-options d None None = (λ _. refl, λ _. refl)
-options d None (Some y) = (λ h. let wrong : false ≡ true = h in absurd (cc), λ h. let wrong : None ≡ Some y = h in absurd (cc))
-options d (Some x) None = (λ h. let wrong : false ≡ true = h in absurd (cc), λ h. let wrong : Some x ≡ None = h in absurd (cc))
-options d (Some x) (Some y) = (λ h. ap Some ((d x y).0 h), λ h. (d x y).1 (let s : Some x ≡ Some y = h in cc))
 
 both : {a b : Bool} → a ≡ true → b ≡ true → (a && b) ≡ true
 both x y = λ i. x i && y i

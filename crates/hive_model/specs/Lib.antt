@@ -23,6 +23,9 @@ pub mod Courses
 pub mod Evaluation
 pub mod Keys
 pub mod SameKeys
+pub mod SameSpots
+pub mod KeyNumbers
+pub mod NumberCounts
 pub mod Repetition
 pub mod Minimax
 pub mod Costs

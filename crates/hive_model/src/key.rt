@@ -1,19 +1,22 @@
 //! What tells positions apart whose values may differ.
 
-ghost use Rattle.std.specs.Prelude.{◌≡◌, IfSome};
+ghost use Rattle.std.specs.Prelude.{◌≡◌, IfSome, fold};
 ghost use Rattle.hive_model.specs.Places.{IsWithin};
 ghost use Rattle.hive_model.specs.Keys.{key_of, spot_in};
+ghost use Rattle.std.specs.Hash as fed;
+ghost use Rattle.hive_model.specs.KeyNumbers.{equal_numbers, mixed, number_of};
 ghost use Rattle.hive_model.specs.Repetition.{same_board};
 
 use crate::boards::Board;
 use crate::pieces::{Colour, GameType, Piece};
 use crate::places::Spot;
+use std::hash::{Hash, Hasher};
 use std::marker::Model;
 
 /// A position's key: where each piece stands and at which level, the game type, the side to move,
 /// the number of the turn, capped at 5, and the piece that rests. Sound positions with equal keys
 /// are worth the same at every depth.
-#[derive(Clone, Copy, Debug, PartialEq, Eq, Hash)]
+#[derive(Clone, Copy, Debug, PartialEq, Eq)]
 pub struct Key {
     spots: [Option<Spot>; 28],
     game_type: GameType,
@@ -46,7 +49,56 @@ impl Model for Key {
     } };
 }
 
+/// Odd factors that spread their products over 64 bits.
+const SPREAD: u64 = 0x9E37_79B9_7F4A_7C15;
+
+const SPREAD_Q: u64 = 0xC2B2_AE3D_27D4_EB4F;
+
+const SPREAD_R: u64 = 0x1656_67B1_9E37_79F9;
+
+/// The number of the spots before, with one spot more.
+fn mixed(number: u64, spot: Option<Spot>) -> u64
+    ensures { result ≡ mixed number spot }
+{
+    let Some(spot) = spot else {
+        return number.wrapping_mul(SPREAD);
+    };
+    let q = u64::from(spot.place.q.cast_unsigned()).wrapping_mul(SPREAD_Q);
+    let r = u64::from(spot.place.r.cast_unsigned()).wrapping_mul(SPREAD_R);
+    let here = q ^ r ^ (u64::from(spot.level) + 1);
+    (number ^ here).wrapping_mul(SPREAD)
+}
+
+/// A number of the spots, in which those of different keys seldom agree.
+fn number_of(spots: &[Option<Spot>]) -> u64
+    ensures { result ≡ fold mixed 0 spots.now }
+{
+    let mut number = 0;
+    for spot in spots {
+        number = mixed(number, *spot);
+    }
+    number
+}
+
+/// Tables find a key by a number of its spots alone, for speed; `==` compares all.
+impl Hash for Key {
+    ghost hash_input = { λ k. fed.u64 (number_of k) };
+
+    ghost respects_eq = { equal_numbers };
+
+    fn hash<H: Hasher>(&self, state: &mut H) {
+        state.write_u64(self.number());
+    }
+}
+
 impl Key {
+    /// The number by which tables find the key. Keys of one board have one number.
+    pub(crate) fn number(&self) -> u64
+        ensures { result ≡ number_of self.now }
+    {
+        number_of(&self.spots)
+    }
+
     /// The key of a position: its game type, its board, the side to move, the number of the turn
     /// and the piece that rests.
     pub fn of<B: Board>(

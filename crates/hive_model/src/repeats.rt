@@ -1,27 +1,32 @@
 //! The keys of a game's positions, kept to count how often the last one stands.
 
-ghost use Rattle.std.specs.Prelude.{◌≡◌, ◌-◌, ◌<◌, ◌≤◌, [], ◌∷◌, ◌++◌, length, take, OnOk, OnErr};
+ghost use Rattle.std.specs.Prelude.{◌≡◌, ◌-◌, ◌<◌, ◌≤◌, [], ◌∷◌, ◌++◌, length, nat_le, take, OnOk, OnErr};
 ghost use Rattle.hive_model.specs.Repetition.{count_same, count_last};
 
 use crate::key::Key;
+use crate::number_counts::{count_down, count_of, count_up};
+use indexmap::IndexMap;
 use std::alloc::{AllocError, Global};
 use std::marker::Model;
 
-/// Keys in order, at most 10,000.
+/// Keys in order, at most 10,000. Beside them stands how many of them have each number: keys of one
+/// board have one number, so that most boards are known at once to stand for the first time.
 #[derive(Drop)]
 pub struct Repeats {
     kept: Vec<Key>,
+    counts: IndexMap<u64, u32>,
 }
 
 impl Model for Repeats {
     ghost use Rattle.std.specs.Prelude.{◌≤◌, List, length};
     ghost use Rattle.hive_model.specs.Keys.{KeyParts};
+    ghost use Rattle.hive_model.specs.NumberCounts.{AreCounted};
 
     ghost Value = { List KeyParts };
 
     ghost view = { λ r. r.kept.items };
 
-    ghost invariant = { λ r. length r.kept.items ≤ 10000 };
+    ghost invariant = { λ r. (length r.kept.items ≤ 10000) × AreCounted r.kept.items r.counts };
 }
 
 /// How many of the keys have the board of this one.
@@ -45,6 +50,7 @@ impl Repeats {
     {
         Repeats {
             kept: Vec::new(alloc),
+            counts: IndexMap::new(alloc),
         }
     }
 
@@ -55,7 +61,9 @@ impl Repeats {
         ensures pushed { OnOk result (self.new ≡ self.old ++ key ∷ []) }
         ensures refused { OnErr result (self.new ≡ self.old) }
     {
-        self.kept.push(key)?;
+        self.kept.reserve(1)?;
+        count_up(&mut self.counts, key.number())?;
+        self.kept.push_reserved(key);
         Ok(())
     }
 
@@ -64,16 +72,19 @@ impl Repeats {
         requires { 1 ≤ length self.old }
         ensures { self.new ≡ take (length self.old - 1) self.old }
     {
-        self.kept.pop();
+        if let Some(key) = self.kept.pop() {
+            count_down(&mut self.counts, key.number());
+        }
     }
 
-    /// How many of the keys have the board of the last one, itself among them. The turn does not
-    /// count.
-    pub fn times(&self) -> u32
+    /// Whether at least three of the keys have the board of the last one, itself among them. The
+    /// turn does not count.
+    pub fn is_third(&self) -> bool
         requires { 1 ≤ length self.now }
-        ensures { result ≡ count_last self.now }
+        ensures { result ≡ nat_le 3 (count_last self.now) }
     {
         let keys = self.kept.as_slice();
-        count_same(&keys[keys.len() - 1], keys)
+        let last = &keys[keys.len() - 1];
+        3 <= count_of(&self.counts, last.number()) && 3 <= count_same(last, keys)
     }
 }
