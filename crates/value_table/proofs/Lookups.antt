@@ -5,7 +5,7 @@ use Rattle.std.specs.Map.{lookup, lookup_entry, remove_entry}
 use Rattle.lru.specs.LruCache.{promoted}
 use Rattle.lru.proofs.CallerLemmas.{Contains-lookup_entry}
 use Rattle.lru.proofs.Pairs.{lookup-lookup_entry}
-use Rattle.hive_model.proofs.SameKeys.{Decides}
+use Rattle.hive_model.specs.SameSpots.{Decides}
 
 module _ {K : Type 0} (E : K → K → Bool) (decides : Decides E) where
   -- two keys are equal, or the test refuses them
