@@ -1,0 +1,6 @@
+pub mod RoundLaws
+pub mod SeenLaws
+pub mod StoodLaws
+pub mod TestLaws
+pub mod MoveLaws
+pub mod ValueLaws

@@ -1,0 +1,73 @@
+-- The test of being far from a win holds exactly where the relation does.
+use Rattle.std.proofs.Common.{◌≡◌, ℕ, ◌<◌, true, false, not, ◌||◌, ◌⊎◌, inl, inr, length, refl, sym, ◌∙◌, ap, subst, arith}
+use Rattle.std.specs.Prelude.{Option, Some, None, nat_lt}
+use Rattle.std.specs.List.{filter}
+use Rattle.std.proofs.lemmas.Bool.{and_parts, and_from, or_cases, or_left, or_right, not-true, not_from_false, false_from_ne_true, ltb-true, lt-ltb}
+use Rattle.hive_model.specs.declared.pieces.Colour.{Colour}
+use Rattle.hive_model.specs.declared.pieces.Kind.TheVariants.{Mosquito, Pillbug}
+use Rattle.hive_model.specs.declared.places.Place.{Place}
+use Rattle.hive_model.specs.declared.places.Spot.{Spot}
+use Rattle.hive_model.specs.Pieces.{kind_of, colour_of, is_kind, is_colour, other_side, queen_of}
+use Rattle.hive_model.specs.Places.{step, dirs, neighbours}
+use Rattle.hive_model.specs.Boards.{Stacks, is_occupied, top_at, spot_of}
+use Rattle.hive_model.specs.Evaluation.{occupied_round}
+use Rattle.hive_model.specs.Positions.{Position}
+use Rattle.hive_model.proofs.PieceLaws.{same_kind, from_same_kind, same_colour, from_same_colour}
+use Rattle.hive_model.proofs.RuleLaws.{any_has, has_any, dir_on}
+use Rattle.win_bounds.specs.FarFromWin.{IsBesideThrower, IsFarFromWin, is_own_thrower, is_beside_thrower, is_far_spot, is_far_from_win}
+
+own_thrower_from : (c : Colour) (o : Option ℕ) → is_own_thrower c o ≡ true → (y : ℕ) × (o ≡ Some y) × (colour_of y ≡ c) × ((kind_of y ≡ Pillbug) ⊎ (kind_of y ≡ Mosquito))
+own_thrower_from c None e = let wrong : false ≡ true = e in absurd (cc)
+own_thrower_from c (Some y) e =
+    let both = and_parts (is_colour (colour_of y) c) (is_kind (kind_of y) Pillbug || is_kind (kind_of y) Mosquito) e in
+    let kind : (kind_of y ≡ Pillbug) ⊎ (kind_of y ≡ Mosquito) = elim (or_cases (is_kind (kind_of y) Pillbug) (is_kind (kind_of y) Mosquito) both.1) [
+      | inl pillbug ↦ inl (same_kind (kind_of y) Pillbug pillbug)
+      | inr mosquito ↦ inr (same_kind (kind_of y) Mosquito mosquito)
+    ] in
+    (y, refl, same_colour (colour_of y) c both.0, kind)
+
+pub beside_from : (b : Stacks) (c : Colour) (q : Place) → is_beside_thrower b c q ≡ true → IsBesideThrower b c q
+beside_from b c q e =
+    let r = any_has (λ d. is_own_thrower c (top_at b (step q d))) dirs e in
+    let y = own_thrower_from c (top_at b (step q r.0)) r.2 in
+    record { dir = r.0; thrower = y.0; stands = y.1; own = y.2; kind = y.3 }
+
+pub from_beside : (b : Stacks) (c : Colour) (q : Place) → IsBesideThrower b c q → is_beside_thrower b c q ≡ true
+from_beside b c q h =
+    let kind : (is_kind (kind_of h.thrower) Pillbug || is_kind (kind_of h.thrower) Mosquito) ≡ true = elim h.kind [
+      | inl pillbug ↦ or_left (is_kind (kind_of h.thrower) Pillbug) _ (from_same_kind (kind_of h.thrower) Pillbug pillbug)
+      | inr mosquito ↦ or_right (is_kind (kind_of h.thrower) Pillbug) _ (from_same_kind (kind_of h.thrower) Mosquito mosquito)
+    ] in
+    has_any (λ d. is_own_thrower c (top_at b (step q d))) dirs h.dir (dir_on h.dir)
+    (ap (is_own_thrower c) h.stands ∙ and_from _ _ (from_same_colour (colour_of h.thrower) c h.own) kind)
+
+pub far_from : (p : Position) → is_far_from_win p ≡ true → IsFarFromWin p
+far_from p e = go (spot_of p.board (queen_of (other_side p.side))) refl e
+  where
+    go : (o : Option Spot) → spot_of p.board (queen_of (other_side p.side)) ≡ o → is_far_spot p.board p.side o ≡ true → IsFarFromWin p
+    go None at k = record {
+      few = omega (arith, ap (occupied_round p.board) at);
+      unthrown = λ s here. let wrong : None ≡ Some s = sym at ∙ here in absurd (cc);
+    }
+    go (Some s) at k =
+        let count = length (filter (is_occupied p.board) (neighbours s.place)) in
+        let both = and_parts (nat_lt count 5) (not (is_beside_thrower p.board p.side s.place)) k in
+        let low : count < 5 = ltb-true count 5 both.0 in
+        record {
+          few = omega (arith, low, ap (occupied_round p.board) at);
+          unthrown = λ t here by.
+              let same : t ≡ s = (let one : Some t ≡ Some s = sym here ∙ at in cc) in
+              let beside : is_beside_thrower p.board p.side s.place ≡ true = from_beside p.board p.side s.place (subst (λ (u : Spot). IsBesideThrower p.board p.side u.place) same by) in
+              let wrong : true ≡ false = sym beside ∙ not-true _ both.1 in cc;
+        }
+
+pub from_far : (p : Position) → IsFarFromWin p → is_far_from_win p ≡ true
+from_far p h = go (spot_of p.board (queen_of (other_side p.side))) refl
+  where
+    go : (o : Option Spot) → spot_of p.board (queen_of (other_side p.side)) ≡ o → is_far_spot p.board p.side o ≡ true
+    go None at = refl
+    go (Some s) at =
+        let count = length (filter (is_occupied p.board) (neighbours s.place)) in
+        let low : count < 5 = omega (arith, h.few, ap (occupied_round p.board) at) in
+        and_from (nat_lt count 5) (not (is_beside_thrower p.board p.side s.place)) (lt-ltb count 5 low)
+        (not_from_false _ (false_from_ne_true _ (λ e. h.unthrown s at (beside_from p.board p.side s.place e))))

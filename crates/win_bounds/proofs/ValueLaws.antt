@@ -1,0 +1,85 @@
+-- Far from a win a position is worth at most 1000 with one ply to search.
+use Rattle.std.proofs.Common.{◌≡◌, ℕ, Bool, true, false, List, [], ◌∷◌, map, inl, inr, refl, sym, ◌∙◌, ap, subst, arith, ℤ, pos, neg_ℤ, ◌≤ℤ◌, unwrap_or}
+use Rattle.std.specs.Prelude.{IsTrue}
+use Rattle.std.proofs.lemmas.Int.{ints, clamps}
+use Rattle.std.specs.Int.{int_max}
+use Rattle.hive_model.specs.declared.pieces.Colour.{Colour}
+use Rattle.hive_model.specs.declared.pieces.Colour.TheVariants.{White, Black}
+use Rattle.hive_model.specs.declared.places.Move.{Move}
+use Rattle.hive_model.specs.Lists.{IsOn}
+use Rattle.hive_model.specs.Pieces.{other_side, queen_of}
+use Rattle.hive_model.specs.Boards.{Stacks, spot_of, IsBoard}
+use Rattle.hive_model.specs.Positions.{Position}
+use Rattle.hive_model.specs.Legal.{is_surrounded, state_from, state, moves}
+use Rattle.hive_model.specs.Games.{after}
+use Rattle.hive_model.specs.Evaluation.{eval}
+use Rattle.hive_model.specs.Minimax.{end_value, greatest_from, greatest, value, reply_value}
+use Rattle.search_laws.proofs.MinimaxLaws.{eval-within, value-leaf}
+use Rattle.win_bounds.specs.FarFromWin.{IsFarFromWin, is_far_spot, is_far_from_win}
+use Rattle.win_bounds.proofs.TestLaws.{far_from}
+use Rattle.win_bounds.proofs.MoveLaws.{far_now, far_moves}
+
+-- which of the two says that this side's queen is surrounded
+abbrev of_side : Colour → Bool → Bool → Bool
+of_side White w k = w
+of_side Black w k = k
+
+side_is : (p : Position) (c : Colour) → of_side c (is_surrounded p.board White) (is_surrounded p.board Black) ≡ is_surrounded p.board c
+side_is p White = refl
+side_is p Black = refl
+
+-- where a side's queen is not surrounded the game has not ended with its loss
+no_loss : (w k fresh : Bool) (c : Colour) (d : ℕ) (z : ℤ) → of_side c w k ≡ false → neg_ℤ (pos 1000) ≤ℤ z → neg_ℤ (pos 1000) ≤ℤ unwrap_or (end_value (state_from w k fresh) c d) z
+no_loss true true fresh c d z safe low = omega (arith, ints)
+no_loss true false fresh White d z safe low = cc
+no_loss true false fresh Black d z safe low = omega (arith, ints)
+no_loss false true fresh White d z safe low = omega (arith, ints)
+no_loss false true fresh Black d z safe low = cc
+no_loss false false true c d z safe low = low
+no_loss false false false c d z safe low = low
+
+-- and where the other side's is not, not with its win
+no_win : (w k fresh : Bool) (c : Colour) (d : ℕ) (z : ℤ) → of_side (other_side c) w k ≡ false → z ≤ℤ pos 1000 → unwrap_or (end_value (state_from w k fresh) c d) z ≤ℤ pos 1000
+no_win true true fresh c d z safe high = omega (arith, ints)
+no_win true false fresh White d z safe high = omega (arith, ints)
+no_win true false fresh Black d z safe high = cc
+no_win false true fresh White d z safe high = cc
+no_win false true fresh Black d z safe high = omega (arith, ints)
+no_win false false true c d z safe high = high
+no_win false false false c d z safe high = high
+
+leaf_low : (p : Position) → is_surrounded p.board p.side ≡ false → neg_ℤ (pos 1000) ≤ℤ value p 0
+unfolding state
+leaf_low p safe =
+    let low : neg_ℤ (pos 1000) ≤ℤ unwrap_or (end_value (state p) p.side 0) (eval p) = no_loss _ _ _ p.side 0 (eval p) (side_is p p.side ∙ safe) (eval-within p).low in
+    subst (λ z. neg_ℤ (pos 1000) ≤ℤ z) (sym (value-leaf p)) low
+
+-- after a move the other side is on move
+reply_high : (p : Position) (m : Move) → is_surrounded (after p m).board (other_side p.side) ≡ false → reply_value p 0 m ≤ℤ pos 1000
+unfolding after
+reply_high p m safe = let low : neg_ℤ (pos 1000) ≤ℤ value (after p m) 0 = leaf_low (after p m) safe in omega (arith, ints, low)
+
+from_high : (r : Move → ℤ) (ms : List Move) (a : ℤ) → a ≤ℤ pos 1000 → ((m : Move) → IsOn ms m → r m ≤ℤ pos 1000) → greatest_from a (map r ms) ≤ℤ pos 1000
+from_high r [] a high each = high
+from_high r (m ∷ ms) a high each =
+    let first = each m (inl refl) in
+    let more : int_max a (r m) ≤ℤ pos 1000 = omega (arith, ints, clamps, high, first) in
+    from_high r ms (int_max a (r m)) more (λ n on. each n (inr on))
+
+greatest_high : (r : Move → ℤ) (ms : List Move) → ((m : Move) → IsOn ms m → r m ≤ℤ pos 1000) → greatest (map r ms) ≤ℤ pos 1000
+greatest_high r [] each = omega (arith, ints)
+greatest_high r (m ∷ ms) each = from_high r ms (r m) (each m (inl refl)) (λ n on. each n (inr on))
+
+pub far_value : (p : Position) → IsBoard p.board → IsFarFromWin p → value p 1 ≤ℤ pos 1000
+unfolding value state
+far_value p is far =
+    no_win (is_surrounded p.board White) (is_surrounded p.board Black) _ p.side 1 (greatest (map (reply_value p 0) (moves p)))
+    (side_is p (other_side p.side) ∙ far_now p far)
+    (greatest_high (reply_value p 0) (moves p) (λ m on. reply_high p m (far_moves p is far m on)))
+
+-- what the code finds on the board of the game
+pub far_worth : (p : Position) (b : Stacks) (c : Colour) (far : Bool) → b ≡ p.board → c ≡ p.side → IsBoard b → far ≡ is_far_spot b c (spot_of b (queen_of (other_side c))) → IsTrue far → value p 1 ≤ℤ pos 1000
+far_worth p b c far same side is told holds =
+    let here : far ≡ is_far_from_win p =
+    told ∙ ap (λ (z : Stacks). is_far_spot z c (spot_of z (queen_of (other_side c)))) same ∙ ap (λ z. is_far_spot p.board z (spot_of p.board (queen_of (other_side z)))) side in
+    far_value p (subst IsBoard same is) (far_from p (sym here ∙ holds))

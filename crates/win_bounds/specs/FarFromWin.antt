@@ -1,0 +1,55 @@
+-- Where the side to move cannot win with its next move: what stands round the other side's queen tells it.
+--
+-- A win surrounds her: all six places around her are occupied. A move puts one piece on one place, so unless it moves the queen
+-- herself it fills at most one of the six more. It is not her own side's move, so she moves only where a pillbug or a mosquito of
+-- the side to move, which stands beside her, throws her.
+use Rattle.std.specs.Prelude.{◌≡◌, ℕ, ◌≤◌, Bool, true, false, not, ◌&&◌, ◌||◌, nat_lt, length, Option, Some, None, ◌⊎◌}
+use Rattle.std.specs.List.{list_any, filter}
+use Rattle.hive_model.specs.declared.pieces.Colour.{Colour}
+use Rattle.hive_model.specs.declared.pieces.Kind.TheVariants.{Mosquito, Pillbug}
+use Rattle.hive_model.specs.declared.places.Place.{Place}
+use Rattle.hive_model.specs.declared.places.Dir.{Dir}
+use Rattle.hive_model.specs.declared.places.Spot.{Spot}
+use Rattle.hive_model.specs.Pieces.{kind_of, colour_of, is_kind, is_colour, other_side, queen_of}
+use Rattle.hive_model.specs.Places.{step, dirs, neighbours}
+use Rattle.hive_model.specs.Boards.{Stacks, is_occupied, top_at, spot_of}
+use Rattle.hive_model.specs.Evaluation.{round_queen}
+use Rattle.hive_model.specs.Positions.{Position}
+
+-- a neighbour's top piece is a pillbug or a mosquito of this side
+pub record IsBesideThrower (b : Stacks) (c : Colour) (q : Place) : Type 0 where
+  pub dir : Dir
+  pub thrower : ℕ
+  pub stands : top_at b (step q dir) ≡ Some thrower
+  pub own : colour_of thrower ≡ c
+  pub kind : (kind_of thrower ≡ Pillbug) ⊎ (kind_of thrower ≡ Mosquito)
+
+-- The side to move is far from a win where the other side's queen is in hand, or where at most four of the six places around her
+-- are occupied and no pillbug or mosquito of the side to move stands beside her. (Around a queen in hand nothing is counted.)
+pub record IsFarFromWin (p : Position) : Type 0 where
+  pub few : round_queen p.board (other_side p.side) ≤ 4
+  pub unthrown : (queen : Spot) → spot_of p.board (queen_of (other_side p.side)) ≡ Some queen → ¬ IsBesideThrower p.board p.side queen.place
+
+-- The tests of these
+
+-- the piece is a pillbug or a mosquito of this side
+abbrev pub is_own_thrower : Colour → Option ℕ → Bool
+is_own_thrower c None = false
+is_own_thrower c (Some x) = is_colour (colour_of x) c && (is_kind (kind_of x) Pillbug || is_kind (kind_of x) Mosquito)
+
+-- a neighbour's top piece is one
+abbrev pub is_beside_thrower : Stacks → Colour → Place → Bool
+is_beside_thrower b c q = list_any (λ d. is_own_thrower c (top_at b (step q d))) dirs
+
+-- at most four neighbours of the place are occupied, and none by a pillbug or a mosquito of this side on top
+abbrev pub is_far_place : Stacks → Colour → Place → Bool
+is_far_place b c q = nat_lt (length (filter (is_occupied b) (neighbours q))) 5 && not (is_beside_thrower b c q)
+
+-- the same of a queen's place; a queen in hand is far
+abbrev pub is_far_spot : Stacks → Colour → Option Spot → Bool
+is_far_spot b c None = true
+is_far_spot b c (Some s) = is_far_place b c s.place
+
+-- the side to move is far from a win
+abbrev pub is_far_from_win : Position → Bool
+is_far_from_win p = is_far_spot p.board p.side (spot_of p.board (queen_of (other_side p.side)))

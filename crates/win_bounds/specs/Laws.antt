@@ -1,0 +1,23 @@
+-- The laws of positions that are far from a win.
+use Rattle.std.specs.Prelude.{◌≡◌, false, pos, ◌≤ℤ◌, IsTrue, ◌↔◌}
+use Rattle.hive_model.specs.declared.places.Move.{Move}
+use Rattle.hive_model.specs.Lists.{IsOn}
+use Rattle.hive_model.specs.Pieces.{other_side}
+use Rattle.hive_model.specs.Boards.{IsBoard}
+use Rattle.hive_model.specs.Positions.{Position}
+use Rattle.hive_model.specs.Legal.{is_surrounded, moves}
+use Rattle.hive_model.specs.Games.{after}
+use Rattle.hive_model.specs.Minimax.{value}
+use Rattle.win_bounds.specs.FarFromWin.{IsFarFromWin, is_far_from_win}
+
+-- a position is tested to be far from a win exactly where it is
+abbrev pub FarIsTested : Type 0
+FarIsTested = (p : Position) → IsTrue (is_far_from_win p) ↔ IsFarFromWin p
+
+-- far from a win no legal move surrounds the other side's queen
+abbrev pub FarMovesDoNotSurround : Type 0
+FarMovesDoNotSurround = (p : Position) → IsBoard p.board → IsFarFromWin p → (m : Move) → IsOn (moves p) m → is_surrounded (after p m).board (other_side p.side) ≡ false
+
+-- and so a position that is far from a win is worth at most 1000 with one ply to search: an evaluation, a draw or a loss
+abbrev pub FarIsNotWon : Type 0
+FarIsNotWon = (p : Position) → IsBoard p.board → IsFarFromWin p → value p 1 ≤ℤ pos 1000

@@ -1,0 +1,2 @@
+pub mod FarFromWin
+pub mod Laws

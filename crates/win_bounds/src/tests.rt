@@ -1,0 +1,110 @@
+//! Small boards on which a queen is about to be surrounded, or far from it.
+
+use crate::far::is_far_on;
+use hive_model::{Board, Colour, Kind, Piece, Place};
+use stack_board::PlainBoard;
+use std::alloc::{AllocError, Global};
+use std::test::Fail;
+
+/// A piece by its colour, kind and number, and the place on which it is put, near the origin.
+type Put = (Colour, Kind, u8, i32, i32);
+
+/// A board with these pieces, one after another.
+fn board_of(alloc: Global, pieces: &[Put]) -> Result<PlainBoard, AllocError> {
+    let mut board = PlainBoard::new(alloc)?;
+    for (colour, kind, number, q, r) in pieces {
+        if let Some(piece) = Piece::new(*colour, *kind, *number)
+            && -9 <= *q
+            && *q <= 9
+            && -9 <= *r
+            && *r <= 9
+            && board.spot(piece).is_none()
+        {
+            board.put(piece, Place { q: *q, r: *r });
+        }
+    }
+    Ok(board)
+}
+
+/// Whether each side, first white and then black, is far from a win on a board of these pieces.
+fn far_on(alloc: Global, pieces: &[Put]) -> Result<(bool, bool), AllocError> {
+    let board = board_of(alloc, pieces)?;
+    Ok((
+        is_far_on(&board, Colour::White),
+        is_far_on(&board, Colour::Black),
+    ))
+}
+
+#[test]
+fn queens_in_hand_are_far(rt: HostRuntime) -> Result<(), Fail> {
+    let empty = far_on(rt.alloc(), &[])?;
+    assert_eq!(rt; empty, (true, true));
+    let pillbugs = far_on(
+        rt.alloc(),
+        &[
+            (Colour::White, Kind::Pillbug, 0, 0, 0),
+            (Colour::Black, Kind::Pillbug, 0, 1, 0),
+        ],
+    )?;
+    assert_eq!(rt; pillbugs, (true, true));
+    Ok(())
+}
+
+/// Black's queen with four neighbours, which are ants and spiders of both sides.
+const FOUR_ROUND: [Put; 5] = [
+    (Colour::Black, Kind::Queen, 0, 0, 0),
+    (Colour::White, Kind::Ant, 1, 1, 0),
+    (Colour::Black, Kind::Ant, 1, 1, -1),
+    (Colour::White, Kind::Spider, 1, 0, -1),
+    (Colour::Black, Kind::Spider, 1, -1, 0),
+];
+
+/// Whether white is far from a win where one more piece is put on the board with four neighbours
+/// of black's queen.
+fn far_with(alloc: Global, more: Put) -> Result<bool, AllocError> {
+    let [queen, one, two, three, four] = FOUR_ROUND;
+    let (white, _black) = far_on(alloc, &[queen, one, two, three, four, more])?;
+    Ok(white)
+}
+
+#[test]
+fn four_neighbours_are_few_and_five_are_not(rt: HostRuntime) -> Result<(), Fail> {
+    let four = far_on(rt.alloc(), &FOUR_ROUND)?;
+    assert_eq!(rt; four, (true, true));
+    let five = far_with(rt.alloc(), (Colour::White, Kind::Grasshopper, 1, -1, 1))?;
+    assert!(rt; !five);
+    let stacked = far_with(rt.alloc(), (Colour::White, Kind::Beetle, 1, 1, 0))?;
+    assert!(rt; stacked);
+    let on_queen = far_with(rt.alloc(), (Colour::White, Kind::Beetle, 1, 0, 0))?;
+    assert!(rt; on_queen);
+    let away = far_with(rt.alloc(), (Colour::White, Kind::Grasshopper, 1, 2, 0))?;
+    assert!(rt; away);
+    Ok(())
+}
+
+#[test]
+fn own_pillbugs_and_mosquitoes_beside_her_are_near(rt: HostRuntime) -> Result<(), Fail> {
+    let queen = (Colour::Black, Kind::Queen, 0, 0, 0);
+    for (colour, kind, q, far) in [
+        (Colour::White, Kind::Pillbug, 1, false),
+        (Colour::White, Kind::Mosquito, 1, false),
+        (Colour::White, Kind::Ladybug, 1, true),
+        (Colour::Black, Kind::Pillbug, 1, true),
+        (Colour::Black, Kind::Mosquito, 1, true),
+        (Colour::White, Kind::Pillbug, 2, true),
+        (Colour::White, Kind::Mosquito, 2, true),
+    ] {
+        let (white, _black) = far_on(rt.alloc(), &[queen, (colour, kind, 0, q, 0)])?;
+        assert_eq!(rt; white, far, "q {q}");
+    }
+    let covered = far_on(
+        rt.alloc(),
+        &[
+            queen,
+            (Colour::White, Kind::Pillbug, 0, 1, 0),
+            (Colour::Black, Kind::Beetle, 1, 1, 0),
+        ],
+    )?;
+    assert_eq!(rt; covered, (true, true));
+    Ok(())
+}
