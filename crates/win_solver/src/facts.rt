@@ -13,7 +13,7 @@ use search_laws::end_value;
 use value_table::{Bound, Entry, ValueTable};
 
 /// The size that no evaluation exceeds.
-const GREATEST_EVALUATION: i32 = 1_000;
+pub(crate) const GREATEST_EVALUATION: i32 = 1_000;
 
 /// Whether a position at which no move is tried is worth so much: the game is over, or no ply is
 /// left to search. None where the game goes on and a ply is left. Only where the state alone does

@@ -7,10 +7,11 @@ ghost use Rattle.hive_model.specs.Minimax.{IsInner, value, reply_value};
 ghost use Rattle.hive_model.specs.Courses.{position};
 ghost use Rattle.hive_model.specs.Stack.{level_of};
 
-use crate::facts::{keep_answer, leaf_reaches, told_by};
+use crate::facts::{GREATEST_EVALUATION, keep_answer, leaf_reaches, told_by};
 use hive_model::{Game, Move, MoveStack};
 use search_core::{first_choice, kept_hint};
 use value_table::ValueTable;
+use win_bounds::is_far_from_win;
 
 /// Whether a position is worth so much to its side to move, with `depth` plies left to search,
 /// from 0 to 64. A node is left at the first move that decides it, and what was found of a
@@ -36,7 +37,7 @@ pub(crate) fn reaches<G: Game>(
         return known;
     }
     if depth == 1 {
-        return find_reply(game, depth, least, None, stack, table).is_some();
+        return reaches_at_once(game, least, stack, table);
     }
     let key = game.key();
     let entry = table.look(&key, depth);
@@ -47,6 +48,30 @@ pub(crate) fn reaches<G: Game>(
     let reply = find_reply(game, depth, least, hint, stack, table);
     keep_answer(table, &key, depth, least, reply);
     reply.is_some()
+}
+
+/// The same where the game goes on and one ply is left. A win is not looked for among the moves
+/// where the board tells that there is none.
+#[cycle(reaches)]
+fn reaches_at_once<G: Game>(
+    game: &mut G,
+    least: i32,
+    stack: &mut MoveStack,
+    table: &mut ValueTable,
+) -> bool
+    requires low { negsuc 1000099 ≤ℤ least }
+    requires high { least ≤ℤ pos 1000101 }
+    requires inner { IsInner (position (G.course game.old)) 1 }
+    requires spare { 1 ≤ (G.course game.old).spare }
+    requires room { 1 ≤ stack.old.free }
+    ensures reached { result ≡ int_le least (value (position (G.course game.old)) 1) }
+    ensures game { G.course game.new ≡ G.course game.old }
+    ensures stack { stack.new ≡ stack.old }
+{
+    if least > GREATEST_EVALUATION && is_far_from_win(game) {
+        return false;
+    }
+    find_reply(game, 1, least, None, stack, table).is_some()
 }
 
 /// The place of a legal move that is worth so much to the side that makes it, where the game goes

@@ -8,19 +8,22 @@ use Rattle.win_solver.proofs.ReachLaws.{reply_reaches}
 use Rattle.win_solver.proofs.reaching.+reaches.Given as goal
 
 abbrev pub decreases-reply_reaches : goal.decreases-reply_reaches
-decreases-reply_reaches g l = 5 * l.depth + 5
+decreases-reply_reaches g l = 6 * l.depth + 6
 
 abbrev pub decreases-reaches : goal.decreases-reaches
-decreases-reaches g l = 5 * l.depth + 4
+decreases-reaches g l = 6 * l.depth + 5
+
+abbrev pub decreases-reaches_at_once : goal.decreases-reaches_at_once
+decreases-reaches_at_once g l = 10
 
 abbrev pub decreases-find_reply : goal.decreases-find_reply
-decreases-find_reply g l = 5 * l.depth + 3
+decreases-find_reply g l = 6 * l.depth + 3
 
 abbrev pub decreases-first_reply : goal.decreases-first_reply
-decreases-first_reply g l = 5 * l.depth + 2
+decreases-first_reply g l = 6 * l.depth + 2
 
 abbrev pub decreases-hinted_reply : goal.decreases-hinted_reply
-decreases-hinted_reply g l = 5 * l.depth + 1
+decreases-hinted_reply g l = 6 * l.depth + 1
 
 abbrev pub invariant-first_reply-loop-i : goal.invariant-first_reply-loop-i
 invariant-first_reply-loop-i g l =
