@@ -1,11 +1,12 @@
 -- Far from a win no legal move surrounds the other side's queen.
-use Rattle.std.proofs.Common.{◌≡◌, ◌≢◌, ℕ, ◌-◌, ◌≤◌, false, length, inl, inr, refl, sym, ◌∙◌, ap, arith}
-use Rattle.std.specs.Prelude.{Some, slice_get}
+use Rattle.std.proofs.Common.{◌≡◌, ◌≢◌, ℕ, ◌-◌, ◌≤◌, false, length, inl, inr, refl, sym, ◌∙◌, ap, subst, arith}
+use Rattle.std.specs.Prelude.{Some, IsTrue, slice_get}
 use Rattle.std.specs.List.{filter}
 use Rattle.std.proofs.lemmas.Bool.{false_from_ne_true}
 use Rattle.hive_model.specs.declared.pieces.Colour.{Colour}
 use Rattle.hive_model.specs.declared.pieces.Colour.TheVariants.{White, Black}
 use Rattle.hive_model.specs.declared.places.Place.{Place}
+use Rattle.hive_model.specs.declared.places.Dir.{Dir}
 use Rattle.hive_model.specs.declared.places.Spot.{Spot}
 use Rattle.hive_model.specs.declared.places.Move.{Move}
 use Rattle.hive_model.specs.declared.places.Move.TheVariants.{Pass, To}
@@ -22,9 +23,11 @@ use Rattle.hive_model.proofs.GetLemmas.{get_within}
 use Rattle.hive_model.proofs.BoardLemmas.{spot_of_stands, stands_spot_of}
 use Rattle.hive_model.proofs.LegalLaws.{opposite, back}
 use Rattle.hive_model.proofs.MoveLaws.{moves_legal}
+use Rattle.hive_model.proofs.ReachLaws.{step_moves}
 use Rattle.hive_model.proofs.OverLaws.{surrounded_from}
-use Rattle.win_bounds.specs.FarFromWin.{IsBesideThrower, IsFarFromWin}
+use Rattle.win_bounds.specs.FarFromWin.{IsHole, IsBesideThrower, IsFarFromWin}
 use Rattle.win_bounds.proofs.RoundLaws.{five_round}
+use Rattle.win_bounds.proofs.ThrowLaws.{thrown_to}
 use Rattle.win_bounds.proofs.StoodLaws.{stood_before, was_occupied}
 
 queen_colour : (c : Colour) → colour_of (queen_of c) ≡ c
@@ -46,27 +49,39 @@ alone_top b y t stands alone =
     let last : height_at b t.place - 1 ≡ t.level = omega (arith, low, alone) in
     ap (slice_get (stack_at b t.place)) last ∙ at
 
--- who is thrown has a thrower beside it
-thrown_beside : (p : Position) (x : ℕ) (q : Place) (h : Throw p x q) → IsBesideThrower p.board p.side h.from.place
-thrown_beside p x q h =
+-- who is thrown into a hole stands beside such a thrower
+thrown_beside : (p : Position) (x : ℕ) (q : Place) (h : Throw p x q) → ((d : Dir) → IsTrue (is_occupied p.board (step q d))) → IsBesideThrower p.board p.side h.from.place
+thrown_beside p x q h round =
     let d = h.throws.beside.0 in
     let there : step h.from.place (opposite d) ≡ h.over.place = ap (λ z. step z (opposite d)) (sym h.throws.beside.1) ∙ back h.over.place d in
+    let down : q ≡ step (step h.from.place (opposite d)) h.throws.down.dir = sym h.throws.down.leads ∙ ap (λ z. step z h.throws.down.dir) (sym there) in
     record {
       dir = opposite d;
       thrower = h.thrower;
       stands = ap (top_at p.board) there ∙ alone_top p.board h.thrower h.over h.is_thrower.stands h.is_thrower.alone;
       own = h.own;
       kind = elim h.is_thrower.can [ inl pillbug ↦ inl pillbug | inr mosquito ↦ inr mosquito.0 ];
+      way = h.throws.down.dir;
+      hole = subst (IsHole p.board) down (record { empty = h.throws.empty; round = round });
     }
 
--- far from a win no legal move is one of the other side's queen
-legal_spares : (p : Position) (x : ℕ) (q : Place) → IsFarFromWin p → LegalPair p x q → x ≢ queen_of (other_side p.side)
-legal_spares p x q far legal same = elim legal [
+-- a thrown queen is not surrounded where she comes down
+not_thrown : (p : Position) → IsBoard p.board → IsFarFromWin p → (x : ℕ) (q : Place) → Throw p x q → x ≡ queen_of (other_side p.side) → IsSurrounded (after_board p.board (To x q)) (other_side p.side) → ⊥
+not_thrown p is far x q throw same h =
+    let b = p.board in
+    let stands = spot_of_stands (after_board b (To x q)) x h.spot (ap (spot_of (after_board b (To x q))) same ∙ h.stands) in
+    let to : h.spot.place ≡ q = thrown_to b is x throw.from throw.throws.stands throw.throws.alone q h.spot.place h.spot.level stands in
+    let round : (d : Dir) → IsTrue (is_occupied b (step q d)) = λ d. elim (was_occupied b x q (step q d) (subst (λ z. IsTrue (is_occupied (after_board b (To x q)) (step z d))) to (h.round d))) [
+      | inl old ↦ old
+      | inr itself ↦ absurd (step_moves q d itself)
+    ] in
+    far.unthrown throw.from (ap (spot_of b) (sym same) ∙ throw.throws.stands) (thrown_beside p x q throw round)
+
+-- any other legal move leaves her where she is
+queen_moved : (p : Position) → IsBoard p.board → IsFarFromWin p → (x : ℕ) (q : Place) → LegalPair p x q → x ≡ queen_of (other_side p.side) → IsSurrounded (after_board p.board (To x q)) (other_side p.side) → ⊥
+queen_moved p is far x q legal same h = elim legal [
   | inl placed ↦ own_spares p.side x placed.own same
-  | inr moved ↦ elim moved.1 [
-    | inl walk ↦ own_spares p.side x walk.own same
-    | inr throw ↦ far.unthrown throw.from (ap (spot_of p.board) (sym same) ∙ throw.throws.stands) (thrown_beside p x q throw)
-  ]
+  | inr moved ↦ elim moved.1 [ inl walk ↦ own_spares p.side x walk.own same | inr throw ↦ not_thrown p is far x q throw same h ]
 ]
 
 -- she has no five neighbours
@@ -86,7 +101,7 @@ not_surrounded p is far (To x q) on h =
     let b = p.board in
     let queen = queen_of (other_side p.side) in
     let legal = moves_legal p is (To x q) on in
-    let stays : queen ≢ x = (λ e. legal_spares p x q far legal.1 (sym e)) in
+    let stays : queen ≢ x = (λ e. queen_moved p is far x q legal.1 (sym e) h) in
     let stood = stood_before b x q queen h.spot.place h.spot.level stays (spot_of_stands (after_board b (To x q)) queen h.spot h.stands) in
     not_five p far h.spot.place stood.0 (stands_spot_of b is queen h.spot.place stood.0 stood.1)
     (five_round (is_occupied b) h.spot.place q (λ d. was_occupied b x q (step h.spot.place d) (h.round d)))

@@ -10,12 +10,13 @@ use Rattle.hive_model.specs.declared.places.Dir.TheVariants.{E}
 use Rattle.hive_model.specs.Places.{step, dirs, neighbours}
 use Rattle.hive_model.specs.Boards.{Stacks, stack_at, is_occupied, top_of, top_at}
 use Rattle.hive_model.proofs.GetLemmas.{get_within, get_exists}
-use Rattle.win_bounds.specs.FarFromWin.{is_own_thrower, is_beside_thrower, is_far_place}
+use Rattle.search_laws.proofs.LoopLaws.{drop-all}
+use Rattle.win_bounds.specs.FarFromWin.{has_hole, is_own_thrower, throws_in, is_beside_thrower, is_far_place}
 
 -- so many neighbours in the directions before n are occupied, at most four, and none by a thrower of the side
 pub record IsSeen (b : Stacks) (c : Colour) (q : Place) (n occupied : ℕ) : Type 0 where
   pub count : occupied + length (filter (is_occupied b) (map (step q) (drop n dirs))) ≡ length (filter (is_occupied b) (neighbours q))
-  pub quiet : list_any (λ d. is_own_thrower c (top_at b (step q d))) (drop n dirs) ≡ is_beside_thrower b c q
+  pub quiet : list_any (λ d. throws_in b c (step q d)) (drop n dirs) ≡ is_beside_thrower b c q
   pub few : occupied ≤ 4
 
 drop_head : {X : Type 0} (xs : List X) (n : ℕ) (x : X) → n < length xs → drop n xs ≡ get_or xs n x ∷ drop (n + 1) xs
@@ -62,19 +63,16 @@ module _ (b : Stacks) (c : Colour) (q : Place) (n occupied : ℕ) (more : n < 6)
       let one = counted (is_occupied b) (step q (get_or dirs n E)) (map (step q) rest) t here in
       ap (λ k. occupied + k) (sym one) ∙ ap (λ ds. occupied + length (filter (is_occupied b) (map (step q) ds))) (sym head) ∙ seen.count
 
-  quiet_on : (is_own_thrower c o || list_any (λ d. is_own_thrower c (top_at b (step q d))) rest) ≡ is_beside_thrower b c q
-  quiet_on =
-      ap (λ z. is_own_thrower c z || list_any (λ d. is_own_thrower c (top_at b (step q d))) rest) (top ∙ ap (top_at b) leads)
-      ∙ ap (list_any (λ d. is_own_thrower c (top_at b (step q d)))) (sym head) ∙ seen.quiet
-
-  quiet_after : is_own_thrower c o ≡ false → list_any (λ d. is_own_thrower c (top_at b (step q d))) rest ≡ is_beside_thrower b c q
-  quiet_after other = ap (λ t. t || list_any (λ d. is_own_thrower c (top_at b (step q d))) rest) (sym other) ∙ quiet_on
+  quiet_on : (t : Bool) → throws_in b c r ≡ t → (t || list_any (λ d. throws_in b c (step q d)) rest) ≡ is_beside_thrower b c q
+  quiet_on t e =
+      ap (λ z. z || list_any (λ d. throws_in b c (step q d)) rest) (sym e ∙ ap (throws_in b c) leads)
+      ∙ ap (list_any (λ d. throws_in b c (step q d))) (sym head) ∙ seen.quiet
 
   -- there is no piece in this direction
   pub seen_free : o ≡ None → IsSeen b c q (n + 1) occupied
   seen_free none = record {
     count = omega (arith, count_on false (none_free (stack_at b r) (sym top ∙ none)));
-    quiet = quiet_after (ap (is_own_thrower c) none);
+    quiet = quiet_on false (ap (λ z. is_own_thrower c z && has_hole b r) (sym top ∙ none));
     few = seen.few;
   }
 
@@ -83,10 +81,10 @@ module _ (b : Stacks) (c : Colour) (q : Place) (n occupied : ℕ) (more : n < 6)
     taken : occupied + (1 + left) ≡ length (filter (is_occupied b) (neighbours q))
     taken = count_on true (some_taken (stack_at b r) x (sym top ∙ some))
 
-    pub seen_taken : occupied ≢ 4 → is_own_thrower c (Some x) ≡ false → IsSeen b c q (n + 1) (occupied + 1)
+    pub seen_taken : occupied ≢ 4 → throws_in b c r ≡ false → IsSeen b c q (n + 1) (occupied + 1)
     seen_taken fewer other = record {
       count = omega (arith, taken);
-      quiet = quiet_after (ap (is_own_thrower c) some ∙ other);
+      quiet = quiet_on false other;
       few = omega (arith, seen.few, fewer);
     }
 
@@ -95,7 +93,15 @@ module _ (b : Stacks) (c : Colour) (q : Place) (n occupied : ℕ) (more : n < 6)
         let many : 5 ≤ length (filter (is_occupied b) (neighbours q)) = omega (arith, taken, four) in
         many_far (length (filter (is_occupied b) (neighbours q))) (not (is_beside_thrower b c q)) many
 
-    pub thrower_near : is_own_thrower c (Some x) ≡ true → false ≡ is_far_place b c q
-    thrower_near own =
-        let beside : is_beside_thrower b c q ≡ true = sym quiet_on ∙ ap (λ t. t || list_any (λ d. is_own_thrower c (top_at b (step q d))) rest) (ap (is_own_thrower c) some ∙ own) in
-        beside_far (nat_lt (length (filter (is_occupied b) (neighbours q))) 5) (is_beside_thrower b c q) beside
+    pub thrower_near : throws_in b c r ≡ true → false ≡ is_far_place b c q
+    thrower_near own = beside_far (nat_lt (length (filter (is_occupied b) (neighbours q))) 5) (is_beside_thrower b c q) (sym (quiet_on true own))
+
+-- all six directions are seen
+pub seen_all : (b : Stacks) (c : Colour) (q : Place) (n occupied : ℕ) → 6 ≤ n → IsSeen b c q n occupied → true ≡ is_far_place b c q
+seen_all b c q n occupied all seen =
+    let past : length dirs ≤ n = omega (arith, all) in
+    let none : drop n dirs ≡ [] = drop-all dirs n past in
+    let count : occupied + 0 ≡ length (filter (is_occupied b) (neighbours q)) = ap (λ ds. occupied + length (filter (is_occupied b) (map (step q) ds))) (sym none) ∙ seen.count in
+    let low : length (filter (is_occupied b) (neighbours q)) < 5 = omega (arith, count, seen.few) in
+    let quiet : false ≡ is_beside_thrower b c q = ap (list_any (λ d. throws_in b c (step q d))) (sym none) ∙ seen.quiet in
+    sym (ap (λ t. t && true) (lt-ltb (length (filter (is_occupied b) (neighbours q))) 5 low)) ∙ ap (λ t. nat_lt (length (filter (is_occupied b) (neighbours q))) 5 && not t) quiet

@@ -1,20 +1,20 @@
 -- The test of being far from a win holds exactly where the relation does.
 use Rattle.std.proofs.Common.{◌≡◌, ℕ, ◌<◌, true, false, not, ◌||◌, ◌⊎◌, inl, inr, length, refl, sym, ◌∙◌, ap, subst, arith}
-use Rattle.std.specs.Prelude.{Option, Some, None, nat_lt}
-use Rattle.std.specs.List.{filter}
-use Rattle.std.proofs.lemmas.Bool.{and_parts, and_from, or_cases, or_left, or_right, not-true, not_from_false, false_from_ne_true, ltb-true, lt-ltb}
+use Rattle.std.specs.Prelude.{Option, Some, None, nat_eq, nat_lt}
+use Rattle.std.specs.List.{list_all, filter}
+use Rattle.std.proofs.lemmas.Bool.{and_parts, and_from, or_cases, or_left, or_right, not-true, not_from_false, false_from_ne_true, ltb-true, lt-ltb, eqb-true, eq-eqb}
 use Rattle.hive_model.specs.declared.pieces.Colour.{Colour}
 use Rattle.hive_model.specs.declared.pieces.Kind.TheVariants.{Mosquito, Pillbug}
 use Rattle.hive_model.specs.declared.places.Place.{Place}
 use Rattle.hive_model.specs.declared.places.Spot.{Spot}
 use Rattle.hive_model.specs.Pieces.{kind_of, colour_of, is_kind, is_colour, other_side, queen_of}
 use Rattle.hive_model.specs.Places.{step, dirs, neighbours}
-use Rattle.hive_model.specs.Boards.{Stacks, is_occupied, top_at, spot_of}
+use Rattle.hive_model.specs.Boards.{Stacks, height_at, is_occupied, top_at, spot_of}
 use Rattle.hive_model.specs.Evaluation.{occupied_round}
 use Rattle.hive_model.specs.Positions.{Position}
 use Rattle.hive_model.proofs.PieceLaws.{same_kind, from_same_kind, same_colour, from_same_colour}
-use Rattle.hive_model.proofs.RuleLaws.{any_has, has_any, dir_on}
-use Rattle.win_bounds.specs.FarFromWin.{IsBesideThrower, IsFarFromWin, is_own_thrower, is_beside_thrower, is_far_spot, is_far_from_win}
+use Rattle.hive_model.proofs.RuleLaws.{any_has, has_any, all_at, at_all, dir_on}
+use Rattle.win_bounds.specs.FarFromWin.{IsHole, IsBesideThrower, IsFarFromWin, is_hole, has_hole, is_own_thrower, throws_in, is_beside_thrower, is_far_spot, is_far_from_win}
 
 own_thrower_from : (c : Colour) (o : Option ℕ) → is_own_thrower c o ≡ true → (y : ℕ) × (o ≡ Some y) × (colour_of y ≡ c) × ((kind_of y ≡ Pillbug) ⊎ (kind_of y ≡ Mosquito))
 own_thrower_from c None e = let wrong : false ≡ true = e in absurd (cc)
@@ -26,11 +26,21 @@ own_thrower_from c (Some y) e =
     ] in
     (y, refl, same_colour (colour_of y) c both.0, kind)
 
+hole_from : (b : Stacks) (q : Place) → is_hole b q ≡ true → IsHole b q
+hole_from b q e =
+    let both = and_parts (nat_eq (height_at b q) 0) (list_all (λ d. is_occupied b (step q d)) dirs) e in
+    record { empty = eqb-true (height_at b q) 0 both.0; round = λ d. all_at (λ d. is_occupied b (step q d)) dirs d both.1 (dir_on d) }
+
+from_hole : (b : Stacks) (q : Place) → IsHole b q → is_hole b q ≡ true
+from_hole b q h = and_from _ _ (eq-eqb _ _ h.empty) (at_all (λ d. is_occupied b (step q d)) dirs (λ d _. h.round d))
+
 pub beside_from : (b : Stacks) (c : Colour) (q : Place) → is_beside_thrower b c q ≡ true → IsBesideThrower b c q
 beside_from b c q e =
-    let r = any_has (λ d. is_own_thrower c (top_at b (step q d))) dirs e in
-    let y = own_thrower_from c (top_at b (step q r.0)) r.2 in
-    record { dir = r.0; thrower = y.0; stands = y.1; own = y.2; kind = y.3 }
+    let r = any_has (λ d. throws_in b c (step q d)) dirs e in
+    let both = and_parts (is_own_thrower c (top_at b (step q r.0))) (has_hole b (step q r.0)) r.2 in
+    let y = own_thrower_from c (top_at b (step q r.0)) both.0 in
+    let way = any_has (λ d. is_hole b (step (step q r.0) d)) dirs both.1 in
+    record { dir = r.0; thrower = y.0; stands = y.1; own = y.2; kind = y.3; way = way.0; hole = hole_from b (step (step q r.0) way.0) way.2 }
 
 pub from_beside : (b : Stacks) (c : Colour) (q : Place) → IsBesideThrower b c q → is_beside_thrower b c q ≡ true
 from_beside b c q h =
@@ -38,8 +48,9 @@ from_beside b c q h =
       | inl pillbug ↦ or_left (is_kind (kind_of h.thrower) Pillbug) _ (from_same_kind (kind_of h.thrower) Pillbug pillbug)
       | inr mosquito ↦ or_right (is_kind (kind_of h.thrower) Pillbug) _ (from_same_kind (kind_of h.thrower) Mosquito mosquito)
     ] in
-    has_any (λ d. is_own_thrower c (top_at b (step q d))) dirs h.dir (dir_on h.dir)
-    (ap (is_own_thrower c) h.stands ∙ and_from _ _ (from_same_colour (colour_of h.thrower) c h.own) kind)
+    let own : is_own_thrower c (top_at b (step q h.dir)) ≡ true = ap (is_own_thrower c) h.stands ∙ and_from _ _ (from_same_colour (colour_of h.thrower) c h.own) kind in
+    let hole : has_hole b (step q h.dir) ≡ true = has_any (λ d. is_hole b (step (step q h.dir) d)) dirs h.way (dir_on h.way) (from_hole b (step (step q h.dir) h.way) h.hole) in
+    has_any (λ d. throws_in b c (step q d)) dirs h.dir (dir_on h.dir) (and_from _ _ own hole)
 
 pub far_from : (p : Position) → is_far_from_win p ≡ true → IsFarFromWin p
 far_from p e = go (spot_of p.board (queen_of (other_side p.side))) refl e

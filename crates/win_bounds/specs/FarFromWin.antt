@@ -2,9 +2,10 @@
 --
 -- A win surrounds her: all six places around her are occupied. A move puts one piece on one place, so unless it moves the queen
 -- herself it fills at most one of the six more. It is not her own side's move, so she moves only where a pillbug or a mosquito of
--- the side to move, which stands beside her, throws her.
-use Rattle.std.specs.Prelude.{◌≡◌, ℕ, ◌≤◌, Bool, true, false, not, ◌&&◌, ◌||◌, nat_lt, length, Option, Some, None, ◌⊎◌}
-use Rattle.std.specs.List.{list_any, filter}
+-- the side to move, which stands beside her, throws her to an empty place beside itself; and there she is surrounded only where
+-- that place was a hole in the hive, with all six places around it occupied.
+use Rattle.std.specs.Prelude.{◌≡◌, ℕ, ◌≤◌, Bool, true, false, not, ◌&&◌, ◌||◌, nat_eq, nat_lt, length, Option, Some, None, IsTrue, ◌⊎◌}
+use Rattle.std.specs.List.{list_any, list_all, filter}
 use Rattle.hive_model.specs.declared.pieces.Colour.{Colour}
 use Rattle.hive_model.specs.declared.pieces.Kind.TheVariants.{Mosquito, Pillbug}
 use Rattle.hive_model.specs.declared.places.Place.{Place}
@@ -12,36 +13,54 @@ use Rattle.hive_model.specs.declared.places.Dir.{Dir}
 use Rattle.hive_model.specs.declared.places.Spot.{Spot}
 use Rattle.hive_model.specs.Pieces.{kind_of, colour_of, is_kind, is_colour, other_side, queen_of}
 use Rattle.hive_model.specs.Places.{step, dirs, neighbours}
-use Rattle.hive_model.specs.Boards.{Stacks, is_occupied, top_at, spot_of}
+use Rattle.hive_model.specs.Boards.{Stacks, height_at, is_occupied, top_at, spot_of}
 use Rattle.hive_model.specs.Evaluation.{round_queen}
 use Rattle.hive_model.specs.Positions.{Position}
 
--- a neighbour's top piece is a pillbug or a mosquito of this side
+-- an empty place with all six places around it occupied
+pub record IsHole (b : Stacks) (q : Place) : Type 0 where
+  pub empty : height_at b q ≡ 0
+  pub round : (d : Dir) → IsTrue (is_occupied b (step q d))
+
+-- a neighbour's top piece is a pillbug or a mosquito of this side, and has a hole beside it
 pub record IsBesideThrower (b : Stacks) (c : Colour) (q : Place) : Type 0 where
   pub dir : Dir
   pub thrower : ℕ
   pub stands : top_at b (step q dir) ≡ Some thrower
   pub own : colour_of thrower ≡ c
   pub kind : (kind_of thrower ≡ Pillbug) ⊎ (kind_of thrower ≡ Mosquito)
+  pub way : Dir
+  pub hole : IsHole b (step (step q dir) way)
 
 -- The side to move is far from a win where the other side's queen is in hand, or where at most four of the six places around her
--- are occupied and no pillbug or mosquito of the side to move stands beside her. (Around a queen in hand nothing is counted.)
+-- are occupied and no pillbug or mosquito of the side to move stands beside her that has a hole beside it. (Around a queen in
+-- hand nothing is counted.)
 pub record IsFarFromWin (p : Position) : Type 0 where
   pub few : round_queen p.board (other_side p.side) ≤ 4
   pub unthrown : (queen : Spot) → spot_of p.board (queen_of (other_side p.side)) ≡ Some queen → ¬ IsBesideThrower p.board p.side queen.place
 
 -- The tests of these
 
+abbrev pub is_hole : Stacks → Place → Bool
+is_hole b q = nat_eq (height_at b q) 0 && list_all (λ d. is_occupied b (step q d)) dirs
+
+-- a neighbour is a hole
+abbrev pub has_hole : Stacks → Place → Bool
+has_hole b q = list_any (λ d. is_hole b (step q d)) dirs
+
 -- the piece is a pillbug or a mosquito of this side
 abbrev pub is_own_thrower : Colour → Option ℕ → Bool
 is_own_thrower c None = false
 is_own_thrower c (Some x) = is_colour (colour_of x) c && (is_kind (kind_of x) Pillbug || is_kind (kind_of x) Mosquito)
 
--- a neighbour's top piece is one
-abbrev pub is_beside_thrower : Stacks → Colour → Place → Bool
-is_beside_thrower b c q = list_any (λ d. is_own_thrower c (top_at b (step q d))) dirs
+-- the top piece of the place is one, and has a hole beside it
+abbrev pub throws_in : Stacks → Colour → Place → Bool
+throws_in b c q = is_own_thrower c (top_at b q) && has_hole b q
 
--- at most four neighbours of the place are occupied, and none by a pillbug or a mosquito of this side on top
+abbrev pub is_beside_thrower : Stacks → Colour → Place → Bool
+is_beside_thrower b c q = list_any (λ d. throws_in b c (step q d)) dirs
+
+-- at most four neighbours of the place are occupied, and on none stands a pillbug or a mosquito of this side with a hole beside it
 abbrev pub is_far_place : Stacks → Colour → Place → Bool
 is_far_place b c q = nat_lt (length (filter (is_occupied b) (neighbours q))) 5 && not (is_beside_thrower b c q)
 

@@ -1,14 +1,15 @@
 //! The test of being far from a win, over any board.
 
 ghost use Rattle.std.specs.Prelude.{◌≡◌, ◌≤ℤ◌, pos, Some, IsTrue};
+ghost use Rattle.std.specs.List.{list_all};
 ghost use Rattle.hive_model.specs.Pieces.{other_side, queen_of};
-ghost use Rattle.hive_model.specs.Places.{IsWithin};
-ghost use Rattle.hive_model.specs.Boards.{IsBoard, spot_of};
+ghost use Rattle.hive_model.specs.Places.{IsWithin, dirs, step};
+ghost use Rattle.hive_model.specs.Boards.{IsBoard, is_occupied, spot_of, top_at};
 ghost use Rattle.hive_model.specs.Minimax.{value};
 ghost use Rattle.hive_model.specs.Courses.{position};
-ghost use Rattle.win_bounds.specs.FarFromWin.{is_own_thrower, is_far_place, is_far_spot, is_far_from_win};
+ghost use Rattle.win_bounds.specs.FarFromWin.{is_hole, has_hole, is_own_thrower, throws_in, is_far_place, is_far_spot, is_far_from_win};
 
-use hive_model::{Board, Colour, Dir, Game, Kind, Piece, Place};
+use hive_model::{Board, Colour, Dir, Game, Kind, Piece, Place, is_occupied};
 
 /// Whether a piece is a pillbug or a mosquito of the side.
 fn is_own_thrower(side: Colour, piece: Piece) -> bool
@@ -17,18 +18,62 @@ fn is_own_thrower(side: Colour, piece: Piece) -> bool
     piece.colour().is(side) && (piece.kind().is(Kind::Pillbug) || piece.kind().is(Kind::Mosquito))
 }
 
-/// Whether at most four neighbours of the place are occupied, none of them by a pillbug or a
-/// mosquito of the side on top.
+/// Whether all six neighbours of the place are occupied.
+fn is_walled<B: Board>(board: &B, place: Place) -> bool
+    requires { IsWithin 10000 place }
+    ensures { result ≡ list_all (λ d. is_occupied (B.stacks board.now) (step place d)) dirs }
+{
+    Dir::ALL.iter().all(
+        |d| -> bool
+            requires { IsWithin 10000 place }
+        { is_occupied(board, place.step(*d)) },
+    )
+}
+
+/// Whether the place is empty and all six neighbours are occupied.
+fn is_hole<B: Board>(board: &B, place: Place) -> bool
+    requires { IsWithin 10000 place }
+    ensures { result ≡ is_hole (B.stacks board.now) place }
+{
+    board.height(place) == 0 && is_walled(board, place)
+}
+
+/// Whether a neighbour of the place is a hole.
+#[tactic(auto, using(crate::proofs::ThrowLaws::step_out))]
+fn has_hole<B: Board>(board: &B, place: Place) -> bool
+    requires { IsWithin 9600 place }
+    ensures { result ≡ has_hole (B.stacks board.now) place }
+{
+    Dir::ALL.iter().any(
+        |d| -> bool
+            requires { IsWithin 9600 place }
+        { is_hole(board, place.step(*d)) },
+    )
+}
+
+/// Whether a pillbug or a mosquito of the side is on top of a place, and a hole is beside it. The
+/// top piece is at hand.
+fn throws_in<B: Board>(board: &B, side: Colour, place: Place, top: Piece) -> bool
+    requires within { IsWithin 9600 place }
+    requires top { top_at (B.stacks board.now) place ≡ Some top }
+    ensures { result ≡ throws_in (B.stacks board.now) side place }
+{
+    is_own_thrower(side, top) && has_hole(board, place)
+}
+
+/// Whether at most four neighbours of the place are occupied, and on none stands a pillbug or a
+/// mosquito of the side with a hole beside it.
 fn is_far_place<B: Board>(board: &B, side: Colour, queen: Place) -> bool
     requires { IsWithin 9500 queen }
     ensures { result ≡ is_far_place (B.stacks board.now) side queen }
 {
     let mut occupied = 0u32;
     for dir in Dir::ALL {
-        let Some(top) = board.top(queen.step(dir)) else {
+        let place = queen.step(dir);
+        let Some(top) = board.top(place) else {
             continue;
         };
-        if occupied == 4 || is_own_thrower(side, top) {
+        if occupied == 4 || throws_in(board, side, place, top) {
             return false;
         }
         occupied += 1;
@@ -38,7 +83,7 @@ fn is_far_place<B: Board>(board: &B, side: Colour, queen: Place) -> bool
 
 /// Whether the other side's queen is far from being surrounded by a move of this side: she is in
 /// hand, or at most four places around her are occupied and no pillbug or mosquito of this side
-/// stands beside her.
+/// stands beside her that has a hole beside it.
 pub(crate) fn is_far_on<B: Board>(board: &B, side: Colour) -> bool
     ensures far { result ≡ is_far_spot (B.stacks board.now) side
         (spot_of (B.stacks board.now) (queen_of (other_side side))) }
@@ -51,8 +96,10 @@ pub(crate) fn is_far_on<B: Board>(board: &B, side: Colour) -> bool
 }
 
 /// Whether the side to move is far from a win: the other side's queen is in hand, or at most four
-/// places around her are occupied and no pillbug or mosquito of the side to move stands beside her.
-/// Then it cannot win with its next move. The queen's spot and at most six places are looked up.
+/// places around her are occupied and no pillbug or mosquito of the side to move stands beside her
+/// that has a hole beside it, an empty place with all six places around it occupied. Then it cannot
+/// win with its next move. Where no such piece stands beside her, the queen's spot and at most six
+/// places are looked up.
 pub fn is_far_from_win<G: Game>(game: &G) -> bool
     ensures far { result ≡ is_far_from_win (position (G.course game.now)) }
     ensures worth { IsTrue result → value (position (G.course game.now)) 1 ≤ℤ pos 1000 }

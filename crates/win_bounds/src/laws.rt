@@ -4,8 +4,8 @@ ghost use Rattle.win_bounds.specs.Laws.{FarIsTested, FarMovesDoNotSurround, FarI
 
 /// The test of being far from a win holds exactly where the other side's queen is in hand, or at
 /// most four places around her are occupied and no pillbug or mosquito of the side to move stands
-/// beside her. Then no legal move surrounds her, and with one ply to search the position is worth
-/// at most 1,000 to the side to move.
+/// beside her that has a hole beside it. Then no legal move surrounds her, and with one ply to
+/// search the position is worth at most 1,000 to the side to move.
 pub fn far_positions_are_not_won()
     ensures tested { FarIsTested }
     ensures moves { FarMovesDoNotSurround }

@@ -82,29 +82,48 @@ fn four_neighbours_are_few_and_five_are_not(rt: HostRuntime) -> Result<(), Fail>
     Ok(())
 }
 
+/// Black's queen, and five of the six neighbours of the place (2, 0); the sixth is (1, 0), which is
+/// beside her.
+const HOLE: [Put; 6] = [
+    (Colour::Black, Kind::Queen, 0, 0, 0),
+    (Colour::White, Kind::Ant, 1, 3, 0),
+    (Colour::Black, Kind::Ant, 1, 3, -1),
+    (Colour::White, Kind::Spider, 1, 2, -1),
+    (Colour::Black, Kind::Spider, 1, 1, 1),
+    (Colour::White, Kind::Ant, 2, 2, 1),
+];
+
+/// Whether white is far from a win where this piece stands beside black's queen and a hole.
+fn far_beside_hole(alloc: Global, colour: Colour, kind: Kind) -> Result<bool, AllocError> {
+    let [queen, one, two, three, four, five] = HOLE;
+    let beside = (colour, kind, 0, 1, 0);
+    let (white, _black) = far_on(alloc, &[queen, one, two, three, four, five, beside])?;
+    Ok(white)
+}
+
 #[test]
-fn own_pillbugs_and_mosquitoes_beside_her_are_near(rt: HostRuntime) -> Result<(), Fail> {
-    let queen = (Colour::Black, Kind::Queen, 0, 0, 0);
-    for (colour, kind, q, far) in [
-        (Colour::White, Kind::Pillbug, 1, false),
-        (Colour::White, Kind::Mosquito, 1, false),
-        (Colour::White, Kind::Ladybug, 1, true),
-        (Colour::Black, Kind::Pillbug, 1, true),
-        (Colour::Black, Kind::Mosquito, 1, true),
-        (Colour::White, Kind::Pillbug, 2, true),
-        (Colour::White, Kind::Mosquito, 2, true),
+fn own_pillbugs_and_mosquitoes_throw_her_into_a_hole(rt: HostRuntime) -> Result<(), Fail> {
+    for (colour, kind, far) in [
+        (Colour::White, Kind::Pillbug, false),
+        (Colour::White, Kind::Mosquito, false),
+        (Colour::White, Kind::Ladybug, true),
+        (Colour::Black, Kind::Pillbug, true),
+        (Colour::Black, Kind::Mosquito, true),
     ] {
-        let (white, _black) = far_on(rt.alloc(), &[queen, (colour, kind, 0, q, 0)])?;
-        assert_eq!(rt; white, far, "q {q}");
+        let told = far_beside_hole(rt.alloc(), colour, kind)?;
+        assert_eq!(rt; told, far);
     }
-    let covered = far_on(
-        rt.alloc(),
-        &[
-            queen,
-            (Colour::White, Kind::Pillbug, 0, 1, 0),
-            (Colour::Black, Kind::Beetle, 1, 1, 0),
-        ],
-    )?;
-    assert_eq!(rt; covered, (true, true));
+    let [queen, one, two, three, four, five] = HOLE;
+    let pillbug = (Colour::White, Kind::Pillbug, 0, 1, 0);
+    let filled = (Colour::White, Kind::Ant, 3, 2, 0);
+    let covering = (Colour::Black, Kind::Beetle, 1, 1, 0);
+    for pieces in [
+        [queen, one, two, three, four, pillbug, pillbug, pillbug],
+        [queen, one, two, three, four, five, pillbug, filled],
+        [queen, one, two, three, four, five, pillbug, covering],
+    ] {
+        let (white, _black) = far_on(rt.alloc(), &pieces)?;
+        assert!(rt; white);
+    }
     Ok(())
 }
