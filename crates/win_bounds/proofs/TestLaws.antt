@@ -1,4 +1,4 @@
--- The test of being far from a win holds exactly where the relation does.
+-- The tests of being far from a win, and from a loss, hold exactly where the relations do.
 use Rattle.std.proofs.Common.{◌≡◌, ℕ, ◌<◌, true, false, not, ◌||◌, ◌⊎◌, inl, inr, length, refl, sym, ◌∙◌, ap, subst, arith}
 use Rattle.std.specs.Prelude.{Option, Some, None, nat_eq, nat_lt}
 use Rattle.std.specs.List.{list_all, filter}
@@ -14,7 +14,7 @@ use Rattle.hive_model.specs.Evaluation.{occupied_round}
 use Rattle.hive_model.specs.Positions.{Position}
 use Rattle.hive_model.proofs.PieceLaws.{same_kind, from_same_kind, same_colour, from_same_colour}
 use Rattle.hive_model.proofs.RuleLaws.{any_has, has_any, all_at, at_all, dir_on}
-use Rattle.win_bounds.specs.FarFromWin.{IsHole, IsBesideThrower, IsFarFromWin, is_hole, has_hole, is_own_thrower, throws_in, is_beside_thrower, is_far_spot, is_far_from_win}
+use Rattle.win_bounds.specs.FarFromWin.{IsHole, IsBesideThrower, IsOutOfReach, IsFarFromWin, IsFarFromLoss, is_hole, has_hole, is_own_thrower, throws_in, is_beside_thrower, is_far_place, is_far_spot, is_home_spot, is_far_from_win, is_far_from_loss}
 
 own_thrower_from : (c : Colour) (o : Option ℕ) → is_own_thrower c o ≡ true → (y : ℕ) × (o ≡ Some y) × (colour_of y ≡ c) × ((kind_of y ≡ Pillbug) ⊎ (kind_of y ≡ Mosquito))
 own_thrower_from c None e = let wrong : false ≡ true = e in absurd (cc)
@@ -52,6 +52,27 @@ from_beside b c q h =
     let hole : has_hole b (step q h.dir) ≡ true = has_any (λ d. is_hole b (step (step q h.dir) d)) dirs h.way (dir_on h.way) (from_hole b (step (step q h.dir) h.way) h.hole) in
     has_any (λ d. throws_in b c (step q d)) dirs h.dir (dir_on h.dir) (and_from _ _ own hole)
 
+-- at the place of a queen
+reach_from : (b : Stacks) (mover c : Colour) (s : Spot) → spot_of b (queen_of c) ≡ Some s → is_far_place b mover s.place ≡ true → IsOutOfReach b mover c
+reach_from b mover c s at k =
+    let count = length (filter (is_occupied b) (neighbours s.place)) in
+    let both = and_parts (nat_lt count 5) (not (is_beside_thrower b mover s.place)) k in
+    let low : count < 5 = ltb-true count 5 both.0 in
+    record {
+      few = omega (arith, low, ap (occupied_round b) at);
+      unthrown = λ t here by.
+          let same : t ≡ s = (let one : Some t ≡ Some s = sym here ∙ at in cc) in
+          let beside : is_beside_thrower b mover s.place ≡ true = from_beside b mover s.place (subst (λ (u : Spot). IsBesideThrower b mover u.place) same by) in
+          let wrong : true ≡ false = sym beside ∙ not-true _ both.1 in cc;
+    }
+
+from_reach : (b : Stacks) (mover c : Colour) (s : Spot) → spot_of b (queen_of c) ≡ Some s → IsOutOfReach b mover c → is_far_place b mover s.place ≡ true
+from_reach b mover c s at h =
+    let count = length (filter (is_occupied b) (neighbours s.place)) in
+    let low : count < 5 = omega (arith, h.few, ap (occupied_round b) at) in
+    and_from (nat_lt count 5) (not (is_beside_thrower b mover s.place)) (lt-ltb count 5 low)
+    (not_from_false _ (false_from_ne_true _ (λ e. h.unthrown s at (beside_from b mover s.place e))))
+
 pub far_from : (p : Position) → is_far_from_win p ≡ true → IsFarFromWin p
 far_from p e = go (spot_of p.board (queen_of (other_side p.side))) refl e
   where
@@ -60,25 +81,25 @@ far_from p e = go (spot_of p.board (queen_of (other_side p.side))) refl e
       few = omega (arith, ap (occupied_round p.board) at);
       unthrown = λ s here. let wrong : None ≡ Some s = sym at ∙ here in absurd (cc);
     }
-    go (Some s) at k =
-        let count = length (filter (is_occupied p.board) (neighbours s.place)) in
-        let both = and_parts (nat_lt count 5) (not (is_beside_thrower p.board p.side s.place)) k in
-        let low : count < 5 = ltb-true count 5 both.0 in
-        record {
-          few = omega (arith, low, ap (occupied_round p.board) at);
-          unthrown = λ t here by.
-              let same : t ≡ s = (let one : Some t ≡ Some s = sym here ∙ at in cc) in
-              let beside : is_beside_thrower p.board p.side s.place ≡ true = from_beside p.board p.side s.place (subst (λ (u : Spot). IsBesideThrower p.board p.side u.place) same by) in
-              let wrong : true ≡ false = sym beside ∙ not-true _ both.1 in cc;
-        }
+    go (Some s) at k = reach_from p.board p.side (other_side p.side) s at k
 
 pub from_far : (p : Position) → IsFarFromWin p → is_far_from_win p ≡ true
 from_far p h = go (spot_of p.board (queen_of (other_side p.side))) refl
   where
     go : (o : Option Spot) → spot_of p.board (queen_of (other_side p.side)) ≡ o → is_far_spot p.board p.side o ≡ true
     go None at = refl
-    go (Some s) at =
-        let count = length (filter (is_occupied p.board) (neighbours s.place)) in
-        let low : count < 5 = omega (arith, h.few, ap (occupied_round p.board) at) in
-        and_from (nat_lt count 5) (not (is_beside_thrower p.board p.side s.place)) (lt-ltb count 5 low)
-        (not_from_false _ (false_from_ne_true _ (λ e. h.unthrown s at (beside_from p.board p.side s.place e))))
+    go (Some s) at = from_reach p.board p.side (other_side p.side) s at h
+
+pub safe_from : (p : Position) → is_far_from_loss p ≡ true → IsFarFromLoss p
+safe_from p e = go (spot_of p.board (queen_of p.side)) refl e
+  where
+    go : (o : Option Spot) → spot_of p.board (queen_of p.side) ≡ o → is_home_spot p.board p.side o ≡ true → IsFarFromLoss p
+    go None at k = let wrong : false ≡ true = k in absurd (cc)
+    go (Some s) at k =
+        let both = and_parts (nat_eq s.level 0) (is_far_place p.board p.side s.place) k in
+        record { queen = s; stands = at; ground = eqb-true s.level 0 both.0; reach = reach_from p.board p.side p.side s at both.1 }
+
+pub from_safe : (p : Position) → IsFarFromLoss p → is_far_from_loss p ≡ true
+from_safe p h =
+    ap (is_home_spot p.board p.side) h.stands
+    ∙ and_from (nat_eq h.queen.level 0) (is_far_place p.board p.side h.queen.place) (eq-eqb h.queen.level 0 h.ground) (from_reach p.board p.side p.side h.queen h.stands h.reach)

@@ -1,4 +1,4 @@
--- Where the side to move cannot win with its next move: what stands round the other side's queen tells it.
+-- Where the side to move cannot win or lose with its next move: what stands round the other side's queen, or round its own, tells it.
 --
 -- A win surrounds her: all six places around her are occupied. A move puts one piece on one place, so unless it moves the queen
 -- herself it fills at most one of the six more. It is not her own side's move, so she moves only where a pillbug or a mosquito of
@@ -32,12 +32,23 @@ pub record IsBesideThrower (b : Stacks) (c : Colour) (q : Place) : Type 0 where
   pub way : Dir
   pub hole : IsHole b (step (step q dir) way)
 
--- The side to move is far from a win where the other side's queen is in hand, or where at most four of the six places around her
--- are occupied and no pillbug or mosquito of the side to move stands beside her that has a hole beside it. (Around a queen in
--- hand nothing is counted.)
-pub record IsFarFromWin (p : Position) : Type 0 where
-  pub few : round_queen p.board (other_side p.side) ≤ 4
-  pub unthrown : (queen : Spot) → spot_of p.board (queen_of (other_side p.side)) ≡ Some queen → ¬ IsBesideThrower p.board p.side queen.place
+-- A side's queen is out of reach of a mover where she is in hand, or where at most four of the six places around her are occupied
+-- and no pillbug or mosquito of the mover stands beside her that has a hole beside it. (Around a queen in hand nothing is counted.)
+pub record IsOutOfReach (b : Stacks) (mover c : Colour) : Type 0 where
+  pub few : round_queen b c ≤ 4
+  pub unthrown : (queen : Spot) → spot_of b (queen_of c) ≡ Some queen → ¬ IsBesideThrower b mover queen.place
+
+-- the side to move is far from a win where the other side's queen is out of its reach
+abbrev pub IsFarFromWin : Position → Type 0
+IsFarFromWin p = IsOutOfReach p.board p.side (other_side p.side)
+
+-- The side to move is far from a loss where its own queen is on the ground, in play, and out of its own reach. (Where she walks, she
+-- leaves an empty place beside her.)
+pub record IsFarFromLoss (p : Position) : Type 0 where
+  pub queen : Spot
+  pub stands : spot_of p.board (queen_of p.side) ≡ Some queen
+  pub ground : queen.level ≡ 0
+  pub reach : IsOutOfReach p.board p.side p.side
 
 -- The tests of these
 
@@ -69,6 +80,15 @@ abbrev pub is_far_spot : Stacks → Colour → Option Spot → Bool
 is_far_spot b c None = true
 is_far_spot b c (Some s) = is_far_place b c s.place
 
+-- the same of an own queen's place, where she is on the ground; in hand she is not far
+abbrev pub is_home_spot : Stacks → Colour → Option Spot → Bool
+is_home_spot b c None = false
+is_home_spot b c (Some s) = nat_eq s.level 0 && is_far_place b c s.place
+
 -- the side to move is far from a win
 abbrev pub is_far_from_win : Position → Bool
 is_far_from_win p = is_far_spot p.board p.side (spot_of p.board (queen_of (other_side p.side)))
+
+-- and from a loss
+abbrev pub is_far_from_loss : Position → Bool
+is_far_from_loss p = is_home_spot p.board p.side (spot_of p.board (queen_of p.side))

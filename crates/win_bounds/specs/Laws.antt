@@ -1,5 +1,5 @@
 -- The laws of positions that are far from a win.
-use Rattle.std.specs.Prelude.{◌≡◌, false, pos, ◌≤ℤ◌, IsTrue, ◌↔◌}
+use Rattle.std.specs.Prelude.{◌≡◌, false, pos, neg_ℤ, ◌≤ℤ◌, IsTrue, ◌↔◌}
 use Rattle.hive_model.specs.declared.places.Move.{Move}
 use Rattle.hive_model.specs.Lists.{IsOn}
 use Rattle.hive_model.specs.Pieces.{other_side}
@@ -8,7 +8,7 @@ use Rattle.hive_model.specs.Positions.{Position}
 use Rattle.hive_model.specs.Legal.{is_surrounded, moves}
 use Rattle.hive_model.specs.Games.{after}
 use Rattle.hive_model.specs.Minimax.{value}
-use Rattle.win_bounds.specs.FarFromWin.{IsFarFromWin, is_far_from_win}
+use Rattle.win_bounds.specs.FarFromWin.{IsFarFromWin, IsFarFromLoss, is_far_from_win, is_far_from_loss}
 
 -- a position is tested to be far from a win exactly where it is
 abbrev pub FarIsTested : Type 0
@@ -21,3 +21,13 @@ FarMovesDoNotSurround = (p : Position) → IsBoard p.board → IsFarFromWin p �
 -- and so a position that is far from a win is worth at most 1000 with one ply to search: an evaluation, a draw or a loss
 abbrev pub FarIsNotWon : Type 0
 FarIsNotWon = (p : Position) → IsBoard p.board → IsFarFromWin p → value p 1 ≤ℤ pos 1000
+
+-- The same of a loss: the test says it, no legal move surrounds the own queen, and the position is worth at least -1000.
+abbrev pub SafetyIsTested : Type 0
+SafetyIsTested = (p : Position) → IsTrue (is_far_from_loss p) ↔ IsFarFromLoss p
+
+abbrev pub SafeMovesDoNotSurround : Type 0
+SafeMovesDoNotSurround = (p : Position) → IsBoard p.board → IsFarFromLoss p → (m : Move) → IsOn (moves p) m → is_surrounded (after p m).board p.side ≡ false
+
+abbrev pub SafeIsNotLost : Type 0
+SafeIsNotLost = (p : Position) → IsBoard p.board → IsFarFromLoss p → neg_ℤ (pos 1000) ≤ℤ value p 1

@@ -1,13 +1,13 @@
 //! The test of being far from a win, over any board.
 
-ghost use Rattle.std.specs.Prelude.{◌≡◌, ◌≤ℤ◌, pos, Some, IsTrue};
+ghost use Rattle.std.specs.Prelude.{◌≡◌, ◌≤ℤ◌, pos, neg_ℤ, Some, IsTrue};
 ghost use Rattle.std.specs.List.{list_all};
 ghost use Rattle.hive_model.specs.Pieces.{other_side, queen_of};
 ghost use Rattle.hive_model.specs.Places.{IsWithin, dirs, step};
 ghost use Rattle.hive_model.specs.Boards.{IsBoard, is_occupied, spot_of, top_at};
 ghost use Rattle.hive_model.specs.Minimax.{value};
 ghost use Rattle.hive_model.specs.Courses.{position};
-ghost use Rattle.win_bounds.specs.FarFromWin.{is_hole, has_hole, is_own_thrower, throws_in, is_far_place, is_far_spot, is_far_from_win};
+ghost use Rattle.win_bounds.specs.FarFromWin.{is_hole, has_hole, is_own_thrower, throws_in, is_far_place, is_far_spot, is_far_from_win, is_home_spot, is_far_from_loss};
 
 use hive_model::{Board, Colour, Dir, Game, Kind, Piece, Place, is_occupied};
 
@@ -95,6 +95,20 @@ pub(crate) fn is_far_on<B: Board>(board: &B, side: Colour) -> bool
     }
 }
 
+/// Whether the own queen is far from being surrounded by a move of this side: she is on the ground,
+/// at most four places around her are occupied, and no pillbug or mosquito of this side stands
+/// beside her that has a hole beside it.
+pub(crate) fn is_home_on<B: Board>(board: &B, side: Colour) -> bool
+    ensures far { result ≡ is_home_spot (B.stacks board.now) side
+        (spot_of (B.stacks board.now) (queen_of side)) }
+    ensures board { IsBoard (B.stacks board.now) }
+{
+    match board.spot(side.queen()) {
+        Some(spot) => spot.level == 0 && is_far_place(board, side, spot.place),
+        None => false,
+    }
+}
+
 /// Whether the side to move is far from a win: the other side's queen is in hand, or at most four
 /// places around her are occupied and no pillbug or mosquito of the side to move stands beside her
 /// that has a hole beside it, an empty place with all six places around it occupied. Then it cannot
@@ -105,4 +119,15 @@ pub fn is_far_from_win<G: Game>(game: &G) -> bool
     ensures worth { IsTrue result → value (position (G.course game.now)) 1 ≤ℤ pos 1000 }
 {
     is_far_on(game, game.side())
+}
+
+/// Whether the side to move is far from a loss: its own queen is on the ground, at most four places
+/// around her are occupied, and no pillbug or mosquito of the side to move stands beside her that
+/// has a hole beside it. Then it cannot lose with its next move. As many places are looked up as
+/// for `is_far_from_win`.
+pub fn is_far_from_loss<G: Game>(game: &G) -> bool
+    ensures far { result ≡ is_far_from_loss (position (G.course game.now)) }
+    ensures worth { IsTrue result → neg_ℤ (pos 1000) ≤ℤ value (position (G.course game.now)) 1 }
+{
+    is_home_on(game, game.side())
 }

@@ -1,6 +1,6 @@
 //! Small boards on which a queen is about to be surrounded, or far from it.
 
-use crate::far::is_far_on;
+use crate::far::{is_far_on, is_home_on};
 use hive_model::{Board, Colour, Kind, Piece, Place};
 use stack_board::PlainBoard;
 use std::alloc::{AllocError, Global};
@@ -125,5 +125,34 @@ fn own_pillbugs_and_mosquitoes_throw_her_into_a_hole(rt: HostRuntime) -> Result<
         let (white, _black) = far_on(rt.alloc(), &pieces)?;
         assert!(rt; white);
     }
+    Ok(())
+}
+
+/// Whether black is far from a loss on a board of black's queen with four neighbours and these two
+/// pieces more.
+fn home_with(alloc: Global, more: [Put; 2]) -> Result<bool, AllocError> {
+    let [queen, one, two, three, four] = FOUR_ROUND;
+    let [fifth, sixth] = more;
+    let board = board_of(alloc, &[queen, one, two, three, four, fifth, sixth])?;
+    Ok(is_home_on(&board, Colour::Black))
+}
+
+#[test]
+fn own_queens_are_home_on_the_ground_alone(rt: HostRuntime) -> Result<(), Fail> {
+    let away = (Colour::White, Kind::Grasshopper, 1, 2, 0);
+    let cover = (Colour::White, Kind::Beetle, 1, 0, 0);
+    let fifth = (Colour::White, Kind::Grasshopper, 2, -1, 1);
+    assert!(rt; home_with(rt.alloc(), [away, cover])?);
+    assert!(rt; !home_with(rt.alloc(), [away, fifth])?);
+    let in_hand = board_of(rt.alloc(), &[away])?;
+    assert!(rt; !is_home_on(&in_hand, Colour::Black));
+    let under_her = board_of(
+        rt.alloc(),
+        &[
+            (Colour::White, Kind::Beetle, 1, 0, 0),
+            (Colour::Black, Kind::Queen, 0, 0, 0),
+        ],
+    )?;
+    assert!(rt; !is_home_on(&under_her, Colour::Black));
     Ok(())
 }

@@ -11,7 +11,7 @@ use crate::facts::{GREATEST_EVALUATION, keep_answer, leaf_reaches, told_by};
 use hive_model::{Game, Move, MoveStack};
 use search_core::{first_choice, kept_hint};
 use value_table::ValueTable;
-use win_bounds::is_far_from_win;
+use win_bounds::{is_far_from_loss, is_far_from_win};
 
 /// Whether a position is worth so much to its side to move, with `depth` plies left to search,
 /// from 0 to 64. A node is left at the first move that decides it, and what was found of a
@@ -50,8 +50,8 @@ pub(crate) fn reaches<G: Game>(
     reply.is_some()
 }
 
-/// The same where the game goes on and one ply is left. A win is not looked for among the moves
-/// where the board tells that there is none.
+/// The same where the game goes on and one ply is left. No move is listed where the board tells that
+/// none wins, or that none loses, and that decides it.
 #[cycle(reaches)]
 fn reaches_at_once<G: Game>(
     game: &mut G,
@@ -70,6 +70,9 @@ fn reaches_at_once<G: Game>(
 {
     if least > GREATEST_EVALUATION && is_far_from_win(game) {
         return false;
+    }
+    if least <= -GREATEST_EVALUATION && is_far_from_loss(game) {
+        return true;
     }
     find_reply(game, 1, least, None, stack, table).is_some()
 }
