@@ -1,25 +1,26 @@
 -- What the code of a walk that writes tokens finds at a node, and what its answers say.
-use Rattle.std.proofs.Common.{◌≡◌, ℕ, ◌+◌, Bool, true, false, cond, List, [], ◌∷◌, ◌++◌, refl, sym, ap, subst, ◌∙◌, ℤ, Option, Some, None}
-use Rattle.std.specs.Prelude.{IsTrue, ◌↔◌}
+use Rattle.std.proofs.Common.{◌≡◌, ℕ, ◌+◌, Bool, true, false, List, [], ◌∷◌, ◌++◌, refl, sym, ap, subst, ◌∙◌, ℤ, Option, Some, None}
 use Rattle.std.specs.Bool.{OnTrue}
 use Rattle.hive_model.specs.Positions.{Position}
 use Rattle.hive_model.specs.Keys.{KeyParts, key}
-use Rattle.hive_model.specs.Minimax.{IsInner}
-use Rattle.claim_walks.specs.declared.limit.Limit.{Limit}
-use Rattle.claim_walks.specs.declared.limit.Limit.TheVariants.{AtMost, AtLeast}
+use Rattle.claim_walks.specs.declared.limit.Limit.TheVariants.{AtLeast}
+use Rattle.claim_walks.specs.declared.walker.Walked.{Walked as AnyWalked}
+use Rattle.claim_walks.specs.declared.walker.Walked.TheVariants.{Done as AllDone, LeafFails as ALeafFails, BadIndex as ABadIndex, Stops}
+use Rattle.claim_walks.specs.declared.walker.Took.{Took}
+use Rattle.claim_walks.specs.declared.walker.Took.TheVariants.{Shown as TookShown}
 use Rattle.claim_walks.specs.Walks.{Outcome, Step, Below, Ends}
-use Rattle.claim_walks.specs.Follows.{held, Shown, Refused as RefusedFor, BadItem, Meets, Follows}
-use Rattle.claim_walks.proofs.FollowLaws.{node-ends}
+use Rattle.claim_walks.specs.Follows.{held, Ending, Refused as RefusedFor, BadItem, Meets, Follows}
+use Rattle.claim_walks.specs.Parts.{IsPart, IsFoundBy, EndsHere, Finds, ending_of}
+use Rattle.claim_walks.proofs.NodeLaws.{ends-here}
 use Rattle.strategy_check.specs.declared.answers.Why.{Why}
-use Rattle.strategy_check.specs.declared.answers.Why.TheVariants.{NoSuchMove, BadIndex, LeafFails, TooShort, Rest}
+use Rattle.strategy_check.specs.declared.answers.Why.TheVariants.{BadIndex, LeafFails, TooShort}
 use Rattle.strategy_check.specs.declared.answers.Halt.TheVariants.{Bad, Failed, Full}
-use Rattle.strategy_check.specs.declared.indices.IndexAnswer.{IndexAnswer}
 use Rattle.strategy_check.specs.declared.indices.IndexAnswer.TheVariants.{Index as IndexItem, End, Bad as BadAnswer}
 use Rattle.strategy_check.specs.declared.walk.Walked.{Walked}
 use Rattle.strategy_check.specs.declared.walk.Walked.TheVariants.{Done as WalkedDone, Refuses as WalkedRefuses, Halts as WalkedHalts}
 use Rattle.strategy_check.specs.Items.{Told, Takes}
-use Rattle.strategy_check.specs.Causes.{Causes, EndsAs}
-use Rattle.strategy_check.specs.Checks.{seen, index_sight, ending, IsOfWalk, CountsOn}
+use Rattle.strategy_check.specs.Causes.{OnShort}
+use Rattle.strategy_check.specs.Checks.{seen, index_sight, ending}
 use Rattle.strategy_check.specs.Trace.{Steps, trace}
 use Rattle.strategy_check.proofs.IndexWalks as items
 use Rattle.strategy_lemmas.specs.declared.tokens.Token.{Token}
@@ -31,43 +32,49 @@ use Rattle.certificate_text.specs.Text.{index_line}
 use Rattle.citing_text.specs.declared.draft.Draft.{Draft}
 use Rattle.citing_text.specs.declared.shortening.Shortened.{Shortened}
 use Rattle.citing_text.specs.declared.shortening.Shortened.TheVariants.{Done, Refuses, Halts, NoMemory}
+use Rattle.citing_text.specs.declared.shortening.ShortStop.{ShortStop}
+use Rattle.citing_text.specs.declared.shortening.ShortWalk.{ShortWalk}
 use Rattle.citing_text.specs.TokenText.{cite_line, token_lines}
-use Rattle.citing_text.specs.Endings.{ShortEndsAs}
 use Rattle.citing_text.specs.Drafts.{with_index, with_cite}
-use Rattle.citing_text.specs.Shortening.{ShortSeen, short_seen, draft_of, short_sight, short_trace, server_of, short_ending, short_leaf, IsOfShortWalk, of_walked, ShortCauses, TookItems, ShortCountsOn}
+use Rattle.citing_text.specs.Shortening.{ShortSeen, short_seen, draft_of, short_sight, short_ending, IsOfShortWalk, of_walked, TookItems}
+use Rattle.citing_text.specs.ShortTaking.{ShortMoment, ShortTaking, ShortGoesOn, ShortStopsAt, of_short_walk, short_stop_ending, of_passed}
 use Rattle.citing_text.proofs.TokenTextLaws.{lines-more}
 
 -- ---- endings
 
-pub leaf-ending : (b : Bool) (w : Shortened) → w ≡ short_leaf b → short_ending w ≡ cond b Shown (RefusedFor LeafFails)
-leaf-ending true w e = ap short_ending e
-leaf-ending false w e = ap short_ending e
+ending-is : (w : AnyWalked ShortStop) → ending_of short_rules short_stop_ending w ≡ short_ending (of_short_walk w)
+ending-is AllDone = refl
+ending-is ALeafFails = refl
+ending-is ABadIndex = refl
+ending-is (Stops stop) = refl
 
-shown-done : (w : Shortened) → short_ending w ≡ Shown → w ≡ Done
-shown-done Done e = refl
-shown-done (Refuses why) e = cc
-shown-done (Halts Bad) e = cc
-shown-done (Halts Failed) e = cc
-shown-done (Halts Full) e = cc
-shown-done NoMemory e = cc
+pub meets-is : (o : Outcome ShortSteps Why) (w : AnyWalked ShortStop) (walked : Shortened) (n : ShortSeen) → walked ≡ of_short_walk w → Meets short_sight o (ending_of short_rules short_stop_ending w) n → Meets short_sight o (short_ending walked) n
+meets-is o w walked n is h = subst (λ (e : Ending Why). Meets short_sight o e n) (ending-is w ∙ ap short_ending (sym is)) h
 
-pub not-shown : (b : Bool) (w : Shortened) → (IsTrue b ↔ (w ≡ Done)) → b ≡ false → short_ending w ≡ Shown → ⊥
-not-shown b w iff no_ e = let yes_ : b ≡ true = iff.1 (shown-done w e) in cc
+-- what is so of a walk that came to its end is so where it was refused and no index is missing
+refuses : (why : Why) (a b : ShortMoment) → OnShort why (b.met End) → IsOfShortWalk (Refuses why) → ShortGoesOn a b → ShortTaking (Refuses why) a b
+refuses why a b met legal h = record {
+  names = h.names;
+  cause = record { later = h.cause.later; rose = λ e. cc; same = λ e. h.cause.same (λ f. cc); closed = λ e. cc };
+  counted = h.counted;
+  lenders = h.lenders;
+  known = h.known;
+  met = met;
+  legal = legal;
+}
 
-pub is-done : (b : Bool) (w : Shortened) → (IsTrue b ↔ (w ≡ Done)) → b ≡ true → w ≡ Done
-is-done b w iff yes_ = iff.0 yes_
+module _ {I : Type 0} (at : ShortWalk I → ShortMoment) where
+  abbrev pub IsTold : AnyWalked ShortStop → ShortWalk I → ShortWalk I → Type 0
+  IsTold = IsPart (λ a b. ShortGoesOn (at a) (at b)) (λ stop a b. ShortStopsAt stop (at a) (at b))
 
-pub is-shown : (b : Bool) (w : Shortened) → (IsTrue b ↔ (w ≡ Done)) → b ≡ true → short_ending w ≡ Shown
-is-shown b w iff yes_ = ap short_ending (iff.0 yes_)
+  part-is : (w : AnyWalked ShortStop) (a b : ShortWalk I) → IsTold w a b → ShortTaking (of_short_walk w) (at a) (at b)
+  part-is AllDone a b h = h
+  part-is ALeafFails a b h = refuses LeafFails (at a) (at b) tt tt h
+  part-is ABadIndex a b h = refuses BadIndex (at a) (at b) tt tt h
+  part-is (Stops stop) a b h = h
 
-pub no-fault : (w : Shortened) (a b : ℕ) (full : Bool) → w ≡ Done → ShortCauses w a b full → b ≡ a
-no-fault w a b full done h = h.same (λ e. cc)
-
-pub later-cause : (w : Shortened) (a b c : ℕ) (full : Bool) → b ≡ a → ShortCauses w b c full → ShortCauses w a c full
-later-cause w a b c full same h = subst (λ (n : ℕ). ShortCauses w n c full) same h
-
-pub counted-done : (w : Shortened) (now n : ℕ) → w ≡ Done → TookItems w now n → now ≡ n
-counted-done w now n done h = subst (λ (u : Shortened). TookItems u now n) done h
+  pub taking-is : (w : AnyWalked ShortStop) (walked : Shortened) (a b : ShortWalk I) → walked ≡ of_short_walk w → IsTold w a b → ShortTaking walked (at a) (at b)
+  taking-is w walked a b is h = subst (λ (x : Shortened). ShortTaking x (at a) (at b)) (sym is) (part-is w a b h)
 
 -- ---- what is seen
 
@@ -94,9 +101,6 @@ told-is a d s e = record {
 
 items-is : (a : Told) (d : Draft) (s : ShortSteps) → Is a d s → seen a d.taken ≡ index_sight.view s.items
 items-is a d s is = items.seen-is a (Some s.items.left) d.taken (held s.items.taken) is.left is.taken
-
-pub counts : (s : ShortSteps) → short_sight.place (short_sight.view s) ≡ held (short_rules.taken s)
-counts s = refl
 
 -- ---- a node where no lemma serves
 
@@ -168,12 +172,11 @@ passed-meets o (WalkedHalts Bad) b k ls ks ws u text lemmas m = (m.0, ap (λ (o 
 passed-meets o (WalkedHalts Failed) b k ls ks ws u text lemmas m = tt
 passed-meets o (WalkedHalts Full) b k ls ks ws u text lemmas m = tt
 
-pub pass-told : (p : Position) (d : ℕ) (l : Limit) (n : ℕ) (a b : Told) (draft : Draft) (k : ℕ) (w : Walked) → IsInner p d → server_of p d l draft.lemmas ≡ Some n →
-    Follows index_sight (trace p d l) (seen a draft.taken) (ending w) (seen b k) →
-    Follows short_sight (short_trace p d l) (short_seen a draft) (short_ending (of_walked w)) (short_seen b (record { taken = k; lemmas = draft.lemmas; text = draft.text ++ cite_line n }))
-pass-told p d (AtMost x) n a b draft k w inner served told = cc
-pass-told p d (AtLeast x) n a b draft k w inner served told =
-    node-ends short_rules short_sight p d (AtLeast x) x (short_seen a draft) (short_seen b (record { taken = k; lemmas = draft.lemmas; text = draft.text ++ cite_line n })) (short_ending (of_walked w)) inner refl (λ s e.
+pass-told : (p : Position) (d : ℕ) (x : ℤ) (n : ℕ) (a b : Told) (draft : Draft) (k : ℕ) (w : Walked) → server (key p) d x draft.lemmas ≡ Some n →
+    Follows index_sight (trace p d (AtLeast x)) (seen a draft.taken) (ending w) (seen b k) →
+    EndsHere short_rules short_sight p d x (short_seen a draft) (short_ending (of_walked w)) (short_seen b (record { taken = k; lemmas = draft.lemmas; text = draft.text ++ cite_line n }))
+pass-told p d x n a b draft k w served told =
+    ends-here short_rules short_sight p d x (short_seen a draft) (short_seen b (record { taken = k; lemmas = draft.lemmas; text = draft.text ++ cite_line n })) (short_ending (of_walked w)) (λ s e.
     let is = told-is a draft s e in
     let here : server (key p) d x s.lemmas ≡ Some n = ap (server (key p) d x) (sym is.lemmas) ∙ served in (
       passes_over (trace p d (AtLeast x) s.items) s.lemmas (s.written ++ Cite n ∷ []),
@@ -182,61 +185,53 @@ pass-told p d (AtLeast x) n a b draft k w inner served told =
           (told s.items (items-is a draft s is)),
     ))
 
-pub pass-ends : (p : Position) (d : ℕ) (l : Limit) (n : ℕ) (a b : Told) (draft cited : Draft) (k : ℕ) (w : Walked) (r : Shortened) → IsInner p d → server_of p d l draft.lemmas ≡ Some n → cited ≡ with_cite n draft →
-    Follows index_sight (trace p d l) (seen a cited.taken) (ending w) (seen b k) → r ≡ of_walked w →
-    Follows short_sight (short_trace p d l) (short_seen a draft) (short_ending r) (short_seen b (record { taken = k; lemmas = cited.lemmas; text = cited.text }))
-pass-ends p d l n a b draft cited k w r inner served e told is =
-    let first : Follows index_sight (trace p d l) (seen a draft.taken) (ending w) (seen b k) = subst (λ (z : Draft). Follows index_sight (trace p d l) (seen a z.taken) (ending w) (seen b k)) e told in
-    let base : Follows short_sight (short_trace p d l) (short_seen a draft) (short_ending (of_walked w)) (short_seen b (record { taken = k; lemmas = draft.lemmas; text = draft.text ++ cite_line n })) = pass-told p d l n a b draft k w inner served first in
-    let last : Follows short_sight (short_trace p d l) (short_seen a draft) (short_ending (of_walked w)) (short_seen b (record { taken = k; lemmas = cited.lemmas; text = cited.text })) =
-    subst (λ (z : Draft). Follows short_sight (short_trace p d l) (short_seen a draft) (short_ending (of_walked w)) (short_seen b (record { taken = k; lemmas = z.lemmas; text = z.text }))) (sym e) base in
-    subst (λ (u : Shortened). Follows short_sight (short_trace p d l) (short_seen a draft) (short_ending u) (short_seen b (record { taken = k; lemmas = cited.lemmas; text = cited.text }))) (sym is) last
+pub pass-ends : (p : Position) (d : ℕ) (x y : ℤ) (n : ℕ) (a b : Told) (draft cited : Draft) (k : ℕ) (w : Walked) (r : Shortened) → server (key p) d x draft.lemmas ≡ Some n → cited ≡ with_cite n draft → y ≡ x →
+    Follows index_sight (trace p d (AtLeast y)) (seen a cited.taken) (ending w) (seen b k) → r ≡ of_walked w →
+    EndsHere short_rules short_sight p d x (short_seen a draft) (short_ending r) (short_seen b (record { taken = k; lemmas = cited.lemmas; text = cited.text }))
+pass-ends p d x y n a b draft cited k w r served e ey told is =
+    let first : Follows index_sight (trace p d (AtLeast x)) (seen a draft.taken) (ending w) (seen b k) =
+    subst (λ (z : Draft). Follows index_sight (trace p d (AtLeast x)) (seen a z.taken) (ending w) (seen b k)) e (subst (λ (z : ℤ). Follows index_sight (trace p d (AtLeast z)) (seen a cited.taken) (ending w) (seen b k)) ey told) in
+    let base : EndsHere short_rules short_sight p d x (short_seen a draft) (short_ending (of_walked w)) (short_seen b (record { taken = k; lemmas = draft.lemmas; text = draft.text ++ cite_line n })) = pass-told p d x n a b draft k w served first in
+    let last : EndsHere short_rules short_sight p d x (short_seen a draft) (short_ending (of_walked w)) (short_seen b (record { taken = k; lemmas = cited.lemmas; text = cited.text })) =
+    subst (λ (z : Draft). EndsHere short_rules short_sight p d x (short_seen a draft) (short_ending (of_walked w)) (short_seen b (record { taken = k; lemmas = z.lemmas; text = z.text }))) (sym e) base in
+    subst (λ (u : Shortened). EndsHere short_rules short_sight p d x (short_seen a draft) (short_ending u) (short_seen b (record { taken = k; lemmas = cited.lemmas; text = cited.text }))) (sym is) last
+
+-- what the node makes of it
+found : (p : Position) (d : ℕ) (x : ℤ) (w : Shortened) (a b : ShortSeen) → EndsHere short_rules short_sight p d x a (short_ending w) b → Finds short_rules short_sight short_stop_ending p d x (of_passed w) a b
+found p d x Done a b h = h
+found p d x (Refuses why) a b h = h
+found p d x (Halts halt) a b h = h
+found p d x NoMemory a b h = h
+
+pub found-is : (p : Position) (d : ℕ) (x : ℤ) (w : Shortened) (r : Took ShortStop) (a b : ShortSeen) → r ≡ of_passed w → EndsHere short_rules short_sight p d x a (short_ending w) b → Finds short_rules short_sight short_stop_ending p d x r a b
+found-is p d x w r a b is h = subst (λ (u : Took ShortStop). Finds short_rules short_sight short_stop_ending p d x u a b) (sym is) (found p d x w a b h)
+
+module _ {I : Type 0} (at : ShortWalk I → ShortMoment) where
+  abbrev IsFound : Took ShortStop → ShortWalk I → ShortWalk I → Type 0
+  IsFound = IsFoundBy (λ a b. ShortGoesOn (at a) (at b)) (λ stop a b. ShortStopsAt stop (at a) (at b))
+
+  passed : (w : Shortened) (a b : ShortWalk I) → ShortTaking w (at a) (at b) → IsFound (of_passed w) a b
+  passed Done a b h = h
+  passed (Refuses why) a b h = h
+  passed (Halts halt) a b h = h
+  passed NoMemory a b h = h
+
+  pub passed-is : (w : Shortened) (r : Took ShortStop) (a b : ShortWalk I) → r ≡ of_passed w → ShortTaking w (at a) (at b) → IsFound r a b
+  passed-is w r a b is h = subst (λ (u : Took ShortStop). IsFound u a b) (sym is) (passed w a b h)
+
+pub passed-done : (w : Shortened) (r : Took ShortStop) → r ≡ of_passed w → r ≡ TookShown → w ≡ Done
+passed-done Done r is shown = refl
+passed-done (Refuses why) r is shown = cc
+passed-done (Halts halt) r is shown = cc
+passed-done NoMemory r is shown = cc
+
+pub took-is : (w : Shortened) (n m k l : ℕ) → n ≡ m → k ≡ l → TookItems w n k → TookItems w m l
+took-is w n m k l e f h = subst (λ i. TookItems w i l) e (subst (TookItems w n) f h)
 
 pub on-true : {P : Type 0} (r : Bool) → OnTrue r P → r ≡ true → P
 on-true true h e = h
 on-true false h e = cc
 
 -- the place that the code finds
-pub server-is : (p : Position) (q : KeyParts) (d : ℕ) (x y : ℤ) (l : Limit) (ls : List Lemma) (o : Option ℕ) → o ≡ server q d y ls → q ≡ key p → y ≡ x → l ≡ AtLeast x → o ≡ server_of p d l ls
-server-is p q d x y l ls o e eq ey el = e ∙ (λ i. server (eq i) d (ey i) ls) ∙ sym (ap (λ (z : Limit). server_of p d z ls) el)
-
-failed-is : (w : Walked) → of_walked w ≡ Halts Failed → w ≡ WalkedHalts Failed
-failed-is WalkedDone e = cc
-failed-is (WalkedRefuses why) e = cc
-failed-is (WalkedHalts why) e = let same : why ≡ Failed = cc in ap (λ h. WalkedHalts h) same
-
-full-is : (w : Walked) → of_walked w ≡ Halts Full → w ≡ WalkedHalts Full
-full-is WalkedDone e = cc
-full-is (WalkedRefuses why) e = cc
-full-is (WalkedHalts why) e = let same : why ≡ Full = cc in ap (λ h. WalkedHalts h) same
-
-pub pass-causes : (w : Walked) (a b : ℕ) (full : Bool) → Causes w a b full → ShortCauses (of_walked w) a b full
-pass-causes w a b full h = record {
-  later = h.later;
-  rose = λ e. h.rose (failed-is w e);
-  same = λ not. h.same (λ e. not (ap of_walked e));
-  closed = λ e. h.closed (full-is w e);
-}
-
-pub pass-counts : (w : Walked) (count now n k : ℕ) → CountsOn w count now n k → ShortCountsOn (of_walked w) count now n k
-pass-counts WalkedDone count now n k h = h
-pass-counts (WalkedRefuses why) count now n k h = h
-pass-counts (WalkedHalts Bad) count now n k h = h
-pass-counts (WalkedHalts Failed) count now n k h = h
-pass-counts (WalkedHalts Full) count now n k h = h
-
-pub pass-legal : (w : Walked) → IsOfWalk w → IsOfShortWalk (of_walked w)
-pass-legal WalkedDone h = h
-pass-legal (WalkedRefuses NoSuchMove) h = h
-pass-legal (WalkedRefuses BadIndex) h = h
-pass-legal (WalkedRefuses LeafFails) h = h
-pass-legal (WalkedRefuses TooShort) h = h
-pass-legal (WalkedRefuses Rest) h = h
-pass-legal (WalkedHalts why) h = h
-
-pub pass-met : (met : IndexAnswer → Type 0) (w : Walked) → EndsAs met w → ShortEndsAs met (of_walked w)
-pass-met met WalkedDone h = h
-pass-met met (WalkedRefuses why) h = h
-pass-met met (WalkedHalts Bad) h = h
-pass-met met (WalkedHalts Failed) h = h
-pass-met met (WalkedHalts Full) h = h
+pub server-is : (p : Position) (q : KeyParts) (d : ℕ) (x y : ℤ) (ls : List Lemma) (o : Option ℕ) → o ≡ server q d y ls → q ≡ key p → y ≡ x → o ≡ server (key p) d x ls
+server-is p q d x y ls o e eq ey = e ∙ (λ i. server (eq i) d (ey i) ls)

@@ -4,3 +4,4 @@ pub mod Shortening
 pub mod Migrating
 pub mod Taken
 pub mod Endings
+pub mod ShortTaking

@@ -1,11 +1,6 @@
 -- What the code answers of a walk that writes tokens, where its indices are told.
-use Rattle.std.specs.Prelude.{◌≡◌, ℕ, ◌+◌, ◌≤◌, Bool, true, false, IsTrue, ⊤, List, Option, Some, None}
+use Rattle.std.specs.Prelude.{◌≡◌, ℕ, ◌+◌, ◌≤◌, Bool, IsTrue, ⊤, Some}
 use Rattle.io_edge.specs.Outside.{Rose}
-use Rattle.hive_model.specs.Positions.{Position}
-use Rattle.hive_model.specs.Keys.{key}
-use Rattle.claim_walks.specs.declared.limit.Limit.{Limit}
-use Rattle.claim_walks.specs.declared.limit.Limit.TheVariants.{AtMost, AtLeast}
-use Rattle.claim_walks.specs.Walks.{Outcome, walk}
 use Rattle.claim_walks.specs.Follows.{held, Sight, Ending, Shown, Refused as RefusedFor, BadItem, Unread}
 use Rattle.strategy_check.specs.declared.answers.Why.{Why}
 use Rattle.strategy_check.specs.declared.answers.Why.TheVariants.{NoSuchMove, BadIndex, LeafFails, TooShort, Rest}
@@ -13,22 +8,11 @@ use Rattle.strategy_check.specs.declared.answers.Halt.TheVariants.{Bad, Failed, 
 use Rattle.strategy_check.specs.declared.walk.Walked.{Walked}
 use Rattle.strategy_check.specs.declared.walk.Walked.TheVariants.{Done as WalkedDone, Refuses as WalkedRefuses, Halts as WalkedHalts}
 use Rattle.strategy_check.specs.Items.{Told}
-use Rattle.lemma_list.specs.declared.lemmas.Lemma.{Lemma}
-use Rattle.strategy_lemmas.specs.Short.{ShortSteps, short_rules}
-use Rattle.lemma_list.specs.Lemmas.{server}
+use Rattle.strategy_lemmas.specs.Short.{ShortSteps}
 use Rattle.citing_text.specs.declared.draft.Draft.{Draft}
 use Rattle.citing_text.specs.declared.shortening.Shortened.{Shortened}
 use Rattle.citing_text.specs.declared.shortening.Shortened.TheVariants.{Done, Refuses, Halts, NoMemory}
 use Rattle.citing_text.specs.TokenText.{token_lines}
-
--- the walk of a claim that writes tokens
-abbrev pub short_trace : Position → ℕ → Limit → ShortSteps → Outcome ShortSteps Why
-short_trace = walk short_rules
-
--- the place of the first lemma that serves, where a lower bound is claimed
-abbrev pub server_of : Position → ℕ → Limit → List Lemma → Option ℕ
-server_of p e (AtMost x) ls = None
-server_of p e (AtLeast x) ls = server (key p) e x ls
 
 -- the items that are told, and the draft
 pub record ShortSeen : Type 0 where
@@ -69,11 +53,6 @@ IsOfShortWalk (Refuses TooShort) = ⊤
 IsOfShortWalk (Refuses Rest) = ⊤
 IsOfShortWalk (Halts why) = ⊤
 IsOfShortWalk NoMemory = ⊤
-
--- what a leaf answers
-abbrev pub short_leaf : Bool → Shortened
-short_leaf true = Done
-short_leaf false = Refuses LeafFails
 
 -- what a walk answers that writes nothing
 abbrev pub of_walked : Walked → Shortened

@@ -1,4 +1,6 @@
-use Rattle.std.proofs.Common.{rules, ◌≡◌}
+use Rattle.std.proofs.Common.{rules, ◌≡◌, arith, to_z, of_z}
+use Rattle.std.proofs.lemmas.Int.{ints}
+use mir.Syntax.{w32}
 use Rattle.hive_model.specs.Courses.{position}
 use Rattle.citing_text.specs.Drafts.{with_cite}
 use Rattle.citing_text.proofs.ShortWalks.{pass-ends, on-true}
@@ -7,6 +9,8 @@ use Rattle.citing_text.proofs.shortening.pass_over.Goals as goal
 pub returns-clause-told : goal.returns-clause-told
 returns-clause-told g c =
     let p = position (g.G.Game.course c.args.game.now) in
+    let x = c.args.least in
+    let same : to_z w32 (of_z w32 x) ≡ x = omega (arith, ints, c.requires.small.low, c.requires.small.high) in
     let cited : c.cite.new.self ≡ with_cite c.args.place c.args.draft.now = on-true c.cite.result c.cite.ensures (search rules) in
-    pass-ends p c.args.depth c.args.limit c.args.place (g.I.Indices.left c.args.indices.now) (g.I.Indices.left c.walk-walked.new.indices) c.args.draft.now c.cite.new.self c.walk-walked.new.taken
-    c.walk-walked.result c.shortened_of.result c.requires.inner c.requires.served cited c.walk-walked.ensures.told c.shortened_of.ensures
+    pass-ends p c.args.depth x _ c.args.place (g.I.Indices.left c.args.indices.now) (g.I.Indices.left c.walk-walked.new.indices) c.args.draft.now c.cite.new.self c.walk-walked.new.taken
+    c.walk-walked.result c.shortened_of.result c.requires.served cited same c.walk-walked.ensures.told c.shortened_of.ensures

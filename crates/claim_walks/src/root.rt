@@ -1,0 +1,152 @@
+//! The walk of a whole certificate.
+
+ghost use Rattle.std.specs.Prelude.{◌≡◌, ◌-◌, ◌<◌, ◌≤◌, length, slice_get, Some, None};
+ghost use Rattle.hive_model.specs.Legal.{moves};
+ghost use Rattle.hive_model.specs.Games.{after};
+ghost use Rattle.hive_model.specs.Minimax.{IsInner, value, best};
+ghost use Rattle.hive_model.specs.Courses.{position};
+ghost use Rattle.hive_model.specs.Stack.{level_of};
+ghost use Rattle.search_laws.specs.Laws.{IsSmall};
+ghost use Rattle.claim_walks.specs.Walks.{place_of, walk};
+ghost use Rattle.claim_walks.specs.Walks as walks;
+ghost use Rattle.claim_walks.specs.Follows.{Follows};
+ghost use Rattle.claim_walks.specs.Parts.{IsPart, IsPartIf, LeadsToEnd, ending_of};
+
+use crate::claim::Claim;
+use crate::limit::Limit;
+use crate::walker::{Walked, Walker};
+use crate::walking::{walk_child, walk_moves};
+use hive_model::{Game, Move, MoveStack};
+
+/// The place of a move in a level, counted from 0, if it is there.
+pub fn find_move(level: u32, m: Move, stack: &MoveStack) -> Option<u32>
+    requires { level < length stack.now.lists }
+    ensures { result ≡ place_of m (level_of stack.now level) }
+{
+    let count = stack.level_len(level);
+    for i in 0..count {
+        if m == stack.get(level, i) {
+            return Some(i);
+        }
+    }
+    None
+}
+
+/// Walks what is claimed of each move of the level, of which the one at `place` is claimed to be
+/// the best.
+fn walk_root<G: Game, W: Walker>(
+    game: &mut G,
+    level: u32,
+    place: u32,
+    claim: &Claim,
+    walker: &mut W,
+    stack: &mut MoveStack,
+) -> Walked<W::Stop>
+    requires deep { claim.now.depth ≤ 64 }
+    requires inner { IsInner (position (G.course game.old)) claim.now.depth }
+    requires small { IsSmall 1000064 claim.now.value }
+    requires spare { claim.now.depth ≤ (G.course game.old).spare }
+    requires room { claim.now.depth - 1 ≤ stack.old.free }
+    requires level { level < length stack.old.lists }
+    requires listed { level_of stack.old level ≡ moves (position (G.course game.old)) }
+    requires place { slice_get (moves (position (G.course game.old))) place ≡ Some claim.now.best }
+    ensures shown { W.is_true walker.old → result ≡ Walked.Done
+        → (best (position (G.course game.old)) claim.now.depth ≡ Some claim.now.best)
+        × (value (position (G.course game.old)) claim.now.depth ≡ claim.now.value) }
+    ensures told { Follows W.sight
+        (walks.walk_moves
+        (λ m. walk W.rules (after (position (G.course game.old)) m) (claim.now.depth - 1))
+        (moves (position (G.course game.old))) place claim.now.best claim.now.value)
+        (W.seen walker.old) (ending_of W.rules W.ending result) (W.seen walker.new) }
+    ensures part { IsPart W.goes W.stops result walker.old walker.new }
+    ensures game { G.course game.new ≡ G.course game.old }
+    ensures stack { stack.new ≡ stack.old }
+{
+    let depth = claim.depth - 1;
+    let less = Limit::AtLeast(1 - claim.value);
+    let most = Limit::AtMost(-claim.value);
+    let least = Limit::AtLeast(-claim.value);
+    let count = stack.level_len(level);
+    let before = walk_moves(game, level, 0, place, depth, less, walker, stack);
+    if !before.is_done() {
+        return before;
+    }
+    let high = walk_child(game, claim.best, depth, most, walker, stack);
+    if !high.is_done() {
+        return high;
+    }
+    let low = walk_child(game, claim.best, depth, least, walker, stack);
+    if !low.is_done() {
+        return low;
+    }
+    walk_moves(game, level, place + 1, count, depth, least, walker, stack)
+}
+
+/// The same with the search for the move's place; none where it is not on the level.
+fn walk_level<G: Game, W: Walker>(
+    game: &mut G,
+    level: u32,
+    claim: &Claim,
+    walker: &mut W,
+    stack: &mut MoveStack,
+) -> Option<Walked<W::Stop>>
+    requires deep { claim.now.depth ≤ 64 }
+    requires inner { IsInner (position (G.course game.old)) claim.now.depth }
+    requires small { IsSmall 1000064 claim.now.value }
+    requires spare { claim.now.depth ≤ (G.course game.old).spare }
+    requires room { claim.now.depth - 1 ≤ stack.old.free }
+    requires level { level < length stack.old.lists }
+    requires listed { level_of stack.old level ≡ moves (position (G.course game.old)) }
+    ensures shown { W.is_true walker.old → result ≡ Some Walked.Done
+        → (best (position (G.course game.old)) claim.now.depth ≡ Some claim.now.best)
+        × (value (position (G.course game.old)) claim.now.depth ≡ claim.now.value) }
+    ensures told { LeadsToEnd W.rules W.sight W.ending (position (G.course game.old))
+        claim.now.depth claim.now.best claim.now.value result
+        (W.seen walker.old) (W.seen walker.new) }
+    ensures illegal { place_of claim.now.best (moves (position (G.course game.old))) ≡ None
+        → result ≡ None }
+    ensures legal { result ≡ None
+        → place_of claim.now.best (moves (position (G.course game.old))) ≡ None }
+    ensures part { IsPartIf W.goes W.stops result walker.old walker.new }
+    ensures game { G.course game.new ≡ G.course game.old }
+    ensures stack { stack.new ≡ stack.old }
+{
+    let place = find_move(level, claim.best, stack)?;
+    Some(walk_root(game, level, place, claim, walker, stack))
+}
+
+/// Walks a certificate, all but the test that nothing is left over: it shows the claimed move to be
+/// the best one at the claimed depth, 1 to 64, and to be worth what is claimed. None where that
+/// move is not legal. The game is not over, and has room for `depth` more plies, as the stack for
+/// levels. Game and stack are as before.
+pub fn walk_certificate<G: Game, W: Walker>(
+    game: &mut G,
+    claim: &Claim,
+    walker: &mut W,
+    stack: &mut MoveStack,
+) -> Option<Walked<W::Stop>>
+    requires deep { claim.now.depth ≤ 64 }
+    requires inner { IsInner (position (G.course game.old)) claim.now.depth }
+    requires small { IsSmall 1000064 claim.now.value }
+    requires spare { claim.now.depth ≤ (G.course game.old).spare }
+    requires room { claim.now.depth ≤ stack.old.free }
+    ensures shown { W.is_true walker.old → result ≡ Some Walked.Done
+        → (best (position (G.course game.old)) claim.now.depth ≡ Some claim.now.best)
+        × (value (position (G.course game.old)) claim.now.depth ≡ claim.now.value) }
+    ensures told { LeadsToEnd W.rules W.sight W.ending (position (G.course game.old))
+        claim.now.depth claim.now.best claim.now.value result
+        (W.seen walker.old) (W.seen walker.new) }
+    ensures illegal { place_of claim.now.best (moves (position (G.course game.old))) ≡ None
+        → result ≡ None }
+    ensures legal { result ≡ None
+        → place_of claim.now.best (moves (position (G.course game.old))) ≡ None }
+    ensures part { IsPartIf W.goes W.stops result walker.old walker.new }
+    ensures game { G.course game.new ≡ G.course game.old }
+    ensures stack { stack.new ≡ stack.old }
+{
+    let level = stack.levels();
+    game.list(stack);
+    let walked = walk_level(game, level, claim, walker, stack);
+    stack.drop_level();
+    walked
+}
