@@ -1,15 +1,14 @@
 -- How a run ends.
-use Rattle.std.proofs.Common.{◌≡◌, ◌<◌, ◌⊎◌, ℕ, zero, suc, ◌+◌, List, [], ◌∷◌, ◌++◌, length, refl, ap, sym, ◌∙◌, subst, inl, inr, Some, None, arith, append_assoc, length-append}
+use Rattle.std.proofs.Common.{◌≡◌, ℕ, zero, suc, List, [], ◌∷◌, ◌++◌, refl, ap, sym, ◌∙◌, subst, inl, inr, Some, None, arith, append_assoc}
 use Rattle.std.specs.Prelude.{Option, Ok, Err, slice_get}
 use Rattle.std.proofs.lemmas.List.{append-nil}
-use Rattle.io_edge.specs.Outside.{HasCause, Rose, Told, behind}
+use Rattle.io_edge.specs.Outside.{Told, behind}
 use Rattle.hive_model.specs.declared.places.Move.{Move}
 use Rattle.hive_model.specs.Courses.{Course, position}
 use Rattle.hive_model.specs.Legal.{moves}
 use Rattle.hive_model.specs.Lines.{Line, lines}
 use Rattle.hive_model.specs.Lists.{IsOn}
 use Rattle.hive_model.specs.Positions.{Position}
-use Rattle.line_feed.specs.Feed.{input_limit}
 use Rattle.game_text.specs.declared.parsed.Parsed.{Parsed}
 use Rattle.opening_book.specs.Book.{IsBook, Played}
 use Rattle.command_runs.specs.Asking.{IsReplayOf}
@@ -22,6 +21,7 @@ use Rattle.command_runs.specs.declared.status.Status.{Status}
 use Rattle.command_runs.specs.declared.status.Status.TheVariants.{Done, Refused, Usage, ReadFault, WriteFault, SpawnFault, BadInput, Memory, InputFull}
 use Rattle.command_runs.proofs.GameRunLemmas.{end_is}
 use Rattle.command_runs.proofs.OneGameLemmas.{all_were_read}
+use Rattle.command_runs.proofs.ServedLemmas.{no_failure, not_full}
 use Rattle.book_command.specs.Asked.{AreGames, AreGood, Asks, played_in}
 use Rattle.book_command.specs.Laws.{BooksAreDone, IsMadeMove, WrittenMovesAreLegal}
 use Rattle.book_command.specs.Reading.{IsNoBook, IsWhole}
@@ -122,30 +122,19 @@ not_bad input rest why start games asks (inr (inr (given, no_game))) =
     none_after_first r.before others r.last r.start r.games start games r.asks
     (subst (λ ls. Asks ls start games) (read.of_input ∙ ap (λ ls. ls ++ others) r.are) asks) r.none
 
-not_full : (input bytes left : List ℕ) → input ≡ bytes ++ left → length bytes ≡ input_limit → length input < input_limit → ⊥
-not_full input bytes left split full below =
-    let e : length input ≡ length bytes + length left = ap length split ∙ length-append bytes left in
-    omega (arith, e, full, below)
-
-run_done : (status : Status) (before after : Sides) → BookRun status before after
-    → (reads_before reads_after : ℕ) → HasCause (status ≡ ReadFault) reads_before reads_after → ¬ Rose reads_before reads_after
-    → (writes_before writes_after : ℕ) → HasCause (status ≡ WriteFault) writes_before writes_after → ¬ Rose writes_before writes_after
-    → (input : List ℕ) → before.rest ≡ Some input → length input < input_limit → (start : Parsed) (games : List Played) → Asks (lines input) start games → (status ≡ Done) ⊎ (status ≡ Memory)
-run_done Done before after run rb ra rc rn wb wa wc wn input told below start games asks = inl refl
-run_done Memory before after run rb ra rc rn wb wa wc wn input told below start games asks = inr refl
-run_done BadInput before after run rb ra rc rn wb wa wc wn input told below start games asks =
-    let (why, wrote) = run input told in absurd (not_bad input after.rest why start games asks wrote.bad)
-run_done ReadFault before after run rb ra rc rn wb wa wc wn input told below start games asks = absurd (rn (rc.rose refl))
-run_done WriteFault before after run rb ra rc rn wb wa wc wn input told below start games asks = absurd (wn (wc.rose refl))
-run_done InputFull before after (same, run) rb ra rc rn wb wa wc wn input told below start games asks =
-    let (bytes, left, full, is) = run input told in absurd (not_full input bytes left is.was_read.split full below)
-run_done Refused before after run rb ra rc rn wb wa wc wn input told below start games asks = absurd run
-run_done Usage before after run rb ra rc rn wb wa wc wn input told below start games asks = absurd run
-run_done SpawnFault before after run rb ra rc rn wb wa wc wn input told below start games asks = absurd run
-
 pub books_done : BooksAreDone
-books_done = λ status before after run rb ra rc rn wb wa wc wn input told below start games asks.
-    run_done status before after run rb ra rc rn wb wa wc wn input told below start games asks
+books_done Done before after run input served start games asks = inl refl
+books_done Memory before after run input served start games asks = inr refl
+books_done BadInput before after run input served start games asks =
+    let (why, wrote) = run input served.told in absurd (not_bad input after.rest why start games asks wrote.bad)
+books_done ReadFault before after run input served start games asks = absurd (no_failure served.reads refl)
+books_done WriteFault before after run input served start games asks = absurd (no_failure served.writes refl)
+books_done InputFull before after (same, run) input served start games asks =
+    let (bytes, left, full, is) = run input served.told in
+    absurd (not_full input bytes left after.rest is.was_read full served.below)
+books_done Refused before after run input served start games asks = absurd run
+books_done Usage before after run input served start games asks = absurd run
+books_done SpawnFault before after run input served start games asks = absurd run
 
 made_move : (start : Parsed) (games : List Played) (found : Option (Move × ℕ)) → IsBook (last_position start) games found → IsMadeMove start games found
 made_move start games None book = tt

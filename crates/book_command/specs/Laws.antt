@@ -1,32 +1,27 @@
 -- When the run of a book is done, and what it has written then.
-use Rattle.std.specs.Prelude.{◌≡◌, ◌⊎◌, ℕ, ◌<◌, List, length, Option, Some, None}
-use Rattle.io_edge.specs.Outside.{HasCause, Rose, behind}
+use Rattle.std.specs.Prelude.{◌≡◌, ◌⊎◌, ℕ, ◌<◌, List, Option, Some, None}
+use Rattle.io_edge.specs.Outside.{behind}
 use Rattle.hive_model.specs.declared.places.Move.{Move}
 use Rattle.hive_model.specs.Lines.{lines}
-use Rattle.line_feed.specs.Feed.{input_limit}
 use Rattle.game_text.specs.declared.parsed.Parsed.{Parsed}
 use Rattle.opening_book.specs.Book.{Played, count}
 use Rattle.hive_model.specs.Legal.{moves}
 use Rattle.hive_model.specs.Lists.{IsOn}
 use Rattle.command_runs.specs.Input.{Sides, WhereTold}
 use Rattle.command_runs.specs.OneGame.{last_position}
+use Rattle.command_runs.specs.Served.{Served}
 use Rattle.command_runs.specs.declared.status.Status.{Status}
-use Rattle.command_runs.specs.declared.status.Status.TheVariants.{Done, ReadFault, WriteFault, Memory}
+use Rattle.command_runs.specs.declared.status.Status.TheVariants.{Done, Memory}
 use Rattle.book_command.specs.Asked.{Asks}
 use Rattle.book_command.specs.Runs.{BookRun}
 use Rattle.book_command.specs.Text.{book_line}
 
--- Where neither count of faults rose, the run over an input below the limit whose first line is a
--- game that is not over, and each other line a game, is done, unless memory is wanting.
+-- Where the streams served the run, and the first line of the input is a game that is not over, and
+-- each other line a game, it is done, unless memory is wanting.
 abbrev pub BooksAreDone : Type 0
 BooksAreDone =
     (status : Status) → (before : Sides) → (after : Sides) → BookRun status before after
-    → (reads_before : ℕ) → (reads_after : ℕ)
-    → HasCause (status ≡ ReadFault) reads_before reads_after → ¬ Rose reads_before reads_after
-    → (writes_before : ℕ) → (writes_after : ℕ)
-    → HasCause (status ≡ WriteFault) writes_before writes_after
-    → ¬ Rose writes_before writes_after
-    → (input : List ℕ) → before.rest ≡ Some input → length input < input_limit
+    → (input : List ℕ) → Served status before input
     → (start : Parsed) → (games : List Played) → Asks (lines input) start games
     → (status ≡ Done) ⊎ (status ≡ Memory)
 

@@ -42,7 +42,7 @@ use Rattle.text_verdicts.specs.declared.verdict.Unread.{Unread}
 use Rattle.text_verdicts.specs.Reading.{Judges, of_fault}
 use Rattle.text_verdicts.specs.Verdicts.{of_walk}
 use Rattle.certificate_commands.specs.Verdicts.{claimed_move, end_of, of_claim, of_head, of_items, of_tokens, of_cited, of_lines, of_move, verdict}
-use Rattle.certificate_commands.specs.Laws.{AcceptedIsTrue, CertificatesAreAccepted, CertifiedIsAccepted, HeldIsAccepted, HeldCitedIsAccepted, IsTrueClaim, MayCertify}
+use Rattle.certificate_commands.specs.Laws.{AcceptedIsTrue, CertificatesAreAccepted, CertifiedIsAccepted, ClaimsIn, HeldIsAccepted, HeldCitedIsAccepted, IsTrueClaim, MayCertify}
 use Rattle.certificate_commands.proofs.HeadLaws.{Keeps, head-keeps, end-reached, head-later}
 
 pub verdict-is : (ls : List Line) (r : HeadRead) → head_of 2 ls ≡ r → verdict ls ≡ of_head r (drop 5 ls)
@@ -121,24 +121,26 @@ if-open : (over : Bool) (v : Verdict) → over ≡ false → (if over then GameO
 if-open true v e = cc
 if-open false v e = refl
 
-pub held-accepted : HeldIsAccepted
-held-accepted = λ ls head m indices h.
+-- of lines with a claim those behind the head are judged
+claim-judged : (ls : List Line) (version : ℕ) (head : Head) (m : Move) → ClaimsIn ls version head m
+    → verdict ls ≡ of_lines version (end_of head) head.depth m head.value (drop 5 ls)
+claim-judged ls version head m h =
     let p : Position = end_of head in
     verdict-is ls (Ok head) h.has_head
     ∙ if-open (is_over p) (of_move head.version p head.depth (claimed_move head) head.value (drop 5 ls)) h.open_
     ∙ ap (λ r. of_move head.version p head.depth r head.value (drop 5 ls)) h.denotes
-    ∙ ap (λ n. of_lines n p head.depth m head.value (drop 5 ls)) h.first
-    ∙ ap (of_items p head.depth m head.value) h.are_indices
+    ∙ ap (λ n. of_lines n p head.depth m head.value (drop 5 ls)) h.is_of
+
+pub held-accepted : HeldIsAccepted
+held-accepted = λ ls head m indices h.
+    claim-judged ls 1 head m h.claims
+    ∙ ap (of_items (end_of head) head.depth m head.value) h.are_indices
     ∙ ap (of_walk 5) h.hold.1
 
 pub held-cited : HeldCitedIsAccepted
 held-cited = λ ls head m tokens h.
-    let p : Position = end_of head in
-    verdict-is ls (Ok head) h.has_head
-    ∙ if-open (is_over p) (of_move head.version p head.depth (claimed_move head) head.value (drop 5 ls)) h.open_
-    ∙ ap (λ r. of_move head.version p head.depth r head.value (drop 5 ls)) h.denotes
-    ∙ ap (λ n. of_lines n p head.depth m head.value (drop 5 ls)) h.second
-    ∙ ap (of_tokens p head.depth m head.value) h.are_tokens
+    claim-judged ls 2 head m h.claims
+    ∙ ap (of_tokens (end_of head) head.depth m head.value) h.are_tokens
     ∙ ap (of_cited 5) h.hold.1
 
 -- the written text of a legal move denotes it
@@ -161,10 +163,12 @@ certificate-accepted = λ t ms depth m h.
       small = value-fits p depth v h.deep refl;
     } in
     held-accepted (lines (certificate t ms depth m v)) (claimed t ms depth m v) m (least_indices p depth m v) (record {
-      has_head = head-later (lines (certificate t ms depth m v)) (claimed t ms depth m v) (heads t ms depth m v may);
-      first = refl;
-      open_ = h.open_;
-      denotes = named t ms depth m v may;
+      claims = record {
+        has_head = head-later (lines (certificate t ms depth m v)) (claimed t ms depth m v) (heads t ms depth m v may);
+        is_of = refl;
+        open_ = h.open_;
+        denotes = named t ms depth m v may;
+      };
       are_indices = indices t ms depth m v may;
       hold = least-hold p depth m (record { deep = h.some; open_ = h.open_ }) h.is_best;
     })

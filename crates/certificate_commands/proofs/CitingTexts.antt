@@ -204,10 +204,12 @@ migrated-accepted ls written is =
     } in
     let tokens = short p d m v to.indices in
     held-cited (lines written) (second (claimed t ms d m v)) m tokens (record {
-      has_head = ap (λ x. head_of 2 (lines x)) to.text_is ∙ head-again t ms d m v (token_lines tokens) may;
-      second = refl;
-      open_ = to.open_;
-      denotes = named t ms d m v may;
+      claims = record {
+        has_head = ap (λ x. head_of 2 (lines x)) to.text_is ∙ head-again t ms d m v (token_lines tokens) may;
+        is_of = refl;
+        open_ = to.open_;
+        denotes = named t ms d m v may;
+      };
       are_tokens = ap (λ x. map token_in (drop 5 (lines x))) to.text_is ∙ ap (λ l. map token_in (drop 5 l)) (head-lines 2 t ms d m v (token_lines tokens) (omega arith) may)
           ∙ tokens-read tokens (short-low p d m v (drop 5 ls) to.indices to.are_indices to.hold);
       hold = short-holds p d m v to.indices to.hold;

@@ -1,16 +1,17 @@
 -- Certificates of the first version that hold become ones that cite.
-use Rattle.std.proofs.Common.{◌≡◌, ◌⊎◌, ◌<◌, ℕ, List, drop, length, refl, ap, ◌∙◌, inl, inr, Some}
+use Rattle.std.proofs.Common.{◌≡◌, ◌⊎◌, ℕ, List, drop, refl, ap, ◌∙◌, inl, inr}
 use Rattle.std.specs.Prelude.{Ok}
-use Rattle.io_edge.specs.Outside.{HasCause, Rose, behind}
-use Rattle.line_feed.specs.Feed.{input_limit}
+use Rattle.io_edge.specs.Outside.{behind}
 use Rattle.hive_model.specs.declared.places.Move.{Move}
 use Rattle.hive_model.specs.Lines.{Line, lines}
 use Rattle.certificate_text.specs.declared.head.Head.{Head}
 use Rattle.command_runs.specs.Input.{Sides}
+use Rattle.command_runs.specs.Served.{Served}
 use Rattle.command_runs.specs.declared.status.Status.{Status}
 use Rattle.command_runs.specs.declared.status.Status.TheVariants.{Done, Refused, Usage, ReadFault, WriteFault, SpawnFault, BadInput, Memory, InputFull}
 use Rattle.text_verdicts.specs.declared.verdict.Verdict.TheVariants.{Accepted}
 use Rattle.text_verdicts.specs.Verdicts.{of_walk}
+use Rattle.command_runs.proofs.ServedLemmas.{no_failure}
 use Rattle.text_verdicts.proofs.JudgeLaws.{accepted-done}
 use Rattle.certificate_commands.specs.Laws.{HoldsOf}
 use Rattle.certificate_commands.specs.Verdicts.{end_of, of_items}
@@ -22,26 +23,26 @@ use Rattle.certificate_commands.proofs.MigrateLaws.{claim-items, first-is}
 
 pub first-accepted : (ls : List Line) (head : Head) (m : Move) (indices : List ℕ) → HoldsOf ls head m indices → first_verdict ls ≡ Accepted
 first-accepted ls head m indices h =
-    first-is ls (Ok head) (head-first ls head h.has_head h.first)
-    ∙ claim-items head (drop 5 ls) m h.first h.open_ h.denotes
+    first-is ls (Ok head) (head-first ls head h.claims.has_head h.claims.is_of)
+    ∙ claim-items head (drop 5 ls) m h.claims.is_of h.claims.open_ h.claims.denotes
     ∙ ap (of_items (end_of head) head.depth m head.value) h.are_indices
     ∙ ap (of_walk 5) h.hold.1
 
-ended : (status : Status) (before after : Sides) → MigrateRun status before after → (r0 r1 : ℕ) → HasCause (status ≡ ReadFault) r0 r1 → (Rose r0 r1 → ⊥) → (w0 w1 : ℕ) → HasCause (status ≡ WriteFault) w0 w1 → (Rose w0 w1 → ⊥)
-    → (input : List ℕ) → before.rest ≡ Some input → length input < input_limit → first_verdict (lines input) ≡ Accepted → (status ≡ Done) ⊎ (status ≡ Memory)
-ended Done before after run r0 r1 reads no_read w0 w1 writes no_write input told below is = inl refl
-ended Refused before after run r0 r1 reads no_read w0 w1 writes no_write input told below is = accepted-done 5 first_verdict Refused before after run r0 r1 reads no_read w0 w1 writes no_write input told below is
-ended Usage before after run r0 r1 reads no_read w0 w1 writes no_write input told below is = absurd run
-ended ReadFault before after run r0 r1 reads no_read w0 w1 writes no_write input told below is = accepted-done 5 first_verdict ReadFault before after run r0 r1 reads no_read w0 w1 writes no_write input told below is
-ended WriteFault before after run r0 r1 reads no_read w0 w1 writes no_write input told below is = absurd (no_write (writes.rose refl))
-ended SpawnFault before after run r0 r1 reads no_read w0 w1 writes no_write input told below is = absurd run
-ended BadInput before after run r0 r1 reads no_read w0 w1 writes no_write input told below is = accepted-done 5 first_verdict BadInput before after run r0 r1 reads no_read w0 w1 writes no_write input told below is
-ended Memory before after run r0 r1 reads no_read w0 w1 writes no_write input told below is = inr refl
-ended InputFull before after run r0 r1 reads no_read w0 w1 writes no_write input told below is = accepted-done 5 first_verdict InputFull before after run r0 r1 reads no_read w0 w1 writes no_write input told below is
+ended : (status : Status) (before after : Sides) → MigrateRun status before after → (input : List ℕ) → Served status before input
+    → first_verdict (lines input) ≡ Accepted → (status ≡ Done) ⊎ (status ≡ Memory)
+ended Done before after run input served is = inl refl
+ended Refused before after run input served is = accepted-done 5 first_verdict Refused before after run input served is
+ended Usage before after run input served is = absurd run
+ended ReadFault before after run input served is = accepted-done 5 first_verdict ReadFault before after run input served is
+ended WriteFault before after run input served is = absurd (no_failure served.writes refl)
+ended SpawnFault before after run input served is = absurd run
+ended BadInput before after run input served is = accepted-done 5 first_verdict BadInput before after run input served is
+ended Memory before after run input served is = inr refl
+ended InputFull before after run input served is = accepted-done 5 first_verdict InputFull before after run input served is
 
 pub migrations-done : MigrationsAreDone
-migrations-done = λ status before after run r0 r1 reads no_read w0 w1 writes no_write input told below head m indices h.
-    ended status before after run r0 r1 reads no_read w0 w1 writes no_write input told below (first-accepted (lines input) head m indices h)
+migrations-done = λ status before after run input served head m indices h.
+    ended status before after run input served (first-accepted (lines input) head m indices h)
 
 pub migrated-are-accepted : MigratedIsAccepted
 migrated-are-accepted = λ before after run input told none.

@@ -1,7 +1,5 @@
 -- Laws of certificates that are written and checked.
-use Rattle.std.specs.Prelude.{◌≡◌, ◌⊎◌, ℕ, ◌<◌, ◌≤◌, false, List, [], length, map, drop, Some, Ok}
-use Rattle.io_edge.specs.Outside.{HasCause, Rose}
-use Rattle.line_feed.specs.Feed.{input_limit}
+use Rattle.std.specs.Prelude.{◌≡◌, ◌⊎◌, ℕ, ◌≤◌, false, List, [], length, map, drop, Some, Ok}
 use Rattle.hive_model.specs.declared.pieces.GameType.{GameType}
 use Rattle.hive_model.specs.declared.places.Move.{Move}
 use Rattle.hive_model.specs.Positions.{opening}
@@ -19,8 +17,9 @@ use Rattle.certificate_text.specs.Text.{head_of, index_in}
 use Rattle.strategy_make.specs.Making.{certificate}
 use Rattle.command_runs.specs.Input.{Sides, WhereTold}
 use Rattle.command_runs.specs.OneGame.{asked}
+use Rattle.command_runs.specs.Served.{Served}
 use Rattle.command_runs.specs.declared.status.Status.{Status}
-use Rattle.command_runs.specs.declared.status.Status.TheVariants.{Done, ReadFault, WriteFault, Memory}
+use Rattle.command_runs.specs.declared.status.Status.TheVariants.{Done, Memory}
 use Rattle.text_verdicts.specs.declared.verdict.Verdict.TheVariants.{Accepted}
 use Rattle.certificate_commands.specs.Certifying.{CertifyRun}
 use Rattle.certificate_commands.specs.Verdicts.{CheckRun, claimed_move, end_of, verdict}
@@ -45,13 +44,16 @@ CheckedIsTrue =
     (before : Sides) → (after : Sides) → CheckRun Done before after
     → WhereTold before.rest (λ input. (head : Head) × (m : Move) × IsTrueClaim (lines input) head m)
 
--- the lines are a head of the first version, whose game is not over, and indices that hold of its
--- claim
-pub record HoldsOf (ls : List Line) (head : Head) (m : Move) (indices : List ℕ) : Type 0 where
+-- the lines have a head of this version, its game is not over, and its text denotes this move there
+pub record ClaimsIn (ls : List Line) (version : ℕ) (head : Head) (m : Move) : Type 0 where
   pub has_head : head_of 2 ls ≡ Ok head
-  pub first : head.version ≡ 1
+  pub is_of : head.version ≡ version
   pub open_ : is_over (end_of head) ≡ false
   pub denotes : claimed_move head ≡ Ok m
+
+-- the lines are a head of the first version with its claim, and indices that hold of it
+pub record HoldsOf (ls : List Line) (head : Head) (m : Move) (indices : List ℕ) : Type 0 where
+  pub claims : ClaimsIn ls 1 head m
   pub are_indices : map index_in (drop 5 ls) ≡ map (λ i. Some i) indices
   pub hold : Holds (end_of head) head.depth m head.value indices
 
@@ -62,11 +64,9 @@ HeldIsAccepted =
     → HoldsOf ls head m indices → verdict ls ≡ Accepted
 
 -- the same of a head of the second version, and tokens
-pub record HoldsCitedOf (ls : List Line) (head : Head) (m : Move) (tokens : List Token) : Type 0 where
-  pub has_head : head_of 2 ls ≡ Ok head
-  pub second : head.version ≡ 2
-  pub open_ : is_over (end_of head) ≡ false
-  pub denotes : claimed_move head ≡ Ok m
+pub record HoldsCitedOf (ls : List Line) (head : Head) (m : Move) (tokens : List Token)
+    : Type 0 where
+  pub claims : ClaimsIn ls 2 head m
   pub are_tokens : map token_in (drop 5 ls) ≡ map (λ t. Some t) tokens
   pub hold : HoldsCited (end_of head) head.depth m head.value tokens
 
@@ -99,31 +99,21 @@ CertifiedIsAccepted =
     → (input : List ℕ) → before.rest ≡ Some input → before.written ≡ Some []
     → (text : List ℕ) × (after.written ≡ Some text) × (verdict (lines text) ≡ Accepted)
 
--- Where neither count of faults rose, the answer to an input that is exactly one line, a game that
--- is not over, is done, unless memory is wanting.
+-- Where the streams served the run, the answer to an input that is exactly one line, a game that is
+-- not over, is done, unless memory is wanting.
 abbrev pub CertifiesAreDone : Type 0
 CertifiesAreDone =
     (depth : ℕ) → (status : Status) → (before : Sides) → (after : Sides)
     → CertifyRun depth status before after
-    → (reads_before : ℕ) → (reads_after : ℕ)
-    → HasCause (status ≡ ReadFault) reads_before reads_after → ¬ Rose reads_before reads_after
-    → (writes_before : ℕ) → (writes_after : ℕ)
-    → HasCause (status ≡ WriteFault) writes_before writes_after
-    → ¬ Rose writes_before writes_after
-    → (input : List ℕ) → before.rest ≡ Some input → length input < input_limit
+    → (input : List ℕ) → Served status before input
     → (game : Parsed) → asked (lines input) ≡ Ok game
     → (status ≡ Done) ⊎ (status ≡ Memory)
 
--- The same of a check of an input below the limit that is accepted.
+-- The same of a check of an input that is accepted.
 abbrev pub ChecksAreDone : Type 0
 ChecksAreDone =
     (status : Status) → (before : Sides) → (after : Sides)
     → CheckRun status before after
-    → (reads_before : ℕ) → (reads_after : ℕ)
-    → HasCause (status ≡ ReadFault) reads_before reads_after → ¬ Rose reads_before reads_after
-    → (writes_before : ℕ) → (writes_after : ℕ)
-    → HasCause (status ≡ WriteFault) writes_before writes_after
-    → ¬ Rose writes_before writes_after
-    → (input : List ℕ) → before.rest ≡ Some input → length input < input_limit
+    → (input : List ℕ) → Served status before input
     → verdict (lines input) ≡ Accepted
     → (status ≡ Done) ⊎ (status ≡ Memory)

@@ -1,30 +1,24 @@
 -- Laws of certificates that become ones that cite.
-use Rattle.std.specs.Prelude.{◌≡◌, ◌⊎◌, ℕ, ◌<◌, List, [], length, Some}
-use Rattle.io_edge.specs.Outside.{HasCause, Rose}
-use Rattle.line_feed.specs.Feed.{input_limit}
+use Rattle.std.specs.Prelude.{◌≡◌, ◌⊎◌, ℕ, List, [], Some}
 use Rattle.hive_model.specs.declared.places.Move.{Move}
 use Rattle.hive_model.specs.Lines.{lines}
 use Rattle.certificate_text.specs.declared.head.Head.{Head}
 use Rattle.command_runs.specs.Input.{Sides}
+use Rattle.command_runs.specs.Served.{Served}
 use Rattle.command_runs.specs.declared.status.Status.{Status}
-use Rattle.command_runs.specs.declared.status.Status.TheVariants.{Done, ReadFault, WriteFault, Memory}
+use Rattle.command_runs.specs.declared.status.Status.TheVariants.{Done, Memory}
 use Rattle.text_verdicts.specs.declared.verdict.Verdict.TheVariants.{Accepted}
 use Rattle.certificate_commands.specs.Laws.{HoldsOf}
 use Rattle.certificate_commands.specs.Verdicts.{verdict}
 use Rattle.certificate_commands.specs.Migrating.{MigrateRun}
 
--- Where neither count of faults rose, the run on an input below the limit that is a certificate of
--- the first version, and holds, is done, unless memory is wanting.
+-- Where the streams served the run, and the input is a certificate of the first version, and holds,
+-- it is done, unless memory is wanting.
 abbrev pub MigrationsAreDone : Type 0
 MigrationsAreDone =
     (status : Status) → (before : Sides) → (after : Sides)
     → MigrateRun status before after
-    → (reads_before : ℕ) → (reads_after : ℕ)
-    → HasCause (status ≡ ReadFault) reads_before reads_after → ¬ Rose reads_before reads_after
-    → (writes_before : ℕ) → (writes_after : ℕ)
-    → HasCause (status ≡ WriteFault) writes_before writes_after
-    → ¬ Rose writes_before writes_after
-    → (input : List ℕ) → before.rest ≡ Some input → length input < input_limit
+    → (input : List ℕ) → Served status before input
     → (head : Head) → (m : Move) → (indices : List ℕ) → HoldsOf (lines input) head m indices
     → (status ≡ Done) ⊎ (status ≡ Memory)
 

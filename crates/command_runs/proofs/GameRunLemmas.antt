@@ -1,5 +1,5 @@
 -- How a command that answers one game ends.
-use Rattle.std.proofs.Common.{◌≡◌, ◌≤◌, ◌<◌, ◌⊎◌, ℕ, List, [], ◌∷◌, length, take, ap, sym, ◌∙◌, subst, inl, inr, arith}
+use Rattle.std.proofs.Common.{◌≡◌, ◌≤◌, ℕ, List, [], ◌∷◌, length, ap, sym, ◌∙◌, subst, inl, inr, arith}
 use Rattle.std.specs.Prelude.{Result, Ok, Err}
 use Rattle.io_edge.specs.Outside.{behind}
 use Rattle.hive_model.specs.Courses.{Course, position}
@@ -12,7 +12,7 @@ use Rattle.command_runs.specs.OneGame.{IsAsked, and_no_more, asked, last_positio
 use Rattle.command_runs.specs.Asking.{IsReplayOf, IsNoGame}
 use Rattle.command_runs.specs.GameRun.{Answers, GameRun, TellsNone, WritesAnswer, WritesAs}
 use Rattle.command_runs.specs.declared.status.Status.{Status}
-use Rattle.command_runs.specs.declared.status.Status.TheVariants.{Done, BadInput, Memory}
+use Rattle.command_runs.specs.declared.status.Status.TheVariants.{BadInput}
 use Rattle.command_runs.specs.declared.no_game.NoGame.{NoGame}
 use Rattle.command_runs.specs.declared.no_game.NoGame.TheVariants.{Bad, ReadFault as NoRead, InputFull as TooMuch, Memory as NoMemory}
 use Rattle.command_runs.proofs.OneGameLemmas.{all_were_read}

@@ -4,3 +4,4 @@ pub mod Reasons
 pub mod OneGame
 pub mod Asking
 pub mod GameRun
+pub mod Served

@@ -1,11 +1,12 @@
 -- When a made game is told whole, and which best move is told.
 use Rattle.std.specs.Prelude.{◌≡◌, ◌⊎◌, ℕ, false}
-use Rattle.io_edge.specs.Outside.{Told, HasCause, Rose}
+use Rattle.io_edge.specs.Outside.{Told}
 use Rattle.hive_model.specs.declared.places.Move.{Move}
 use Rattle.hive_model.specs.Positions.{Position}
 use Rattle.hive_model.specs.Legal.{is_over}
 use Rattle.hive_model.specs.Minimax.{IsBest}
 use Rattle.hive_model.specs.Denotes.{text}
+use Rattle.command_runs.specs.Served.{NoFault}
 use Rattle.command_runs.specs.declared.status.Status.{Status}
 use Rattle.command_runs.specs.declared.status.Status.TheVariants.{Done, WriteFault, Memory}
 use Rattle.grow_command.specs.Text.{best_field}
@@ -16,8 +17,7 @@ abbrev pub GrowsAreDone : Type 0
 GrowsAreDone =
     (seed plies : ℕ) → (status : Status) → (before : Told) → (after : Told)
     → GrowRun seed plies status before after
-    → (faults_before : ℕ) → (faults_after : ℕ)
-    → HasCause (status ≡ WriteFault) faults_before faults_after → ¬ Rose faults_before faults_after
+    → NoFault (status ≡ WriteFault)
     → (status ≡ Done) ⊎ (status ≡ Memory)
 
 -- of a position whose game goes on the best move of depth 1 is told, as it is written there

@@ -1,5 +1,5 @@
 -- What is judged of a text, what was read of it, and how a run ends.
-use Rattle.std.proofs.Common.{◌≡◌, ◌⊎◌, ℕ, take, ◌<◌, ◌≤◌, ◌+◌, ◌-◌, ◌^◌, min, arith, Bool, true, List, [], ◌++◌, length, length-append, refl, sym, ap, subst, ◌∙◌, inl, inr, Some, None}
+use Rattle.std.proofs.Common.{◌≡◌, ℕ, take, ◌<◌, ◌≤◌, ◌+◌, ◌-◌, ◌^◌, min, arith, Bool, true, List, [], ◌++◌, length, refl, sym, ap, subst, ◌∙◌, inl, inr, Some, None}
 use Rattle.std.specs.Prelude.{Result, Ok, Err}
 use Rattle.std.proofs.lemmas.List.{append-nil}
 use Rattle.io_edge.specs.Outside.{Told, IsAtEnd, behind, in_front}
@@ -20,6 +20,7 @@ use Rattle.command_runs.specs.Input.{IsAllRead, Sides, WhereTold}
 use Rattle.command_runs.specs.declared.status.Status.{Status}
 use Rattle.command_runs.specs.declared.status.Status.TheVariants.{Done, Refused as IsRefused, Usage, ReadFault as ReadFailed, WriteFault as WriteFailed, SpawnFault, BadInput, Memory as NoMemory, InputFull as InputIsFull}
 use Rattle.command_runs.proofs.ReadLemmas.{fresh_holds_little, given_were_read}
+use Rattle.command_runs.proofs.ServedLemmas.{no_failure, not_full}
 use Rattle.text_verdicts.specs.declared.verdict.Verdict.{Verdict}
 use Rattle.text_verdicts.specs.declared.verdict.Verdict.TheVariants.{Accepted, Refused, BadCite, BadLine, BadGame, GameOver}
 use Rattle.text_verdicts.specs.declared.verdict.Unread.{Unread}
@@ -162,21 +163,17 @@ verdict-run head verdict (Err WantsMemory) status before after judges read (e, s
 
 -- ---- what is accepted is done
 
-accepted-is : (head : ℕ) (verdict : Judgement) (status : Status) (before after : Sides) (input : List ℕ) → VerdictRun head verdict status before after → before.rest ≡ Some input → length input < input_limit → verdict (lines input) ≡ Accepted
-    → (status ≡ ReadFailed → ⊥) → (status ≡ WriteFailed → ⊥) → (status ≡ Done) ⊎ (status ≡ NoMemory)
-accepted-is head verdict Done before after input run told below is reads writes = inl refl
-accepted-is head verdict IsRefused before after input run told below is reads writes = let s = (run input told).status_is in absurd (let e : Done ≡ IsRefused = ap status_of (sym is) ∙ s in cc)
-accepted-is head verdict BadInput before after input run told below is reads writes = let s = (run input told).status_is in absurd (let e : Done ≡ BadInput = ap status_of (sym is) ∙ s in cc)
-accepted-is head verdict ReadFailed before after input run told below is reads writes = absurd (reads refl)
-accepted-is head verdict WriteFailed before after input run told below is reads writes = absurd (writes refl)
-accepted-is head verdict InputIsFull before after input (same, run) told below is reads writes =
-    let (bytes, left, w, full) = run input told in
-    let all : length input ≡ length bytes + length left = ap length w.split ∙ length-append bytes left in
-    absurd (omega (arith, all, full, below))
-accepted-is head verdict NoMemory before after input run told below is reads writes = inr refl
-accepted-is head verdict Usage before after input run told below is reads writes = absurd run
-accepted-is head verdict SpawnFault before after input run told below is reads writes = absurd run
-
 pub accepted-done : AcceptedAreDone
-accepted-done = λ head verdict status before after run r0 r1 reads no_read w0 w1 writes no_write input told below is.
-    accepted-is head verdict status before after input run told below is (λ e. no_read (reads.rose e)) (λ e. no_write (writes.rose e))
+accepted-done head verdict Done before after run input served is = inl refl
+accepted-done head verdict IsRefused before after run input served is =
+    let s = (run input served.told).status_is in absurd (let e : Done ≡ IsRefused = ap status_of (sym is) ∙ s in cc)
+accepted-done head verdict BadInput before after run input served is =
+    let s = (run input served.told).status_is in absurd (let e : Done ≡ BadInput = ap status_of (sym is) ∙ s in cc)
+accepted-done head verdict ReadFailed before after run input served is = absurd (no_failure served.reads refl)
+accepted-done head verdict WriteFailed before after run input served is = absurd (no_failure served.writes refl)
+accepted-done head verdict InputIsFull before after (same, run) input served is =
+    let (bytes, left, was_read, full) = run input served.told in
+    absurd (not_full input bytes left after.rest was_read full served.below)
+accepted-done head verdict NoMemory before after run input served is = inr refl
+accepted-done head verdict Usage before after run input served is = absurd run
+accepted-done head verdict SpawnFault before after run input served is = absurd run

@@ -1,7 +1,5 @@
 -- Laws of forced wins that are told and checked.
-use Rattle.std.specs.Prelude.{◌≡◌, ◌⊎◌, ℕ, ◌<◌, ◌≤◌, false, List, [], length, Some, Ok}
-use Rattle.io_edge.specs.Outside.{HasCause, Rose}
-use Rattle.line_feed.specs.Feed.{input_limit}
+use Rattle.std.specs.Prelude.{◌≡◌, ◌⊎◌, ℕ, ◌≤◌, false, List, [], length, Some, Ok}
 use Rattle.hive_model.specs.declared.pieces.GameType.{GameType}
 use Rattle.hive_model.specs.declared.places.Move.{Move}
 use Rattle.hive_model.specs.Positions.{opening}
@@ -11,8 +9,9 @@ use Rattle.hive_model.specs.Lines.{Line, lines}
 use Rattle.game_text.specs.declared.parsed.Parsed.{Parsed}
 use Rattle.command_runs.specs.Input.{Sides, WhereTold}
 use Rattle.command_runs.specs.OneGame.{asked, last_position}
+use Rattle.command_runs.specs.Served.{Served}
 use Rattle.command_runs.specs.declared.status.Status.{Status}
-use Rattle.command_runs.specs.declared.status.Status.TheVariants.{Done, ReadFault, WriteFault, Memory}
+use Rattle.command_runs.specs.declared.status.Status.TheVariants.{Done, Memory}
 use Rattle.win_commands.specs.declared.head.Head.{Head}
 use Rattle.text_verdicts.specs.declared.verdict.Verdict.TheVariants.{Accepted}
 use Rattle.win_commands.specs.Text.{is_forced, solution_text}
@@ -34,29 +33,21 @@ VerifiedIsTrue =
     (before : Sides) → (after : Sides) → VerifyRun Done before after
     → WhereTold before.rest (λ input. (head : Head) × IsTrueText (lines input) head)
 
--- Where neither count of faults rose, the answer to an input that is exactly one line, a game that
--- is not over, is done, unless memory is wanting.
+-- Where the streams served the run, the answer to an input that is exactly one line, a game that is
+-- not over, is done, unless memory is wanting.
 abbrev pub SolvesAreDone : Type 0
 SolvesAreDone =
     (plies : ℕ) → (status : Status) → (before : Sides) → (after : Sides)
     → SolveRun plies status before after
-    → (reads_before : ℕ) → (reads_after : ℕ)
-    → HasCause (status ≡ ReadFault) reads_before reads_after → ¬ Rose reads_before reads_after
-    → (writes_before : ℕ) → (writes_after : ℕ)
-    → HasCause (status ≡ WriteFault) writes_before writes_after → ¬ Rose writes_before writes_after
-    → (input : List ℕ) → before.rest ≡ Some input → length input < input_limit
+    → (input : List ℕ) → Served status before input
     → (game : Parsed) → asked (lines input) ≡ Ok game
     → (status ≡ Done) ⊎ (status ≡ Memory)
 
--- The same of a check of an input below the limit that is accepted.
+-- The same of a check of an input that is accepted.
 abbrev pub VerifiesAreDone : Type 0
 VerifiesAreDone =
     (status : Status) → (before : Sides) → (after : Sides) → VerifyRun status before after
-    → (reads_before : ℕ) → (reads_after : ℕ)
-    → HasCause (status ≡ ReadFault) reads_before reads_after → ¬ Rose reads_before reads_after
-    → (writes_before : ℕ) → (writes_after : ℕ)
-    → HasCause (status ≡ WriteFault) writes_before writes_after → ¬ Rose writes_before writes_after
-    → (input : List ℕ) → before.rest ≡ Some input → length input < input_limit
+    → (input : List ℕ) → Served status before input
     → verdict (lines input) ≡ Accepted
     → (status ≡ Done) ⊎ (status ≡ Memory)
 

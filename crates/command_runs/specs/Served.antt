@@ -1,0 +1,22 @@
+-- Runs that their source and their sink served.
+use Rattle.std.specs.Prelude.{◌≡◌, ℕ, ◌<◌, List, length, Some}
+use Rattle.io_edge.specs.Outside.{HasCause, Rose}
+use Rattle.line_feed.specs.Feed.{input_limit}
+use Rattle.command_runs.specs.Input.{Sides}
+use Rattle.command_runs.specs.declared.status.Status.{Status}
+use Rattle.command_runs.specs.declared.status.Status.TheVariants.{ReadFault, WriteFault}
+
+-- the count of faults that is the cause of this failure did not rise
+pub record NoFault (failed : Type 0) : Type 0 where
+  pub before : ℕ
+  pub after : ℕ
+  pub cause : HasCause failed before after
+  pub steady : ¬ Rose before after
+
+-- The streams served a run that ends with this status: neither the source's count of faults nor the
+-- sink's rose, and this is the input, told and below the limit.
+pub record Served (status : Status) (before : Sides) (input : List ℕ) : Type 0 where
+  pub reads : NoFault (status ≡ ReadFault)
+  pub writes : NoFault (status ≡ WriteFault)
+  pub told : before.rest ≡ Some input
+  pub below : length input < input_limit
