@@ -1,7 +1,9 @@
 //! Small boards on which a queen is about to be surrounded, or far from it.
 
 use crate::far::{is_far_on, is_home_on};
-use hive_model::{Board, Colour, Kind, Piece, Place};
+use crate::{is_far_from_loss, is_far_from_win};
+use hive_model::{Board, Colour, Game, GameType, Kind, Piece, Place};
+use plain_game::PlainGame;
 use stack_board::PlainBoard;
 use std::alloc::{AllocError, Global};
 use std::test::Fail;
@@ -154,5 +156,18 @@ fn own_queens_are_home_on_the_ground_alone(rt: HostRuntime) -> Result<(), Fail> 
         ],
     )?;
     assert!(rt; !is_home_on(&under_her, Colour::Black));
+    Ok(())
+}
+
+#[test]
+fn openings_are_far_from_a_win_alone(rt: HostRuntime) -> Result<(), Fail> {
+    let base = GameType {
+        mosquito: false,
+        ladybug: false,
+        pillbug: false,
+    };
+    let game = PlainGame::opening(rt.alloc(), base)?;
+    assert!(rt; is_far_from_win(&game));
+    assert!(rt; !is_far_from_loss(&game));
     Ok(())
 }
