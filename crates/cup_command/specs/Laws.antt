@@ -1,6 +1,7 @@
 -- What follows from the clauses of a run.
-use Rattle.std.specs.Prelude.{◌≡◌, ◌⊎◌, ℕ, List}
+use Rattle.std.specs.Prelude.{◌≡◌, ◌⊎◌, List}
 use Rattle.io_edge.specs.Outside.{HasCause, Rose}
+use Rattle.command_runs.specs.Served.{NoFault}
 use Rattle.command_runs.specs.declared.status.Status.{Status}
 use Rattle.command_runs.specs.declared.status.Status.TheVariants.{Done, WriteFault, SpawnFault, Memory}
 use Rattle.match_core.specs.declared.answers.Setup.{Setup}
@@ -11,10 +12,9 @@ use Rattle.cup_command.specs.Cup.{CupRun, Scene}
 -- wanting.
 abbrev pub CupsAreDone : Type 0
 CupsAreDone =
-    (engines : List Engine) (setup : Setup) (status : Status) (before after : Scene) (writes_before writes_after : ℕ)
+    (engines : List Engine) (setup : Setup) (status : Status) (before after : Scene)
     → CupRun engines setup status before after
-    → HasCause (status ≡ WriteFault) writes_before writes_after
-    → ¬ Rose writes_before writes_after
+    → NoFault (status ≡ WriteFault)
     → HasCause (status ≡ SpawnFault) before.starter.start_faults after.starter.start_faults
     → ¬ Rose before.starter.start_faults after.starter.start_faults
     → (status ≡ Done) ⊎ (status ≡ Memory)

@@ -1,6 +1,7 @@
 -- What follows from the clauses of a run.
-use Rattle.std.specs.Prelude.{◌≡◌, ◌⊎◌, ℕ}
+use Rattle.std.specs.Prelude.{◌≡◌, ◌⊎◌}
 use Rattle.io_edge.specs.Outside.{HasCause, Rose}
+use Rattle.command_runs.specs.Served.{NoFault}
 use Rattle.command_runs.specs.declared.status.Status.{Status}
 use Rattle.command_runs.specs.declared.status.Status.TheVariants.{Done, WriteFault, SpawnFault, Memory}
 use Rattle.match_core.specs.declared.answers.Setup.{Setup}
@@ -10,10 +11,9 @@ use Rattle.match_command.specs.Match.{MatchRun, Scene}
 -- memory is wanting.
 abbrev pub MatchesAreDone : Type 0
 MatchesAreDone =
-    (setup : Setup) (status : Status) (before after : Scene) (writes_before writes_after : ℕ)
+    (setup : Setup) (status : Status) (before after : Scene)
     → MatchRun setup status before after
-    → HasCause (status ≡ WriteFault) writes_before writes_after
-    → ¬ Rose writes_before writes_after
+    → NoFault (status ≡ WriteFault)
     → HasCause (status ≡ SpawnFault) before.means.start_faults after.means.start_faults
     → ¬ Rose before.means.start_faults after.means.start_faults
     → (status ≡ Done) ⊎ (status ≡ Memory)
