@@ -1,15 +1,15 @@
 -- Where nothing fails, a run is done.
-use Rattle.std.proofs.Common.{◌≡◌, ◌<◌, ◌⊎◌, ◌+◌, ℕ, Bool, true, false, ◌||◌, List, [], ◌∷◌, ◌++◌, length, map, refl, ap, sym, ◌∙◌, arith, Some, inl, inr, length-append}
+use Rattle.std.proofs.Common.{◌≡◌, ◌⊎◌, ℕ, Bool, true, false, ◌||◌, List, [], ◌∷◌, map, refl, ap, sym, ◌∙◌, inl, inr}
 use Rattle.std.specs.List.{list_any}
-use Rattle.io_edge.specs.Outside.{HasCause, Rose}
 use Rattle.hive_model.specs.Lines.{Line, lines}
-use Rattle.line_feed.specs.Feed.{input_limit}
 use Rattle.hive_cli.specs.Times.{depths}
 use Rattle.hive_cli.specs.Service.{HasExit, Service, joined, last_of, replies, searches}
 use Rattle.hive_cli.specs.ServiceRun.{EndsAs, Scene}
 use Rattle.hive_cli.specs.Session.{session}
 use Rattle.hive_cli.specs.Replay.{refuses, replay_answer, replays}
 use Rattle.hive_cli.specs.Laws.{Replays, ReplaysAreDone, SessionsAreDone}
+use Rattle.command_runs.specs.Served.{Served}
+use Rattle.command_runs.proofs.ServedLemmas.{no_failure, not_full}
 use Rattle.command_runs.specs.declared.status.Status.{Status}
 use Rattle.command_runs.specs.declared.status.Status.TheVariants.{Done, Refused, Usage, ReadFault, WriteFault, SpawnFault, BadInput, Memory, InputFull}
 
@@ -18,33 +18,27 @@ use Rattle.command_runs.specs.declared.status.Status.TheVariants.{Done, Refused,
 both : (b : Bool) → b ≡ true → b ≡ false → ⊥
 both b e f = cc
 
--- an input below the limit is not full
-not_full : (input bytes left : List ℕ) → input ≡ bytes ++ left → length bytes ≡ input_limit → length input < input_limit → ⊥
-not_full input bytes left split full below =
-    let e : length input ≡ length bytes + length left = ap length split ∙ length-append bytes left in
-    omega (arith, e, full, below)
-
--- the run of a service that refuses no line of an input below the limit
+-- the run of a service that refuses no line of its input
 ends_done : {S : Type 0} (v : Service S) (status : Status) (before after : Scene) → EndsAs v status before after
-    → (reads_before reads_after : ℕ) → HasCause (status ≡ ReadFault) reads_before reads_after → ¬ Rose reads_before reads_after
-    → (writes_before writes_after : ℕ) → HasCause (status ≡ WriteFault) writes_before writes_after → ¬ Rose writes_before writes_after
-    → (input : List ℕ) → before.sides.rest ≡ Some input → length input < input_limit → ((left : List ℕ) → v.has_refused (last_of v v.begins left (lines input)) ≡ false)
+    → (input : List ℕ) → Served status before.sides input
+    → ((left : List ℕ) → v.has_refused (last_of v v.begins left (lines input)) ≡ false)
     → (status ≡ Done) ⊎ (status ≡ Memory)
-ends_done v Done before after run rb ra rc rn wb wa wc wn input told below none = inl refl
-ends_done v Memory before after run rb ra rc rn wb wa wc wn input told below none = inr refl
-ends_done v Refused before after (last, refused, ends) rb ra rc rn wb wa wc wn input told below none =
-    let (entries, wrote) = ends input told in absurd (both (v.has_refused last) refused (ap v.has_refused (sym wrote.stands) ∙ none (depths entries)))
-ends_done v ReadFault before after run rb ra rc rn wb wa wc wn input told below none = absurd (rn (rc.rose refl))
-ends_done v WriteFault before after run rb ra rc rn wb wa wc wn input told below none = absurd (wn (wc.rose refl))
-ends_done v InputFull before after run rb ra rc rn wb wa wc wn input told below none =
-    let (entries, bytes, left, full, wrote) = run input told in absurd (not_full input bytes left wrote.was_read.split full below)
-ends_done v Usage before after run rb ra rc rn wb wa wc wn input told below none = absurd run
-ends_done v SpawnFault before after run rb ra rc rn wb wa wc wn input told below none = absurd run
-ends_done v BadInput before after run rb ra rc rn wb wa wc wn input told below none = absurd run
+ends_done v Done before after run input served none = inl refl
+ends_done v Memory before after run input served none = inr refl
+ends_done v Refused before after (last, refused, ends) input served none =
+    let (entries, wrote) = ends input served.told in
+    absurd (both (v.has_refused last) refused (ap v.has_refused (sym wrote.stands) ∙ none (depths entries)))
+ends_done v ReadFault before after run input served none = absurd (no_failure served.reads refl)
+ends_done v WriteFault before after run input served none = absurd (no_failure served.writes refl)
+ends_done v InputFull before after run input served none =
+    let (entries, bytes, left, full, wrote) = run input served.told in
+    absurd (not_full input bytes left after.sides.rest wrote.was_read full served.below)
+ends_done v Usage before after run input served none = absurd run
+ends_done v SpawnFault before after run input served none = absurd run
+ends_done v BadInput before after run input served none = absurd run
 
 pub sessions_done : SessionsAreDone
-sessions_done = λ status before after run rb ra rc rn wb wa wc wn input told below.
-    ends_done session status before after run.ends rb ra rc rn wb wa wc wn input told below (λ left. refl)
+sessions_done = λ status before after run input served. ends_done session status before after run.ends input served (λ left. refl)
 
 -- Replays
 
@@ -85,5 +79,5 @@ replay_of_lines r left ls = record {
 }
 
 pub replays_done : ReplaysAreDone
-replays_done = λ r status before after run rb ra rc rn wb wa wc wn input told below none.
-    ends_done (replays r) status before after run.ends rb ra rc rn wb wa wc wn input told below (λ left. (replay_of_lines r left (lines input)).refuses ∙ none)
+replays_done = λ r status before after run input served none.
+    ends_done (replays r) status before after run.ends input served (λ left. (replay_of_lines r left (lines input)).refuses ∙ none)

@@ -1,7 +1,5 @@
 -- What follows from the clauses of a run.
-use Rattle.std.specs.Prelude.{◌≡◌, ◌⊎◌, ℕ, ◌<◌, Bool, false, List, [], length, Some, Ok}
-use Rattle.io_edge.specs.Outside.{HasCause, Rose}
-use Rattle.line_feed.specs.Feed.{input_limit}
+use Rattle.std.specs.Prelude.{◌≡◌, ◌⊎◌, ℕ, Bool, false, List, [], Ok}
 use Rattle.hive_model.specs.Lines.{Line, lines}
 use Rattle.game_text.specs.declared.parsed.Parsed.{Parsed}
 use Rattle.command_runs.specs.Input.{Sides}
@@ -11,35 +9,30 @@ use Rattle.hive_cli.specs.Count.{CountRun}
 use Rattle.command_runs.specs.OneGame.{asked}
 use Rattle.hive_cli.specs.Replay.{ReplayRun, answers, replays, some_refused}
 use Rattle.hive_cli.specs.Session.{SessionRun}
+use Rattle.command_runs.specs.Served.{Served}
 use Rattle.command_runs.specs.declared.status.Status.{Status}
-use Rattle.command_runs.specs.declared.status.Status.TheVariants.{Done, ReadFault, WriteFault, Memory}
+use Rattle.command_runs.specs.declared.status.Status.TheVariants.{Done, Memory}
 
--- Where neither the source's count of faults nor the sink's rose, the session of an input below the limit is done, unless
--- memory is wanting.
+-- where the streams served the run, a session is done, unless memory is wanting
 abbrev pub SessionsAreDone : Type 0
 SessionsAreDone =
     (status : Status) → (before : Scene) → (after : Scene) → SessionRun status before after
-    → (reads_before : ℕ) → (reads_after : ℕ) → HasCause (status ≡ ReadFault) reads_before reads_after → ¬ Rose reads_before reads_after
-    → (writes_before : ℕ) → (writes_after : ℕ) → HasCause (status ≡ WriteFault) writes_before writes_after → ¬ Rose writes_before writes_after
-    → (input : List ℕ) → before.sides.rest ≡ Some input → length input < input_limit → (status ≡ Done) ⊎ (status ≡ Memory)
+    → (input : List ℕ) → Served status before.sides input
+    → (status ≡ Done) ⊎ (status ≡ Memory)
 
--- Where neither count of faults rose, the replay of an input below the limit whose every line is a game is done, unless memory
--- is wanting. The lines are games under the rule of the replay.
+-- Where the streams served the run, the replay of an input whose every line is a game is done,
+-- unless memory is wanting. The lines are games under the rule of the replay.
 abbrev pub ReplaysAreDone : Type 0
 ReplaysAreDone =
     (r : Bool) → (status : Status) → (before : Scene) → (after : Scene) → ReplayRun r status before after
-    → (reads_before : ℕ) → (reads_after : ℕ) → HasCause (status ≡ ReadFault) reads_before reads_after → ¬ Rose reads_before reads_after
-    → (writes_before : ℕ) → (writes_after : ℕ) → HasCause (status ≡ WriteFault) writes_before writes_after → ¬ Rose writes_before writes_after
-    → (input : List ℕ) → before.sides.rest ≡ Some input → length input < input_limit → some_refused r (lines input) ≡ false
+    → (input : List ℕ) → Served status before.sides input → some_refused r (lines input) ≡ false
     → (status ≡ Done) ⊎ (status ≡ Memory)
 
 -- The same of a count whose input is exactly one line, a game that is not over.
 abbrev pub CountsAreDone : Type 0
 CountsAreDone =
     (plies : ℕ) → (status : Status) → (before : Sides) → (after : Sides) → CountRun plies status before after
-    → (reads_before : ℕ) → (reads_after : ℕ) → HasCause (status ≡ ReadFault) reads_before reads_after → ¬ Rose reads_before reads_after
-    → (writes_before : ℕ) → (writes_after : ℕ) → HasCause (status ≡ WriteFault) writes_before writes_after → ¬ Rose writes_before writes_after
-    → (input : List ℕ) → before.rest ≡ Some input → length input < input_limit → (game : Parsed) → asked (lines input) ≡ Ok game
+    → (input : List ℕ) → Served status before input → (game : Parsed) → asked (lines input) ≡ Ok game
     → (status ≡ Done) ⊎ (status ≡ Memory)
 
 -- what a replay makes of lines: it answers each of them, one after another, it has refused a line just where one of them is

@@ -1,0 +1,6 @@
+use Rattle.command_runs.proofs.ServedLemmas.{game_run_done}
+use Rattle.hive_cli.specs.Count.{counts_of}
+use Rattle.hive_cli.proofs.laws.counts_are_done.Goals as goal
+
+pub returns : goal.returns
+returns c = λ plies. game_run_done (counts_of plies)
