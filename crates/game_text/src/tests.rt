@@ -103,19 +103,19 @@ fn tells_each_fault(rt: HostRuntime) -> Result<(), Fail> {
 fn tells_the_third(rt: HostRuntime) -> Result<(), Fail> {
     let board = PlainBoard::new(rt.alloc())?;
     let mut repeats = Repeats::new(rt.alloc());
-    for turn in 1..3 {
-        repeats.push(Key::of(WITH_MOSQUITO, &board, Colour::White, turn, None))?;
-        assert!(rt; !repeats.is_third());
-    }
-    for other in [
-        Key::of(WITH_MOSQUITO, &board, Colour::Black, 3, None),
-        Key::of(WITH_MOSQUITO, &board, Colour::White, 3, Some(Piece::at(1))),
-    ] {
-        repeats.push(other)?;
-        assert!(rt; !repeats.is_third());
-        repeats.pop();
-    }
-    repeats.push(Key::of(WITH_MOSQUITO, &board, Colour::White, 3, None))?;
+    let start = Key::of(WITH_MOSQUITO, &board, Colour::White, 1, None);
+    repeats.push(start)?;
+    assert!(rt; !repeats.is_third());
+    let later = Key::of(WITH_MOSQUITO, &board, Colour::White, 3, None);
+    repeats.push(later)?;
+    assert!(rt; !repeats.is_third());
+    let other = Key::of(WITH_MOSQUITO, &board, Colour::Black, 3, None);
+    repeats.push(other)?;
+    assert!(rt; !repeats.is_third());
+    let resting = Key::of(WITH_MOSQUITO, &board, Colour::White, 3, Some(Piece::at(1)));
+    repeats.push(resting)?;
+    assert!(rt; !repeats.is_third());
+    repeats.push(later)?;
     assert!(rt; repeats.is_third());
     repeats.pop();
     assert!(rt; !repeats.is_third());
