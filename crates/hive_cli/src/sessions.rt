@@ -1,11 +1,13 @@
 //! A session as a service: the greeting, and then the reply to each line.
-ghost use Rattle.std.specs.Prelude.{true};
-ghost use Rattle.hive_cli.specs.Session.{session};
+ghost use Rattle.std.specs.Prelude.{◌≡◌, true};
+ghost use Rattle.io_edge.specs.Outside.{HasCause};
+ghost use Rattle.hive_cli.specs.Session.{SessionRun, session};
 
-use crate::service::LineService;
+use crate::service::{LineService, serve};
+use command_runs::Status;
 use fast_game::FastGame;
 use hive_model::TimedList;
-use io_edge::Clock;
+use io_edge::{Clock, Sink, Source};
 use root_share::FreeGate;
 use std::alloc::{AllocError, Global};
 use std::thread::Threads;
@@ -37,4 +39,39 @@ impl LineService for Session<FastGame> {
     fn has_refused(&self) -> bool {
         false
     }
+}
+
+/// Runs a session.
+pub(crate) fn serve_session<R: Threads + Sync, S: Source, K: Sink, C: Clock>(
+    rt: &R,
+    alloc: Global,
+    input: &mut S,
+    output: &mut K,
+    clock: &mut C,
+    timed: &mut TimedList,
+) -> Status
+    ensures run { SessionRun result
+        (record {
+          sides = record { rest = S.rest input.old; written = K.written output.old };
+          times = record {
+            last = C.last clock.old;
+            readings = C.readings clock.old;
+            timed = timed.old;
+          };
+        })
+        (record {
+          sides = record { rest = S.rest input.new; written = K.written output.new };
+          times = record {
+            last = C.last clock.new;
+            readings = C.readings clock.new;
+            timed = timed.new;
+          };
+        }) }
+    ensures reads { HasCause (result ≡ Status.ReadFault) (S.read_faults input.old)
+        (S.read_faults input.new) }
+    ensures writes { HasCause (result ≡ Status.WriteFault) (K.write_faults output.old)
+        (K.write_faults output.new) }
+{
+    let mut session: Session<FastGame> = Session::new();
+    serve(rt, alloc, &mut session, input, output, clock, timed)
 }

@@ -15,7 +15,7 @@ ghost use Rattle.command_words.specs.declared.asked.Asked.{Asked};
 use crate::counts::count;
 use crate::outcome::Outcome;
 use crate::replays::serve_replay;
-use crate::service::serve;
+use crate::sessions::serve_session;
 use book_command::book;
 use certificate_commands::{certify, check, migrate};
 use command_runs::Status;
@@ -30,7 +30,6 @@ use match_command::play_match;
 use match_core::Setup;
 use std::alloc::Global;
 use std::thread::Threads;
-use uhp_session::Session;
 use win_commands::{solve, verify};
 
 /// The game that the program plays on.
@@ -327,10 +326,7 @@ fn perform_alone<R: Threads + Sync, S: Source, K: Sink, C: Clock, G: Game + Send
     ensures clock { ¬ UsesClock asked → clock.new ≡ clock.old }
 {
     let status = match asked {
-        Asked::Session => {
-            let mut session: Session<FastGame> = Session::new();
-            serve(rt, alloc, &mut session, input, output, clock, &mut timed)
-        }
+        Asked::Session => serve_session(rt, alloc, input, output, clock, &mut timed),
         Asked::Replay { repetition } => {
             serve_replay::<R, S, K, C, G>(rt, alloc, repetition, input, output, clock, &mut timed)
         }
