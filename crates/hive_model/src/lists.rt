@@ -1,6 +1,7 @@
 //! Small lists that contracts see as lists.
 
-ghost use Rattle.std.specs.Prelude.{◌≡◌, [], ◌∷◌, ◌++◌, OnOk, OnErr};
+ghost use Rattle.std.specs.Prelude.{◌≡◌, ◌≤◌, [], ◌∷◌, ◌++◌, length, OnOk, OnErr};
+ghost use Rattle.std.specs.List.{insert};
 
 use crate::answers::Timed;
 use crate::places::Move;
@@ -37,6 +38,17 @@ impl<T: Drop> Items<T> {
         ensures refused { OnErr result (self.new ≡ self.old) }
     {
         self.kept.push(item)?;
+        Ok(())
+    }
+
+    /// Puts an item in front of the one at this index, or behind the last one. After want of memory
+    /// the list is as before.
+    pub fn insert(&mut self, index: usize, item: T) -> Result<(), AllocError>
+        requires { index ≤ length self.old }
+        ensures put { OnOk result (self.new ≡ insert self.old index item) }
+        ensures refused { OnErr result (self.new ≡ self.old) }
+    {
+        self.kept.insert(index, item)?;
         Ok(())
     }
 
