@@ -30,7 +30,8 @@ fn add_hop<B: Board>(board: &B, from: Place, dir: Dir, out: &mut PlaceList)
 pub fn hops<B: Board>(board: &B, from: Place, out: &mut PlaceList)
     requires within { IsWithin 9500 from }
     requires list { IsAround (B.stacks board.now) out.old.items }
-    ensures { Gains (B.stacks board.now) (Hop (B.stacks board.now) from) out.old.items out.new.items }
+    ensures { Gains (B.stacks board.now) (Hop (B.stacks board.now) from) out.old.items
+        out.new.items }
 {
     for dir in Dir::ALL {
         add_hop(board, from, dir, out);

@@ -3,7 +3,14 @@
 ghost use Rattle.hive_model.specs.Places.{IsWithin};
 ghost use Rattle.hive_model.specs.Reach.{OverTwo};
 ghost use Rattle.bug_moves.specs.Adding.{IsAround, Gains};
-ghost use Rattle.bug_moves.specs.Ways.{DownToward, StepDown, AlongToward, StepAlong, UpToward, OverTwoAway};
+ghost use Rattle.bug_moves.specs.Ways.{
+  DownToward,
+  StepDown,
+  AlongToward,
+  StepAlong,
+  UpToward,
+  OverTwoAway,
+};
 
 use crate::steps::may_climb;
 use hive_model::{Board, Dir, Place, PlaceList, add_place, is_occupied};

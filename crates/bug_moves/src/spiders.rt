@@ -3,7 +3,13 @@
 ghost use Rattle.hive_model.specs.Places.{IsWithin};
 ghost use Rattle.hive_model.specs.Reach.{ThreeSteps};
 ghost use Rattle.bug_moves.specs.Adding.{IsAround, Gains};
-ghost use Rattle.bug_moves.specs.Ways.{ThirdToward, ThirdStep, SecondToward, SecondStep, FirstToward};
+ghost use Rattle.bug_moves.specs.Ways.{
+  ThirdToward,
+  ThirdStep,
+  SecondToward,
+  SecondStep,
+  FirstToward,
+};
 
 use gates::slide_toward;
 use hive_model::{Board, Dir, Place, PlaceList, add_place};

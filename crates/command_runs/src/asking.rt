@@ -9,7 +9,18 @@ ghost use Rattle.game_text.specs.Reading.{game_of};
 ghost use Rattle.game_text.specs.declared.parsed.Parsed.{Parsed as AnyGame};
 ghost use Rattle.command_runs.specs.Input.{WhereTold};
 ghost use Rattle.command_runs.specs.OneGame.{IsAsked, if_open, open_game};
-ghost use Rattle.command_runs.specs.Asking.{GivesGame, GivesNone, GoesOn, IsReplayOf, IsNoGame, Lacks, Resumes, Says, SaysFault, WereTaken};
+ghost use Rattle.command_runs.specs.Asking.{
+  GivesGame,
+  GivesNone,
+  GoesOn,
+  IsReplayOf,
+  IsNoGame,
+  Lacks,
+  Resumes,
+  Says,
+  SaysFault,
+  WereTaken,
+};
 
 use crate::no_game::NoGame;
 use crate::reasons::{line_for, reason_of};
@@ -138,7 +149,8 @@ pub fn read_one_game<S: Source, G: Game + Drop>(
 ) -> Result<G, NoGame>
     requires { room ≤ 64 }
     ensures game { IfOk result (λ g. WhereTold (S.rest input.old)
-        (λ bytes. (game : AnyGame) × IsAsked bytes (S.rest input.new) game × IsReplayOf (G.course g) game)) }
+        (λ bytes. (game : AnyGame) × IsAsked bytes (S.rest input.new) game
+        × IsReplayOf (G.course g) game)) }
     ensures room { IfOk result (λ g. room ≤ (G.course g).spare) }
     ensures none { IfErr result (λ e. WhereTold (S.rest input.old)
         (λ bytes. IsNoGame e bytes (S.rest input.new))) }

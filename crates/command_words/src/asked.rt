@@ -1,5 +1,17 @@
 //! What the words ask for.
-ghost use Rattle.std.specs.Prelude.{◌≡◌, ◌↔◌, [], ◌∷◌, Some, map, string_bytes, IfOk, IfSome, OnErr, IsTrue};
+ghost use Rattle.std.specs.Prelude.{
+  ◌≡◌,
+  ◌↔◌,
+  [],
+  ◌∷◌,
+  Some,
+  map,
+  string_bytes,
+  IfOk,
+  IfSome,
+  OnErr,
+  IsTrue,
+};
 ghost use Rattle.command_words.specs.declared.asked.Asked.{Asked};
 ghost use Rattle.command_words.specs.Names.{takes_option};
 ghost use Rattle.command_words.specs.Words.{IsInRange, TakeOption, Words, name_of};

@@ -1,7 +1,26 @@
 //! The cup that the words ask for: its programs, and how each game is played.
-ghost use Rattle.std.specs.Prelude.{◌≡◌, ◌≤◌, ◌↔◌, All, Some, length, map, string_bytes, IfOk, IfSome, IsTrue};
+ghost use Rattle.std.specs.Prelude.{
+  ◌≡◌,
+  ◌≤◌,
+  ◌↔◌,
+  All,
+  Some,
+  length,
+  map,
+  string_bytes,
+  IfOk,
+  IfSome,
+  IsTrue,
+};
 ghost use Rattle.match_core.specs.declared.answers.Setup.{Setup as AnySetup};
-ghost use Rattle.command_words.specs.Cups.{AreCupWords, AreDistinct, ArePrograms, AskForEngines, engine_of, program_texts};
+ghost use Rattle.command_words.specs.Cups.{
+  AreCupWords,
+  AreDistinct,
+  ArePrograms,
+  AskForEngines,
+  engine_of,
+  program_texts,
+};
 ghost use Rattle.command_words.specs.Matches.{IsProgram};
 
 use crate::matched::is_program;

@@ -27,8 +27,8 @@ fn growth_at(seed: &str, plies: &str) -> Option<Growth>
     })
 }
 
-/// The seed and the plies that the words give: `grow` and the options `seed` and `plies`, both required. None where they do not; an
-/// `AllocError` where memory runs out before that is known.
+/// The seed and the plies that the words give: `grow` and the options `seed` and `plies`, both
+/// required. None where they do not; an `AllocError` where memory runs out before that is known.
 pub(crate) fn growth_of(alloc: Global, words: &[String]) -> Result<Option<Growth>, AllocError>
     ensures found { IfOk result (λ o. IfSome o (λ g. AreGrowWords words.now g.seed g.plies)) }
     ensures only { IfOk result (λ o. (s n : ℕ) → AreGrowWords words.now s n → o

@@ -1,7 +1,23 @@
 //! The match that the words ask for: its two programs, and how it is played.
-ghost use Rattle.std.specs.Prelude.{◌≡◌, ◌<◌, ◌↔◌, Some, length, map, string_bytes, IfOk, IfSome, IsTrue};
+ghost use Rattle.std.specs.Prelude.{
+  ◌≡◌,
+  ◌<◌,
+  ◌↔◌,
+  Some,
+  length,
+  map,
+  string_bytes,
+  IfOk,
+  IfSome,
+  IsTrue,
+};
 ghost use Rattle.match_core.specs.declared.answers.Setup.{Setup as AnySetup};
-ghost use Rattle.command_words.specs.Matches.{AreMatchWords, AskForPrograms, IsProgram, between_spaces};
+ghost use Rattle.command_words.specs.Matches.{
+  AreMatchWords,
+  AskForPrograms,
+  IsProgram,
+  between_spaces,
+};
 
 use crate::program::{begins_words, words_of};
 use crate::setup::setup_of;

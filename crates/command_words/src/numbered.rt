@@ -6,8 +6,8 @@ use move_text::read_number;
 use option_words::one_option;
 use std::alloc::{AllocError, Global};
 
-/// The number from `least` to `most` that the words give the one option of a command, which is required. None where they do not; an
-/// `AllocError` where memory runs out before that is known.
+/// The number from `least` to `most` that the words give the one option of a command, which is
+/// required. None where they do not; an `AllocError` where memory runs out before that is known.
 pub(crate) fn number_of(
     alloc: Global,
     words: &[String],

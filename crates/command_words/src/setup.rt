@@ -35,7 +35,8 @@ pub(crate) fn rule_of(text: Option<&str>) -> Option<bool>
 /// The game type that a text is, or the base game where there is no text.
 fn type_or(text: Option<&str>) -> Option<GameType>
     ensures found { IfSome result (λ t. IsTypeOr (option_map (λ t. t.now) text.entry) t) }
-    ensures only { (t : AnyType) → IsTypeOr (option_map (λ t. t.now) text.entry) t → result ≡ Some t }
+    ensures only { (t : AnyType) → IsTypeOr (option_map (λ t. t.now) text.entry) t
+        → result ≡ Some t }
 {
     match text {
         Some(text) => read_type(text.as_bytes()),

@@ -1,6 +1,18 @@
 //! The status of a place, and changes of statuses.
 
-ghost use Rattle.std.specs.Prelude.{◌≡◌, ◌↔◌, ◌<◌, ◌+◌, ◌≤◌, length, [], ◌++◌, ◌∷◌, IsTrue, slice_get};
+ghost use Rattle.std.specs.Prelude.{
+  ◌≡◌,
+  ◌↔◌,
+  ◌<◌,
+  ◌+◌,
+  ◌≤◌,
+  length,
+  [],
+  ◌++◌,
+  ◌∷◌,
+  IsTrue,
+  slice_get,
+};
 
 use arrayvec::ArrayVec;
 use hive_model::Place;

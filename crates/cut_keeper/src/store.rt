@@ -3,7 +3,15 @@
 ghost use Rattle.std.specs.Prelude.{◌≡◌, ◌<◌, IfSome, IfNone, [], is_none};
 ghost use Rattle.std.specs.List.{position};
 ghost use Rattle.cut_keeper.specs.Keeping.{status_on, with_status, InOrder};
-ghost use Rattle.cut_keeper.specs.Slots.{entry_at, Suits, standings, Few, IsStore, IsSlotFor, IsFull};
+ghost use Rattle.cut_keeper.specs.Slots.{
+  entry_at,
+  Suits,
+  standings,
+  Few,
+  IsStore,
+  IsSlotFor,
+  IsFull,
+};
 
 use crate::statuses::Status;
 use hive_model::Place;

@@ -1,6 +1,16 @@
 //! The laws of game strings.
 
-ghost use Rattle.game_text.specs.Laws.{StringsAreGames, IsOneGame, GamesAreRead, FaultsAreRead, StringsAreGamesUnder, IsOneGameUnder, GamesAreReadUnder, FaultsAreReadUnder, OffIsPlain};
+ghost use Rattle.game_text.specs.Laws.{
+  StringsAreGames,
+  IsOneGame,
+  GamesAreRead,
+  FaultsAreRead,
+  StringsAreGamesUnder,
+  IsOneGameUnder,
+  GamesAreReadUnder,
+  FaultsAreReadUnder,
+  OffIsPlain,
+};
 
 /// The string of a game of at most 5,000 moves is a line that is this game.
 pub fn strings_are_games()

@@ -1,6 +1,22 @@
 //! Reading a line as a game.
 
-ghost use Rattle.std.specs.Prelude.{◌≡◌, ◌<◌, ◌≤◌, ◌+◌, ◌∷◌, [], ◌⊎◌, List, length, None, Some, Ok, Err, IfOk, IfErr};
+ghost use Rattle.std.specs.Prelude.{
+  ◌≡◌,
+  ◌<◌,
+  ◌≤◌,
+  ◌+◌,
+  ◌∷◌,
+  [],
+  ◌⊎◌,
+  List,
+  length,
+  None,
+  Some,
+  Ok,
+  Err,
+  IfOk,
+  IfErr,
+};
 ghost use Rattle.hive_model.specs.Boards.{IsBoard};
 ghost use Rattle.hive_model.specs.Positions.{opening};
 ghost use Rattle.hive_model.specs.Courses.{position};
@@ -11,7 +27,20 @@ ghost use Rattle.hive_model.specs.Strings.{parts, IsGameLine, IsGameLineUnder};
 ghost use Rattle.hive_model.specs.declared.pieces.GameType.{GameType as AnyType};
 ghost use Rattle.hive_model.specs.declared.places.Move.{Move as AnyMove};
 ghost use Rattle.game_text.specs.Refusals.{IsRefused, IsRefusedUnder};
-ghost use Rattle.game_text.specs.Reading.{moves_from, confirmed, at_moves, after_state, after_type, game_of, game_under, Fails, Agrees, Plays, IsMoveFault, first_empty};
+ghost use Rattle.game_text.specs.Reading.{
+  moves_from,
+  confirmed,
+  at_moves,
+  after_state,
+  after_type,
+  game_of,
+  game_under,
+  Fails,
+  Agrees,
+  Plays,
+  IsMoveFault,
+  first_empty,
+};
 
 use crate::faults::GameFault;
 use crate::parsed::Parsed;
@@ -315,7 +344,8 @@ pub fn read_game<G: Game + Drop>(alloc: Global, text: &[u8]) -> Result<Parsed, G
     ensures game { IfOk result (λ g. IsGameLine text.now g.game_type g.moves) }
     ensures only { (t : AnyType) (ms : List AnyMove) → IsGameLine text.now t ms
         → IfErr result (λ fault. fault ≡ GameFault.Memory) }
-    ensures refused { IfErr result (λ fault. (fault ≡ GameFault.Memory) ⊎ IsRefused text.now fault) }
+    ensures refused { IfErr result (λ fault. (fault ≡ GameFault.Memory)
+        ⊎ IsRefused text.now fault) }
     ensures value { IfOk result (λ g. game_of text.now ≡ Ok g) }
     ensures err { IfErr result (λ fault. Fails fault (game_of text.now)) }
 {

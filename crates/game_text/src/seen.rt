@@ -1,6 +1,22 @@
 //! How often the position of a game has stood.
 
-ghost use Rattle.std.specs.Prelude.{◌≡◌, ◌∷◌, ◌++◌, ◌<◌, ◌≤◌, ◌-◌, [], false, length, take, IsTrue, IfOk, OnOk, OnErr, if◌then◌else◌};
+ghost use Rattle.std.specs.Prelude.{
+  ◌≡◌,
+  ◌∷◌,
+  ◌++◌,
+  ◌<◌,
+  ◌≤◌,
+  ◌-◌,
+  [],
+  false,
+  length,
+  take,
+  IsTrue,
+  IfOk,
+  OnOk,
+  OnErr,
+  if◌then◌else◌,
+};
 ghost use Rattle.hive_model.specs.Courses.{position};
 ghost use Rattle.hive_model.specs.Keys.{key};
 ghost use Rattle.hive_model.specs.Repetition.{ends_as, outcome_under};

@@ -1,6 +1,19 @@
 //! The written moves of a game, kept.
 
-ghost use Rattle.std.specs.Prelude.{◌≡◌, ◌≤◌, ◌-◌, [], ◌∷◌, ◌++◌, length, take, map, IfOk, OnOk, OnErr};
+ghost use Rattle.std.specs.Prelude.{
+  ◌≡◌,
+  ◌≤◌,
+  ◌-◌,
+  [],
+  ◌∷◌,
+  ◌++◌,
+  length,
+  take,
+  map,
+  IfOk,
+  OnOk,
+  OnErr,
+};
 ghost use Rattle.hive_model.specs.Boards.{IsBoard};
 ghost use Rattle.hive_model.specs.Denotes.{text as text_of};
 ghost use Rattle.hive_model.specs.Fields.{type_bytes, state_bytes};
@@ -40,8 +53,9 @@ impl MoveTexts {
         }
     }
 
-    /// Appends the written text of a move on this board, before the move is made. The coordinates of the destination are at most
-    /// 9,500, as those of every legal move are. After want of memory the texts are as before.
+    /// Appends the written text of a move on this board, before the move is made. The coordinates
+    /// of the destination are at most 9,500, as those of every legal move are. After want of memory
+    /// the texts are as before.
     pub fn push<B: Board>(&mut self, board: &B, m: Move) -> Result<(), AllocError>
         requires sound { IsBoard (B.stacks board.now) }
         requires within { IsMoveWithin m }

@@ -5,7 +5,15 @@ ghost use Rattle.std.specs.Prelude.{◌≡◌, ◌↔◌, IsTrue, nat_lt, max, �
 ghost use Rattle.hive_model.specs.Boards.{Stacks, height_at, is_occupied};
 ghost use Rattle.hive_model.specs.Places.{AreNeighbours, IsWithin, step, is_place};
 ghost use Rattle.gates.specs.Beside.{is_beside_one};
-ghost use Rattle.hive_model.specs.Steps.{GroundStep, ClimbingStep, is_ground_step, is_blocked, ground_at, is_free, FreeStep};
+ghost use Rattle.hive_model.specs.Steps.{
+  GroundStep,
+  ClimbingStep,
+  is_ground_step,
+  is_blocked,
+  ground_at,
+  is_free,
+  FreeStep,
+};
 
 use hive_model::{Board, Dir, Place, is_occupied};
 

@@ -96,8 +96,8 @@ fn best_here<G: Game>(game: &mut G, searcher: &mut Searcher) -> Option<Best>
 /// The game that a seed makes: with all three expansions, from the opening, of at most so many
 /// plies, from 1 to 1,000. While the game is not over and a ply is left, SplitMix64, begun with the
 /// seed's eight bytes, the least first, gives one word of 64 bits, and the move at the place of the
-/// word modulo the length of the list of legal moves is played. Then all plies are undone, one after
-/// another from the last, and played forward again.
+/// word modulo the length of the list of legal moves is played. Then all plies are undone, one
+/// after another from the last, and played forward again.
 ///
 /// The searcher is prepared for depth 1 at least, and the stack has two levels free; both are as
 /// before. The only error is want of memory.

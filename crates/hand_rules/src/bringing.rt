@@ -8,7 +8,13 @@ ghost use Rattle.hive_model.specs.Lists.{IsOn, Rises};
 ghost use Rattle.hive_model.specs.Placement.{IsLeastInHand};
 ghost use Rattle.hive_model.specs.Legal.{move_cmp};
 ghost use Rattle.hive_model.specs.Stack.{without_level};
-ghost use Rattle.hand_rules.specs.Bringing.{MayBring, CanBring, IsPlacementMove, last_level, position_of};
+ghost use Rattle.hand_rules.specs.Bringing.{
+  MayBring,
+  CanBring,
+  IsPlacementMove,
+  last_level,
+  position_of,
+};
 
 use crate::hands::next_of;
 use crate::open_places::placement_places;

@@ -3,7 +3,14 @@
 ghost use Rattle.std.specs.Prelude.{◌≡◌, ◌↔◌, Option, IsTrue};
 ghost use Rattle.hive_model.specs.Places.{IsWithin};
 ghost use Rattle.hive_model.specs.Boards.{IsBoard};
-ghost use Rattle.hive_model.specs.Placement.{MayPlace, has_colour, shows_colour, touches, is_beside, may_place};
+ghost use Rattle.hive_model.specs.Placement.{
+  MayPlace,
+  has_colour,
+  shows_colour,
+  touches,
+  is_beside,
+  may_place,
+};
 
 use hive_model::{Board, Colour, Dir, Piece, Place};
 

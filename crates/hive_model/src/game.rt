@@ -1,6 +1,24 @@
 //! A game under way, however its board is kept.
 
-ghost use Rattle.std.specs.Prelude.{◌≡◌, ◌↔◌, ℕ, ◌+◌, ◌-◌, ◌^◌, ◌<◌, ◌≤◌, [], length, min, slice_get, Some, IfOk, OnOk, OnErr, IsTrue};
+ghost use Rattle.std.specs.Prelude.{
+  ◌≡◌,
+  ◌↔◌,
+  ℕ,
+  ◌+◌,
+  ◌-◌,
+  ◌^◌,
+  ◌<◌,
+  ◌≤◌,
+  [],
+  length,
+  min,
+  slice_get,
+  Some,
+  IfOk,
+  OnOk,
+  OnErr,
+  IsTrue,
+};
 ghost use Rattle.hive_model.specs.Lists.{IsOn};
 ghost use Rattle.hive_model.specs.Positions.{IsSound};
 ghost use Rattle.hive_model.specs.Legal.{moves};

@@ -4,9 +4,47 @@
 //! and that makes the list of legal moves. A law says that the two agree, so that a contract which
 //! cites a test says the rule.
 
-ghost use Rattle.hive_model.specs.Laws.{NeighboursAreTested, OneHiveIsTested, SeparatingIsTested, CutIsTested, GroundStepIsTested, ClimbingStepIsTested, FreeStepIsTested, ReachIsTested, CopiesAreTested, MovesAsIsTested};
-ghost use Rattle.hive_model.specs.Laws.{InHandIsTested, LeastInHandIsTested, NextIsLeast, NextMayBeNone, MayPlaceIsTested, PlacementIsTested, ThrowerIsTested, ThrowOverIsTested, ThrowIsTested, WalkIsTested, SurroundedIsTested, OverIsTested};
-ghost use Rattle.hive_model.specs.Laws.{LegalPairIsTested, LegalPairIsNear, MovesAreLegal, MovesRise, PassIsAlone, OverHasNoMoves, MovesHavePieces, PutKeepsBoards, LiftKeepsBoards, FloodsFindWays, PlacesAreSettled, MovesAreSettled, ListedMovesAreTested};
+ghost use Rattle.hive_model.specs.Laws.{
+  NeighboursAreTested,
+  OneHiveIsTested,
+  SeparatingIsTested,
+  CutIsTested,
+  GroundStepIsTested,
+  ClimbingStepIsTested,
+  FreeStepIsTested,
+  ReachIsTested,
+  CopiesAreTested,
+  MovesAsIsTested,
+};
+ghost use Rattle.hive_model.specs.Laws.{
+  InHandIsTested,
+  LeastInHandIsTested,
+  NextIsLeast,
+  NextMayBeNone,
+  MayPlaceIsTested,
+  PlacementIsTested,
+  ThrowerIsTested,
+  ThrowOverIsTested,
+  ThrowIsTested,
+  WalkIsTested,
+  SurroundedIsTested,
+  OverIsTested,
+};
+ghost use Rattle.hive_model.specs.Laws.{
+  LegalPairIsTested,
+  LegalPairIsNear,
+  MovesAreLegal,
+  MovesRise,
+  PassIsAlone,
+  OverHasNoMoves,
+  MovesHavePieces,
+  PutKeepsBoards,
+  LiftKeepsBoards,
+  FloodsFindWays,
+  PlacesAreSettled,
+  MovesAreSettled,
+  ListedMovesAreTested,
+};
 ghost use Rattle.hive_model.specs.SameKeys.{KeysAreCompared};
 
 /// The tests of neighbours, of one hive, and of the places that hold it together: a separating

@@ -1,6 +1,19 @@
 //! The keys of a game's positions, kept to count how often the last one stands.
 
-ghost use Rattle.std.specs.Prelude.{◌≡◌, ◌-◌, ◌<◌, ◌≤◌, [], ◌∷◌, ◌++◌, length, nat_le, take, OnOk, OnErr};
+ghost use Rattle.std.specs.Prelude.{
+  ◌≡◌,
+  ◌-◌,
+  ◌<◌,
+  ◌≤◌,
+  [],
+  ◌∷◌,
+  ◌++◌,
+  length,
+  nat_le,
+  take,
+  OnOk,
+  OnErr,
+};
 ghost use Rattle.hive_model.specs.Repetition.{count_same, count_last};
 
 use crate::key::Key;

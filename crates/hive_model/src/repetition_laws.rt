@@ -1,6 +1,12 @@
 //! Laws of the rule of third repetition, as contracts of functions that do nothing.
 
-ghost use Rattle.hive_model.specs.Repetition.{AllStandUnderFalse, StandsMoveByMove, SameBoardIsTested, KeysGiveTimes, KeysGrow};
+ghost use Rattle.hive_model.specs.Repetition.{
+  AllStandUnderFalse,
+  StandsMoveByMove,
+  SameBoardIsTested,
+  KeysGiveTimes,
+  KeysGrow,
+};
 
 /// The test of keys of one board says that all but the turns are equal.
 pub fn same_boards_are_tested()

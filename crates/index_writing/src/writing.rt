@@ -14,7 +14,13 @@ ghost use Rattle.claim_walks.specs.Limits.{number};
 ghost use Rattle.claim_walks.specs.Follows.{range_of};
 ghost use Rattle.strategy_check.specs.Least.{least};
 ghost use Rattle.certificate_text.specs.Text.{index_line};
-ghost use Rattle.index_writing.specs.Writing.{Wrote, first_kept, index_lines, keeps_below, lines_below};
+ghost use Rattle.index_writing.specs.Writing.{
+  Wrote,
+  first_kept,
+  index_lines,
+  keeps_below,
+  lines_below,
+};
 
 use crate::judge::Judge;
 use arrayvec::ArrayString;

@@ -18,8 +18,8 @@ use crate::turns::Turn;
 use hand_rules::{may_bring, placement_places, push_each};
 use hive_model::{Board, Colour, Cuts, GameType, Move, MoveStack, Piece, Place, PlaceList};
 
-/// Puts the legal moves of the piece at the end of the last level. `open_places` are the places where the side may place, and
-/// `places` is a list to write on.
+/// Puts the legal moves of the piece at the end of the last level. `open_places` are the places
+/// where the side may place, and `places` is a list to write on.
 fn push_piece<B: Board, C: Cuts>(
     board: &B,
     cuts: &C,

@@ -1,5 +1,16 @@
 //! The referee of a match.
-ghost use Rattle.std.specs.Prelude.{◌≡◌, ◌≤◌, length, IfOk, OnOk, OnErr, IsTrue, Some, None, MatchOption};
+ghost use Rattle.std.specs.Prelude.{
+  ◌≡◌,
+  ◌≤◌,
+  length,
+  IfOk,
+  OnOk,
+  OnErr,
+  IsTrue,
+  Some,
+  None,
+  MatchOption,
+};
 ghost use Rattle.match_core.specs.Standing.{start, next, happening, act_at, answers};
 ghost use Rattle.match_core.specs.Keeps.{IsSetup, IsSend, line_at, IsEarly};
 

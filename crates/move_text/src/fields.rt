@@ -1,10 +1,30 @@
 //! The fields of lines: numbers, times, game types and states.
 
-ghost use Rattle.std.specs.Prelude.{◌≡◌, ℕ, ◌+◌, ◌*◌, ◌/◌, ◌%◌, ◌≤◌, ◌<◌, [], ◌∷◌, ◌++◌, length, IfSome};
+ghost use Rattle.std.specs.Prelude.{
+  ◌≡◌,
+  ℕ,
+  ◌+◌,
+  ◌*◌,
+  ◌/◌,
+  ◌%◌,
+  ◌≤◌,
+  ◌<◌,
+  [],
+  ◌∷◌,
+  ◌++◌,
+  length,
+  IfSome,
+};
 ghost use Rattle.arrayvec.specs.ArrayString.{array_string_len};
 ghost use Rattle.hive_model.specs.declared.pieces.GameType.{GameType as AnyType};
 ghost use Rattle.hive_model.specs.declared.places.State.{State as AnyState};
-ghost use Rattle.hive_model.specs.Fields.{IsNumberText, IsTimeText, type_bytes, state_bytes, two_digits};
+ghost use Rattle.hive_model.specs.Fields.{
+  IsNumberText,
+  IsTimeText,
+  type_bytes,
+  state_bytes,
+  two_digits,
+};
 ghost use Rattle.move_text.specs.Readers.{type_at, state_at, two_digit_number, time_at, time_bytes};
 
 use arrayvec::ArrayString;

@@ -121,9 +121,10 @@ fn move_of<B: Board>(game_type: GameType, board: &B, text: &[u8]) -> Result<Move
     }
 }
 
-/// The move that the text denotes on this board: `pass`; or a piece alone, which goes to (0,0) of an empty board; or a piece, one
-/// space and a destination, which names a reference R on the board without the moving piece: `R-` is E of R, `-R` W, `R/` NE,
-/// `/R` SW, `\R` NW, `R\` SE, and `R` alone is its own place, on top. Whether the move is legal is not judged. The text has at most
+/// The move that the text denotes on this board: `pass`; or a piece alone, which goes to (0,0) of
+/// an empty board; or a piece, one space and a destination, which names a reference R on the board
+/// without the moving piece: `R-` is E of R, `-R` W, `R/` NE, `/R` SW, `\R` NW, `R\` SE, and `R`
+/// alone is its own place, on top. Whether the move is legal is not judged. The text has at most
 /// 65,536 bytes.
 ///
 /// # Errors
@@ -135,8 +136,10 @@ pub fn read_move<B: Board>(game_type: GameType, board: &B, text: &[u8]) -> Resul
     requires length { length text.now ≤ 65536 }
     requires sound { IsBoard (B.stacks board.now) }
     ensures denotes { IfOk result (λ m. Denotes game_type (B.stacks board.now) text.now m) }
-    ensures only { (m : AnyMove) → Denotes game_type (B.stacks board.now) text.now m → result ≡ Ok m }
-    ensures refuses { IfErr result (λ fault. Refuses game_type (B.stacks board.now) text.now fault) }
+    ensures only { (m : AnyMove) → Denotes game_type (B.stacks board.now) text.now m
+        → result ≡ Ok m }
+    ensures refuses { IfErr result (λ fault. Refuses game_type
+        (B.stacks board.now) text.now fault) }
     ensures each { (fault : AnyFault) → Refuses game_type (B.stacks board.now) text.now fault
         → result ≡ Err fault }
     // the same as one function of the type, the board and the text

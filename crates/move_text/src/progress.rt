@@ -1,7 +1,22 @@
 //! Reading a move text byte by byte.
 
 ghost use Rattle.std.specs.Prelude.{◌≡◌, ◌≤◌, length};
-ghost use Rattle.move_text.specs.Scan.{colour_at, kind_at, stroke_at, naming_with, with_kind, with_number, after_first, after_second, front_mark, end_first, end_second, progress_with, end_of, scan};
+ghost use Rattle.move_text.specs.Scan.{
+  colour_at,
+  kind_at,
+  stroke_at,
+  naming_with,
+  with_kind,
+  with_number,
+  after_first,
+  after_second,
+  front_mark,
+  end_first,
+  end_second,
+  progress_with,
+  end_of,
+  scan,
+};
 
 use hive_model::{Colour, Form, Kind, Mark, Piece, Stroke};
 

@@ -2,7 +2,15 @@
 
 ghost use Rattle.std.specs.Prelude.{◌≡◌, ◌+◌, ◌≤◌, [], ◌∷◌, ◌++◌, length};
 ghost use Rattle.arrayvec.specs.ArrayString.{array_string_len};
-ghost use Rattle.hive_model.specs.Texts.{colour_code, kind_code, number_code, piece_text, stroke_code, destination, form_text};
+ghost use Rattle.hive_model.specs.Texts.{
+  colour_code,
+  kind_code,
+  number_code,
+  piece_text,
+  stroke_code,
+  destination,
+  form_text,
+};
 
 use arrayvec::ArrayString;
 use hive_model::{Colour, Form, Kind, Mark, Piece, Stroke};

@@ -1,6 +1,23 @@
 //! Marks of pieces: a number with a bit for each.
 
-ghost use Rattle.std.specs.Prelude.{◌≡◌, ◌≢◌, ◌↔◌, ◌⊎◌, ℕ, ◌<◌, ◌^◌, List, Bool, Some, true, false, replicate, slice_get, slice_set, IsTrue};
+ghost use Rattle.std.specs.Prelude.{
+  ◌≡◌,
+  ◌≢◌,
+  ◌↔◌,
+  ◌⊎◌,
+  ℕ,
+  ◌<◌,
+  ◌^◌,
+  List,
+  Bool,
+  Some,
+  true,
+  false,
+  replicate,
+  slice_get,
+  slice_set,
+  IsTrue,
+};
 ghost use Rattle.one_hive.specs.Visits.{IsSet};
 ghost use Rattle.one_hive.specs.Marks.{flags};
 

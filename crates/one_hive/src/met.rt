@@ -1,10 +1,34 @@
 //! The places that a walk over a board meets.
 
-ghost use Rattle.std.specs.Prelude.{◌≡◌, ◌↔◌, ℕ, ◌++◌, ◌<◌, [], ◌∷◌, Some, true, false, length, slice_get, slice_set, IsTrue};
+ghost use Rattle.std.specs.Prelude.{
+  ◌≡◌,
+  ◌↔◌,
+  ℕ,
+  ◌++◌,
+  ◌<◌,
+  [],
+  ◌∷◌,
+  Some,
+  true,
+  false,
+  length,
+  slice_get,
+  slice_set,
+  IsTrue,
+};
 ghost use Rattle.hive_model.specs.Boards.{Stacks, IsBoard, is_occupied, spot_of};
 ghost use Rattle.hive_model.specs.Lists.{IsOn};
 ghost use Rattle.hive_model.specs.Places.{IsWithin, step, dirs};
-ghost use Rattle.one_hive.specs.Walks.{is_left_out, others, ground_of, Joined, marks_set, AreMarked, Meets, Spreads};
+ghost use Rattle.one_hive.specs.Walks.{
+  is_left_out,
+  others,
+  ground_of,
+  Joined,
+  marks_set,
+  AreMarked,
+  Meets,
+  Spreads,
+};
 
 use crate::marks::Marks;
 use arrayvec::ArrayVec;

@@ -1,6 +1,20 @@
 //! The counts of a position's legal moves.
 
-ghost use Rattle.std.specs.Prelude.{◌≡◌, ℕ, ◌+◌, ◌-◌, ◌^◌, ◌<◌, ◌≤◌, [], ◌∷◌, ◌++◌, length, false, IfOk};
+ghost use Rattle.std.specs.Prelude.{
+  ◌≡◌,
+  ℕ,
+  ◌+◌,
+  ◌-◌,
+  ◌^◌,
+  ◌<◌,
+  ◌≤◌,
+  [],
+  ◌∷◌,
+  ◌++◌,
+  length,
+  false,
+  IfOk,
+};
 ghost use Rattle.std.specs.Prelude.{slice_get, slice_index, Some, List};
 ghost use Rattle.std.specs.List.{All};
 ghost use Rattle.hive_model.specs.Positions.{Position};
@@ -65,8 +79,8 @@ impl Tally {
         })
     }
 
-    /// Adds the plies of a played game, finished or not, and takes it back to its opening. Fewer than
-    /// 2 to the power 40 plies are counted with it.
+    /// Adds the plies of a played game, finished or not, and takes it back to its opening. Fewer
+    /// than 2 to the power 40 plies are counted with it.
     pub fn add<G: Game>(&mut self, played: &mut G)
         requires { self.old.plies + length (G.course played.old).made < 2 ^ 40 }
         ensures added { (p : Position) (games : List Played) → IsTally p games self.old → IsTally p

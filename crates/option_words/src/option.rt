@@ -1,5 +1,22 @@
 //! The values of the options of a command.
-ghost use Rattle.std.specs.Prelude.{◌≡◌, ◌<◌, ◌↔◌, ◌||◌, List, ℕ, Option, All, map, length, codes, IfOk, IfSome, IsTrue, MatchOption, string_bytes};
+ghost use Rattle.std.specs.Prelude.{
+  ◌≡◌,
+  ◌<◌,
+  ◌↔◌,
+  ◌||◌,
+  List,
+  ℕ,
+  Option,
+  All,
+  map,
+  length,
+  codes,
+  IfOk,
+  IfSome,
+  IsTrue,
+  MatchOption,
+  string_bytes,
+};
 ghost use Rattle.std.specs.List.{list_any};
 ghost use Rattle.std.specs.Str.{bytes_eq};
 ghost use Rattle.option_words.specs.Options.{GiveOne, Gives, IsValue, are_names, names_of};

@@ -1,6 +1,20 @@
 //! Where a piece may be thrown.
 
-ghost use Rattle.std.specs.Prelude.{◌≡◌, ◌↔◌, ℕ, ◌<◌, ◌≤◌, ◌+◌, ◌&&◌, [], length, nat_eq, not, Some, IsTrue};
+ghost use Rattle.std.specs.Prelude.{
+  ◌≡◌,
+  ◌↔◌,
+  ℕ,
+  ◌<◌,
+  ◌≤◌,
+  ◌+◌,
+  ◌&&◌,
+  [],
+  length,
+  nat_eq,
+  not,
+  Some,
+  IsTrue,
+};
 ghost use Rattle.arrayvec.specs.ArrayVec.{array_vec_len};
 ghost use Rattle.hive_model.specs.declared.places.Place.{Place};
 ghost use Rattle.hive_model.specs.declared.places.Spot.{Spot};

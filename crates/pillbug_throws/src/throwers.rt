@@ -35,7 +35,8 @@ fn can_throw<B: Board>(board: &B, piece: Piece, place: Place) -> bool
 #[tactic(auto, using(hive_model::proofs::PlaceLemmas::wider))]
 fn touches_pillbug<B: Board>(board: &B, place: Place) -> bool
     requires { IsWithin 9500 place }
-    ensures { result ≡ list_any (λ d. is_pillbug (top_at (B.stacks board.now) (step place d))) dirs }
+    ensures { result ≡ list_any (λ d. is_pillbug (top_at (B.stacks board.now) (step place d)))
+        dirs }
 {
     Dir::ALL.iter().any(
         |d| -> bool

@@ -24,7 +24,8 @@ pub fn count_lines<G: Game>(game: &mut G, plies: u32, stack: &mut MoveStack) -> 
     lines_from(game, plies, stack)
 }
 
-/// `count_lines`, where so few places are occupied that every list of moves is short. A ply leaves at most two places more.
+/// `count_lines`, where so few places are occupied that every list of moves is short. A ply leaves
+/// at most two places more.
 #[cycle(count)]
 fn lines_from<G: Game>(game: &mut G, plies: u32, stack: &mut MoveStack) -> u128
     requires deep { plies ≤ 8 }

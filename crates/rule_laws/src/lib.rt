@@ -2,7 +2,13 @@
 //! keeps. They have no code: a function here has its law as its contract, and an empty body.
 #![tactic(auto)]
 
-ghost use Rattle.rule_laws.specs.Soundness.{OpeningsAreSound, LegalMovesKeepSoundness, ListedMovesKeepSoundness, GamesAreSound, GamesCountPlies};
+ghost use Rattle.rule_laws.specs.Soundness.{
+  OpeningsAreSound,
+  LegalMovesKeepSoundness,
+  ListedMovesKeepSoundness,
+  GamesAreSound,
+  GamesCountPlies,
+};
 
 /// The opening of every game type is a sound position, and no coordinate of a piece on its board is
 /// larger in size than 0.

@@ -1,6 +1,14 @@
 //! Laws of minimax, as contracts of functions that do nothing.
 
-ghost use Rattle.search_laws.specs.Laws.{ValuesAreSmall, EndsAreWorth, ValuesGoDeeper, LinesGoDeeper, NodesGoDeeper, CostFalls, BestIsFirstGreatest};
+ghost use Rattle.search_laws.specs.Laws.{
+  ValuesAreSmall,
+  EndsAreWorth,
+  ValuesGoDeeper,
+  LinesGoDeeper,
+  NodesGoDeeper,
+  CostFalls,
+  BestIsFirstGreatest,
+};
 
 /// What positions are worth: how large values are, what the end of a game is worth, and how values
 /// of one ply more are made from those of one ply less.

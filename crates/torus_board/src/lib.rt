@@ -1,8 +1,35 @@
 //! A board on a wrapped grid.
 #![tactic(auto)]
 
-ghost use Rattle.std.specs.Prelude.{◌≡◌, ◌+◌, ◌*◌, ◌<◌, ◌≤◌, IsTrue, IsNone, IfOk, IfSome, Some, None, unwrap_or, option_map, slice_get, length, []};
-ghost use Rattle.hive_model.specs.Boards.{Stacks, IsBoard, height_at, top_at, spot_of, under_of, put, lift, is_on_top};
+ghost use Rattle.std.specs.Prelude.{
+  ◌≡◌,
+  ◌+◌,
+  ◌*◌,
+  ◌<◌,
+  ◌≤◌,
+  IsTrue,
+  IsNone,
+  IfOk,
+  IfSome,
+  Some,
+  None,
+  unwrap_or,
+  option_map,
+  slice_get,
+  length,
+  [],
+};
+ghost use Rattle.hive_model.specs.Boards.{
+  Stacks,
+  IsBoard,
+  height_at,
+  top_at,
+  spot_of,
+  under_of,
+  put,
+  lift,
+  is_on_top,
+};
 ghost use Rattle.hive_model.specs.Places.{IsWithin};
 ghost use Rattle.hive_model.specs.Spots.{board_of, IsSpots};
 ghost use Rattle.hive_model.specs.Spread.{IsSpread, IsNearAll};

@@ -5,7 +5,17 @@ ghost use Rattle.uhp_words.specs.declared.command.Command.{Command as AnyCommand
 ghost use Rattle.uhp_words.specs.declared.command.CommandFault.{CommandFault as AnyFault};
 ghost use Rattle.uhp_words.specs.Grammar.{IsCommand, IsFault, AreWithin};
 ghost use Rattle.uhp_words.specs.Spaces.{first_word, rest_of};
-ghost use Rattle.uhp_words.specs.Reading.{alone, play_of, limit_of, undo_of, get_of, set_of, options_of, arguments_of, command_of};
+ghost use Rattle.uhp_words.specs.Reading.{
+  alone,
+  play_of,
+  limit_of,
+  undo_of,
+  get_of,
+  set_of,
+  options_of,
+  arguments_of,
+  command_of,
+};
 
 use crate::command::{Command, CommandFault};
 use crate::fields::{number_at, time_at};
@@ -152,12 +162,13 @@ fn command_of(line: &[u8]) -> Result<Command, CommandFault>
     }
 }
 
-/// The command that a line is. The spaces at both ends do not count; the first word ends at the first space, and the rest begins
-/// behind the spaces that follow.
+/// The command that a line is. The spaces at both ends do not count; the first word ends at the
+/// first space, and the rest begins behind the spaces that follow.
 ///
 /// # Errors
 ///
-/// `Unknown` where the first word is no command, as in an empty line; `Arguments` where it is one and the rest is not of its form.
+/// `Unknown` where the first word is no command, as in an empty line; `Arguments` where it is one
+/// and the rest is not of its form.
 pub fn read_command(line: &[u8]) -> Result<Command, CommandFault>
     requires { length line.now ≤ 65536 }
     ensures computes { result ≡ command_of line.now }

@@ -1,7 +1,14 @@
 //! Words and the spaces between them.
 
 ghost use Rattle.std.specs.Prelude.{◌≡◌, ◌≤◌, length};
-ghost use Rattle.uhp_words.specs.Spaces.{after_spaces, before_spaces, first_word, after_word, rest_of, is_word};
+ghost use Rattle.uhp_words.specs.Spaces.{
+  after_spaces,
+  before_spaces,
+  first_word,
+  after_word,
+  rest_of,
+  is_word,
+};
 
 /// The text without the spaces in front.
 pub(crate) fn after_spaces(text: &[u8]) -> &[u8]

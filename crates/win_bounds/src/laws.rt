@@ -1,6 +1,13 @@
 //! Laws of positions that are far from a win, as the contract of a function that does nothing.
 
-ghost use Rattle.win_bounds.specs.Laws.{FarIsTested, FarMovesDoNotSurround, FarIsNotWon, SafetyIsTested, SafeMovesDoNotSurround, SafeIsNotLost};
+ghost use Rattle.win_bounds.specs.Laws.{
+  FarIsTested,
+  FarMovesDoNotSurround,
+  FarIsNotWon,
+  SafetyIsTested,
+  SafeMovesDoNotSurround,
+  SafeIsNotLost,
+};
 
 /// The test of being far from a win holds exactly where the other side's queen is in hand, or at
 /// most four places around her are occupied and no pillbug or mosquito of the side to move stands

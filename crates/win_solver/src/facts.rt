@@ -1,6 +1,18 @@
 //! What is known of a position without its moves, and what a table is told of it.
 
-ghost use Rattle.std.specs.Prelude.{◌≡◌, ◌≤◌, ◌≤ℤ◌, ℤ, int_le, is_some, negsuc, IsSomeAnd, IsTrue, MatchOption, IfSome};
+ghost use Rattle.std.specs.Prelude.{
+  ◌≡◌,
+  ◌≤◌,
+  ◌≤ℤ◌,
+  ℤ,
+  int_le,
+  is_some,
+  negsuc,
+  IsSomeAnd,
+  IsTrue,
+  MatchOption,
+  IfSome,
+};
 ghost use Rattle.hive_model.specs.Keys.{key as key_of_position};
 ghost use Rattle.hive_model.specs.Positions.{Position, IsSound};
 ghost use Rattle.hive_model.specs.Minimax.{value, IsInner};

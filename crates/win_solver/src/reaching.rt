@@ -1,6 +1,19 @@
 //! Whether a position is worth so much to its side to move.
 
-ghost use Rattle.std.specs.Prelude.{◌≡◌, ◌-◌, ◌<◌, ◌≤◌, ◌≤ℤ◌, int_le, length, negsuc, pos, is_some, IsSome, IsTrue};
+ghost use Rattle.std.specs.Prelude.{
+  ◌≡◌,
+  ◌-◌,
+  ◌<◌,
+  ◌≤◌,
+  ◌≤ℤ◌,
+  int_le,
+  length,
+  negsuc,
+  pos,
+  is_some,
+  IsSome,
+  IsTrue,
+};
 ghost use Rattle.hive_model.specs.Lists.{IsOn};
 ghost use Rattle.hive_model.specs.Legal.{moves};
 ghost use Rattle.hive_model.specs.Minimax.{IsInner, value, reply_value};
@@ -50,8 +63,8 @@ pub(crate) fn reaches<G: Game>(
     reply.is_some()
 }
 
-/// The same where the game goes on and one ply is left. No move is listed where the board tells that
-/// none wins, or that none loses, and that decides it.
+/// The same where the game goes on and one ply is left. No move is listed where the board tells
+/// that none wins, or that none loses, and that decides it.
 #[cycle(reaches)]
 fn reaches_at_once<G: Game>(
     game: &mut G,

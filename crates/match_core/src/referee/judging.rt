@@ -2,7 +2,15 @@
 ghost use Rattle.std.specs.Prelude.{◌≡◌, ◌<◌, ◌≤◌, length, None, unwrap_or, [], OnOk, OnErr};
 ghost use Rattle.hive_model.specs.Legal.{moves};
 ghost use Rattle.hive_model.specs.Lists.{IsOn};
-ghost use Rattle.match_core.specs.Standing.{ask, judge, decide, forfeit, finish, accept, position_of};
+ghost use Rattle.match_core.specs.Standing.{
+  ask,
+  judge,
+  decide,
+  forfeit,
+  finish,
+  accept,
+  position_of,
+};
 ghost use Rattle.match_core.specs.Keeps.{IsSettled, IsTelling};
 
 use super::Referee;

@@ -1,6 +1,18 @@
 //! What each event does to a match.
 ghost use Rattle.std.specs.Prelude.{◌≡◌, ◌+◌, ◌<◌, ◌≤◌, ◌^◌, length, OnOk, OnErr, List, ℕ};
-ghost use Rattle.match_core.specs.Standing.{happening, reply_ends, hear, go, keep, latest, at_send, at_read, at_before, at_after, answered};
+ghost use Rattle.match_core.specs.Standing.{
+  happening,
+  reply_ends,
+  hear,
+  go,
+  keep,
+  latest,
+  at_send,
+  at_read,
+  at_before,
+  at_after,
+  answered,
+};
 ghost use Rattle.match_core.specs.Keeps.{IsLevel, IsEarly, HasNext, IsSettled};
 
 use super::Referee;

@@ -96,7 +96,8 @@ fn workers_in(
     requires some { 1 ≤ depth }
     requires few { depth ≤ 3 }
     ensures count { IfOk result (λ ws. length ws.items ≡ count) }
-    ensures games { IfOk result (λ ws. All (λ w. IsGameOf parsed.now.game_type parsed.now.moves depth w.game.course)
+    ensures games { IfOk result (λ ws. All
+        (λ w. IsGameOf parsed.now.game_type parsed.now.moves depth w.game.course)
         ws.items) }
     ensures searchers { IfOk result (λ ws. All (λ w. depth ≤ w.searcher) ws.items) }
 {
