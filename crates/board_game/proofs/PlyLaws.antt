@@ -12,10 +12,10 @@ use Rattle.hive_model.specs.Positions.{Position, IsSound, opening}
 use Rattle.hive_model.specs.Legal.{LegalPair, moves}
 use Rattle.hive_model.specs.Games.{after, after_board, moved, replay, AreLegal, IsGame}
 use Rattle.hive_model.proofs.GetLemmas.{get_within}
+use Rattle.hive_model.proofs.PlaceLemmas.{widened}
 use Rattle.hive_model.proofs.BoardLemmas.{spot_of_stands, stands_on_top, stands_occupied}
 use Rattle.hive_model.proofs.LegalLaws.{legal_is_piece}
 use Rattle.hive_model.proofs.MoveLaws.{moves_legal}
-use Rattle.rule_laws.proofs.Lands.{wider}
 use Rattle.rule_laws.proofs.Games.{listed_keep, games_sound}
 use Rattle.hive_model.specs.Spread.{IsSpread}
 use Rattle.board_game.proofs.SpreadLaws.{spread_of_hive}
@@ -108,7 +108,7 @@ can_make t ms m game few on =
         let far = subst (StandsWithin (length ms + 1)) (board_after p (To x q)) within in
         let taken = stands_occupied (put (without p.board x) x q) x q (height_at (without p.board x) q) (stands_on_top (without p.board x) x q) in
         let most : length ms + 1 ≤ 9000 = omega (arith, few) in
-        (sound.board, legal_is_piece p sound.board x q legal, loose_pair p x q legal, wider (length ms + 1) 9000 most q (far q taken), spread_of_hive p.board sound.board sound.one_hive, subst (IsSpread 32) (board_after p (To x q)) (spread_of_hive (after p (To x q)).board left.board left.one_hive))
+        (sound.board, legal_is_piece p sound.board x q legal, loose_pair p x q legal, widened (length ms + 1) 9000 most q (far q taken), spread_of_hive p.board sound.board sound.one_hive, subst (IsSpread 32) (board_after p (To x q)) (spread_of_hive (after p (To x q)).board left.board left.one_hive))
 
 -- One ply more
 

@@ -25,104 +25,30 @@ use Rattle.hive_model.specs.Placement.{HasColour, MayPlace, Placement, has_colou
 use Rattle.hive_model.specs.Throws.{Throw}
 use Rattle.hive_model.specs.Legal.{Walk, LegalPair, IsLegal, moves}
 use Rattle.hive_model.specs.Denotes.{Denotes, text}
+use Rattle.hive_model.proofs.TouchLaws.{Touched, beside, moves_touch}
+use Rattle.hive_model.proofs.LiftLemmas.{lift_is_without}
 use Rattle.hive_model.proofs.BoardLemmas.{stands_occupied, spot_of_stands, stands_spot_of}
 use Rattle.hive_model.proofs.NearLaws.{place_standing, near_within}
-use Rattle.hive_model.proofs.RuleLaws.{over_last, over_next}
-use Rattle.hive_model.proofs.LegalLaws.{opposite, back, near_legal, from_legal_pair}
+use Rattle.hive_model.proofs.ReachLaws.{step_moves}
+use Rattle.hive_model.proofs.LegalLaws.{near_legal, from_legal_pair}
 use Rattle.hive_model.proofs.MoveLaws.{moves_legal}
 use Rattle.hive_model.proofs.PlacementLaws.{has_colour_from, from_has_colour}
 use Rattle.move_text.specs.Moves.{IsMoveWithin}
 use Rattle.move_text.proofs.WithoutLaws.{not_there, stack_there}
-use Rattle.move_text.proofs.SpellLaws.{Touched, text_denotes, first_denotes, pass_denotes}
-
--- A step away from an occupied place
-
-beside : (c : Stacks) (p q : Place) (d : Dir) → step p d ≡ q → IsTrue (is_occupied c p) → Touched c q
-beside c p q d leads h = inr (opposite d, subst (λ z. IsTrue (is_occupied c z)) (sym (ap (λ z. step z (opposite d)) (sym leads) ∙ back p d)) h)
-
-ground_touches : (c : Stacks) (p q : Place) → GroundStep c p q → Touched c q
-ground_touches c p q h = go (is_occupied c (step p (dir_after h.dir))) refl
-  where
-    go : (t : Bool) → is_occupied c (step p (dir_after h.dir)) ≡ t → Touched c q
-    go true e = beside c (step p (dir_after h.dir)) q (dir_before h.dir) (over_next p h.dir ∙ h.leads) e
-    go false e = beside c (step p (dir_before h.dir)) q (dir_after h.dir) (over_last p h.dir ∙ h.leads) (h.beside ∙ ap not e)
-
-path_touches : (c : Stacks) (p : Place) (way : List Place) (q : Place) → p ≢ q → IsPath (GroundStep c) p way q → Touched c q
-path_touches c p [] q apart path = absurd (apart path)
-path_touches c p (x ∷ way) q apart path = go x (ground_touches c p x path.0) way path.1
-  where
-    go : (x : Place) → Touched c x → (way : List Place) → IsPath (GroundStep c) x way q → Touched c q
-    go x t [] path = subst (Touched c) path t
-    go x t (y ∷ way) path = go y (ground_touches c x y path.0) way path.1
-
-hop_touches : (c : Stacks) (p q : Place) → Hop c p q → Touched c q
-hop_touches c p q h = over h.far h.far_enough h.leads h.over
-  where
-    over : (n : ℕ) → 2 ≤ n → steps n p h.dir ≡ q → ((k : ℕ) → 0 < k → k < n → IsTrue (is_occupied c (steps k p h.dir))) → Touched c q
-    over zero two leads all = absurd (omega (arith, two))
-    over (suc n) two leads all =
-        let some : 0 < n = omega (arith, two) in
-        let low : n < suc n = omega arith in
-        beside c (steps n p h.dir) q h.dir leads (all n some low)
-
-reach_touches : (k : Kind) (c : Stacks) (p q : Place) → p ≢ q → ReachBy k c p q → Touched c q
-reach_touches Queen c p q apart h = ground_touches c p q h
-reach_touches Pillbug c p q apart h = ground_touches c p q h
-reach_touches Beetle c p q apart (inl ground) = ground_touches c p q ground
-reach_touches Beetle c p q apart (inr climb) = elim (climb.high) [ inl from ↦ beside c p q climb.dir climb.leads from | inr to ↦ inl to ]
-reach_touches Grasshopper c p q apart h = hop_touches c p q h
-reach_touches Ant c p q apart h = path_touches c p h.0 q apart h.1
-reach_touches Spider c p q apart h = ground_touches c h.second q h.three
-reach_touches Ladybug c p q apart h = beside c h.second q h.down.dir h.down.leads h.second_occupied
-reach_touches Mosquito c p q apart h = absurd h
-
-moves_touch : (k : Kind) (c : Stacks) (p q : Place) → MovesAs k c p q → Touched c q
-moves_touch Mosquito c p q (inl high) = reach_touches Beetle c p q high.1.0 high.1.1
-moves_touch Mosquito c p q (inr ground) = let copy = ground.1 in reach_touches (kind_of copy.other) c p q copy.reach.0 copy.reach.1
-moves_touch Queen c p q h = reach_touches Queen c p q h.0 h.1
-moves_touch Spider c p q h = reach_touches Spider c p q h.0 h.1
-moves_touch Beetle c p q h = reach_touches Beetle c p q h.0 h.1
-moves_touch Grasshopper c p q h = reach_touches Grasshopper c p q h.0 h.1
-moves_touch Ant c p q h = reach_touches Ant c p q h.0 h.1
-moves_touch Ladybug c p q h = reach_touches Ladybug c p q h.0 h.1
-moves_touch Pillbug c p q h = reach_touches Pillbug c p q h.0 h.1
-
--- The board without a piece on top is the lifted board
-
-remove_last : (xs : List ℕ) (i : ℕ) → suc i ≡ length xs → remove xs i ≡ take i xs
-remove_last [] i e = absurd (omega (arith, e))
-remove_last (x ∷ []) zero e = refl
-remove_last (x ∷ y ∷ ys) zero e = absurd (omega (arith, e))
-remove_last (x ∷ xs) (suc i) e = ap (λ (r : List ℕ). x ∷ r) (remove_last xs i (omega (arith, e)))
-
-lifted_is : (b : Stacks) (x : ℕ) (s : Spot) → spot_of b x ≡ Some s → s.level + 1 ≡ height_at b s.place → lift b x ≡ without b x
-lifted_is b x s e top =
-    let last : suc s.level ≡ length (stack_at b s.place) = omega (arith, top) in
-    ap (lift_from b) e ∙ ap (set_stack b s.place) (sym (remove_last (stack_at b s.place) s.level last)) ∙ sym (ap (without_at b) e)
+use Rattle.move_text.proofs.SpellLaws.{text_denotes, first_denotes, pass_denotes}
 
 -- Walks and throws
 
 walk_touches : (p : Position) (x : ℕ) (q : Place) → Walk p x q → Touched (without p.board x) q
 walk_touches p x q w =
     let lifted = moves_touch (kind_of x) (lift p.board x) w.from.place q w.moves in
-    subst (λ c. Touched c q) (lifted_is p.board x w.from w.stands w.on_top) lifted
-
-moves_off : (a x : ℤ) → x ≢ pos 0 → a +ℤ x ≡ a → ⊥
-moves_off a x h e = h (omega (arith, ints))
-
-apart : (a b : Place) (d : Dir) → step a d ≡ b → a ≡ b → ⊥
-apart a b E e f = moves_off a.q (pos 1) (λ z. omega (arith, ints)) (ap (λ (z : Place). z.q) (e ∙ sym f))
-apart a b NE e f = moves_off a.q (pos 1) (λ z. omega (arith, ints)) (ap (λ (z : Place). z.q) (e ∙ sym f))
-apart a b NW e f = moves_off a.r (negsuc 0) (λ z. omega (arith, ints)) (ap (λ (z : Place). z.r) (e ∙ sym f))
-apart a b W e f = moves_off a.q (negsuc 0) (λ z. omega (arith, ints)) (ap (λ (z : Place). z.q) (e ∙ sym f))
-apart a b SW e f = moves_off a.q (negsuc 0) (λ z. omega (arith, ints)) (ap (λ (z : Place). z.q) (e ∙ sym f))
-apart a b SE e f = moves_off a.r (pos 1) (λ z. omega (arith, ints)) (ap (λ (z : Place). z.r) (e ∙ sym f))
+    subst (λ c. Touched c q) (lift_is_without p.board x w.from w.stands w.on_top) lifted
 
 throw_touches : (p : Position) (x : ℕ) (q : Place) → IsBoard p.board → Throw p x q → Touched (without p.board x) q
 throw_touches p x q is h =
     let t = h.throws in
     let stands = spot_of_stands p.board x h.from t.stands in
-    let same = stack_there p.board is x h.from.place h.from.level stands h.over.place (λ e. apart h.over.place h.from.place t.beside.0 t.beside.1 e) in
+    let same = stack_there p.board is x h.from.place h.from.level stands h.over.place (λ e. step_moves h.over.place t.beside.0 (t.beside.1 ∙ sym e)) in
     let tall = h.is_thrower.alone in
     let some : 0 < height_at p.board h.over.place = omega (arith, tall) in
     let occupied : IsTrue (is_occupied (without p.board x) h.over.place) = ap (λ (xs : List ℕ). nat_lt 0 (length xs)) same ∙ lt-ltb 0 _ some in

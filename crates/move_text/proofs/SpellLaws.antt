@@ -12,6 +12,7 @@ use Rattle.hive_model.specs.declared.places.Move.TheVariants.{Pass, To}
 use Rattle.hive_model.specs.Lists.{IsOn}
 use Rattle.hive_model.specs.Places.{step, origin}
 use Rattle.hive_model.specs.Boards.{Stacks, stack_at, height_at, is_occupied, top_at, spot_of, IsBoard, without}
+use Rattle.hive_model.proofs.TouchLaws.{Touched}
 use Rattle.hive_model.proofs.BoardLemmas.{spot_of_stands, stands_spot_of}
 use Rattle.hive_model.proofs.GetLemmas.{get_exists}
 use Rattle.hive_model.specs.declared.forms.Stroke.TheVariants.{Dash, Slash, Backslash}
@@ -76,10 +77,6 @@ beside_denotes t b is x q small of_type f =
       in_play = ap (option_map (λ (s : Spot). s.place)) stands;
       goes = ap (To x) (sym (leads q f.at f.on));
     }))
-
--- the place or one of its neighbours is occupied
-abbrev pub Touched : Stacks → Place → Type 0
-Touched c q = IsTrue (is_occupied c q) ⊎ ((d : Dir) × IsTrue (is_occupied c (step q d)))
 
 top_of : (c : Stacks) (q : Place) → IsTrue (is_occupied c q) → (y : ℕ) × (top_at c q ≡ Some y)
 top_of c q h = let some = ltb-true 0 (height_at c q) h in get_exists (stack_at c q) (height_at c q - 1) (omega (arith, some))

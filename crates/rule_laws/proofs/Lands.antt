@@ -2,52 +2,34 @@
 use Rattle.std.proofs.Common.{◌≡◌, ℕ, ◌+◌, ◌≤◌, ◌<◌, true, false, [], ◌∷◌, ◌++◌, length, ◌⊎◌, inl, inr, refl, sym, ◌∙◌, ap, subst, arith, cond, length-append}
 use Rattle.std.specs.Prelude.{Some, None, IsTrue, is_some}
 use Rattle.std.proofs.lemmas.Bool.{eq-eqb, cases_eq}
-use Rattle.std.proofs.lemmas.Int.{ints}
 use Rattle.hive_model.specs.declared.places.Place.{Place}
 use Rattle.hive_model.specs.declared.places.Spot.{Spot}
-use Rattle.hive_model.specs.declared.places.Dir.{Dir}
 use Rattle.hive_model.specs.declared.places.Move.TheVariants.{To}
-use Rattle.hive_model.specs.declared.places.Dir.TheVariants.{E, NE, NW, W, SW, SE}
 use Rattle.hive_model.specs.Pieces.{kind_of, colour_of, OfType}
 use Rattle.hive_model.specs.Places.{step, IsWithin}
 use Rattle.hive_model.specs.Boards.{Stacks, is_top_spot, stack_at, height_at, is_occupied, spot_of, put, without, is_in_play, is_on_top, StandsAt, IsBoard, StandsWithin}
 use Rattle.hive_model.specs.Hive.{StepOn, OneHive}
 use Rattle.hive_model.specs.Positions.{Position, IsSound}
 use Rattle.hive_model.specs.Games.{after}
-use Rattle.hive_model.proofs.PlaceLemmas.{is_place_itself}
+use Rattle.hive_model.proofs.PlaceLemmas.{is_place_itself, widened, step_inside}
 use Rattle.hive_model.proofs.Floods.{path_weaker}
 use Rattle.hive_model.proofs.BoardLemmas.{stands_occupied, occupied_stands, spot_of_stands, stands_spot_of, stack_at-put, put_stands, stands_put, stands_on_top}
 use Rattle.hive_model.proofs.LegalLaws.{opposite, back}
 use Rattle.hive_model.proofs.KeepLaws.{board_put, one_hive_put, still, was_or_new}
-use Rattle.rule_laws.proofs.Touches.{Touched, Climbs}
+use Rattle.hive_model.proofs.TouchLaws.{Touched}
+use Rattle.rule_laws.proofs.Climbing.{Climbs}
 use Rattle.rule_laws.proofs.Leaves.{Leaves}
 
 -- How far out
 
-pub wider : (n m : ℕ) → n ≤ m → (p : Place) → IsWithin n p → IsWithin m p
-wider n m low p h = record {
-  q_low = omega (arith, ints, low, h.q_low);
-  q_high = omega (arith, ints, low, h.q_high);
-  r_low = omega (arith, ints, low, h.r_low);
-  r_high = omega (arith, ints, low, h.r_high);
-}
-
-step_out : (n : ℕ) (p : Place) (d : Dir) → IsWithin n p → IsWithin (n + 1) (step p d)
-step_out n p E h = record { q_low = omega (arith, ints, h.q_low); q_high = omega (arith, ints, h.q_high); r_low = omega (arith, ints, h.r_low); r_high = omega (arith, ints, h.r_high) }
-step_out n p NE h = record { q_low = omega (arith, ints, h.q_low); q_high = omega (arith, ints, h.q_high); r_low = omega (arith, ints, h.r_low); r_high = omega (arith, ints, h.r_high) }
-step_out n p NW h = record { q_low = omega (arith, ints, h.q_low); q_high = omega (arith, ints, h.q_high); r_low = omega (arith, ints, h.r_low); r_high = omega (arith, ints, h.r_high) }
-step_out n p W h = record { q_low = omega (arith, ints, h.q_low); q_high = omega (arith, ints, h.q_high); r_low = omega (arith, ints, h.r_low); r_high = omega (arith, ints, h.r_high) }
-step_out n p SW h = record { q_low = omega (arith, ints, h.q_low); q_high = omega (arith, ints, h.q_high); r_low = omega (arith, ints, h.r_low); r_high = omega (arith, ints, h.r_high) }
-step_out n p SE h = record { q_low = omega (arith, ints, h.q_low); q_high = omega (arith, ints, h.q_high); r_low = omega (arith, ints, h.r_low); r_high = omega (arith, ints, h.r_high) }
-
 -- a place beside an occupied one is one further out at most
 pub touched_within : (n : ℕ) (c : Stacks) (q : Place) → StandsWithin n c → Touched c q → IsWithin (n + 1) q
-touched_within n c q w (inl here) = let low : n ≤ n + 1 = omega arith in wider n (n + 1) low q (w q here)
-touched_within n c q w (inr next) = subst (IsWithin (n + 1)) (back q next.0) (step_out n (step q next.0) (opposite next.0) (w (step q next.0) next.1))
+touched_within n c q w (inl here) = let low : n ≤ n + 1 = omega arith in widened n (n + 1) low q (w q here)
+touched_within n c q w (inr next) = subst (IsWithin (n + 1)) (back q next.0) (step_inside n (n + 1) (omega arith) (step q next.0) (opposite next.0) (w (step q next.0) next.1))
 
 pub put_within : (n : ℕ) (c : Stacks) (x : ℕ) (q : Place) → StandsWithin n c → IsWithin (n + 1) q → StandsWithin (n + 1) (put c x q)
 put_within n c x q w near p h = elim (was_or_new c x q p h) [
-  | inl old ↦ let low : n ≤ n + 1 = omega arith in wider n (n + 1) low p (w p old)
+  | inl old ↦ let low : n ≤ n + 1 = omega arith in widened n (n + 1) low p (w p old)
   | inr new ↦ subst (IsWithin (n + 1)) (sym new) near
 ]
 

@@ -1,16 +1,15 @@
 -- What is left on the board when a piece goes: the others stand where they stood, in one hive.
-use Rattle.std.proofs.Common.{◌≡◌, ◌≢◌, ℕ, suc, zero, ◌+◌, ◌<◌, true, false, List, [], ◌∷◌, length, take, refl, sym, ◌∙◌, ap, subst, arith}
+use Rattle.std.proofs.Common.{◌≡◌, ◌≢◌, ℕ, suc, zero, ◌+◌, ◌<◌, true, false, List, [], ◌∷◌, take, refl, sym, ◌∙◌, ap, subst, arith}
 use Rattle.std.specs.Prelude.{Some, None, nat_lt}
-use Rattle.std.specs.List.{remove}
 use Rattle.std.proofs.lemmas.Bool.{lt-ltb}
 use Rattle.hive_model.specs.declared.places.Place.{Place}
 use Rattle.hive_model.specs.declared.places.Spot.{Spot}
 use Rattle.hive_model.specs.Places.{is_place}
-use Rattle.hive_model.specs.Boards.{Stacks, stack_at, height_at, is_occupied, spot_of, cleared, set_stack, lift, lift_from, without, without_at, StandsAt, IsBoard}
+use Rattle.hive_model.specs.Boards.{Stacks, stack_at, height_at, is_occupied, spot_of, cleared, set_stack, lift, without, without_at, StandsAt, IsBoard}
 use Rattle.hive_model.specs.Hive.{OneHive, OneHiveOn, IsCut, is_one}
 use Rattle.hive_model.proofs.PlaceLemmas.{same_place}
 use Rattle.hive_model.proofs.BoardLemmas.{spot_of_stands, stands_spot_of, lift_is, lift_stands, stands_lift, stacks-set_stack}
-use Rattle.hive_model.proofs.LiftLemmas.{lift_is_board, height_here, height_there}
+use Rattle.hive_model.proofs.LiftLemmas.{lift_is_board, lift_is_without, height_here, height_there}
 use Rattle.hive_model.proofs.NearLaws.{one_hive_from}
 use Rattle.hive_model.proofs.CutLaws.{separates_from}
 
@@ -31,18 +30,6 @@ leaves_hand b x is one off = subst (λ c. Leaves b c x) (sym (ap (without_at b) 
   gone = λ q i h. let wrong : None ≡ Some (record { place = q; level = i }) = sym off ∙ stands_spot_of b is x q i h in cc;
   one_hive = one;
 })
-
-remove_last : (xs : List ℕ) (i : ℕ) → suc i ≡ length xs → remove xs i ≡ take i xs
-remove_last [] i e = absurd (omega (arith, e))
-remove_last (x ∷ []) zero e = refl
-remove_last (x ∷ y ∷ ys) zero e = absurd (omega (arith, e))
-remove_last (x ∷ xs) (suc i) e = ap (λ (r : List ℕ). x ∷ r) (remove_last xs i (omega (arith, e)))
-
--- the board without a piece on top is the lifted board
-lifted_is : (b : Stacks) (x : ℕ) (s : Spot) → spot_of b x ≡ Some s → s.level + 1 ≡ height_at b s.place → lift b x ≡ without b x
-lifted_is b x s e top =
-    let last : suc s.level ≡ length (stack_at b s.place) = omega (arith, top) in
-    ap (lift_from b) e ∙ ap (set_stack b s.place) (sym (remove_last (stack_at b s.place) s.level last)) ∙ sym (ap (without_at b) e)
 
 take_none : (xs : List ℕ) → take 0 xs ≡ []
 take_none [] = refl
@@ -87,8 +74,8 @@ module _ (b : Stacks) (is : IsBoard b) (x : ℕ) (p : Place) (level : ℕ) (stan
 -- a top piece that stands on no cut place leaves the lifted board
 pub leaves_top : (b : Stacks) (x : ℕ) (s : Spot) → IsBoard b → OneHive b → spot_of b x ≡ Some s → s.level + 1 ≡ height_at b s.place → (¬ IsCut b s.place) → Leaves b (without b x) x
 leaves_top b x s is one e top not_cut =
-    subst (λ c. Leaves b c x) (lifted_is b x s e top) (leaves_lifted b is x s.place s.level (spot_of_stands b x s e) (sym top) one not_cut)
+    subst (λ c. Leaves b c x) (lift_is_without b x s e top) (leaves_lifted b is x s.place s.level (spot_of_stands b x s e) (sym top) one not_cut)
 
 -- the same, for what is known of the lifted board
 pub on_without : (b : Stacks) (x : ℕ) (s : Spot) (P : Stacks → Type 0) → spot_of b x ≡ Some s → s.level + 1 ≡ height_at b s.place → P (lift b x) → P (without b x)
-on_without b x s P e top h = subst P (lifted_is b x s e top) h
+on_without b x s P e top h = subst P (lift_is_without b x s e top) h

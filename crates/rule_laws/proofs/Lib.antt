@@ -1,4 +1,4 @@
-pub mod Touches
+pub mod Climbing
 pub mod Leaves
 pub mod Lands
 pub mod Moves

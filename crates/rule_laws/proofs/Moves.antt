@@ -19,15 +19,16 @@ use Rattle.hive_model.specs.Throws.{Throw}
 use Rattle.hive_model.specs.Legal.{Walk}
 use Rattle.hive_model.specs.Games.{after}
 use Rattle.hive_model.proofs.ReachLaws.{step_moves}
-use Rattle.hive_model.proofs.PlaceLemmas.{is_other_place}
+use Rattle.hive_model.proofs.PlaceLemmas.{is_other_place, widened}
 use Rattle.hive_model.proofs.PlacementLaws.{play_or_hand, has_colour_from, from_has_colour}
 use Rattle.hive_model.proofs.GetLemmas.{get_within}
 use Rattle.hive_model.proofs.BoardLemmas.{stands_occupied, occupied_stands, spot_of_stands}
 use Rattle.hive_model.proofs.LiftLemmas.{height_there}
 use Rattle.rule_laws.specs.Soundness.{LegalMovesKeepSoundness}
-use Rattle.rule_laws.proofs.Touches.{Touched, Climbs, beside, moves_touch, ends_low}
+use Rattle.hive_model.proofs.TouchLaws.{Touched, beside, moves_touch}
+use Rattle.rule_laws.proofs.Climbing.{Climbs, ends_low}
 use Rattle.rule_laws.proofs.Leaves.{Leaves, leaves_hand, leaves_top, on_without}
-use Rattle.rule_laws.proofs.Lands.{wider, touched_within, put_within, left_within, stands_play, one_hive_touched, one_hive_first, landed}
+use Rattle.rule_laws.proofs.Lands.{touched_within, put_within, left_within, stands_play, one_hive_touched, one_hive_first, landed}
 
 -- the position after the move is sound, and its pieces are one place further out at most
 abbrev Keeps : Position → ℕ → Move → Type 0
@@ -59,7 +60,7 @@ lands p n x q sound w low leaves small of_type on climbs least =
     let out = left_within n p.board (without p.board x) x leaves w in
     let near = lands_within n (without p.board x) q out on in
     let board : n + 1 ≤ 9000 = omega (arith, low) in (
-      landed p x q sound leaves small (wider (n + 1) 9000 board q near) of_type (lands_one (without p.board x) x q leaves.one_hive on) climbs least,
+      landed p x q sound leaves small (widened (n + 1) 9000 board q near) of_type (lands_one (without p.board x) x q leaves.one_hive on) climbs least,
       put_within n (without p.board x) x q out near,
     )
 
@@ -76,7 +77,7 @@ passes p n sound w = (
     least = sound.least;
     resting = λ x e. let wrong : ◌≡◌ {A = Option ℕ} None (Some x) = e in absurd (cc);
   },
-  λ q h. let more : n ≤ n + 1 = omega arith in wider n (n + 1) more q (w q h),
+  λ q h. let more : n ≤ n + 1 = omega arith in widened n (n + 1) more q (w q h),
 )
 
 -- A placement
