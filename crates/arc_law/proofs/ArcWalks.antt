@@ -6,27 +6,14 @@ use Rattle.hive_model.specs.declared.places.Dir.{Dir}
 use Rattle.hive_model.specs.declared.places.Dir.TheVariants.{E, NE, NW, W, SW, SE}
 use Rattle.hive_model.specs.Lists.{IsPath}
 use Rattle.hive_model.specs.Places.{step, dir_after, dir_before, AreNeighbours}
-use Rattle.hive_model.proofs.LegalLaws.{opposite, back}
-use Rattle.hive_model.proofs.RuleLaws.{over_last}
+use Rattle.hive_model.proofs.LegalLaws.{neighbour_back}
+use Rattle.hive_model.proofs.RuleLaws.{over_last, before_after}
 use Rattle.hive_model.specs.Hive.{StepOn, WalkOn, OneHiveOn}
 use Rattle.arc_law.specs.Arcs.{OneArc}
 
--- Neighbours
-
-pub neighbour_back : (p q : Place) → AreNeighbours p q → AreNeighbours q p
-neighbour_back p q n = (opposite n.0, ap (λ z. step z (opposite n.0)) (sym n.1) ∙ back p n.0)
-
-last_next : (d : Dir) → dir_before (dir_after d) ≡ d
-last_next E = refl
-last_next NE = refl
-last_next NW = refl
-last_next W = refl
-last_next SW = refl
-last_next SE = refl
-
 -- the neighbours in two directions that follow one another are neighbours
 along_next : (p : Place) (d : Dir) → AreNeighbours (step p d) (step p (dir_after d))
-along_next p d = (dir_after (dir_after d), ap (λ e. step (step p e) (dir_after (dir_after d))) (sym (last_next d)) ∙ over_last p (dir_after d))
+along_next p d = (dir_after (dir_after d), ap (λ e. step (step p e) (dir_after (dir_after d))) (sym (before_after d)) ∙ over_last p (dir_after d))
 
 -- what is true of one direction, and of the next one of each, is true of all
 around : (P : Dir → Type 0) → ((d : Dir) → P d → P (dir_after d)) → (e : Dir) → P e → (d : Dir) → P d
@@ -77,7 +64,7 @@ module _ (o : Place → Bool) (p : Place) (arc : OneArc o p) where
       next d h on = elim (o (step p d)) as (λ t. o (step p d) ≡ t → Joined o (step p arc.first) (step p (dir_after d))) [
         | true ↦ λ e. joined_then o _ (step p d) _ (h e) (joined_step o _ _ (along_next p d, on))
         | false ↦ λ e.
-            let empty : o (step p (dir_before (dir_after d))) ≡ false = ap (λ f. o (step p f)) (last_next d) ∙ e in
+            let empty : o (step p (dir_before (dir_after d))) ≡ false = ap (λ f. o (step p f)) (before_after d) ∙ e in
             let same = arc.only (dir_after d) on empty in
             ([], ap (step p) (sym same))
       ] refl

@@ -1,5 +1,5 @@
 -- What an ant finds is closed under steps, and so it is all that it reaches.
-use Rattle.std.proofs.Common.{◌≡◌, ◌≢◌, ℕ, suc, zero, ◌+◌, ◌≤◌, ◌<◌, List, [], ◌∷◌, ◌++◌, length, ◌⊎◌, inl, inr, refl, sym, ◌∙◌, ap, subst, arith, length-append}
+use Rattle.std.proofs.Common.{◌≡◌, ◌≢◌, ℕ, suc, ◌+◌, ◌≤◌, ◌<◌, List, [], ◌∷◌, ◌++◌, length, ◌⊎◌, inl, inr, refl, sym, ◌∙◌, ap, subst, arith, length-append}
 use Rattle.std.specs.Prelude.{Some, slice_get}
 use Rattle.std.proofs.lemmas.Bool.{cases_eq}
 use Rattle.std.specs.declared.cmp.Ordering.TheVariants.{Less, Equal, Greater}
@@ -12,7 +12,7 @@ use Rattle.hive_model.specs.Steps.{GroundStep}
 use Rattle.hive_model.proofs.PlaceLemmas.{exact_places, cases_place}
 use Rattle.hive_model.proofs.Floods.{on_append, append_left, append_right}
 use Rattle.hive_model.proofs.NearLaws.{with_place_on, on_with_place}
-use Rattle.hive_model.proofs.GetLemmas.{get_within, get_exists, get_in_front}
+use Rattle.hive_model.proofs.GetLemmas.{get_within, get_exists, get_in_front, on-at}
 use Rattle.bug_moves.specs.Adding.{Gains}
 use Rattle.bug_moves.proofs.AtHive.{at_hive_within}
 use Rattle.bug_moves.specs.Walks.{StepAway, AntWay, IsWorklist, Begins, IsExpanded}
@@ -65,14 +65,9 @@ way_further b s p q (_, (way, path)) (apart, g) = (apart, (way ++ q ∷ [], path
 pub some_same : (x y : Place) → Some x ≡ Some y → x ≡ y
 some_same x y e = cc
 
-pub got_on : (xs : List Place) (k : ℕ) (x : Place) → slice_get xs k ≡ Some x → IsOn xs x
-got_on [] k x e = absurd (cc)
-got_on (y ∷ ys) zero x e = inl (some_same y x e)
-got_on (y ∷ ys) (suc k) x e = inr (got_on ys k x e)
-
 -- what is to be expanded may be stepped from
 pub listed_within : (b : Stacks) (s place : Place) (found work : List Place) (n : ℕ) → IsWorklist found work → IsExpanded b s found work n → slice_get work n ≡ Some place → IsWithin 9500 place
-listed_within b s place found work n list h at = at_hive_within b h.list.sound place (h.list.near place (list.from_found place (got_on work n place at)))
+listed_within b s place found work n list h at = at_hive_within b h.list.sound place (h.list.near place (list.from_found place (on-at work n place at)))
 
 pub expanded_first : (b : Stacks) (s : Place) (xs found work : List Place) → xs ≡ [] → Gains b (StepAway b s s) xs found → IsExpanded b s found work 0
 expanded_first b s xs found work none h = record {
@@ -90,7 +85,7 @@ expanded_next b s place found work found' work' n list h at gains begins = recor
   list = gains.list;
   ways = λ q on. elim (gains.only q on) [
     | inl old ↦ h.ways q old
-    | inr is ↦ way_further b s place q (h.ways place (list.from_found place (got_on work n place at))) is
+    | inr is ↦ way_further b s place q (h.ways place (list.from_found place (on-at work n place at))) is
   ];
   start = λ q is. gains.kept q (h.start q is);
   others = λ k low p q got is. elim (cases_eq k n) [

@@ -55,14 +55,15 @@ gains_no_step b S p d to xs h leads there = gains_nothing b (Toward S p d) xs h 
     let e : to ≡ q = leads ∙ same in
     subst (IsOn xs) e (there (subst (S p) (sym e) is)))
 
--- Each direction in turn
+-- One thing of a row after another
 
-pub gains_next : (b : Stacks) (P : Dir → Place → Type 0) (n : ℕ) (xs ys zs : List Place) → Gains b (InFirst n P) xs ys → Gains b (P (dir_at n)) ys zs → Gains b (InFirst (n + 1) P) xs zs
-gains_next b P n xs ys zs one two = record {
+pub gains_turn : (b : Stacks) (P : ℕ → Place → Type 0) (n : ℕ) (xs ys zs : List Place)
+    → Gains b (λ q. (k : ℕ) × (k < n) × P k q) xs ys → Gains b (P n) ys zs → Gains b (λ q. (k : ℕ) × (k < n + 1) × P k q) xs zs
+gains_turn b P n xs ys zs one two = record {
   list = two.list;
   kept = λ q on. two.kept q (one.kept q on);
   gained = λ q (k, low, is). elim (cases_eq k n) [
-    | inl same ↦ two.gained q (subst (λ (m : ℕ). P (dir_at m) q) same is)
+    | inl same ↦ two.gained q (subst (λ (m : ℕ). P m q) same is)
     | inr other ↦ let less : k < n = omega (arith, low, other) in two.kept q (one.gained q (k, less, is))
   ];
   only = λ q on. elim (two.only q on) [
@@ -73,6 +74,11 @@ gains_next b P n xs ys zs one two = record {
     | inr now ↦ let last : n < n + 1 = omega arith in inr (n, last, now)
   ];
 }
+
+-- Each direction in turn
+
+pub gains_next : (b : Stacks) (P : Dir → Place → Type 0) (n : ℕ) (xs ys zs : List Place) → Gains b (InFirst n P) xs ys → Gains b (P (dir_at n)) ys zs → Gains b (InFirst (n + 1) P) xs zs
+gains_next b P = gains_turn b (λ k. P (dir_at k))
 
 index_of : (d : Dir) → (k : ℕ) × (k < 6) × (dir_at k ≡ d)
 index_of E = let low : 0 < 6 = omega arith in (0, low, refl)

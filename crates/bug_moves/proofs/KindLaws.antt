@@ -10,7 +10,8 @@ use Rattle.hive_model.specs.Steps.{GroundStep}
 use Rattle.bug_moves.specs.Adding.{Gains}
 use Rattle.bug_moves.specs.Ways.{BeetleStep, OverTwoAway}
 use Rattle.bug_moves.specs.Walks.{AntWay}
-use Rattle.bug_moves.proofs.AtHive.{ground_moves, climb_moves}
+use Rattle.hive_model.proofs.ReachLaws.{ground_moves}
+use Rattle.bug_moves.proofs.AtHive.{climb_moves}
 use Rattle.bug_moves.proofs.HopLaws.{hop_moves}
 use Rattle.bug_moves.proofs.Gaining.{gained_exactly}
 

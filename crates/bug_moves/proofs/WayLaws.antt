@@ -7,7 +7,7 @@ use Rattle.hive_model.specs.Boards.{Stacks}
 use Rattle.hive_model.specs.Steps.{GroundStep}
 use Rattle.hive_model.specs.Reach.{ThreeSteps}
 use Rattle.bug_moves.specs.Ways.{ThirdStep, SecondToward, SecondStep, FirstToward, OnTop, StepDown, AlongToward, StepAlong, UpToward, OverTwoAway}
-use Rattle.bug_moves.proofs.AtHive.{ground_moves}
+use Rattle.hive_model.proofs.ReachLaws.{ground_moves}
 
 pub three_from_first : (b : Stacks) (s : Place) (d : Dir) (q : Place) → FirstToward b s d q → ThreeSteps b s q
 three_from_first b s d q (one, (e, (two, back, (three, start, first)))) = record {

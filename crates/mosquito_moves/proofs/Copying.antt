@@ -1,103 +1,50 @@
 -- What a mosquito copies, kind by kind, is what it copies.
-use Rattle.std.proofs.Common.{◌≡◌, ◌≢◌, ℕ, suc, zero, ◌+◌, ◌≤◌, ◌<◌, true, false, List, [], ◌∷◌, length, ◌↔◌, inl, inr, refl, sym, ◌∙◌, ap, subst, arith}
-use Rattle.std.specs.Prelude.{Option, Some, None, IsTrue, slice_get}
-use Rattle.std.proofs.lemmas.Bool.{cases_eq}
+use Rattle.std.proofs.Common.{◌≡◌, ◌≢◌, ℕ, suc, zero, ◌+◌, ◌≤◌, ◌<◌, true, false, List, length, ◌↔◌, refl, sym, ◌∙◌, ap, subst, arith}
+use Rattle.std.specs.Prelude.{Option, Some, None, slice_get}
 use Rattle.hive_model.specs.declared.pieces.Kind.{Kind}
 use Rattle.hive_model.specs.declared.pieces.Kind.TheVariants.{Queen, Spider, Beetle, Grasshopper, Ant, Mosquito, Ladybug, Pillbug}
 use Rattle.hive_model.specs.declared.places.Place.{Place}
-use Rattle.hive_model.specs.Lists.{IsOn, IsPath}
+use Rattle.hive_model.specs.Lists.{IsOn}
 use Rattle.hive_model.specs.Pieces.{kind_of}
-use Rattle.hive_model.specs.Places.{step, steps, dirs}
-use Rattle.hive_model.specs.Boards.{Stacks, is_occupied, top_at}
+use Rattle.hive_model.specs.Places.{step, dirs}
+use Rattle.hive_model.specs.Boards.{Stacks, top_at}
 use Rattle.hive_model.specs.Near.{with_place}
-use Rattle.hive_model.specs.Reach.{Reach, ReachBy, CopiesOne}
-use Rattle.hive_model.specs.Steps.{GroundStep}
+use Rattle.hive_model.specs.Reach.{Reach, CopiesOne}
+use Rattle.hive_model.proofs.TouchLaws.{reach_touches}
+use Rattle.hive_model.proofs.GetLemmas.{on-at}
 use Rattle.hive_model.proofs.PieceLaws.{same_kind, from_same_kind}
 use Rattle.hive_model.proofs.RuleLaws.{any_has, has_any, dir_on}
 use Rattle.bug_moves.specs.Adding.{IsAtHive, Gains}
-use Rattle.bug_moves.proofs.AtHive.{ground_at_hive, climb_at_hive}
-use Rattle.bug_moves.proofs.AntLaws.{some_same, got_on, place_of}
-use Rattle.bug_moves.proofs.Gaining.{gains_place, gains_same}
+use Rattle.bug_moves.proofs.AtHive.{touched_at_hive}
+use Rattle.bug_moves.proofs.AntLaws.{some_same, place_of}
+use Rattle.bug_moves.proofs.Gaining.{gains_place, gains_same, gains_turn}
 use Rattle.mosquito_moves.specs.Copied.{shows, CopiesKind, kind_at, InKinds, AmongFirst}
 
 -- Each kind reaches places at the hive
 
-last_step : (b : Stacks) (p x : Place) (way : List Place) (q : Place) → GroundStep b p x → IsPath (GroundStep b) x way q → IsAtHive b q
-last_step b p x [] q g same = subst (IsAtHive b) same (ground_at_hive b p x g)
-last_step b p x (y ∷ way) q g path = last_step b x y way q path.0 path.1
-
-by_at_hive : (k : Kind) (b : Stacks) (p q : Place) → p ≢ q → ReachBy k b p q → IsAtHive b q
-by_at_hive Queen b p q apart h = ground_at_hive b p q h
-by_at_hive Pillbug b p q apart h = ground_at_hive b p q h
-by_at_hive Beetle b p q apart h = elim h [ inl ground ↦ ground_at_hive b p q ground | inr climb ↦ climb_at_hive b p q climb ]
-by_at_hive Grasshopper b p q apart h = over h.far h.far_enough h.leads h.over
-  where
-    over : (n : ℕ) → 2 ≤ n → steps n p h.dir ≡ q → ((k : ℕ) → 0 < k → k < n → IsTrue (is_occupied b (steps k p h.dir))) → IsAtHive b q
-    over zero two leads all = absurd (omega (arith, two))
-    over (suc n) two leads all =
-        let some : 0 < n = omega (arith, two) in
-        let low : n < suc n = omega arith in
-        (steps n p h.dir, all n some low, inr (h.dir, leads))
-by_at_hive Ant b p q apart (way, path) = along way path
-  where
-    along : (way : List Place) → IsPath (GroundStep b) p way q → IsAtHive b q
-    along [] same = absurd (apart same)
-    along (x ∷ way) path = last_step b p x way q path.0 path.1
-by_at_hive Spider b p q apart h = ground_at_hive b h.second q h.three
-by_at_hive Ladybug b p q apart h = climb_at_hive b h.second q h.down
-by_at_hive Mosquito b p q apart h = absurd h
-
 pub reach_at_hive : (k : Kind) (b : Stacks) (p q : Place) → Reach k b p q → IsAtHive b q
-reach_at_hive k b p q h = by_at_hive k b p q h.0 h.1
+reach_at_hive k b p q h = touched_at_hive b q (reach_touches k b p q h.0 h.1)
 
 -- One place of a list after another
 
 -- what the list has at the index is at the hive
 pub got_at_hive : (k : Kind) (b : Stacks) (p : Place) (ps : List Place) (n : ℕ) (q : Place) → ((x : Place) → IsOn ps x ↔ Reach k b p x) → slice_get ps n ≡ Some q → IsAtHive b q
-got_at_hive k b p ps n q is at = reach_at_hive k b p q ((is q).0 (got_on ps n q at))
+got_at_hive k b p ps n q is at = reach_at_hive k b p q ((is q).0 (on-at ps n q at))
 
 pub among_next : (b : Stacks) (ps : List Place) (n : ℕ) (p : Place) (xs ys zs : List Place) → Gains b (AmongFirst n ps) xs ys → slice_get ps n ≡ Some p → IsAtHive b p → zs ≡ with_place p ys → Gains b (AmongFirst (n + 1) ps) xs zs
 among_next b ps n p xs ys zs one at near made =
-    let two = gains_place b (λ q. p ≡ q) p ys zs one.list near made refl (λ q same. same) in
-    record {
-      list = two.list;
-      kept = λ q on. two.kept q (one.kept q on);
-      gained = λ q (k, low, is). elim (cases_eq k n) [
-        | inl same ↦ two.gained q (some_same p q (sym at ∙ ap (slice_get ps) (sym same) ∙ is))
-        | inr other ↦ let less : k < n = omega (arith, low, other) in two.kept q (one.gained q (k, less, is))
-      ];
-      only = λ q on. elim (two.only q on) [
-        | inl before ↦ elim (one.only q before) [
-          | inl old ↦ inl old
-          | inr found ↦ let low : found.0 < n = found.1 in let more : found.0 < n + 1 = omega (arith, low) in inr (found.0, more, found.2)
-        ]
-        | inr now ↦ let last : n < n + 1 = omega arith in inr (n, last, subst (λ x. slice_get ps n ≡ Some x) now at)
-      ];
-    }
+    gains_turn b (λ k q. slice_get ps k ≡ Some q) n xs ys zs one
+    (gains_place b (λ q. slice_get ps n ≡ Some q) p ys zs one.list near made at (λ q is. some_same p q (sym at ∙ is)))
 
 pub among_all : (k : Kind) (b : Stacks) (p : Place) (ps : List Place) (n : ℕ) (xs ys : List Place) → length ps ≤ n → ((q : Place) → IsOn ps q ↔ Reach k b p q) → Gains b (AmongFirst n ps) xs ys → Gains b (Reach k b p) xs ys
 among_all k b p ps n xs ys all is h = gains_same b (Reach k b p) (AmongFirst n ps) xs ys
     (λ q r. let (i, low, at) = place_of ps q ((is q).1 r) in let less : i < n = omega (arith, low, all) in (i, less, at))
-    (λ q (i, _, at). (is q).0 (got_on ps i q at)) h
+    (λ q (i, _, at). (is q).0 (on-at ps i q at)) h
 
 -- Each kind in turn
 
 pub kinds_next : (b : Stacks) (P : Kind → Place → Type 0) (n : ℕ) (xs ys zs : List Place) → Gains b (InKinds n P) xs ys → Gains b (P (kind_at n)) ys zs → Gains b (InKinds (n + 1) P) xs zs
-kinds_next b P n xs ys zs one two = record {
-  list = two.list;
-  kept = λ q on. two.kept q (one.kept q on);
-  gained = λ q (k, low, is). elim (cases_eq k n) [
-    | inl same ↦ two.gained q (subst (λ (m : ℕ). P (kind_at m) q) same is)
-    | inr other ↦ let less : k < n = omega (arith, low, other) in two.kept q (one.gained q (k, less, is))
-  ];
-  only = λ q on. elim (two.only q on) [
-    | inl before ↦ elim (one.only q before) [
-      | inl old ↦ inl old
-      | inr found ↦ let low : found.0 < n = found.1 in let more : found.0 < n + 1 = omega (arith, low) in inr (found.0, more, found.2)
-    ]
-    | inr now ↦ let last : n < n + 1 = omega arith in inr (n, last, now)
-  ];
-}
+kinds_next b P = gains_turn b (λ k. P (kind_at k))
 
 pub copied_at : (n : ℕ) → n < 7 → kind_at n ≢ Mosquito
 copied_at zero low e = cc

@@ -14,7 +14,7 @@ use Rattle.one_hive.specs.Walks.{Joined, AreMarked}
 use Rattle.one_hive.specs.Visits.{IsSet, Beside, Visited, Found}
 use Rattle.one_hive.proofs.Marking.{none_there}
 use Rattle.one_hive.proofs.Around.{wider_joined, on_right, linked_from, linked_more, around_linked}
-use Rattle.one_hive.proofs.Visiting.{joined_from, met_occupied, not_separating, joined_behind, separates}
+use Rattle.one_hive.proofs.Visiting.{visited_nothing, joined_from, met_occupied, not_separating, joined_behind, separates}
 
 pub one_on : (x y : Dir) → IsOn (x ∷ []) y → x ≡ y
 one_on x y on = elim on [ inl same ↦ same | inr none ↦ absurd none ]
@@ -25,42 +25,16 @@ same_some x y e = cc
 -- no new place: there is none, or it was met before
 module _ (b : Stacks) (v : Place) (d : Dir) (old : List Place) (ms : List Bool) (cut : Bool) (off : cut ≡ false) where
   pub visited_none : None ≡ top_at b (step v d) → ((x : ℕ) → IsSet ms x → ⊥) → Visited b v (d ∷ []) old old ms cut
-  visited_none empty none = record {
-    added = [];
-    extends = nothing old;
-    fresh = λ p on. absurd on;
-    joined = λ p on. absurd on;
-    has = λ e on there. absurd (none_there (stack_at b (step v e)) there (ap (λ z. top_at b (step v z)) (sym (one_on d e on)) ∙ sym empty));
-    closed = λ p on. absurd on;
-    marked = λ x is. absurd (none x is);
-    marks_here = λ e on x top. let wrong : None ≡ Some x = empty ∙ ap (λ z. top_at b (step v z)) (one_on d e on) ∙ top in absurd (cc);
-    marks_added = λ p on. absurd on;
-    cuts = λ is. let wrong : false ≡ true = sym off ∙ is in absurd (cc);
-    stays = λ _ p on apart. (p, on, apart, ([], refl));
-  }
-    where
-      nothing : (xs : List Place) → xs ≡ xs ++ []
-      nothing [] = refl
-      nothing (x ∷ xs) = ap (λ ys. x ∷ ys) (nothing xs)
+  visited_none empty none = visited_nothing b v (d ∷ []) old ms cut
+      (λ e on there. absurd (none_there (stack_at b (step v e)) there (ap (λ z. top_at b (step v z)) (sym (one_on d e on)) ∙ sym empty)))
+      (λ x is. absurd (none x is))
+      (λ e on x top. let wrong : None ≡ Some x = empty ∙ ap (λ z. top_at b (step v z)) (one_on d e on) ∙ top in absurd (cc)) off
 
   pub visited_known : (c : Place) (x : ℕ) → c ≡ step v d → Some x ≡ top_at b c → IsOn old c → ((y : ℕ) → IsSet ms y ↔ (y ≡ x)) → Visited b v (d ∷ []) old old ms cut
-  visited_known c x at top here marks = record {
-    added = [];
-    extends = nothing old;
-    fresh = λ p on. absurd on;
-    joined = λ p on. absurd on;
-    has = λ e on there. subst (IsOn old) (at ∙ ap (step v) (one_on d e on)) here;
-    closed = λ p on. absurd on;
-    marked = λ y is. inl (d, inl refl, ap (top_at b) (sym at) ∙ sym top ∙ ap (λ (z : ℕ). Some z) (sym ((marks y).0 is)));
-    marks_here = λ e on y has. (marks y).1 (same_some y x (sym has ∙ ap (λ z. top_at b (step v z)) (sym (one_on d e on)) ∙ ap (top_at b) (sym at) ∙ sym top));
-    marks_added = λ p on. absurd on;
-    cuts = λ is. let wrong : false ≡ true = sym off ∙ is in absurd (cc);
-    stays = λ _ p on apart. (p, on, apart, ([], refl));
-  }
-    where
-      nothing : (xs : List Place) → xs ≡ xs ++ []
-      nothing [] = refl
-      nothing (x ∷ xs) = ap (λ ys. x ∷ ys) (nothing xs)
+  visited_known c x at top here marks = visited_nothing b v (d ∷ []) old ms cut
+      (λ e on there. subst (IsOn old) (at ∙ ap (step v) (one_on d e on)) here)
+      (λ y is. (d, inl refl, ap (top_at b) (sym at) ∙ sym top ∙ ap (λ (z : ℕ). Some z) (sym ((marks y).0 is))))
+      (λ e on y has. (marks y).1 (same_some y x (sym has ∙ ap (λ z. top_at b (step v z)) (sym (one_on d e on)) ∙ ap (top_at b) (sym at) ∙ sym top))) off
 
 -- a new place
 module _ (b : Stacks) (is : IsBoard b) (v : Place) (top : ℕ) (stands : top_at b v ≡ Some top) (old : List Place) (tops : List Bool) (are : AreMarked b old tops) (here : IsOn old v)

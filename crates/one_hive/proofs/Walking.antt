@@ -5,11 +5,11 @@ use Rattle.std.proofs.lemmas.List.{take-append-le}
 use Rattle.hive_model.specs.declared.places.Place.{Place}
 use Rattle.hive_model.specs.declared.places.Dir.{Dir}
 use Rattle.hive_model.specs.Lists.{IsOn, IsPath}
-use Rattle.hive_model.specs.Places.{step, dirs, AreNeighbours}
+use Rattle.hive_model.specs.Places.{step, dirs}
 use Rattle.hive_model.specs.Hive.{StepOn, OneHiveOn}
 use Rattle.hive_model.proofs.Floods.{on_append, append_left, append_right}
 use Rattle.hive_model.proofs.RuleLaws.{dir_on}
-use Rattle.hive_model.proofs.LegalLaws.{opposite, back}
+use Rattle.hive_model.proofs.LegalLaws.{neighbour_back}
 use Rattle.one_hive.specs.Walks.{Joined, Meets, Spreads}
 
 path_append : {X : Type 0} (S : X → X → Type 0) (a : X) (ps : List X) (b : X) (qs : List X) (c : X) → IsPath S a ps b → IsPath S b qs c → IsPath S a (ps ++ qs) c
@@ -21,9 +21,6 @@ joined_then o a b c x y = (x.0 ++ y.0, path_append (StepOn o) a x.0 b y.0 c x.1 
 
 pub joined_step : (o : Place → Bool) (a b : Place) → StepOn o a b → Joined o a b
 joined_step o a b s = (b ∷ [], (s, refl))
-
-pub neighbour_back : (a b : Place) → AreNeighbours a b → AreNeighbours b a
-neighbour_back a b h = (opposite h.0, subst (λ z. step z (opposite h.0) ≡ a) h.1 (back a h.0))
 
 -- the way back, from a place of the set
 joined_back : (o : Place → Bool) (a : Place) (ps : List Place) (b : Place) → IsTrue (o a) → IsPath (StepOn o) a ps b → Joined o b a

@@ -1,5 +1,5 @@
 -- What a throw is made of.
-use Rattle.std.proofs.Common.{◌≡◌, ℕ, suc, zero, ◌+◌, ◌≤◌, ◌<◌, Bool, true, not, ◌&&◌, List, [], ◌∷◌, length, take, ◌⊎◌, inl, inr, refl, sym, ◌∙◌, ap, subst, arith, get_or}
+use Rattle.std.proofs.Common.{◌≡◌, ℕ, suc, zero, ◌+◌, ◌≤◌, ◌<◌, Bool, true, not, ◌&&◌, List, [], ◌∷◌, length, take, inl, inr, refl, sym, ◌∙◌, ap, subst, arith, get_or}
 use Rattle.std.specs.Prelude.{Option, Some, IsTrue, nat_eq, ◌↔◌}
 use Rattle.std.specs.declared.cmp.Ordering.TheVariants.{Less, Equal, Greater}
 use Rattle.std.proofs.lemmas.Bool.{eqb-true, eq-eqb, and_parts, and_from, not-true, not_from_false}
@@ -8,7 +8,7 @@ use Rattle.hive_model.specs.declared.places.Dir.{Dir}
 use Rattle.hive_model.specs.declared.places.Dir.TheVariants.{E}
 use Rattle.hive_model.specs.declared.places.Spot.{Spot}
 use Rattle.hive_model.specs.Lists.{IsOn, Rises}
-use Rattle.hive_model.specs.Places.{place_cmp, is_place, step, dirs, AreNeighbours}
+use Rattle.hive_model.specs.Places.{place_cmp, is_place, step, dirs}
 use Rattle.hive_model.specs.Boards.{Stacks, stack_at, height_at, is_occupied, spot_of, is_on_top, is_top_spot, lift}
 use Rattle.hive_model.specs.Hive.{IsCut, are_neighbours}
 use Rattle.hive_model.specs.Near.{placed_by, with_place}
@@ -18,9 +18,9 @@ use Rattle.hive_model.proofs.PlaceLemmas.{false_place, is_other_place}
 use Rattle.hive_model.proofs.PieceLaws.{awake_from, from_awake}
 use Rattle.hive_model.proofs.RuleLaws.{dir_on, neighbours_from, from_neighbours}
 use Rattle.hive_model.proofs.NearLaws.{on_with_place, with_place_on, rises_with}
-use Rattle.hive_model.proofs.LegalLaws.{opposite, back}
 use Rattle.hive_model.proofs.GetLemmas.{get_within}
 use Rattle.hive_model.proofs.BoardLemmas.{stands_occupied, spot_of_stands}
+use Rattle.one_hive.proofs.Walking.{on_take_next}
 use Rattle.pillbug_throws.specs.Throwing.{IsLoose, ComesDown, ThrowsTo}
 
 -- Where a piece stands
@@ -34,9 +34,6 @@ alone_on_top b x a h one =
     let w = get_within (stack_at b a.place) a.level x (spot_of_stands b x a h) in
     let same : a.level + 1 ≡ height_at b a.place = omega (arith, w, one) in
     ap (is_top_spot b) h ∙ eq-eqb (a.level + 1) (height_at b a.place) same
-
-pub neighbour_back : (a b : Place) → AreNeighbours a b → AreNeighbours b a
-neighbour_back a b h = (opposite h.0, subst (λ z. step z (opposite h.0) ≡ a) h.1 (back a h.0))
 
 -- The tests
 
@@ -72,21 +69,6 @@ longer_by_one p (q ∷ qs) = elim (place_cmp p q) as (λ o. length (placed_by o 
   | Equal ↦ omega arith
   | Greater ↦ omega (arith, longer_by_one p qs)
 ]
-
-on_take_more : {X : Type 0} (xs : List X) (i : ℕ) (d x : X) → i < length xs → IsOn (take (suc i) xs) x → IsOn (take i xs) x ⊎ (x ≡ get_or xs i d)
-on_take_more [] i d x low on = absurd (omega (arith, low))
-on_take_more (y ∷ ys) zero d x low on = elim on [ inl same ↦ inr (sym same) | inr later ↦ absurd (none ys later) ]
-  where
-    none : (zs : List _) → IsOn (take 0 zs) x → ⊥
-    none [] h = h
-    none (z ∷ zs) h = h
-on_take_more (y ∷ ys) (suc i) d x low on = let less : i < length ys = omega (arith, low) in elim on [
-  | inl same ↦ inl (inl same)
-  | inr later ↦ elim (on_take_more ys i d x less later) [ inl old ↦ inl (inr old) | inr new ↦ inr new ]
-]
-
-on_take_next : {X : Type 0} (xs : List X) (i : ℕ) (d x : X) → i < length xs → IsOn (take (i + 1) xs) x → IsOn (take i xs) x ⊎ (x ≡ get_or xs i d)
-on_take_next xs i d x low on = let e : i + 1 ≡ suc i = omega arith in on_take_more xs i d x low (subst (λ n. IsOn (take n xs) x) e on)
 
 -- in order, and of the neighbours in the first n directions those on which the piece may come down
 pub record AreDown (P : Place → Type 0) (t : Place) (n : ℕ) (ps : List Place) : Type 0 where

@@ -4,7 +4,8 @@ use Rattle.hive_model.specs.Steps.{FreeStep}
 use Rattle.hive_model.proofs.PlaceLemmas.{wider_on_board}
 use Rattle.hive_model.proofs.BoardLemmas.{spot_within}
 use Rattle.pillbug_throws.specs.Throwing.{ComesDown, ThrowsTo}
-use Rattle.pillbug_throws.proofs.ThrowParts.{spot_occupied, alone_on_top, neighbour_back, nothing, throw_loose, throw_down, throw_made}
+use Rattle.hive_model.proofs.LegalLaws.{neighbour_back}
+use Rattle.pillbug_throws.proofs.ThrowParts.{spot_occupied, alone_on_top, nothing, throw_loose, throw_down, throw_made}
 use Rattle.pillbug_throws.proofs.landing.throws.Goals as goal
 
 pub is_loose-requires-clause-occupied : goal.is_loose-requires-clause-occupied
