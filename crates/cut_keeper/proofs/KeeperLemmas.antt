@@ -1,6 +1,6 @@
 -- What stands for a board, and what a piece more or less leaves as it was.
-use Rattle.std.proofs.Common.{◌≡◌, ◌≢◌, ◌↔◌, ℕ, suc, zero, ◌+◌, ◌≤◌, ◌<◌, Bool, true, false, cond, not, ◌&&◌, List, [], ◌∷◌, length, map, ◌⊎◌, inl, inr, refl, sym, ◌∙◌, ap, subst, arith, ℤ, pos, ◌+ℤ◌}
-use Rattle.std.specs.Prelude.{Option, Some, None, slice_get, is_some, unwrap_or, IsTrue, nat_eq, nat_lt}
+use Rattle.std.proofs.Common.{◌≡◌, ◌≢◌, ◌↔◌, ℕ, ◌+◌, ◌≤◌, ◌<◌, Bool, true, false, cond, not, ◌&&◌, List, [], ◌∷◌, length, map, ◌⊎◌, inl, inr, refl, sym, ◌∙◌, ap, subst, arith, ℤ, pos, ◌+ℤ◌}
+use Rattle.std.specs.Prelude.{Option, Some, None, is_some, unwrap_or, IsTrue, nat_eq, nat_lt}
 use Rattle.std.specs.FinMap.Entries.{find, is_sorted, below_all}
 use Rattle.std.specs.Ordering.{is_lt}
 use Rattle.std.proofs.lemmas.Bool.{eqb-true, eqb-false, eq-eqb, lt-ltb, ltb-true, ltb-false, and_parts, and_from}
@@ -11,10 +11,11 @@ use Rattle.hive_model.specs.declared.places.Dir.{Dir}
 use Rattle.hive_model.specs.declared.places.Dir.TheVariants.{E, NE, NW, W, SW, SE}
 use Rattle.hive_model.specs.Lists.{IsOn, count_from}
 use Rattle.hive_model.specs.Places.{place_cmp, is_place, step, dirs, east, south, origin}
-use Rattle.hive_model.specs.Boards.{Stacks, stack_found, stack_at, height_at, is_occupied, spot_of, StandsAt, IsBoard}
+use Rattle.hive_model.specs.Boards.{Stacks, stack_found, height_at, is_occupied, spot_of, StandsAt, IsBoard}
 use Rattle.hive_model.specs.Hive.{OneHiveOn, IsSeparating, IsCut, except, are_neighbours, is_separating}
+use Rattle.hive_model.proofs.PieceLaws.{count_on}
 use Rattle.hive_model.proofs.PlaceLemmas.{same_place, cases_place, false_place}
-use Rattle.hive_model.proofs.BoardLemmas.{stands_spot_of}
+use Rattle.hive_model.proofs.BoardLemmas.{stands_spot_of, occupied_stands}
 use Rattle.hive_model.proofs.RuleLaws.{on_map, neighbours_from, from_neighbours, dir_on}
 use Rattle.hive_model.proofs.WalkLaws.{separating_from, from_separating}
 use Rattle.arc_law.specs.Arcs.{OneArc}
@@ -24,7 +25,7 @@ use Rattle.cut_keeper.specs.declared.statuses.Status.{Status}
 use Rattle.cut_keeper.specs.Rings.{ring, ring_mask, is_suspect}
 use Rattle.cut_keeper.specs.Keeping.{Standings, status_on, with_status, status_of, keeper_of, is_cut_status, KeepsCuts, InOrder, Grown}
 use Rattle.cut_keeper.specs.Slots.{AtMost, Few}
-use Rattle.cut_keeper.specs.Examining.{look, Room, Known, Right, Pending, suspects}
+use Rattle.cut_keeper.specs.Examining.{look, Room, Known, Right, RightButHeight, Pending, suspects}
 use Rattle.cut_keeper.proofs.StoreLemmas.{none_some, one_some, same_standings, status_on-with}
 use Rattle.cut_keeper.proofs.RingLaws.{arc_from, from_arc, arcs_ring, few_suspects, arc_unsuspected}
 
@@ -68,31 +69,15 @@ ground_of : Option Spot → Place
 ground_of None = origin
 ground_of (Some s) = s.place
 
-pub bottom : (b : Stacks) (p : Place) → IsTrue (is_occupied b p) → (x : ℕ) × StandsAt b x p 0
-bottom b p h = at (stack_at b p) h
-  where
-    at : (xs : List ℕ) → nat_lt 0 (length xs) ≡ true → (x : ℕ) × (slice_get xs 0 ≡ Some x)
-    at [] h = let wrong : 0 < 0 = ltb-true 0 0 h in absurd (omega (arith, wrong))
-    at (x ∷ xs) h = (x, refl)
-
-on_count : (first n i : ℕ) → i < n → IsOn (count_from first n) (first + i)
-on_count first zero i h = absurd (omega (arith, h))
-on_count first (suc n) zero h = let same : first ≡ first + 0 = omega arith in inl same
-on_count first (suc n) (suc i) h =
-    let less : i < n = omega (arith, h) in
-    let same : first + 1 + i ≡ first + suc i = omega arith in
-    inr (subst (IsOn (count_from (first + 1) n)) same (on_count (first + 1) n i less))
-
 pub most_known : (n : ℕ) → 28 ≤ n → (k : Standings) (b : Stacks) → IsBoard b → Known k b → AtMost n k
 unfolding ground_of
 most_known n many k b is known = record {
   places = map (λ x. ground_of (spot_of b x)) (count_from 0 28);
   short = (let same : length (map (λ x. ground_of (spot_of b x)) (count_from 0 28)) ≡ 28 = refl in omega (arith, same, many));
   cover = λ p h.
-      let x = bottom b p (known p h) in
-      let on = on_count 0 28 x.0 (is.pieces p 0 x.0 x.1) in
-      let same : 0 + x.0 ≡ x.0 = omega arith in
-      let at = on_map (λ x. ground_of (spot_of b x)) (count_from 0 28) x.0 (subst (IsOn (count_from 0 28)) same on) in
+      let x = occupied_stands b p (known p h) in
+      let on = count_on 28 0 x.0 (omega arith) (is.pieces p 0 x.0 x.1) in
+      let at = on_map (λ x. ground_of (spot_of b x)) (count_from 0 28) x.0 on in
       subst (IsOn (map (λ x. ground_of (spot_of b x)) (count_from 0 28))) (ap ground_of (stands_spot_of b is x.0 p 0 x.1)) at;
 }
 
@@ -106,12 +91,15 @@ known_with k b p s known on q h = elim (is_place q p) as (λ t. is_place q p ≡
   | false ↦ λ _ j. known q j
 ] refl (ap is_some (sym (status_on-with k p (Some s) q)) ∙ h)
 
-pub right_known : (k : Standings) (b : Stacks) → ((p : Place) → Right k b p) → Known k b
-right_known k b right q h = at (is_occupied b q) (ap is_some (sym (right q)) ∙ h)
+known_at : (k : Standings) (b : Stacks) (q : Place) → Right k b q → is_some (status_on k q) ≡ true → IsTrue (is_occupied b q)
+known_at k b q right h = at (is_occupied b q) (ap is_some (sym right) ∙ h)
   where
     at : (t : Bool) → is_some (cond t (Some (status_of b q)) None) ≡ true → t ≡ true
     at true h = refl
     at false h = h
+
+pub right_known : (k : Standings) (b : Stacks) → ((p : Place) → Right k b p) → Known k b
+right_known k b right q = known_at k b q (right q)
 
 pub look_occupied : (b : Stacks) (p : Place) → IsTrue (is_occupied b p) → look b p ≡ Some (status_of b p)
 look_occupied b p h = ap (λ t. cond t (Some (status_of b p)) None) h
@@ -121,6 +109,23 @@ right_with k b p on q h = status_on-with k p (Some (status_of b p)) q ∙ elim (
   | true ↦ λ e. sym (look_occupied b p on) ∙ ap (look b) (sym (same_place q p e))
   | false ↦ λ e. elim h [ inl right ↦ right | inr same ↦ absurd (false_place q p e same) ]
 ] refl
+
+-- A place that lacks its height alone
+
+module _ (k : Standings) (b : Stacks) (p : Place) (but : RightButHeight k b p) where
+  pub but_height_known : Known k b
+  but_height_known q h = elim (cases_place q p) [ inl same ↦ ap (is_occupied b) same ∙ but.occupied | inr other ↦ known_at k b q (but.others q other) h ]
+
+  pub but_height_some : None ≡ status_on k p → ⊥
+  but_height_some h = none_some _ (h ∙ but.has)
+
+  pub but_height_on : (s : Status) → Some s ≡ status_on k p → record { height = height_at b p; separating = s.separating } ≡ status_of b p
+  but_height_on s h =
+      let part = ap (λ (t : Status). t.separating) (one_some _ _ (h ∙ but.has)) ∙ but.separating in
+      (λ i. record { height = height_at b p; separating = part i })
+
+  pub but_height_right : (q : Place) → Right (with_status k p (Some (status_of b p))) b q
+  but_height_right q = right_with k b p but.occupied q (elim (cases_place q p) [ inl same ↦ inr same | inr other ↦ inl (but.others q other) ])
 
 -- What a piece more leaves
 
@@ -267,7 +272,7 @@ spot_none b is x h p stands = none_some _ (h ∙ stands_spot_of b is x p 0 stand
 
 pub all_right : (k : Standings) (b : Stacks) → IsBoard b → Known k b → ((y : ℕ) (p : Place) → y < 28 → StandsAt b y p 0 → Right k b p) → (p : Place) → Right k b p
 all_right k b is known done p = elim (is_occupied b p) as (λ t. is_occupied b p ≡ t → Right k b p) [
-  | true ↦ λ e. let x = bottom b p e in done x.0 p (is.pieces p 0 x.0 x.1) x.1
+  | true ↦ λ e. let x = occupied_stands b p e in done x.0 p (is.pieces p 0 x.0 x.1) x.1
   | false ↦ λ e. nothing (status_on k p) (λ h. let wrong : false ≡ true = sym e ∙ known p h in cc) ∙ sym (ap (λ t. cond t (Some (status_of b p)) None) e)
 ] refl
   where
@@ -296,26 +301,19 @@ module _ (k : Standings) (c : Stacks) (p : Place) (is : IsBoard c) (grown : Grow
           ]
       at false e h = let wrong : false ≡ true = h in absurd (cc)
 
-  pub grown_on : (s : Status) → 1 < height_at c p → Some s ≡ status_on k p → record { height = height_at c p; separating = s.separating } ≡ status_of c p
-  grown_on s high h =
-      let one : 0 < height_at grown.before p = omega (arith, high, raised.here) in
-      let same = one_some _ _ (h ∙ was p ∙ look_occupied grown.before p (lt-ltb 0 _ one)) in
-      let part = ap (λ (t : Status). t.separating) same ∙ sym (separating_high grown.before c grown.sound is p raised high p) in
-      (λ i. record { height = height_at c p; separating = part i })
-
-  pub grown_some : 1 < height_at c p → None ≡ status_on k p → ⊥
-  grown_some high h =
-      let one : 0 < height_at grown.before p = omega (arith, high, raised.here) in
-      none_some _ (h ∙ was p ∙ look_occupied grown.before p (lt-ltb 0 _ one))
-
   pub grown_occupied : IsTrue (is_occupied c p)
   grown_occupied = let some : 0 < height_at c p = omega (arith, raised.here) in lt-ltb 0 _ some
 
-  pub right_high : 1 < height_at c p → (q : Place) → Right (with_status k p (Some (status_of c p))) c q
-  right_high high q = right_with k c p grown_occupied q (elim (cases_place q p) [
-    | inl same ↦ inr same
-    | inr other ↦ inl (was q ∙ sym (look_high grown.before c grown.sound is p raised high q other))
-  ])
+  pub grown_high : 1 < height_at c p → RightButHeight k c p
+  grown_high high =
+      let one : 0 < height_at grown.before p = omega (arith, high, raised.here) in
+      record {
+        occupied = grown_occupied;
+        status = status_of grown.before p;
+        has = was p ∙ look_occupied grown.before p (lt-ltb 0 _ one);
+        separating = sym (separating_high grown.before c grown.sound is p raised high p);
+        others = λ q other. was q ∙ sym (look_high grown.before c grown.sound is p raised high q other);
+      }
 
   pub pending_arc : height_at c p ≤ 1 → OneArc (is_occupied c) p → Pending (with_status k p (Some (status_of c p))) c p dirs
   pending_arc low arc q =

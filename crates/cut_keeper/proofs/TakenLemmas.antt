@@ -8,17 +8,16 @@ use Rattle.hive_model.specs.Lists.{IsOn}
 use Rattle.hive_model.specs.Places.{is_place, step, dirs}
 use Rattle.hive_model.specs.Boards.{Stacks, stack_at, height_at, is_occupied, spot_of, StandsAt, IsBoard}
 use Rattle.hive_model.proofs.GetLemmas.{get_within}
-use Rattle.hive_model.proofs.PlaceLemmas.{same_place, cases_place, false_place}
+use Rattle.hive_model.proofs.PlaceLemmas.{same_place, false_place}
 use Rattle.hive_model.proofs.BoardLemmas.{spot_of_stands, stands_put, stands_on_top}
 use Rattle.hive_model.proofs.RuleLaws.{dir_on}
 use Rattle.arc_law.specs.Arcs.{OneArc}
 use Rattle.arc_law.proofs.ArcBoards.{IsRaised, raised_put}
-use Rattle.cut_keeper.specs.declared.statuses.Status.{Status}
 use Rattle.cut_keeper.specs.Rings.{ring, is_suspect}
 use Rattle.cut_keeper.specs.Keeping.{Standings, status_on, with_status, status_of, Shrunk}
-use Rattle.cut_keeper.specs.Examining.{look, Known, Right, Pending}
-use Rattle.cut_keeper.proofs.StoreLemmas.{none_some, one_some, status_on-with}
-use Rattle.cut_keeper.proofs.KeeperLemmas.{status_on-keeper_of, look_occupied, right_with, step_apart, separating_high, look_high, ring_same, look_or_suspect}
+use Rattle.cut_keeper.specs.Examining.{look, Known, Right, RightButHeight, Pending}
+use Rattle.cut_keeper.proofs.StoreLemmas.{status_on-with}
+use Rattle.cut_keeper.proofs.KeeperLemmas.{status_on-keeper_of, look_occupied, step_apart, separating_high, look_high, ring_same, look_or_suspect}
 
 module _ (k : Standings) (c : Stacks) (p : Place) (is : IsBoard c) (shrunk : Shrunk k c p) where
   lowered : IsRaised c shrunk.before p
@@ -63,26 +62,16 @@ module _ (k : Standings) (c : Stacks) (p : Place) (is : IsBoard c) (shrunk : Shr
     | false ↦ λ e w. had_known q (false_place q p e) w
   ] refl (ap is_some (sym (status_on-with k p None q)) ∙ h)
 
-  pub high_known : 0 < height_at c p → Known k c
-  high_known high q h = elim (cases_place q p) [ inl same ↦ ap (is_occupied c) same ∙ lt-ltb 0 _ high | inr other ↦ had_known q other h ]
-
-  pub shrunk_on : (s : Status) → 0 < height_at c p → Some s ≡ status_on k p → record { height = height_at c p; separating = s.separating } ≡ status_of c p
-  shrunk_on s high h =
+  pub shrunk_high : 0 < height_at c p → RightButHeight k c p
+  shrunk_high high =
       let more : 1 < height_at shrunk.before p = omega (arith, high, lowered.here) in
-      let same = one_some _ _ (h ∙ had p ∙ before_on) in
-      let part = ap (λ (t : Status). t.separating) same ∙ separating_high c shrunk.before is shrunk.sound p lowered more p in
-      (λ i. record { height = height_at c p; separating = part i })
-
-  pub shrunk_some : None ≡ status_on k p → ⊥
-  shrunk_some h = none_some _ (h ∙ had p ∙ before_on)
-
-  pub right_lower : 0 < height_at c p → (q : Place) → Right (with_status k p (Some (status_of c p))) c q
-  right_lower high q =
-      let more : 1 < height_at shrunk.before p = omega (arith, high, lowered.here) in
-      right_with k c p (lt-ltb 0 _ high) q (elim (cases_place q p) [
-        | inl same ↦ inr same
-        | inr other ↦ inl (had q ∙ look_high c shrunk.before is shrunk.sound p lowered more q other)
-      ])
+      record {
+        occupied = lt-ltb 0 _ high;
+        status = status_of shrunk.before p;
+        has = had p ∙ before_on;
+        separating = separating_high c shrunk.before is shrunk.sound p lowered more p;
+        others = λ q other. had q ∙ look_high c shrunk.before is shrunk.sound p lowered more q other;
+      }
 
   pub pending_less : height_at c p ≡ 0 → OneArc (is_occupied c) p → Pending (with_status k p None) c p dirs
   pending_less empty arc q =

@@ -5,6 +5,7 @@ use Rattle.hive_model.specs.declared.places.Dir.{Dir}
 use Rattle.hive_model.specs.Lists.{IsOn}
 use Rattle.hive_model.specs.Places.{step}
 use Rattle.hive_model.specs.Boards.{Stacks, is_occupied, spot_of}
+use Rattle.hive_model.specs.Hive.{is_separating}
 use Rattle.arc_table.specs.Masks.{how_many}
 use Rattle.cut_keeper.specs.declared.statuses.Status.{Status}
 use Rattle.cut_keeper.specs.declared.statuses.Change.{Change}
@@ -17,6 +18,14 @@ look b p = if is_occupied b p then Some (status_of b p) else None
 
 abbrev pub Right : Standings → Stacks → Place → Type 0
 Right k b p = status_on k p ≡ look b p
+
+-- all places are right, but for the height of this occupied one
+pub record RightButHeight (k : Standings) (b : Stacks) (p : Place) : Type 0 where
+  pub occupied : IsTrue (is_occupied b p)
+  pub status : Status
+  pub has : status_on k p ≡ Some status
+  pub separating : status.separating ≡ is_separating b p
+  pub others : (q : Place) → q ≢ p → Right k b q
 
 -- what has a status is occupied
 abbrev pub Known : Standings → Stacks → Type 0

@@ -8,7 +8,7 @@ ghost use Rattle.hive_model.specs.Boards.{Stacks, StandsAt, IsBoard, is_occupied
 ghost use Rattle.cut_keeper.specs.Rings.{ring, ring_mask, later};
 ghost use Rattle.cut_keeper.specs.Keeping.{status_on, with_status, undone, changed, status_of};
 ghost use Rattle.cut_keeper.specs.Slots.{Few};
-ghost use Rattle.cut_keeper.specs.Examining.{Room, Known, Right, Pending, suspects, IsTold, Told};
+ghost use Rattle.cut_keeper.specs.Examining.{Room, Known, Right, RightButHeight, Pending, suspects, IsTold, Told};
 
 use crate::rings::is_suspect;
 use crate::statuses::{Change, Delta, Status, are_same};
@@ -36,6 +36,31 @@ pub(crate) fn change(keeper: &mut Store, place: Place, status: Option<Status>, d
     }
     delta.push(Change { place, before });
     keeper.set(place, status);
+}
+
+/// Gives an occupied place its height anew, and leaves whether it is separating as it was.
+pub(crate) fn set_height<B: Board>(keeper: &mut Store, board: &B, place: Place) -> Delta
+    requires sound { IsBoard (B.stacks board.now) }
+    requires right { RightButHeight keeper.old (B.stacks board.now) place }
+    ensures right { (p : Place) → Right keeper.new (B.stacks board.now) p }
+    ensures undone { undone result keeper.new ≡ keeper.old }
+    ensures told { IsTold keeper.new result }
+{
+    let height = board.height(place);
+    match keeper.status(place) {
+        Some(status) => {
+            let separating = status.separating;
+            let mut delta = Delta::new();
+            change(
+                keeper,
+                place,
+                Some(Status { height, separating }),
+                &mut delta,
+            );
+            delta
+        }
+        None => unreachable!(),
+    }
 }
 
 /// Makes the status of an occupied place right, by one walk.

@@ -10,40 +10,14 @@ ghost use Rattle.cut_keeper.specs.Keeping.{Shrunk, AreChanges, undone, keeper_of
 ghost use Rattle.cut_keeper.specs.Slots.{AtMost};
 ghost use Rattle.cut_keeper.specs.Examining.{Right, IsTold};
 
-use crate::examining::{beside, change, examine_all};
+use crate::examining::{beside, change, examine_all, set_height};
 use crate::rings::mask_of;
-use crate::statuses::{Delta, Status};
+use crate::statuses::Delta;
 use crate::store::Store;
 use arc_table::arcs;
 use hive_model::{Board, Piece, Place};
 use one_hive::Steps;
 use std::sync::ledger::Ledger;
-
-/// Where the place is occupied still, its height alone changes.
-fn removed_on<B: Board>(keeper: &mut Store, board: &B, place: Place) -> Delta
-    requires sound { IsBoard (B.stacks board.now) }
-    requires shrunk { Shrunk keeper.old (B.stacks board.now) place }
-    requires high { 0 < height_at (B.stacks board.now) place }
-    ensures right { (p : Place) → Right keeper.new (B.stacks board.now) p }
-    ensures undone { undone result keeper.new ≡ keeper.old }
-    ensures told { IsTold keeper.new result }
-{
-    let height = board.height(place);
-    match keeper.status(place) {
-        Some(status) => {
-            let separating = status.separating;
-            let mut delta = Delta::new();
-            change(
-                keeper,
-                place,
-                Some(Status { height, separating }),
-                &mut delta,
-            );
-            delta
-        }
-        None => unreachable!(),
-    }
-}
 
 /// Beside one arc the place loses its status, and some of its neighbours are examined.
 fn removed_beside<B: Board, L: Ledger>(
@@ -107,8 +81,9 @@ fn removed_by_case<B: Board, L: Ledger>(
     ensures few { OneArc (is_occupied (B.stacks board.now)) place → steps.new ≤ steps.old + 5 }
     ensures most { steps.new ≤ steps.old + 28 }
 {
+    // where the place is occupied still, its height alone changes
     if board.height(place) > 0 {
-        return removed_on(keeper, board, place);
+        return set_height(keeper, board, place);
     }
     let mask = mask_of(board, place);
     if arcs(mask) == 1 {
