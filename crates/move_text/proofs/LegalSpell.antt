@@ -1,25 +1,17 @@
 -- The written text of each legal move denotes it, and each legal move can be written.
-use Rattle.std.proofs.Common.{◌≡◌, ◌≢◌, ℕ, suc, zero, ◌+◌, ◌≤◌, ◌<◌, Bool, true, false, not, List, [], ◌∷◌, length, take, ◌⊎◌, inl, inr, refl, sym, ◌∙◌, ap, subst, arith}
-use Rattle.std.specs.Prelude.{ℤ, pos, negsuc, ◌+ℤ◌, Some, IsTrue, is_some, nat_lt}
-use Rattle.std.specs.List.{remove}
+use Rattle.std.proofs.Common.{◌≡◌, ℕ, ◌<◌, Bool, true, false, List, [], ◌∷◌, length, ◌⊎◌, inl, inr, refl, sym, ◌∙◌, ap, subst, arith}
+use Rattle.std.specs.Prelude.{Some, IsTrue, is_some, nat_lt}
 use Rattle.std.proofs.lemmas.Bool.{lt-ltb, ltb-true}
-use Rattle.std.proofs.lemmas.Int.{ints}
 use Rattle.hive_model.specs.declared.pieces.Colour.{Colour}
 use Rattle.hive_model.specs.declared.pieces.Colour.TheVariants.{White, Black}
-use Rattle.hive_model.specs.declared.pieces.Kind.{Kind}
-use Rattle.hive_model.specs.declared.pieces.Kind.TheVariants.{Queen, Spider, Beetle, Grasshopper, Ant, Mosquito, Ladybug, Pillbug}
 use Rattle.hive_model.specs.declared.places.Place.{Place}
 use Rattle.hive_model.specs.declared.places.Spot.{Spot}
-use Rattle.hive_model.specs.declared.places.Dir.{Dir}
-use Rattle.hive_model.specs.declared.places.Dir.TheVariants.{E, NE, NW, W, SW, SE}
 use Rattle.hive_model.specs.declared.places.Move.{Move}
 use Rattle.hive_model.specs.declared.places.Move.TheVariants.{Pass, To}
-use Rattle.hive_model.specs.Lists.{IsOn, IsPath}
+use Rattle.hive_model.specs.Lists.{IsOn}
 use Rattle.hive_model.specs.Pieces.{colour_of, kind_of, other_side, OfType}
-use Rattle.hive_model.specs.Places.{step, steps, origin, dir_after, dir_before}
-use Rattle.hive_model.specs.Boards.{Stacks, stack_at, set_stack, height_at, is_occupied, spot_of, lift, lift_from, without, without_at, is_in_play, IsBoard}
-use Rattle.hive_model.specs.Steps.{GroundStep}
-use Rattle.hive_model.specs.Reach.{Hop, ReachBy, MovesAs}
+use Rattle.hive_model.specs.Places.{step, origin}
+use Rattle.hive_model.specs.Boards.{Stacks, height_at, is_occupied, spot_of, lift, without, is_in_play, IsBoard}
 use Rattle.hive_model.specs.Positions.{Position, IsSound}
 use Rattle.hive_model.specs.Placement.{HasColour, MayPlace, Placement, has_colour}
 use Rattle.hive_model.specs.Throws.{Throw}

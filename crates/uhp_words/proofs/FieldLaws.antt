@@ -1,39 +1,20 @@
 -- Numbers and times are read exactly.
-use Rattle.std.proofs.Common.{◌≡◌, ℕ, ◌+◌, ◌*◌, ◌-◌, ◌/◌, ◌%◌, ◌^◌, ◌≤◌, ◌<◌, Bool, true, false, List, refl, sym, ◌∙◌, ap, subst, arith}
-use Rattle.std.specs.Prelude.{Option, Some, None, IfSome, ◌&&◌, nat_le, nat_lt, decimal, if◌then◌else◌}
-use Rattle.std.specs.Str.{bytes_eq}
-use Rattle.std.specs.Str.Parse.{digits_value}
-use Rattle.std.proofs.lemmas.Bool.{leb-true, le-leb, lt-ltb}
-use Rattle.std.proofs.lemmas.Slice.Eq.{bytes_eq-Decides}
-use Rattle.std.proofs.lemmas.Fmt.{decimal_is_IsNumeral}
+use Rattle.std.proofs.Common.{◌≡◌, ℕ, ◌+◌, ◌*◌, ◌-◌, ◌/◌, ◌%◌, ◌^◌, ◌≤◌, ◌<◌, true, List, refl, sym, ◌∙◌, ap, arith}
+use Rattle.std.specs.Prelude.{Option, Some, None, IfSome, ◌&&◌, nat_le, nat_lt, if◌then◌else◌}
+use Rattle.std.proofs.lemmas.Bool.{le-leb, lt-ltb}
 use Rattle.hive_model.specs.Fields.{IsNumberText, IsTimeText}
 use Rattle.move_text.specs.Readers.{two_digit_number, budget_of, time_at}
 use Rattle.move_text.proofs.FieldLaws.{time_found}
+use Rattle.move_text.proofs.NumberLaws.{number_within_found, number_within_again}
 use Rattle.uhp_words.specs.Numbers.{number_at}
 
 pub number_found : (text : List ℕ) (least most n : ℕ) → number_at text least most ≡ Some n → IsNumberText text least most n
 unfolding number_at
-number_found text least most n h = go (bytes_eq (decimal (digits_value 10 text)) text) (nat_le least (digits_value 10 text)) (nat_le (digits_value 10 text) most) refl refl refl h
-  where
-    go : (s t u : Bool) → bytes_eq (decimal (digits_value 10 text)) text ≡ s → nat_le least (digits_value 10 text) ≡ t → nat_le (digits_value 10 text) most ≡ u
-        → (if s && (t && u) then Some (digits_value 10 text) else None) ≡ Some n → IsNumberText text least most n
-    go true true true e f g k = let same : digits_value 10 text ≡ n = cc in
-        subst (IsNumberText text least most) same (record { digits = sym ((bytes_eq-Decides _ _).0 e); low = leb-true _ _ f; high = leb-true _ _ g })
-    go true true false e f g k = absurd (cc)
-    go true false u e f g k = absurd (cc)
-    go false t u e f g k = absurd (cc)
+number_found text least most n h = number_within_found text least most n h
 
 pub number_again : (text : List ℕ) (least most n : ℕ) → most < 2 ^ 64 → IsNumberText text least most n → number_at text least most ≡ Some n
 unfolding number_at
-number_again text least most n fits h =
-    let high = h.high in
-    let small : n < 2 ^ 64 = omega (arith, high, fits) in
-    let value : digits_value 10 text ≡ n = ap (digits_value 10) h.digits ∙ (decimal_is_IsNumeral n small).1 in
-    let same : bytes_eq (decimal n) text ≡ true = (bytes_eq-Decides _ _).1 (sym h.digits) in
-    ap (λ v. if bytes_eq (decimal v) text && (nat_le least v && nat_le v most) then Some v else None) value
-    ∙ ap (λ t. if t && (nat_le least n && nat_le n most) then Some n else None) same
-    ∙ ap (λ t. if t && nat_le n most then Some n else None) (le-leb least n h.low)
-    ∙ ap (λ t. if t then Some n else None) (le-leb n most h.high)
+number_again text least most n fits h = number_within_again text least most n fits h
 
 part_again : (most n : ℕ) → most ≤ 99 → n ≤ most → two_digit_number most (48 + n / 10) (48 + n % 10) ≡ Some n
 part_again most n small fits =
