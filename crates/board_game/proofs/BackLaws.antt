@@ -1,41 +1,15 @@
 -- A move that is made and taken back leaves the board as it was.
-use Rattle.std.proofs.Common.{◌≡◌, ℕ, suc, zero, ◌+◌, ◌<◌, true, false, cond, List, [], ◌∷◌, ◌++◌, length, take, inl, inr, refl, sym, ◌∙◌, ap, subst, arith}
-use Rattle.std.specs.Prelude.{Option, Some, None, slice_get}
+use Rattle.std.proofs.Common.{◌≡◌, ℕ, ◌+◌, ◌<◌, inl, inr, refl, sym, ◌∙◌, ap, subst}
+use Rattle.std.specs.Prelude.{Option, Some, None}
 use Rattle.hive_model.specs.declared.places.Spot.{Spot}
-use Rattle.hive_model.specs.Places.{is_place, IsWithin}
+use Rattle.hive_model.specs.Places.{IsWithin}
 use Rattle.hive_model.specs.declared.places.Place.{Place}
-use Rattle.hive_model.specs.Boards.{Stacks, stack_at, height_at, spot_of, put, lift, without, without_at, StandsAt, IsBoard}
-use Rattle.hive_model.proofs.PlaceLemmas.{same_place, is_place_itself}
-use Rattle.hive_model.proofs.BoardLemmas.{same_board, spot_of_stands, stack_at-put, stack_left, stands_spot_of}
+use Rattle.hive_model.specs.Boards.{Stacks, height_at, spot_of, put, lift, without, without_at, StandsAt, IsBoard}
+use Rattle.hive_model.proofs.BoardLemmas.{spot_of_stands, stands_spot_of}
 use Rattle.hive_model.proofs.LiftLemmas.{lift_is_board}
-use Rattle.hive_model.proofs.BackLaws.{lifted_gone}
-use Rattle.hive_model.proofs.KeepLaws.{board_put}
+use Rattle.hive_model.proofs.BackLaws.{lifted_gone, put_lift}
 use Rattle.rule_laws.proofs.Leaves.{on_without}
 use Rattle.board_game.specs.Replayed.{IsLoose}
-
-take_last : (xs : List ℕ) (i x : ℕ) → slice_get xs i ≡ Some x → suc i ≡ length xs → take i xs ++ x ∷ [] ≡ xs
-take_last [] i x h e = absurd (omega (arith, e))
-take_last (y ∷ []) zero x h e = let f : Some y ≡ Some x = h in let same : y ≡ x = cc in ap (λ (z : ℕ). z ∷ []) (sym same)
-take_last (y ∷ z ∷ ys) zero x h e = absurd (omega (arith, e))
-take_last (y ∷ ys) (suc i) x h e = ap (λ (zs : List ℕ). y ∷ zs) (take_last ys i x h (omega (arith, e)))
-
--- A piece on top that is lifted and put back
-
-module _ (b : Stacks) (is : IsBoard b) (x : ℕ) (p : Place) (level : ℕ) (stands : StandsAt b x p level) (top : height_at b p ≡ level + 1) where
-  put_lift : x < 28 → IsWithin 9000 p → put (lift b x) x p ≡ b
-  put_lift small inside =
-      let c = lift b x in
-      let lifted = lift_is_board b is x p level stands top in
-      let back = board_put c x p lifted small inside (lifted_gone b is x p level stands top) in
-      same_board (put c x p) b back.in_order is.in_order back.stacks is.stacks (λ r.
-      stack_at-put c x p r
-      ∙ elim (is_place r p) as (λ t. is_place r p ≡ t → cond t (stack_at c p ++ x ∷ []) (stack_at c r) ≡ stack_at b r) [
-        | true ↦ λ e.
-            let here : stack_at c p ≡ take level (stack_at b p) = stack_left b is x p level stands top p ∙ ap (λ t. cond t (take level (stack_at b p)) (stack_at b p)) (is_place_itself p) in
-            let last : suc level ≡ length (stack_at b p) = omega (arith, top) in
-            ap (λ (xs : List ℕ). xs ++ x ∷ []) here ∙ take_last (stack_at b p) level x stands last ∙ ap (stack_at b) (sym (same_place r p e))
-        | false ↦ λ e. stack_left b is x p level stands top r ∙ ap (λ t. cond t (take level (stack_at b p)) (stack_at b r)) e
-      ] refl)
 
 -- The board without a piece that is in hand or on top
 
