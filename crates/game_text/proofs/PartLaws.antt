@@ -3,6 +3,7 @@ use Rattle.std.proofs.Common.{◌≡◌, ◌≢◌, ℕ, suc, zero, ◌+◌, ◌
 use Rattle.std.specs.Prelude.{nat_eq, ◌&&◌, not, codes, decimal, if◌then◌else◌}
 use Rattle.std.specs.List.{list_all}
 use Rattle.std.proofs.lemmas.Bool.{ne_eqb}
+use Rattle.std.proofs.lemmas.List.{take_all}
 use Rattle.std.proofs.lemmas.Fmt.{decimal_by_steps}
 use Rattle.hive_model.specs.declared.pieces.Colour.{Colour}
 use Rattle.hive_model.specs.declared.pieces.Colour.TheVariants.{White, Black}
@@ -153,10 +154,4 @@ first_cut text i part back rest less none at p b r =
     ∙ ap (λ (x : List ℕ). part ∷ parts x) (sym (r ∙ ap (drop 1) b))
 
 pub whole_part : (text : List ℕ) (i : ℕ) → length text ≤ i → has_none (take i text) ≡ true → parts text ≡ text ∷ []
-whole_part text i all none = only_part text (subst (λ (x : List ℕ). has_none x ≡ true) (take_all text i all) none)
-  where
-    take_all : (text : List ℕ) (i : ℕ) → length text ≤ i → take i text ≡ text
-    take_all [] zero all = refl
-    take_all [] (suc i) all = refl
-    take_all (x ∷ xs) zero all = absurd (omega (arith, all))
-    take_all (x ∷ xs) (suc i) all = ap (λ (r : List ℕ). x ∷ r) (take_all xs i (omega (arith, all)))
+whole_part text i all none = only_part text (subst (λ (x : List ℕ). has_none x ≡ true) (take_all i text all) none)

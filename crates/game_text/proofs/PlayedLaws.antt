@@ -1,6 +1,7 @@
 -- The moves of a game, played one after the other.
-use Rattle.std.proofs.Common.{◌≡◌, ℕ, zero, suc, ◌+◌, ◌-◌, ◌≤◌, ◌<◌, List, [], ◌∷◌, ◌++◌, length, take, get_or, refl, sym, ◌∙◌, ap, subst, arith}
+use Rattle.std.proofs.Common.{◌≡◌, ℕ, ◌+◌, ◌-◌, ◌≤◌, ◌<◌, List, [], ◌∷◌, ◌++◌, length, take, refl, sym, ◌∙◌, ap, subst, arith}
 use Rattle.std.specs.Prelude.{Some, slice_get}
+use Rattle.std.proofs.lemmas.List.{take_all}
 use Rattle.hive_model.specs.declared.pieces.GameType.{GameType}
 use Rattle.hive_model.specs.declared.places.Move.{Move}
 use Rattle.hive_model.specs.Lists.{IsOn}
@@ -46,16 +47,4 @@ played_on t ms c d i m h at less moved =
     }
 
 pub played_all : (t : GameType) (ms : List Move) (c : Course) (i : ℕ) → IsPlayed t ms c i → length ms ≤ i → c.made ≡ ms
-played_all t ms c i h all = h.made ∙ whole ms i all
-  where
-    whole : (ms : List Move) (i : ℕ) → length ms ≤ i → take i ms ≡ ms
-    whole [] zero all = refl
-    whole [] (suc i) all = refl
-    whole (k ∷ ms) zero all = absurd (omega (arith, all))
-    whole (k ∷ ms) (suc i) all = ap (λ (r : List Move). k ∷ r) (whole ms i (omega (arith, all)))
-
--- the item that a loop over the moves hands out
-pub got : (ms : List Move) (i : ℕ) (m : Move) → i < length ms → m ≡ get_or ms i m → slice_get ms i ≡ Some m
-got [] i m less e = absurd (omega (arith, less))
-got (k ∷ ms) zero m less e = ap Some (sym e)
-got (k ∷ ms) (suc i) m less e = got ms i m (omega (arith, less)) e
+played_all t ms c i h all = h.made ∙ take_all i ms all

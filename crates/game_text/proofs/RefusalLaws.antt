@@ -24,12 +24,12 @@ use Rattle.game_text.specs.declared.parsed.Parsed.{Parsed}
 use Rattle.game_text.specs.declared.turns.Turn.{Turn}
 use Rattle.game_text.specs.Turns.{IsTurn, turn_at}
 use Rattle.game_text.specs.Reading.{may_follow, moves_from, Agrees, first_empty, is_state, is_turn_of, confirmed, at_moves, at_turn, after_state, at_state, after_type, at_type, game_at, game_under}
-use Rattle.game_text.specs.Refusals.{HasParts, AreNotEmpty, HasForm, IsMalformed, IsReadWhole, IsRefusedUnder}
+use Rattle.game_text.specs.Refusals.{HasParts, AreNotEmpty, HasForm, IsMalformed, IsReadUpTo, IsReadWhole, IsRefusedUnder}
 use Rattle.game_text.proofs.TurnLaws.{turn_found, turn_again}
 use Rattle.game_text.proofs.FieldReads.{first}
 use Rattle.game_text.proofs.OpenLaws.{seen_by, reached_all, third_ends, not_listed, over_stops, open_stands, stands_open}
 use Rattle.game_text.proofs.OrderLaws.{moves_found, moves_again, denoted_size}
-use Rattle.game_text.proofs.StopLaws.{Stops, moves_stop, bad_again, illegal_again}
+use Rattle.game_text.proofs.StopLaws.{Stops, StopsAt, moves_stop, bad_again, illegal_again}
 use Rattle.game_text.proofs.LineLaws.{no_parts, same_state, is_state_itself, same_turn, is_turn_itself, head_read, few_read}
 
 -- Empty texts
@@ -74,23 +74,28 @@ empty_again ((b ∷ bs) ∷ xs) behind n h =
 
 -- The fault that was read is one of the line
 
+-- the line is read up to where it stops
+read_to_stop : (r : Bool) (line : List ℕ) (t : GameType) (s : State) (u : Turn) (texts : List (List ℕ)) (k : ℕ) (text : List ℕ) (made : List Move) → HasForm line t s u texts → length texts ≤ 5000
+    → StopsAt r (keys t []) (opening t) texts 1 k text made → IsReadUpTo r line k t made text
+read_to_stop r line t s u texts k text made form few at = record {
+  declared = s;
+  turn = u;
+  front = at.front;
+  behind = at.behind;
+  form = subst (HasForm line t s u) at.split form;
+  few = subst (λ (z : List (List ℕ)). length z ≤ 5000) at.split few;
+  counted = at.counted;
+  denote = at.denote;
+  legal = at.legal;
+  stands = open_stands r t made at.legal at.yet;
+}
+
 stopped : (r : Bool) (line : List ℕ) (t : GameType) (s : State) (u : Turn) (texts : List (List ℕ)) (fault : GameFault) → HasForm line t s u texts → length texts ≤ 5000 → Stops r (keys t []) (opening t) texts 1 fault → IsRefusedUnder r line fault
 stopped r line t s u texts (BadMove k f) form few w = record {
   game_type = t;
   made = w.made;
   text = w.text;
-  read = record {
-    declared = s;
-    turn = u;
-    front = w.at.front;
-    behind = w.at.behind;
-    form = subst (HasForm line t s u) w.at.split form;
-    few = subst (λ (z : List (List ℕ)). length z ≤ 5000) w.at.split few;
-    counted = w.at.counted;
-    denote = w.at.denote;
-    legal = w.at.legal;
-    stands = open_stands r t w.made w.at.legal w.at.yet;
-  };
+  read = read_to_stop r line t s u texts k w.text w.made form few w.at;
   refuses = w.refuses;
 }
 stopped r line t s u texts (IllegalMove k) form few w = record {
@@ -98,18 +103,7 @@ stopped r line t s u texts (IllegalMove k) form few w = record {
   made = w.made;
   text = w.text;
   move = w.move;
-  read = record {
-    declared = s;
-    turn = u;
-    front = w.at.front;
-    behind = w.at.behind;
-    form = subst (HasForm line t s u) w.at.split form;
-    few = subst (λ (z : List (List ℕ)). length z ≤ 5000) w.at.split few;
-    counted = w.at.counted;
-    denote = w.at.denote;
-    legal = w.at.legal;
-    stands = open_stands r t w.made w.at.legal w.at.yet;
-  };
+  read = read_to_stop r line t s u texts k w.text w.made form few w.at;
   denotes = w.denotes;
   illegal = elim w.illegal [
     | inl none ↦ inl none

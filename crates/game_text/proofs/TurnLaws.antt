@@ -1,39 +1,14 @@
 -- Numbers and turns are read exactly.
-use Rattle.std.proofs.Common.{◌≡◌, ℕ, ◌^◌, ◌≤◌, ◌<◌, Bool, true, false, List, [], ◌∷◌, ◌++◌, refl, sym, ◌∙◌, ap, subst, arith, lit<}
-use Rattle.std.specs.Prelude.{Option, Some, None, IfSome, option_map, ◌&&◌, nat_eq, nat_le, codes, decimal, if◌then◌else◌}
-use Rattle.std.specs.Str.{bytes_eq}
-use Rattle.std.specs.Str.Parse.{digits_value}
-use Rattle.std.proofs.lemmas.Bool.{eqb-true, leb-true, le-leb, eq-eqb}
-use Rattle.std.proofs.lemmas.Slice.Eq.{bytes_eq-Decides}
-use Rattle.std.proofs.lemmas.Fmt.{decimal_is_IsNumeral}
+use Rattle.std.proofs.Common.{◌≡◌, ℕ, ◌≤◌, Bool, true, false, List, [], ◌∷◌, ◌++◌, refl, sym, ◌∙◌, ap, subst, lit<}
+use Rattle.std.specs.Prelude.{Option, Some, None, IfSome, option_map, nat_eq, codes, decimal, if◌then◌else◌}
+use Rattle.std.proofs.lemmas.Bool.{eqb-true, eq-eqb}
 use Rattle.hive_model.specs.declared.pieces.Colour.{Colour}
 use Rattle.hive_model.specs.declared.pieces.Colour.TheVariants.{White, Black}
 use Rattle.hive_model.specs.Fields.{IsNumberText}
 use Rattle.hive_model.specs.Strings.{turn_bytes, side_name}
+use Rattle.move_text.proofs.NumberLaws.{number_within_found, number_within_again}
 use Rattle.game_text.specs.declared.turns.Turn.{Turn}
 use Rattle.game_text.specs.Turns.{IsTurn, number_at, behind_word, before_close, turn_number, turn_digits, turn_of, or_turn, turn_at}
-
-pub number_found : (text : List ℕ) (least most n : ℕ) → number_at text least most ≡ Some n → IsNumberText text least most n
-number_found text least most n h = go (bytes_eq (decimal (digits_value 10 text)) text) (nat_le least (digits_value 10 text)) (nat_le (digits_value 10 text) most) refl refl refl h
-  where
-    go : (s t u : Bool) → bytes_eq (decimal (digits_value 10 text)) text ≡ s → nat_le least (digits_value 10 text) ≡ t → nat_le (digits_value 10 text) most ≡ u
-        → (if s && (t && u) then Some (digits_value 10 text) else None) ≡ Some n → IsNumberText text least most n
-    go true true true e f g k = let same : digits_value 10 text ≡ n = cc in
-        subst (IsNumberText text least most) same (record { digits = sym ((bytes_eq-Decides _ _).0 e); low = leb-true _ _ f; high = leb-true _ _ g })
-    go true true false e f g k = absurd (cc)
-    go true false u e f g k = absurd (cc)
-    go false t u e f g k = absurd (cc)
-
-pub number_again : (text : List ℕ) (least most n : ℕ) → most < 2 ^ 64 → IsNumberText text least most n → number_at text least most ≡ Some n
-number_again text least most n fits h =
-    let high = h.high in
-    let small : n < 2 ^ 64 = omega (arith, high, fits) in
-    let value : digits_value 10 text ≡ n = ap (digits_value 10) h.digits ∙ (decimal_is_IsNumeral n small).1 in
-    let same : bytes_eq (decimal n) text ≡ true = (bytes_eq-Decides _ _).1 (sym h.digits) in
-    ap (λ v. if bytes_eq (decimal v) text && (nat_le least v && nat_le v most) then Some v else None) value
-    ∙ ap (λ t. if t && (nat_le least n && nat_le n most) then Some n else None) same
-    ∙ ap (λ t. if t && nat_le n most then Some n else None) (le-leb least n h.low)
-    ∙ ap (λ t. if t then Some n else None) (le-leb n most h.high)
 
 behind_is : (p xs : List ℕ) → behind_word p (p ++ xs) ≡ Some xs
 behind_is [] xs = refl
@@ -73,7 +48,7 @@ of_found c text rest u split h = go (before_close rest) refl h
     number digits e None f k = absurd (cc)
     number digits e (Some n) f k =
         let same : ◌≡◌ {A = Turn} (record { side = c; number = n }) u = cc in
-        let is = number_found digits 1 999999999 n f in
+        let is = number_within_found digits 1 999999999 n f in
         subst (IsTurn text) same (record { text_is = split ∙ ap (λ (r : List ℕ). side_name c ++ r) (is_close rest digits e ∙ ap (λ (d : List ℕ). d ++ 93 ∷ []) is.digits); low = is.low; high = is.high })
 
     go : (o : Option (List ℕ)) → before_close rest ≡ o → turn_digits c o ≡ Some u → IsTurn text u
@@ -99,7 +74,7 @@ turn_found text u h = go (behind_word (codes "White[") text) (behind_word (codes
 of_again : (c : Colour) (n : ℕ) → 1 ≤ n → n ≤ 999999999 → turn_of c (Some (decimal n ++ 93 ∷ [])) ≡ Some (record { side = c; number = n })
 of_again c n low high =
     ap (turn_digits c) (close_is (decimal n))
-    ∙ ap (turn_number c) (number_again (decimal n) 1 999999999 n (lit< tt) (record { digits = refl; low = low; high = high }))
+    ∙ ap (turn_number c) (number_within_again (decimal n) 1 999999999 n (lit< tt) (record { digits = refl; low = low; high = high }))
 
 pub turn_again : (c : Colour) (n : ℕ) → 1 ≤ n → n ≤ 999999999 → turn_at (turn_bytes c n) ≡ Some (record { side = c; number = n })
 unfolding turn_at
@@ -117,7 +92,7 @@ side_turn : (text : List ℕ) (c : Colour) (o : Option ℕ) → Answers text c o
 side_turn text c (Some n) a =
     let f = a.found in
     ap (turn_of c) (ap (behind_word (side_name c)) f.1 ∙ behind_is (side_name c) (f.0 ++ 93 ∷ []))
-    ∙ ap (turn_digits c) (close_is f.0) ∙ ap (turn_number c) (number_again f.0 1 999999999 n (lit< tt) f.2)
+    ∙ ap (turn_digits c) (close_is f.0) ∙ ap (turn_number c) (number_within_again f.0 1 999999999 n (lit< tt) f.2)
 side_turn text c None a = go (behind_word (side_name c) text) refl
   where
     none : (n : ℕ) (digits : List ℕ) → text ≡ side_name c ++ (digits ++ 93 ∷ []) → IsNumberText digits 1 999999999 n → ⊥
@@ -125,7 +100,7 @@ side_turn text c None a = go (behind_word (side_name c) text) refl
 
     number : (digits : List ℕ) → text ≡ side_name c ++ (digits ++ 93 ∷ []) → (o : Option ℕ) → number_at digits 1 999999999 ≡ o → turn_number c o ≡ None
     number digits e None f = refl
-    number digits e (Some n) f = absurd (none n digits e (number_found digits 1 999999999 n f))
+    number digits e (Some n) f = absurd (none n digits e (number_within_found digits 1 999999999 n f))
 
     closed : (rest : List ℕ) → text ≡ side_name c ++ rest → (o : Option (List ℕ)) → before_close rest ≡ o → turn_digits c o ≡ None
     closed rest e None f = refl

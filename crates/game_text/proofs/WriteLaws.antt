@@ -1,6 +1,8 @@
 -- The moves of a game, played again and written one after the other.
 use Rattle.std.proofs.Common.{◌≡◌, ℕ, zero, suc, ◌+◌, ◌≤◌, ◌<◌, List, [], ◌∷◌, ◌++◌, length, take, drop, refl, sym, ◌∙◌, ap, subst, arith, append_assoc}
 use Rattle.std.specs.Prelude.{Some, slice_get, map}
+use Rattle.std.proofs.lemmas.List.{take_more, drop_all}
+use Rattle.std.proofs.lemmas.Option.{get_or_from_slice_get}
 use Rattle.hive_model.specs.declared.places.Move.{Move}
 use Rattle.hive_model.specs.Lists.{IsOn}
 use Rattle.hive_model.specs.Positions.{Position, IsSound, opening}
@@ -9,6 +11,7 @@ use Rattle.hive_model.specs.Games.{after, replay, AreLegal, IsGame}
 use Rattle.hive_model.specs.Denotes.{text}
 use Rattle.hive_model.specs.Courses.{Course, position, with_move}
 use Rattle.hive_model.specs.Strings.{joined_on, texts}
+use Rattle.hive_model.proofs.GetLemmas.{get_within, drop-at}
 use Rattle.move_text.specs.Moves.{IsMoveWithin}
 use Rattle.move_text.proofs.LegalSpell.{listed_within}
 use Rattle.rule_laws.proofs.Games.{games_sound}
@@ -32,32 +35,7 @@ joined_behind p (q ∷ qs) = ap (λ (r : List ℕ). p ++ 59 ∷ r) (joined_behin
 -- Lists of moves, cut in two
 
 pub taken_next : (ms : List Move) (i : ℕ) (m : Move) → slice_get ms i ≡ Some m → take (i + 1) ms ≡ take i ms ++ m ∷ []
-taken_next [] i m e = absurd (cc)
-taken_next (k ∷ ms) zero m e = let same : k ≡ m = cc in ap (λ (r : List Move). k ∷ r) (none ms) ∙ ap (λ n. n ∷ []) same
-  where
-    none : (ms : List Move) → take 0 ms ≡ []
-    none [] = refl
-    none (k ∷ ms) = refl
-taken_next (k ∷ ms) (suc i) m e =
-    let next : suc i + 1 ≡ suc (i + 1) = omega arith in
-    ap (λ n. take n (k ∷ ms)) next ∙ ap (λ (r : List Move). k ∷ r) (taken_next ms i m e)
-
-pub dropped_next : {X : Type 0} (ms : List X) (i : ℕ) (m : X) → slice_get ms i ≡ Some m → drop i ms ≡ m ∷ drop (i + 1) ms
-dropped_next [] i m e = absurd (cc)
-dropped_next {X} (k ∷ ms) zero m e = let same : k ≡ m = cc in ap (λ n. n ∷ ms) same ∙ ap (λ (r : List X). m ∷ r) (all ms)
-  where
-    all : (ms : List X) → ms ≡ drop 0 ms
-    all [] = refl
-    all (k ∷ ms) = refl
-dropped_next (k ∷ ms) (suc i) m e =
-    let next : suc (i + 1) ≡ suc i + 1 = omega arith in
-    dropped_next ms i m e ∙ ap (λ n. m ∷ drop n (k ∷ ms)) next
-
-dropped_all : {X : Type 0} (ms : List X) (i : ℕ) → length ms ≤ i → drop i ms ≡ []
-dropped_all [] zero all = refl
-dropped_all [] (suc i) all = refl
-dropped_all (k ∷ ms) zero all = absurd (omega (arith, all))
-dropped_all (k ∷ ms) (suc i) all = dropped_all ms i (omega (arith, all))
+taken_next ms i m e = take_more ms i m (get_within ms i m e) ∙ ap (λ (k : Move). take i ms ++ k ∷ []) (get_or_from_slice_get ms i m m e)
 
 pub legal_next : (p : Position) (ms : List Move) (i : ℕ) (m : Move) → AreLegal p ms → slice_get ms i ≡ Some m → IsOn (moves (replay p (take i ms))) m
 legal_next p [] i m legal e = absurd (cc)
@@ -84,7 +62,7 @@ pub part_on : {X : Type 0} (bytes : X → List ℕ) (items : List X) (i : ℕ) (
 part_on {X} bytes items i item front front2 all at more before =
     ap (λ (r : List ℕ). r ++ behind (map bytes (drop (i + 1) items))) more
     ∙ append_assoc front (59 ∷ bytes item) (behind (map bytes (drop (i + 1) items)))
-    ∙ ap (λ (r : List X). front ++ behind (map bytes r)) (sym (dropped_next items i item at)) ∙ before
+    ∙ ap (λ (r : List X). front ++ behind (map bytes r)) (sym (drop-at items i item at)) ∙ before
 
 pub parts_begin : {X : Type 0} (bytes : X → List ℕ) (items : List X) (front : List ℕ) → front ++ behind (map bytes (drop 0 items)) ≡ front ++ behind (map bytes items)
 parts_begin {X} bytes items front = ap (λ (r : List X). front ++ behind (map bytes r)) (whole items)
@@ -96,7 +74,7 @@ parts_begin {X} bytes items front = ap (λ (r : List X). front ++ behind (map by
 pub parts_end : {X : Type 0} (bytes : X → List ℕ) (items : List X) (i : ℕ) (p q r front start : List ℕ) (ps : List (List ℕ)) → length items ≤ i → front ++ behind (map bytes (drop i items)) ≡ start ++ behind (map bytes items)
     → start ≡ (p ++ 59 ∷ q) ++ 59 ∷ r → map bytes items ≡ ps → front ≡ joined_on p (q ∷ (r ∷ ps))
 parts_end {X} bytes items i p q r front start ps done before head seen =
-    none front ∙ ap (λ (r : List X). front ++ behind (map bytes r)) (sym (dropped_all items i done)) ∙ before ∙ (λ j. head j ++ behind (seen j))
+    none front ∙ ap (λ (r : List X). front ++ behind (map bytes r)) (sym (drop_all i items done)) ∙ before ∙ (λ j. head j ++ behind (seen j))
     ∙ append_assoc (p ++ 59 ∷ q) (59 ∷ r) (behind ps) ∙ append_assoc p (59 ∷ q) (59 ∷ r ++ behind ps)
     ∙ ap (λ (z : List ℕ). p ++ 59 ∷ (q ++ 59 ∷ z)) (sym (joined_behind r ps))
   where
@@ -164,11 +142,11 @@ copy_on g c d i j done done2 m h at less next up more =
       few = h.few;
       written = (λ k. more k ++ texts (place k) (drop (up k) g.made))
           ∙ append_assoc done (text (position c).board m ∷ []) (texts (after (position c) m) (drop (i + 1) g.made))
-          ∙ ap (λ ms. done ++ texts (position c) ms) (sym (dropped_next g.made i m at)) ∙ h.written;
+          ∙ ap (λ ms. done ++ texts (position c) ms) (sym (drop-at g.made i m at)) ∙ h.written;
     })
 
 pub copy_ends : (g c : Course) (i : ℕ) (done : List (List ℕ)) → IsCopying g c i done → length g.made ≤ i → done ≡ texts (opening g.game_type) g.made
-copy_ends g c i done h all = none done ∙ ap (λ ms. done ++ texts (position c) ms) (sym (dropped_all g.made i all)) ∙ h.written
+copy_ends g c i done h all = none done ∙ ap (λ ms. done ++ texts (position c) ms) (sym (drop_all i g.made all)) ∙ h.written
   where
     none : (xs : List (List ℕ)) → xs ≡ xs ++ []
     none [] = refl

@@ -1,9 +1,10 @@
-use Rattle.std.proofs.Common.{rules, ◌≡◌, ◌≤◌, ◌+◌, ◌-◌, [], length, sym, ◌∙◌, ap, subst, arith}
+use Rattle.std.proofs.Common.{rules, ◌≡◌, ◌≤◌, ◌+◌, ◌-◌, [], length, refl, sym, ◌∙◌, ap, subst, arith}
 use Rattle.std.specs.Prelude.{Some, slice_get}
+use Rattle.std.proofs.lemmas.Option.{slice_get_read}
 use Rattle.hive_model.specs.Lists.{IsOn}
 use Rattle.hive_model.specs.Legal.{moves}
 use Rattle.hive_model.specs.Courses.{Course, position}
-use Rattle.game_text.proofs.PlayedLaws.{played_none, played_legal, played_on, got}
+use Rattle.game_text.proofs.PlayedLaws.{played_none, played_legal, played_on}
 use Rattle.game_text.proofs.playing.played.Goals as goal
 
 pub loop-m-init : goal.loop-m-init
@@ -18,7 +19,7 @@ loop-m-init g c =
 
 pub play-requires-clause-legal : goal.play-requires-clause-legal
 play-requires-clause-legal g c =
-    let at = got c.args.moves.now c.loop-m.m-index c.m-item.result c.loop-m-test.true c.m-item.is in
+    let at = slice_get_read c.args.moves.now (length c.args.moves.now) c.loop-m.m-index c.m-item.result refl c.loop-m-test.true c.m-item.is in
     subst (λ m. IsOn (moves (position (g.G.Game.course c.loop-m.game))) m) (sym c.again.ensures)
     (played_legal c.args.game_type c.args.moves.now (g.G.Game.course c.loop-m.game) c.loop-m.m-index c.m-item.result c.loop-m.invariant.played at)
 
@@ -30,7 +31,7 @@ play-requires-clause-room g c =
 
 pub loop-m-preserved : goal.loop-m-preserved
 loop-m-preserved g c =
-    let at = got c.args.moves.now c.loop-m.m-index c.m-item.result c.loop-m-test.true c.m-item.is in
+    let at = slice_get_read c.args.moves.now (length c.args.moves.now) c.loop-m.m-index c.m-item.result refl c.loop-m-test.true c.m-item.is in
     let at2 : slice_get c.args.moves.now c.loop-m.m-index ≡ Some c.again.result = at ∙ ap Some (sym c.again.ensures) in
     let room = c.loop-m.invariant.room in
     let less = c.loop-m-test.true in
