@@ -1,5 +1,6 @@
 -- The keys that a referee keeps, at each place of a match.
-use Rattle.std.proofs.Common.{◌≡◌, suc, ◌+◌, ◌-◌, ◌<◌, ◌≤◌, List, [], ◌∷◌, ◌++◌, length, take, refl, sym, ◌∙◌, ap, arith}
+use Rattle.std.proofs.Common.{◌≡◌, suc, ◌+◌, ◌-◌, ◌<◌, ◌≤◌, List, [], ◌∷◌, ◌++◌, length, take, refl, sym, ◌∙◌, ap, arith, length-append}
+use Rattle.std.proofs.lemmas.List.{take_at}
 use Rattle.std.specs.Prelude.{if◌then◌else◌}
 use Rattle.hive_model.specs.declared.places.Move.{Move}
 use Rattle.hive_model.specs.Keys.{key}
@@ -66,14 +67,7 @@ noted seen new game h same pushed =
 
 -- a move is made, and its key is not yet kept
 pub taken_back : (ms : List Move) (m : Move) → take (length (ms ++ m ∷ []) - 1) (ms ++ m ∷ []) ≡ ms
-taken_back [] m = refl
-taken_back (k ∷ ms) m =
-    let long : length (k ∷ (ms ++ m ∷ [])) - 1 ≡ suc (length (ms ++ m ∷ []) - 1) = longer ms in
-    ap (λ n. take n (k ∷ (ms ++ m ∷ []))) long ∙ ap (λ (r : List Move). k ∷ r) (taken_back ms m)
-  where
-    longer : (ms : List Move) → length (k ∷ (ms ++ m ∷ [])) - 1 ≡ suc (length (ms ++ m ∷ []) - 1)
-    longer [] = refl
-    longer (x ∷ xs) = omega arith
+taken_back ms m = take_at ms (m ∷ []) _ (omega (arith, length-append ms (m ∷ [])))
 
 made_some : (ms : List Move) (m : Move) → 1 ≤ length (ms ++ m ∷ [])
 made_some [] m = omega arith
