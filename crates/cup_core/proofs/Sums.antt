@@ -2,7 +2,8 @@
 use Rattle.std.proofs.Common.{◌≡◌, ℕ, zero, suc, ◌+◌, List, [], ◌∷◌, length, drop, Some, ap, arith, ◌∙◌, ◌<◌, ◌≤◌, refl}
 use Rattle.std.specs.List.{slice_get, sum_by, zip}
 use Rattle.std.proofs.lemmas.List.Sums.{sum_by-cons}
-use Rattle.cup_core.proofs.Orders.{drop-at, drop-all}
+use Rattle.std.proofs.lemmas.List.{drop_all}
+use Rattle.hive_model.proofs.GetLemmas.{drop-at}
 
 -- at a place stand the two that stand there in each list
 pub zip-at : {A B : Type 0} (xs : List A) (ys : List B) (i : ℕ) (x : A) (y : B) → slice_get xs i ≡ Some x → slice_get ys i ≡ Some y → slice_get (zip xs ys) i ≡ Some (x, y)
@@ -19,7 +20,7 @@ sum-step f xs i n all x here so =
 
 pub sum-end : {A : Type 0} (f : A → ℕ) (xs : List A) (i n all : ℕ) → length xs ≤ i → n + sum_by f (drop i xs) ≡ all → n ≡ all
 sum-end f xs i n all past so =
-    let e : sum_by f (drop i xs) ≡ 0 = ap (sum_by f) (drop-all xs i past) in
+    let e : sum_by f (drop i xs) ≡ 0 = ap (sum_by f) (drop_all i xs past) in
     omega (arith, so, e)
 
 -- something stands at each place
