@@ -2,33 +2,21 @@
 use Rattle.std.proofs.Common.{◌≡◌, ℕ, true, false, cond, inl, inr, refl, sym, ◌∙◌, ap, arith}
 use Rattle.std.specs.Prelude.{Some, slice_get}
 use Rattle.std.specs.List.{remove}
-use Rattle.std.proofs.lemmas.Int.{ints}
 use Rattle.std.proofs.lemmas.List.Edits.{length-remove}
 use Rattle.hive_model.specs.declared.places.Place.{Place}
 use Rattle.hive_model.specs.declared.places.Dir.{Dir}
-use Rattle.hive_model.specs.declared.places.Dir.TheVariants.{E, NE, NW, W, SW, SE}
 use Rattle.hive_model.specs.declared.places.Spot.{Spot}
 use Rattle.hive_model.specs.Places.{is_place, step, IsWithin}
 use Rattle.hive_model.specs.Boards.{Stacks, stack_at, height_at, spot_of, put, without, without_at, StandsAt, IsBoard}
-use Rattle.hive_model.proofs.PlaceLemmas.{false_place}
+use Rattle.hive_model.proofs.PlaceLemmas.{false_place, step_inside}
 use Rattle.hive_model.proofs.GetLemmas.{get_within}
 use Rattle.hive_model.proofs.BoardLemmas.{stack_at-set_stack, spot_of_stands, put_stands}
 
 pub step_out : (p : Place) (d : Dir) → IsWithin 9600 p → IsWithin 10000 (step p d)
-step_out p E h = record { q_low = omega (arith, ints, h.q_low); q_high = omega (arith, ints, h.q_high); r_low = omega (arith, ints, h.r_low); r_high = omega (arith, ints, h.r_high) }
-step_out p NE h = record { q_low = omega (arith, ints, h.q_low); q_high = omega (arith, ints, h.q_high); r_low = omega (arith, ints, h.r_low); r_high = omega (arith, ints, h.r_high) }
-step_out p NW h = record { q_low = omega (arith, ints, h.q_low); q_high = omega (arith, ints, h.q_high); r_low = omega (arith, ints, h.r_low); r_high = omega (arith, ints, h.r_high) }
-step_out p W h = record { q_low = omega (arith, ints, h.q_low); q_high = omega (arith, ints, h.q_high); r_low = omega (arith, ints, h.r_low); r_high = omega (arith, ints, h.r_high) }
-step_out p SW h = record { q_low = omega (arith, ints, h.q_low); q_high = omega (arith, ints, h.q_high); r_low = omega (arith, ints, h.r_low); r_high = omega (arith, ints, h.r_high) }
-step_out p SE h = record { q_low = omega (arith, ints, h.q_low); q_high = omega (arith, ints, h.q_high); r_low = omega (arith, ints, h.r_low); r_high = omega (arith, ints, h.r_high) }
+step_out = step_inside 9600 10000 (omega arith)
 
 pub step_near : (p : Place) (d : Dir) → IsWithin 9500 p → IsWithin 9600 (step p d)
-step_near p E h = record { q_low = omega (arith, ints, h.q_low); q_high = omega (arith, ints, h.q_high); r_low = omega (arith, ints, h.r_low); r_high = omega (arith, ints, h.r_high) }
-step_near p NE h = record { q_low = omega (arith, ints, h.q_low); q_high = omega (arith, ints, h.q_high); r_low = omega (arith, ints, h.r_low); r_high = omega (arith, ints, h.r_high) }
-step_near p NW h = record { q_low = omega (arith, ints, h.q_low); q_high = omega (arith, ints, h.q_high); r_low = omega (arith, ints, h.r_low); r_high = omega (arith, ints, h.r_high) }
-step_near p W h = record { q_low = omega (arith, ints, h.q_low); q_high = omega (arith, ints, h.q_high); r_low = omega (arith, ints, h.r_low); r_high = omega (arith, ints, h.r_high) }
-step_near p SW h = record { q_low = omega (arith, ints, h.q_low); q_high = omega (arith, ints, h.q_high); r_low = omega (arith, ints, h.r_low); r_high = omega (arith, ints, h.r_high) }
-step_near p SE h = record { q_low = omega (arith, ints, h.q_low); q_high = omega (arith, ints, h.q_high); r_low = omega (arith, ints, h.r_low); r_high = omega (arith, ints, h.r_high) }
+step_near = step_inside 9500 9600 (omega arith)
 
 module _ (b : Stacks) (is : IsBoard b) (x : ℕ) (s : Spot) (at : spot_of b x ≡ Some s) (alone : height_at b s.place ≡ 1) where
   -- a piece that was alone on its place is nowhere when it is taken away
