@@ -1,14 +1,15 @@
 -- Steps of a loop over the moves of a level.
-use Rattle.std.proofs.Common.{◌≡◌, ℕ, zero, suc, ◌+◌, ◌<◌, ◌≤◌, ◌-ℤ◌, List, [], ◌∷◌, ◌++◌, length, drop, map, get_or, refl, ap, inl, inr, arith, ◌∙◌, ℤ, pos, neg_ℤ, ◌≤ℤ◌, Some, length-append}
+use Rattle.std.proofs.Common.{◌≡◌, ℕ, ◌+◌, ◌<◌, ◌≤◌, ◌-ℤ◌, List, [], ◌∷◌, ◌++◌, length, drop, map, get_or, refl, ap, arith, ◌∙◌, ℤ, pos, neg_ℤ, ◌≤ℤ◌, Some, length-append}
 use Rattle.std.proofs.lemmas.Int.{ints, clamps}
+use Rattle.std.proofs.lemmas.List.{drop_all}
 use Rattle.std.specs.List.{slice_get}
 use Rattle.std.specs.Int.{int_max}
 use Rattle.hive_model.specs.declared.places.Move.{Move}
-use Rattle.hive_model.specs.Lists.{IsOn}
 use Rattle.hive_model.specs.Stack.{Levels, level_of, with_level, without_level}
 use Rattle.hive_model.specs.Minimax.{greatest_from, greatest}
 use Rattle.hive_model.specs.Courses.{Course, position, with_move, without_last}
 use Rattle.hive_model.specs.Games.{after}
+pub use Rattle.hive_model.proofs.GetLemmas.{on-at, drop-at}
 use Rattle.search_laws.proofs.CourseLaws.{without_level-with_level, without_last-with_move, position-with_move}
 
 get_or-seam : {A : Type 0} (xs : List A) (x d : A) → get_or (xs ++ x ∷ []) (length xs) d ≡ x
@@ -22,22 +23,8 @@ level_of-with_level s old ms level es el = rw (es, el) (get_or-seam old.lists ms
 pub level-in : (s old : Levels) (ms : List Move) (level : ℕ) → s ≡ with_level old ms → level ≡ length old.lists → level < length s.lists
 level-in s old ms level es el = rw es (omega (arith, length-append old.lists (ms ∷ [])))
 
--- what is at a place stands on the list
-pub on-at : {A : Type 0} (xs : List A) (i : ℕ) (x : A) → slice_get xs i ≡ Some x → IsOn xs x
-on-at [] i x e = cc
-on-at (y ∷ xs) zero x e = inl cc
-on-at (y ∷ xs) (suc i) x e = inr (on-at xs i x e)
-
-pub drop-at : {A : Type 0} (xs : List A) (i : ℕ) (x : A) → slice_get xs i ≡ Some x → drop i xs ≡ x ∷ drop (i + 1) xs
-drop-at [] i x e = cc
-drop-at (y ∷ xs) zero x e = cc
-drop-at (y ∷ xs) (suc i) x e = let more : suc i + 1 ≡ suc (i + 1) = omega arith in rw more (drop-at xs i x e)
-
 pub drop-all : {A : Type 0} (xs : List A) (i : ℕ) → length xs ≤ i → drop i xs ≡ []
-drop-all [] zero h = refl
-drop-all [] (suc i) h = refl
-drop-all (x ∷ xs) zero h = absurd (omega arith)
-drop-all (x ∷ xs) (suc i) h = drop-all xs i (omega arith)
+drop-all xs i h = drop_all i xs h
 
 -- ---- minimax
 
