@@ -1,22 +1,17 @@
 -- What a reader that reads on has read of its input.
-use Rattle.std.proofs.Common.{◌≡◌, ◌<◌, ◌≤◌, ℕ, suc, ◌+◌, ◌-◌, ◌^◌, min, Bool, true, false, List, [], ◌∷◌, ◌++◌, length, length-append, refl, ap, sym, subst, arith, ◌∙◌, add-zero, None, Some, if◌then◌else◌}
-use Rattle.std.specs.Prelude.{◌==◌, Result, Ok, Err}
+use Rattle.std.proofs.Common.{◌≡◌, ◌≤◌, ℕ, suc, ◌+◌, ◌-◌, ◌^◌, min, Bool, true, false, List, [], ◌∷◌, ◌++◌, length, length-append, refl, ap, sym, subst, arith, ◌∙◌, add-zero, if◌then◌else◌}
+use Rattle.std.specs.Prelude.{◌==◌}
 use Rattle.std.proofs.lemmas.List.{append-nil, length-map}
 use Rattle.io_edge.specs.Outside.{Told, in_front, IsAtEnd}
 use Rattle.io_edge.proofs.Told.{in_front-nil}
 use Rattle.hive_model.specs.Lines.{Line as OneLine, Text, TooLong as LongLine, line_of, line_parts, lines}
 use Rattle.hive_model.specs.Lists.{onto}
-use Rattle.game_text.specs.declared.faults.GameFault.{GameFault}
-use Rattle.game_text.specs.declared.parsed.Parsed.{Parsed}
-use Rattle.line_feed.specs.Feed.{Reading, HoldsLittle, Ends, Feeds, Takes, fresh, input_limit, pending}
+use Rattle.line_feed.specs.Feed.{Reading, HoldsLittle, Ends, Feeds, Takes, input_limit, pending}
 use Rattle.line_feed.specs.SoFar.{Covers, Fed}
 use Rattle.line_feed.specs.declared.answers.LineAnswer.{LineAnswer}
 use Rattle.line_feed.specs.declared.answers.LineAnswer.TheVariants.{Line, TooLong, End, Failed, Full}
 use Rattle.line_feed.proofs.AheadLemmas.{lines-nil}
 use Rattle.line_feed.proofs.FedLemmas.{fed_kept, fed_line}
-use Rattle.certificate_text.specs.declared.head.HeadFault.{HeadFault}
-use Rattle.certificate_text.specs.declared.head.HeadFault.TheVariants.{BadLine, BadGame, ReadFault, InputFull, Memory}
-use Rattle.certificate_text.specs.Heads.{ReadsGame, fault_line, last_line}
 use Rattle.certificate_text.specs.Taken.{HasRead}
 
 no-bytes : (xs ys : List ℕ) → xs ++ ys ≡ [] → (xs ≡ []) × (ys ≡ [])
@@ -132,28 +127,3 @@ pub read-item : (a : LineAnswer) (old new : Reading) (r0 r1 : Told) → (bytes :
 read-item a old new r0 r1 fed within little count now next input before r =
     let s : HasRead input r1 new (before + count + 1) = read_line a old new r0 r1 fed within little (before + count + 1) input (before + count) refl r in
     record { bytes = s.bytes; given = s.given; few = omega (arith, s.few, within-limit input r1 new (before + count + 1) s, next); fed = s.fed; within = s.within; little = s.little }
-
--- ---- heads
-
-pub line-later : (fault : HeadFault) (m n : ℕ) → m ≤ n → fault_line m fault ≤ fault_line n fault
-line-later (BadLine k) m n h = omega arith
-line-later (BadGame fault) m n h = omega arith
-line-later ReadFault m n h = h
-line-later InputFull m n h = h
-line-later Memory m n h = h
-
--- the fault of a part is one of the whole
-pub read-fault : (input : List ℕ) (rest : Told) (reader : Reading) (fault : HeadFault) (m n : ℕ) → m ≤ n → HasRead input rest reader (fault_line m fault) → HasRead input rest reader (fault_line n fault)
-read-fault input rest reader fault m n h r = read-more input rest reader (fault_line m fault) (fault_line n fault) (line-later fault m n h) r
-
--- the game is the second line
-game-line : (r : Result Parsed HeadFault) (read : Result Parsed GameFault) → ReadsGame r read → last_line 2 r ≡ 2
-game-line (Ok game) read h = refl
-game-line (Err (BadLine n)) read h = absurd h
-game-line (Err (BadGame fault)) read h = refl
-game-line (Err ReadFault) read h = absurd h
-game-line (Err InputFull) read h = absurd h
-game-line (Err Memory) read h = refl
-
-pub read-game : (input : List ℕ) (rest : Told) (reader : Reading) (r : Result Parsed HeadFault) (read : Result Parsed GameFault) → ReadsGame r read → HasRead input rest reader 2 → HasRead input rest reader (last_line 2 r)
-read-game input rest reader r read h has = subst (HasRead input rest reader) (sym (game-line r read h)) has

@@ -1,23 +1,28 @@
 -- What stands behind a word, and what the reading of one line answers.
-use Rattle.std.proofs.Common.{◌≡◌, ◌≢◌, ℕ, ◌+◌, Bool, true, false, List, [], ◌∷◌, ◌++◌, drop, length, refl, sym, ap, subst, arith, ◌∙◌, Option, Some, None, inl, inr, ◌⊎◌, Bor}
-use Rattle.std.specs.Prelude.{map, nat_eq, if◌then◌else◌, MatchOption, Result, Ok, Err, ℤ}
+use Rattle.std.proofs.Common.{◌≡◌, ◌≢◌, ℕ, ◌+◌, Bool, true, false, List, [], ◌∷◌, ◌++◌, drop, length, refl, sym, ap, subst, arith, ◌∙◌, Option, Some, None, Bor}
+use Rattle.std.specs.Prelude.{codes, decimal, map, nat_eq, if◌then◌else◌, MatchOption, Result, Ok, Err, ℤ}
 use Rattle.std.specs.Option.{option_map}
+use Rattle.std.specs.Fmt.{signed_decimal}
 use Rattle.std.proofs.lemmas.Bool.{eq-eqb, eqb-true}
-use Rattle.hive_model.specs.Lines.{Line, Text, TooLong, ToldLines, NoneAhead, LongAhead}
+use Rattle.hive_model.specs.declared.pieces.GameType.{GameType}
+use Rattle.hive_model.specs.declared.places.Move.{Move}
+use Rattle.hive_model.specs.Positions.{opening}
+use Rattle.hive_model.specs.Games.{replay}
+use Rattle.hive_model.specs.Denotes.{text}
+use Rattle.hive_model.specs.Strings.{string}
+use Rattle.hive_model.specs.Lines.{Line, ToldLines, NoneAhead}
 use Rattle.io_edge.specs.Outside.{Told, in_front}
 use Rattle.line_feed.specs.Feed.{Reading, Takes}
-use Rattle.std.proofs.lemmas.List.{length-append}
+use Rattle.std.proofs.lemmas.List.{append_assoc, drop-drop, length-append}
 use Rattle.line_feed.specs.Ahead.{ahead_of, lines_left}
 use Rattle.strategy_check.specs.Items.{IsAtEnd}
 use Rattle.game_text.specs.Turns.{behind_word}
-use Rattle.game_text.specs.Reading.{game_of}
 use Rattle.game_text.specs.declared.parsed.Parsed.{Parsed}
-use Rattle.game_text.specs.declared.faults.GameFault.{GameFault}
 use Rattle.certificate_text.specs.declared.head.Head.{Head}
 use Rattle.certificate_text.specs.declared.head.HeadFault.{HeadFault}
 use Rattle.certificate_text.specs.declared.head.HeadFault.TheVariants.{BadLine, BadGame, ReadFault, InputFull, Memory}
-use Rattle.certificate_text.specs.Text.{HeadRead, or_bad, or_bad_game, with_line, with_game, version_at, depth_at, move_at, value_at, head_of, index_in}
-use Rattle.certificate_text.specs.Heads.{TakesLine, Parses, ReadsGame, ReadsHead, in_all}
+use Rattle.certificate_text.specs.Text.{HeadRead, and_then, field_in, game_in, head_of, head_text, version_at, depth_at, move_at, value_at, index_in, written_line}
+use Rattle.certificate_text.specs.Heads.{Reads, in_all}
 
 -- ---- words
 
@@ -50,122 +55,70 @@ pub behind-found : (p s : List ℕ) (r : Option (Bor (List ℕ))) → MatchOptio
 behind-found p s None m = none-behind p s m
 behind-found p s (Some x) m = some-behind p s x.now m
 
--- ---- one line
+-- ---- a head of any form, line by line
 
-pub long-ahead : (old new : ToldLines) → old ≡ option_map (λ left. TooLong ∷ left) new → LongAhead old
-long-ahead old None e = subst LongAhead (sym e) tt
-long-ahead old (Some more) e = subst LongAhead (sym e) (more, refl)
+-- so far the first k lines were read, and the head is what is to be made of those behind them
+pub record GoesOn {H : Type 0} (head : Result H HeadFault) (lines : List Line) (k : ℕ) (rest : Result H HeadFault) (after : ToldLines) : Type 0 where
+  pub told : after ≡ Some (drop k lines)
+  pub so : head ≡ rest
 
--- the line that was taken was the first
-pub takes-line : (line : List ℕ) (lines : List Line) (old later : ToldLines) → old ≡ Some lines → old ≡ option_map (λ left. Text line ∷ left) later →
-    (later ≡ Some (drop 1 lines)) × (lines ≡ Text line ∷ drop 1 lines)
-takes-line line lines old None told e = absurd (cc)
-takes-line line lines old (Some rest) told e = let same : lines ≡ Text line ∷ rest = cc in (ap (λ ls. Some (drop 1 ls)) (sym same), subst (λ ls. ls ≡ Text line ∷ drop 1 ls) (sym same) refl)
+-- a part of the reading of these lines comes to its end, or meets a fault
+abbrev pub Part : {A : Type 0} → (List Line → Result A HeadFault) → Result A HeadFault → ToldLines → ToldLines → Type 0
+Part f result before after = (ls : List Line) → before ≡ Some ls → Reads 1 result (f ls) ls after
 
-module _ {A : Type 0} (n : ℕ) (read : List ℕ → Option A) (lines : List Line) (old later : ToldLines) (told : old ≡ Some lines) where
-  pub parses-some : (line : List ℕ) (a : A) → old ≡ option_map (λ left. Text line ∷ left) later → read line ≡ Some a → Parses (Ok a) (with_line n read lines) lines later
-  parses-some line a took found =
-      let t = takes-line line lines old later told took in
-      (t.0, λ next. ap (λ ls. with_line n read ls next) t.1 ∙ ap (λ o. or_bad n o (drop 1 lines) next) found)
+pub goes-on : {A H : Type 0} (f : List Line → Result A HeadFault) (next : A → Result H HeadFault) (head : Result H HeadFault) (lines : List Line) (k : ℕ) (a : A) (before after : ToldLines) →
+    GoesOn head lines k (and_then (f (drop k lines)) next) before → Part f (Ok a) before after → GoesOn head lines (k + 1) (next a) after
+goes-on f next head lines k a before after so part =
+    let h = part (drop k lines) so.told in record {
+      told = h.1 ∙ ap (λ ls. Some ls) (drop-drop 1 k lines);
+      so = so.so ∙ ap (λ r. and_then r next) h.0;
+    }
 
-  pub parses-none : (line : List ℕ) → old ≡ option_map (λ left. Text line ∷ left) later → read line ≡ None → (next : A → List Line → HeadRead) → with_line n read lines next ≡ Err (BadLine n)
-  parses-none line took none next =
-      let t = takes-line line lines old later told took in
-      ap (λ ls. with_line n read ls next) t.1 ∙ ap (λ o. or_bad n o (drop 1 lines) next) none
+pub ends-here : {A H : Type 0} (f : List Line → Result A HeadFault) (next : A → Result H HeadFault) (head : Result H HeadFault) (lines : List Line) (k n : ℕ) (fault : HeadFault) (before after last : ToldLines) →
+    GoesOn head lines k (and_then (f (drop k lines)) next) before → (let r : Result A HeadFault = Err fault in Part f r before after) → (let r : Result H HeadFault = Err fault in Reads n r head lines last)
+ends-here f next head lines k n (BadLine j) before after last so part = so.so ∙ ap (λ r. and_then r next) (part (drop k lines) so.told)
+ends-here f next head lines k n (BadGame fault) before after last so part = so.so ∙ ap (λ r. and_then r next) (part (drop k lines) so.told)
+ends-here f next head lines k n ReadFault before after last so part = tt
+ends-here f next head lines k n InputFull before after last so part = tt
+ends-here f next head lines k n Memory before after last so part = tt
 
-  missing : (NoneAhead (Some lines) ⊎ LongAhead (Some lines)) → (next : A → List Line → HeadRead) → with_line n read lines next ≡ Err (BadLine n)
-  missing (inl e) next = ap (λ ls. with_line n read ls next) e
-  missing (inr (more, e)) next = ap (λ ls. with_line n read ls next) e
-
-  pub parses-fault : (fault : HeadFault) (last : List ℕ) → TakesLine (Err fault) n last old later → (let r : Result A HeadFault = Err fault in Parses r (with_line n read lines) lines later)
-  parses-fault (BadLine k) last h = λ next. missing (subst (λ o. NoneAhead o ⊎ LongAhead o) told h.1) next ∙ ap (λ j. Err (BadLine j)) (sym h.0)
-  parses-fault (BadGame fault) last h = absurd h
-  parses-fault ReadFault last h = tt
-  parses-fault InputFull last h = tt
-  parses-fault Memory last h = tt
-
-module _ (lines : List Line) (old later : ToldLines) (told : old ≡ Some lines) where
-  pub parses-game : (line : List ℕ) (g : Parsed) → old ≡ option_map (λ left. Text line ∷ left) later → game_of line ≡ Ok g → Parses (Ok g) (with_game lines) lines later
-  parses-game line g took found =
-      let t = takes-line line lines old later told took in
-      (t.0, λ next. ap (λ ls. with_game ls next) t.1 ∙ ap (λ o. or_bad_game o (drop 1 lines) next) found)
-
-  pub parses-bad_game : (line : List ℕ) (fault : GameFault) → old ≡ option_map (λ left. Text line ∷ left) later → game_of line ≡ Err fault → (next : Parsed → List Line → HeadRead) → with_game lines next ≡ Err (BadGame fault)
-  parses-bad_game line fault took found next =
-      let t = takes-line line lines old later told took in
-      ap (λ ls. with_game ls next) t.1 ∙ ap (λ o. or_bad_game o (drop 1 lines) next) found
-
-  pub parses-read : (line : List ℕ) (r : Result Parsed HeadFault) → old ≡ option_map (λ left. Text line ∷ left) later → ReadsGame r (game_of line) → Parses r (with_game lines) lines later
-  parses-read line (Ok g) took read = parses-game line g took read
-  parses-read line (Err (BadLine n)) took never = absurd never
-  parses-read line (Err (BadGame fault)) took read = parses-bad_game line fault took read.0
-  parses-read line (Err ReadFault) took never = absurd never
-  parses-read line (Err InputFull) took never = absurd never
-  parses-read line (Err Memory) took read = tt
-
-  no-game : (NoneAhead (Some lines) ⊎ LongAhead (Some lines)) → (next : Parsed → List Line → HeadRead) → with_game lines next ≡ Err (BadLine 2)
-  no-game (inl e) next = ap (λ ls. with_game ls next) e
-  no-game (inr (more, e)) next = ap (λ ls. with_game ls next) e
-
-  pub game-fault : (fault : HeadFault) (last : List ℕ) → TakesLine (Err fault) 2 last old later → (let r : Result Parsed HeadFault = Err fault in Parses r (with_game lines) lines later)
-  game-fault (BadLine k) last h = λ next. no-game (subst (λ o. NoneAhead o ⊎ LongAhead o) told h.1) next ∙ ap (λ j. Err (BadLine j)) (sym h.0)
-  game-fault (BadGame fault) last h = absurd h
-  game-fault ReadFault last h = tt
-  game-fault InputFull last h = tt
-  game-fault Memory last h = tt
-
--- ---- the head, line by line
+-- ---- the head of a certificate
 
 abbrev pub head_is : ℕ → Parsed → ℕ → List ℕ → ℤ → Head
 head_is v g d t x = record { version = v; game_type = g.game_type; moves = g.moves; claim_text = t; depth = d; value = x }
 
--- what is to be made of the lines from the fifth, fourth, third and second on
-abbrev pub from_value : ℕ → Parsed → ℕ → List ℕ → List Line → HeadRead
-from_value v g d t rest = with_line 5 value_at rest (λ x rest. Ok (head_is v g d t x))
+-- what is to be made of these lines and of the first parts of the head that they have
+abbrev pub after_text : List Line → ℕ → Parsed → ℕ → List ℕ → HeadRead
+after_text lines v g d t = and_then (field_in 5 value_at (drop 4 lines)) (λ x. Ok (head_is v g d t x))
 
-abbrev pub from_text : ℕ → Parsed → ℕ → List Line → HeadRead
-from_text v g d rest = with_line 4 move_at rest (λ t. from_value v g d t)
+abbrev pub after_depth : List Line → ℕ → Parsed → ℕ → HeadRead
+after_depth lines v g d = and_then (field_in 4 move_at (drop 3 lines)) (λ t. after_text lines v g d t)
 
-abbrev pub from_depth : ℕ → Parsed → List Line → HeadRead
-from_depth v g rest = with_line 3 depth_at rest (λ d. from_text v g d)
+abbrev pub after_game : List Line → ℕ → Parsed → HeadRead
+after_game lines v g = and_then (field_in 3 depth_at (drop 2 lines)) (λ d. after_depth lines v g d)
 
-abbrev pub from_game : ℕ → List Line → HeadRead
-from_game v rest = with_game rest (λ g. from_depth v g)
+abbrev pub after_version : List Line → ℕ → HeadRead
+after_version lines v = and_then (game_in (drop 1 lines)) (λ g. after_game lines v g)
 
--- a part of the reading of these lines comes to its end, or meets a fault
-abbrev pub Part : {A : Type 0} → (List Line → (A → List Line → HeadRead) → HeadRead) → Result A HeadFault → ToldLines → ToldLines → Type 0
-Part f result before after = (ls : List Line) → before ≡ Some ls → Parses result (f ls) ls after
-
-pub head-begins : (newest : ℕ) (lines : List Line) → head_of newest lines ≡ with_line 1 (version_at newest) lines (λ v. from_game v)
+pub head-begins : (newest : ℕ) (lines : List Line) → head_of newest lines ≡ and_then (field_in 1 (version_at newest) lines) (λ v. after_version lines v)
 unfolding head_of
 head-begins newest lines = refl
 
--- so far the reading went on to these lines, and the head is what is to be made of them
-abbrev pub GoesOn : HeadRead → (List Line → HeadRead) → List Line → ToldLines → Type 0
-GoesOn read next rest after = (after ≡ Some rest) × (read ≡ next rest)
+pub begins : (newest : ℕ) (lines : List Line) (before : ToldLines) → before ≡ Some lines →
+    GoesOn (head_of newest lines) lines 0 (and_then (field_in 1 (version_at newest) (drop 0 lines)) (λ v. after_version lines v)) before
+begins newest lines before told = record { told = told; so = head-begins newest lines }
 
-pub goes-on : {A : Type 0} (f : List Line → (A → List Line → HeadRead) → HeadRead) (read : HeadRead) (next : A → List Line → HeadRead) (ls : List Line) (a : A) (before after : ToldLines) →
-    GoesOn read (λ rest. f rest next) ls before → Part f (Ok a) before after → GoesOn read (next a) (drop 1 ls) after
-goes-on f read next ls a before after so part = let h = part ls so.0 in (h.0, so.1 ∙ h.1 next)
-
-pub ends-here : {A : Type 0} (f : List Line → (A → List Line → HeadRead) → HeadRead) (read : HeadRead) (next : A → List Line → HeadRead) (ls : List Line) (fault : HeadFault) (before after : ToldLines) (lines : List Line) →
-    GoesOn read (λ rest. f rest next) ls before → (let r : Result A HeadFault = Err fault in Part f r before after) → ReadsHead (Err fault) read lines after
-ends-here f read next ls (BadLine n) before after lines so part = so.1 ∙ part ls so.0 next
-ends-here f read next ls (BadGame fault) before after lines so part = so.1 ∙ part ls so.0 next
-ends-here f read next ls ReadFault before after lines so part = tt
-ends-here f read next ls InputFull before after lines so part = tt
-ends-here f read next ls Memory before after lines so part = tt
-
-drop-five : (ls : List Line) → drop 1 (drop 1 (drop 1 (drop 1 (drop 1 ls)))) ≡ drop 5 ls
-drop-five [] = refl
-drop-five (a ∷ []) = refl
-drop-five (a ∷ (b ∷ [])) = refl
-drop-five (a ∷ (b ∷ (c ∷ []))) = refl
-drop-five (a ∷ (b ∷ (c ∷ (d ∷ [])))) = refl
-drop-five (a ∷ (b ∷ (c ∷ (d ∷ (e ∷ ls))))) = refl
-
-pub head-read : (read : HeadRead) (lines : List Line) (head : Head) (after : ToldLines) → GoesOn read (λ rest. Ok head) (drop 1 (drop 1 (drop 1 (drop 1 (drop 1 lines))))) after → ReadsHead (Ok head) read lines after
-head-read read lines head after so = (so.1, so.0 ∙ ap (λ ls. Some ls) (drop-five lines))
+-- the head, as the code puts it together
+pub head-pushed : (t : GameType) (ms : List Move) (n d : ℕ) (m : Move) (v : ℤ) (start a b c e f h : List ℕ) → start ≡ [] → a ≡ start ++ written_line (codes "hive-certificate " ++ decimal n) → b ≡ a ++ string t ms →
+    c ≡ b ++ 10 ∷ [] → e ≡ c ++ written_line (codes "depth " ++ decimal d) → f ≡ e ++ written_line (codes "move " ++ text (replay (opening t) ms).board m) →
+    h ≡ f ++ written_line (codes "value " ++ signed_decimal v) → h ≡ head_text n t ms d m v
+unfolding head_text
+head-pushed t ms n d m v start a b c e f h none one two three four five six =
+    let first : a ≡ written_line (codes "hive-certificate " ++ decimal n) = one ∙ ap (λ s. s ++ written_line (codes "hive-certificate " ++ decimal n)) none in
+    let game : c ≡ written_line (codes "hive-certificate " ++ decimal n) ++ written_line (string t ms) =
+    three ∙ ap (λ s. s ++ 10 ∷ []) two ∙ append_assoc a (string t ms) (10 ∷ []) ∙ ap (λ s. s ++ written_line (string t ms)) first in
+    six ∙ ap (λ s. s ++ written_line (codes "value " ++ signed_decimal v)) (five ∙ ap (λ s. s ++ written_line (codes "move " ++ text (replay (opening t) ms).board m))
+    (four ∙ ap (λ s. s ++ written_line (codes "depth " ++ decimal d)) game))
 
 -- ---- bytes
 

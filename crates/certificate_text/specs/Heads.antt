@@ -50,25 +50,19 @@ ReadsGame (Err ReadFault) read = ⊥
 ReadsGame (Err InputFull) read = ⊥
 ReadsGame (Err Memory) read = ⊤
 
--- What a part of the reading answers where just these lines were to come: what the definition goes on with, from the lines that are
--- to come now; or its fault.
-abbrev pub Parses : {A : Type 0} → Result A HeadFault → ((A → List Line → HeadRead) → HeadRead) → List Line → ToldLines → Type 0
-Parses (Ok a) f lines later = (later ≡ Some (drop 1 lines)) × ((next : _) → f next ≡ next a (drop 1 lines))
-Parses (Err (BadLine n)) f lines later = (next : _) → f next ≡ Err (BadLine n)
-Parses (Err (BadGame fault)) f lines later = (next : _) → f next ≡ Err (BadGame fault)
-Parses (Err ReadFault) f lines later = ⊤
-Parses (Err InputFull) f lines later = ⊤
-Parses (Err Memory) f lines later = ⊤
+-- What the reading of a part of a head answers where just these lines were to come: what the definition gives, and then all but their
+-- first k are to come; or the fault that the definition gives.
+abbrev pub Reads : {A : Type 0} → ℕ → Result A HeadFault → Result A HeadFault → List Line → ToldLines → Type 0
+Reads k (Ok a) read lines later = (read ≡ Ok a) × (later ≡ Some (drop k lines))
+Reads k (Err (BadLine n)) read lines later = read ≡ Err (BadLine n)
+Reads k (Err (BadGame fault)) read lines later = read ≡ Err (BadGame fault)
+Reads k (Err ReadFault) read lines later = ⊤
+Reads k (Err InputFull) read lines later = ⊤
+Reads k (Err Memory) read lines later = ⊤
 
--- What the reading of a head answers where just these lines were to come: the head of these lines, after which those behind it are
--- to come; or their first fault.
+-- the same of a whole head, which is five lines
 abbrev pub ReadsHead : HeadRead → HeadRead → List Line → ToldLines → Type 0
-ReadsHead (Ok head) read lines later = (read ≡ Ok head) × (later ≡ Some (drop 5 lines))
-ReadsHead (Err (BadLine n)) read lines later = read ≡ Err (BadLine n)
-ReadsHead (Err (BadGame fault)) read lines later = read ≡ Err (BadGame fault)
-ReadsHead (Err ReadFault) read lines later = ⊤
-ReadsHead (Err InputFull) read lines later = ⊤
-ReadsHead (Err Memory) read lines later = ⊤
+ReadsHead = Reads 5
 
 -- what every head keeps
 pub record IsHead (newest : ℕ) (head : Head) : Type 0 where

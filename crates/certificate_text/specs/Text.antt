@@ -1,6 +1,6 @@
 -- Certificates as texts. Five lines are the head: `hive-certificate ` and the version; a game; `depth ` and a number from 1 to 64;
 -- `move ` and a move text; `value ` and a whole number. On each line behind them stands an index.
-use Rattle.std.specs.Prelude.{ℕ, List, [], ◌∷◌, ◌++◌, codes, decimal, ℤ, pos, neg_ℤ, Option, Some, None, Result, Ok, Err, option_map}
+use Rattle.std.specs.Prelude.{ℕ, List, [], ◌∷◌, ◌++◌, codes, decimal, drop, ℤ, pos, neg_ℤ, Option, Some, None, Result, Ok, Err, option_map}
 use Rattle.std.specs.Fmt.{signed_decimal}
 use Rattle.hive_model.specs.declared.pieces.GameType.{GameType}
 use Rattle.hive_model.specs.declared.places.Move.{Move}
@@ -59,42 +59,43 @@ index_in TooLong = None
 
 -- The head, line by line. The first line that is missing, too long or not of its form is its fault; or what is wrong with the game.
 
+abbrev pub or_bad : {A : Type 0} → ℕ → Option A → Result A HeadFault
+or_bad n None = Err (BadLine n)
+or_bad n (Some a) = Ok a
+
+-- the field of the first of the lines, which has this number in the text
+abbrev pub field_in : {A : Type 0} → ℕ → (List ℕ → Option A) → List Line → Result A HeadFault
+field_in n at [] = Err (BadLine n)
+field_in n at (TooLong ∷ rest) = Err (BadLine n)
+field_in n at (Text line ∷ rest) = or_bad n (at line)
+
+abbrev pub or_bad_game : Result Parsed GameFault → Result Parsed HeadFault
+or_bad_game (Ok game) = Ok game
+or_bad_game (Err fault) = Err (BadGame fault)
+
+-- the game of the first of the lines, which is the second of the text
+abbrev pub game_in : List Line → Result Parsed HeadFault
+game_in [] = Err (BadLine 2)
+game_in (TooLong ∷ rest) = Err (BadLine 2)
+game_in (Text line ∷ rest) = or_bad_game (game_of line)
+
+-- what is made of a part of a head, or its fault
+abbrev pub and_then : {A B : Type 0} → Result A HeadFault → (A → Result B HeadFault) → Result B HeadFault
+and_then (Ok a) next = next a
+and_then (Err fault) next = Err fault
+
 abbrev pub HeadRead : Type 0
 HeadRead = Result Head HeadFault
 
-abbrev pub or_bad : {A : Type 0} → ℕ → Option A → List Line → (A → List Line → HeadRead) → HeadRead
-or_bad n None rest next = Err (BadLine n)
-or_bad n (Some a) rest next = next a rest
-
--- the first of the lines, which has this number in the text, has such a field
-abbrev pub with_line : {A : Type 0} → ℕ → (List ℕ → Option A) → List Line → (A → List Line → HeadRead) → HeadRead
-with_line n read [] next = Err (BadLine n)
-with_line n read (TooLong ∷ rest) next = Err (BadLine n)
-with_line n read (Text line ∷ rest) next = or_bad n (read line) rest next
-
-abbrev pub or_bad_game : Result Parsed GameFault → List Line → (Parsed → List Line → HeadRead) → HeadRead
-or_bad_game (Err fault) rest next = Err (BadGame fault)
-or_bad_game (Ok game) rest next = next game rest
-
--- the first of the lines is a game
-abbrev pub with_game : List Line → (Parsed → List Line → HeadRead) → HeadRead
-with_game [] next = Err (BadLine 2)
-with_game (TooLong ∷ rest) next = Err (BadLine 2)
-with_game (Text line ∷ rest) next = or_bad_game (game_of line) rest next
-
--- the head of these lines, and what is to be made of it and of the lines behind it
-abbrev pub with_head : ℕ → List Line → (Head → List Line → HeadRead) → HeadRead
-with_head newest lines next =
-    with_line 1 (version_at newest) lines (λ version rest.
-    with_game rest (λ game rest.
-    with_line 3 depth_at rest (λ depth rest.
-    with_line 4 move_at rest (λ claim_text rest.
-    with_line 5 value_at rest (λ value rest.
-    next (record { version = version; game_type = game.game_type; moves = game.moves; claim_text = claim_text; depth = depth; value = value }) rest)))))
-
--- the head of these lines, with a version up to the newest, or their first fault
+-- the head of these lines, with a version up to the newest: their first five; or their first fault
 unfoldable pub head_of : ℕ → List Line → HeadRead
-head_of newest lines = with_head newest lines (λ head rest. Ok head)
+head_of newest lines =
+    and_then (field_in 1 (version_at newest) lines) (λ version.
+    and_then (game_in (drop 1 lines)) (λ game.
+    and_then (field_in 3 depth_at (drop 2 lines)) (λ depth.
+    and_then (field_in 4 move_at (drop 3 lines)) (λ claim_text.
+    and_then (field_in 5 value_at (drop 4 lines)) (λ value.
+    Ok (record { version = version; game_type = game.game_type; moves = game.moves; claim_text = claim_text; depth = depth; value = value }))))))
 
 -- The written form
 

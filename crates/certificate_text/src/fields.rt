@@ -1,6 +1,18 @@
 //! The fields of the lines of a certificate.
 
-ghost use Rattle.std.specs.Prelude.{◌≡◌, ◌≤◌, length, None, Some, IfSome, MatchOption};
+ghost use Rattle.std.specs.Prelude.{
+  ◌≡◌,
+  ◌≤◌,
+  ℕ,
+  List,
+  length,
+  Option,
+  None,
+  Some,
+  IfOk,
+  IfSome,
+  MatchOption,
+};
 ghost use Rattle.game_text.specs.Turns.{behind_word};
 ghost use Rattle.uhp_words.specs.Numbers.{number_at};
 ghost use Rattle.search_laws.specs.Laws.{IsSmall};
@@ -13,7 +25,31 @@ ghost use Rattle.certificate_text.specs.Text.{
   index_at,
 };
 
+use hive_model::LineText;
 use move_text::read_number;
+use std::alloc::{AllocError, Global};
+
+/// What one line of a head has.
+pub trait Field {
+    /// What it is, once it is read.
+    type Value;
+
+    /// What a line has of it.
+    ghost at: { Self → List ℕ → Option Self.Value };
+
+    /// What holds of each that a line has.
+    ghost holds: { Self → Self.Value → Type 0 };
+
+    /// Reads it off a line of at most 65,536 bytes.
+    ///
+    /// # Errors
+    ///
+    /// Want of memory.
+    fn read(&self, line: &[u8]) -> Result<Option<Self::Value>, AllocError>
+        requires { length line.now ≤ 65536 }
+        ensures found { IfOk result (λ found. found ≡ at self.now line.now) }
+        ensures holds { IfOk result (λ found. IfSome found (holds self.now)) };
+}
 
 /// What stands behind a word with which the text begins.
 pub fn behind<'a>(text: &'a [u8], word: &[u8]) -> Option<&'a [u8]>
@@ -34,7 +70,7 @@ pub fn number_at(text: &[u8], least: u64, most: u64) -> Option<u64>
 }
 
 /// The version that the first line of a certificate names, from 1 to the newest.
-pub(crate) fn version_at(text: &[u8], newest: u32) -> Option<u32>
+fn version_at(text: &[u8], newest: u32) -> Option<u32>
     ensures version { result ≡ version_at newest text.now }
     ensures range { IfSome result (λ v. (1 ≤ v) × (v ≤ newest)) }
 {
@@ -43,8 +79,26 @@ pub(crate) fn version_at(text: &[u8], newest: u32) -> Option<u32>
     Some(version as u32)
 }
 
+/// The version of a certificate, from 1 to the newest.
+#[derive(Clone, Copy)]
+pub(crate) struct Version {
+    pub newest: u32,
+}
+
+impl Field for Version {
+    type Value = u32;
+
+    ghost at = { λ version line. version_at version.newest line };
+
+    ghost holds = { λ version v. (1 ≤ v) × (v ≤ version.newest) };
+
+    fn read(&self, line: &[u8]) -> Result<Option<u32>, AllocError> {
+        Ok(version_at(line, self.newest))
+    }
+}
+
 /// The depth that the third line claims, from 1 to 64.
-pub(crate) fn depth_at(text: &[u8]) -> Option<u32>
+fn depth_at(text: &[u8]) -> Option<u32>
     ensures depth { result ≡ depth_at text.now }
     ensures range { IfSome result (λ d. (1 ≤ d) × (d ≤ 64)) }
 {
@@ -53,14 +107,63 @@ pub(crate) fn depth_at(text: &[u8]) -> Option<u32>
     Some(depth as u32)
 }
 
+/// The depth of a claim, from 1 to 64.
+#[derive(Clone, Copy)]
+pub(crate) struct Depth;
+
+impl Field for Depth {
+    type Value = u32;
+
+    ghost at = { λ _ line. depth_at line };
+
+    ghost holds = { λ _ d. (1 ≤ d) × (d ≤ 64) };
+
+    fn read(&self, line: &[u8]) -> Result<Option<u32>, AllocError> {
+        Ok(depth_at(line))
+    }
+}
+
 /// The text of the move that the fourth line claims, which is not empty.
-pub(crate) fn move_at(text: &[u8]) -> Option<&[u8]>
+fn move_at(text: &[u8]) -> Option<&[u8]>
     ensures found { MatchOption result (move_at text.now ≡ None)
         (λ t. move_at text.now ≡ Some t.now) }
     ensures short { IfSome result (λ t. length t.now ≤ length text.now) }
 {
     let rest = behind(text, b"move ")?;
     if rest.is_empty() { None } else { Some(rest) }
+}
+
+/// A text of these bytes.
+fn text_of(alloc: Global, bytes: &[u8]) -> Result<LineText, AllocError>
+    ensures { IfOk result (λ t. t ≡ bytes.now) }
+{
+    let mut text = LineText::new(alloc);
+    text.push_all(bytes)?;
+    Ok(text)
+}
+
+/// The text of the move of a claim.
+#[derive(Clone, Copy)]
+pub(crate) struct ClaimText {
+    pub alloc: Global,
+}
+
+impl Field for ClaimText {
+    type Value = LineText;
+
+    ghost at = { λ _ line. move_at line };
+
+    ghost holds = { λ _ text. length text ≤ 65536 };
+
+    fn read(&self, line: &[u8]) -> Result<Option<LineText>, AllocError> {
+        match move_at(line) {
+            Some(bytes) => {
+                let text = text_of(self.alloc, bytes)?;
+                Ok(Some(text))
+            }
+            None => Ok(None),
+        }
+    }
 }
 
 /// The whole number that the text is, from -1,000,064 to 1,000,064.
@@ -81,12 +184,28 @@ fn int_at(text: &[u8]) -> Option<i32>
 }
 
 /// The value that the fifth line claims, from -1,000,064 to 1,000,064.
-pub(crate) fn value_at(text: &[u8]) -> Option<i32>
+fn value_at(text: &[u8]) -> Option<i32>
     ensures value { result ≡ value_at text.now }
     ensures range { IfSome result (λ v. IsSmall 1000064 v) }
 {
     let rest = behind(text, b"value ")?;
     int_at(rest)
+}
+
+/// The value of a claim, from -1,000,064 to 1,000,064.
+#[derive(Clone, Copy)]
+pub(crate) struct ClaimValue;
+
+impl Field for ClaimValue {
+    type Value = i32;
+
+    ghost at = { λ _ line. value_at line };
+
+    ghost holds = { λ _ v. IsSmall 1000064 v };
+
+    fn read(&self, line: &[u8]) -> Result<Option<i32>, AllocError> {
+        Ok(value_at(line))
+    }
 }
 
 /// The index that a line is, from 0 to 5487.

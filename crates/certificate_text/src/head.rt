@@ -8,25 +8,24 @@ ghost use Rattle.hive_model.specs.Lines.{Line as AnyLine};
 ghost use Rattle.hive_model.specs.Games.{IsGame};
 ghost use Rattle.game_text.specs.Reading.{game_of};
 ghost use Rattle.game_text.specs.declared.faults.GameFault.{GameFault as AnyFault};
-ghost use Rattle.search_laws.specs.Laws.{IsSmall};
-ghost use Rattle.certificate_text.specs.Text.{
-  version_at,
-  depth_at,
-  move_at,
-  value_at,
-  with_line,
-  with_game,
-  head_of,
-};
+ghost use Rattle.certificate_text.specs.Text.{field_in, game_in, head_of};
 ghost use Rattle.certificate_text.specs.Taken.{HasRead};
-ghost use Rattle.certificate_text.specs.Heads.{IsHead, Parses, ReadsGame, ReadsHead, TakesLine, in_all, last_line};
+ghost use Rattle.certificate_text.specs.Heads.{
+  IsHead,
+  Reads,
+  ReadsGame,
+  ReadsHead,
+  TakesLine,
+  in_all,
+  last_line,
+};
 
-use crate::fields::{depth_at, move_at, value_at, version_at};
+use crate::fields::{ClaimText, ClaimValue, Depth, Field, Version};
 use game_text::{GameFault, Parsed, read_game};
 use hive_model::{Game, GameType, LineText, MoveList};
 use io_edge::Source;
 use line_feed::{LineAnswer, LineReader};
-use std::alloc::{AllocError, Global};
+use std::alloc::Global;
 
 /// What the head of a certificate says: its version, the game, and the claim, whose move is not
 /// read yet.
@@ -61,11 +60,7 @@ pub enum HeadFault {
 ///
 /// A line that is missing or too long, a failed read, and a reader that takes no more.
 #[tactic(auto, using(crate::proofs::TakenLaws::read_line))]
-pub fn next_text<S: Source>(
-    reader: &mut LineReader,
-    source: &mut S,
-    line: u32,
-) -> Result<(), HeadFault>
+fn next_text<S: Source>(reader: &mut LineReader, source: &mut S, line: u32) -> Result<(), HeadFault>
     ensures told { TakesLine result line reader.new.last (ahead_of reader.old (S.rest source.old))
         (ahead_of reader.new (S.rest source.new)) }
     ensures fits { IfOk result (λ done. length reader.new.last ≤ 65536) }
@@ -86,30 +81,37 @@ pub fn next_text<S: Source>(
     }
 }
 
-/// The version, of the first line.
-fn read_version<S: Source>(
+/// Takes the next line, which has this number in the text, and reads a field off it.
+///
+/// # Errors
+///
+/// A line that is missing, too long or not of its form, a failed read, a reader that takes no more,
+/// and want of memory.
+pub fn read_field<F: Field, S: Source>(
     reader: &mut LineReader,
     source: &mut S,
-    newest: u32,
-) -> Result<u32, HeadFault>
+    line: u32,
+    field: &F,
+) -> Result<F::Value, HeadFault>
     ensures told { (lines : List AnyLine) → ahead_of reader.old (S.rest source.old) ≡ Some lines
-        → Parses result (with_line 1 (version_at newest) lines) lines (ahead_of reader.new (S.rest source.new)) }
-    ensures range { IfOk result (λ v. (1 ≤ v) × (v ≤ newest)) }
+        → Reads 1 result (field_in line (F.at field.now) lines) lines
+        (ahead_of reader.new (S.rest source.new)) }
+    ensures holds { IfOk result (F.holds field.now) }
     ensures no_game { (fault : AnyFault) → result ≢ Err (HeadFault.BadGame fault) }
     ensures full { result ≡ Err HeadFault.InputFull → reader.new.taken ≡ input_limit }
     ensures cause { HasCause (result ≡ Err HeadFault.ReadFault) (S.read_faults source.old)
         (S.read_faults source.new) }
     ensures bytes { in_all reader.new (S.rest source.new) ≡ in_all reader.old (S.rest source.old) }
     ensures failed { result ≡ Err HeadFault.ReadFault → reader.new.taken < input_limit }
-    ensures read { (input : List ℕ) → HasRead input (S.rest source.old) reader.old 0
-        → HasRead input (S.rest source.new) reader.new (last_line 1 result) }
+    ensures read { (input : List ℕ) (before : ℕ) → line ≡ before + 1
+        → HasRead input (S.rest source.old) reader.old before
+        → HasRead input (S.rest source.new) reader.new (last_line line result) }
 {
-    if let Err(fault) = next_text(reader, source, 1) {
-        return Err(fault);
-    }
-    match version_at(reader.line(), newest) {
-        Some(version) => Ok(version),
-        None => Err(HeadFault::BadLine { line: 1 }),
+    next_text(reader, source, line)?;
+    match field.read(reader.line()) {
+        Ok(Some(value)) => Ok(value),
+        Ok(None) => Err(HeadFault::BadLine { line }),
+        Err(_) => Err(HeadFault::Memory),
     }
 }
 
@@ -118,7 +120,7 @@ fn read_version<S: Source>(
 /// # Errors
 ///
 /// What is wrong with the line as a game, and want of memory.
-pub fn game_in<G: Game + Drop>(alloc: Global, line: &[u8]) -> Result<Parsed, HeadFault>
+fn line_game<G: Game + Drop>(alloc: Global, line: &[u8]) -> Result<Parsed, HeadFault>
     requires { length line.now ≤ 65536 }
     ensures read { ReadsGame result (game_of line.now) }
     ensures game { IfOk result (λ g. IsGame g.game_type g.moves × (length g.moves ≤ 5000)) }
@@ -134,14 +136,20 @@ pub fn game_in<G: Game + Drop>(alloc: Global, line: &[u8]) -> Result<Parsed, Hea
     }
 }
 
-/// The game, of the second line.
-fn read_game_line<G: Game + Drop, S: Source>(
+/// Takes the next line, which is the second of the text, and reads the game that it is, played on a
+/// game of the kind G that is made for it.
+///
+/// # Errors
+///
+/// A line that is missing or too long, what is wrong with the line as a game, a failed read, a
+/// reader that takes no more, and want of memory.
+pub fn read_game_line<G: Game + Drop, S: Source>(
     alloc: Global,
     reader: &mut LineReader,
     source: &mut S,
 ) -> Result<Parsed, HeadFault>
     ensures told { (lines : List AnyLine) → ahead_of reader.old (S.rest source.old) ≡ Some lines
-        → Parses result (with_game lines) lines (ahead_of reader.new (S.rest source.new)) }
+        → Reads 1 result (game_in lines) lines (ahead_of reader.new (S.rest source.new)) }
     ensures game { IfOk result (λ g. IsGame g.game_type g.moves × (length g.moves ≤ 5000)) }
     ensures fault { (fault : AnyFault) → result ≡ Err (HeadFault.BadGame fault)
         → fault ≢ GameFault.Memory }
@@ -153,95 +161,8 @@ fn read_game_line<G: Game + Drop, S: Source>(
     ensures read { (input : List ℕ) → HasRead input (S.rest source.old) reader.old 1
         → HasRead input (S.rest source.new) reader.new (last_line 2 result) }
 {
-    if let Err(fault) = next_text(reader, source, 2) {
-        return Err(fault);
-    }
-    game_in::<G>(alloc, reader.line())
-}
-
-/// The depth, of the third line.
-fn read_depth<S: Source>(reader: &mut LineReader, source: &mut S) -> Result<u32, HeadFault>
-    ensures told { (lines : List AnyLine) → ahead_of reader.old (S.rest source.old) ≡ Some lines
-        → Parses result (with_line 3 depth_at lines) lines (ahead_of reader.new (S.rest source.new)) }
-    ensures range { IfOk result (λ d. (1 ≤ d) × (d ≤ 64)) }
-    ensures no_game { (fault : AnyFault) → result ≢ Err (HeadFault.BadGame fault) }
-    ensures full { result ≡ Err HeadFault.InputFull → reader.new.taken ≡ input_limit }
-    ensures cause { HasCause (result ≡ Err HeadFault.ReadFault) (S.read_faults source.old)
-        (S.read_faults source.new) }
-    ensures bytes { in_all reader.new (S.rest source.new) ≡ in_all reader.old (S.rest source.old) }
-    ensures failed { result ≡ Err HeadFault.ReadFault → reader.new.taken < input_limit }
-    ensures read { (input : List ℕ) → HasRead input (S.rest source.old) reader.old 2
-        → HasRead input (S.rest source.new) reader.new (last_line 3 result) }
-{
-    if let Err(fault) = next_text(reader, source, 3) {
-        return Err(fault);
-    }
-    match depth_at(reader.line()) {
-        Some(depth) => Ok(depth),
-        None => Err(HeadFault::BadLine { line: 3 }),
-    }
-}
-
-/// A text of these bytes.
-fn text_of(alloc: Global, bytes: &[u8]) -> Result<LineText, AllocError>
-    ensures { IfOk result (λ t. t ≡ bytes.now) }
-{
-    let mut text = LineText::new(alloc);
-    text.push_all(bytes)?;
-    Ok(text)
-}
-
-/// The text of the move, of the fourth line.
-fn read_claim_text<S: Source>(
-    alloc: Global,
-    reader: &mut LineReader,
-    source: &mut S,
-) -> Result<LineText, HeadFault>
-    ensures told { (lines : List AnyLine) → ahead_of reader.old (S.rest source.old) ≡ Some lines
-        → Parses result (with_line 4 move_at lines) lines (ahead_of reader.new (S.rest source.new)) }
-    ensures short { IfOk result (λ t. length t ≤ 65536) }
-    ensures no_game { (fault : AnyFault) → result ≢ Err (HeadFault.BadGame fault) }
-    ensures full { result ≡ Err HeadFault.InputFull → reader.new.taken ≡ input_limit }
-    ensures cause { HasCause (result ≡ Err HeadFault.ReadFault) (S.read_faults source.old)
-        (S.read_faults source.new) }
-    ensures bytes { in_all reader.new (S.rest source.new) ≡ in_all reader.old (S.rest source.old) }
-    ensures failed { result ≡ Err HeadFault.ReadFault → reader.new.taken < input_limit }
-    ensures read { (input : List ℕ) → HasRead input (S.rest source.old) reader.old 3
-        → HasRead input (S.rest source.new) reader.new (last_line 4 result) }
-{
-    if let Err(fault) = next_text(reader, source, 4) {
-        return Err(fault);
-    }
-    let Some(bytes) = move_at(reader.line()) else {
-        return Err(HeadFault::BadLine { line: 4 });
-    };
-    match text_of(alloc, bytes) {
-        Ok(text) => Ok(text),
-        Err(_) => Err(HeadFault::Memory),
-    }
-}
-
-/// The value, of the fifth line.
-fn read_value<S: Source>(reader: &mut LineReader, source: &mut S) -> Result<i32, HeadFault>
-    ensures told { (lines : List AnyLine) → ahead_of reader.old (S.rest source.old) ≡ Some lines
-        → Parses result (with_line 5 value_at lines) lines (ahead_of reader.new (S.rest source.new)) }
-    ensures range { IfOk result (λ v. IsSmall 1000064 v) }
-    ensures no_game { (fault : AnyFault) → result ≢ Err (HeadFault.BadGame fault) }
-    ensures full { result ≡ Err HeadFault.InputFull → reader.new.taken ≡ input_limit }
-    ensures cause { HasCause (result ≡ Err HeadFault.ReadFault) (S.read_faults source.old)
-        (S.read_faults source.new) }
-    ensures bytes { in_all reader.new (S.rest source.new) ≡ in_all reader.old (S.rest source.old) }
-    ensures failed { result ≡ Err HeadFault.ReadFault → reader.new.taken < input_limit }
-    ensures read { (input : List ℕ) → HasRead input (S.rest source.old) reader.old 4
-        → HasRead input (S.rest source.new) reader.new (last_line 5 result) }
-{
-    if let Err(fault) = next_text(reader, source, 5) {
-        return Err(fault);
-    }
-    match value_at(reader.line()) {
-        Some(value) => Ok(value),
-        None => Err(HeadFault::BadLine { line: 5 }),
-    }
+    next_text(reader, source, 2)?;
+    line_game::<G>(alloc, reader.line())
 }
 
 /// Reads the five lines of the head of a certificate, whose version is at most the newest one:
@@ -272,26 +193,11 @@ pub fn read_head<G: Game + Drop, S: Source>(
     ensures read { (input : List ℕ) → HasRead input (S.rest source.old) reader.old 0
         → HasRead input (S.rest source.new) reader.new (last_line 5 result) }
 {
-    let version = match read_version(reader, source, newest) {
-        Ok(version) => version,
-        Err(fault) => return Err(fault),
-    };
-    let game = match read_game_line::<G, S>(alloc, reader, source) {
-        Ok(game) => game,
-        Err(fault) => return Err(fault),
-    };
-    let depth = match read_depth(reader, source) {
-        Ok(depth) => depth,
-        Err(fault) => return Err(fault),
-    };
-    let claim_text = match read_claim_text(alloc, reader, source) {
-        Ok(claim_text) => claim_text,
-        Err(fault) => return Err(fault),
-    };
-    let value = match read_value(reader, source) {
-        Ok(value) => value,
-        Err(fault) => return Err(fault),
-    };
+    let version = read_field(reader, source, 1, &Version { newest })?;
+    let game = read_game_line::<G, S>(alloc, reader, source)?;
+    let depth = read_field(reader, source, 3, &Depth)?;
+    let claim_text = read_field(reader, source, 4, &ClaimText { alloc })?;
+    let value = read_field(reader, source, 5, &ClaimValue)?;
     Ok(Head {
         version,
         game_type: game.game_type,

@@ -5,7 +5,9 @@
 mod fields;
 mod head;
 mod lines;
+mod writing;
 
-pub use fields::{behind, number_at};
-pub use head::{Head, HeadFault, game_in, next_text, read_head};
+pub use fields::{Field, behind, number_at};
+pub use head::{Head, HeadFault, read_field, read_game_line, read_head};
 pub use lines::LineIndices;
+pub use writing::{push_line, push_number, write_head};
