@@ -1,14 +1,8 @@
 -- What is written of a root, and of a whole certificate.
-use Rattle.std.proofs.Common.{◌≡◌, ℕ, ◌+◌, ◌-◌, Bool, true, false, List, ◌++◌, ◌<◌, length, take, drop, sym, ap, subst, arith, refl, inl, inr, suc, [], ◌∷◌, ◌∙◌, Option, Some}
-use Rattle.std.specs.Fmt.{signed_decimal}
-use Rattle.std.proofs.lemmas.Fmt.{decimal_digit}
-use Rattle.std.proofs.lemmas.List.{append_assoc}
-use Rattle.hive_model.specs.declared.pieces.GameType.{GameType}
-use Rattle.hive_model.specs.Positions.{Position, opening}
-use Rattle.hive_model.specs.Games.{after, replay}
-use Rattle.hive_model.specs.Denotes.{text}
-use Rattle.hive_model.specs.Strings.{string}
-use Rattle.std.specs.Prelude.{codes, decimal, ℤ, pos, neg_ℤ, ◌-ℤ◌}
+use Rattle.std.proofs.Common.{◌≡◌, ℕ, ◌+◌, ◌-◌, Bool, true, false, List, ◌++◌, ◌<◌, length, take, drop, sym, ap, subst, refl, inl, inr, suc, [], ◌∷◌, ◌∙◌, Option, Some}
+use Rattle.hive_model.specs.Positions.{Position}
+use Rattle.hive_model.specs.Games.{after}
+use Rattle.std.specs.Prelude.{ℤ, pos, neg_ℤ, ◌-ℤ◌}
 use Rattle.std.specs.List.{flat_map, slice_get}
 use Rattle.std.specs.Bool.{OnTrue, OnFalse}
 use Rattle.std.specs.Option.{IsSome}
@@ -29,7 +23,7 @@ use Rattle.claim_walks.proofs.FollowLaws.{range-before, range-behind}
 use Rattle.strategy_check.specs.Least.{least, least_moves}
 use Rattle.claim_walks.specs.Walks.{place_of}
 use Rattle.claim_walks.proofs.PlaceLaws.{place-here, place-first}
-use Rattle.certificate_text.specs.Text.{index_line, head_text, written_line}
+use Rattle.certificate_text.specs.Text.{index_line, head_text}
 use Rattle.index_writing.specs.Writing.{Wrote, index_lines, lines_below}
 use Rattle.index_writing.proofs.WriteLaws.{wrote-as, wrote-then, wrote-stop, wrote-is, index-written}
 use Rattle.strategy_make.specs.Making.{least_at, least_indices, certificate, certificate_of}
@@ -165,16 +159,3 @@ whole-written start now d m v r s a b e same all first later =
 pub part-of : (c : Course) (d : ℕ) (m : Move) (v : ℤ) (a b : Told) → best (position c) d ≡ Some m → v ≡ value (position c) d → Wrote false (whole c d m v) a b →
     Wrote false (certificate_of c d (best (position c) d)) a b
 part-of c d m v a b is worth h = wrote-as false _ _ a b (ap (whole c d m) worth ∙ ap (certificate_of c d) (sym is)) h
-
--- the head, as the code puts it together
-pub head-pushed : (t : GameType) (ms : List Move) (d : ℕ) (m : Move) (v : ℤ) (start a b c e f h : List ℕ) → start ≡ [] → a ≡ start ++ written_line (codes "hive-certificate " ++ codes "1") → b ≡ a ++ string t ms →
-    c ≡ b ++ 10 ∷ [] → e ≡ c ++ written_line (codes "depth " ++ decimal d) → f ≡ e ++ written_line (codes "move " ++ text (replay (opening t) ms).board m) →
-    h ≡ f ++ written_line (codes "value " ++ signed_decimal v) → h ≡ head_text 1 t ms d m v
-unfolding head_text
-head-pushed t ms d m v start a b c e f h none one two three four five six =
-    let version : a ≡ written_line (codes "hive-certificate " ++ decimal 1) =
-    one ∙ ap (λ s. s ++ written_line (codes "hive-certificate " ++ codes "1")) none ∙ ap (λ x. written_line (codes "hive-certificate " ++ x)) (sym (decimal_digit 1 (omega arith))) in
-    let game : c ≡ written_line (codes "hive-certificate " ++ decimal 1) ++ written_line (string t ms) =
-    three ∙ ap (λ s. s ++ 10 ∷ []) two ∙ append_assoc a (string t ms) (10 ∷ []) ∙ ap (λ s. s ++ written_line (string t ms)) version in
-    six ∙ ap (λ s. s ++ written_line (codes "value " ++ signed_decimal v)) (five ∙ ap (λ s. s ++ written_line (codes "move " ++ text (replay (opening t) ms).board m))
-    (four ∙ ap (λ s. s ++ written_line (codes "depth " ++ decimal d)) game))

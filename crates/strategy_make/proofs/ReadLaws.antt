@@ -31,8 +31,8 @@ use Rattle.uhp_words.proofs.FieldLaws.{number_again}
 use Rattle.search_laws.specs.Laws.{IsSmall}
 use Rattle.strategy_check.specs.Trace.{Holds}
 use Rattle.strategy_check.proofs.LeastLaws.{least-holds}
-use Rattle.certificate_text.specs.Text.{head_of, index_in, head_text, written_line, or_bad, or_bad_game, then_at, version_at, depth_at, move_at, value_at, int_at, signed, not_empty}
-use Rattle.certificate_text.proofs.TextLaws.{some-behind, head-begins, from_game, from_depth, from_text, from_value, head_is}
+use Rattle.certificate_text.specs.Text.{and_then, head_of, index_in, head_text, written_line, or_bad, or_bad_game, then_at, version_at, depth_at, move_at, value_at, int_at, signed, not_empty}
+use Rattle.certificate_text.proofs.TextLaws.{some-behind, head-begins, after_version, after_game, after_depth, after_text, head_is}
 use Rattle.index_writing.specs.Writing.{index_lines}
 use Rattle.strategy_make.specs.Making.{least_at, least_indices, certificate}
 use Rattle.strategy_make.specs.Laws.{LeastIndicesHold, MayClaim, HeadsAreRead, IndicesAreRead}
@@ -103,12 +103,13 @@ move-is x some = ap (λ o. then_at o not_empty) (some-behind (codes "move ") _ x
 head-is : (a b c e f x : List ℕ) (rest : List Line) (v d : ℕ) (g : Parsed) (w : ℤ) → version_at 1 a ≡ Some v → game_of b ≡ Ok g → depth_at c ≡ Some d → move_at e ≡ Some x → value_at f ≡ Some w →
     head_of 1 (Text a ∷ (Text b ∷ (Text c ∷ (Text e ∷ (Text f ∷ rest))))) ≡ Ok (head_is v g d x w)
 head-is a b c e f x rest v d g w one two three four five =
-    head-begins 1 (Text a ∷ (Text b ∷ (Text c ∷ (Text e ∷ (Text f ∷ rest)))))
-    ∙ ap (λ o. or_bad 1 o (Text b ∷ (Text c ∷ (Text e ∷ (Text f ∷ rest)))) (λ v. from_game v)) one
-    ∙ ap (λ o. or_bad_game o (Text c ∷ (Text e ∷ (Text f ∷ rest))) (λ g. from_depth v g)) two
-    ∙ ap (λ o. or_bad 3 o (Text e ∷ (Text f ∷ rest)) (λ d. from_text v g d)) three
-    ∙ ap (λ o. or_bad 4 o (Text f ∷ rest) (λ x. from_value v g d x)) four
-    ∙ ap (λ o. or_bad 5 o rest (λ w rest. Ok (head_is v g d x w))) five
+    let ls : List Line = Text a ∷ (Text b ∷ (Text c ∷ (Text e ∷ (Text f ∷ rest)))) in
+    head-begins 1 ls
+    ∙ ap (λ o. and_then (or_bad 1 o) (λ v. after_version ls v)) one
+    ∙ ap (λ o. and_then (or_bad_game o) (λ g. after_game ls v g)) two
+    ∙ ap (λ o. and_then (or_bad 3 o) (λ d. after_depth ls v g d)) three
+    ∙ ap (λ o. and_then (or_bad 4 o) (λ x. after_text ls v g d x)) four
+    ∙ ap (λ o. and_then (or_bad 5 o) (λ w. Ok (head_is v g d x w))) five
 
 five-parts : (a b c e f rest : List ℕ) → ((((a ++ b) ++ c) ++ e) ++ f) ++ rest ≡ a ++ (b ++ (c ++ (e ++ (f ++ rest))))
 five-parts a b c e f rest =
