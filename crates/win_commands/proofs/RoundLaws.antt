@@ -19,7 +19,7 @@ use Rattle.game_text.specs.declared.parsed.Parsed.{Parsed}
 use Rattle.game_text.proofs.GameLaws.{strings}
 use Rattle.game_text.proofs.LineLaws.{game_again}
 use Rattle.io_edge.specs.Outside.{behind}
-use Rattle.certificate_text.specs.Text.{index_in, then_at, written_line}
+use Rattle.certificate_text.specs.Text.{and_then, index_in, or_bad, or_bad_game, then_at, written_line}
 use Rattle.certificate_text.proofs.TextLaws.{some-behind}
 use Rattle.index_writing.specs.Writing.{index_lines}
 use Rattle.strategy_make.proofs.PlainLaws.{IsPlain, decimal-plain, joined, string-plain}
@@ -33,7 +33,7 @@ use Rattle.win_commands.specs.declared.head.Head.{Head}
 use Rattle.text_verdicts.specs.declared.verdict.Verdict.{Verdict}
 use Rattle.text_verdicts.specs.declared.verdict.Verdict.TheVariants.{GameOver}
 use Rattle.win_commands.specs.Text.{answer_at, answer_of, answer_word, head_text, is_forced, plies_at, version_at}
-use Rattle.win_commands.specs.Verdicts.{and_then, head_of, of_items, or_bad, or_bad_game, verdict}
+use Rattle.win_commands.specs.Verdicts.{head_of, of_items, verdict}
 use Rattle.win_commands.specs.Laws.{MayAsk, SolutionsAreAccepted, SolvedIsAccepted}
 use Rattle.win_commands.proofs.HeadLaws.{after_answer, after_game, after_plies, after_version, begins, head_is}
 use Rattle.win_commands.proofs.VerdictLaws.{verdict-is}

@@ -1,5 +1,4 @@
 pub mod Text
 pub mod Verdicts
-pub mod Reading
 pub mod Runs
 pub mod Laws

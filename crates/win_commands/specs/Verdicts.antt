@@ -1,12 +1,11 @@
 -- What the lines of a text are worth as a solution.
-use Rattle.std.specs.Prelude.{ℕ, Bool, List, [], ◌∷◌, map, drop, Option, Some, None, Result, Ok, Err, if◌then◌else◌}
+use Rattle.std.specs.Prelude.{ℕ, Bool, List, map, drop, Option, Result, Ok, Err, if◌then◌else◌}
 use Rattle.hive_model.specs.Positions.{Position}
 use Rattle.hive_model.specs.Legal.{is_over}
-use Rattle.hive_model.specs.Lines.{Line, Text, TooLong}
-use Rattle.game_text.specs.Reading.{game_of}
-use Rattle.game_text.specs.declared.parsed.Parsed.{Parsed}
-use Rattle.game_text.specs.declared.faults.GameFault.{GameFault}
-use Rattle.certificate_text.specs.Text.{index_in}
+use Rattle.hive_model.specs.Lines.{Line}
+use Rattle.certificate_text.specs.declared.head.HeadFault.{HeadFault}
+use Rattle.certificate_text.specs.declared.head.HeadFault.TheVariants.{BadLine as LineFault, BadGame as NoGame, ReadFault, InputFull, Memory}
+use Rattle.certificate_text.specs.Text.{and_then, field_in, game_in, index_in}
 use Rattle.win_solver.specs.Solution.{solved}
 use Rattle.command_runs.specs.OneGame.{last_position}
 use Rattle.win_commands.specs.declared.head.Head.{Head}
@@ -17,33 +16,9 @@ use Rattle.win_commands.specs.Text.{version_at, plies_at, answer_at}
 
 -- The head
 
-abbrev pub or_bad : {A : Type 0} → ℕ → Option A → Result A Verdict
-or_bad n None = Err (BadLine n)
-or_bad n (Some a) = Ok a
-
--- the field of the first of the lines, which has this number in the text
-abbrev pub field_in : {A : Type 0} → ℕ → (List ℕ → Option A) → List Line → Result A Verdict
-field_in n read [] = Err (BadLine n)
-field_in n read (TooLong ∷ rest) = Err (BadLine n)
-field_in n read (Text line ∷ rest) = or_bad n (read line)
-
-abbrev pub or_bad_game : Result Parsed GameFault → Result Parsed Verdict
-or_bad_game (Ok game) = Ok game
-or_bad_game (Err fault) = Err (BadGame fault)
-
--- the game of the first of the lines, which is the second of the text
-abbrev pub game_in : List Line → Result Parsed Verdict
-game_in [] = Err (BadLine 2)
-game_in (TooLong ∷ rest) = Err (BadLine 2)
-game_in (Text line ∷ rest) = or_bad_game (game_of line)
-
-abbrev pub and_then : {A B : Type 0} → Result A Verdict → (A → Result B Verdict) → Result B Verdict
-and_then (Ok a) next = next a
-and_then (Err verdict) next = Err verdict
-
 -- the head of the lines: their first four; or the first of these that is missing, too long or not
 -- of its form, or what is wrong with the game
-unfoldable pub head_of : List Line → Result Head Verdict
+unfoldable pub head_of : List Line → Result Head HeadFault
 head_of lines =
     and_then (field_in 1 version_at lines) (λ version.
     and_then (game_in (drop 1 lines)) (λ game.
@@ -63,9 +38,15 @@ of_claim head rest =
     if is_over (last_position head.game) then GameOver
     else of_items (last_position head.game) head.plies head.answer (map index_in rest)
 
-abbrev pub of_head : Result Head Verdict → List Line → Verdict
+-- the same of the lines behind a head, or of the fault of a head; the last three are no faults of
+-- lines
+abbrev pub of_head : Result Head HeadFault → List Line → Verdict
 of_head (Ok head) rest = of_claim head rest
-of_head (Err verdict) rest = verdict
+of_head (Err (LineFault n)) rest = BadLine n
+of_head (Err (NoGame fault)) rest = BadGame fault
+of_head (Err ReadFault) rest = BadLine 0
+of_head (Err InputFull) rest = BadLine 0
+of_head (Err Memory) rest = BadLine 0
 
 -- the verdict on the lines of a text
 unfoldable pub verdict : List Line → Verdict

@@ -1,30 +1,13 @@
 //! The head of a solution, as it is written.
 
-ghost use Rattle.std.specs.Prelude.{◌≡◌, ◌++◌, codes, decimal, OnOk, IfOk};
+ghost use Rattle.std.specs.Prelude.{◌≡◌, ◌++◌, codes, OnOk, IfOk};
 ghost use Rattle.certificate_text.specs.Text.{written_line};
 ghost use Rattle.win_commands.specs.Text.{answer_word, head_text};
 
+use certificate_text::{push_line, push_number};
 use game_text::write_game;
 use hive_model::{Game, ReplyText};
-use itoa::Buffer;
 use std::alloc::{AllocError, Global};
-
-/// Appends a line: a word and what follows it.
-fn push_line(text: &mut ReplyText, word: &[u8], field: &[u8]) -> Result<(), AllocError>
-    ensures { OnOk result (text.new ≡ text.old ++ written_line (word.now ++ field.now)) }
-{
-    text.push_all(word)?;
-    text.push_all(field)?;
-    text.push(b'\n')
-}
-
-/// Appends the line of the number of plies.
-fn push_plies(text: &mut ReplyText, plies: u32) -> Result<(), AllocError>
-    ensures { OnOk result (text.new ≡ text.old ++ written_line (codes "plies " ++ decimal plies)) }
-{
-    let mut buffer = Buffer::new();
-    push_line(text, b"plies ", buffer.format(plies).as_bytes())
-}
 
 /// Appends the line of the answer.
 fn push_answer(text: &mut ReplyText, answer: bool) -> Result<(), AllocError>
@@ -52,7 +35,7 @@ pub(crate) fn head_of<G: Game + Drop>(
     push_line(&mut text, b"hive-solution ", b"1")?;
     write_game(alloc, game, &mut text)?;
     text.push(b'\n')?;
-    push_plies(&mut text, plies)?;
+    push_number(&mut text, b"plies ", plies)?;
     push_answer(&mut text, answer)?;
     Ok(text)
 }
