@@ -28,8 +28,8 @@ use Rattle.strategy_lemmas.specs.declared.tokens.Token.TheVariants.{Index, Cite}
 use Rattle.strategy_lemmas.specs.Short.{short}
 use Rattle.strategy_lemmas.proofs.ShortLaws.{short-holds}
 use Rattle.certificate_text.specs.declared.head.Head.{Head}
-use Rattle.certificate_text.specs.Text.{HeadRead, head_of, head_text, written_line, or_bad, or_bad_game, then_at, version_at, depth_at, move_at, value_at}
-use Rattle.certificate_text.proofs.TextLaws.{some-behind, head-begins, from_game, from_depth, from_text, from_value, head_is}
+use Rattle.certificate_text.specs.Text.{HeadRead, and_then, head_of, head_text, written_line, or_bad, or_bad_game, then_at, version_at, depth_at, move_at, value_at}
+use Rattle.certificate_text.proofs.TextLaws.{some-behind, head-begins, after_version, after_game, after_depth, after_text, head_is}
 use Rattle.index_writing.specs.Writing.{index_lines}
 use Rattle.citing_text.specs.TokenText.{token_in, token_lines, signed_token}
 use Rattle.strategy_make.specs.Making.{certificate, least_indices}
@@ -91,13 +91,13 @@ first-lines t ms d m v may = head-lines 1 t ms d m v (index_lines (least_indices
 
 -- ---- the head
 
-or-some : {A : Type 0} (n : ℕ) (o : Option A) (rest : List Line) (next : A → List Line → HeadRead) (h : Head) → or_bad n o rest next ≡ Ok h → (a : A) × (o ≡ Some a) × (next a rest ≡ Ok h)
-or-some n None rest next h e = cc
-or-some n (Some a) rest next h e = (a, refl, e)
+or-some : {A : Type 0} (n : ℕ) (o : Option A) (next : A → HeadRead) (h : Head) → and_then (or_bad n o) next ≡ Ok h → (a : A) × (o ≡ Some a) × (next a ≡ Ok h)
+or-some n None next h e = cc
+or-some n (Some a) next h e = (a, refl, e)
 
-game-some : (r : Result Parsed GameFault) (rest : List Line) (next : Parsed → List Line → HeadRead) (h : Head) → or_bad_game r rest next ≡ Ok h → (g : Parsed) × (r ≡ Ok g) × (next g rest ≡ Ok h)
-game-some (Err fault) rest next h e = cc
-game-some (Ok g) rest next h e = (g, refl, e)
+game-some : (r : Result Parsed GameFault) (next : Parsed → HeadRead) (h : Head) → and_then (or_bad_game r) next ≡ Ok h → (g : Parsed) × (r ≡ Ok g) × (next g ≡ Ok h)
+game-some (Err fault) next h e = cc
+game-some (Ok g) next h e = (g, refl, e)
 
 -- the same head of the second version
 abbrev second : Head → Head
@@ -107,19 +107,21 @@ second h = record { version = 2; game_type = h.game_type; moves = h.moves; claim
 head-as : (a1 a2 b c e f : List ℕ) (r1 r2 : List Line) (h : Head) → version_at 2 a2 ≡ Some 2 → head_of 1 (Text a1 ∷ (Text b ∷ (Text c ∷ (Text e ∷ (Text f ∷ r1))))) ≡ Ok h →
     head_of 2 (Text a2 ∷ (Text b ∷ (Text c ∷ (Text e ∷ (Text f ∷ r2))))) ≡ Ok (second h)
 head-as a1 a2 b c e f r1 r2 h version is =
-    let one = or-some 1 (version_at 1 a1) (Text b ∷ (Text c ∷ (Text e ∷ (Text f ∷ r1)))) (λ v. from_game v) h (sym (head-begins 1 (Text a1 ∷ (Text b ∷ (Text c ∷ (Text e ∷ (Text f ∷ r1)))))) ∙ is) in
-    let two = game-some (game_of b) (Text c ∷ (Text e ∷ (Text f ∷ r1))) (λ g. from_depth one.0 g) h one.2 in
-    let three = or-some 3 (depth_at c) (Text e ∷ (Text f ∷ r1)) (λ d. from_text one.0 two.0 d) h two.2 in
-    let four = or-some 4 (move_at e) (Text f ∷ r1) (λ x. from_value one.0 two.0 three.0 x) h three.2 in
-    let five = or-some 5 (value_at f) r1 (λ w rest. Ok (head_is one.0 two.0 three.0 four.0 w)) h four.2 in
+    let ls : List Line = Text a1 ∷ (Text b ∷ (Text c ∷ (Text e ∷ (Text f ∷ r1)))) in
+    let ks : List Line = Text a2 ∷ (Text b ∷ (Text c ∷ (Text e ∷ (Text f ∷ r2)))) in
+    let one = or-some 1 (version_at 1 a1) (λ v. after_version ls v) h (sym (head-begins 1 ls) ∙ is) in
+    let two = game-some (game_of b) (λ g. after_game ls one.0 g) h one.2 in
+    let three = or-some 3 (depth_at c) (λ d. after_depth ls one.0 two.0 d) h two.2 in
+    let four = or-some 4 (move_at e) (λ x. after_text ls one.0 two.0 three.0 x) h three.2 in
+    let five = or-some 5 (value_at f) (λ w. Ok (head_is one.0 two.0 three.0 four.0 w)) h four.2 in
     let whole = five.2 in
     let same : head_is one.0 two.0 three.0 four.0 five.0 ≡ h = cc in
-    head-begins 2 (Text a2 ∷ (Text b ∷ (Text c ∷ (Text e ∷ (Text f ∷ r2)))))
-    ∙ ap (λ o. or_bad 1 o (Text b ∷ (Text c ∷ (Text e ∷ (Text f ∷ r2)))) (λ v. from_game v)) version
-    ∙ ap (λ o. or_bad_game o (Text c ∷ (Text e ∷ (Text f ∷ r2))) (λ g. from_depth 2 g)) two.1
-    ∙ ap (λ o. or_bad 3 o (Text e ∷ (Text f ∷ r2)) (λ d. from_text 2 two.0 d)) three.1
-    ∙ ap (λ o. or_bad 4 o (Text f ∷ r2) (λ x. from_value 2 two.0 three.0 x)) four.1
-    ∙ ap (λ o. or_bad 5 o r2 (λ w rest. Ok (head_is 2 two.0 three.0 four.0 w))) five.1
+    head-begins 2 ks
+    ∙ ap (λ o. and_then (or_bad 1 o) (λ v. after_version ks v)) version
+    ∙ ap (λ o. and_then (or_bad_game o) (λ g. after_game ks 2 g)) two.1
+    ∙ ap (λ o. and_then (or_bad 3 o) (λ d. after_depth ks 2 two.0 d)) three.1
+    ∙ ap (λ o. and_then (or_bad 4 o) (λ x. after_text ks 2 two.0 three.0 x)) four.1
+    ∙ ap (λ o. and_then (or_bad 5 o) (λ w. Ok (head_is 2 two.0 three.0 four.0 w))) five.1
     ∙ ap (λ (k : Head). Ok (second k)) same
 
 number-is : (n low high : ℕ) → high < 2 ^ 64 → low ≤ n → n ≤ high → number_at (decimal n) low high ≡ Some n

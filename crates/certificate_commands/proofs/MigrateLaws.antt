@@ -1,13 +1,7 @@
 -- What the parts of a migration write.
-use Rattle.std.proofs.Common.{◌≡◌, ℕ, ◌+◌, Bool, true, false, List, [], ◌∷◌, map, drop, ◌++◌, refl, sym, ap, subst, arith, ◌∙◌, ℤ, Option, Some, None}
-use Rattle.std.specs.Prelude.{codes, decimal, Ok, Err, IsTrue, ◌↔◌, if◌then◌else◌}
-use Rattle.std.specs.Fmt.{signed_decimal}
-use Rattle.std.proofs.lemmas.Fmt.{decimal_digit}
-use Rattle.std.proofs.lemmas.List.{append_assoc}
-use Rattle.hive_model.specs.Denotes.{text}
-use Rattle.hive_model.specs.Strings.{string}
+use Rattle.std.proofs.Common.{◌≡◌, ℕ, ◌+◌, Bool, true, false, List, map, drop, ◌++◌, refl, sym, ap, subst, arith, ◌∙◌, ℤ, Option, Some, None}
+use Rattle.std.specs.Prelude.{Ok, Err, IsTrue, ◌↔◌, if◌then◌else◌}
 use Rattle.io_edge.specs.Outside.{Told as AnyTold}
-use Rattle.hive_model.specs.declared.pieces.GameType.{GameType}
 use Rattle.hive_model.specs.declared.places.Move.{Move}
 use Rattle.hive_model.specs.Positions.{Position, opening}
 use Rattle.hive_model.specs.Courses.{Course, position}
@@ -30,7 +24,7 @@ use Rattle.certificate_text.specs.declared.head.Head.{Head}
 use Rattle.certificate_text.specs.declared.head.HeadFault.{HeadFault}
 use Rattle.certificate_text.specs.declared.head.HeadFault.TheVariants.{BadLine as LineFault, BadGame as NoGame, ReadFault as NoRead, InputFull as IsFull, Memory as NoMemory}
 use Rattle.certificate_text.specs.Heads.{ReadsHead}
-use Rattle.certificate_text.specs.Text.{HeadRead, head_of, head_text, index_in, written_line}
+use Rattle.certificate_text.specs.Text.{HeadRead, head_of, head_text, index_in}
 use Rattle.citing_text.specs.Migrating.{Shortens}
 use Rattle.text_verdicts.specs.declared.verdict.Verdict.{Verdict}
 use Rattle.text_verdicts.specs.declared.verdict.Verdict.TheVariants.{GameOver, BadLine, Refused as VerdictRefused}
@@ -110,19 +104,6 @@ first-is ls r e = ap (λ h. of_head h (drop 5 ls)) e
 pub all-writes : (ls : List Line) (head : Head) (r : Taken) (a b : AnyTold) → head_of 1 ls ≡ Ok head → Writes (of_claim head (drop 5 ls)) (MigratesHead head (drop 5 ls)) r a b → Writes (first_verdict ls) (MigratesTo ls) r a b
 all-writes ls head r a b e h =
     writes-as (of_claim head (drop 5 ls)) (first_verdict ls) (MigratesHead head (drop 5 ls)) (MigratesTo ls) r a b (sym (first-is ls (Ok head) e)) (λ text is. record { head = head; has_head = e; migrates = is }) h
-
--- the head, as the code puts it together
-pub head-pushed : (t : GameType) (ms : List Move) (d : ℕ) (m : Move) (v : ℤ) (start a b c e f h : List ℕ) → start ≡ [] → a ≡ start ++ written_line (codes "hive-certificate " ++ codes "2") → b ≡ a ++ string t ms →
-    c ≡ b ++ 10 ∷ [] → e ≡ c ++ written_line (codes "depth " ++ decimal d) → f ≡ e ++ written_line (codes "move " ++ text (replay (opening t) ms).board m) →
-    h ≡ f ++ written_line (codes "value " ++ signed_decimal v) → h ≡ head_text 2 t ms d m v
-unfolding head_text
-head-pushed t ms d m v start a b c e f h none one two three four five six =
-    let version : a ≡ written_line (codes "hive-certificate " ++ decimal 2) =
-    one ∙ ap (λ s. s ++ written_line (codes "hive-certificate " ++ codes "2")) none ∙ ap (λ x. written_line (codes "hive-certificate " ++ x)) (sym (decimal_digit 2 (omega arith))) in
-    let game : c ≡ written_line (codes "hive-certificate " ++ decimal 2) ++ written_line (string t ms) =
-    three ∙ ap (λ s. s ++ 10 ∷ []) two ∙ append_assoc a (string t ms) (10 ∷ []) ∙ ap (λ s. s ++ written_line (string t ms)) version in
-    six ∙ ap (λ s. s ++ written_line (codes "value " ++ signed_decimal v)) (five ∙ ap (λ s. s ++ written_line (codes "move " ++ text (replay (opening t) ms).board m))
-    (four ∙ ap (λ s. s ++ written_line (codes "depth " ++ decimal d)) game))
 
 -- where the move is not legal
 no-place : (m : Move) (ms : List Move) (b : Bool) → (IsTrue b ↔ IsOn ms m) → b ≡ false → (o : Option ℕ) → place_of m ms ≡ o → None ≡ o
