@@ -6,8 +6,7 @@ use Rattle.line_feed.specs.Feed.{Reading}
 use Rattle.strategy_check.specs.declared.answers.Why.TheVariants.{NoSuchMove, BadIndex, LeafFails, TooShort, Rest}
 use Rattle.strategy_lemmas.specs.declared.tokens.WhyCited.{WhyCited}
 use Rattle.strategy_lemmas.specs.declared.tokens.WhyCited.TheVariants.{NoSuchMove as CitedNoMove, BadIndex as CitedBadIndex, BadCite as CitedBadCite, LeafFails as CitedLeafFails, TooShort as CitedTooShort, Rest as CitedRest}
-use Rattle.strategy_lemmas.specs.CitedChecks.{cited_looked_at}
-use Rattle.strategy_lemmas.specs.CitedCauses.{OnShortCited}
+use Rattle.strategy_lemmas.specs.CitedChecks.{OnShortCited, cited_looked_at}
 use Rattle.certificate_text.specs.Taken.{HasRead}
 use Rattle.certificate_text.proofs.TakenLaws.{read-more}
 use Rattle.text_verdicts.specs.Reading.{WasReadAs}

@@ -10,15 +10,11 @@ ghost use Rattle.hive_model.specs.Courses.{position};
 ghost use Rattle.search_laws.specs.Laws.{IsSmall};
 ghost use Rattle.claim_walks.specs.Walks.{Outcome};
 ghost use Rattle.strategy_lemmas.specs.declared.tokens.WhyCited.{WhyCited as AnyWhy};
+ghost use Rattle.strategy_lemmas.specs.declared.tokens.Token.{Token as AnyToken};
 ghost use Rattle.strategy_lemmas.specs.Cited.{CitedSteps};
-ghost use Rattle.strategy_lemmas.specs.CitedChecks.{
-  CitedAnswers,
-  CitedCountsBad,
-  CitedCountsRefused,
-};
-ghost use Rattle.strategy_lemmas.specs.CitedCauses.{CitedEnded};
-ghost use Rattle.certificate_text.specs.Taken.{HasRead};
-ghost use Rattle.citing_text.specs.Taken.{TokenStopsAt};
+ghost use Rattle.claim_walks.specs.Answers.{Answers, CountsBad, CountsRefused, Ended};
+ghost use Rattle.strategy_lemmas.specs.CitedChecks.{cited_faults};
+ghost use Rattle.certificate_text.specs.Taken.{HasRead, StopsAt};
 ghost use Rattle.citing_text.specs.TokenText.{token_in};
 ghost use Rattle.text_verdicts.specs.Reading.{Judges, WasReadAs};
 ghost use Rattle.certificate_commands.specs.Verdicts.{of_cited, of_tokens, of_why};
@@ -28,8 +24,8 @@ use citing_text::LineTokens;
 use hive_model::{Game, MoveStack};
 use io_edge::Source;
 use line_feed::LineReader;
-use strategy_check::{Claim, Halt, Why};
-use strategy_lemmas::{CheckedCited, Lemmas, WhyCited, check_cited};
+use strategy_check::{Checked, Claim, Halt, Why};
+use strategy_lemmas::{Lemmas, WhyCited, check_cited};
 use text_verdicts::{Unread, Verdict};
 
 /// The verdict that a fault of tokens is.
@@ -62,26 +58,27 @@ fn fault_of(place: u64, why: WhyCited) -> Verdict
 }
 
 /// What the answer of a check of tokens means, where so many lines were taken behind the head.
-fn verdict_of_cited(checked: CheckedCited, lines: u64) -> Result<Verdict, Unread>
-    ensures judges { (o : Outcome CitedSteps AnyWhy) → CitedAnswers o checked
-        → CitedCountsBad o checked lines → Judges result (of_cited 5 o) }
+fn verdict_of_cited(checked: Checked<WhyCited>, lines: u64) -> Result<Verdict, Unread>
+    ensures judges { (o : Outcome CitedSteps AnyWhy) → Answers o checked
+        → CountsBad o checked lines → Judges result (of_cited 5 o) }
     ensures failed { (result ≡ Err Unread.ReadFault)
-        ↔ (checked ≡ CheckedCited.Halted Halt.Failed) }
-    ensures full { result ≡ Err Unread.InputFull → checked ≡ CheckedCited.Halted Halt.Full }
+        ↔ (checked ≡ Checked.Halted Halt.Failed) }
+    ensures full { result ≡ Err Unread.InputFull → checked ≡ Checked.Halted Halt.Full }
     ensures read { (text : List ℕ) (rest : AnyTold) (reader : Reading)
-        → HasRead text rest reader (5 + lines) → CitedCountsRefused checked lines
-        → CitedEnded (λ answer. TokenStopsAt answer reader) checked → WasReadAs 5 result text rest }
+        → HasRead text rest reader (5 + lines) → CountsRefused cited_faults checked lines
+        → Ended {T = AnyToken} cited_faults (λ answer. StopsAt answer reader) checked
+        → WasReadAs 5 result text rest }
 {
     match checked {
-        CheckedCited::Accepted => Ok(Verdict::Accepted),
-        CheckedCited::Refused { place, why } => Ok(fault_of(place, why)),
-        CheckedCited::Halted { answer: Halt::Bad } => Ok(Verdict::BadLine {
+        Checked::Accepted => Ok(Verdict::Accepted),
+        Checked::Refused { place, why } => Ok(fault_of(place, why)),
+        Checked::Halted { answer: Halt::Bad } => Ok(Verdict::BadLine {
             line: lines.saturating_add(HEAD_LINES as u64),
         }),
-        CheckedCited::Halted {
+        Checked::Halted {
             answer: Halt::Failed,
         } => Err(Unread::ReadFault),
-        CheckedCited::Halted { answer: Halt::Full } => Err(Unread::InputFull),
+        Checked::Halted { answer: Halt::Full } => Err(Unread::InputFull),
     }
 }
 

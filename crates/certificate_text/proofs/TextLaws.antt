@@ -15,7 +15,7 @@ use Rattle.io_edge.specs.Outside.{Told, in_front}
 use Rattle.line_feed.specs.Feed.{Reading, Takes}
 use Rattle.std.proofs.lemmas.List.{append_assoc, drop-drop, length-append}
 use Rattle.line_feed.specs.Ahead.{ahead_of, lines_left}
-use Rattle.strategy_check.specs.Items.{IsAtEnd}
+use Rattle.claim_walks.specs.Items.{IsAtEnd}
 use Rattle.game_text.specs.Turns.{behind_word}
 use Rattle.game_text.specs.declared.parsed.Parsed.{Parsed}
 use Rattle.certificate_text.specs.declared.head.Head.{Head}
@@ -132,7 +132,7 @@ all-same old new r0 (Some left) bytes t =
     let same : new.taken + length left ≡ before + length (bytes ++ left) = omega (arith, counted, whole) in
     ap (λ n. Some n) same ∙ ap (in_all old) (sym t.left)
 
--- ---- lines of indices
+-- ---- lines of items
 
 -- at the end nothing is told that was not told before
 pub end-told : (old new : Reading) (r0 r1 : Told) (bytes : List ℕ) → r0 ≡ in_front bytes r1 → NoneAhead (ahead_of old r0) → NoneAhead (ahead_of new r1) → ahead_of new r1 ≡ ahead_of old r0
@@ -142,6 +142,6 @@ end-told old new r0 (Some b) bytes e none0 none1 =
     let z : lines_left old (bytes ++ b) ≡ [] = subst (λ r. NoneAhead (ahead_of old r)) e none0 in
     ap (λ ls. Some ls) none1 ∙ sym (ap (λ ls. Some ls) z) ∙ ap (ahead_of old) (sym e)
 
-pub no-items : (t : ToldLines) → NoneAhead t → IsAtEnd (option_map (map index_in) t)
-no-items None e = tt
-no-items (Some ls) e = ap (map index_in) e
+pub no-items : {T : Type 0} (item : Line → Option T) (t : ToldLines) → NoneAhead t → IsAtEnd (option_map (map item) t)
+no-items item None e = tt
+no-items item (Some ls) e = ap (map item) e

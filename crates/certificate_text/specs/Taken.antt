@@ -4,8 +4,8 @@ use Rattle.io_edge.specs.Outside.{Told}
 use Rattle.hive_model.specs.Lines.{Line}
 use Rattle.line_feed.specs.Feed.{HoldsLittle, Reading, input_limit}
 use Rattle.line_feed.specs.SoFar.{Fed}
-use Rattle.strategy_check.specs.declared.indices.IndexAnswer.{IndexAnswer}
-use Rattle.strategy_check.specs.declared.indices.IndexAnswer.TheVariants.{Index, End, Bad, Failed, Full}
+use Rattle.claim_walks.specs.declared.items.ItemAnswer.{ItemAnswer}
+use Rattle.claim_walks.specs.declared.items.ItemAnswer.TheVariants.{Item, End, Bad, Failed, Full}
 
 -- Of the input these first bytes were read, by a reader that was new, and it gave these lines of them, at most so many. The bytes are
 -- within the limit, and the reader holds the front of one line and at most one piece beyond it.
@@ -17,10 +17,10 @@ pub record HasRead (input : List ℕ) (rest : Told) (reader : Reading) (most : �
   pub within : reader.taken ≤ input_limit
   pub little : HoldsLittle reader
 
--- How far a reader has come that was asked for an index, by the answer: it has met the end; a read has failed below the limit; or the
+-- How far a reader has come that was asked for an item, by the answer: it has met the end; a read has failed below the limit; or the
 -- limit is reached.
-abbrev pub StopsAt : IndexAnswer → Reading → Type 0
-StopsAt (Index i) reader = ⊤
+abbrev pub StopsAt : {T : Type 0} → ItemAnswer T → Reading → Type 0
+StopsAt (Item item) reader = ⊤
 StopsAt End reader = reader.finished ≡ true
 StopsAt Bad reader = ⊤
 StopsAt Failed reader = reader.taken < input_limit

@@ -1,5 +1,5 @@
-//! Certificates as texts: the head of a text, and indices of which each stands on a line of its
-//! own.
+//! Certificates as texts: the head of a text, and items of which each stands on a line of its own,
+//! as indices do.
 #![tactic(auto)]
 
 mod fields;
@@ -9,5 +9,5 @@ mod writing;
 
 pub use fields::{Field, behind, number_at};
 pub use head::{Head, HeadFault, read_field, read_game_line, read_head};
-pub use lines::LineIndices;
+pub use lines::{IndexLine, LineForm, LineIndices, LineItems};
 pub use writing::{push_line, push_number, write_head};

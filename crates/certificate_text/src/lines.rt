@@ -1,7 +1,8 @@
-//! Indices of which each stands on a line of its own.
+//! Items of which each stands on a line of its own.
 
-ghost use Rattle.std.specs.Prelude.{◌≡◌, ◌+◌, [], ◌∷◌, nat_eq, map};
+ghost use Rattle.std.specs.Prelude.{◌≡◌, ◌+◌, [], ◌∷◌, Option, None, nat_eq, map, refl};
 ghost use Rattle.std.specs.Option.{option_map};
+ghost use Rattle.hive_model.specs.Lines.{Line, Text, TooLong};
 ghost use Rattle.line_feed.specs.Feed.{input_limit};
 ghost use Rattle.line_feed.specs.Ahead.{ahead_of};
 ghost use Rattle.certificate_text.specs.Text.{index_in};
@@ -9,32 +10,69 @@ ghost use Rattle.certificate_text.specs.Heads.{in_all};
 ghost use Rattle.certificate_text.specs.Taken.{HasRead, StopsAt};
 
 use crate::fields::index_at;
+use claim_walks::{ItemAnswer, Items};
 use io_edge::Source;
 use line_feed::{LineAnswer, LineReader};
-use strategy_check::{IndexAnswer, Indices};
+use std::marker::PhantomData;
 
-/// The indices on the lines to come of a reader and its source, which it borrows. A line that is
-/// too long or is no index is a bad item.
+/// The form of the lines on which items stand.
+pub trait LineForm {
+    /// What stands on a line.
+    type Item: Copy;
+
+    /// The item that a line is, if it is one.
+    ghost item: { Line → Option Self.Item };
+
+    /// The item that a line is, if it is one.
+    fn read(line: &[u8]) -> Option<Self::Item>
+        ensures { result ≡ item (Text line.now) };
+
+    /// A line that is too long is none.
+    ghost too_long: { item TooLong ≡ None };
+}
+
+/// An index on a line.
+pub struct IndexLine;
+
+impl LineForm for IndexLine {
+    type Item = u32;
+
+    ghost item = { index_in };
+
+    fn read(line: &[u8]) -> Option<u32> {
+        index_at(line)
+    }
+
+    ghost too_long = { refl };
+}
+
+/// The items on the lines to come of a reader and its source, which it borrows. A line that is too
+/// long or is not of the form is a bad item.
 #[derive(Drop)]
-pub struct LineIndices<'a, 'b, S: Source> {
+pub struct LineItems<'a, 'b, S: Source, F: LineForm> {
     reader: &'a mut LineReader,
     source: &'b mut S,
     lines: u64,
+    form: PhantomData<F>,
 }
 
-impl<'a, 'b, S: Source> LineIndices<'a, 'b, S> {
-    /// The indices on all lines to come.
-    pub fn new(reader: &'a mut LineReader, source: &'b mut S) -> LineIndices<'a, 'b, S>
+/// The indices on the lines to come.
+pub type LineIndices<'a, 'b, S> = LineItems<'a, 'b, S, IndexLine>;
+
+impl<'a, 'b, S: Source, F: LineForm> LineItems<'a, 'b, S, F> {
+    /// The items on all lines to come.
+    pub fn new(reader: &'a mut LineReader, source: &'b mut S) -> LineItems<'a, 'b, S, F>
         ensures reader { result.reader.ghost_name ≡ reader.entry.ghost_name }
         ensures source { result.source.ghost_name ≡ source.entry.ghost_name }
         ensures same_reader { result.reader.now ≡ reader.old }
         ensures same_source { result.source.now ≡ source.old }
         ensures none { result.lines ≡ 0 }
     {
-        LineIndices {
+        LineItems {
             reader,
             source,
             lines: 0,
+            form: PhantomData,
         }
     }
 
@@ -46,8 +84,10 @@ impl<'a, 'b, S: Source> LineIndices<'a, 'b, S> {
     }
 }
 
-impl<S: Source> Indices for LineIndices<'_, '_, S> {
-    ghost left = { λ s. option_map (map index_in) (ahead_of s.reader.now (S.rest s.source.now)) };
+impl<S: Source, F: LineForm> Items for LineItems<'_, '_, S, F> {
+    type Item = F::Item;
+
+    ghost left = { λ s. option_map (map F.item) (ahead_of s.reader.now (S.rest s.source.now)) };
 
     ghost faults = { λ s. S.read_faults s.source.now };
 
@@ -60,26 +100,27 @@ impl<S: Source> Indices for LineIndices<'_, '_, S> {
       bytes = in_all s.reader.now (S.rest s.source.now);
     } };
 
-    ghost known = { λ s input before. HasRead input (S.rest s.source.now) s.reader.now (before + s.lines) };
+    ghost known = { λ s input before.
+        HasRead input (S.rest s.source.now) s.reader.now (before + s.lines) };
 
     ghost met = { λ s answer. StopsAt answer s.reader.now };
 
-    fn take(&mut self) -> IndexAnswer {
+    fn take(&mut self) -> ItemAnswer<F::Item> {
         match self.reader.next_line(self.source) {
             LineAnswer::Line => {
                 self.lines = self.lines.saturating_add(1);
-                match index_at(self.reader.line()) {
-                    Some(index) => IndexAnswer::Index(index),
-                    None => IndexAnswer::Bad,
+                match F::read(self.reader.line()) {
+                    Some(item) => ItemAnswer::Item(item),
+                    None => ItemAnswer::Bad,
                 }
             }
             LineAnswer::TooLong => {
                 self.lines = self.lines.saturating_add(1);
-                IndexAnswer::Bad
+                ItemAnswer::Bad
             }
-            LineAnswer::End => IndexAnswer::End,
-            LineAnswer::Failed => IndexAnswer::Failed,
-            LineAnswer::Full => IndexAnswer::Full,
+            LineAnswer::End => ItemAnswer::End,
+            LineAnswer::Failed => ItemAnswer::Failed,
+            LineAnswer::Full => ItemAnswer::Full,
         }
     }
 }

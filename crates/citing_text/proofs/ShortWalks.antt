@@ -1,26 +1,30 @@
 -- What the code of a walk that writes tokens finds at a node, and what its answers say.
 use Rattle.std.proofs.Common.{◌≡◌, ℕ, ◌+◌, Bool, true, false, List, [], ◌∷◌, ◌++◌, refl, sym, ap, subst, ◌∙◌, ℤ, Option, Some, None}
+use Rattle.std.specs.Prelude.{IfSome}
 use Rattle.std.specs.Bool.{OnTrue}
 use Rattle.hive_model.specs.Positions.{Position}
 use Rattle.hive_model.specs.Keys.{KeyParts, key}
 use Rattle.claim_walks.specs.declared.limit.Limit.TheVariants.{AtLeast}
-use Rattle.claim_walks.specs.declared.walker.Walked.{Walked as AnyWalked}
+use Rattle.claim_walks.specs.declared.walker.Walked.{Walked}
 use Rattle.claim_walks.specs.declared.walker.Walked.TheVariants.{Done as AllDone, LeafFails as ALeafFails, BadIndex as ABadIndex, Stops}
 use Rattle.claim_walks.specs.declared.walker.Took.{Took}
 use Rattle.claim_walks.specs.declared.walker.Took.TheVariants.{Shown as TookShown}
+use Rattle.claim_walks.specs.declared.answers.Halt.TheVariants.{Bad, Failed, Full}
+use Rattle.claim_walks.specs.declared.answers.Stop.{Stop}
+use Rattle.claim_walks.specs.declared.answers.WalkAnswer.{WalkAnswer}
+use Rattle.claim_walks.specs.declared.answers.WalkAnswer.TheVariants.{Done, Refuses, Halts}
+use Rattle.claim_walks.specs.declared.items.ItemAnswer.TheVariants.{Item, End, Bad as BadAnswer}
+use Rattle.claim_walks.specs.Items.{Told, Takes}
 use Rattle.claim_walks.specs.Walks.{Outcome, Step, Below, Ends}
 use Rattle.claim_walks.specs.Follows.{held, Ending, Refused as RefusedFor, BadItem, Meets, Follows}
 use Rattle.claim_walks.specs.Parts.{IsPart, IsFoundBy, EndsHere, Finds, ending_of}
+use Rattle.claim_walks.specs.Answers.{CountsOn, ended, ending}
+use Rattle.claim_walks.specs.Taking.{Moment, Taking, GoesOn}
 use Rattle.claim_walks.proofs.NodeLaws.{ends-here}
+use Rattle.claim_walks.proofs.ItemLaws.{refuses}
 use Rattle.strategy_check.specs.declared.answers.Why.{Why}
 use Rattle.strategy_check.specs.declared.answers.Why.TheVariants.{BadIndex, LeafFails, TooShort}
-use Rattle.strategy_check.specs.declared.answers.Halt.TheVariants.{Bad, Failed, Full}
-use Rattle.strategy_check.specs.declared.indices.IndexAnswer.TheVariants.{Index as IndexItem, End, Bad as BadAnswer}
-use Rattle.strategy_check.specs.declared.walk.Walked.{Walked}
-use Rattle.strategy_check.specs.declared.walk.Walked.TheVariants.{Done as WalkedDone, Refuses as WalkedRefuses, Halts as WalkedHalts}
-use Rattle.strategy_check.specs.Items.{Told, Takes}
-use Rattle.strategy_check.specs.Causes.{OnShort}
-use Rattle.strategy_check.specs.Checks.{seen, index_sight, ending}
+use Rattle.strategy_check.specs.Checks.{seen, index_sight, index_faults}
 use Rattle.strategy_check.specs.Trace.{Steps, trace}
 use Rattle.strategy_check.proofs.IndexWalks as items
 use Rattle.strategy_lemmas.specs.declared.tokens.Token.{Token}
@@ -30,51 +34,36 @@ use Rattle.lemma_list.specs.Lemmas.{with_lemma, server}
 use Rattle.strategy_lemmas.specs.Short.{ShortSteps, short_steps, passes_over, writes_index, short_take, short_rules}
 use Rattle.certificate_text.specs.Text.{index_line}
 use Rattle.citing_text.specs.declared.draft.Draft.{Draft}
-use Rattle.citing_text.specs.declared.shortening.Shortened.{Shortened}
-use Rattle.citing_text.specs.declared.shortening.Shortened.TheVariants.{Done, Refuses, Halts, NoMemory}
-use Rattle.citing_text.specs.declared.shortening.ShortStop.{ShortStop}
 use Rattle.citing_text.specs.declared.shortening.ShortWalk.{ShortWalk}
 use Rattle.citing_text.specs.TokenText.{cite_line, token_lines}
 use Rattle.citing_text.specs.Drafts.{with_index, with_cite}
-use Rattle.citing_text.specs.Shortening.{ShortSeen, short_seen, draft_of, short_sight, short_ending, IsOfShortWalk, of_walked, TookItems}
-use Rattle.citing_text.specs.ShortTaking.{ShortMoment, ShortTaking, ShortGoesOn, ShortStopsAt, of_short_walk, short_stop_ending, of_passed}
+use Rattle.citing_text.specs.Shortening.{ShortSeen, short_seen, draft_of, short_sight, short_ending}
+use Rattle.citing_text.specs.ShortTaking.{ShortStopsAt, of_short_walk, short_stop_ending, of_passed}
 use Rattle.citing_text.proofs.TokenTextLaws.{lines-more}
 
 -- ---- endings
 
-ending-is : (w : AnyWalked ShortStop) → ending_of short_rules short_stop_ending w ≡ short_ending (of_short_walk w)
+ending-is : (w : Walked (Option (Stop Why))) → ending_of short_rules short_stop_ending w ≡ short_ending (of_short_walk w)
 ending-is AllDone = refl
 ending-is ALeafFails = refl
 ending-is ABadIndex = refl
 ending-is (Stops stop) = refl
 
-pub meets-is : (o : Outcome ShortSteps Why) (w : AnyWalked ShortStop) (walked : Shortened) (n : ShortSeen) → walked ≡ of_short_walk w → Meets short_sight o (ending_of short_rules short_stop_ending w) n → Meets short_sight o (short_ending walked) n
+pub meets-is : (o : Outcome ShortSteps Why) (w : Walked (Option (Stop Why))) (walked : Option (WalkAnswer Why)) (n : ShortSeen) → walked ≡ of_short_walk w → Meets short_sight o (ending_of short_rules short_stop_ending w) n → Meets short_sight o (short_ending walked) n
 meets-is o w walked n is h = subst (λ (e : Ending Why). Meets short_sight o e n) (ending-is w ∙ ap short_ending (sym is)) h
 
--- what is so of a walk that came to its end is so where it was refused and no index is missing
-refuses : (why : Why) (a b : ShortMoment) → OnShort why (b.met End) → IsOfShortWalk (Refuses why) → ShortGoesOn a b → ShortTaking (Refuses why) a b
-refuses why a b met legal h = record {
-  names = h.names;
-  cause = record { later = h.cause.later; rose = λ e. cc; same = λ e. h.cause.same (λ f. cc); closed = λ e. cc };
-  counted = h.counted;
-  lenders = h.lenders;
-  known = h.known;
-  met = met;
-  legal = legal;
-}
+module _ {I : Type 0} (at : ShortWalk I → Moment ℕ) where
+  abbrev pub IsTold : Walked (Option (Stop Why)) → ShortWalk I → ShortWalk I → Type 0
+  IsTold = IsPart (λ a b. GoesOn index_faults (at a) (at b)) (λ stop a b. ShortStopsAt stop (at a) (at b))
 
-module _ {I : Type 0} (at : ShortWalk I → ShortMoment) where
-  abbrev pub IsTold : AnyWalked ShortStop → ShortWalk I → ShortWalk I → Type 0
-  IsTold = IsPart (λ a b. ShortGoesOn (at a) (at b)) (λ stop a b. ShortStopsAt stop (at a) (at b))
-
-  part-is : (w : AnyWalked ShortStop) (a b : ShortWalk I) → IsTold w a b → ShortTaking (of_short_walk w) (at a) (at b)
+  part-is : (w : Walked (Option (Stop Why))) (a b : ShortWalk I) → IsTold w a b → Taking index_faults (of_short_walk w) (at a) (at b)
   part-is AllDone a b h = h
-  part-is ALeafFails a b h = refuses LeafFails (at a) (at b) tt tt h
-  part-is ABadIndex a b h = refuses BadIndex (at a) (at b) tt tt h
+  part-is ALeafFails a b h = refuses index_faults LeafFails (at a) (at b) tt tt h
+  part-is ABadIndex a b h = refuses index_faults BadIndex (at a) (at b) tt tt h
   part-is (Stops stop) a b h = h
 
-  pub taking-is : (w : AnyWalked ShortStop) (walked : Shortened) (a b : ShortWalk I) → walked ≡ of_short_walk w → IsTold w a b → ShortTaking walked (at a) (at b)
-  taking-is w walked a b is h = subst (λ (x : Shortened). ShortTaking x (at a) (at b)) (sym is) (part-is w a b h)
+  pub taking-is : (w : Walked (Option (Stop Why))) (walked : Option (WalkAnswer Why)) (a b : ShortWalk I) → walked ≡ of_short_walk w → IsTold w a b → Taking index_faults walked (at a) (at b)
+  taking-is w walked a b is h = subst (λ (x : Option (WalkAnswer Why)). Taking index_faults x (at a) (at b)) (sym is) (part-is w a b h)
 
 -- ---- what is seen
 
@@ -82,16 +71,16 @@ draft-is : (n k : ℕ) (ls ks : List Lemma) (t u : List ℕ) → n ≡ k → ls 
     (let d : Draft = record { taken = n; lemmas = ls; text = t } in d ≡ record { taken = k; lemmas = ks; text = u })
 draft-is n k ls ks t u a b c = λ i. record { taken = a i; lemmas = b i; text = c i }
 
-pub seen-is : (a b : Told) (d e : Draft) → a ≡ b → d ≡ e → short_seen a d ≡ short_seen b e
+pub seen-is : (a b : Told ℕ) (d e : Draft) → a ≡ b → d ≡ e → short_seen a d ≡ short_seen b e
 seen-is a b d e p q = λ i. short_seen (p i) (q i)
 
-record Is (a : Told) (d : Draft) (s : ShortSteps) : Type 0 where
+record Is (a : Told ℕ) (d : Draft) (s : ShortSteps) : Type 0 where
   left : a ≡ Some s.items.left
   taken : d.taken ≡ held s.items.taken
   lemmas : d.lemmas ≡ s.lemmas
   text : d.text ≡ token_lines s.written
 
-told-is : (a : Told) (d : Draft) (s : ShortSteps) → short_seen a d ≡ short_sight.view s → Is a d s
+told-is : (a : Told ℕ) (d : Draft) (s : ShortSteps) → short_seen a d ≡ short_sight.view s → Is a d s
 told-is a d s e = record {
   left = ap (λ (x : ShortSeen). x.told) e;
   taken = ap (λ (x : ShortSeen). x.draft.taken) e;
@@ -99,7 +88,7 @@ told-is a d s e = record {
   text = ap (λ (x : ShortSeen). x.draft.text) e;
 }
 
-items-is : (a : Told) (d : Draft) (s : ShortSteps) → Is a d s → seen a d.taken ≡ index_sight.view s.items
+items-is : (a : Told ℕ) (d : Draft) (s : ShortSteps) → Is a d s → seen a d.taken ≡ index_sight.view s.items
 items-is a d s is = items.seen-is a (Some s.items.left) d.taken (held s.items.taken) is.left is.taken
 
 -- ---- a node where no lemma serves
@@ -107,7 +96,7 @@ items-is a d s is = items.seen-is a (Some s.items.left) d.taken (held s.items.ta
 none-here : (k : KeyParts) (e : ℕ) (x : ℤ) (d : Draft) (s : ShortSteps) → d.lemmas ≡ s.lemmas → server k e x d.lemmas ≡ None → server k e x s.lemmas ≡ None
 none-here k e x d s is none = ap (server k e x) (sym is) ∙ none
 
-pub index-took : (p : Position) (d : ℕ) (x : ℤ) (a b : Told) (draft : Draft) (i : ℕ) → Takes (IndexItem i) a b → server (key p) d x draft.lemmas ≡ None → (s : ShortSteps) →
+pub index-took : (p : Position) (d : ℕ) (x : ℤ) (a b : Told ℕ) (draft : Draft) (i : ℕ) → Takes (Item i) a b → server (key p) d x draft.lemmas ≡ None → (s : ShortSteps) →
     short_seen a draft ≡ short_sight.view s → (s1 : ShortSteps) × (short_rules.take p d x s ≡ Below i s1) × (short_seen b (with_index i draft) ≡ short_sight.view s1)
 index-took p d x a b draft i took none s e =
     let is = told-is a draft s e in
@@ -120,7 +109,7 @@ index-took p d x a b draft i took none s e =
           (ap (λ u. u ++ index_line i) is.text ∙ sym (lines-more s.written (Index i)))),
     )
 
-pub end-took : (p : Position) (d : ℕ) (x : ℤ) (a b : Told) (draft : Draft) → Takes End a b → server (key p) d x draft.lemmas ≡ None → (s : ShortSteps) → short_seen a draft ≡ short_sight.view s →
+pub end-took : (p : Position) (d : ℕ) (x : ℤ) (a b : Told ℕ) (draft : Draft) → Takes End a b → server (key p) d x draft.lemmas ≡ None → (s : ShortSteps) → short_seen a draft ≡ short_sight.view s →
     (o : Outcome ShortSteps Why) × (short_rules.take p d x s ≡ Ends o) × Meets short_sight o (RefusedFor TooShort) (short_seen b draft)
 end-took p d x a b draft took none s e =
     let is = told-is a draft s e in
@@ -130,7 +119,7 @@ end-took p d x a b draft took none s e =
       (t.2.0, ap (λ (o : Outcome Steps Why). passes_over o s.lemmas s.written) t.2.1, t.2.2),
     )
 
-pub bad-took : (p : Position) (d : ℕ) (x : ℤ) (a b : Told) (draft : Draft) → Takes BadAnswer a b → server (key p) d x draft.lemmas ≡ None → (s : ShortSteps) → short_seen a draft ≡ short_sight.view s →
+pub bad-took : (p : Position) (d : ℕ) (x : ℤ) (a b : Told ℕ) (draft : Draft) → Takes BadAnswer a b → server (key p) d x draft.lemmas ≡ None → (s : ShortSteps) → short_seen a draft ≡ short_sight.view s →
     (o : Outcome ShortSteps Why) × (short_rules.take p d x s ≡ Ends o) × Meets short_sight o BadItem (short_seen b draft)
 bad-took p d x a b draft took none s e =
     let is = told-is a draft s e in
@@ -140,7 +129,7 @@ bad-took p d x a b draft took none s e =
       (t.2.0, ap (λ (o : Outcome Steps Why). passes_over o s.lemmas s.written) t.2.1, t.2.2),
     )
 
-pub index-added : (p : Position) (d : ℕ) (x : ℤ) (a b : Told) (draft added : Draft) (i : ℕ) → Takes (IndexItem i) a b → server (key p) d x draft.lemmas ≡ None → added ≡ with_index i draft → (s : ShortSteps) →
+pub index-added : (p : Position) (d : ℕ) (x : ℤ) (a b : Told ℕ) (draft added : Draft) (i : ℕ) → Takes (Item i) a b → server (key p) d x draft.lemmas ≡ None → added ≡ with_index i draft → (s : ShortSteps) →
     short_seen a draft ≡ short_sight.view s → (s1 : ShortSteps) × (short_rules.take p d x s ≡ Below i s1) × (short_seen b added ≡ short_sight.view s1)
 index-added p d x a b draft added i took none is s e =
     let t = index-took p d x a b draft i took none s e in
@@ -152,7 +141,7 @@ pub kept-is : (q r : KeyParts) (d : ℕ) (x y : ℤ) (before : Draft) (ls : List
 kept-is q r d x y before ls e eq ey =
     draft-is before.taken before.taken ls (with_lemma r d x before.lemmas) before.text before.text refl (e ∙ (λ i. with_lemma (eq i) d (ey i) before.lemmas)) refl
 
-pub lemma-kept : (p : Position) (d : ℕ) (x : ℤ) (a : Told) (draft : Draft) (s : ShortSteps) → short_seen a draft ≡ short_sight.view s →
+pub lemma-kept : (p : Position) (d : ℕ) (x : ℤ) (a : Told ℕ) (draft : Draft) (s : ShortSteps) → short_seen a draft ≡ short_sight.view s →
     short_seen a (record { taken = draft.taken; lemmas = with_lemma (key p) d x draft.lemmas; text = draft.text }) ≡ short_sight.view (short_rules.keep p d x s)
 lemma-kept p d x a draft s e =
     let is = told-is a draft s e in
@@ -160,23 +149,23 @@ lemma-kept p d x a draft s e =
 
 -- ---- a node where a lemma serves
 
-passed-meets : (o : Outcome Steps Why) (w : Walked) (b : Told) (k : ℕ) (ls ks : List Lemma) (ws : List Token) (u : List ℕ) → u ≡ token_lines ws → ks ≡ ls → Meets index_sight o (ending w) (seen b k) →
-    Meets short_sight (passes_over o ls ws) (short_ending (of_walked w)) (short_seen b (record { taken = k; lemmas = ks; text = u }))
-passed-meets o WalkedDone b k ls ks ws u text lemmas m = (
+passed-meets : (o : Outcome Steps Why) (w : WalkAnswer Why) (b : Told ℕ) (k : ℕ) (ls ks : List Lemma) (ws : List Token) (u : List ℕ) → u ≡ token_lines ws → ks ≡ ls → Meets index_sight o (ending w) (seen b k) →
+    Meets short_sight (passes_over o ls ws) (ending w) (short_seen b (record { taken = k; lemmas = ks; text = u }))
+passed-meets o Done b k ls ks ws u text lemmas m = (
   short_steps m.0 ls ws,
   ap (λ (o : Outcome Steps Why). passes_over o ls ws) m.1,
   λ i. short_seen ((ap (λ x. x.told) m.2) i) (record { taken = (ap (λ x. x.taken) m.2) i; lemmas = lemmas i; text = text i }),
 )
-passed-meets o (WalkedRefuses why) b k ls ks ws u text lemmas m = (m.0, ap (λ (o : Outcome Steps Why). passes_over o ls ws) m.1, m.2)
-passed-meets o (WalkedHalts Bad) b k ls ks ws u text lemmas m = (m.0, ap (λ (o : Outcome Steps Why). passes_over o ls ws) m.1, m.2)
-passed-meets o (WalkedHalts Failed) b k ls ks ws u text lemmas m = tt
-passed-meets o (WalkedHalts Full) b k ls ks ws u text lemmas m = tt
+passed-meets o (Refuses why) b k ls ks ws u text lemmas m = (m.0, ap (λ (o : Outcome Steps Why). passes_over o ls ws) m.1, m.2)
+passed-meets o (Halts Bad) b k ls ks ws u text lemmas m = (m.0, ap (λ (o : Outcome Steps Why). passes_over o ls ws) m.1, m.2)
+passed-meets o (Halts Failed) b k ls ks ws u text lemmas m = tt
+passed-meets o (Halts Full) b k ls ks ws u text lemmas m = tt
 
-pass-told : (p : Position) (d : ℕ) (x : ℤ) (n : ℕ) (a b : Told) (draft : Draft) (k : ℕ) (w : Walked) → server (key p) d x draft.lemmas ≡ Some n →
+pass-told : (p : Position) (d : ℕ) (x : ℤ) (n : ℕ) (a b : Told ℕ) (draft : Draft) (k : ℕ) (w : WalkAnswer Why) → server (key p) d x draft.lemmas ≡ Some n →
     Follows index_sight (trace p d (AtLeast x)) (seen a draft.taken) (ending w) (seen b k) →
-    EndsHere short_rules short_sight p d x (short_seen a draft) (short_ending (of_walked w)) (short_seen b (record { taken = k; lemmas = draft.lemmas; text = draft.text ++ cite_line n }))
+    EndsHere short_rules short_sight p d x (short_seen a draft) (ending w) (short_seen b (record { taken = k; lemmas = draft.lemmas; text = draft.text ++ cite_line n }))
 pass-told p d x n a b draft k w served told =
-    ends-here short_rules short_sight p d x (short_seen a draft) (short_seen b (record { taken = k; lemmas = draft.lemmas; text = draft.text ++ cite_line n })) (short_ending (of_walked w)) (λ s e.
+    ends-here short_rules short_sight p d x (short_seen a draft) (short_seen b (record { taken = k; lemmas = draft.lemmas; text = draft.text ++ cite_line n })) (ending w) (λ s e.
     let is = told-is a draft s e in
     let here : server (key p) d x s.lemmas ≡ Some n = ap (server (key p) d x) (sym is.lemmas) ∙ served in (
       passes_over (trace p d (AtLeast x) s.items) s.lemmas (s.written ++ Cite n ∷ []),
@@ -185,48 +174,56 @@ pass-told p d x n a b draft k w served told =
           (told s.items (items-is a draft s is)),
     ))
 
-pub pass-ends : (p : Position) (d : ℕ) (x y : ℤ) (n : ℕ) (a b : Told) (draft cited : Draft) (k : ℕ) (w : Walked) (r : Shortened) → server (key p) d x draft.lemmas ≡ Some n → cited ≡ with_cite n draft → y ≡ x →
-    Follows index_sight (trace p d (AtLeast y)) (seen a cited.taken) (ending w) (seen b k) → r ≡ of_walked w →
-    EndsHere short_rules short_sight p d x (short_seen a draft) (short_ending r) (short_seen b (record { taken = k; lemmas = cited.lemmas; text = cited.text }))
-pass-ends p d x y n a b draft cited k w r served e ey told is =
+pub pass-ends : (p : Position) (d : ℕ) (x y : ℤ) (n : ℕ) (a b : Told ℕ) (draft cited : Draft) (k : ℕ) (w : WalkAnswer Why) → server (key p) d x draft.lemmas ≡ Some n → cited ≡ with_cite n draft → y ≡ x →
+    Follows index_sight (trace p d (AtLeast y)) (seen a cited.taken) (ending w) (seen b k) →
+    EndsHere short_rules short_sight p d x (short_seen a draft) (ending w) (short_seen b (record { taken = k; lemmas = cited.lemmas; text = cited.text }))
+pass-ends p d x y n a b draft cited k w served e ey told =
     let first : Follows index_sight (trace p d (AtLeast x)) (seen a draft.taken) (ending w) (seen b k) =
     subst (λ (z : Draft). Follows index_sight (trace p d (AtLeast x)) (seen a z.taken) (ending w) (seen b k)) e (subst (λ (z : ℤ). Follows index_sight (trace p d (AtLeast z)) (seen a cited.taken) (ending w) (seen b k)) ey told) in
-    let base : EndsHere short_rules short_sight p d x (short_seen a draft) (short_ending (of_walked w)) (short_seen b (record { taken = k; lemmas = draft.lemmas; text = draft.text ++ cite_line n })) = pass-told p d x n a b draft k w served first in
-    let last : EndsHere short_rules short_sight p d x (short_seen a draft) (short_ending (of_walked w)) (short_seen b (record { taken = k; lemmas = cited.lemmas; text = cited.text })) =
-    subst (λ (z : Draft). EndsHere short_rules short_sight p d x (short_seen a draft) (short_ending (of_walked w)) (short_seen b (record { taken = k; lemmas = z.lemmas; text = z.text }))) (sym e) base in
-    subst (λ (u : Shortened). EndsHere short_rules short_sight p d x (short_seen a draft) (short_ending u) (short_seen b (record { taken = k; lemmas = cited.lemmas; text = cited.text }))) (sym is) last
+    let base : EndsHere short_rules short_sight p d x (short_seen a draft) (ending w) (short_seen b (record { taken = k; lemmas = draft.lemmas; text = draft.text ++ cite_line n })) = pass-told p d x n a b draft k w served first in
+    subst (λ (z : Draft). EndsHere short_rules short_sight p d x (short_seen a draft) (ending w) (short_seen b (record { taken = k; lemmas = z.lemmas; text = z.text }))) (sym e) base
 
 -- what the node makes of it
-found : (p : Position) (d : ℕ) (x : ℤ) (w : Shortened) (a b : ShortSeen) → EndsHere short_rules short_sight p d x a (short_ending w) b → Finds short_rules short_sight short_stop_ending p d x (of_passed w) a b
-found p d x Done a b h = h
-found p d x (Refuses why) a b h = h
-found p d x (Halts halt) a b h = h
-found p d x NoMemory a b h = h
+found : (p : Position) (d : ℕ) (x : ℤ) (w : Option (WalkAnswer Why)) (a b : ShortSeen) → EndsHere short_rules short_sight p d x a (short_ending w) b → Finds short_rules short_sight short_stop_ending p d x (of_passed w) a b
+found p d x None a b h = h
+found p d x (Some Done) a b h = h
+found p d x (Some (Refuses why)) a b h = h
+found p d x (Some (Halts halt)) a b h = h
 
-pub found-is : (p : Position) (d : ℕ) (x : ℤ) (w : Shortened) (r : Took ShortStop) (a b : ShortSeen) → r ≡ of_passed w → EndsHere short_rules short_sight p d x a (short_ending w) b → Finds short_rules short_sight short_stop_ending p d x r a b
-found-is p d x w r a b is h = subst (λ (u : Took ShortStop). Finds short_rules short_sight short_stop_ending p d x u a b) (sym is) (found p d x w a b h)
+pub found-is : (p : Position) (d : ℕ) (x : ℤ) (w : Option (WalkAnswer Why)) (r : Took (Option (Stop Why))) (a b : ShortSeen) → r ≡ of_passed w → EndsHere short_rules short_sight p d x a (short_ending w) b → Finds short_rules short_sight short_stop_ending p d x r a b
+found-is p d x w r a b is h = subst (λ (u : Took (Option (Stop Why))). Finds short_rules short_sight short_stop_ending p d x u a b) (sym is) (found p d x w a b h)
 
-module _ {I : Type 0} (at : ShortWalk I → ShortMoment) where
-  abbrev IsFound : Took ShortStop → ShortWalk I → ShortWalk I → Type 0
-  IsFound = IsFoundBy (λ a b. ShortGoesOn (at a) (at b)) (λ stop a b. ShortStopsAt stop (at a) (at b))
+module _ {I : Type 0} (at : ShortWalk I → Moment ℕ) where
+  abbrev IsFound : Took (Option (Stop Why)) → ShortWalk I → ShortWalk I → Type 0
+  IsFound = IsFoundBy (λ a b. GoesOn index_faults (at a) (at b)) (λ stop a b. ShortStopsAt stop (at a) (at b))
 
-  passed : (w : Shortened) (a b : ShortWalk I) → ShortTaking w (at a) (at b) → IsFound (of_passed w) a b
-  passed Done a b h = h
-  passed (Refuses why) a b h = h
-  passed (Halts halt) a b h = h
-  passed NoMemory a b h = h
+  passed : (w : Option (WalkAnswer Why)) (a b : ShortWalk I) → Taking index_faults w (at a) (at b) → IsFound (of_passed w) a b
+  passed None a b h = h
+  passed (Some Done) a b h = h
+  passed (Some (Refuses why)) a b h = h
+  passed (Some (Halts halt)) a b h = h
 
-  pub passed-is : (w : Shortened) (r : Took ShortStop) (a b : ShortWalk I) → r ≡ of_passed w → ShortTaking w (at a) (at b) → IsFound r a b
-  passed-is w r a b is h = subst (λ (u : Took ShortStop). IsFound u a b) (sym is) (passed w a b h)
+  pub passed-is : (w : Option (WalkAnswer Why)) (r : Took (Option (Stop Why))) (a b : ShortWalk I) → r ≡ of_passed w → Taking index_faults w (at a) (at b) → IsFound r a b
+  passed-is w r a b is h = subst (λ (u : Took (Option (Stop Why))). IsFound u a b) (sym is) (passed w a b h)
 
-pub passed-done : (w : Shortened) (r : Took ShortStop) → r ≡ of_passed w → r ≡ TookShown → w ≡ Done
-passed-done Done r is shown = refl
-passed-done (Refuses why) r is shown = cc
-passed-done (Halts halt) r is shown = cc
-passed-done NoMemory r is shown = cc
+pub passed-done : (w : Option (WalkAnswer Why)) (r : Took (Option (Stop Why))) → r ≡ of_passed w → r ≡ TookShown → w ≡ Some Done
+passed-done None r is shown = cc
+passed-done (Some Done) r is shown = refl
+passed-done (Some (Refuses why)) r is shown = cc
+passed-done (Some (Halts halt)) r is shown = cc
 
-pub took-is : (w : Shortened) (n m k l : ℕ) → n ≡ m → k ≡ l → TookItems w n k → TookItems w m l
-took-is w n m k l e f h = subst (λ i. TookItems w i l) e (subst (TookItems w n) f h)
+-- how many items were taken away where it ended, unless memory was wanting
+abbrev pub TookItems : Option (WalkAnswer Why) → ℕ → ℕ → Type 0
+TookItems answer now n = IfSome answer (λ walked. now ≡ ended walked n)
+
+-- where the counts were equal before it, the items that it took are those that were taken away
+pub counts-items : (answer : Option (WalkAnswer Why)) (i j n m : ℕ) → IfSome answer (λ walked. CountsOn walked i j n m) → i ≡ n → TookItems answer j m
+counts-items None i j n m h e = tt
+counts-items (Some walked) i j n m h e = h e
+
+pub took-is : (answer : Option (WalkAnswer Why)) (n m k l : ℕ) → n ≡ m → k ≡ l → TookItems answer n k → TookItems answer m l
+took-is None n m k l e f h = tt
+took-is (Some walked) n m k l e f h = sym e ∙ h ∙ ap (ended walked) f
 
 pub on-true : {P : Type 0} (r : Bool) → OnTrue r P → r ≡ true → P
 on-true true h e = h

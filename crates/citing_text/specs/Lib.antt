@@ -2,6 +2,5 @@ pub mod TokenText
 pub mod Drafts
 pub mod Shortening
 pub mod Migrating
-pub mod Taken
 pub mod Endings
 pub mod ShortTaking

@@ -1,15 +1,16 @@
 -- What is answered of a whole certificate whose tokens are written.
-use Rattle.std.specs.Prelude.{◌≡◌, ℕ, ◌+◌, ◌<◌, ◌≤◌, Bool, IsTrue, ⊤, ℤ, List, map, ◌++◌, length, take, Option, Some, None}
-use Rattle.io_edge.specs.Outside.{Rose, Told, behind}
+use Rattle.std.specs.Prelude.{◌≡◌, ℕ, ◌+◌, ◌<◌, ◌≤◌, Bool, ⊤, ℤ, List, map, ◌++◌, length, take, Option, Some, None, IfSome}
+use Rattle.io_edge.specs.Outside.{Told, behind}
 use Rattle.hive_model.specs.declared.places.Move.{Move}
 use Rattle.hive_model.specs.Positions.{Position}
 use Rattle.claim_walks.specs.Walks.{Outcome, Left, Fault, Halt}
 use Rattle.claim_walks.specs.Follows.{held}
 use Rattle.strategy_check.specs.declared.answers.Why.{Why}
-use Rattle.strategy_check.specs.declared.answers.Halt.TheVariants.{Bad, Failed, Full}
-use Rattle.strategy_check.specs.declared.answers.Checked.{Checked}
-use Rattle.strategy_check.specs.declared.answers.Checked.TheVariants.{Accepted, Refused as CheckRefused, Halted as CheckHalted}
-use Rattle.strategy_check.specs.Checks.{CountsRefused, looked_at}
+use Rattle.claim_walks.specs.declared.answers.Halt.TheVariants.{Bad, Failed, Full}
+use Rattle.claim_walks.specs.declared.answers.Checked.{Checked}
+use Rattle.claim_walks.specs.declared.answers.Checked.TheVariants.{Accepted, Refused as CheckRefused, Halted as CheckHalted}
+use Rattle.claim_walks.specs.Answers.{CountsBad, CountsRefused, EndCauses, ReadCauses}
+use Rattle.strategy_check.specs.Checks.{index_faults, looked_at}
 use Rattle.strategy_check.specs.Trace.{Steps, Holds, checked}
 use Rattle.strategy_lemmas.specs.Short.{ShortSteps, short}
 use Rattle.citing_text.specs.declared.draft.Draft.{Draft}
@@ -19,7 +20,7 @@ use Rattle.citing_text.specs.TokenText.{token_lines}
 
 -- What the walk of a whole certificate answers, by its outcome, and the lines that it wrote; none
 -- where memory was wanting.
-abbrev pub ShortAnswers : Outcome ShortSteps Why → Option Checked → Draft → Type 0
+abbrev pub ShortAnswers : Outcome ShortSteps Why → Option (Checked Why) → Draft → Type 0
 ShortAnswers o None d = ⊤
 ShortAnswers o (Some Accepted) d =
     (s : ShortSteps) × (o ≡ Left s) × (d.text ≡ token_lines s.written)
@@ -29,27 +30,18 @@ ShortAnswers o (Some (CheckHalted Failed)) d = ⊤
 ShortAnswers o (Some (CheckHalted Full)) d = ⊤
 
 -- where a bad item ends it, so many items were taken away: those before it, and itself
-abbrev pub ShortCountsBad : Outcome ShortSteps Why → Option Checked → ℕ → Type 0
-ShortCountsBad o None count = ⊤
-ShortCountsBad o (Some Accepted) count = ⊤
-ShortCountsBad o (Some (CheckRefused place why)) count = ⊤
-ShortCountsBad o (Some (CheckHalted Bad)) count = (n : ℕ) × (o ≡ Halt n) × (count ≡ held (n + 1))
-ShortCountsBad o (Some (CheckHalted Failed)) count = ⊤
-ShortCountsBad o (Some (CheckHalted Full)) count = ⊤
+abbrev pub ShortCountsBad : Outcome ShortSteps Why → Option (Checked Why) → ℕ → Type 0
+ShortCountsBad o answer count = IfSome answer (λ checked. CountsBad o checked count)
 
 -- where a fault ends it, at most so many items were taken away: those before it, and what was looked
 -- at
-abbrev pub ShortCountsRefused : Option Checked → ℕ → Type 0
-ShortCountsRefused None count = ⊤
-ShortCountsRefused (Some checked) count = CountsRefused checked count
+abbrev pub ShortCountsRefused : Option (Checked Why) → ℕ → Type 0
+ShortCountsRefused answer count = IfSome answer (λ checked. CountsRefused index_faults checked count)
 
--- the count of faults rose where it ended since the indices could not be read, and else stands; no
--- more may be read where it ended for that reason
-pub record ShortEndCauses (answer : Option Checked) (before now : ℕ) (full : Bool) : Type 0 where
-  pub later : before ≤ now
-  pub rose : answer ≡ Some (CheckHalted Failed) → Rose before now
-  pub same : ¬ (answer ≡ Some (CheckHalted Failed)) → now ≡ before
-  pub closed : answer ≡ Some (CheckHalted Full) → IsTrue full
+-- why the indices ended it, or none where there was no memory for a token
+abbrev pub ShortEndCauses : Option (Checked Why) → ℕ → ℕ → Bool → Type 0
+ShortEndCauses None = ReadCauses ⊥ ⊥
+ShortEndCauses (Some checked) = EndCauses checked
 
 -- the items are indices that hold, and the lines are those of the tokens that are written of them
 pub record Shortens (p : Position) (d : ℕ) (m : Move) (v : ℤ) (items : List (Option ℕ)) (lines : List ℕ) : Type 0 where
@@ -101,10 +93,6 @@ MigrateCountsRefused (Refused place why) count = count ≤ place + looked_at why
 MigrateCountsRefused (Halted why) count = ⊤
 MigrateCountsRefused Memory count = ⊤
 
--- the count of faults rose where it ended since the indices could not be read, and else stands; no
--- more may be read where it ended for that reason
-pub record MigrateCauses (answer : Migrated) (before now : ℕ) (full : Bool) : Type 0 where
-  pub later : before ≤ now
-  pub rose : answer ≡ Halted Failed → Rose before now
-  pub same : ¬ (answer ≡ Halted Failed) → now ≡ before
-  pub closed : answer ≡ Halted Full → IsTrue full
+-- why the indices ended it
+abbrev pub MigrateCauses : Migrated → ℕ → ℕ → Bool → Type 0
+MigrateCauses answer = ReadCauses (answer ≡ Halted Failed) (answer ≡ Halted Full)

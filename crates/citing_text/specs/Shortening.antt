@@ -1,25 +1,20 @@
--- What the code answers of a walk that writes tokens, where its indices are told.
-use Rattle.std.specs.Prelude.{◌≡◌, ℕ, ◌+◌, ◌≤◌, Bool, IsTrue, ⊤, Some}
-use Rattle.io_edge.specs.Outside.{Rose}
-use Rattle.claim_walks.specs.Follows.{held, Sight, Ending, Shown, Refused as RefusedFor, BadItem, Unread}
+-- What the code sees of a walk that writes tokens, where its indices are told.
+use Rattle.std.specs.Prelude.{ℕ, Option, None, Some}
+use Rattle.claim_walks.specs.Follows.{held, Sight, Ending, Unread}
+use Rattle.claim_walks.specs.Items.{Told}
+use Rattle.claim_walks.specs.Answers.{ending}
+use Rattle.claim_walks.specs.declared.answers.WalkAnswer.{WalkAnswer}
 use Rattle.strategy_check.specs.declared.answers.Why.{Why}
-use Rattle.strategy_check.specs.declared.answers.Why.TheVariants.{NoSuchMove, BadIndex, LeafFails, TooShort, Rest}
-use Rattle.strategy_check.specs.declared.answers.Halt.TheVariants.{Bad, Failed, Full}
-use Rattle.strategy_check.specs.declared.walk.Walked.{Walked}
-use Rattle.strategy_check.specs.declared.walk.Walked.TheVariants.{Done as WalkedDone, Refuses as WalkedRefuses, Halts as WalkedHalts}
-use Rattle.strategy_check.specs.Items.{Told}
 use Rattle.strategy_lemmas.specs.Short.{ShortSteps}
 use Rattle.citing_text.specs.declared.draft.Draft.{Draft}
-use Rattle.citing_text.specs.declared.shortening.Shortened.{Shortened}
-use Rattle.citing_text.specs.declared.shortening.Shortened.TheVariants.{Done, Refuses, Halts, NoMemory}
 use Rattle.citing_text.specs.TokenText.{token_lines}
 
 -- the items that are told, and the draft
 pub record ShortSeen : Type 0 where
-  pub told : Told
+  pub told : Told ℕ
   pub draft : Draft
 
-abbrev pub short_seen : Told → Draft → ShortSeen
+abbrev pub short_seen : Told ℕ → Draft → ShortSeen
 short_seen told draft = record { told = told; draft = draft }
 
 -- the draft of a walk: what it wrote, each token on a line of its own
@@ -34,50 +29,7 @@ short_sight = record {
   place = λ n. n.draft.taken;
 }
 
--- how a part of a walk ended
-abbrev pub short_ending : Shortened → Ending Why
-short_ending Done = Shown
-short_ending (Refuses why) = RefusedFor why
-short_ending (Halts Bad) = BadItem
-short_ending (Halts Failed) = Unread
-short_ending (Halts Full) = Unread
-short_ending NoMemory = Unread
-
--- not the fault of a root, that the move is not legal
-abbrev pub IsOfShortWalk : Shortened → Type 0
-IsOfShortWalk Done = ⊤
-IsOfShortWalk (Refuses NoSuchMove) = ⊥
-IsOfShortWalk (Refuses BadIndex) = ⊤
-IsOfShortWalk (Refuses LeafFails) = ⊤
-IsOfShortWalk (Refuses TooShort) = ⊤
-IsOfShortWalk (Refuses Rest) = ⊤
-IsOfShortWalk (Halts why) = ⊤
-IsOfShortWalk NoMemory = ⊤
-
--- what a walk answers that writes nothing
-abbrev pub of_walked : Walked → Shortened
-of_walked WalkedDone = Done
-of_walked (WalkedRefuses why) = Refuses why
-of_walked (WalkedHalts why) = Halts why
-
--- the count of faults rose where the walk ended since the indices could not be read, and else
--- stands; no more may be read where the walk ended for that reason
-pub record ShortCauses (answer : Shortened) (before now : ℕ) (full : Bool) : Type 0 where
-  pub later : before ≤ now
-  pub rose : answer ≡ Halts Failed → Rose before now
-  pub same : ¬ (answer ≡ Halts Failed) → now ≡ before
-  pub closed : answer ≡ Halts Full → IsTrue full
-
--- how many items were taken away where a part of a walk ends, unless memory was wanting: its
--- indices, and a bad item that ends it
-abbrev pub TookItems : Shortened → ℕ → ℕ → Type 0
-TookItems Done now n = now ≡ n
-TookItems (Refuses why) now n = now ≡ n
-TookItems (Halts Bad) now n = now ≡ held (n + 1)
-TookItems (Halts Failed) now n = now ≡ n
-TookItems (Halts Full) now n = now ≡ n
-TookItems NoMemory now n = ⊤
-
--- the count of the items goes on as that of the indices does
-abbrev pub ShortCountsOn : Shortened → ℕ → ℕ → ℕ → ℕ → Type 0
-ShortCountsOn answer count now taken then_ = count ≡ taken → TookItems answer now then_
+-- how a part of a walk ended, or none where there was no memory for a token
+abbrev pub short_ending : Option (WalkAnswer Why) → Ending Why
+short_ending None = Unread
+short_ending (Some walked) = ending walked

@@ -8,7 +8,7 @@ mod lines;
 mod migrating;
 mod shortening;
 
-pub use lines::LineTokens;
+pub use lines::{LineTokens, TokenLine};
 pub use migrating::{Migrated, migrate};
 
 #[cfg(test)]

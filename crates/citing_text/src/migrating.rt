@@ -20,10 +20,11 @@ ghost use Rattle.citing_text.specs.Migrating.{
 
 use crate::certificate::shorten_certificate;
 use crate::draft::Draft;
+use claim_walks::{Checked, Claim, Halt, Items};
 use hive_model::{Game, MoveStack};
 use io_edge::{Sink, write_all};
 use std::alloc::Global;
-use strategy_check::{Checked, Claim, Halt, Indices, Why};
+use strategy_check::Why;
 
 /// What a call answers that makes a certificate into one that cites.
 #[derive(Clone, Copy, Debug, PartialEq, Eq)]
@@ -59,7 +60,7 @@ fn write_both<K: Sink>(head: &[u8], lines: &[u8], sink: &mut K) -> bool
 /// that cite wherever something that was shown serves, each on a line of its own. All memory is
 /// taken before the first write. The game is not over, and has room for `depth` more plies, as the
 /// stack for levels. Game and stack are as before, whatever the answer.
-pub fn migrate<G: Game, I: Indices, K: Sink>(
+pub fn migrate<G: Game, I: Items<Item = u32>, K: Sink>(
     alloc: Global,
     game: &mut G,
     claim: &Claim,

@@ -1,6 +1,6 @@
 //! How a walk takes indices and writes tokens: it cites wherever something that was shown serves.
 
-ghost use Rattle.std.specs.Prelude.{◌≡◌, ◌≤◌, ℕ, List, Some, refl};
+ghost use Rattle.std.specs.Prelude.{◌≡◌, ◌≤◌, ℕ, List, Some, IfSome, refl};
 ghost use Rattle.hive_model.specs.Keys.{key};
 ghost use Rattle.hive_model.specs.Minimax.{IsInner, value};
 ghost use Rattle.hive_model.specs.Courses.{position};
@@ -11,23 +11,13 @@ ghost use Rattle.claim_walks.specs.declared.limit.Limit.TheVariants.{AtLeast};
 ghost use Rattle.strategy_check.specs.declared.answers.Why.{Why as AnyWhy};
 ghost use Rattle.lemma_list.specs.Lemmas.{server};
 ghost use Rattle.strategy_lemmas.specs.Short.{ShortSteps, short_rules};
-ghost use Rattle.citing_text.specs.declared.shortening.Shortened.TheVariants.{Done};
-ghost use Rattle.citing_text.specs.Shortening.{
-  IsOfShortWalk,
-  ShortCauses,
-  ShortCountsOn,
-  ShortSeen,
-  of_walked,
-  short_ending,
-  short_seen,
-  short_sight,
-};
-ghost use Rattle.citing_text.specs.Endings.{ShortEndsAs};
+ghost use Rattle.claim_walks.specs.Answers.{CountsOn, EndsAs, IsOfWalk};
+ghost use Rattle.claim_walks.specs.Taking.{GoesOn, PartCauses, goes-none, goes-then};
+ghost use Rattle.claim_walks.specs.declared.answers.WalkAnswer.TheVariants.{Done};
+ghost use Rattle.strategy_check.specs.Checks.{index_faults};
+ghost use Rattle.citing_text.specs.Shortening.{ShortSeen, short_ending, short_seen, short_sight};
 ghost use Rattle.citing_text.specs.ShortTaking.{
-  ShortGoesOn,
   ShortStopsAt,
-  goes-none,
-  goes-then,
   of_passed,
   of_short_stop,
   of_short_walk,
@@ -37,47 +27,13 @@ ghost use Rattle.citing_text.specs.ShortTaking.{
 };
 
 use crate::draft::Draft;
-use claim_walks::{Limit, Took, Walked as AnyWalked, Walker};
+use claim_walks::{Halt, ItemAnswer, Items, Limit, Stop, Took, WalkAnswer, Walked, Walker};
 use hive_model::{Game, MoveStack};
-use strategy_check::{Halt, IndexAnswer, Indices, Walked, Why, walk_limit};
+use strategy_check::{Why, walk_limit};
 
-/// How a part of a walk ended.
-#[derive(Clone, Copy, Debug, PartialEq, Eq)]
-pub enum Shortened {
-    /// All that it was to show is so.
-    Done,
-    /// Here is the first fault.
-    Refuses(Why),
-    /// The indices ended it.
-    Halts(Halt),
-    /// There was no memory for a token.
-    NoMemory,
-}
-
-/// Why a walk is ended that writes tokens.
-#[derive(Clone, Copy, Debug, PartialEq, Eq)]
-pub enum ShortStop {
-    /// Here is the first fault.
-    Refuses(Why),
-    /// The indices ended it.
-    Halts(Halt),
-    /// There was no memory for a token.
-    NoMemory,
-}
-
-/// What a walk answers that writes nothing.
-fn shortened_of(walked: Walked) -> Shortened
-    ensures { result ≡ of_walked walked }
-{
-    match walked {
-        Walked::Done => Shortened::Done,
-        Walked::Refuses(why) => Shortened::Refuses(why),
-        Walked::Halts(halt) => Shortened::Halts(halt),
-    }
-}
-
-/// Cites the lemma at this place, and passes over the indices that show the limit.
-fn pass_over<G: Game, I: Indices>(
+/// Cites the lemma at this place, and passes over the indices that show the limit. None where there
+/// was no memory for the token.
+fn pass_over<G: Game, I: Items<Item = u32>>(
     game: &mut G,
     depth: u32,
     least: i32,
@@ -85,7 +41,7 @@ fn pass_over<G: Game, I: Indices>(
     indices: &mut I,
     draft: &mut Draft,
     stack: &mut MoveStack,
-) -> Shortened
+) -> Option<WalkAnswer<Why>>
     requires deep { depth ≤ 64 }
     requires inner { IsInner (position (G.course game.old)) depth }
     requires small { IsSmall 1000100 least }
@@ -93,51 +49,51 @@ fn pass_over<G: Game, I: Indices>(
     requires room { depth ≤ stack.old.free }
     requires served { server (key (position (G.course game.old))) depth least draft.old.lemmas
         ≡ Some place }
-    ensures shown { result ≡ Shortened.Done
+    ensures shown { result ≡ Some WalkAnswer.Done
         → Keeps (AtLeast least) (value (position (G.course game.old)) depth) }
     ensures told { EndsHere short_rules short_sight (position (G.course game.old)) depth least
         (short_seen (I.left indices.old) draft.old) (short_ending result)
         (short_seen (I.left indices.new) draft.new) }
-    ensures legal { IsOfShortWalk result }
-    ensures cause { ShortCauses result
+    ensures legal { IfSome result (λ walked. IsOfWalk index_faults walked) }
+    ensures cause { PartCauses result
         (I.faults indices.old) (I.faults indices.new) (I.full indices.new) }
-    ensures counted { ShortCountsOn result
-        (I.count indices.old) (I.count indices.new) draft.old.taken draft.new.taken }
+    ensures counted { IfSome result (λ walked. CountsOn walked
+        (I.count indices.old) (I.count indices.new) draft.old.taken draft.new.taken) }
     ensures lenders { I.lenders indices.new ≡ I.lenders indices.old }
     ensures known { (input : List ℕ) (before : ℕ) → I.known indices.old input before
         → I.known indices.new input before }
-    ensures met { ShortEndsAs (I.met indices.new) result }
+    ensures met { IfSome result (λ walked. EndsAs index_faults (I.met indices.new) walked) }
     ensures game { G.course game.new ≡ G.course game.old }
     ensures stack { stack.new ≡ stack.old }
 {
     if !draft.cite(place) {
-        return Shortened::NoMemory;
+        return None;
     }
     let limit = Limit::AtLeast(least);
     let walked = walk_limit(game, depth, limit, indices, &mut draft.taken, stack);
-    shortened_of(walked)
+    Some(walked)
 }
 
 /// What a node makes of it that was passed over.
-fn took_of(passed: Shortened) -> Took<ShortStop>
+fn took_of(passed: Option<WalkAnswer<Why>>) -> Took<Option<Stop<Why>>>
     ensures { result ≡ of_passed passed }
 {
     match passed {
-        Shortened::Done => Took::Shown,
-        Shortened::Refuses(why) => Took::Stops(ShortStop::Refuses(why)),
-        Shortened::Halts(halt) => Took::Stops(ShortStop::Halts(halt)),
-        Shortened::NoMemory => Took::Stops(ShortStop::NoMemory),
+        Some(WalkAnswer::Done) => Took::Shown,
+        Some(WalkAnswer::Refuses(why)) => Took::Stops(Some(Stop::Refuses(why))),
+        Some(WalkAnswer::Halts(halt)) => Took::Stops(Some(Stop::Halts(halt))),
+        None => Took::Stops(None),
     }
 }
 
 /// The indices of a walk, and the draft of its tokens.
 #[derive(Drop)]
-pub struct ShortWalk<'a, 'b, I: Indices> {
+pub struct ShortWalk<'a, 'b, I: Items<Item = u32>> {
     pub indices: &'a mut I,
     pub draft: &'b mut Draft,
 }
 
-impl<'a, 'b, I: Indices> ShortWalk<'a, 'b, I> {
+impl<'a, 'b, I: Items<Item = u32>> ShortWalk<'a, 'b, I> {
     /// Goes on with the draft.
     pub fn new(indices: &'a mut I, draft: &'b mut Draft) -> ShortWalk<'a, 'b, I>
         ensures indices { result.indices.ghost_name ≡ indices.entry.ghost_name }
@@ -149,8 +105,9 @@ impl<'a, 'b, I: Indices> ShortWalk<'a, 'b, I> {
     }
 }
 
-impl<I: Indices> Walker for ShortWalk<'_, '_, I> {
-    type Stop = ShortStop;
+impl<I: Items<Item = u32>> Walker for ShortWalk<'_, '_, I> {
+    /// None where there was no memory for a token.
+    type Stop = Option<Stop<Why>>;
 
     ghost Steps = { ShortSteps };
 
@@ -166,7 +123,7 @@ impl<I: Indices> Walker for ShortWalk<'_, '_, I> {
 
     ghost ending = { short_stop_ending };
 
-    ghost goes = { λ a b. ShortGoesOn
+    ghost goes = { λ a b. GoesOn index_faults
         (short_moment I.faults I.full I.count I.lenders I.known I.met a)
         (short_moment I.faults I.full I.count I.lenders I.known I.met b) };
 
@@ -178,11 +135,11 @@ impl<I: Indices> Walker for ShortWalk<'_, '_, I> {
 
     ghost ends_short = { stops-short };
 
-    ghost goes_none = { λ w. goes-none _ };
+    ghost goes_none = { λ w. goes-none index_faults _ };
 
-    ghost goes_both = { λ a b c. goes-then Done _ _ _ };
+    ghost goes_both = { λ a b c. goes-then index_faults (Some Done) _ _ _ };
 
-    ghost goes_then = { λ stop a b c. goes-then (of_short_stop stop) _ _ _ };
+    ghost goes_then = { λ stop a b c. goes-then index_faults (of_short_stop stop) _ _ _ };
 
     fn take<G: Game>(
         &mut self,
@@ -190,22 +147,22 @@ impl<I: Indices> Walker for ShortWalk<'_, '_, I> {
         depth: u32,
         least: i32,
         stack: &mut MoveStack,
-    ) -> Took<ShortStop> {
+    ) -> Took<Option<Stop<Why>>> {
         if let Some(place) = self.draft.lemmas.first(&game.key(), depth, least) {
             let passed = pass_over(game, depth, least, place, self.indices, self.draft, stack);
             return took_of(passed);
         }
         match self.indices.take() {
-            IndexAnswer::Index(place) => {
+            ItemAnswer::Item(place) => {
                 if !self.draft.add(place) {
-                    return Took::Stops(ShortStop::NoMemory);
+                    return Took::Stops(None);
                 }
                 Took::Below(place)
             }
-            IndexAnswer::End => Took::Stops(ShortStop::Refuses(Why::TooShort)),
-            IndexAnswer::Bad => Took::Stops(ShortStop::Halts(Halt::Bad)),
-            IndexAnswer::Failed => Took::Stops(ShortStop::Halts(Halt::Failed)),
-            IndexAnswer::Full => Took::Stops(ShortStop::Halts(Halt::Full)),
+            ItemAnswer::End => Took::Stops(Some(Stop::Refuses(Why::TooShort))),
+            ItemAnswer::Bad => Took::Stops(Some(Stop::Halts(Halt::Bad))),
+            ItemAnswer::Failed => Took::Stops(Some(Stop::Halts(Halt::Failed))),
+            ItemAnswer::Full => Took::Stops(Some(Stop::Halts(Halt::Full))),
         }
     }
 
@@ -214,16 +171,16 @@ impl<I: Indices> Walker for ShortWalk<'_, '_, I> {
     }
 }
 
-/// How a part of a walk ended.
-pub fn short_of(walked: AnyWalked<ShortStop>) -> Shortened
+/// How a part of a walk ended, or none where there was no memory for a token.
+pub fn short_of(walked: Walked<Option<Stop<Why>>>) -> Option<WalkAnswer<Why>>
     ensures { result ≡ of_short_walk walked }
 {
     match walked {
-        AnyWalked::Done => Shortened::Done,
-        AnyWalked::LeafFails => Shortened::Refuses(Why::LeafFails),
-        AnyWalked::BadIndex => Shortened::Refuses(Why::BadIndex),
-        AnyWalked::Stops(ShortStop::Refuses(why)) => Shortened::Refuses(why),
-        AnyWalked::Stops(ShortStop::Halts(halt)) => Shortened::Halts(halt),
-        AnyWalked::Stops(ShortStop::NoMemory) => Shortened::NoMemory,
+        Walked::Done => Some(WalkAnswer::Done),
+        Walked::LeafFails => Some(WalkAnswer::Refuses(Why::LeafFails)),
+        Walked::BadIndex => Some(WalkAnswer::Refuses(Why::BadIndex)),
+        Walked::Stops(None) => None,
+        Walked::Stops(Some(Stop::Refuses(why))) => Some(WalkAnswer::Refuses(why)),
+        Walked::Stops(Some(Stop::Halts(halt))) => Some(WalkAnswer::Halts(halt)),
     }
 }

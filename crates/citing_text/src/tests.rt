@@ -11,8 +11,8 @@ use line_feed::LineReader;
 use plain_game::PlainGame;
 use std::alloc::{AllocError, Global};
 use std::test::Fail;
-use strategy_check::{Claim, Halt, ListIndices, Why};
-use strategy_lemmas::{CheckedCited, Lemmas, WhyCited, check_cited};
+use strategy_check::{Checked, Claim, Halt, ListIndices, Why};
+use strategy_lemmas::{Lemmas, WhyCited, check_cited};
 
 const BASE: GameType = GameType {
     mosquito: false,
@@ -51,7 +51,7 @@ fn cited(
     lines: &[u8],
     pieces: &[usize],
     read: u64,
-) -> Result<Option<(CheckedCited, u64)>, AllocError> {
+) -> Result<Option<(Checked<WhyCited>, u64)>, AllocError> {
     let mut game = PlainGame::opening(alloc, BASE)?;
     if is_over(&game) {
         return Ok(None);
@@ -69,15 +69,15 @@ fn cited(
 }
 
 /// That there is a first fault at this place.
-fn refused(place: u64, why: WhyCited) -> CheckedCited {
-    CheckedCited::Refused { place, why }
+fn refused(place: u64, why: WhyCited) -> Checked<WhyCited> {
+    Checked::Refused { place, why }
 }
 
 #[test]
 fn tokens_stand_one_a_line(rt: HostRuntime) -> Result<(), Fail> {
-    let bad = CheckedCited::Halted { answer: Halt::Bad };
+    let bad = Checked::Halted { answer: Halt::Bad };
     let rows = [
-        ("0\n0\n0\n0\n", CheckedCited::Accepted, 4),
+        ("0\n0\n0\n0\n", Checked::Accepted, 4),
         ("@0\n0\n0\n0\n", refused(1, WhyCited::BadCite), 1),
         ("0\n@0\n0\n0\n", refused(2, WhyCited::BadCite), 2),
         ("@65535\n0\n0\n0\n", refused(1, WhyCited::BadCite), 1),
@@ -92,7 +92,7 @@ fn tokens_stand_one_a_line(rt: HostRuntime) -> Result<(), Fail> {
             assert_eq!(rt; found, (answer, taken), "{lines:?}, pieces of {pieces:?}");
         }
     }
-    let failed = CheckedCited::Halted {
+    let failed = Checked::Halted {
         answer: Halt::Failed,
     };
     let found = cited(rt.alloc(), b"0\n0\n", &[2], 2)?.ok_or("the opening")?;

@@ -92,7 +92,12 @@ fn failed_writes_end_a_certificate(rt: HostRuntime) -> Result<(), Fail> {
 
 /// The answer to a certificate of the opening, two plies deep, whose move places the piece of this
 /// index.
-fn checked(alloc: Global, index: u8, value: i32, indices: &[u32]) -> Result<Checked, AllocError> {
+fn checked(
+    alloc: Global,
+    index: u8,
+    value: i32,
+    indices: &[u32],
+) -> Result<Checked<Why>, AllocError> {
     let mut game = PlainGame::opening(alloc, BASE)?;
     if is_over(&game) || value < -100 || value > 100 {
         return Ok(Checked::Accepted);
@@ -110,7 +115,7 @@ fn checked(alloc: Global, index: u8, value: i32, indices: &[u32]) -> Result<Chec
 }
 
 /// That there is a first fault at this place.
-fn refused(place: u64, why: Why) -> Checked {
+fn refused(place: u64, why: Why) -> Checked<Why> {
     Checked::Refused { place, why }
 }
 

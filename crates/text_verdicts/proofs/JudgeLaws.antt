@@ -7,10 +7,9 @@ use Rattle.hive_model.specs.Lines.{lines}
 use Rattle.line_feed.specs.Feed.{HoldsLittle, Reading, fresh, input_limit, pending}
 use Rattle.line_feed.specs.SoFar.{Covers, Fed, WasRead}
 use Rattle.line_feed.proofs.FedLemmas.{fed_begin}
-use Rattle.strategy_check.specs.Causes.{OnShort}
 use Rattle.strategy_check.specs.declared.answers.Why.{Why}
 use Rattle.strategy_check.specs.declared.answers.Why.TheVariants.{NoSuchMove, BadIndex, LeafFails, TooShort, Rest}
-use Rattle.strategy_check.specs.Checks.{looked_at}
+use Rattle.strategy_check.specs.Checks.{OnShort, looked_at}
 use Rattle.certificate_text.specs.declared.head.HeadFault.{HeadFault}
 use Rattle.certificate_text.specs.declared.head.HeadFault.TheVariants.{BadLine as LineFault, BadGame as NoGame, ReadFault as NoRead, InputFull as IsFull, Memory as HeadMemory}
 use Rattle.certificate_text.specs.Heads.{fault_line}

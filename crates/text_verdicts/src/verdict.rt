@@ -6,8 +6,8 @@ ghost use Rattle.line_feed.specs.Feed.{Reading, input_limit};
 ghost use Rattle.claim_walks.specs.Walks.{Outcome};
 ghost use Rattle.strategy_check.specs.Trace.{Steps};
 ghost use Rattle.strategy_check.specs.declared.answers.Why.{Why as AnyWhy};
-ghost use Rattle.strategy_check.specs.Checks.{Answers, CountsBad, CountsRefused};
-ghost use Rattle.strategy_check.specs.Causes.{Ended};
+ghost use Rattle.claim_walks.specs.Answers.{Answers, CountsBad, CountsRefused, Ended};
+ghost use Rattle.strategy_check.specs.Checks.{index_faults};
 ghost use Rattle.certificate_text.specs.Heads.{fault_line};
 ghost use Rattle.certificate_text.specs.Taken.{HasRead, StopsAt};
 ghost use Rattle.text_verdicts.specs.Verdicts.{of_walk};
@@ -69,14 +69,15 @@ pub fn fault_verdict(fault: HeadFault) -> Result<Verdict, Unread>
 }
 
 /// What the answer of a check means, where so many lines were taken behind a head of so many.
-pub fn verdict_of(checked: Checked, head: u32, lines: u64) -> Result<Verdict, Unread>
+pub fn verdict_of(checked: Checked<Why>, head: u32, lines: u64) -> Result<Verdict, Unread>
     ensures judges { (o : Outcome Steps AnyWhy) → Answers o checked → CountsBad o checked lines
         → Judges result (of_walk head o) }
     ensures failed { (result ≡ Err Unread.ReadFault) ↔ (checked ≡ Checked.Halted Halt.Failed) }
     ensures full { result ≡ Err Unread.InputFull → checked ≡ Checked.Halted Halt.Full }
     ensures read { (text : List ℕ) (rest : AnyTold) (reader : Reading)
-        → HasRead text rest reader (head + lines) → CountsRefused checked lines
-        → Ended (λ answer. StopsAt answer reader) checked → WasReadAs head result text rest }
+        → HasRead text rest reader (head + lines) → CountsRefused index_faults checked lines
+        → Ended {T = ℕ} index_faults (λ answer. StopsAt answer reader) checked
+        → WasReadAs head result text rest }
 {
     match checked {
         Checked::Accepted => Ok(Verdict::Accepted),

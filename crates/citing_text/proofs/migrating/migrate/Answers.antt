@@ -1,7 +1,8 @@
 use Rattle.std.proofs.Common.{ℕ, true, false, List, ◌++◌, ap, subst, Some}
 use Rattle.hive_model.specs.Courses.{position}
-use Rattle.strategy_check.specs.declared.answers.Checked.{Checked}
-use Rattle.strategy_check.specs.declared.answers.Checked.TheVariants.{Accepted, Refused, Halted}
+use Rattle.claim_walks.specs.declared.answers.Checked.{Checked}
+use Rattle.claim_walks.specs.declared.answers.Checked.TheVariants.{Accepted, Refused, Halted}
+use Rattle.strategy_check.specs.declared.answers.Why.{Why}
 use Rattle.strategy_lemmas.specs.Short.{shortened}
 use Rattle.index_writing.specs.Writing.{Wrote}
 use Rattle.index_writing.proofs.WriteLaws.{wrote-as, wrote-is}
@@ -21,7 +22,7 @@ returns-then-write_both-clause-told g c =
     let wrote : Wrote true (c.args.head.now ++ draft.text) a b =
     wrote-as true _ _ a b (ap (λ (l : List ℕ). c.args.head.now ++ l) c.items.ensures) (wrote-is c.write_both.result true _ a b c.if-write_both.true c.write_both.ensures.wrote) in
     λ items e.
-    let h : ShortAnswers (shortened p d m v items) (Some Accepted) draft = subst (λ (x : Checked). ShortAnswers (shortened p d m v items) (Some x) draft) c.in-Accepted.is (c.in-Some.ensures.told items e) in
+    let h : ShortAnswers (shortened p d m v items) (Some Accepted) draft = subst (λ (x : Checked Why). ShortAnswers (shortened p d m v items) (Some x) draft) c.in-Accepted.is (c.in-Some.ensures.told items e) in
     (draft.text, shortens-is p d m v items h.0 draft.text h.1 h.2, wrote)
 
 pub returns-in-Accepted-clause-told : goal.returns-in-Accepted-clause-told
@@ -36,7 +37,7 @@ returns-in-Accepted-clause-told g c =
     let wrote : Wrote false (c.args.head.now ++ draft.text) a b =
     wrote-as false _ _ a b (ap (λ (l : List ℕ). c.args.head.now ++ l) c.items.ensures) (wrote-is c.write_both.result false _ a b c.if-write_both.false c.write_both.ensures.wrote) in
     λ items e.
-    let h : ShortAnswers (shortened p d m v items) (Some Accepted) draft = subst (λ (x : Checked). ShortAnswers (shortened p d m v items) (Some x) draft) c.in-Accepted.is (c.in-Some.ensures.told items e) in
+    let h : ShortAnswers (shortened p d m v items) (Some Accepted) draft = subst (λ (x : Checked Why). ShortAnswers (shortened p d m v items) (Some x) draft) c.in-Accepted.is (c.in-Some.ensures.told items e) in
     (draft.text, shortens-is p d m v items h.0 draft.text h.1 h.2, wrote.0, wrote.1, wrote.2)
 
 pub returns-in-Refused-clause-told : goal.returns-in-Refused-clause-told
@@ -48,7 +49,7 @@ returns-in-Refused-clause-told g c =
     let draft = c.shorten_certificate.new.draft in
     λ items e.
     let h : ShortAnswers (shortened p d m v items) (Some (Refused c.in-Refused.place c.in-Refused.why)) draft =
-    subst (λ (x : Checked). ShortAnswers (shortened p d m v items) (Some x) draft) c.in-Refused.is (c.in-Some.ensures.told items e) in
+    subst (λ (x : Checked Why). ShortAnswers (shortened p d m v items) (Some x) draft) c.in-Refused.is (c.in-Some.ensures.told items e) in
     (h.0, refused-is p d m v items c.in-Refused.why h.0 h.1, h.2)
 
 pub returns-clause-told : goal.returns-clause-told
@@ -60,7 +61,7 @@ returns-clause-told g c =
     let draft = c.shorten_certificate.new.draft in
     λ items e.
     let h : ShortAnswers (shortened p d m v items) (Some (Halted c.in-Halted.answer)) draft =
-    subst (λ (x : Checked). ShortAnswers (shortened p d m v items) (Some x) draft) c.in-Halted.is (c.in-Some.ensures.told items e) in
+    subst (λ (x : Checked Why). ShortAnswers (shortened p d m v items) (Some x) draft) c.in-Halted.is (c.in-Some.ensures.told items e) in
     halted-told p d m v items c.args.head.now (g.K.Sink.written c.args.sink.now) (g.K.Sink.written c.args.sink.now) c.in-Halted.answer draft h
 
 pub returns-clause-bad : goal.returns-clause-bad
@@ -69,8 +70,8 @@ returns-clause-bad g c =
     let d = c.args.claim.now.depth in
     let m = c.args.claim.now.best in
     let v = c.args.claim.now.value in
-    let count = g.I.Indices.count c.shorten_certificate.new.indices in
+    let count = g.I.Items.count c.shorten_certificate.new.indices in
     λ items e none.
     let h : ShortCountsBad (shortened p d m v items) (Some (Halted c.in-Halted.answer)) count =
-    subst (λ (x : Checked). ShortCountsBad (shortened p d m v items) (Some x) count) c.in-Halted.is (c.in-Some.ensures.bad items e none) in
+    subst (λ (x : Checked Why). ShortCountsBad (shortened p d m v items) (Some x) count) c.in-Halted.is (c.in-Some.ensures.bad items e none) in
     halted-counts p d m v items c.in-Halted.answer count h

@@ -1,10 +1,12 @@
 use Rattle.std.proofs.Common.{rules, ◌≡◌, subst}
+use Rattle.claim_walks.specs.Answers.{Causes, ended, ending}
 use Rattle.claim_walks.specs.Follows.{Meets}
-use Rattle.strategy_check.specs.Trace.{steps}
-use Rattle.strategy_check.specs.Checks.{index_sight, seen, ending, ended}
-use Rattle.strategy_check.specs.Causes.{Causes}
+use Rattle.claim_walks.proofs.ItemLaws.{answers-as, bad-as, meets-is, taking-is}
+use Rattle.strategy_check.specs.declared.answers.Why.TheVariants.{LeafFails, BadIndex}
+use Rattle.strategy_check.specs.Trace.{index_rules, steps}
+use Rattle.strategy_check.specs.Checks.{index_faults, index_sight, seen}
 use Rattle.strategy_check.specs.Taking.{moment}
-use Rattle.strategy_check.proofs.IndexWalks.{answers-as, bad-as, meets-is, taking-is}
+use Rattle.strategy_check.proofs.IndexWalks.{leaf-inner, place-inner}
 use Rattle.strategy_check.proofs.checks.check.Goals as goal
 
 pub returns-in-Some-clause-told : goal.returns-in-Some-clause-told
@@ -13,21 +15,23 @@ returns-in-Some-clause-told g c = λ items e.
     let after = c.walk_certificate-walked.new.walker in
     answers-as _ _ c.answer_of.result t.1
     (c.answer_of.ensures.told t.0
-    (subst (λ x. Meets index_sight t.0 (ending c.walked_of.result) (seen (g.I.Indices.left x) after.taken)) (search rules) (meets-is t.0 c.in-Some.walked c.walked_of.result _ c.walked_of.ensures t.2)))
+    (subst (λ x. Meets index_sight t.0 (ending c.walk_answer.result) (seen (g.I.Items.left x) after.taken)) (search rules) (meets-is index_rules index_sight t.0 c.in-Some.walked c.walk_answer.result _ c.walk_answer.ensures t.2)))
 
 pub returns-in-Some-clause-bad : goal.returns-in-Some-clause-bad
 returns-in-Some-clause-bad g c = λ items e none.
     let t = c.in-Some.ensures.told (steps items 0) (search rules) in
     let after = c.walk_certificate-walked.new.walker in
-    let part = taking-is (moment g.I.Indices.faults g.I.Indices.full g.I.Indices.count g.I.Indices.lenders g.I.Indices.known g.I.Indices.met) c.in-Some.walked c.walked_of.result _ after c.walked_of.ensures c.in-Some.ensures.part in
+    let at = moment g.I.Items.faults g.I.Items.full g.I.Items.count g.I.Items.lenders g.I.Items.known g.I.Items.met in
+    let part = taking-is index_faults LeafFails BadIndex leaf-inner place-inner at c.in-Some.walked c.walk_answer.result _ after c.walk_answer.ensures c.in-Some.ensures.part in
     bad-as _ _ c.answer_of.result _ t.1
     (c.answer_of.ensures.bad t.0
-    (subst (λ x. Meets index_sight t.0 (ending c.walked_of.result) (seen (g.I.Indices.left x) after.taken)) (search rules) (meets-is t.0 c.in-Some.walked c.walked_of.result _ c.walked_of.ensures t.2))
-    (subst (λ x. g.I.Indices.count x ≡ ended c.walked_of.result after.taken) (search rules) (part.counted (search rules))))
+    (subst (λ x. Meets index_sight t.0 (ending c.walk_answer.result) (seen (g.I.Items.left x) after.taken)) (search rules) (meets-is index_rules index_sight t.0 c.in-Some.walked c.walk_answer.result _ c.walk_answer.ensures t.2))
+    (subst (λ x. g.I.Items.count x ≡ ended c.walk_answer.result after.taken) (search rules) (part.counted (search rules))))
 
 pub returns-in-Some-clause-cause : goal.returns-in-Some-clause-cause
 returns-in-Some-clause-cause g c =
     let after = c.walk_certificate-walked.new.walker in
-    let part = taking-is (moment g.I.Indices.faults g.I.Indices.full g.I.Indices.count g.I.Indices.lenders g.I.Indices.known g.I.Indices.met) c.in-Some.walked c.walked_of.result c.new-walker.result after c.walked_of.ensures c.in-Some.ensures.part in
-    c.answer_of.ensures.cause _ (subst (λ x. Causes c.walked_of.result (g.I.Indices.faults c.args.indices.now) (g.I.Indices.faults x) (g.I.Indices.full x)) (search rules)
-    (subst (λ x. Causes c.walked_of.result (g.I.Indices.faults x) (g.I.Indices.faults after.indices.now) (g.I.Indices.full after.indices.now)) (search rules) part.cause))
+    let at = moment g.I.Items.faults g.I.Items.full g.I.Items.count g.I.Items.lenders g.I.Items.known g.I.Items.met in
+    let part = taking-is index_faults LeafFails BadIndex leaf-inner place-inner at c.in-Some.walked c.walk_answer.result c.new-walker.result after c.walk_answer.ensures c.in-Some.ensures.part in
+    c.answer_of.ensures.cause _ (subst (λ x. Causes c.walk_answer.result (g.I.Items.faults c.args.indices.now) (g.I.Items.faults x) (g.I.Items.full x)) (search rules)
+    (subst (λ x. Causes c.walk_answer.result (g.I.Items.faults x) (g.I.Items.faults after.indices.now) (g.I.Items.full after.indices.now)) (search rules) part.cause))

@@ -1,7 +1,8 @@
 use Rattle.std.proofs.Common.{◌≡◌, ℕ, ◌+◌, List, ap, rules, subst, sym}
 use Rattle.io_edge.specs.Outside.{Told}
 use Rattle.line_feed.specs.Feed.{Reading}
-use Rattle.strategy_check.specs.Checks.{CountsRefused}
+use Rattle.claim_walks.specs.Answers.{CountsRefused}
+use Rattle.strategy_check.specs.Checks.{index_faults}
 use Rattle.certificate_text.specs.Taken.{HasRead}
 use Rattle.text_verdicts.specs.Reading.{WasReadAs}
 use Rattle.win_commands.proofs.verifying.judge_indices.Goals as goal
@@ -20,7 +21,7 @@ returns-clause-read g c = λ text r.
     let went : HasRead text (g.S.Source.rest after.source.now) after.reader.now (4 + after.lines) = c.check_solution-checked.ensures.known text 4 begun in
     let taken : HasRead text (g.S.Source.rest after.source.now) after.reader.now (4 + c.lines.result) =
     subst (λ (n : ℕ). HasRead text (g.S.Source.rest after.source.now) after.reader.now (4 + n)) (sym c.lines.ensures) went in
-    let few : CountsRefused c.check_solution-checked.result c.lines.result =
-    subst (λ (n : ℕ). CountsRefused c.check_solution-checked.result n) (sym c.lines.ensures) (c.check_solution-checked.ensures.refused c.new-indices.ensures.none) in
+    let few : CountsRefused index_faults c.check_solution-checked.result c.lines.result =
+    subst (λ (n : ℕ). CountsRefused index_faults c.check_solution-checked.result n) (sym c.lines.ensures) (c.check_solution-checked.ensures.refused c.new-indices.ensures.none) in
     let told : WasReadAs 4 c.verdict_of.result text (g.S.Source.rest after.source.now) = c.verdict_of.ensures.read text _ _ taken few c.check_solution-checked.ensures.met in
     search (rules, told)

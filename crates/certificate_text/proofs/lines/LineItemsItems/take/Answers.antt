@@ -1,16 +1,15 @@
 use Rattle.std.proofs.Common.{ap}
 use Rattle.std.specs.Prelude.{map}
 use Rattle.std.specs.Option.{option_map}
-use Rattle.certificate_text.specs.Text.{index_in}
 use Rattle.certificate_text.proofs.TextLaws.{end-told, no-items}
 use Rattle.certificate_text.proofs.TakenLaws.{read-item, read-none-given, lines_given}
-use Rattle.certificate_text.proofs.lines.LineIndicesIndices.take.Goals as goal
+use Rattle.certificate_text.proofs.lines.LineItemsItems.take.Goals as goal
 
 pub returns-in-End-clause-item : goal.returns-in-End-clause-item
 returns-in-End-clause-item g c =
     let (bytes, takes, ends) = c.in-End.ensures.fed in
     let (none0, none1) = c.in-End.ensures.ahead in
-    (ap (option_map (map index_in)) (end-told _ _ _ _ bytes takes.left none0 none1), no-items _ none0)
+    (ap (option_map (map g.F.LineForm.item)) (end-told _ _ _ _ bytes takes.left none0 none1), no-items _ _ none0)
 
 pub returns-in-Some-clause-known : goal.returns-in-Some-clause-known
 returns-in-Some-clause-known g c = read-item c.next_line.result _ _ _ _ c.next_line.ensures.fed c.next_line.ensures.bound c.next_line.ensures.little _ _ c.saturating_add-self.ensures

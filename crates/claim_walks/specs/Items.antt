@@ -1,0 +1,43 @@
+-- Items that a walk takes, where they are told: each is one that it can take, or a bad item.
+use Rattle.std.specs.Prelude.{◌≡◌, ℕ, ◌+◌, ◌-◌, ◌^◌, min, List, [], ◌∷◌, map, ⊤, Option, Some, None}
+use Rattle.std.specs.Option.{option_map}
+use Rattle.claim_walks.specs.declared.items.ItemAnswer.{ItemAnswer}
+use Rattle.claim_walks.specs.declared.items.ItemAnswer.TheVariants.{Item, End, Bad, Failed, Full}
+
+-- the items to come where they are told, as none where one is bad; and none where they are not told
+abbrev pub Told : Type 0 → Type 0
+Told T = Option (List (Option T))
+
+-- the told items, with this one in front
+abbrev pub in_front : {T : Type 0} → Option T → Told T → Told T
+in_front item told = option_map (λ items. item ∷ items) told
+
+-- no told item is left
+abbrev pub IsAtEnd : {T : Type 0} → Told T → Type 0
+IsAtEnd None = ⊤
+IsAtEnd (Some items) = items ≡ []
+
+-- what a call gave, and what it took away; items are told after it exactly where they were told before
+abbrev pub Takes : {T : Type 0} → ItemAnswer T → Told T → Told T → Type 0
+Takes (Item item) old new = old ≡ in_front (Some item) new
+Takes End old new = (new ≡ old) × IsAtEnd old
+Takes Bad old new = old ≡ in_front None new
+Takes Failed old new = new ≡ old
+Takes Full old new = new ≡ old
+
+-- the count of the items that were taken away, after a call: it stands still at the greatest u64
+abbrev pub counted : {T : Type 0} → ItemAnswer T → ℕ → ℕ
+counted (Item item) n = min (n + 1) (2 ^ 64 - 1)
+counted End n = n
+counted Bad n = min (n + 1) (2 ^ 64 - 1)
+counted Failed n = n
+counted Full n = n
+
+-- what no call changes: the references that items are read through, and how many bytes were taken or are to come, where that is told
+pub record Lent : Type 0 where
+  pub references : List ℕ
+  pub bytes : Option ℕ
+
+-- these items, told
+abbrev pub all_of : {T : Type 0} → List T → Told T
+all_of items = Some (map (λ item. Some item) items)

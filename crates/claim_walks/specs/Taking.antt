@@ -1,0 +1,96 @@
+-- What is so of the items from before a part of a walk until after it.
+use Rattle.std.proofs.Common.{◌≡◌, ℕ, Bool, List, Option, None, Some, refl, subst, arith, ◌∙◌}
+use Rattle.std.specs.Prelude.{IfSome}
+use Rattle.claim_walks.specs.Follows.{Ending, Shown}
+use Rattle.claim_walks.specs.Items.{Lent}
+use Rattle.claim_walks.specs.Answers.{Faults, ReadCauses, ending, IsOfWalk, CountsOn, Causes, EndsAs}
+use Rattle.claim_walks.specs.declared.items.ItemAnswer.{ItemAnswer}
+use Rattle.claim_walks.specs.declared.answers.Halt.TheVariants.{Bad, Failed, Full}
+use Rattle.claim_walks.specs.declared.answers.Stop.{Stop}
+use Rattle.claim_walks.specs.declared.answers.Stop.TheVariants.{Refuses as StopRefuses, Halts as StopHalts}
+use Rattle.claim_walks.specs.declared.answers.WalkAnswer.{WalkAnswer}
+use Rattle.claim_walks.specs.declared.answers.WalkAnswer.TheVariants.{Done, Refuses, Halts}
+use Rattle.claim_walks.specs.declared.walker.Walked.{Walked}
+use Rattle.claim_walks.specs.declared.walker.Walked.TheVariants.{Done as AllDone, LeafFails, BadIndex, Stops}
+
+-- what is told of items at one moment of a walk: the names of the references that it goes through are told too
+pub record Moment (T : Type 0) : Type 1 where
+  pub names : List ℕ
+  pub taken : ℕ
+  pub faults : ℕ
+  pub full : Bool
+  pub count : ℕ
+  pub lenders : Lent
+  pub known : List ℕ → ℕ → Type 0
+  pub met : ItemAnswer T → Type 0
+
+-- why a part of a walk ended, or none where neither a fault nor the items ended it
+abbrev pub PartCauses : {W : Type 0} → Option (WalkAnswer W) → ℕ → ℕ → Bool → Type 0
+PartCauses None = ReadCauses ⊥ ⊥
+PartCauses (Some walked) = Causes walked
+
+-- what is so of a part of a walk; of its answer there is none where neither a fault nor the items ended it
+pub record Taking {T W : Type 0} (kinds : Faults W) (answer : Option (WalkAnswer W)) (a b : Moment T) : Type 0 where
+  pub names : b.names ≡ a.names
+  pub cause : PartCauses answer a.faults b.faults b.full
+  pub counted : IfSome answer (λ walked. CountsOn walked a.count b.count a.taken b.taken)
+  pub lenders : b.lenders ≡ a.lenders
+  pub known : (input : List ℕ) (before : ℕ) → a.known input before → b.known input before
+  pub met : IfSome answer (λ walked. EndsAs kinds b.met walked)
+  pub legal : IfSome answer (λ walked. IsOfWalk kinds walked)
+
+-- why it was ended
+abbrev pub of_stop : {W : Type 0} → Stop W → WalkAnswer W
+of_stop (StopRefuses why) = Refuses why
+of_stop (StopHalts halt) = Halts halt
+
+abbrev pub stop_ending : {W : Type 0} → Stop W → Ending W
+stop_ending stop = ending (of_stop stop)
+
+-- how a part of a walk ended, of which these are the faults of a leaf and of a place
+abbrev pub of_walk : {W : Type 0} → W → W → Walked (Stop W) → WalkAnswer W
+of_walk leaf_fails bad_index AllDone = Done
+of_walk leaf_fails bad_index LeafFails = Refuses leaf_fails
+of_walk leaf_fails bad_index BadIndex = Refuses bad_index
+of_walk leaf_fails bad_index (Stops stop) = of_stop stop
+
+-- what is so where it is not ended, and where it is
+abbrev pub GoesOn : {T W : Type 0} → Faults W → Moment T → Moment T → Type 0
+GoesOn kinds = Taking kinds (Some Done)
+
+abbrev pub StopsAt : {T W : Type 0} → Faults W → Stop W → Moment T → Moment T → Type 0
+StopsAt kinds stop = Taking kinds (Some (of_stop stop))
+
+-- ---- its laws
+
+pub stops-short : {W : Type 0} (stop : Stop W) → stop_ending stop ≡ Shown → ⊥
+stops-short (StopRefuses why) e = cc
+stops-short (StopHalts Bad) e = cc
+stops-short (StopHalts Failed) e = cc
+stops-short (StopHalts Full) e = cc
+
+pub goes-none : {T W : Type 0} (kinds : Faults W) (a : Moment T) → GoesOn kinds a a
+goes-none kinds a = record {
+  names = refl;
+  cause = record { later = omega arith; rose = λ e. cc; same = λ e. refl; closed = λ e. cc };
+  counted = λ e. e;
+  lenders = refl;
+  known = λ input before k. k;
+  met = tt;
+  legal = tt;
+}
+
+counts-then : {W : Type 0} (answer : Option (WalkAnswer W)) (i j k n m l : ℕ) → (i ≡ n → j ≡ m) → IfSome answer (λ walked. CountsOn walked j k m l) → IfSome answer (λ walked. CountsOn walked i k n l)
+counts-then None i j k n m l first later = later
+counts-then (Some walked) i j k n m l first later = λ e. later (first e)
+
+pub goes-then : {T W : Type 0} (kinds : Faults W) (answer : Option (WalkAnswer W)) (a b c : Moment T) → GoesOn kinds a b → Taking kinds answer b c → Taking kinds answer a c
+goes-then kinds answer a b c first later = record {
+  names = later.names ∙ first.names;
+  cause = subst (λ n. PartCauses answer n c.faults c.full) (first.cause.same (λ e. cc)) later.cause;
+  counted = counts-then answer a.count b.count c.count a.taken b.taken c.taken first.counted later.counted;
+  lenders = later.lenders ∙ first.lenders;
+  known = λ input before k. later.known input before (first.known input before k);
+  met = later.met;
+  legal = later.legal;
+}
