@@ -21,7 +21,7 @@ use Rattle.game_text.specs.declared.parsed.Parsed.{Parsed}
 use Rattle.certificate_text.specs.declared.head.Head.{Head}
 use Rattle.certificate_text.specs.declared.head.HeadFault.{HeadFault}
 use Rattle.certificate_text.specs.declared.head.HeadFault.TheVariants.{BadLine, BadGame, ReadFault, InputFull, Memory}
-use Rattle.certificate_text.specs.Text.{HeadRead, and_then, field_in, game_in, head_of, head_text, version_at, depth_at, move_at, value_at, index_in, written_line}
+use Rattle.certificate_text.specs.Text.{HeadRead, and_then, field_in, game_in, head_of, head_text, version_at, depth_at, move_at, value_at, written_line}
 use Rattle.certificate_text.specs.Heads.{Reads, in_all}
 
 -- ---- words
