@@ -10,10 +10,10 @@ use Rattle.hive_model.specs.Positions.{Position}
 use Rattle.search_laws.proofs.BestLaws.{best-exists, best-is}
 use Rattle.uhp_session.specs.Answers.{Begun, reached, text_of_best}
 use Rattle.uhp_session.specs.Laws.{BestMovesAreNamed}
-use Rattle.uhp_session.proofs.ListLaws.{got_on}
+use Rattle.hive_model.proofs.GetLemmas.{on-at}
 
 pub best_on : (p : Position) (depth : ℕ) (m : Move) → best p depth ≡ Some m → IsOn (moves p) m
-best_on p depth m e = let is : IsBest p depth m = best-is p depth m e in got_on (moves p) is.place m is.move
+best_on p depth m e = let is : IsBest p depth m = best-is p depth m e in on-at (moves p) is.place m is.move
 
 pub best_named : BestMovesAreNamed
 best_named g depth goes_on some =

@@ -7,7 +7,7 @@ use Rattle.uhp_words.specs.declared.command.Command.TheVariants.{Info, NewGame, 
 use Rattle.uhp_words.specs.declared.command.CommandFault.{CommandFault}
 use Rattle.uhp_words.specs.declared.command.CommandFault.TheVariants.{Unknown, Arguments}
 use Rattle.uhp_words.specs.Reading.{command_of}
-use Rattle.uhp_session.specs.Answers.{Begun, State, reached, is_ended, refuse, in_game, while_on, best_line, command_answer, words_answer, reply_of, after_of, reply, next}
+use Rattle.uhp_session.specs.Answers.{Begun, State, reached, is_ended, refuse, in_game, best_line, command_answer, words_answer, reply_of, after_of, reply, next}
 use Rattle.uhp_session.specs.Searches.{Search, asks, command_search, search_in}
 use Rattle.uhp_session.specs.Laws.{DepthsServeSearches}
 use Rattle.uhp_session.proofs.ReplyLaws.{best_keeps}

@@ -20,6 +20,7 @@ use Rattle.game_text.proofs.SeenLaws.{sees_same}
 use Rattle.game_text.proofs.WriteLaws.{taken_size}
 use Rattle.move_text.specs.Moves.{IsMoveWithin}
 use Rattle.move_text.proofs.LegalSpell.{listed_within}
+use Rattle.search_laws.proofs.CourseLaws.{take-all_but_last}
 use Rattle.uhp_session.specs.Answers.{Begun, reached}
 
 -- The position of a course that has the game's type and moves
@@ -112,14 +113,7 @@ few_less c e back few =
 
 -- a move was made and taken back
 pub taken_back : (ms : List Move) (m : Move) → take (length (ms ++ m ∷ []) - 1) (ms ++ m ∷ []) ≡ ms
-taken_back [] m = refl
-taken_back (k ∷ ms) m =
-    let long : length (k ∷ (ms ++ m ∷ [])) - 1 ≡ suc (length (ms ++ m ∷ []) - 1) = longer ms in
-    ap (λ n. take n (k ∷ (ms ++ m ∷ []))) long ∙ ap (λ (r : List Move). k ∷ r) (taken_back ms m)
-  where
-    longer : (ms : List Move) → length (k ∷ (ms ++ m ∷ [])) - 1 ≡ suc (length (ms ++ m ∷ []) - 1)
-    longer [] = refl
-    longer (x ∷ xs) = omega arith
+taken_back ms m = take-all_but_last ms m
 
 -- A move that was made and taken back, since there was no memory for the key of its position
 

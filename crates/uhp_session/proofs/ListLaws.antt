@@ -1,9 +1,9 @@
 -- Written moves, joined by semicolons.
-use Rattle.std.proofs.Common.{◌≡◌, ℕ, zero, suc, ◌+◌, ◌≤◌, ◌<◌, List, [], ◌∷◌, ◌++◌, length, take, refl, sym, ◌∙◌, ap, arith, append_assoc, inl, inr, if◌then◌else◌}
+use Rattle.std.proofs.Common.{◌≡◌, ℕ, suc, ◌+◌, ◌≤◌, ◌<◌, List, [], ◌∷◌, ◌++◌, length, take, refl, sym, ◌∙◌, ap, arith, append_assoc, if◌then◌else◌}
 use Rattle.std.specs.Prelude.{Some, slice_get, map, nat_eq}
+use Rattle.std.proofs.lemmas.List.{take_all, length-map, length-take-le, map_push}
 use Rattle.std.proofs.lemmas.Bool.{eqb-true, false_from_ne_true}
 use Rattle.hive_model.specs.declared.places.Move.{Move}
-use Rattle.hive_model.specs.Lists.{IsOn}
 use Rattle.hive_model.specs.Strings.{joined_on}
 use Rattle.game_text.proofs.WriteLaws.{taken_next}
 use Rattle.uhp_session.specs.Answers.{joined}
@@ -20,43 +20,18 @@ joined_more : (ps : List (List ℕ)) (q : List ℕ) → joined (ps ++ q ∷ []) 
 joined_more [] q = refl
 joined_more (p ∷ ps) q = on_more p q ps ∙ sym (not_first (length ps) (joined_on p ps ++ q) (joined_on p ps ++ 59 ∷ q))
 
-map_more : (f : Move → List ℕ) (ms : List Move) (m : Move) → map f (ms ++ m ∷ []) ≡ map f ms ++ f m ∷ []
-map_more f [] m = refl
-map_more f (k ∷ ms) m = ap (λ (r : List (List ℕ)). f k ∷ r) (map_more f ms m)
-
-map_size : (f : Move → List ℕ) (ms : List Move) → length (map f ms) ≡ length ms
-map_size f [] = refl
-map_size f (k ∷ ms) = ap suc (map_size f ms)
-
-taken_length : (ms : List Move) (i : ℕ) → i ≤ length ms → length (take i ms) ≡ i
-taken_length [] zero all = refl
-taken_length [] (suc i) all = absurd (omega (arith, all))
-taken_length (k ∷ ms) zero all = refl
-taken_length (k ∷ ms) (suc i) all = ap suc (taken_length ms i (omega (arith, all)))
-
 pub written_on : (f : Move → List ℕ) (ms : List Move) (i : ℕ) (m : Move) (old new part : List ℕ) → slice_get ms i ≡ Some m → i < length ms → old ≡ joined (map f (take i ms)) → part ≡ f m
     → new ≡ (if nat_eq i 0 then old ++ part else old ++ 59 ∷ part) → new ≡ joined (map f (take (i + 1) ms))
 written_on f ms i m old new part at less before is pushed =
     let low : i ≤ length ms = omega (arith, less) in
-    let size : length (map f (take i ms)) ≡ i = map_size f (take i ms) ∙ taken_length ms i low in
+    let size : length (map f (take i ms)) ≡ i = length-map (take i ms) f ∙ length-take-le i ms low in
     pushed ∙ (λ j. if nat_eq i 0 then before j ++ is j else before j ++ 59 ∷ is j)
     ∙ ap (λ n. if nat_eq n 0 then joined (map f (take i ms)) ++ f m else joined (map f (take i ms)) ++ 59 ∷ f m) (sym size)
-    ∙ sym (joined_more (map f (take i ms)) (f m)) ∙ ap joined (sym (map_more f (take i ms) m)) ∙ ap (λ (r : List Move). joined (map f r)) (sym (taken_next ms i m at))
+    ∙ sym (joined_more (map f (take i ms)) (f m)) ∙ ap joined (sym (map_push f (take i ms) m)) ∙ ap (λ (r : List Move). joined (map f r)) (sym (taken_next ms i m at))
 
 pub written_all : (f : Move → List ℕ) (ms : List Move) (i : ℕ) (text : List ℕ) → length ms ≤ i → text ≡ joined (map f (take i ms)) → text ≡ joined (map f ms)
-written_all f ms i text all is = is ∙ ap (λ (r : List Move). joined (map f r)) (whole ms i all)
-  where
-    whole : (ms : List Move) (i : ℕ) → length ms ≤ i → take i ms ≡ ms
-    whole [] zero all = refl
-    whole [] (suc i) all = refl
-    whole (k ∷ ms) zero all = absurd (omega (arith, all))
-    whole (k ∷ ms) (suc i) all = ap (λ (r : List Move). k ∷ r) (whole ms i (omega (arith, all)))
+written_all f ms i text all is = is ∙ ap (λ (r : List Move). joined (map f r)) (take_all i ms all)
 
 pub written_none : (f : Move → List ℕ) (ms : List Move) (text : List ℕ) → text ≡ [] → text ≡ joined (map f (take 0 ms))
 written_none f [] text none = none
 written_none f (k ∷ ms) text none = none
-
-pub got_on : (ms : List Move) (i : ℕ) (m : Move) → slice_get ms i ≡ Some m → IsOn ms m
-got_on [] i m e = absurd (cc)
-got_on (k ∷ ms) zero m e = let same : k ≡ m = cc in inl same
-got_on (k ∷ ms) (suc i) m e = inr (got_on ms i m e)

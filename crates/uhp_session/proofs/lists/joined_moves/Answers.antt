@@ -1,11 +1,12 @@
 use Rattle.std.proofs.Common.{rules, ◌≡◌, ◌<◌, ◌∷◌, ◌++◌, length, nat_eq, if◌then◌else◌}
 use Rattle.hive_model.specs.Denotes.{text}
 use Rattle.hive_model.specs.Stack.{level_of}
-use Rattle.uhp_session.proofs.ListLaws.{written_on, got_on}
+use Rattle.hive_model.proofs.GetLemmas.{on-at}
+use Rattle.uhp_session.proofs.ListLaws.{written_on}
 use Rattle.uhp_session.proofs.lists.joined_moves.Goals as goal
 
 pub write_move-written-requires-clause-within : goal.write_move-written-requires-clause-within
-write_move-written-requires-clause-within g c = c.requires.within c.get.result (got_on (level_of c.args.stack.now 0) c.loop-i.i c.get.result c.get.ensures)
+write_move-written-requires-clause-within g c = c.requires.within c.get.result (on-at (level_of c.args.stack.now 0) c.loop-i.i c.get.result c.get.ensures)
 
 pub loop-i-preserved : goal.loop-i-preserved
 loop-i-preserved g c =

@@ -1,6 +1,6 @@
 use Rattle.std.proofs.Common.{rules, ◌≡◌, List, [], ◌∷◌, ◌++◌, ℕ, ◌∙◌, ap, subst, append_assoc}
 use Rattle.std.specs.Prelude.{Option, Some, codes, IfOk}
-use Rattle.uhp_session.specs.Answers.{text_of, ended, table_line, workers_line, repetition_line}
+use Rattle.uhp_session.specs.Answers.{text_of, table_line, workers_line, repetition_line}
 use Rattle.uhp_session.proofs.options.tell_options.Goals as goal
 
 three_lines : (t u v w x y a b c rest : List ℕ) → t ≡ [] → u ≡ t ++ a → v ≡ u ++ 10 ∷ [] → w ≡ v ++ b → x ≡ w ++ 10 ∷ [] → y ≡ x ++ c

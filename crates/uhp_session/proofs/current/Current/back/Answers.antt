@@ -1,5 +1,4 @@
-use Rattle.std.proofs.Common.{rules, ◌≡◌, ◌≤◌, ◌-◌, length, take}
-use Rattle.std.specs.Prelude.{if◌then◌else◌}
+use Rattle.std.proofs.Common.{rules, ◌≤◌, length}
 use Rattle.game_text.proofs.SeenLaws.{seen_some}
 use Rattle.uhp_session.proofs.KeptLaws.{written_less, few_less, sees_back}
 use Rattle.uhp_session.proofs.current.Current.back.Goals as goal

@@ -1,7 +1,6 @@
-use Rattle.std.proofs.Common.{rules, ◌≡◌, Some, subst, sym}
+use Rattle.std.proofs.Common.{subst, sym}
 use Rattle.hive_model.specs.Lists.{IsOn}
 use Rattle.hive_model.specs.Legal.{moves}
-use Rattle.hive_model.specs.Minimax.{best}
 use Rattle.uhp_session.specs.Answers.{Begun, reached}
 use Rattle.uhp_session.proofs.BestLaws.{best_on}
 use Rattle.uhp_session.proofs.current.Current.tell_best.Goals as goal

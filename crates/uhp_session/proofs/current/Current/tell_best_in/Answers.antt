@@ -1,6 +1,5 @@
-use Rattle.std.proofs.Common.{rules, ◌≡◌, sym, ◌∙◌, ap}
+use Rattle.std.proofs.Common.{◌≡◌, sym, ap}
 use Rattle.hive_model.specs.Courses.{Course, position}
-use Rattle.uhp_session.specs.Answers.{Begun, reached}
 use Rattle.uhp_session.proofs.BestLaws.{best_on_course}
 use Rattle.uhp_session.proofs.current.Current.tell_best_in.Goals as goal
 
