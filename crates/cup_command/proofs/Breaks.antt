@@ -4,12 +4,13 @@ use Rattle.std.specs.List.{flat_map}
 use Rattle.std.proofs.Math.Seq.{take-append-add}
 use Rattle.std.proofs.lemmas.List.{take-append-le}
 use Rattle.io_edge.specs.Outside.{ToldLists, ToldPrograms, Starts}
+use Rattle.io_edge.specs.Starts.{Engines}
 use Rattle.cup_core.specs.declared.pairing.Pairing.{Pairing}
 use Rattle.cup_games.specs.Played.{Side}
 use Rattle.cup_core.specs.Engines.{Engine}
-use Rattle.cup_command.specs.Cup.{BreaksOff, Starter, cup_words, game_words, started_after}
+use Rattle.cup_command.specs.Cup.{BreaksOff, cup_words, game_words, started_after}
 use Rattle.cup_command.specs.Links.{ClosesLinks, GivesUp, StartsAll}
-use Rattle.match_command.specs.Wires.{ClosesAll}
+use Rattle.match_command.specs.Match.{NoneIsOpen}
 use Rattle.cup_command.proofs.Chains.{none-open, starts-append}
 use Rattle.cup_command.proofs.Heard.{AllWrote, gains-all}
 
@@ -34,45 +35,45 @@ two-words engines (g ∷ games) = let more = two-words engines games in omega (a
 -- Giving up
 
 -- none was started
-pub gives-none : (failed : Type 0) (words : List (List (List ℕ))) (there : List Side) (a b sent sent_now : ToldLists) (st st_now : ToldPrograms)
-    → 0 < length words → b ≡ a → ClosesLinks sent sent_now there → st_now ≡ st → GivesUp failed words there a b sent sent_now st st_now
-gives-none failed words there a b sent sent_now st st_now some same closes named = record {
+pub gives-none : (failed : Type 0) (words : List (List (List ℕ))) (there : List Side) (before after : Engines)
+    → 0 < length words → after.to_come ≡ before.to_come → ClosesLinks before.sent after.sent there → after.started ≡ before.started → GivesUp failed words there before after
+gives-none failed words there before after some same closes named = record {
   late = [];
   few = omega arith;
   short = λ f. some;
   starts = same;
-  closes = subst (λ links. ClosesLinks sent sent_now links) (sym (append-none there)) closes;
-  named = named ∙ started-none st;
+  closes = subst (λ links. ClosesLinks before.sent after.sent links) (sym (append-none there)) closes;
+  named = named ∙ started-none before.started;
 }
 
 -- one was started, and no start failed
-pub gives-one : (failed : Type 0) (words : List (List ℕ)) (there : List Side) (first link : Side) (a b sent sent_now : ToldLists) (st st_now : ToldPrograms)
-    → (failed → ⊥) → Starts a b link.rest link.written → ClosesLinks sent sent_now (there ++ (first ∷ (link ∷ []))) → st_now ≡ started_after st (words ∷ []) → GivesUp failed (words ∷ []) (there ++ first ∷ []) a b sent sent_now st st_now
-gives-one failed words there first link a b sent sent_now st st_now none starts closes named = record {
+pub gives-one : (failed : Type 0) (words : List (List ℕ)) (there : List Side) (first link : Side) (before after : Engines)
+    → (failed → ⊥) → Starts before.to_come after.to_come link.rest link.written → ClosesLinks before.sent after.sent (there ++ (first ∷ (link ∷ []))) → after.started ≡ started_after before.started (words ∷ []) → GivesUp failed (words ∷ []) (there ++ first ∷ []) before after
+gives-one failed words there first link before after none starts closes named = record {
   late = link ∷ [];
   few = omega arith;
   short = λ f. absurd (none f);
-  starts = (b, starts, refl);
-  closes = subst (λ links. ClosesLinks sent sent_now links) (sym (append_assoc there (first ∷ []) (link ∷ []))) closes;
+  starts = (after.to_come, starts, refl);
+  closes = subst (λ links. ClosesLinks before.sent after.sent links) (sym (append_assoc there (first ∷ []) (link ∷ []))) closes;
   named = named;
 }
 
 -- one more program was started before
-pub one-before : (failed : Type 0) (words : List (List (List ℕ))) (first : List (List ℕ)) (there : List Side) (link : Side) (a b c sent sent_now : ToldLists) (st st1 st2 : ToldPrograms)
-    → Starts a b link.rest link.written → st1 ≡ started_after st (first ∷ []) → GivesUp failed words (there ++ link ∷ []) b c sent sent_now st1 st2 → GivesUp failed (first ∷ words) there a c sent sent_now st st2
-one-before failed words first there link a b c sent sent_now st st1 st2 starts named g = record {
+pub one-before : (failed : Type 0) (words : List (List (List ℕ))) (first : List (List ℕ)) (there : List Side) (link : Side) (before between after : Engines)
+    → Starts before.to_come between.to_come link.rest link.written → between.sent ≡ before.sent → between.started ≡ started_after before.started (first ∷ []) → GivesUp failed words (there ++ link ∷ []) between after → GivesUp failed (first ∷ words) there before after
+one-before failed words first there link before between after starts sent named g = record {
   late = link ∷ g.late;
   few = omega (arith, g.few);
   short = λ f. let more = g.short f in omega (arith, more);
-  starts = (b, starts, g.starts);
-  closes = subst (λ links. ClosesLinks sent sent_now links) (append_assoc there (link ∷ []) g.late) g.closes;
-  named = g.named ∙ (ap (λ s. started_after s (take (length g.late) words)) named ∙ started-more st (first ∷ []) (take (length g.late) words));
+  starts = (between.to_come, starts, g.starts);
+  closes = subst (λ links. ClosesLinks before.sent after.sent links) (append_assoc there (link ∷ []) g.late) (subst (λ told. ClosesLinks told after.sent ((there ++ link ∷ []) ++ g.late)) sent g.closes);
+  named = g.named ∙ (ap (λ s. started_after s (take (length g.late) words)) named ∙ started-more before.started (first ∷ []) (take (length g.late) words));
 }
 
 -- many programs were started before, and others were still to be started
-pub all-before : (failed : Type 0) (xs ys zs : List (List (List ℕ))) (links : List Side) (a b c sent sent_now : ToldLists) (st st1 st2 : ToldPrograms)
-    → length links ≡ length xs → StartsAll a b links → st1 ≡ started_after st xs → GivesUp failed ys links b c sent sent_now st1 st2 → GivesUp failed (xs ++ (ys ++ zs)) [] a c sent sent_now st st2
-all-before failed xs ys zs links a b c sent sent_now st st1 st2 many starts named g =
+pub all-before : (failed : Type 0) (xs ys zs : List (List (List ℕ))) (links : List Side) (before between after : Engines)
+    → length links ≡ length xs → StartsAll before.to_come between.to_come links → between.sent ≡ before.sent → between.started ≡ started_after before.started xs → GivesUp failed ys links between after → GivesUp failed (xs ++ (ys ++ zs)) [] before after
+all-before failed xs ys zs links before between after many starts sent named g =
     let long : length (links ++ g.late) ≡ length xs + length g.late = length-append links g.late ∙ ap (λ n. n + length g.late) many in
     let whole : length (xs ++ (ys ++ zs)) ≡ length xs + (length ys + length zs) = length-append xs (ys ++ zs) ∙ ap (λ n. length xs + n) (length-append ys zs) in
     let front : take (length (links ++ g.late)) (xs ++ (ys ++ zs)) ≡ xs ++ take (length g.late) ys =
@@ -82,9 +83,9 @@ all-before failed xs ys zs links a b c sent sent_now st st1 st2 many starts name
       late = links ++ g.late;
       few = omega (arith, long, whole, few);
       short = λ f. let less = g.short f in omega (arith, long, whole, less);
-      starts = starts-append a b c links g.late starts g.starts;
-      closes = g.closes;
-      named = g.named ∙ (ap (λ s. started_after s (take (length g.late) ys)) named ∙ (started-more st xs (take (length g.late) ys) ∙ ap (λ ws. started_after st ws) (sym front)));
+      starts = starts-append before.to_come between.to_come after.to_come links g.late starts g.starts;
+      closes = subst (λ told. ClosesLinks told after.sent (links ++ g.late)) sent g.closes;
+      named = g.named ∙ (ap (λ s. started_after s (take (length g.late) ys)) named ∙ (started-more before.started xs (take (length g.late) ys) ∙ ap (λ ws. started_after before.started ws) (sym front)));
     }
 
 -- What is told
@@ -108,7 +109,7 @@ late-told (x ∷ xs) all now (Some mid, (bytes, e, f, g), r) =
     }
 
 -- the programs that were started where one did not start
-pub breaks : (failed : Type 0) (engines : List Engine) (before after : Starter) → failed → GivesUp failed (cup_words engines) [] before.to_come after.to_come before.sent after.sent before.started after.started → BreaksOff engines before after
+pub breaks : (failed : Type 0) (engines : List Engine) (before after : Engines) → failed → GivesUp failed (cup_words engines) [] before after → BreaksOff engines before after
 breaks failed engines before after f g = record {
   count = length g.late;
   few = g.short f;
@@ -119,5 +120,5 @@ breaks failed engines before after f g = record {
 }
 
 -- all that were started were closed
-pub gives-all : (failed : Type 0) (words : List (List (List ℕ))) (a b sent sent_now : ToldLists) (st st_now : ToldPrograms) → GivesUp failed words [] a b sent sent_now st st_now → ClosesAll a b sent sent_now
-gives-all failed words a b sent sent_now st st_now g = none-open a b sent sent_now g.late g.late g.starts g.closes refl
+pub gives-all : (failed : Type 0) (words : List (List (List ℕ))) (before after : Engines) → GivesUp failed words [] before after → NoneIsOpen before after
+gives-all failed words before after g = none-open before after g.late g.late g.starts g.closes refl

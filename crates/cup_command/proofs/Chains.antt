@@ -5,7 +5,8 @@ use Rattle.std.proofs.lemmas.Bool.{cases_lt}
 use Rattle.std.proofs.lemmas.Bool.Decides.{nat_tests}
 use Rattle.std.proofs.lemmas.List.Sums.{sum_by-cons}
 use Rattle.io_edge.specs.Outside.{ToldLists, CountsFailed, one_more}
-use Rattle.match_command.specs.Wires.{ClosesAll}
+use Rattle.io_edge.specs.Starts.{Engines}
+use Rattle.match_command.specs.Match.{NoneIsOpen}
 use Rattle.cup_games.specs.Played.{Job, Side}
 use Rattle.cup_command.specs.Cup.{RoseBy}
 use Rattle.cup_command.specs.Links.{ClosesLinks, StartsAll, all_links, counted, failures, has_failed}
@@ -86,16 +87,16 @@ closed (x ∷ xs) lists all (None, s, r) = absurd (untold xs all r)
 closed (x ∷ xs) lists all (Some mid, (bytes, e, f), r) = let more = closed xs mid all r in let one = ap length f ∙ length-append lists (bytes ∷ []) in omega (arith, more, one)
 
 -- where as many links were closed as were started, none is left open
-pub none-open : (to_come to_come_now sent sent_now : ToldLists) (xs ys : List Side) → StartsAll to_come to_come_now xs → ClosesLinks sent sent_now ys → length ys ≡ length xs → ClosesAll to_come to_come_now sent sent_now
-none-open to_come to_come_now sent sent_now xs ys s c same coming later opened shut e f g h =
-    let started : StartsAll (Some coming) (Some later) xs = subst (λ a. StartsAll a (Some later) xs) e (subst (λ b. StartsAll to_come b xs) f s) in
-    let ended : ClosesLinks (Some opened) (Some shut) ys = subst (λ a. ClosesLinks a (Some shut) ys) g (subst (λ b. ClosesLinks sent b ys) h c) in
+pub none-open : (before after : Engines) (xs ys : List Side) → StartsAll before.to_come after.to_come xs → ClosesLinks before.sent after.sent ys → length ys ≡ length xs → NoneIsOpen before after
+none-open before after xs ys s c same coming later opened shut e f g h =
+    let started : StartsAll (Some coming) (Some later) xs = subst (λ a. StartsAll a (Some later) xs) e (subst (λ b. StartsAll before.to_come b xs) f s) in
+    let ended : ClosesLinks (Some opened) (Some shut) ys = subst (λ a. ClosesLinks a (Some shut) ys) g (subst (λ b. ClosesLinks before.sent b ys) h c) in
     let one = taken xs coming later started in
     let other = closed ys opened shut ended in
     omega (arith, one, other, same)
 
 -- the links of these games were started, and then those of as many games were closed
-pub none-kept : (to_come to_come_then to_come_now sent sent_then sent_now : ToldLists) (olds shut : List Job) → StartsAll to_come to_come_then (all_links olds) → sent_then ≡ sent
-    → ClosesLinks sent_then sent_now (all_links shut) → to_come_now ≡ to_come_then → length shut ≡ length olds → ClosesAll to_come to_come_now sent sent_now
-none-kept to_come to_come_then to_come_now sent sent_then sent_now olds shut starts same closes come long =
-    none-open to_come to_come_now sent sent_now (all_links olds) (all_links shut) (subst (λ t. StartsAll to_come t (all_links olds)) (sym come) starts) (subst (λ s. ClosesLinks s sent_now (all_links shut)) same closes) (as-many olds shut long)
+pub none-kept : (before between after : Engines) (olds shut : List Job) → StartsAll before.to_come between.to_come (all_links olds) → between.sent ≡ before.sent
+    → ClosesLinks between.sent after.sent (all_links shut) → after.to_come ≡ between.to_come → length shut ≡ length olds → NoneIsOpen before after
+none-kept before between after olds shut starts same closes come long =
+    none-open before after (all_links olds) (all_links shut) (subst (λ t. StartsAll before.to_come t (all_links olds)) (sym come) starts) (subst (λ s. ClosesLinks s after.sent (all_links shut)) same closes) (as-many olds shut long)

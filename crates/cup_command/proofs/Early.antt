@@ -2,11 +2,12 @@
 use Rattle.std.proofs.Common.{◌≡◌, ℕ, ◌≤◌, List, [], ◌∷◌, ◌++◌, length, drop, map, Some, None, refl, ap, sym, ◌∙◌, arith, subst, append_assoc}
 use Rattle.std.proofs.lemmas.List.{length-map}
 use Rattle.io_edge.specs.Outside.{ToldLists}
+use Rattle.io_edge.specs.Starts.{Engines}
 use Rattle.cup_core.specs.declared.pairing.Pairing.{Pairing}
 use Rattle.cup_core.specs.Cup.{pairings}
 use Rattle.cup_core.specs.Engines.{Engine}
 use Rattle.cup_games.specs.Played.{Job, Side, pairing}
-use Rattle.cup_command.specs.Cup.{EndsEarly, Gains, Starter, cup_words, started_after}
+use Rattle.cup_command.specs.Cup.{EndsEarly, Gains, cup_words, started_after}
 use Rattle.cup_command.specs.Links.{ClosesLinks, GivesUp, StartsAll, all_links}
 use Rattle.cup_command.proofs.Breaks.{late-told, started-none, two-words}
 use Rattle.cup_command.proofs.Chains.{as-many, two-each}
@@ -41,7 +42,7 @@ drop-none [] = refl
 drop-none (x ∷ xs) = refl
 
 -- before the first start
-pub early-none : (engines : List Engine) (at : Starter) → EndsEarly engines at at
+pub early-none : (engines : List Engine) (at : Engines) → EndsEarly engines at at
 early-none engines at = record {
   count = 0;
   few = omega arith;
@@ -50,7 +51,7 @@ early-none engines at = record {
 }
 
 -- at a start
-pub early : (failed : Type 0) (engines : List Engine) (before after : Starter) → GivesUp failed (cup_words engines) [] before.to_come after.to_come before.sent after.sent before.started after.started → EndsEarly engines before after
+pub early : (failed : Type 0) (engines : List Engine) (before after : Engines) → GivesUp failed (cup_words engines) [] before after → EndsEarly engines before after
 early failed engines before after g = record {
   count = length g.late;
   few = g.few;
@@ -61,7 +62,7 @@ early failed engines before after g = record {
 }
 
 -- after all starts: as many links were closed
-pub early-all : (engines : List Engine) (games : List Pairing) (olds shut : List Job) (before between after : Starter)
+pub early-all : (engines : List Engine) (games : List Pairing) (olds shut : List Job) (before between after : Engines)
     → games ≡ pairings (length engines) → map pairing olds ≡ games → length shut ≡ length olds
     → StartsAll before.to_come between.to_come (all_links olds) → between.sent ≡ before.sent → between.started ≡ started_after before.started (cup_words engines)
     → ClosesLinks between.sent after.sent (all_links shut) → after.to_come ≡ between.to_come → after.started ≡ between.started → EndsEarly engines before after

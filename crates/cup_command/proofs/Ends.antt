@@ -3,6 +3,7 @@ use Rattle.std.proofs.Common.{◌≡◌, ℕ, ◌≤◌, ◌*◌, ◌-◌, List,
 use Rattle.std.specs.List.{All, AllZip, flat_map, zip}
 use Rattle.std.proofs.lemmas.List.{length-map}
 use Rattle.std.proofs.lemmas.List.Elements.{All-nil, All-cons, All-head, All-tail}
+use Rattle.io_edge.specs.Starts.{Engines}
 use Rattle.match_core.specs.declared.answers.Setup.{Setup}
 use Rattle.match_core.specs.Standing.{Standing}
 use Rattle.cup_core.specs.declared.pairing.Pairing.{Pairing}
@@ -12,7 +13,7 @@ use Rattle.cup_core.proofs.Totals.{few-games, length-pairings}
 use Rattle.cup_games.specs.Played.{AreStandingsOf, IsPlayed, IsRefereed, Job, pairing, verdict_of}
 use Rattle.cup_core.specs.Engines.{Engine}
 use Rattle.cup_command.specs.Texts.{cup_text, games_text, standing_text}
-use Rattle.cup_command.specs.Cup.{AreCupStandings, Played, Starter, cup_words, started_after}
+use Rattle.cup_command.specs.Cup.{AreCupStandings, Played, cup_words, started_after}
 use Rattle.cup_command.specs.Links.{ClosesLinks, IsOf, IsReady, StartsAll, all_links, counted, ended_text, jobs_text}
 use Rattle.cup_command.proofs.Ended.{broke-rose, ended-all}
 use Rattle.cup_command.proofs.Heard.{Ran, played-by}
@@ -88,11 +89,11 @@ texts-same setup (g ∷ games) (old ∷ olds) (new ∷ news) (t ∷ ends) ran =
 -- The whole cup
 
 -- what is told of a cup that was played
-abbrev pub IsToldCup : List Engine → Setup → Starter → Starter → List ℕ → Type 0
+abbrev pub IsToldCup : List Engine → Setup → Engines → Engines → List ℕ → Type 0
 IsToldCup engines setup before after text =
     (ends : List Standing) × (places : List Place) × Played engines setup ends before after × AreCupStandings (length engines) ends places × (text ≡ cup_text setup engines ends places)
 
-pub told-cup : (engines : List Engine) (setup : Setup) (games : List Pairing) (olds news : List Job) (text : List ℕ) (before after : Starter)
+pub told-cup : (engines : List Engine) (setup : Setup) (games : List Pairing) (olds news : List Job) (text : List ℕ) (before after : Engines)
     → games ≡ pairings (length engines) → map pairing olds ≡ games → All (IsReady setup) olds → AllZip IsPlayed olds news
     → StartsAll before.to_come after.to_come (all_links olds) → ClosesLinks before.sent after.sent (all_links news) → after.engine_faults ≡ counted (all_links news) before.engine_faults → after.started ≡ started_after before.started (cup_words engines)
     → ((places : List Place) × AreStandingsOf (length engines) news places × (text ≡ jobs_text setup (zip games news) ++ flat_map (standing_text engines) places)) → IsToldCup engines setup before after text
@@ -113,7 +114,7 @@ told-cup engines setup games olds news text before after whole pairs ready playe
     )
 
 -- the same, told through how all stood between the starts and the closes
-pub told-from : (engines : List Engine) (setup : Setup) (games : List Pairing) (olds mid news shut : List Job) (text : List ℕ) (before between after : Starter)
+pub told-from : (engines : List Engine) (setup : Setup) (games : List Pairing) (olds mid news shut : List Job) (text : List ℕ) (before between after : Engines)
     → games ≡ pairings (length engines) → map pairing olds ≡ games → All (IsReady setup) olds → mid ≡ olds → AllZip IsPlayed mid news → shut ≡ news
     → StartsAll before.to_come between.to_come (all_links olds) → between.sent ≡ before.sent → between.engine_faults ≡ before.engine_faults → between.started ≡ started_after before.started (cup_words engines)
     → ClosesLinks between.sent after.sent (all_links shut) → after.engine_faults ≡ counted (all_links shut) between.engine_faults → after.to_come ≡ between.to_come → after.started ≡ between.started

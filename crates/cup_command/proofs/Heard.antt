@@ -7,6 +7,7 @@ use Rattle.std.proofs.lemmas.Bool.Decides.{nat_tests}
 use Rattle.std.proofs.lemmas.List.Sums.{sum_by-cons}
 use Rattle.hive_model.specs.declared.pieces.Colour.TheVariants.{White, Black}
 use Rattle.io_edge.specs.Outside.{Told, ToldLists, Rose, behind}
+use Rattle.io_edge.specs.Starts.{Engines}
 use Rattle.match_core.specs.declared.answers.Setup.{Setup}
 use Rattle.match_core.specs.declared.answers.Verdict.{Verdict}
 use Rattle.match_core.specs.Standing.{Standing}
@@ -14,7 +15,7 @@ use Rattle.match_core.specs.Feeds.{IsFront}
 use Rattle.match_runner.specs.Runs.{HasBroken, IsFrontSent, IsLate}
 use Rattle.match_command.specs.Match.{IsBroke, sent_in}
 use Rattle.cup_games.specs.Played.{HasRisen, IsRefereed, Job, Side}
-use Rattle.cup_command.specs.Cup.{Gains, Heard, IsGame, PlayedBy, RoseBy, Starter, exceptions, got, said}
+use Rattle.cup_command.specs.Cup.{Gains, Heard, IsGame, PlayedBy, RoseBy, exceptions, got, said}
 use Rattle.cup_command.specs.Links.{ClosesLinks, IsReady, StartsAll, all_links, counted, failures, has_failed}
 use Rattle.cup_command.proofs.Chains.{rises}
 
@@ -233,7 +234,7 @@ fewer a b n m low (inr h) = inr h
 
 -- The whole cup
 
-pub played-by : (setup : Setup) (olds news : List Job) (ends : List Standing) (all : List (List ℕ)) (before after : Starter) → Ran setup olds news ends → StartsAll (Some all) after.to_come (all_links olds) → ClosesLinks before.sent after.sent (all_links news)
+pub played-by : (setup : Setup) (olds news : List Job) (ends : List Standing) (all : List (List ℕ)) (before after : Engines) → Ran setup olds news ends → StartsAll (Some all) after.to_come (all_links olds) → ClosesLinks before.sent after.sent (all_links news)
     → after.engine_faults ≡ counted (all_links news) before.engine_faults → PlayedBy all setup ends before after
 played-by setup olds news ends all before after ran starts closes counts =
     let o = opened setup olds news ends all after.to_come ran starts in

@@ -7,6 +7,7 @@ use Rattle.std.proofs.lemmas.List.Concat.{flat_map-append}
 use Rattle.std.proofs.lemmas.List.Elements.{All-nil, All-push}
 use Rattle.std.proofs.lemmas.Slice.Zip.{get_or-zip, length-zip}
 use Rattle.io_edge.specs.Outside.{ToldLists, ToldPrograms}
+use Rattle.io_edge.specs.Starts.{Engines}
 use Rattle.match_core.specs.declared.answers.Setup.{Setup}
 use Rattle.cup_core.specs.declared.pairing.Pairing.{Pairing}
 use Rattle.cup_games.specs.Played.{Job, Side, pairing}
@@ -56,10 +57,10 @@ named-step engines games i game before mid now low g one other =
     other ∙ (ap (λ m. started_after m (game_words engines game)) one ∙ (started-more before (flat_map (game_words engines) (take i games)) (game_words engines game) ∙ ap (λ ws. started_after before ws) (sym words)))
 
 -- where a start of the game at a place gives up
-pub gives-at : (failed : Type 0) (engines : List Engine) (games : List Pairing) (jobs : List Job) (i : ℕ) (game : Pairing) (a b c sent sent_now : ToldLists) (st st1 st2 : ToldPrograms) → i < length games → game ≡ get_or games i game
-    → map pairing jobs ≡ take i games → StartsAll a b (all_links jobs) → st1 ≡ started_after st (flat_map (game_words engines) (take i games)) → GivesUp failed (game_words engines game) (all_links jobs) b c sent sent_now st1 st2
-    → GivesUp failed (flat_map (game_words engines) games) [] a c sent sent_now st st2
-gives-at failed engines games jobs i game a b c sent sent_now st st1 st2 low g kept starts named gives =
+gives-at : (failed : Type 0) (engines : List Engine) (games : List Pairing) (jobs : List Job) (i : ℕ) (game : Pairing) (before between after : Engines) → i < length games → game ≡ get_or games i game
+    → map pairing jobs ≡ take i games → StartsAll before.to_come between.to_come (all_links jobs) → between.sent ≡ before.sent → between.started ≡ started_after before.started (flat_map (game_words engines) (take i games)) → GivesUp failed (game_words engines game) (all_links jobs) between after
+    → GivesUp failed (flat_map (game_words engines) games) [] before after
+gives-at failed engines games jobs i game before between after low g kept starts sent named gives =
     let xs = flat_map (game_words engines) (take i games) in
     let zs = flat_map (game_words engines) (drop (i + 1) games) in
     let whole : games ≡ take i games ++ game ∷ drop (i + 1) games = sym (take-append-drop i games) ∙ ap (λ ds. take i games ++ ds) (drop_more games i game low ∙ ap (λ x. x ∷ drop (i + 1) games) (sym g)) in
@@ -69,15 +70,14 @@ gives-at failed engines games jobs i game a b c sent sent_now st st1 st2 low g k
     let other = two-words engines (take i games) in
     let same : length jobs ≡ length (take i games) = sym (length-map jobs pairing) ∙ ap length kept in
     omega (arith, one, other, same) in
-    subst (λ ws. GivesUp failed ws [] a c sent sent_now st st2) (sym words) (all-before failed xs (game_words engines game) zs (all_links jobs) a b c sent sent_now st st1 st2 many starts named gives)
+    subst (λ ws. GivesUp failed ws [] before after) (sym words) (all-before failed xs (game_words engines game) zs (all_links jobs) before between after many starts sent named gives)
 
--- the same in the words of the cup, where nothing was sent before
-pub gives-up : (failed : Type 0) (engines : List Engine) (games : List Pairing) (jobs : List Job) (i : ℕ) (game : Pairing) (a b c sent sent_then sent_now : ToldLists) (st st1 st2 : ToldPrograms) → games ≡ pairings (length engines) → i < length games → game ≡ get_or games i game
-    → map pairing jobs ≡ take i games → StartsAll a b (all_links jobs) → sent_then ≡ sent → st1 ≡ started_after st (flat_map (game_words engines) (take i games)) → GivesUp failed (game_words engines game) (all_links jobs) b c sent_then sent_now st1 st2
-    → GivesUp failed (cup_words engines) [] a c sent sent_now st st2
-gives-up failed engines games jobs i game a b c sent sent_then sent_now st st1 st2 whole low g kept starts same named gives =
-    let now : GivesUp failed (game_words engines game) (all_links jobs) b c sent sent_now st1 st2 = subst (λ told. GivesUp failed (game_words engines game) (all_links jobs) b c told sent_now st1 st2) same gives in
-    subst (λ gs. GivesUp failed (flat_map (game_words engines) gs) [] a c sent sent_now st st2) whole (gives-at failed engines games jobs i game a b c sent sent_now st st1 st2 low g kept starts named now)
+-- the same in the words of the cup
+pub gives-up : (failed : Type 0) (engines : List Engine) (games : List Pairing) (jobs : List Job) (i : ℕ) (game : Pairing) (before between after : Engines) → games ≡ pairings (length engines) → i < length games → game ≡ get_or games i game
+    → map pairing jobs ≡ take i games → StartsAll before.to_come between.to_come (all_links jobs) → between.sent ≡ before.sent → between.started ≡ started_after before.started (flat_map (game_words engines) (take i games)) → GivesUp failed (game_words engines game) (all_links jobs) between after
+    → GivesUp failed (cup_words engines) [] before after
+gives-up failed engines games jobs i game before between after whole low g kept starts sent named gives =
+    subst (λ gs. GivesUp failed (flat_map (game_words engines) gs) [] before after) whole (gives-at failed engines games jobs i game before between after low g kept starts sent named gives)
 
 -- behind the last game
 

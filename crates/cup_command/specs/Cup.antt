@@ -3,6 +3,7 @@ use Rattle.std.specs.Prelude.{◌≡◌, ◌⊎◌, ⊤, ℕ, ◌+◌, ◌-◌, 
 use Rattle.std.specs.List.{All, AllZip, flat_map, sum_by}
 use Rattle.std.specs.Option.{option_map}
 use Rattle.io_edge.specs.Outside.{Told, ToldLists, ToldPrograms, Rose, behind}
+use Rattle.io_edge.specs.Starts.{Engines}
 use Rattle.hive_model.specs.Lists.{IsOn}
 use Rattle.command_runs.specs.declared.status.Status.{Status}
 use Rattle.command_runs.specs.declared.status.Status.TheVariants.{Done, Refused, Usage, ReadFault, WriteFault, SpawnFault, BadInput, Memory, InputFull}
@@ -20,32 +21,13 @@ use Rattle.cup_command.specs.Texts.{cup_text}
 
 -- What a run can change
 
--- of what starts programs: what the programs to come will say, what was written to those that were
--- closed, and which were started, where it is told; how often a start failed, and how many closed
--- programs had failed
-pub record Starter : Type 0 where
-  pub to_come : ToldLists
-  pub sent : ToldLists
-  pub started : ToldPrograms
-  pub start_faults : ℕ
-  pub engine_faults : ℕ
-
-abbrev pub starter : ToldLists → ToldLists → ToldPrograms → ℕ → ℕ → Starter
-starter to_come sent started start_faults engine_faults = record {
-  to_come = to_come;
-  sent = sent;
-  started = started;
-  start_faults = start_faults;
-  engine_faults = engine_faults;
-}
-
--- all that a run can change: what was written, and what starts programs
+-- all that a run can change: what was written, and what is told of the programs that it starts
 pub record Scene : Type 0 where
   pub written : Told
-  pub starter : Starter
+  pub engines : Engines
 
-abbrev pub scene : Told → Starter → Scene
-scene written starter = record { written = written; starter = starter }
+abbrev pub scene : Told → Engines → Scene
+scene written engines = record { written = written; engines = engines }
 
 -- What is started
 
@@ -123,7 +105,7 @@ RoseBy number before now = (before + number ≤ now) ⊎ (now ≡ 2 ^ 64 - 1)
 -- played; no others were started. What they got was gained in this order, and no more games are
 -- excepted than programs were counted that had failed
 pub record PlayedBy
-    (all : List (List ℕ)) (setup : Setup) (ends : List Standing) (before after : Starter)
+    (all : List (List ℕ)) (setup : Setup) (ends : List Standing) (before after : Engines)
     : Type 0 where
   pub games : List Heard
   pub others : List (List ℕ)
@@ -142,7 +124,7 @@ pub record IsEnded (setup : Setup) (t : Standing) : Type 0 where
 -- all games of a cup were played to these ends, over programs that were started in their order;
 -- where a side broke, a program was counted that had failed
 pub record Played
-    (engines : List Engine) (setup : Setup) (ends : List Standing) (before after : Starter)
+    (engines : List Engine) (setup : Setup) (ends : List Standing) (before after : Engines)
     : Type 0 where
   pub all_games : length ends ≡ length (pairings (length engines))
   pub started : after.started ≡ started_after before.started (cup_words engines)
@@ -168,7 +150,7 @@ AreCupStandings engines ends places =
 pub record Tells
     (engines : List Engine) (setup : Setup) (ends : List Standing) (places : List Place)
     (before after : Scene) : Type 0 where
-  pub played : Played engines setup ends before.starter after.starter
+  pub played : Played engines setup ends before.engines after.engines
   pub standings : AreCupStandings (length engines) ends places
   pub wrote : after.written ≡ behind before.written (cup_text setup engines ends places)
 
@@ -176,14 +158,14 @@ pub record Tells
 pub record TellsPart
     (engines : List Engine) (setup : Setup) (ends : List Standing) (places : List Place) (n : ℕ)
     (before after : Scene) : Type 0 where
-  pub played : Played engines setup ends before.starter after.starter
+  pub played : Played engines setup ends before.engines after.engines
   pub standings : AreCupStandings (length engines) ends places
   pub cut : n < length (cup_text setup engines ends places)
   pub wrote : after.written ≡ behind before.written (take n (cup_text setup engines ends places))
 
 -- so many programs were started in their order, and not all; where it is told what was to come,
 -- they were the first ones of those, and none of them got a byte
-pub record BreaksOff (engines : List Engine) (before after : Starter) : Type 0 where
+pub record BreaksOff (engines : List Engine) (before after : Engines) : Type 0 where
   pub count : ℕ
   pub few : count < length (cup_words engines)
   pub started : after.started ≡ started_after before.started (take count (cup_words engines))
@@ -197,11 +179,11 @@ pub record BreaksOff (engines : List Engine) (before after : Starter) : Type 0 w
 -- no game was begun, and nothing was written
 pub record NotBegun (engines : List Engine) (before after : Scene) : Type 0 where
   pub written : after.written ≡ before.written
-  pub starts : BreaksOff engines before.starter after.starter
+  pub starts : BreaksOff engines before.engines after.engines
 
 -- so many programs were started in their order, perhaps all; where it is told what was to come,
 -- they were the first ones of those, and as many were closed: what each of them got was gained
-pub record EndsEarly (engines : List Engine) (before after : Starter) : Type 0 where
+pub record EndsEarly (engines : List Engine) (before after : Engines) : Type 0 where
   pub count : ℕ
   pub few : count ≤ length (cup_words engines)
   pub started : after.started ≡ started_after before.started (take count (cup_words engines))
@@ -217,7 +199,7 @@ pub record EndsEarly (engines : List Engine) (before after : Starter) : Type 0 w
 -- memory was wanting: nothing was written
 pub record Starved (engines : List Engine) (before after : Scene) : Type 0 where
   pub written : after.written ≡ before.written
-  pub starts : EndsEarly engines before.starter after.starter
+  pub starts : EndsEarly engines before.engines after.engines
 
 -- What was written and played where a cup of programs ends with this status. Five statuses are not
 -- its own.

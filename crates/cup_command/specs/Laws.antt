@@ -15,6 +15,6 @@ CupsAreDone =
     (engines : List Engine) (setup : Setup) (status : Status) (before after : Scene)
     → CupRun engines setup status before after
     → NoFault (status ≡ WriteFault)
-    → HasCause (status ≡ SpawnFault) before.starter.start_faults after.starter.start_faults
-    → ¬ Rose before.starter.start_faults after.starter.start_faults
+    → HasCause (status ≡ SpawnFault) before.engines.start_faults after.engines.start_faults
+    → ¬ Rose before.engines.start_faults after.engines.start_faults
     → (status ≡ Done) ⊎ (status ≡ Memory)

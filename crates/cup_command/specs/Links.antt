@@ -1,7 +1,8 @@
 -- The links of a cup: their starts and their closes, one after another.
 use Rattle.std.specs.Prelude.{◌≡◌, ◌≢◌, ℕ, ◌+◌, ◌<◌, ◌≤◌, Bool, List, [], ◌∷◌, ◌++◌, length, take, Option, Some, None, nat_lt, if◌then◌else◌}
 use Rattle.std.specs.List.{flat_map, sum_by}
-use Rattle.io_edge.specs.Outside.{ToldLists, ToldPrograms, Starts, Collects, one_more}
+use Rattle.io_edge.specs.Outside.{ToldLists, Starts, Collects, one_more}
+use Rattle.io_edge.specs.Starts.{Engines}
 use Rattle.match_core.specs.declared.answers.Setup.{Setup}
 use Rattle.match_core.specs.Standing.{Standing}
 use Rattle.cup_core.specs.declared.pairing.Pairing.{Pairing}
@@ -31,6 +32,12 @@ StartsAll before after (link ∷ links) =
     (between : ToldLists)
     × Starts before between link.rest link.written
     × StartsAll between after links
+
+-- programs were started by these words, one after the other, and none was closed
+pub record StartsBy (words : List (List (List ℕ))) (before after : Engines) : Type 0 where
+  pub named : after.started ≡ started_after before.started words
+  pub sent : after.sent ≡ before.sent
+  pub failed : after.engine_faults ≡ before.engine_faults
 
 -- a game is one of two different engines, whose numbers go from 1 to this
 pub record IsPaired (engines : ℕ) (game : Pairing) : Type 0 where
@@ -82,15 +89,14 @@ failures links = sum_by (λ link. if has_failed link then 1 else 0) links
 -- of the programs with these words the first ones were started, and all of them where none failed to
 -- start; and then all links were closed, those that were there before first
 pub record GivesUp
-    (failed : Type 0) (words : List (List (List ℕ))) (there : List Side)
-    (to_come to_come_now sent sent_now : ToldLists) (started started_now : ToldPrograms)
+    (failed : Type 0) (words : List (List (List ℕ))) (there : List Side) (before after : Engines)
     : Type 0 where
   pub late : List Side
   pub few : length late ≤ length words
   pub short : failed → length late < length words
-  pub starts : StartsAll to_come to_come_now late
-  pub closes : ClosesLinks sent sent_now (there ++ late)
-  pub named : started_now ≡ started_after started (take (length late) words)
+  pub starts : StartsAll before.to_come after.to_come late
+  pub closes : ClosesLinks before.sent after.sent (there ++ late)
+  pub named : after.started ≡ started_after before.started (take (length late) words)
 
 -- Texts
 

@@ -8,12 +8,13 @@ use io_edge::Spawner;
 
 /// Closes the links of a game, white's first.
 pub(crate) fn close_game<P: Spawner, G: Game + Drop>(job: CupJob<P::Engine, G>, spawner: &mut P)
-    ensures sent { ClosesLinks (P.sent spawner.old) (P.sent spawner.new) (links_of job) }
-    ensures failed { P.engine_faults spawner.new
-        ≡ counted (links_of job) (P.engine_faults spawner.old) }
-    ensures starts { P.start_faults spawner.new ≡ P.start_faults spawner.old }
-    ensures to_come { P.to_come spawner.new ≡ P.to_come spawner.old }
-    ensures started { P.started spawner.new ≡ P.started spawner.old }
+    ensures sent { ClosesLinks (P.engines spawner.old).sent (P.engines spawner.new).sent
+        (links_of job) }
+    ensures failed { (P.engines spawner.new).engine_faults
+        ≡ counted (links_of job) (P.engines spawner.old).engine_faults }
+    ensures starts { (P.engines spawner.new).start_faults ≡ (P.engines spawner.old).start_faults }
+    ensures to_come { (P.engines spawner.new).to_come ≡ (P.engines spawner.old).to_come }
+    ensures started { (P.engines spawner.new).started ≡ (P.engines spawner.old).started }
 {
     let (white, black) = job.links();
     spawner.close(white);
@@ -25,12 +26,13 @@ pub(crate) fn close_links<P: Spawner, G: Game + Drop>(
     jobs: Vec<CupJob<P::Engine, G>>,
     spawner: &mut P,
 )
-    ensures sent { ClosesLinks (P.sent spawner.old) (P.sent spawner.new) (all_links jobs.items) }
-    ensures failed { P.engine_faults spawner.new
-        ≡ counted (all_links jobs.items) (P.engine_faults spawner.old) }
-    ensures starts { P.start_faults spawner.new ≡ P.start_faults spawner.old }
-    ensures to_come { P.to_come spawner.new ≡ P.to_come spawner.old }
-    ensures started { P.started spawner.new ≡ P.started spawner.old }
+    ensures sent { ClosesLinks (P.engines spawner.old).sent (P.engines spawner.new).sent
+        (all_links jobs.items) }
+    ensures failed { (P.engines spawner.new).engine_faults
+        ≡ counted (all_links jobs.items) (P.engines spawner.old).engine_faults }
+    ensures starts { (P.engines spawner.new).start_faults ≡ (P.engines spawner.old).start_faults }
+    ensures to_come { (P.engines spawner.new).to_come ≡ (P.engines spawner.old).to_come }
+    ensures started { (P.engines spawner.new).started ≡ (P.engines spawner.old).started }
 {
     let mut left = jobs.into_iter();
     while let Some(job) = left.next() {

@@ -5,8 +5,8 @@ ghost use Rattle.io_edge.specs.Outside.{HasCause, Starts};
 ghost use Rattle.match_core.specs.Keeps.{IsSetup};
 ghost use Rattle.cup_core.specs.Cup.{pairings};
 ghost use Rattle.cup_games.specs.Played.{IsDepth, Side, pairing, side};
-ghost use Rattle.cup_command.specs.Cup.{cup_words, game_words, started_after, words_of};
-ghost use Rattle.cup_command.specs.Links.{ClosesLinks, GivesUp, IsFresh, IsPaired, IsReady, StartsAll, all_links, links_of, ready};
+ghost use Rattle.cup_command.specs.Cup.{cup_words, game_words, words_of};
+ghost use Rattle.cup_command.specs.Links.{ClosesLinks, GivesUp, IsFresh, IsPaired, IsReady, StartsAll, StartsBy, all_links, links_of, ready};
 
 use crate::closing::{close_game, close_links};
 use cup_core::{Pairing, Program};
@@ -33,14 +33,13 @@ fn keep_game<P: Spawner, G: Game + Drop>(
     spawner: &mut P,
 ) -> Result<Vec<CupJob<P::Engine, G>>, StartFault>
     ensures kept { IfOk result (λ games. games.items ≡ jobs.items ++ job ∷ []) }
-    ensures sent { OnOk result (P.sent spawner.new ≡ P.sent spawner.old) }
-    ensures failed { OnOk result (P.engine_faults spawner.new ≡ P.engine_faults spawner.old) }
-    ensures closed { OnErr result (ClosesLinks (P.sent spawner.old) (P.sent spawner.new)
-        (all_links jobs.items ++ links_of job)) }
+    ensures untouched { OnOk result (spawner.new ≡ spawner.old) }
+    ensures closed { OnErr result (ClosesLinks (P.engines spawner.old).sent
+        (P.engines spawner.new).sent (all_links jobs.items ++ links_of job)) }
     ensures memory { IsErrOf result StartFault.Failed → ⊥ }
-    ensures starts { P.start_faults spawner.new ≡ P.start_faults spawner.old }
-    ensures to_come { P.to_come spawner.new ≡ P.to_come spawner.old }
-    ensures started { P.started spawner.new ≡ P.started spawner.old }
+    ensures starts { (P.engines spawner.new).start_faults ≡ (P.engines spawner.old).start_faults }
+    ensures to_come { (P.engines spawner.new).to_come ≡ (P.engines spawner.old).to_come }
+    ensures started { (P.engines spawner.new).started ≡ (P.engines spawner.old).started }
 {
     match jobs.push(job) {
         Ok(()) => Ok(jobs),
@@ -66,23 +65,20 @@ fn start_black<P: Spawner, G: Game + Drop>(
     requires depth { IsDepth setup.level }
     requires paired { IsPaired (length programs.now) game }
     ensures kept { IfOk result (λ games. (black : Side) × IsFresh black
-        × Starts (P.to_come spawner.old) (P.to_come spawner.new) black.rest black.written
+        × Starts (P.engines spawner.old).to_come (P.engines spawner.new).to_come
+        black.rest black.written
         × (games.items ≡ jobs.items ++ ready setup game
         (side (P.Engine.rest white) (P.Engine.written white)
         (P.Engine.read_faults white) (P.Engine.write_faults white)) black ∷ [])) }
-    ensures named { OnOk result (P.started spawner.new
-        ≡ started_after (P.started spawner.old) (words_of programs.now game.black ∷ [])) }
-    ensures sent { OnOk result (P.sent spawner.new ≡ P.sent spawner.old) }
-    ensures failed { OnOk result (P.engine_faults spawner.new ≡ P.engine_faults spawner.old) }
+    ensures starts { OnOk result (StartsBy (words_of programs.now game.black ∷ [])
+        (P.engines spawner.old) (P.engines spawner.new)) }
     ensures closed { OnErr result (GivesUp (IsErrOf result StartFault.Failed)
         (words_of programs.now game.black ∷ [])
         (all_links jobs.items ++ side (P.Engine.rest white) (P.Engine.written white)
         (P.Engine.read_faults white) (P.Engine.write_faults white) ∷ [])
-        (P.to_come spawner.old) (P.to_come spawner.new)
-        (P.sent spawner.old) (P.sent spawner.new)
-        (P.started spawner.old) (P.started spawner.new)) }
+        (P.engines spawner.old) (P.engines spawner.new)) }
     ensures cause { HasCause (IsErrOf result StartFault.Failed)
-        (P.start_faults spawner.old) (P.start_faults spawner.new) }
+        (P.engines spawner.old).start_faults (P.engines spawner.new).start_faults }
 {
     match spawner.start(words_of(programs, game.black)) {
         Ok(black) => {
@@ -111,19 +107,16 @@ fn start_game<P: Spawner, G: Game + Drop>(
     requires paired { IsPaired (length programs.now) game }
     ensures kept { IfOk result (λ games. (white : Side) × (black : Side)
         × IsFresh white × IsFresh black
-        × StartsAll (P.to_come spawner.old) (P.to_come spawner.new) (white ∷ (black ∷ []))
+        × StartsAll (P.engines spawner.old).to_come (P.engines spawner.new).to_come
+        (white ∷ (black ∷ []))
         × (games.items ≡ jobs.items ++ ready setup game white black ∷ [])) }
-    ensures named { OnOk result (P.started spawner.new
-        ≡ started_after (P.started spawner.old) (game_words programs.now game)) }
-    ensures sent { OnOk result (P.sent spawner.new ≡ P.sent spawner.old) }
-    ensures failed { OnOk result (P.engine_faults spawner.new ≡ P.engine_faults spawner.old) }
+    ensures starts { OnOk result (StartsBy (game_words programs.now game)
+        (P.engines spawner.old) (P.engines spawner.new)) }
     ensures closed { OnErr result (GivesUp (IsErrOf result StartFault.Failed)
         (game_words programs.now game) (all_links jobs.items)
-        (P.to_come spawner.old) (P.to_come spawner.new)
-        (P.sent spawner.old) (P.sent spawner.new)
-        (P.started spawner.old) (P.started spawner.new)) }
+        (P.engines spawner.old) (P.engines spawner.new)) }
     ensures cause { HasCause (IsErrOf result StartFault.Failed)
-        (P.start_faults spawner.old) (P.start_faults spawner.new) }
+        (P.engines spawner.old).start_faults (P.engines spawner.new).start_faults }
 {
     match spawner.start(words_of(programs, game.white)) {
         Ok(white) => start_black(white, programs, game, setup, jobs, spawner),
@@ -148,19 +141,15 @@ pub(crate) fn start_links<P: Spawner, G: Game + Drop>(
     requires games { games.now ≡ pairings (length programs.now) }
     ensures kept { IfOk result (λ jobs. map pairing jobs.items ≡ games.now) }
     ensures ready { IfOk result (λ jobs. All (IsReady setup) jobs.items) }
-    ensures next { IfOk result (λ jobs. StartsAll (P.to_come spawner.old) (P.to_come spawner.new)
-        (all_links jobs.items)) }
-    ensures named { OnOk result (P.started spawner.new
-        ≡ started_after (P.started spawner.old) (cup_words programs.now)) }
-    ensures sent { OnOk result (P.sent spawner.new ≡ P.sent spawner.old) }
-    ensures failed { OnOk result (P.engine_faults spawner.new ≡ P.engine_faults spawner.old) }
+    ensures next { IfOk result (λ jobs. StartsAll (P.engines spawner.old).to_come
+        (P.engines spawner.new).to_come (all_links jobs.items)) }
+    ensures starts { OnOk result (StartsBy (cup_words programs.now)
+        (P.engines spawner.old) (P.engines spawner.new)) }
     ensures closed { OnErr result (GivesUp (IsErrOf result StartFault.Failed)
         (cup_words programs.now) []
-        (P.to_come spawner.old) (P.to_come spawner.new)
-        (P.sent spawner.old) (P.sent spawner.new)
-        (P.started spawner.old) (P.started spawner.new)) }
+        (P.engines spawner.old) (P.engines spawner.new)) }
     ensures cause { HasCause (IsErrOf result StartFault.Failed)
-        (P.start_faults spawner.old) (P.start_faults spawner.new) }
+        (P.engines spawner.old).start_faults (P.engines spawner.new).start_faults }
 {
     let mut jobs = Vec::new(alloc);
     for place in 0..games.len() {

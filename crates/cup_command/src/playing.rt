@@ -5,11 +5,11 @@ ghost use Rattle.std.specs.List.{All, AllZip, flat_map, zip};
 ghost use Rattle.io_edge.specs.Outside.{HasCause};
 ghost use Rattle.match_core.specs.Keeps.{IsSetup};
 ghost use Rattle.match_core.specs.Standing.{Standing};
-ghost use Rattle.match_command.specs.Wires.{ClosesAll};
+ghost use Rattle.match_command.specs.Match.{NoneIsOpen};
 ghost use Rattle.cup_core.specs.Cup.{pairings};
 ghost use Rattle.cup_core.specs.declared.standing.Standing.{Standing as AnyPlace};
 ghost use Rattle.cup_games.specs.Played.{AreStandingsOf, IsDepth, IsPlayed, pairing};
-ghost use Rattle.cup_command.specs.Cup.{AreCupStandings, BreaksOff, CupRun, EndsEarly, Played, scene, starter};
+ghost use Rattle.cup_command.specs.Cup.{AreCupStandings, BreaksOff, CupRun, EndsEarly, Played, scene};
 ghost use Rattle.cup_command.specs.Links.{IsReady, jobs_text};
 ghost use Rattle.cup_command.specs.Texts.{cup_text, standing_text};
 
@@ -53,57 +53,6 @@ fn run_and_tell<R: Threads + Sync, L: Link + Send, G: Game + Send + Drop, T: Cup
 
 /// Starts all programs, plays their games and closes them: the text that tells the cup. For want of
 /// memory `Memory` is answered, wherever it was wanting.
-fn play_games<R: Threads + Sync, P: Spawner, G: Game + Send + Drop, T: CupGate + Sync>(
-    rt: &R,
-    alloc: Global,
-    programs: &[Program],
-    setup: Setup,
-    games: &[Pairing],
-    spawner: &mut P,
-    gate: &T,
-) -> Result<ReplyText, StartFault>
-    requires some { 2 ≤ length programs.now }
-    requires few { length programs.now ≤ 8 }
-    requires setup { IsSetup setup }
-    requires depth { IsDepth setup.level }
-    requires games { games.now ≡ pairings (length programs.now) }
-    ensures told { IfOk result (λ text. (ends : List Standing) × (places : List AnyPlace)
-        × Played programs.now setup ends
-        (starter (P.to_come spawner.old) (P.sent spawner.old) (P.started spawner.old)
-        (P.start_faults spawner.old) (P.engine_faults spawner.old))
-        (starter (P.to_come spawner.new) (P.sent spawner.new) (P.started spawner.new)
-        (P.start_faults spawner.new) (P.engine_faults spawner.new))
-        × AreCupStandings (length programs.now) ends places
-        × (text ≡ cup_text setup programs.now ends places)) }
-    ensures broken { IsErrOf result StartFault.Failed → BreaksOff programs.now
-        (starter (P.to_come spawner.old) (P.sent spawner.old) (P.started spawner.old)
-        (P.start_faults spawner.old) (P.engine_faults spawner.old))
-        (starter (P.to_come spawner.new) (P.sent spawner.new) (P.started spawner.new)
-        (P.start_faults spawner.new) (P.engine_faults spawner.new)) }
-    ensures early { IsErrOf result StartFault.Memory → EndsEarly programs.now
-        (starter (P.to_come spawner.old) (P.sent spawner.old) (P.started spawner.old)
-        (P.start_faults spawner.old) (P.engine_faults spawner.old))
-        (starter (P.to_come spawner.new) (P.sent spawner.new) (P.started spawner.new)
-        (P.start_faults spawner.new) (P.engine_faults spawner.new)) }
-    ensures closed { ClosesAll (P.to_come spawner.old) (P.to_come spawner.new)
-        (P.sent spawner.old) (P.sent spawner.new) }
-    ensures cause { HasCause (IsErrOf result StartFault.Failed)
-        (P.start_faults spawner.old) (P.start_faults spawner.new) }
-{
-    match start_links::<P, G>(alloc, programs, games, setup, spawner) {
-        Ok(mut jobs) => {
-            let text = run_and_tell(rt, alloc, programs, setup, games, &mut jobs, gate);
-            close_links(jobs, spawner);
-            match text {
-                Ok(text) => Ok(text),
-                Err(_) => Err(StartFault::Memory),
-            }
-        }
-        Err(fault) => Err(fault),
-    }
-}
-
-/// The text of a cup, whose programs were started, played and closed.
 fn play<R: Threads + Sync, P: Spawner, G: Game + Send + Drop, T: CupGate + Sync>(
     rt: &R,
     alloc: Global,
@@ -118,38 +67,31 @@ fn play<R: Threads + Sync, P: Spawner, G: Game + Send + Drop, T: CupGate + Sync>
     requires depth { IsDepth setup.level }
     ensures told { IfOk result (λ text. (ends : List Standing) × (places : List AnyPlace)
         × Played programs.now setup ends
-        (starter (P.to_come spawner.old) (P.sent spawner.old) (P.started spawner.old)
-        (P.start_faults spawner.old) (P.engine_faults spawner.old))
-        (starter (P.to_come spawner.new) (P.sent spawner.new) (P.started spawner.new)
-        (P.start_faults spawner.new) (P.engine_faults spawner.new))
+        (P.engines spawner.old) (P.engines spawner.new)
         × AreCupStandings (length programs.now) ends places
         × (text ≡ cup_text setup programs.now ends places)) }
     ensures broken { IsErrOf result StartFault.Failed → BreaksOff programs.now
-        (starter (P.to_come spawner.old) (P.sent spawner.old) (P.started spawner.old)
-        (P.start_faults spawner.old) (P.engine_faults spawner.old))
-        (starter (P.to_come spawner.new) (P.sent spawner.new) (P.started spawner.new)
-        (P.start_faults spawner.new) (P.engine_faults spawner.new)) }
+        (P.engines spawner.old) (P.engines spawner.new) }
     ensures early { IsErrOf result StartFault.Memory → EndsEarly programs.now
-        (starter (P.to_come spawner.old) (P.sent spawner.old) (P.started spawner.old)
-        (P.start_faults spawner.old) (P.engine_faults spawner.old))
-        (starter (P.to_come spawner.new) (P.sent spawner.new) (P.started spawner.new)
-        (P.start_faults spawner.new) (P.engine_faults spawner.new)) }
-    ensures closed { ClosesAll (P.to_come spawner.old) (P.to_come spawner.new)
-        (P.sent spawner.old) (P.sent spawner.new) }
+        (P.engines spawner.old) (P.engines spawner.new) }
+    ensures closed { NoneIsOpen (P.engines spawner.old) (P.engines spawner.new) }
     ensures cause { HasCause (IsErrOf result StartFault.Failed)
-        (P.start_faults spawner.old) (P.start_faults spawner.new) }
+        (P.engines spawner.old).start_faults (P.engines spawner.new).start_faults }
 {
-    match pairings(alloc, programs.len() as u32) {
-        Ok(games) => play_games::<R, P, G, T>(
-            rt,
-            alloc,
-            programs,
-            setup,
-            games.as_slice(),
-            spawner,
-            gate,
-        ),
-        Err(_) => Err(StartFault::Memory),
+    let Ok(games) = pairings(alloc, programs.len() as u32) else {
+        return Err(StartFault::Memory);
+    };
+    let games = games.as_slice();
+    match start_links::<P, G>(alloc, programs, games, setup, spawner) {
+        Ok(mut jobs) => {
+            let text = run_and_tell(rt, alloc, programs, setup, games, &mut jobs, gate);
+            close_links(jobs, spawner);
+            match text {
+                Ok(text) => Ok(text),
+                Err(_) => Err(StartFault::Memory),
+            }
+        }
+        Err(fault) => Err(fault),
     }
 }
 
@@ -184,18 +126,13 @@ pub fn play_cup<R: Threads + Sync, P: Spawner, K: Sink, G: Game + Send + Drop, T
     requires setup { IsSetup setup }
     requires depth { IsDepth setup.level }
     ensures run { CupRun programs.now setup result
-        (scene (K.written output.old)
-        (starter (P.to_come spawner.old) (P.sent spawner.old) (P.started spawner.old)
-        (P.start_faults spawner.old) (P.engine_faults spawner.old)))
-        (scene (K.written output.new)
-        (starter (P.to_come spawner.new) (P.sent spawner.new) (P.started spawner.new)
-        (P.start_faults spawner.new) (P.engine_faults spawner.new))) }
-    ensures closed { ClosesAll (P.to_come spawner.old) (P.to_come spawner.new)
-        (P.sent spawner.old) (P.sent spawner.new) }
+        (scene (K.written output.old) (P.engines spawner.old))
+        (scene (K.written output.new) (P.engines spawner.new)) }
+    ensures closed { NoneIsOpen (P.engines spawner.old) (P.engines spawner.new) }
     ensures writes { HasCause (result ≡ Status.WriteFault)
         (K.write_faults output.old) (K.write_faults output.new) }
     ensures starts { HasCause (result ≡ Status.SpawnFault)
-        (P.start_faults spawner.old) (P.start_faults spawner.new) }
+        (P.engines spawner.old).start_faults (P.engines spawner.new).start_faults }
 {
     match play::<R, P, G, T>(rt, alloc, programs, setup, spawner, gate) {
         Ok(text) => {

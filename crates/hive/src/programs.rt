@@ -64,15 +64,13 @@ where
 {
     type Engine = Engine<R::Started>;
 
-    ghost to_come = { λ _. None };
-
-    ghost sent = { λ _. None };
-
-    ghost started = { λ _. None };
-
-    ghost start_faults = { λ s. s.start_faults };
-
-    ghost engine_faults = { λ s. s.engine_faults };
+    ghost engines = { λ s. record {
+      to_come = None;
+      sent = None;
+      started = None;
+      start_faults = s.start_faults;
+      engine_faults = s.engine_faults;
+    } };
 
     fn start(&mut self, words: &[String]) -> Result<Engine<R::Started>, StartFault> {
         match start_program(self.rt, self.alloc, words) {

@@ -1,13 +1,14 @@
 -- How a run ends, by what is asked for.
 use Rattle.std.proofs.Common.{◌≡◌, ◌+◌, ◌∙◌, ℕ, List, length, map, ap, sym, refl, subst, Some, inl, inr, String, Global}
-use Rattle.io_edge.specs.Outside.{ToldLists, ToldPrograms}
+use Rattle.io_edge.specs.Outside.{ToldLists}
+use Rattle.io_edge.specs.Starts.{Engines}
 use Rattle.hive_model.specs.declared.answers.Timed.{Timed}
 use Rattle.uhp_session.specs.Searches.{TakesNoTime, Times}
 use Rattle.hive_cli.specs.ServiceRun.{EndsAs}
 use Rattle.hive_cli.specs.Session.{session}
 use Rattle.hive_cli.specs.Replay.{replays}
 use Rattle.hive_cli.specs.Count.{CountRun}
-use Rattle.hive_cli.specs.Run.{IsAlone, RunOf, World, means_in, starter_in}
+use Rattle.hive_cli.specs.Run.{IsAlone, RunOf, World, means_in}
 use Rattle.command_words.specs.Cups.{AreCupWords, AskForEngines, engine_of, program_texts}
 use Rattle.command_words.specs.Matches.{AreMatchWords, AskForPrograms, IsLevelOf, between_spaces}
 use Rattle.cup_core.specs.Engines.{Engine}
@@ -17,8 +18,7 @@ use Rattle.std.specs.Prelude.{Option, None}
 use Rattle.command_words.specs.Words.{Words}
 use Rattle.cup_command.proofs.Early.{early-none}
 use Rattle.cup_command.specs.Cup.{CupRun, scene as cup_scene}
-use Rattle.match_command.specs.Wires.{ClosesAll}
-use Rattle.match_command.specs.Match.{MatchRun, MatchStarts, Means, NoneIsOpen, scene}
+use Rattle.match_command.specs.Match.{MatchRun, MatchStarts, NoneIsOpen, scene as match_scene}
 use Rattle.match_core.specs.declared.answers.Setup.{Setup}
 use Rattle.command_runs.specs.declared.status.Status.{Status}
 use Rattle.command_runs.specs.declared.status.Status.TheVariants.{Usage, SpawnFault, Memory}
@@ -47,9 +47,9 @@ never_usage words Verify status before after (run, time) e = subst (λ s. Verify
 never_usage words Book status before after (run, time) e = subst (λ s. BookRun s before.scene.sides after.scene.sides) e run
 never_usage words Migrate status before after (run, time) e = subst (λ s. MigrateRun s before.scene.sides after.scene.sides) e run
 never_usage words (Match setup) status before after run e =
-    subst (λ s. MatchRun setup s (scene before.scene.sides.written (means_in before)) (scene after.scene.sides.written (means_in after))) e run.played
+    subst (λ s. MatchRun setup s (match_scene before.scene.sides.written (means_in before)) (match_scene after.scene.sides.written (means_in after))) e run.played
 never_usage words (Cup setup) status before after run e =
-    subst (λ s. CupRun run.engines setup s (cup_scene before.scene.sides.written (starter_in before)) (cup_scene after.scene.sides.written (starter_in after))) e run.played
+    subst (λ s. CupRun run.engines setup s (cup_scene before.scene.sides.written before.engines) (cup_scene after.scene.sides.written after.engines)) e run.played
 
 -- no run but a match and a cup starts a program
 pub never_spawns : (words : List (String Global)) (asked : Asked) (status : Status) (before after : World) → IsAlone asked → RunOf words asked status before after → status ≡ SpawnFault → ⊥
@@ -76,8 +76,8 @@ same_told t e f = some_list (sym e ∙ f)
     some_list e = cc
 
 -- where nothing was started, no program is open
-none_open : (m : Means) → NoneIsOpen m m
-none_open m coming later opened closed a b c d = ap (λ xs. length xs + length opened) (same_told m.to_come a b) ∙ ap (λ xs. length later + length xs) (same_told m.sent c d)
+none_open : (e : Engines) → NoneIsOpen e e
+none_open e coming later opened closed a b c d = ap (λ xs. length xs + length opened) (same_told e.to_come a b) ∙ ap (λ xs. length later + length xs) (same_told e.sent c d)
 
 -- the words of a match ask for the programs that its options give
 pub asks_programs : (words : List (String Global)) (setup : Setup) → AreMatchWords words setup → (white : List (List ℕ)) × (black : List (List ℕ)) × AskForPrograms words white black
@@ -95,8 +95,8 @@ asks_programs words setup h = (
 )
 
 -- where memory was wanting before a program was started, none was
-pub starved_starts : (words : List (String Global)) (setup : Setup) (told : ToldPrograms) → AreMatchWords words setup → (white : List (List ℕ)) × (black : List (List ℕ)) × AskForPrograms words white black × MatchStarts Memory white black told told
-starved_starts words setup told h = let (white, black, asked) = asks_programs words setup h in (white, black, asked, inr (inl refl))
+pub starved_starts : (words : List (String Global)) (setup : Setup) (engines : Engines) → AreMatchWords words setup → (white : List (List ℕ)) × (black : List (List ℕ)) × AskForPrograms words white black × MatchStarts Memory white black engines engines
+starved_starts words setup engines h = let (white, black, asked) = asks_programs words setup h in (white, black, asked, inr (inl refl))
 
 -- the words of a cup ask for the engines that its option gives
 pub asks_engines : (words : List (String Global)) (setup : Setup) → AreCupWords words setup → (engines : List Engine) × AskForEngines words engines
@@ -124,24 +124,19 @@ cup_depth words setup h = level_is_depth h.depth h.setup_is.margin setup.level h
 starved_match : (words : List (String Global)) (setup : Setup) (w : World) → AreMatchWords words setup → RunOf words (Match setup) Memory w w
 starved_match words setup w asked = record {
   played = refl;
-  programs = starved_starts words setup w.engines.started asked;
-  closed = none_open (means_in w);
+  programs = starved_starts words setup w.engines asked;
+  closed = none_open w.engines;
   unread = refl;
   timed = refl;
 }
-
--- where nothing was started, no program of a cup is open
-pub all_closed : (to_come sent : ToldLists) → ClosesAll to_come to_come sent sent
-all_closed to_come sent coming later opened closed a b c d =
-    ap (λ xs. length xs + length opened) (same_told to_come a b) ∙ ap (λ xs. length later + length xs) (same_told sent c d)
 
 -- a cup that wanted memory before a program was started
 starved_cup : (words : List (String Global)) (setup : Setup) (w : World) → AreCupWords words setup → RunOf words (Cup setup) Memory w w
 starved_cup words setup w asked = let (engines, asks) = asks_engines words setup asked in record {
   engines = engines;
   asked = asks;
-  played = record { written = refl; starts = early-none engines (starter_in w) };
-  closed = all_closed w.engines.to_come w.engines.sent;
+  played = record { written = refl; starts = early-none engines w.engines };
+  closed = none_open w.engines;
   unread = refl;
   untimed = no_time w.scene.times;
 }

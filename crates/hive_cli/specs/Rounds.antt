@@ -26,6 +26,9 @@ pub record Standing (S : Type 0) : Type 0 where
   pub reader : Reading
   pub scene : Scene
 
+abbrev pub standing : {S : Type 0} → S → Reading → Scene → Standing S
+standing state reader scene = record { state = state; reader = reader; scene = scene }
+
 -- so is the line answered by a service that stands so
 abbrev pub IsReply : {S : Type 0} → Service S → S → Line → Option (List ℕ) → Times → Times → Type 0
 IsReply v s line answer before after = IsAnswered (v.asks s line) (v.reply s line) answer before after

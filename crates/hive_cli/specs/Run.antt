@@ -13,33 +13,26 @@ use Rattle.command_words.specs.Cups.{AskForEngines}
 use Rattle.command_words.specs.Matches.{AskForPrograms}
 use Rattle.command_words.specs.declared.asked.Asked.{Asked}
 use Rattle.command_words.specs.declared.asked.Asked.TheVariants.{Session, Replay, Count, Grow, Certify, Check, Solve, Verify, Match, Cup, Book, Migrate}
-use Rattle.cup_command.specs.Cup.{CupRun, Starter, starter, scene as cup_scene}
+use Rattle.cup_command.specs.Cup.{CupRun, scene as cup_scene}
 use Rattle.cup_core.specs.Engines.{Engine}
 use Rattle.grow_command.specs.Runs.{GrowRun}
 use Rattle.uhp_session.specs.Searches.{TakesNoTime}
 use Rattle.win_commands.specs.Runs.{SolveRun, VerifyRun}
-use Rattle.io_edge.specs.Outside.{ToldLists, ToldPrograms}
-use Rattle.match_command.specs.Match.{MatchRun, MatchStarts, Means, NoneIsOpen, means, scene}
-use Rattle.match_command.specs.Wires.{ClosesAll}
+use Rattle.io_edge.specs.Starts.{Engines}
+use Rattle.match_command.specs.Match.{MatchRun, MatchStarts, Means, NoneIsOpen, means, scene as match_scene}
 use Rattle.match_core.specs.declared.answers.Setup.{Setup}
 use Rattle.hive_cli.specs.Session.{SessionRun}
 use Rattle.hive_cli.specs.Replay.{ReplayRun}
 use Rattle.hive_cli.specs.Count.{CountRun}
 use Rattle.hive_cli.specs.ServiceRun.{Scene}
 
--- what is told of the programs that a run starts: what those still to be started will say, what was written to those that were closed,
--- by which words programs were started, how often a start has failed, and how many closed programs had failed
-pub record Engines : Type 0 where
-  pub to_come : ToldLists
-  pub sent : ToldLists
-  pub started : ToldPrograms
-  pub start_faults : ℕ
-  pub engine_faults : ℕ
-
 -- all that a run can change
 pub record World : Type 0 where
   pub scene : Scene
   pub engines : Engines
+
+abbrev pub world : Scene → Engines → World
+world scene engines = record { scene = scene; engines = engines }
 
 -- a game was made, and the input left alone
 pub record MadeGame (seed plies : ℕ) (status : Status) (before after : Sides) : Type 0 where
@@ -48,19 +41,22 @@ pub record MadeGame (seed plies : ℕ) (status : Status) (before after : Sides) 
 
 -- what a match is played with
 abbrev pub means_in : World → Means
-means_in w = means w.scene.times.last w.scene.times.readings w.engines.to_come w.engines.sent w.engines.start_faults w.engines.engine_faults
+means_in w = means w.scene.times.last w.scene.times.readings w.engines
 
 -- the programs of the match that the words ask for were started, white's and then black's, each by its words
 abbrev pub StartsPrograms : List (String Global) → Status → World → World → Type 0
 StartsPrograms words status before after =
     (white : List (List ℕ)) × (black : List (List ℕ)) × AskForPrograms words white black
-    × MatchStarts status white black before.engines.started after.engines.started
+    × MatchStarts status white black before.engines after.engines
 
 -- A match was played, told and ended with this status. The input was left alone, and no search was answered.
 pub record PlayedMatch (words : List (String Global)) (setup : Setup) (status : Status) (before after : World) : Type 0 where
-  pub played : MatchRun setup status (scene before.scene.sides.written (means_in before)) (scene after.scene.sides.written (means_in after))
+  pub played :
+      MatchRun setup status
+      (match_scene before.scene.sides.written (means_in before))
+      (match_scene after.scene.sides.written (means_in after))
   pub programs : StartsPrograms words status before after
-  pub closed : NoneIsOpen (means_in before) (means_in after)
+  pub closed : NoneIsOpen before.engines after.engines
   pub unread : after.scene.sides.rest ≡ before.scene.sides.rest
   pub timed : after.scene.times.timed ≡ before.scene.times.timed
 
@@ -68,16 +64,15 @@ pub record PlayedMatch (words : List (String Global)) (setup : Setup) (status : 
 abbrev pub Untimed : World → World → Type 0
 Untimed before after = TakesNoTime before.scene.times after.scene.times
 
--- what starts the programs of a cup
-abbrev pub starter_in : World → Starter
-starter_in w = starter w.engines.to_come w.engines.sent w.engines.started w.engines.start_faults w.engines.engine_faults
-
 -- A cup of the engines that the words ask for was played, told and ended with this status. The input was left alone.
 pub record PlayedCup (words : List (String Global)) (setup : Setup) (status : Status) (before after : World) : Type 0 where
   pub engines : List Engine
   pub asked : AskForEngines words engines
-  pub played : CupRun engines setup status (cup_scene before.scene.sides.written (starter_in before)) (cup_scene after.scene.sides.written (starter_in after))
-  pub closed : ClosesAll before.engines.to_come after.engines.to_come before.engines.sent after.engines.sent
+  pub played :
+      CupRun engines setup status
+      (cup_scene before.scene.sides.written before.engines)
+      (cup_scene after.scene.sides.written after.engines)
+  pub closed : NoneIsOpen before.engines after.engines
   pub unread : after.scene.sides.rest ≡ before.scene.sides.rest
   pub untimed : Untimed before after
 

@@ -8,7 +8,7 @@ use Rattle.line_feed.specs.Feed.{input_limit}
 use Rattle.line_feed.specs.SoFar.{WasRead}
 use Rattle.command_runs.specs.Input.{IsAllRead, Sides, WereRead, WhereTold}
 use Rattle.hive_cli.specs.Service.{HasExit, Service, joined, last_of, output, searches, texts}
-use Rattle.uhp_session.specs.Searches.{Times}
+use Rattle.uhp_session.specs.Searches.{Times, times}
 use Rattle.hive_cli.specs.Times.{AreTold, TellsOf, depths}
 use Rattle.command_runs.specs.declared.status.Status.{Status}
 use Rattle.command_runs.specs.declared.status.Status.TheVariants.{Done, Refused, Usage, ReadFault, WriteFault, SpawnFault, BadInput, Memory, InputFull}
@@ -17,6 +17,12 @@ use Rattle.command_runs.specs.declared.status.Status.TheVariants.{Done, Refused,
 pub record Scene : Type 0 where
   pub sides : Sides
   pub times : Times
+
+abbrev pub scene : Told → Told → ℕ → ℕ → List Timed → Scene
+scene rest written last readings timed = record {
+  sides = record { rest = rest; written = written };
+  times = times last readings timed;
+}
 
 -- The searches that these lines ask for were answered, and these entries tell of them.
 abbrev pub TellsOfLines : {S : Type 0} → Service S → List Line → List Timed → Scene → Scene → Type 0

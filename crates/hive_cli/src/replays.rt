@@ -2,6 +2,7 @@
 ghost use Rattle.std.specs.Prelude.{◌≡◌, Bool, true, false};
 ghost use Rattle.io_edge.specs.Outside.{HasCause};
 ghost use Rattle.hive_cli.specs.Replay.{ReplayRun, replays};
+ghost use Rattle.hive_cli.specs.ServiceRun.{scene};
 
 use crate::answers::answer_line;
 use crate::service::{LineService, serve};
@@ -115,22 +116,10 @@ pub(crate) fn serve_replay<R: Threads + Sync, S: Source, K: Sink, C: Clock, G: G
     timed: &mut TimedList,
 ) -> Status
     ensures run { ReplayRun repetition result
-        (record {
-          sides = record { rest = S.rest input.old; written = K.written output.old };
-          times = record {
-            last = C.last clock.old;
-            readings = C.readings clock.old;
-            timed = timed.old;
-          };
-        })
-        (record {
-          sides = record { rest = S.rest input.new; written = K.written output.new };
-          times = record {
-            last = C.last clock.new;
-            readings = C.readings clock.new;
-            timed = timed.new;
-          };
-        }) }
+        (scene (S.rest input.old) (K.written output.old)
+        (C.last clock.old) (C.readings clock.old) timed.old)
+        (scene (S.rest input.new) (K.written output.new)
+        (C.last clock.new) (C.readings clock.new) timed.new) }
     ensures reads { HasCause (result ≡ Status.ReadFault) (S.read_faults input.old)
         (S.read_faults input.new) }
     ensures writes { HasCause (result ≡ Status.WriteFault) (K.write_faults output.old)

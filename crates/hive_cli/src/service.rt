@@ -4,9 +4,10 @@ ghost use Rattle.std.specs.Prelude.{◌≡◌, ◌≤◌, Bool, false, Some, IfO
 ghost use Rattle.std.specs.Thread.{IsSync};
 ghost use Rattle.io_edge.specs.Outside.{HasCause};
 ghost use Rattle.uhp_session.specs.Answers.{line_in, text_of, IsShort};
-ghost use Rattle.hive_cli.specs.Rounds.{Answers, IsReply, Rounds, status_of};
+ghost use Rattle.uhp_session.specs.Searches.{times};
+ghost use Rattle.hive_cli.specs.Rounds.{Answers, IsReply, Rounds, standing, status_of};
 ghost use Rattle.hive_cli.specs.Service.{Service};
-ghost use Rattle.hive_cli.specs.ServiceRun.{ServiceRun};
+ghost use Rattle.hive_cli.specs.ServiceRun.{ServiceRun, scene};
 
 use command_runs::Status;
 use hive_model::TimedList;
@@ -44,8 +45,8 @@ pub(crate) trait LineService {
         requires sync { IsSync R.row }
         requires short { IsShort (line_in line) }
         ensures reply { IfOk result (λ r. IsReply service self.old (line_in line.entry) (text_of r)
-            (record { last = C.last clock.old; readings = C.readings clock.old; timed = timed.old })
-            (record { last = C.last clock.new; readings = C.readings clock.new; timed = timed.new })) }
+            (times (C.last clock.old) (C.readings clock.old) timed.old)
+            (times (C.last clock.new) (C.readings clock.new) timed.new)) }
         ensures next { OnOk result (self.new ≡ service.next self.old (line_in line.entry)) }
         ensures memory { OnErr result (timed.new ≡ timed.old) }
         ensures later { C.last clock.old ≤ C.last clock.new }
@@ -105,8 +106,8 @@ fn answer<R: Threads + Sync, K: Sink, C: Clock, V: LineService>(
 ) -> Option<Stop>
     requires { IsShort (line_in line) }
     ensures answers { Answers V.service result (line_in line.entry) service.old service.new (K.written output.old) (K.written output.new)
-        (record { last = C.last clock.old; readings = C.readings clock.old; timed = timed.old })
-        (record { last = C.last clock.new; readings = C.readings clock.new; timed = timed.new }) }
+        (times (C.last clock.old) (C.readings clock.old) timed.old)
+        (times (C.last clock.new) (C.readings clock.new) timed.new) }
     ensures cause { HasCause (result ≡ Some Stop.WriteFailed) (K.write_faults output.old)
         (K.write_faults output.new) }
     ensures clock { V.takes_time ≡ false → clock.new ≡ clock.old }
@@ -137,22 +138,10 @@ fn serve_line<R: Threads + Sync, S: Source, K: Sink, C: Clock, V: LineService>(
     timed: &mut TimedList,
 ) -> Option<Stop>
     ensures round { Rounds V.service result
-        (record {
-          state = service.old;
-          reader = reader.old;
-          scene = record {
-            sides = record { rest = S.rest input.old; written = K.written output.old };
-            times = record { last = C.last clock.old; readings = C.readings clock.old; timed = timed.old };
-          };
-        })
-        (record {
-          state = service.new;
-          reader = reader.new;
-          scene = record {
-            sides = record { rest = S.rest input.new; written = K.written output.new };
-            times = record { last = C.last clock.new; readings = C.readings clock.new; timed = timed.new };
-          };
-        }) }
+        (standing service.old reader.old (scene (S.rest input.old) (K.written output.old)
+        (C.last clock.old) (C.readings clock.old) timed.old))
+        (standing service.new reader.new (scene (S.rest input.new) (K.written output.new)
+        (C.last clock.new) (C.readings clock.new) timed.new)) }
     ensures reads { HasCause (result ≡ Some Stop.ReadFailed) (S.read_faults input.old)
         (S.read_faults input.new) }
     ensures writes { HasCause (result ≡ Some Stop.WriteFailed) (K.write_faults output.old)
@@ -183,14 +172,10 @@ pub(crate) fn serve<R: Threads + Sync, S: Source, K: Sink, C: Clock, V: LineServ
 ) -> Status
     requires { service.old ≡ V.service.begins }
     ensures run { ServiceRun V.service result
-        (record {
-          sides = record { rest = S.rest input.old; written = K.written output.old };
-          times = record { last = C.last clock.old; readings = C.readings clock.old; timed = timed.old };
-        })
-        (record {
-          sides = record { rest = S.rest input.new; written = K.written output.new };
-          times = record { last = C.last clock.new; readings = C.readings clock.new; timed = timed.new };
-        }) }
+        (scene (S.rest input.old) (K.written output.old)
+        (C.last clock.old) (C.readings clock.old) timed.old)
+        (scene (S.rest input.new) (K.written output.new)
+        (C.last clock.new) (C.readings clock.new) timed.new) }
     ensures reads { HasCause (result ≡ Status.ReadFault) (S.read_faults input.old)
         (S.read_faults input.new) }
     ensures writes { HasCause (result ≡ Status.WriteFault) (K.write_faults output.old)

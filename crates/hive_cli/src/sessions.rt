@@ -1,6 +1,7 @@
 //! A session as a service: the greeting, and then the reply to each line.
 ghost use Rattle.std.specs.Prelude.{◌≡◌, true};
 ghost use Rattle.io_edge.specs.Outside.{HasCause};
+ghost use Rattle.hive_cli.specs.ServiceRun.{scene};
 ghost use Rattle.hive_cli.specs.Session.{SessionRun, session};
 
 use crate::service::{LineService, serve};
@@ -51,22 +52,10 @@ pub(crate) fn serve_session<R: Threads + Sync, S: Source, K: Sink, C: Clock>(
     timed: &mut TimedList,
 ) -> Status
     ensures run { SessionRun result
-        (record {
-          sides = record { rest = S.rest input.old; written = K.written output.old };
-          times = record {
-            last = C.last clock.old;
-            readings = C.readings clock.old;
-            timed = timed.old;
-          };
-        })
-        (record {
-          sides = record { rest = S.rest input.new; written = K.written output.new };
-          times = record {
-            last = C.last clock.new;
-            readings = C.readings clock.new;
-            timed = timed.new;
-          };
-        }) }
+        (scene (S.rest input.old) (K.written output.old)
+        (C.last clock.old) (C.readings clock.old) timed.old)
+        (scene (S.rest input.new) (K.written output.new)
+        (C.last clock.new) (C.readings clock.new) timed.new) }
     ensures reads { HasCause (result ≡ Status.ReadFault) (S.read_faults input.old)
         (S.read_faults input.new) }
     ensures writes { HasCause (result ≡ Status.WriteFault) (K.write_faults output.old)

@@ -1,15 +1,16 @@
 //! The run: what the words of the command line ask for.
 ghost use Rattle.std.specs.Prelude.{◌≡◌, ◌⊎◌, ℕ, List, [], map, string_bytes};
 ghost use Rattle.io_edge.specs.Outside.{HasCause};
+ghost use Rattle.io_edge.specs.Starts.{Engines};
 ghost use Rattle.command_words.specs.Words.{AreOfNoCommand, IsInRange, TakeOption, Words};
 ghost use Rattle.command_words.specs.Cups.{AreCupWords, AskForEngines};
 ghost use Rattle.command_words.specs.Matches.{AreMatchWords, AskForPrograms};
-ghost use Rattle.cup_command.specs.Cup.{CupRun, starter, scene as cup_scene};
+ghost use Rattle.cup_command.specs.Cup.{CupRun, scene as cup_scene};
 ghost use Rattle.cup_core.specs.Engines.{Engine};
-ghost use Rattle.match_command.specs.Match.{MatchRun, MatchStarts, NoneIsOpen, means, scene};
-ghost use Rattle.match_command.specs.Wires.{ClosesAll};
+ghost use Rattle.match_command.specs.Match.{MatchRun, MatchStarts, NoneIsOpen, means, scene as match_scene};
 ghost use Rattle.match_core.specs.Keeps.{IsSetup};
-ghost use Rattle.hive_cli.specs.Run.{Engines, IsAlone, Never, RunOf, UsesClock, UsesSpawner};
+ghost use Rattle.hive_cli.specs.Run.{IsAlone, Never, RunOf, UsesClock, UsesSpawner, world};
+ghost use Rattle.hive_cli.specs.ServiceRun.{scene};
 ghost use Rattle.command_words.specs.declared.asked.Asked.{Asked};
 
 use crate::counts::count;
@@ -93,38 +94,16 @@ pub fn run<R: Threads + Sync, S: Source, K: Sink, C: Clock, P: Spawner>(
     ensures unwritten { AreOfNoCommand words.now → output.new ≡ output.old }
     ensures untimed { AreOfNoCommand words.now → result.timed ≡ [] }
     ensures does { (asked : Asked) → Words words.now asked → RunOf words.now asked result.status
-        (record {
-          scene = record {
-            sides = record { rest = S.rest input.old; written = K.written output.old };
-            times = record { last = C.last clock.old; readings = C.readings clock.old; timed = [] };
-          };
-          engines = record {
-            to_come = P.to_come spawner.old;
-            sent = P.sent spawner.old;
-            started = P.started spawner.old;
-            start_faults = P.start_faults spawner.old;
-            engine_faults = P.engine_faults spawner.old;
-          };
-        })
-        (record {
-          scene = record {
-            sides = record { rest = S.rest input.new; written = K.written output.new };
-            times = record { last = C.last clock.new; readings = C.readings clock.new; timed = result.timed };
-          };
-          engines = record {
-            to_come = P.to_come spawner.new;
-            sent = P.sent spawner.new;
-            started = P.started spawner.new;
-            start_faults = P.start_faults spawner.new;
-            engine_faults = P.engine_faults spawner.new;
-          };
-        }) }
+        (world (scene (S.rest input.old) (K.written output.old)
+        (C.last clock.old) (C.readings clock.old) []) (P.engines spawner.old))
+        (world (scene (S.rest input.new) (K.written output.new)
+        (C.last clock.new) (C.readings clock.new) result.timed) (P.engines spawner.new)) }
     ensures reads { HasCause (result.status ≡ Status.ReadFault) (S.read_faults input.old)
         (S.read_faults input.new) }
     ensures writes { HasCause (result.status ≡ Status.WriteFault) (K.write_faults output.old)
         (K.write_faults output.new) }
-    ensures starts { HasCause (result.status ≡ Status.SpawnFault) (P.start_faults spawner.old)
-        (P.start_faults spawner.new) }
+    ensures starts { HasCause (result.status ≡ Status.SpawnFault)
+        (P.engines spawner.old).start_faults (P.engines spawner.new).start_faults }
     ensures clock { Never words.now UsesClock → clock.new ≡ clock.old }
     ensures spawner { Never words.now UsesSpawner → spawner.new ≡ spawner.old }
 {
@@ -156,18 +135,18 @@ fn matched<K: Sink, C: Clock, P: Spawner, G: Game + Drop>(
     requires words { AreMatchWords words.now setup }
     requires setup { IsSetup setup }
     ensures run { MatchRun setup result
-        (scene (K.written output.old) (means (C.last clock.old) (C.readings clock.old) (P.to_come spawner.old) (P.sent spawner.old) (P.start_faults spawner.old) (P.engine_faults spawner.old)))
-        (scene (K.written output.new) (means (C.last clock.new) (C.readings clock.new) (P.to_come spawner.new) (P.sent spawner.new) (P.start_faults spawner.new) (P.engine_faults spawner.new))) }
+        (match_scene (K.written output.old)
+        (means (C.last clock.old) (C.readings clock.old) (P.engines spawner.old)))
+        (match_scene (K.written output.new)
+        (means (C.last clock.new) (C.readings clock.new) (P.engines spawner.new))) }
     ensures programs { (white : List (List ℕ)) × (black : List (List ℕ))
         × AskForPrograms words.now white black
-        × MatchStarts result white black (P.started spawner.old) (P.started spawner.new) }
-    ensures closed { NoneIsOpen
-        (means (C.last clock.old) (C.readings clock.old) (P.to_come spawner.old) (P.sent spawner.old) (P.start_faults spawner.old) (P.engine_faults spawner.old))
-        (means (C.last clock.new) (C.readings clock.new) (P.to_come spawner.new) (P.sent spawner.new) (P.start_faults spawner.new) (P.engine_faults spawner.new)) }
+        × MatchStarts result white black (P.engines spawner.old) (P.engines spawner.new) }
+    ensures closed { NoneIsOpen (P.engines spawner.old) (P.engines spawner.new) }
     ensures writes { HasCause (result ≡ Status.WriteFault) (K.write_faults output.old)
         (K.write_faults output.new) }
-    ensures starts { HasCause (result ≡ Status.SpawnFault) (P.start_faults spawner.old)
-        (P.start_faults spawner.new) }
+    ensures starts { HasCause (result ≡ Status.SpawnFault)
+        (P.engines spawner.old).start_faults (P.engines spawner.new).start_faults }
 {
     let Ok(programs) = programs_of(alloc, words) else {
         return Status::Memory;
@@ -197,18 +176,13 @@ fn cupped<R: Threads + Sync, K: Sink, P: Spawner, G: Game + Send + Drop>(
     ensures run { (engines : List Engine)
         × AskForEngines words.now engines
         × CupRun engines setup result
-        (cup_scene (K.written output.old)
-        (starter (P.to_come spawner.old) (P.sent spawner.old) (P.started spawner.old)
-        (P.start_faults spawner.old) (P.engine_faults spawner.old)))
-        (cup_scene (K.written output.new)
-        (starter (P.to_come spawner.new) (P.sent spawner.new) (P.started spawner.new)
-        (P.start_faults spawner.new) (P.engine_faults spawner.new))) }
-    ensures closed { ClosesAll (P.to_come spawner.old) (P.to_come spawner.new)
-        (P.sent spawner.old) (P.sent spawner.new) }
+        (cup_scene (K.written output.old) (P.engines spawner.old))
+        (cup_scene (K.written output.new) (P.engines spawner.new)) }
+    ensures closed { NoneIsOpen (P.engines spawner.old) (P.engines spawner.new) }
     ensures writes { HasCause (result ≡ Status.WriteFault) (K.write_faults output.old)
         (K.write_faults output.new) }
-    ensures starts { HasCause (result ≡ Status.SpawnFault) (P.start_faults spawner.old)
-        (P.start_faults spawner.new) }
+    ensures starts { HasCause (result ≡ Status.SpawnFault)
+        (P.engines spawner.old).start_faults (P.engines spawner.new).start_faults }
 {
     let Ok(engines) = engines_of(alloc, words) else {
         return Status::Memory;
@@ -240,38 +214,16 @@ fn perform<R: Threads + Sync, S: Source, K: Sink, C: Clock, P: Spawner, G: Game 
     requires range { IsInRange asked }
     requires none { timed ≡ [] }
     ensures does { RunOf words.now asked result.status
-        (record {
-          scene = record {
-            sides = record { rest = S.rest input.old; written = K.written output.old };
-            times = record { last = C.last clock.old; readings = C.readings clock.old; timed = [] };
-          };
-          engines = record {
-            to_come = P.to_come spawner.old;
-            sent = P.sent spawner.old;
-            started = P.started spawner.old;
-            start_faults = P.start_faults spawner.old;
-            engine_faults = P.engine_faults spawner.old;
-          };
-        })
-        (record {
-          scene = record {
-            sides = record { rest = S.rest input.new; written = K.written output.new };
-            times = record { last = C.last clock.new; readings = C.readings clock.new; timed = result.timed };
-          };
-          engines = record {
-            to_come = P.to_come spawner.new;
-            sent = P.sent spawner.new;
-            started = P.started spawner.new;
-            start_faults = P.start_faults spawner.new;
-            engine_faults = P.engine_faults spawner.new;
-          };
-        }) }
+        (world (scene (S.rest input.old) (K.written output.old)
+        (C.last clock.old) (C.readings clock.old) []) (P.engines spawner.old))
+        (world (scene (S.rest input.new) (K.written output.new)
+        (C.last clock.new) (C.readings clock.new) result.timed) (P.engines spawner.new)) }
     ensures reads { HasCause (result.status ≡ Status.ReadFault) (S.read_faults input.old)
         (S.read_faults input.new) }
     ensures writes { HasCause (result.status ≡ Status.WriteFault) (K.write_faults output.old)
         (K.write_faults output.new) }
-    ensures starts { HasCause (result.status ≡ Status.SpawnFault) (P.start_faults spawner.old)
-        (P.start_faults spawner.new) }
+    ensures starts { HasCause (result.status ≡ Status.SpawnFault)
+        (P.engines spawner.old).start_faults (P.engines spawner.new).start_faults }
     ensures clock { ¬ UsesClock asked → clock.new ≡ clock.old }
     ensures spawner { ¬ UsesSpawner asked → spawner.new ≡ spawner.old }
 {
@@ -305,20 +257,10 @@ fn perform_alone<R: Threads + Sync, S: Source, K: Sink, C: Clock, G: Game + Send
     requires range { IsInRange asked }
     requires none { timed ≡ [] }
     ensures does { (engines : Engines) → RunOf words.now asked result.status
-        (record {
-          scene = record {
-            sides = record { rest = S.rest input.old; written = K.written output.old };
-            times = record { last = C.last clock.old; readings = C.readings clock.old; timed = [] };
-          };
-          engines = engines;
-        })
-        (record {
-          scene = record {
-            sides = record { rest = S.rest input.new; written = K.written output.new };
-            times = record { last = C.last clock.new; readings = C.readings clock.new; timed = result.timed };
-          };
-          engines = engines;
-        }) }
+        (world (scene (S.rest input.old) (K.written output.old)
+        (C.last clock.old) (C.readings clock.old) []) engines)
+        (world (scene (S.rest input.new) (K.written output.new)
+        (C.last clock.new) (C.readings clock.new) result.timed) engines) }
     ensures reads { HasCause (result.status ≡ Status.ReadFault) (S.read_faults input.old)
         (S.read_faults input.new) }
     ensures writes { HasCause (result.status ≡ Status.WriteFault) (K.write_faults output.old)

@@ -1,8 +1,19 @@
--- What the starter of links in memory holds, and what its calls do.
+-- What is told of the programs that a run starts, and what the starter of links in memory holds and
+-- does.
 use Rattle.std.specs.Prelude.{◌≡◌, ◌⊎◌, ℕ, Bool, List, [], ◌∷◌, ◌++◌, map, true, false, None, Some, if◌then◌else◌}
-use Rattle.io_edge.specs.Outside.{ToldLists}
+use Rattle.io_edge.specs.Outside.{ToldLists, ToldPrograms}
 use Rattle.io_edge.specs.Calls.{Calls, next_fails}
 use Rattle.io_edge.specs.Memory.{LinkState}
+
+-- what is told of the programs that a run starts: what those still to be started will say, what was
+-- written to those that were closed, by which words programs were started, how often a start has
+-- failed, and how many closed programs had failed
+pub record Engines : Type 0 where
+  pub to_come : ToldLists
+  pub sent : ToldLists
+  pub started : ToldPrograms
+  pub start_faults : ℕ
+  pub engine_faults : ℕ
 
 -- the links to come, the closed links in the order of closing, whether a closed link was lost for
 -- want of memory, the words of each program that was started, in the order of the starts, the calls
@@ -26,6 +37,16 @@ all_written links = map (λ link. link.sink.written) links
 -- what was written to the closed links, told as long as none was lost
 abbrev pub told_sent : SpawnerState → ToldLists
 told_sent spawner = if spawner.lost then None else Some (all_written spawner.closed)
+
+-- what the starter of links in memory tells
+abbrev pub told_engines : SpawnerState → Engines
+told_engines spawner = record {
+  to_come = Some (all_left spawner.coming);
+  sent = told_sent spawner;
+  started = Some spawner.started;
+  start_faults = spawner.calls.faults;
+  engine_faults = spawner.failed;
+}
 
 -- a start fails where its number is on the list, and where no link is left
 abbrev pub FailsToStart : SpawnerState → Type 0

@@ -4,6 +4,7 @@ use Rattle.std.specs.declared.option.Option.{Option}
 use Rattle.std.specs.declared.result.Result.{Result}
 use Rattle.std.specs.Result.{IfOk}
 use Rattle.io_edge.specs.Outside.{Told, ToldLists, Rose, behind}
+use Rattle.io_edge.specs.Starts.{Engines}
 use Rattle.hive_model.specs.declared.pieces.Colour.TheVariants.{White, Black}
 use Rattle.match_core.specs.declared.answers.Setup.{Setup}
 use Rattle.match_core.specs.declared.answers.Verdict.{Verdict}
@@ -73,39 +74,39 @@ verdict_part v w b (inr (inr (inr x))) = inr (inr ((Black, x.0), b x.1))
 -- The match
 
 -- by the links' bytes
-played_by_links : (setup : Setup) (t : Standing) (w0 w b0 b : Wire) (r0 r : Watch) (to_come to_come_now sent sent_now : ToldLists) (starts starts_now faults faults_now : ℕ) → RanOver setup t w0 w b0 b r0 r
-    → (HasFailed w0 w → Rose faults faults_now) → (HasFailed b0 b → Rose faults faults_now) → ClosesTwo sent sent_now w.written b.written
+played_by_links : (setup : Setup) (t : Standing) (w0 w b0 b : Wire) (r0 r : Watch) (before after : Engines) → RanOver setup t w0 w b0 b r0 r
+    → (HasFailed w0 w → Rose before.engine_faults after.engine_faults) → (HasFailed b0 b → Rose before.engine_faults after.engine_faults) → ClosesTwo before.sent after.sent w.written b.written
     → (white black : List ℕ) → w0.rest ≡ Some white → b0.rest ≡ Some black → w0.written ≡ Some [] → b0.written ≡ Some []
-    → IsPlayedBy setup white black t (means r0.last r0.readings to_come sent starts faults) (means r.last r.readings to_come_now sent_now starts_now faults_now)
-played_by_links setup t w0 w b0 b r0 r to_come to_come_now sent sent_now starts starts_now faults faults_now ran white_counted black_counted closes white black wr br ww bw = record {
+    → IsPlayedBy setup white black t (means r0.last r0.readings before) (means r.last r.readings after)
+played_by_links setup t w0 w b0 b r0 r before after ran white_counted black_counted closes white black wr br ww bw = record {
   part =
       let f = ran.front white black wr br in record {
         moves = f.moves;
         verdict = verdict_part t.verdict white_counted black_counted (ran.verdict white black wr br);
-        gains = parts_gained setup white black sent sent_now w0.written w.written b0.written b.written closes ww bw f.to_white f.to_black;
+        gains = parts_gained setup white black before.sent after.sent w0.written w.written b0.written b.written closes ww bw f.to_white f.to_black;
       };
   whole = λ calm in_time.
       let m = ran.told white black wr br (λ x. calm (white_counted x)) (λ x. calm (black_counted x)) in_time in record {
         moves = m.moves;
         verdict = m.verdict;
-        gains = all_gained setup white black sent sent_now w0.written w.written b0.written b.written closes ww bw m.to_white m.to_black;
+        gains = all_gained setup white black before.sent after.sent w0.written w.written b0.written b.written closes ww bw m.to_white m.to_black;
       };
 }
 
 -- the match that was run, once both links are closed
-pub played_over : (setup : Setup) (t : Standing) (w0 w b0 b : Wire) (r0 r : Watch) (to_come to_come_now sent sent_now : ToldLists) (starts starts_now faults faults_now : ℕ) → IsFresh w0.reads w0.writes → IsFresh b0.reads b0.writes → RanOver setup t w0 w b0 b r0 r
-    → CountsEither (w.reads + w.writes) (b.reads + b.writes) faults faults_now → ClosesTwo sent sent_now w.written b.written
-    → PlayedOver setup t w0 b0 (means r0.last r0.readings to_come sent starts faults) (means r.last r.readings to_come_now sent_now starts_now faults_now)
-played_over setup t w0 w b0 b r0 r to_come to_come_now sent sent_now starts starts_now faults faults_now wf bf ran counts closes =
-    let white : HasFailed w0 w → Rose faults faults_now = λ x. counts.white (failed w0 w wf x) in
-    let black : HasFailed b0 b → Rose faults faults_now = λ x. counts.black (failed b0 b bf x) in
+pub played_over : (setup : Setup) (t : Standing) (w0 w b0 b : Wire) (r0 r : Watch) (before after : Engines) → IsFresh w0.reads w0.writes → IsFresh b0.reads b0.writes → RanOver setup t w0 w b0 b r0 r
+    → CountsEither (w.reads + w.writes) (b.reads + b.writes) before.engine_faults after.engine_faults → ClosesTwo before.sent after.sent w.written b.written
+    → PlayedOver setup t w0 b0 (means r0.last r0.readings before) (means r.last r.readings after)
+played_over setup t w0 w b0 b r0 r before after wf bf ran counts closes =
+    let white : HasFailed w0 w → Rose before.engine_faults after.engine_faults = λ x. counts.white (failed w0 w wf x) in
+    let black : HasFailed b0 b → Rose before.engine_faults after.engine_faults = λ x. counts.black (failed b0 b bf x) in
     record {
       judged = ran.judged;
       same = ran.same;
       readings = ran.readings;
       late = ran.late;
       broke = broke_counted t ran.broke white black;
-      by_links = played_by_links setup t w0 w b0 b r0 r to_come to_come_now sent sent_now starts starts_now faults faults_now ran white black closes;
+      by_links = played_by_links setup t w0 w b0 b r0 r before after ran white black closes;
     }
 
 -- the text tells the match that was played

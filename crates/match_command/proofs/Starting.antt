@@ -1,9 +1,13 @@
 -- The match of two programs that were started, by what was to come.
-use Rattle.std.proofs.Common.{◌≡◌, ℕ, List, [], ◌∷◌, None, Some, refl, ap, sym, ◌∙◌, subst}
-use Rattle.io_edge.specs.Outside.{ToldLists}
+use Rattle.std.proofs.Common.{◌≡◌, ◌⊎◌, ℕ, ◌<◌, List, [], ◌∷◌, length, take, None, Some, refl, ap, sym, ◌∙◌, subst}
+use Rattle.io_edge.specs.Outside.{Rose, ToldLists, behind}
+use Rattle.io_edge.specs.Starts.{Engines}
+use Rattle.command_runs.specs.declared.status.Status.TheVariants.{Done, WriteFault}
 use Rattle.match_core.specs.declared.answers.Setup.{Setup}
 use Rattle.match_core.specs.Standing.{Standing}
-use Rattle.match_command.specs.Match.{Means, Played, means}
+use Rattle.match_runner.specs.Runs.{IsLate}
+use Rattle.match_command.specs.Match.{AreFronts, AreSent, Gains, IsBroke, IsPlayedBy, MatchRun, Means, Played, Scene, end_of, means}
+use Rattle.match_command.specs.Texts.{match_text}
 use Rattle.match_command.specs.Wires.{PlayedOver, StartsTwo, Wire}
 
 -- what the links of two programs tell
@@ -37,34 +41,61 @@ two_started (Some xs) (Some zs) w b all (Some ys, (white, xe, wr, ww), (black, y
   black_got = bw;
 }
 
--- the same means before, as far as a match hangs on them
-played_on : (setup : Setup) (t : Standing) (w b : Wire) (last readings starts starts_then faults : ℕ) (to_come to_come_then sent : ToldLists) (after : Means) → StartsTwo to_come to_come_then w.rest w.written b.rest b.written → after.to_come ≡ to_come_then
-    → PlayedOver setup t w b (means last readings to_come_then sent starts_then faults) after → Played setup t (means last readings to_come sent starts faults) after
-played_on setup t w b last readings starts starts_then faults to_come to_come_then sent after starts_two stays p = record {
-  judged = p.judged;
-  same = p.same;
-  readings = p.readings;
-  late = p.late;
-  broke = p.broke;
-  programs = λ all e.
-      let two = two_started to_come to_come_then w b all starts_two e in
-      let by = p.by_links two.white two.black two.white_says two.black_says two.white_got two.black_got in record {
-        white = two.white;
-        black = two.black;
-        others = two.others;
-        first_two = two.first_two;
-        left = stays ∙ two.left;
-        played = record {
-          part = record { moves = by.part.moves; verdict = by.part.verdict; gains = by.part.gains };
-          whole = λ calm in_time. let m = by.whole calm in_time in record { moves = m.moves; verdict = m.verdict; gains = m.gains };
-        };
+-- what was played, from before the starts
+played_before : (setup : Setup) (white black : List ℕ) (t : Standing) (last readings : ℕ) (before between : Engines) (after : Means) → between.sent ≡ before.sent → between.engine_faults ≡ before.engine_faults
+    → IsPlayedBy setup white black t (means last readings between) after → IsPlayedBy setup white black t (means last readings before) after
+played_before setup white black t last readings before between after sent faults by = record {
+  part = record {
+    moves = by.part.moves;
+    verdict = subst (λ n. (t.verdict ≡ (end_of setup white black).verdict) ⊎ (IsLate t.verdict ⊎ (IsBroke t.verdict × Rose n after.engines.engine_faults))) faults by.part.verdict;
+    gains = subst (λ s. Gains s after.engines.sent (AreFronts setup white black)) sent by.part.gains;
+  };
+  whole = λ calm in_time.
+      let m = by.whole (λ rose. calm (subst (λ n. Rose n after.engines.engine_faults) faults rose)) in_time in record {
+        moves = m.moves;
+        verdict = m.verdict;
+        gains = subst (λ s. Gains s after.engines.sent (AreSent setup white black)) sent m.gains;
       };
 }
 
 -- the match of two programs, from before they were started
-pub played_from : (setup : Setup) (t : Standing) (w b : Wire) (last readings starts starts_then faults faults_then : ℕ) (to_come to_come_then sent sent_then : ToldLists) (after : Means) → StartsTwo to_come to_come_then w.rest w.written b.rest b.written → after.to_come ≡ to_come_then
-    → sent_then ≡ sent → faults_then ≡ faults → PlayedOver setup t w b (means last readings to_come_then sent_then starts_then faults_then) after → Played setup t (means last readings to_come sent starts faults) after
-played_from setup t w b last readings starts starts_then faults faults_then to_come to_come_then sent sent_then after starts_two stays e f p =
-    let q : PlayedOver setup t w b (means last readings to_come_then sent starts_then faults_then) after = subst (λ (s : ToldLists). PlayedOver setup t w b (means last readings to_come_then s starts_then faults_then) after) e p in
-    played_on setup t w b last readings starts starts_then faults to_come to_come_then sent after starts_two stays
-    (subst (λ (n : ℕ). PlayedOver setup t w b (means last readings to_come_then sent starts_then n) after) f q)
+played_from : (setup : Setup) (t : Standing) (w b : Wire) (last readings : ℕ) (before between : Engines) (after : Means) → StartsTwo before.to_come between.to_come w.rest w.written b.rest b.written → after.engines.to_come ≡ between.to_come
+    → between.sent ≡ before.sent → between.engine_faults ≡ before.engine_faults → PlayedOver setup t w b (means last readings between) after → Played setup t (means last readings before) after
+played_from setup t w b last readings before between after starts_two stays sent faults p =
+    let counted : Rose between.engine_faults after.engines.engine_faults → Rose before.engine_faults after.engines.engine_faults = λ rose. subst (λ n. Rose n after.engines.engine_faults) faults rose in
+    record {
+      judged = p.judged;
+      same = p.same;
+      readings = p.readings;
+      late = p.late;
+      broke = λ broke. counted (p.broke broke);
+      programs = λ all e.
+          let two = two_started before.to_come between.to_come w b all starts_two e in
+          let by = p.by_links two.white two.black two.white_says two.black_says two.white_got two.black_got in record {
+            white = two.white;
+            black = two.black;
+            others = two.others;
+            first_two = two.first_two;
+            left = stays ∙ two.left;
+            played = played_before setup two.white two.black t last readings before between after sent faults by;
+          };
+    }
+
+-- What was written of it
+
+-- what is told of a match that was played
+abbrev pub IsTold : Setup → List ℕ → Means → Means → Type 0
+IsTold setup text before after = (t : Standing) × (text ≡ match_text setup t) × Played setup t before after
+
+-- the same from before the two programs were started
+pub told_from : (setup : Setup) (text : List ℕ) (w b : Wire) (last readings : ℕ) (before between : Engines) (after : Means) → StartsTwo before.to_come between.to_come w.rest w.written b.rest b.written → after.engines.to_come ≡ between.to_come
+    → between.sent ≡ before.sent → between.engine_faults ≡ before.engine_faults → ((t : Standing) × (text ≡ match_text setup t) × PlayedOver setup t w b (means last readings between) after) → IsTold setup text (means last readings before) after
+told_from setup text w b last readings before between after starts_two stays sent faults (t, told, played) = (t, told, played_from setup t w b last readings before between after starts_two stays sent faults played)
+
+-- all of it was written
+pub told_whole : (setup : Setup) (text : List ℕ) (before after : Scene) → IsTold setup text before.means after.means → after.written ≡ behind before.written text → MatchRun setup Done before after
+told_whole setup text before after (t, told, played) wrote = (t, record { played = played; wrote = wrote ∙ ap (λ x. behind before.written x) told })
+
+-- only a front of it was written
+pub told_part : (setup : Setup) (text : List ℕ) (before after : Scene) → IsTold setup text before.means after.means → ((n : ℕ) × (n < length text) × (after.written ≡ behind before.written (take n text))) → MatchRun setup WriteFault before after
+told_part setup text before after (t, told, played) (n, low, wrote) = (t, n, record { played = played; cut = subst (λ x. n < length x) told low; wrote = wrote ∙ ap (λ x. behind before.written (take n x)) told })

@@ -14,6 +14,7 @@ MatchesAreDone =
     (setup : Setup) (status : Status) (before after : Scene)
     → MatchRun setup status before after
     → NoFault (status ≡ WriteFault)
-    → HasCause (status ≡ SpawnFault) before.means.start_faults after.means.start_faults
-    → ¬ Rose before.means.start_faults after.means.start_faults
+    → HasCause (status ≡ SpawnFault) before.means.engines.start_faults
+    after.means.engines.start_faults
+    → ¬ Rose before.means.engines.start_faults after.means.engines.start_faults
     → (status ≡ Done) ⊎ (status ≡ Memory)

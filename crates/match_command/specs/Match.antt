@@ -1,6 +1,7 @@
 -- What a match of two programs writes, plays, sends and counts, by the status with which it ends.
 use Rattle.std.specs.Prelude.{◌≡◌, ◌⊎◌, ℕ, ◌+◌, ◌*◌, ◌<◌, ◌≤◌, List, [], ◌∷◌, ◌++◌, length, take, Option, Some, None}
-use Rattle.io_edge.specs.Outside.{Told, ToldLists, ToldPrograms, Collects, Rose, behind, with_last}
+use Rattle.io_edge.specs.Outside.{Told, ToldLists, Collects, Rose, behind, with_last}
+use Rattle.io_edge.specs.Starts.{Engines}
 use Rattle.hive_model.specs.declared.pieces.Colour.{Colour}
 use Rattle.hive_model.specs.declared.pieces.Colour.TheVariants.{White, Black}
 use Rattle.hive_model.specs.Lines.{lines}
@@ -19,26 +20,15 @@ use Rattle.match_command.specs.Texts.{match_text}
 
 -- What a run can change
 
--- what a match is played with: the clock's last reading and how often it was read; what the
--- programs to come will say and what was written to those that were closed, where it is told; how
--- often a start failed, and how many closed programs had failed
+-- what a match is played with: the clock's last reading and how often it was read, and what is told
+-- of the programs that are started
 pub record Means : Type 0 where
   pub last : ℕ
   pub readings : ℕ
-  pub to_come : ToldLists
-  pub sent : ToldLists
-  pub start_faults : ℕ
-  pub engine_faults : ℕ
+  pub engines : Engines
 
-abbrev pub means : ℕ → ℕ → ToldLists → ToldLists → ℕ → ℕ → Means
-means last readings to_come sent start_faults engine_faults = record {
-  last = last;
-  readings = readings;
-  to_come = to_come;
-  sent = sent;
-  start_faults = start_faults;
-  engine_faults = engine_faults;
-}
+abbrev pub means : ℕ → ℕ → Engines → Means
+means last readings engines = record { last = last; readings = readings; engines = engines }
 
 -- all that a run can change: what was written, and what the match is played with
 pub record Scene : Type 0 where
@@ -91,14 +81,14 @@ pub record IsWhole
     (setup : Setup) (white black : List ℕ) (t : Standing) (before after : Means) : Type 0 where
   pub moves : t.moves ≡ (end_of setup white black).moves
   pub verdict : t.verdict ≡ (end_of setup white black).verdict
-  pub gains : Gains before.sent after.sent (AreSent setup white black)
+  pub gains : Gains before.engines.sent after.engines.sent (AreSent setup white black)
 
 -- the verdict is this, or an answer was late, or a side broke and a program's failure was counted
 abbrev pub IsVerdict : Option Verdict → Option Verdict → Means → Means → Type 0
 IsVerdict full verdict before after =
     (verdict ≡ full)
     ⊎ (IsLate verdict
-    ⊎ (IsBroke verdict × Rose before.engine_faults after.engine_faults))
+    ⊎ (IsBroke verdict × Rose before.engines.engine_faults after.engines.engine_faults))
 
 -- moves and bytes sent are the first ones of the match of these programs, and the verdict is its
 -- verdict, or an answer was late, or a side broke
@@ -106,7 +96,7 @@ pub record IsPart
     (setup : Setup) (white black : List ℕ) (t : Standing) (before after : Means) : Type 0 where
   pub moves : IsFront t.moves (end_of setup white black).moves
   pub verdict : IsVerdict (end_of setup white black).verdict t.verdict before after
-  pub gains : Gains before.sent after.sent (AreFronts setup white black)
+  pub gains : Gains before.engines.sent after.engines.sent (AreFronts setup white black)
 
 -- what was played and sent where the two programs say this: always a part of their match, and the
 -- whole of it where no program's failure was counted and no answer was late
@@ -114,7 +104,7 @@ pub record IsPlayedBy
     (setup : Setup) (white black : List ℕ) (t : Standing) (before after : Means) : Type 0 where
   pub part : IsPart setup white black t before after
   pub whole :
-      ¬ Rose before.engine_faults after.engine_faults
+      ¬ Rose before.engines.engine_faults after.engines.engine_faults
       → ¬ IsLate t.verdict
       → IsWhole setup white black t before after
 
@@ -126,7 +116,7 @@ pub record StartsTwoOf
   pub black : List ℕ
   pub others : List (List ℕ)
   pub first_two : all ≡ white ∷ (black ∷ others)
-  pub left : after.to_come ≡ Some others
+  pub left : after.engines.to_come ≡ Some others
   pub played : IsPlayedBy setup white black t before after
 
 -- a match was played to its verdict, and stands so
@@ -135,10 +125,10 @@ pub record Played (setup : Setup) (t : Standing) (before after : Means) : Type 0
   pub same : t.setup ≡ setup
   pub readings : after.readings ≤ before.readings + (2 * length t.moves + 2)
   pub late : LateIn t.verdict before.last after.last
-  pub broke : IsBroke t.verdict → Rose before.engine_faults after.engine_faults
+  pub broke : IsBroke t.verdict → Rose before.engines.engine_faults after.engines.engine_faults
   pub programs :
       (all : List (List ℕ))
-      → before.to_come ≡ Some all
+      → before.engines.to_come ≡ Some all
       → StartsTwoOf all setup t before after
 
 -- The run
@@ -156,16 +146,16 @@ pub record TellsPart (setup : Setup) (t : Standing) (n : ℕ) (before after : Sc
 
 -- where it is told what was to come, no program got a byte: none was closed, or one to which
 -- nothing was written
-abbrev pub SendsNothing : ToldLists → ToldLists → ToldLists → Type 0
-SendsNothing to_come sent sent_now =
+abbrev pub SendsNothing : Engines → Engines → Type 0
+SendsNothing before after =
     (coming : List (List ℕ))
-    → to_come ≡ Some coming
-    → (sent_now ≡ sent) ⊎ Collects sent sent_now (Some [])
+    → before.to_come ≡ Some coming
+    → (after.sent ≡ before.sent) ⊎ Collects before.sent after.sent (Some [])
 
 -- no match was begun: nothing was written, no program got a byte, and the clock was not read
 pub record NotBegun (before after : Scene) : Type 0 where
   pub written : after.written ≡ before.written
-  pub unsent : SendsNothing before.means.to_come before.means.sent after.means.sent
+  pub unsent : SendsNothing before.means.engines after.means.engines
   pub last : after.means.last ≡ before.means.last
   pub readings : after.means.readings ≡ before.means.readings
 
@@ -185,17 +175,18 @@ MatchRun setup InputFull before after = ⊥
 -- What was started
 
 -- white's program was started by its words, and then black's
-abbrev pub BothStarted : List (List ℕ) → List (List ℕ) → ToldPrograms → ToldPrograms → Type 0
-BothStarted white black before after = after ≡ with_last (with_last before white) black
+abbrev pub BothStarted : List (List ℕ) → List (List ℕ) → Engines → Engines → Type 0
+BothStarted white black before after =
+    after.started ≡ with_last (with_last before.started white) black
 
 -- no program was started, or white's alone
-abbrev pub FewerStarted : List (List ℕ) → ToldPrograms → ToldPrograms → Type 0
-FewerStarted white before after = (after ≡ before) ⊎ (after ≡ with_last before white)
+abbrev pub FewerStarted : List (List ℕ) → Engines → Engines → Type 0
+FewerStarted white before after =
+    (after.started ≡ before.started) ⊎ (after.started ≡ with_last before.started white)
 
 -- The programs that were started, each by its words, where a match of two programs ends with this
 -- status. A match that was played had both; where memory is wanting it may have had both, or fewer.
-abbrev pub MatchStarts :
-    Status → List (List ℕ) → List (List ℕ) → ToldPrograms → ToldPrograms → Type 0
+abbrev pub MatchStarts : Status → List (List ℕ) → List (List ℕ) → Engines → Engines → Type 0
 MatchStarts Done white black before after = BothStarted white black before after
 MatchStarts WriteFault white black before after = BothStarted white black before after
 MatchStarts SpawnFault white black before after = FewerStarted white before after
@@ -209,7 +200,7 @@ MatchStarts InputFull white black before after = ⊥
 
 -- no program that was started is left open: where it is told, as many were closed as were taken
 -- from those to come
-abbrev pub NoneIsOpen : Means → Means → Type 0
+abbrev pub NoneIsOpen : Engines → Engines → Type 0
 NoneIsOpen before after =
     (coming later opened closed : List (List ℕ))
     → before.to_come ≡ Some coming

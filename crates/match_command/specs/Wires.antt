@@ -61,16 +61,6 @@ abbrev pub ClosesTwo : ToldLists → ToldLists → Told → Told → Type 0
 ClosesTwo before after white_got black_got =
     (between : ToldLists) × Collects before between white_got × Collects between after black_got
 
--- as many programs were closed as were started, where it is told
-abbrev pub ClosesAll : ToldLists → ToldLists → ToldLists → ToldLists → Type 0
-ClosesAll to_come to_come_now sent sent_now =
-    (coming later opened closed : List (List ℕ))
-    → to_come ≡ Some coming
-    → to_come_now ≡ Some later
-    → sent ≡ Some opened
-    → sent_now ≡ Some closed
-    → length coming + length opened ≡ length later + length closed
-
 -- the failure of either of two programs that were closed was counted
 pub record CountsEither (white_faults black_faults before after : ℕ) : Type 0 where
   pub white : 0 < white_faults → Rose before after
@@ -83,7 +73,7 @@ pub record PlayedOver
   pub same : t.setup ≡ setup
   pub readings : after.readings ≤ before.readings + (2 * length t.moves + 2)
   pub late : LateIn t.verdict before.last after.last
-  pub broke : IsBroke t.verdict → Rose before.engine_faults after.engine_faults
+  pub broke : IsBroke t.verdict → Rose before.engines.engine_faults after.engines.engine_faults
   pub by_links :
       (white black : List ℕ)
       → w0.rest ≡ Some white

@@ -3,8 +3,8 @@ ghost use Rattle.std.specs.Prelude.{◌≡◌, ◌+◌, ◌<◌, ◌≤◌, ℕ,
 ghost use Rattle.io_edge.specs.Outside.{Collects, HasCause, Starts, with_last};
 ghost use Rattle.match_core.specs.Keeps.{IsSetup};
 ghost use Rattle.match_runner.specs.Turns.{watch};
-ghost use Rattle.match_command.specs.Match.{BothStarted, FewerStarted, SendsNothing};
-ghost use Rattle.match_command.specs.Wires.{wire, ClosesAll, ClosesTwo, CountsEither, IsFresh, RanOver, StartsTwo};
+ghost use Rattle.match_command.specs.Match.{BothStarted, FewerStarted, NoneIsOpen, SendsNothing};
+ghost use Rattle.match_command.specs.Wires.{wire, ClosesTwo, CountsEither, IsFresh, RanOver, StartsTwo};
 
 use hive_model::Game;
 use io_edge::{Clock, Link, Spawner, StartFault};
@@ -22,18 +22,21 @@ fn start_black<P: Spawner>(
     ensures first { IfOk result (λ e. e.0 ≡ first) }
     ensures fresh { IfOk result (λ e. IsFresh
         (P.Engine.read_faults e.1) (P.Engine.write_faults e.1)) }
-    ensures next { IfOk result (λ e. Starts (P.to_come spawner.old) (P.to_come spawner.new)
-        (P.Engine.rest e.1) (P.Engine.written e.1)) }
-    ensures failed { IfOk result (λ e. P.engine_faults spawner.new ≡ P.engine_faults spawner.old) }
-    ensures sent { IfOk result (λ e. P.sent spawner.new ≡ P.sent spawner.old) }
-    ensures named { IfOk result (λ e. P.started spawner.new
-        ≡ with_last (P.started spawner.old) (map string_bytes words.now)) }
-    ensures refused { OnErr result (P.to_come spawner.new ≡ P.to_come spawner.old) }
-    ensures unnamed { OnErr result (P.started spawner.new ≡ P.started spawner.old) }
-    ensures closed { OnErr result (Collects (P.sent spawner.old) (P.sent spawner.new)
-        (P.Engine.written first)) }
+    ensures next { IfOk result (λ e. Starts (P.engines spawner.old).to_come
+        (P.engines spawner.new).to_come (P.Engine.rest e.1) (P.Engine.written e.1)) }
+    ensures failed { IfOk result (λ e. (P.engines spawner.new).engine_faults
+        ≡ (P.engines spawner.old).engine_faults) }
+    ensures sent { IfOk result (λ e. (P.engines spawner.new).sent ≡ (P.engines spawner.old).sent) }
+    ensures named { IfOk result (λ e. (P.engines spawner.new).started
+        ≡ with_last (P.engines spawner.old).started (map string_bytes words.now)) }
+    ensures refused { OnErr result ((P.engines spawner.new).to_come
+        ≡ (P.engines spawner.old).to_come) }
+    ensures unnamed { OnErr result ((P.engines spawner.new).started
+        ≡ (P.engines spawner.old).started) }
+    ensures closed { OnErr result (Collects (P.engines spawner.old).sent
+        (P.engines spawner.new).sent (P.Engine.written first)) }
     ensures cause { HasCause (IsErrOf result StartFault.Failed)
-        (P.start_faults spawner.old) (P.start_faults spawner.new) }
+        (P.engines spawner.old).start_faults (P.engines spawner.new).start_faults }
 {
     match spawner.start(words) {
         Ok(black) => Ok((first, black)),
@@ -56,21 +59,21 @@ pub(crate) fn start_both<P: Spawner>(
         (P.Engine.read_faults e.0) (P.Engine.write_faults e.0)) }
     ensures black_fresh { IfOk result (λ e. IsFresh
         (P.Engine.read_faults e.1) (P.Engine.write_faults e.1)) }
-    ensures next { IfOk result (λ e. StartsTwo (P.to_come spawner.old) (P.to_come spawner.new)
+    ensures next { IfOk result (λ e. StartsTwo (P.engines spawner.old).to_come
+        (P.engines spawner.new).to_come
         (P.Engine.rest e.0) (P.Engine.written e.0) (P.Engine.rest e.1) (P.Engine.written e.1)) }
-    ensures failed { IfOk result (λ e. P.engine_faults spawner.new ≡ P.engine_faults spawner.old) }
-    ensures sent { IfOk result (λ e. P.sent spawner.new ≡ P.sent spawner.old) }
+    ensures failed { IfOk result (λ e. (P.engines spawner.new).engine_faults
+        ≡ (P.engines spawner.old).engine_faults) }
+    ensures sent { IfOk result (λ e. (P.engines spawner.new).sent ≡ (P.engines spawner.old).sent) }
     ensures both { IfOk result (λ e. BothStarted
         (map string_bytes white.now) (map string_bytes black.now)
-        (P.started spawner.old) (P.started spawner.new)) }
+        (P.engines spawner.old) (P.engines spawner.new)) }
     ensures fewer { OnErr result (FewerStarted
-        (map string_bytes white.now) (P.started spawner.old) (P.started spawner.new)) }
-    ensures unsent { OnErr result (SendsNothing
-        (P.to_come spawner.old) (P.sent spawner.old) (P.sent spawner.new)) }
-    ensures closed { OnErr result (ClosesAll
-        (P.to_come spawner.old) (P.to_come spawner.new) (P.sent spawner.old) (P.sent spawner.new)) }
+        (map string_bytes white.now) (P.engines spawner.old) (P.engines spawner.new)) }
+    ensures unsent { OnErr result (SendsNothing (P.engines spawner.old) (P.engines spawner.new)) }
+    ensures closed { OnErr result (NoneIsOpen (P.engines spawner.old) (P.engines spawner.new)) }
     ensures cause { HasCause (IsErrOf result StartFault.Failed)
-        (P.start_faults spawner.old) (P.start_faults spawner.new) }
+        (P.engines spawner.old).start_faults (P.engines spawner.new).start_faults }
 {
     match spawner.start(white) {
         Ok(engine) => start_black(engine, black, spawner),
@@ -106,15 +109,15 @@ pub(crate) fn run_over<L: Link, C: Clock, G: Game + Drop>(
 
 /// Closes white's engine, then black's.
 pub(crate) fn close_both<P: Spawner>(white: P::Engine, black: P::Engine, spawner: &mut P)
-    ensures sent { ClosesTwo (P.sent spawner.old) (P.sent spawner.new)
+    ensures sent { ClosesTwo (P.engines spawner.old).sent (P.engines spawner.new).sent
         (P.Engine.written white) (P.Engine.written black) }
     ensures failed { CountsEither
         (P.Engine.read_faults white + P.Engine.write_faults white)
         (P.Engine.read_faults black + P.Engine.write_faults black)
-        (P.engine_faults spawner.old) (P.engine_faults spawner.new) }
-    ensures starts { P.start_faults spawner.new ≡ P.start_faults spawner.old }
-    ensures to_come { P.to_come spawner.new ≡ P.to_come spawner.old }
-    ensures started { P.started spawner.new ≡ P.started spawner.old }
+        (P.engines spawner.old).engine_faults (P.engines spawner.new).engine_faults }
+    ensures starts { (P.engines spawner.new).start_faults ≡ (P.engines spawner.old).start_faults }
+    ensures to_come { (P.engines spawner.new).to_come ≡ (P.engines spawner.old).to_come }
+    ensures started { (P.engines spawner.new).started ≡ (P.engines spawner.old).started }
 {
     spawner.close(white);
     spawner.close(black);

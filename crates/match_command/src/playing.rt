@@ -1,10 +1,10 @@
 //! The command: both programs are started, the match is played, and its two lines are written.
-ghost use Rattle.std.specs.Prelude.{◌≡◌, ◌<◌, ◌≤◌, ◌⊎◌, length, map, string_bytes, IfOk, OnErr, IsErrOf};
+ghost use Rattle.std.specs.Prelude.{◌≡◌, ◌<◌, ◌≤◌, length, map, string_bytes, IfOk};
 ghost use Rattle.io_edge.specs.Outside.{HasCause, Told};
 ghost use Rattle.match_core.specs.Keeps.{IsSetup};
 ghost use Rattle.match_core.specs.Standing.{Standing};
 ghost use Rattle.match_command.specs.Texts.{match_text};
-ghost use Rattle.match_command.specs.Match.{BothStarted, FewerStarted, MatchRun, MatchStarts, NoneIsOpen, Played, SendsNothing, means, scene};
+ghost use Rattle.match_command.specs.Match.{MatchRun, MatchStarts, NoneIsOpen, means, scene};
 ghost use Rattle.match_command.specs.Wires.{wire, ClosesTwo, IsFresh, PlayedOver};
 
 use crate::engines::{close_both, run_over, start_both};
@@ -35,17 +35,13 @@ fn play_and_close<P: Spawner, C: Clock, G: Game + Drop>(
         (P.Engine.read_faults white) (P.Engine.write_faults white))
         (wire (P.Engine.rest black) (P.Engine.written black)
         (P.Engine.read_faults black) (P.Engine.write_faults black))
-        (means (C.last clock.old) (C.readings clock.old)
-        (P.to_come spawner.old) (P.sent spawner.old)
-        (P.start_faults spawner.old) (P.engine_faults spawner.old))
-        (means (C.last clock.new) (C.readings clock.new)
-        (P.to_come spawner.new) (P.sent spawner.new)
-        (P.start_faults spawner.new) (P.engine_faults spawner.new))) }
+        (means (C.last clock.old) (C.readings clock.old) (P.engines spawner.old))
+        (means (C.last clock.new) (C.readings clock.new) (P.engines spawner.new))) }
     ensures closes { (w : Told) × (b : Told)
-        × ClosesTwo (P.sent spawner.old) (P.sent spawner.new) w b }
-    ensures starts { P.start_faults spawner.new ≡ P.start_faults spawner.old }
-    ensures to_come { P.to_come spawner.new ≡ P.to_come spawner.old }
-    ensures started { P.started spawner.new ≡ P.started spawner.old }
+        × ClosesTwo (P.engines spawner.old).sent (P.engines spawner.new).sent w b }
+    ensures starts { (P.engines spawner.new).start_faults ≡ (P.engines spawner.old).start_faults }
+    ensures to_come { (P.engines spawner.new).to_come ≡ (P.engines spawner.old).to_come }
+    ensures started { (P.engines spawner.new).started ≡ (P.engines spawner.old).started }
     ensures later { C.last clock.old ≤ C.last clock.new }
 {
     let referee: Result<Referee<G>, AllocError> = run_over(
@@ -54,63 +50,6 @@ fn play_and_close<P: Spawner, C: Clock, G: Game + Drop>(
     close_both(white, black, spawner);
     match referee {
         Ok(referee) => tell_match(alloc, setup, &referee),
-        Err(fault) => Err(fault),
-    }
-}
-
-/// Starts both programs, plays their match and closes them: the two lines that tell it. For want of
-/// memory `Memory` is answered, wherever it was wanting.
-fn play<P: Spawner, C: Clock, G: Game + Drop>(
-    alloc: Global,
-    white: &[String],
-    black: &[String],
-    setup: Setup,
-    clock: &mut C,
-    spawner: &mut P,
-) -> Result<ReplyText, StartFault>
-    requires setup { IsSetup setup }
-    requires white_some { 0 < length white.now }
-    requires black_some { 0 < length black.now }
-    ensures played { IfOk result (λ text. (t : Standing)
-        × (text ≡ match_text setup t)
-        × Played setup t
-        (means (C.last clock.old) (C.readings clock.old)
-        (P.to_come spawner.old) (P.sent spawner.old)
-        (P.start_faults spawner.old) (P.engine_faults spawner.old))
-        (means (C.last clock.new) (C.readings clock.new)
-        (P.to_come spawner.new) (P.sent spawner.new)
-        (P.start_faults spawner.new) (P.engine_faults spawner.new))) }
-    ensures closed { NoneIsOpen
-        (means (C.last clock.old) (C.readings clock.old)
-        (P.to_come spawner.old) (P.sent spawner.old)
-        (P.start_faults spawner.old) (P.engine_faults spawner.old))
-        (means (C.last clock.new) (C.readings clock.new)
-        (P.to_come spawner.new) (P.sent spawner.new)
-        (P.start_faults spawner.new) (P.engine_faults spawner.new)) }
-    ensures both { IfOk result (λ text. BothStarted
-        (map string_bytes white.now) (map string_bytes black.now)
-        (P.started spawner.old) (P.started spawner.new)) }
-    ensures fewer { IsErrOf result StartFault.Failed → FewerStarted
-        (map string_bytes white.now) (P.started spawner.old) (P.started spawner.new) }
-    ensures front { OnErr result (BothStarted
-        (map string_bytes white.now) (map string_bytes black.now)
-        (P.started spawner.old) (P.started spawner.new)
-        ⊎ FewerStarted
-        (map string_bytes white.now) (P.started spawner.old) (P.started spawner.new)) }
-    ensures unsent { IsErrOf result StartFault.Failed → SendsNothing
-        (P.to_come spawner.old) (P.sent spawner.old) (P.sent spawner.new) }
-    ensures unread { IsErrOf result StartFault.Failed → clock.new ≡ clock.old }
-    ensures cause { HasCause (IsErrOf result StartFault.Failed)
-        (P.start_faults spawner.old) (P.start_faults spawner.new) }
-    ensures later { C.last clock.old ≤ C.last clock.new }
-{
-    match start_both(white, black, spawner) {
-        Ok((white, black)) => {
-            match play_and_close::<P, C, G>(alloc, white, black, setup, clock, spawner) {
-                Ok(text) => Ok(text),
-                Err(_) => Err(StartFault::Memory),
-            }
-        }
         Err(fault) => Err(fault),
     }
 }
@@ -146,31 +85,25 @@ pub fn play_match<P: Spawner, K: Sink, C: Clock, G: Game + Drop>(
     requires black_some { 0 < length black.now }
     ensures run { MatchRun setup result
         (scene (K.written output.old)
-        (means (C.last clock.old) (C.readings clock.old)
-        (P.to_come spawner.old) (P.sent spawner.old)
-        (P.start_faults spawner.old) (P.engine_faults spawner.old)))
+        (means (C.last clock.old) (C.readings clock.old) (P.engines spawner.old)))
         (scene (K.written output.new)
-        (means (C.last clock.new) (C.readings clock.new)
-        (P.to_come spawner.new) (P.sent spawner.new)
-        (P.start_faults spawner.new) (P.engine_faults spawner.new))) }
-    ensures closed { NoneIsOpen
-        (means (C.last clock.old) (C.readings clock.old)
-        (P.to_come spawner.old) (P.sent spawner.old)
-        (P.start_faults spawner.old) (P.engine_faults spawner.old))
-        (means (C.last clock.new) (C.readings clock.new)
-        (P.to_come spawner.new) (P.sent spawner.new)
-        (P.start_faults spawner.new) (P.engine_faults spawner.new)) }
+        (means (C.last clock.new) (C.readings clock.new) (P.engines spawner.new))) }
+    ensures closed { NoneIsOpen (P.engines spawner.old) (P.engines spawner.new) }
     ensures started { MatchStarts result
         (map string_bytes white.now) (map string_bytes black.now)
-        (P.started spawner.old) (P.started spawner.new) }
+        (P.engines spawner.old) (P.engines spawner.new) }
     ensures writes { HasCause (result ≡ Status.WriteFault)
         (K.write_faults output.old) (K.write_faults output.new) }
     ensures starts { HasCause (result ≡ Status.SpawnFault)
-        (P.start_faults spawner.old) (P.start_faults spawner.new) }
+        (P.engines spawner.old).start_faults (P.engines spawner.new).start_faults }
     ensures later { C.last clock.old ≤ C.last clock.new }
 {
-    match play::<P, C, G>(alloc, white, black, setup, clock, spawner) {
-        Ok(text) => {
+    match start_both(white, black, spawner) {
+        Ok((white, black)) => {
+            let Ok(text) = play_and_close::<P, C, G>(alloc, white, black, setup, clock, spawner)
+            else {
+                return Status::Memory;
+            };
             if write_all(output, text.items()) {
                 Status::Done
             } else {

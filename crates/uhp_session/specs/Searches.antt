@@ -52,6 +52,9 @@ pub record Times : Type 0 where
   pub readings : ℕ
   pub timed : List Timed
 
+abbrev pub times : ℕ → ℕ → List Timed → Times
+times last readings timed = record { last = last; readings = readings; timed = timed }
+
 -- the clock was not read, and no search for a time was answered
 pub record TakesNoTime (before after : Times) : Type 0 where
   pub last : after.last ≡ before.last

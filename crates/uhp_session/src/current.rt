@@ -11,7 +11,7 @@ ghost use Rattle.hive_model.specs.Denotes.{text};
 ghost use Rattle.hive_model.specs.Stack.{with_level};
 ghost use Rattle.move_text.specs.Moves.{move_of};
 ghost use Rattle.uhp_session.specs.Answers.{Begun, reached, is_ended, written, with_moves, text_of, ended, joined, best_text};
-ghost use Rattle.uhp_session.specs.Searches.{HasTold};
+ghost use Rattle.uhp_session.specs.Searches.{HasTold, times};
 
 use crate::lines::Reply;
 use crate::lists::joined_moves;
@@ -289,12 +289,8 @@ impl<G: Game + Drop> Current<G> {
           budget = budget;
           position = reached self.old;
         }) self.old (text_of r)
-            (record { last = C.last clock.old; readings = C.readings clock.old; timed = timed.old })
-            (record {
-              last = C.last clock.new;
-              readings = C.readings clock.new;
-              timed = timed.new;
-            })) }
+            (times (C.last clock.old) (C.readings clock.old) timed.old)
+            (times (C.last clock.new) (C.readings clock.new) timed.new)) }
         ensures same { self.new ≡ self.old }
         ensures searcher { searcher.new ≡ searcher.old }
         ensures memory { OnErr result (timed.new ≡ timed.old) }

@@ -5,7 +5,7 @@ ghost use Rattle.game_text.specs.Reading.{game_under};
 ghost use Rattle.uhp_words.specs.Grammar.{IsCommand, AreWithin};
 ghost use Rattle.uhp_words.specs.Reading.{command_of};
 ghost use Rattle.uhp_session.specs.Answers.{fresh, reply, next, line_in, text_of, IsShort, reply_of, after_of, words_answer, command_answer, get, set, go_on, with_game, or_base, begin, in_game, play, while_on, list, best_line, undo};
-ghost use Rattle.uhp_session.specs.Searches.{IsAnswered, IsUntimed, asks, command_search, search_in};
+ghost use Rattle.uhp_session.specs.Searches.{IsAnswered, IsUntimed, asks, command_search, search_in, times};
 
 use crate::current::Current;
 use crate::lines::{LineIn, Reply, or_base};
@@ -97,12 +97,8 @@ impl<G: Game + Send + Drop> Session<G> {
         requires { IsShort (line_in line) }
         ensures reply { IfOk result (λ r. IsAnswered (asks self.old (line_in line.entry))
             (reply self.old (line_in line.entry)) (text_of r)
-            (record { last = C.last clock.old; readings = C.readings clock.old; timed = timed.old })
-            (record {
-              last = C.last clock.new;
-              readings = C.readings clock.new;
-              timed = timed.new;
-            })) }
+            (times (C.last clock.old) (C.readings clock.old) timed.old)
+            (times (C.last clock.new) (C.readings clock.new) timed.new)) }
         ensures next { OnOk result (self.new ≡ next self.old (line_in line.entry)) }
         ensures err { OnErr result (self.new ≡ self.old) }
         ensures memory { OnErr result (timed.new ≡ timed.old) }
@@ -128,12 +124,8 @@ impl<G: Game + Send + Drop> Session<G> {
         ensures reply { IfOk result (λ r. IsAnswered (command_search self.old (command_of line.now))
             (λ depth. reply_of (words_answer self.old line.now depth (command_of line.now)))
             (text_of r)
-            (record { last = C.last clock.old; readings = C.readings clock.old; timed = timed.old })
-            (record {
-              last = C.last clock.new;
-              readings = C.readings clock.new;
-              timed = timed.new;
-            })) }
+            (times (C.last clock.old) (C.readings clock.old) timed.old)
+            (times (C.last clock.new) (C.readings clock.new) timed.new)) }
         ensures next { OnOk result (self.new ≡ after_of self.old
             (words_answer self.old line.now 1 (command_of line.now))) }
         ensures err { OnErr result (self.new ≡ self.old) }
@@ -163,12 +155,8 @@ impl<G: Game + Send + Drop> Session<G> {
         requires reads { IsCommand line.now command }
         ensures reply { IfOk result (λ r. IsAnswered (command_search self.old (Ok command))
             (λ depth. reply_of (command_answer self.old line.now depth command)) (text_of r)
-            (record { last = C.last clock.old; readings = C.readings clock.old; timed = timed.old })
-            (record {
-              last = C.last clock.new;
-              readings = C.readings clock.new;
-              timed = timed.new;
-            })) }
+            (times (C.last clock.old) (C.readings clock.old) timed.old)
+            (times (C.last clock.new) (C.readings clock.new) timed.new)) }
         ensures next { OnOk result (self.new ≡ after_of self.old
             (command_answer self.old line.now 1 command)) }
         ensures err { OnErr result (self.new ≡ self.old) }
@@ -392,12 +380,8 @@ impl<G: Game + Send + Drop> Session<G> {
         requires { budget ≤ 359999000 }
         ensures reply { IfOk result (λ r. IsAnswered (search_in self.old.game budget)
             (λ depth. reply_of (while_on self.old (best_line self.old depth))) (text_of r)
-            (record { last = C.last clock.old; readings = C.readings clock.old; timed = timed.old })
-            (record {
-              last = C.last clock.new;
-              readings = C.readings clock.new;
-              timed = timed.new;
-            })) }
+            (times (C.last clock.old) (C.readings clock.old) timed.old)
+            (times (C.last clock.new) (C.readings clock.new) timed.new)) }
         ensures same { self.new ≡ self.old }
         ensures memory { OnErr result (timed.new ≡ timed.old) }
         ensures later { C.last clock.old ≤ C.last clock.new }

@@ -5,9 +5,9 @@ use Rattle.cup_command.proofs.closing.close_game.Goals as goal
 
 pub returns-clause-sent : goal.returns-clause-sent
 returns-clause-sent g c =
-    let old = g.P.Spawner.sent c.args.spawner.now in
-    let mid = g.P.Spawner.sent c.close.new.self in
-    let new = g.P.Spawner.sent c.close-2.new.self in (
+    let old = (g.P.Spawner.engines c.args.spawner.now).sent in
+    let mid = (g.P.Spawner.engines c.close.new.self).sent in
+    let new = (g.P.Spawner.engines c.close-2.new.self).sent in (
       mid,
       subst (λ told. Collects old mid told) (ap (λ (s : Side). s.written) c.links-white.ensures.white) c.close.ensures.sent,
       (new, subst (λ told. Collects mid new told) (ap (λ (s : Side). s.written) c.links-white.ensures.black) c.close-2.ensures.sent, refl),

@@ -7,11 +7,11 @@ use Rattle.cup_command.proofs.closing.close_links.Given as goal
 abbrev pub invariant-loop-job : goal.invariant-loop-job
 invariant-loop-job g l = record {
   long : into_iter_len l.left ≡ length (into_iter_items l.left);
-  sent : (later : ToldLists) → ClosesLinks (g.P.Spawner.sent l.spawner) later (all_links (into_iter_items l.left)) → ClosesLinks (g.P.Spawner.sent l.fn.spawner) later (all_links l.fn.jobs.items);
-  failed : counted (all_links (into_iter_items l.left)) (g.P.Spawner.engine_faults l.spawner) ≡ counted (all_links l.fn.jobs.items) (g.P.Spawner.engine_faults l.fn.spawner);
-  starts : g.P.Spawner.start_faults l.spawner ≡ g.P.Spawner.start_faults l.fn.spawner;
-  to_come : g.P.Spawner.to_come l.spawner ≡ g.P.Spawner.to_come l.fn.spawner;
-  started : g.P.Spawner.started l.spawner ≡ g.P.Spawner.started l.fn.spawner;
+  sent : (later : ToldLists) → ClosesLinks (g.P.Spawner.engines l.spawner).sent later (all_links (into_iter_items l.left)) → ClosesLinks (g.P.Spawner.engines l.fn.spawner).sent later (all_links l.fn.jobs.items);
+  failed : counted (all_links (into_iter_items l.left)) (g.P.Spawner.engines l.spawner).engine_faults ≡ counted (all_links l.fn.jobs.items) (g.P.Spawner.engines l.fn.spawner).engine_faults;
+  starts : (g.P.Spawner.engines l.spawner).start_faults ≡ (g.P.Spawner.engines l.fn.spawner).start_faults;
+  to_come : (g.P.Spawner.engines l.spawner).to_come ≡ (g.P.Spawner.engines l.fn.spawner).to_come;
+  started : (g.P.Spawner.engines l.spawner).started ≡ (g.P.Spawner.engines l.fn.spawner).started;
 }
 
 abbrev pub decreases-loop-job : goal.decreases-loop-job

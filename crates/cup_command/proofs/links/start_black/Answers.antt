@@ -1,11 +1,12 @@
 use Rattle.std.proofs.Common.{rules, ◌≡◌, ℕ, ◌∷◌, ◌++◌, List, [], arith, ap, ◌∙◌, refl, subst}
 use Rattle.io_edge.specs.Outside.{with_last}
+use Rattle.io_edge.specs.Starts.{Engines}
 use Rattle.cup_games.specs.Played.{Job, Side, side}
 use Rattle.cup_command.specs.Cup.{words_of}
 use Rattle.cup_command.specs.Links.{ClosesLinks, all_links, links_of, ready}
 use Rattle.cup_command.proofs.Chains.{closes-append}
 use Rattle.cup_command.proofs.Breaks.{gives-none, gives-one}
-use Rattle.cup_command.proofs.Kept.{cause-moved, cause-none, cause-same, always-ok, if-ok, is-ready, on-err}
+use Rattle.cup_command.proofs.Kept.{cause-moved, cause-none, cause-same, if-ok, is-ready, on-err, on-ok}
 use Rattle.cup_command.proofs.links.start_black.Goals as goal
 
 pub returns-in-Ok-clause-kept : goal.returns-in-Ok-clause-kept
@@ -16,10 +17,16 @@ returns-in-Ok-clause-kept g c =
     let is : c.new-job.result ≡ ready c.args.setup c.args.game w b = is-ready c.args.setup c.args.game w b c.new-job.result made.white made.black made.white_link made.black_link made.setup made.referee in
     if-ok _ _ (λ games kept. (b, record { reads = c.in-Ok.ensures.fresh.0; writes = c.in-Ok.ensures.fresh.1 }, search rules, kept ∙ ap (λ (j : Job). c.args.jobs.items ++ j ∷ []) is)) c.keep_game.result c.keep_game.ensures.kept
 
-pub returns-in-Ok-clause-named : goal.returns-in-Ok-clause-named
-returns-in-Ok-clause-named g c =
-    let all = c.keep_game.ensures.started ∙ (c.in-Ok.ensures.named ∙ ap (λ (ws : List (List ℕ)). with_last (g.P.Spawner.started c.args.spawner.now) ws) c.words_of.ensures.words) in
-    always-ok c.keep_game.result all
+pub returns-in-Ok-clause-starts : goal.returns-in-Ok-clause-starts
+returns-in-Ok-clause-starts g c =
+    let then = g.P.Spawner.engines c.start.new.self in
+    let now = g.P.Spawner.engines c.keep_game.new.spawner in
+    let named = c.in-Ok.ensures.named ∙ ap (λ (ws : List (List ℕ)). with_last (g.P.Spawner.engines c.args.spawner.now).started ws) c.words_of.ensures.words in
+    on-ok _ _ (λ same. let kept : now ≡ then = ap g.P.Spawner.engines same in record {
+      named = c.keep_game.ensures.started ∙ named;
+      sent = ap (λ (e : Engines). e.sent) kept ∙ c.in-Ok.ensures.others.1;
+      failed = ap (λ (e : Engines). e.engine_faults) kept ∙ c.in-Ok.ensures.others.0;
+    }) c.keep_game.result c.keep_game.ensures.untouched
 
 pub returns-in-Ok-clause-closed : goal.returns-in-Ok-clause-closed
 returns-in-Ok-clause-closed g c =
@@ -27,20 +34,20 @@ returns-in-Ok-clause-closed g c =
     let b : Side = side (g.P.Engine.Source.rest c.in-Ok.black) (g.P.Engine.Sink.written c.in-Ok.black) (g.P.Engine.Source.read_faults c.in-Ok.black) (g.P.Engine.Sink.write_faults c.in-Ok.black) in
     let made = c.new-job.ensures in
     let is : c.new-job.result ≡ ready c.args.setup c.args.game w b = is-ready c.args.setup c.args.game w b c.new-job.result made.white made.black made.white_link made.black_link made.setup made.referee in
-    let sent = g.P.Spawner.sent c.keep_game.new.spawner in
-    on-err _ _ (λ closes. gives-one _ (words_of c.args.programs.now c.args.game.black) (all_links c.args.jobs.items) w b _ _ _ _ _ _ c.keep_game.ensures.memory (search rules)
-    (subst (λ told. ClosesLinks told sent (all_links c.args.jobs.items ++ (w ∷ (b ∷ [])))) (search rules) (subst (λ (j : Job). ClosesLinks (g.P.Spawner.sent c.start.new.self) sent (all_links c.args.jobs.items ++ links_of j)) is closes))
-    (c.keep_game.ensures.started ∙ (c.in-Ok.ensures.named ∙ ap (λ (ws : List (List ℕ)). with_last (g.P.Spawner.started c.args.spawner.now) ws) c.words_of.ensures.words)))
+    let sent = (g.P.Spawner.engines c.keep_game.new.spawner).sent in
+    on-err _ _ (λ closes. gives-one _ (words_of c.args.programs.now c.args.game.black) (all_links c.args.jobs.items) w b _ _ c.keep_game.ensures.memory (search rules)
+    (subst (λ told. ClosesLinks told sent (all_links c.args.jobs.items ++ (w ∷ (b ∷ [])))) (search rules) (subst (λ (j : Job). ClosesLinks (g.P.Spawner.engines c.start.new.self).sent sent (all_links c.args.jobs.items ++ links_of j)) is closes))
+    (c.keep_game.ensures.started ∙ (c.in-Ok.ensures.named ∙ ap (λ (ws : List (List ℕ)). with_last (g.P.Spawner.engines c.args.spawner.now).started ws) c.words_of.ensures.words)))
     c.keep_game.result c.keep_game.ensures.closed
 
 pub returns-in-Err-clause-closed : goal.returns-in-Err-clause-closed
 returns-in-Err-clause-closed g c =
     let w : Side = side (g.P.Engine.Source.rest c.args.white) (g.P.Engine.Sink.written c.args.white) (g.P.Engine.Source.read_faults c.args.white) (g.P.Engine.Sink.write_faults c.args.white) in
-    let old = g.P.Spawner.sent c.args.spawner.now in
-    let begun = g.P.Spawner.sent c.start.new.self in
-    let mid = g.P.Spawner.sent c.close_links.new.spawner in
-    let new = g.P.Spawner.sent c.close.new.self in
-    gives-none _ _ _ _ _ _ _ _ _ (omega arith) (search rules)
+    let old = (g.P.Spawner.engines c.args.spawner.now).sent in
+    let begun = (g.P.Spawner.engines c.start.new.self).sent in
+    let mid = (g.P.Spawner.engines c.close_links.new.spawner).sent in
+    let new = (g.P.Spawner.engines c.close.new.self).sent in
+    gives-none _ _ _ _ _ (omega arith) (search rules)
     (closes-append old mid new (all_links c.args.jobs.items) (w ∷ []) (subst (λ told. ClosesLinks told mid (all_links c.args.jobs.items)) (search rules) c.close_links.ensures.sent) (new, c.close.ensures.sent, refl))
     (search rules)
 

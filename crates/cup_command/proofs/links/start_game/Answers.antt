@@ -1,9 +1,8 @@
-use Rattle.std.proofs.Common.{rules, ◌∷◌, ◌++◌, ◌∙◌, IsErrOf, ℕ, List, [], arith, ap, refl, subst}
+use Rattle.std.proofs.Common.{rules, ◌∷◌, ◌∙◌, ℕ, List, [], arith, ap, refl}
 use Rattle.io_edge.specs.Outside.{with_last}
-use Rattle.io_edge.specs.declared.answers.StartFault.TheVariants.{Failed}
 use Rattle.cup_games.specs.Played.{Side, side}
 use Rattle.cup_command.specs.Cup.{started_after, words_of}
-use Rattle.cup_command.specs.Links.{GivesUp, all_links}
+use Rattle.cup_command.specs.Links.{all_links}
 use Rattle.cup_command.proofs.Breaks.{gives-none, one-before, started-more}
 use Rattle.cup_command.proofs.Kept.{cause-moved, cause-same, cause-then, if-ok, on-err, on-ok}
 use Rattle.cup_command.proofs.links.start_game.Goals as goal
@@ -13,22 +12,26 @@ returns-in-Ok-clause-kept g c =
     let w : Side = side (g.P.Engine.Source.rest c.in-Ok.white) (g.P.Engine.Sink.written c.in-Ok.white) (g.P.Engine.Source.read_faults c.in-Ok.white) (g.P.Engine.Sink.write_faults c.in-Ok.white) in
     if-ok _ _ (λ games kept. (w, kept.0, record { reads = c.in-Ok.ensures.fresh.0; writes = c.in-Ok.ensures.fresh.1 }, kept.1, (_, c.in-Ok.ensures.next, (_, kept.2, refl)), kept.3)) c.start_black.result c.start_black.ensures.kept
 
-pub returns-in-Ok-clause-named : goal.returns-in-Ok-clause-named
-returns-in-Ok-clause-named g c =
-    let first = c.in-Ok.ensures.named ∙ ap (λ (ws : List (List ℕ)). with_last (g.P.Spawner.started c.args.spawner.now) ws) c.words_of.ensures.words in
-    on-ok _ _ (λ named. named ∙ (ap (λ told. started_after told (words_of c.args.programs.now c.args.game.black ∷ [])) first ∙ started-more (g.P.Spawner.started c.args.spawner.now) _ _)) c.start_black.result c.start_black.ensures.named
+pub returns-in-Ok-clause-starts : goal.returns-in-Ok-clause-starts
+returns-in-Ok-clause-starts g c =
+    let first = c.in-Ok.ensures.named ∙ ap (λ (ws : List (List ℕ)). with_last (g.P.Spawner.engines c.args.spawner.now).started ws) c.words_of.ensures.words in
+    on-ok _ _ (λ more. record {
+      named = more.named ∙ (ap (λ told. started_after told (words_of c.args.programs.now c.args.game.black ∷ [])) first ∙ started-more (g.P.Spawner.engines c.args.spawner.now).started _ _);
+      sent = more.sent ∙ c.in-Ok.ensures.others.1;
+      failed = more.failed ∙ c.in-Ok.ensures.others.0;
+    }) c.start_black.result c.start_black.ensures.starts
 
 pub returns-in-Ok-clause-closed : goal.returns-in-Ok-clause-closed
 returns-in-Ok-clause-closed g c =
     let w : Side = side (g.P.Engine.Source.rest c.in-Ok.white) (g.P.Engine.Sink.written c.in-Ok.white) (g.P.Engine.Source.read_faults c.in-Ok.white) (g.P.Engine.Sink.write_faults c.in-Ok.white) in
-    let first = c.in-Ok.ensures.named ∙ ap (λ (ws : List (List ℕ)). with_last (g.P.Spawner.started c.args.spawner.now) ws) c.words_of.ensures.words in
-    on-err _ _ (λ gives. one-before _ _ (words_of c.args.programs.now c.args.game.white) (all_links c.args.jobs.items) w _ _ _ _ _ _ _ _ c.in-Ok.ensures.next first (subst (λ told. GivesUp (IsErrOf c.start_black.result Failed) (words_of c.args.programs.now c.args.game.black ∷ []) (all_links c.args.jobs.items ++ w ∷ []) (g.P.Spawner.to_come c.start.new.self) (g.P.Spawner.to_come c.start_black.new.spawner) told (g.P.Spawner.sent c.start_black.new.spawner) (g.P.Spawner.started c.start.new.self) (g.P.Spawner.started c.start_black.new.spawner)) c.in-Ok.ensures.others.1 gives)) c.start_black.result c.start_black.ensures.closed
+    let first = c.in-Ok.ensures.named ∙ ap (λ (ws : List (List ℕ)). with_last (g.P.Spawner.engines c.args.spawner.now).started ws) c.words_of.ensures.words in
+    on-err _ _ (λ gives. one-before _ _ (words_of c.args.programs.now c.args.game.white) (all_links c.args.jobs.items) w _ _ _ c.in-Ok.ensures.next c.in-Ok.ensures.others.1 first gives) c.start_black.result c.start_black.ensures.closed
 
 pub returns-in-Ok-clause-cause : goal.returns-in-Ok-clause-cause
 returns-in-Ok-clause-cause g c = cause-then _ _ _ _ _ c.in-Ok.ensures.cause (λ x. cc) c.start_black.ensures.cause
 
 pub returns-in-Err-clause-closed : goal.returns-in-Err-clause-closed
-returns-in-Err-clause-closed g c = gives-none _ _ _ _ _ _ _ _ _ (omega arith) (search rules) (search rules) (search rules)
+returns-in-Err-clause-closed g c = gives-none _ _ _ _ _ (omega arith) (search rules) (search rules) (search rules)
 
 pub returns-in-Err-clause-cause : goal.returns-in-Err-clause-cause
 returns-in-Err-clause-cause g c = cause-same _ _ _ _ (cause-moved c.in-Err.fault _ _ _ c.in-Err.ensures.cause) c.close_links.ensures.starts

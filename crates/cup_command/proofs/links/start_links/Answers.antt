@@ -27,9 +27,9 @@ loop-place-preserved g c =
       kept = kept-step c.args.games.now jobs jobs_now i game c.args.setup w b low same so.kept more;
       ready = ready-step c.args.setup jobs jobs_now game w b wf bf so.ready more;
       next = next-step c.args.setup jobs jobs_now game w b _ _ _ so.next starts more;
-      named = named-step c.args.programs.now c.args.games.now i game _ _ _ low same so.named c.in-Ok.ensures.named;
-      sent = c.in-Ok.ensures.sent ∙ so.sent;
-      failed = c.in-Ok.ensures.failed ∙ so.failed;
+      named = named-step c.args.programs.now c.args.games.now i game _ _ _ low same so.named c.in-Ok.ensures.starts.named;
+      sent = c.in-Ok.ensures.starts.sent ∙ so.sent;
+      failed = c.in-Ok.ensures.starts.failed ∙ so.failed;
       starts = c.in-Ok.ensures.cause.same (λ e. cc) ∙ so.starts;
     }
 
@@ -39,8 +39,8 @@ loop-place-init g c =
     record {
       kept = ap (map pairing) none;
       ready = ready-none c.args.setup c.new-jobs.result.items none;
-      next = next-none (g.P.Spawner.to_come c.args.spawner.now) c.new-jobs.result.items none;
-      named = started-none (g.P.Spawner.started c.args.spawner.now);
+      next = next-none (g.P.Spawner.engines c.args.spawner.now).to_come c.new-jobs.result.items none;
+      named = started-none (g.P.Spawner.engines c.args.spawner.now).started;
       sent = refl;
       failed = refl;
       starts = refl;
@@ -49,9 +49,13 @@ loop-place-init g c =
 pub returns-clause-cause : goal.returns-clause-cause
 returns-clause-cause g c = no-cause _ _ _ (λ e. cc) c.loop-place.invariant.starts
 
-pub returns-clause-named : goal.returns-clause-named
-returns-clause-named g c =
-    named-end c.args.programs.now c.args.games.now c.loop-place.place (g.P.Spawner.started c.args.spawner.now) (g.P.Spawner.started c.loop-place.spawner) c.requires.games c.loop-place-test.false c.loop-place.invariant.named
+pub returns-clause-starts : goal.returns-clause-starts
+returns-clause-starts g c = record {
+  named =
+      named-end c.args.programs.now c.args.games.now c.loop-place.place (g.P.Spawner.engines c.args.spawner.now).started (g.P.Spawner.engines c.loop-place.spawner).started c.requires.games c.loop-place-test.false c.loop-place.invariant.named;
+  sent = c.loop-place.invariant.sent;
+  failed = c.loop-place.invariant.failed;
+}
 
 pub returns-in-Err-clause-closed : goal.returns-in-Err-clause-closed
 returns-in-Err-clause-closed g c =
@@ -59,4 +63,4 @@ returns-in-Err-clause-closed g c =
     let game : Pairing = get_or c.args.games.now i (record { white = 0; black = 0 }) in
     let so = c.loop-place.invariant in
     let low = c.loop-place-test.true in
-    gives-up _ c.args.programs.now c.args.games.now c.loop-place.jobs.items i game _ _ _ _ _ _ _ _ _ c.requires.games low (get_or-any c.args.games.now i _ game low) so.kept so.next so.sent so.named c.in-Err.ensures.closed
+    gives-up _ c.args.programs.now c.args.games.now c.loop-place.jobs.items i game _ _ _ c.requires.games low (get_or-any c.args.games.now i _ game low) so.kept so.next so.sent so.named c.in-Err.ensures.closed

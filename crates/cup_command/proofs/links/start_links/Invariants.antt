@@ -9,9 +9,9 @@ abbrev pub invariant-loop-place : goal.invariant-loop-place
 invariant-loop-place g l = record {
   kept : map pairing l.jobs.items ≡ take l.place l.games;
   ready : All (IsReady l.setup) l.jobs.items;
-  next : StartsAll (g.P.Spawner.to_come l.fn.spawner) (g.P.Spawner.to_come l.spawner) (all_links l.jobs.items);
-  named : g.P.Spawner.started l.spawner ≡ started_after (g.P.Spawner.started l.fn.spawner) (flat_map (game_words l.programs) (take l.place l.games));
-  sent : g.P.Spawner.sent l.spawner ≡ g.P.Spawner.sent l.fn.spawner;
-  failed : g.P.Spawner.engine_faults l.spawner ≡ g.P.Spawner.engine_faults l.fn.spawner;
-  starts : g.P.Spawner.start_faults l.spawner ≡ g.P.Spawner.start_faults l.fn.spawner;
+  next : StartsAll (g.P.Spawner.engines l.fn.spawner).to_come (g.P.Spawner.engines l.spawner).to_come (all_links l.jobs.items);
+  named : (g.P.Spawner.engines l.spawner).started ≡ started_after (g.P.Spawner.engines l.fn.spawner).started (flat_map (game_words l.programs) (take l.place l.games));
+  sent : (g.P.Spawner.engines l.spawner).sent ≡ (g.P.Spawner.engines l.fn.spawner).sent;
+  failed : (g.P.Spawner.engines l.spawner).engine_faults ≡ (g.P.Spawner.engines l.fn.spawner).engine_faults;
+  starts : (g.P.Spawner.engines l.spawner).start_faults ≡ (g.P.Spawner.engines l.fn.spawner).start_faults;
 }

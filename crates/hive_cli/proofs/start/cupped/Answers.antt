@@ -1,6 +1,5 @@
 -- A cup that wants memory before it begins, and that it is played to a depth.
 use Rattle.std.proofs.Common.{refl}
-use Rattle.cup_command.specs.Cup.{starter}
 use Rattle.cup_command.proofs.Early.{early-none}
 use Rattle.hive_cli.proofs.RunLemmas.{asks_engines, cup_depth}
 use Rattle.hive_cli.proofs.start.cupped.Goals as goal
@@ -10,12 +9,8 @@ play_cup-requires-clause-depth g c κs within = cup_depth c.args.words.now c.arg
 
 pub returns-in_default-clause-run : goal.returns-in_default-clause-run
 returns-in_default-clause-run g c =
-    let (engines, asks) = asks_engines c.args.words.now c.args.setup c.requires.words in
-    let at = c.args.spawner.now in (
+    let (engines, asks) = asks_engines c.args.words.now c.args.setup c.requires.words in (
       engines,
       asks,
-      record {
-        written = refl;
-        starts = early-none engines (starter (g.P.Spawner.to_come at) (g.P.Spawner.sent at) (g.P.Spawner.started at) (g.P.Spawner.start_faults at) (g.P.Spawner.engine_faults at));
-      },
+      record { written = refl; starts = early-none engines (g.P.Spawner.engines c.args.spawner.now) },
     )

@@ -1,5 +1,5 @@
 -- A run does what its words ask for.
-use Rattle.std.proofs.Common.{◌≡◌, refl, sym, ◌∙◌, None, Some}
+use Rattle.std.proofs.Common.{◌≡◌, sym, ◌∙◌, None, Some}
 use Rattle.command_words.specs.declared.asked.Asked.{Asked}
 use Rattle.hive_cli.proofs.RunLemmas.{never_usage, run_of, starved}
 use Rattle.hive_cli.proofs.start.run.Goals as goal

@@ -1,5 +1,5 @@
 use Rattle.match_runner.specs.Turns.{Watch, watch}
-use Rattle.match_command.specs.Match.{Means, means}
+use Rattle.match_command.specs.Match.{means}
 use Rattle.match_command.specs.Wires.{Wire, wire}
 use Rattle.match_command.proofs.Closing.{played_over, told_match}
 use Rattle.match_command.proofs.playing.play_and_close.Goals as goal
@@ -13,10 +13,7 @@ returns-in-Ok-clause-played g c =
     let b : Wire = wire (g.P.Engine.Source.rest ran.black) (g.P.Engine.Sink.written ran.black) (g.P.Engine.Source.read_faults ran.black) (g.P.Engine.Sink.write_faults ran.black) in
     let r0 : Watch = watch (g.C.Clock.last c.args.clock.now) (g.C.Clock.readings c.args.clock.now) in
     let r : Watch = watch (g.C.Clock.last ran.clock) (g.C.Clock.readings ran.clock) in
-    let old = c.args.spawner.now in
-    let new = c.close_both.new.spawner in
-    let before : Means = means r0.last r0.readings (g.P.Spawner.to_come old) (g.P.Spawner.sent old) (g.P.Spawner.start_faults old) (g.P.Spawner.engine_faults old) in
-    let after : Means = means r.last r.readings (g.P.Spawner.to_come new) (g.P.Spawner.sent new) (g.P.Spawner.start_faults new) (g.P.Spawner.engine_faults new) in
-    told_match c.tell_match.result c.args.setup c.in-Ok.referee w0 b0 before after c.tell_match.ensures
-    (played_over c.args.setup c.in-Ok.referee w0 w b0 b r0 r (g.P.Spawner.to_come old) (g.P.Spawner.to_come new) (g.P.Spawner.sent old) (g.P.Spawner.sent new) (g.P.Spawner.start_faults old) (g.P.Spawner.start_faults new) (g.P.Spawner.engine_faults old) (g.P.Spawner.engine_faults new)
-    c.requires.white_fresh c.requires.black_fresh c.in-Ok.ensures.ran c.close_both.ensures.failed c.close_both.ensures.sent)
+    let old = g.P.Spawner.engines c.args.spawner.now in
+    let new = g.P.Spawner.engines c.close_both.new.spawner in
+    told_match c.tell_match.result c.args.setup c.in-Ok.referee w0 b0 (means r0.last r0.readings old) (means r.last r.readings new) c.tell_match.ensures
+    (played_over c.args.setup c.in-Ok.referee w0 w b0 b r0 r old new c.requires.white_fresh c.requires.black_fresh c.in-Ok.ensures.ran c.close_both.ensures.failed c.close_both.ensures.sent)
