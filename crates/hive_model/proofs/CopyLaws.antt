@@ -58,23 +58,19 @@ from_copies b p q h = elim h [
       ∙ and_from _ _ (not_from_false _ (false_from_ne_true _ (λ e. one.copied (same_kind _ _ e)))) (from_reach (kind_of one.other) b p q one.reach))
 ]
 
--- a piece of this kind moves as the test says
+-- a piece of this kind moves as the test says, and the test says so where it does
+moves_both : (k : Kind) (b : Stacks) (p q : Place) → (moves_as k b p q ≡ true → MovesAs k b p q) × (MovesAs k b p q → moves_as k b p q ≡ true)
+moves_both Mosquito b p q = (copies_from b p q, from_copies b p q)
+moves_both Queen b p q = (reach_from Queen b p q, from_reach Queen b p q)
+moves_both Spider b p q = (reach_from Spider b p q, from_reach Spider b p q)
+moves_both Beetle b p q = (reach_from Beetle b p q, from_reach Beetle b p q)
+moves_both Grasshopper b p q = (reach_from Grasshopper b p q, from_reach Grasshopper b p q)
+moves_both Ant b p q = (reach_from Ant b p q, from_reach Ant b p q)
+moves_both Ladybug b p q = (reach_from Ladybug b p q, from_reach Ladybug b p q)
+moves_both Pillbug b p q = (reach_from Pillbug b p q, from_reach Pillbug b p q)
+
 pub moves_as_from : (k : Kind) (b : Stacks) (p q : Place) → moves_as k b p q ≡ true → MovesAs k b p q
-moves_as_from Mosquito b p q e = copies_from b p q e
-moves_as_from Queen b p q e = reach_from Queen b p q e
-moves_as_from Spider b p q e = reach_from Spider b p q e
-moves_as_from Beetle b p q e = reach_from Beetle b p q e
-moves_as_from Grasshopper b p q e = reach_from Grasshopper b p q e
-moves_as_from Ant b p q e = reach_from Ant b p q e
-moves_as_from Ladybug b p q e = reach_from Ladybug b p q e
-moves_as_from Pillbug b p q e = reach_from Pillbug b p q e
+moves_as_from k b p q = (moves_both k b p q).0
 
 pub from_moves_as : (k : Kind) (b : Stacks) (p q : Place) → MovesAs k b p q → moves_as k b p q ≡ true
-from_moves_as Mosquito b p q h = from_copies b p q h
-from_moves_as Queen b p q h = from_reach Queen b p q h
-from_moves_as Spider b p q h = from_reach Spider b p q h
-from_moves_as Beetle b p q h = from_reach Beetle b p q h
-from_moves_as Grasshopper b p q h = from_reach Grasshopper b p q h
-from_moves_as Ant b p q h = from_reach Ant b p q h
-from_moves_as Ladybug b p q h = from_reach Ladybug b p q h
-from_moves_as Pillbug b p q h = from_reach Pillbug b p q h
+from_moves_as k b p q = (moves_both k b p q).1

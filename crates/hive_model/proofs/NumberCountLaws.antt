@@ -85,10 +85,6 @@ module _ {S : Type 0} (ks : List KeyParts) (key : KeyParts) (old new : IndexMap 
       let here = counted (number_of key) in
       omega (arith, here, one)
 
--- no number is counted more often than there are keys
-pub counted_within : {S : Type 0} (ks : List KeyParts) (m : IndexMap ℕ ℕ S) → AreCounted ks m → (n : ℕ) → count_of m n ≤ length ks
-counted_within ks m counted n = let here = counted n in let few = count_by-le-length (has_number n) ks in omega (arith, here, few)
-
 -- Keys of one board
 
 number_in : List (Option Spot) → ℕ

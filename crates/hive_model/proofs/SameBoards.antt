@@ -65,13 +65,6 @@ pub size_pushed : {X : Type 0} (xs : List X) (x : X) → length (xs ++ x ∷ [])
 size_pushed [] x = refl
 size_pushed (y ∷ ys) x = ap suc (size_pushed ys x)
 
-pub count_pushed : (ks : List KeyParts) (k : KeyParts) → count_last (ks ++ k ∷ []) ≡ count_same k (ks ++ k ∷ [])
-unfolding count_last
-count_pushed ks k =
-    let size = size_pushed ks k in
-    let at : length (ks ++ k ∷ []) - 1 ≡ length ks = omega (arith, size) in
-    ap (λ n. count_found (slice_get (ks ++ k ∷ []) n) (ks ++ k ∷ [])) at ∙ ap (λ o. count_found o (ks ++ k ∷ [])) (last_pushed ks k)
-
 pub count_at : (ks : List KeyParts) (k : KeyParts) → slice_get ks (length ks - 1) ≡ Some k → count_same k ks ≡ count_last ks
 unfolding count_last
 count_at ks k e = sym (ap (λ o. count_found o ks) e)

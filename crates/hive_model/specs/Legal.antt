@@ -1,6 +1,6 @@
 -- When a game is over, and which moves are legal.
 use Rattle.std.specs.Prelude.{◌≡◌, ◌≢◌, ℕ, ◌+◌, Bool, true, false, not, ◌&&◌, ◌||◌, nat_eq, List, [], ◌∷◌, map, Option, Some, None, IsTrue, ◌⊎◌, if◌then◌else◌}
-use Rattle.std.specs.List.{list_all, filter, flat_map}
+use Rattle.std.specs.List.{filter, flat_map}
 use Rattle.std.specs.Ordering.{nat_cmp, ordering_then}
 use Rattle.std.specs.declared.cmp.Ordering.{Ordering}
 use Rattle.std.specs.declared.cmp.Ordering.TheVariants.{Less, Equal, Greater}
@@ -14,8 +14,8 @@ use Rattle.hive_model.specs.declared.places.Move.TheVariants.{Pass, To}
 use Rattle.hive_model.specs.declared.places.State.{State}
 use Rattle.hive_model.specs.declared.places.State.TheVariants.{NotStarted, InProgress, Draw, WhiteWins, BlackWins}
 use Rattle.hive_model.specs.Pieces.{kind_of, colour_of, is_colour, all_pieces, queen_of}
-use Rattle.hive_model.specs.Places.{place_cmp, step, neighbours}
-use Rattle.hive_model.specs.Boards.{Stacks, height_at, is_occupied, spot_of, is_in_play, is_top_spot, lift}
+use Rattle.hive_model.specs.Places.{place_cmp, step}
+use Rattle.hive_model.specs.Boards.{Stacks, height_at, is_occupied, is_walled, spot_of, is_in_play, is_top_spot, lift}
 use Rattle.hive_model.specs.Hive.{IsCut, is_cut}
 use Rattle.hive_model.specs.Near.{near}
 use Rattle.hive_model.specs.Reach.{MovesAs, moves_as}
@@ -37,7 +37,7 @@ IsOver p = IsSurrounded p.board White ⊎ IsSurrounded p.board Black
 
 abbrev pub is_surrounded_at : Stacks → Option Spot → Bool
 is_surrounded_at b None = false
-is_surrounded_at b (Some s) = list_all (is_occupied b) (neighbours s.place)
+is_surrounded_at b (Some s) = is_walled b s.place
 
 abbrev pub is_surrounded : Stacks → Colour → Bool
 is_surrounded b c = is_surrounded_at b (spot_of b (queen_of c))
