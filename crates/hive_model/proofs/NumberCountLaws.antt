@@ -1,9 +1,9 @@
 -- The counts of numbers stay true where a key is added at the end, and where the last is taken away; and keys of one board have
 -- one number.
-use Rattle.std.proofs.Common.{◌≡◌, ℕ, ◌+◌, ◌-◌, ◌≤◌, ◌<◌, Bool, true, false, cond, Option, None, Result, Ok, Err, OnOk, OnErr, List, [], ◌∷◌, ◌++◌, length, refl, ap, arith, ◌∙◌, rules}
+use Rattle.std.proofs.Common.{◌≡◌, ℕ, ◌+◌, ◌-◌, ◌≤◌, ◌<◌, Bool, true, false, cond, Option, None, Result, Ok, Err, OnOk, OnErr, List, [], ◌∷◌, ◌++◌, refl, ap, arith, ◌∙◌, rules}
 use Rattle.std.specs.Prelude.{nat_eq, nat_le, fold}
 use Rattle.std.specs.List.{count_by}
-use Rattle.std.proofs.lemmas.List.Sums.{sum_by-append, sum_by-cons, count_by-le-length}
+use Rattle.std.proofs.lemmas.List.Sums.{sum_by-append, sum_by-cons}
 use Rattle.indexmap.specs.IndexMap.{IndexMap}
 use Rattle.hive_model.specs.Keys.{KeyParts}
 use Rattle.hive_model.specs.declared.places.Spot.{Spot}
