@@ -1,5 +1,6 @@
 pub mod Lists
 pub mod Pieces
+pub mod PlaceLists
 pub mod Places
 pub mod Boards
 pub mod Spots
