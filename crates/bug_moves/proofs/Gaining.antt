@@ -1,10 +1,11 @@
 -- A list of places gains one place, or what each direction gives.
-use Rattle.std.proofs.Common.{◌≡◌, ◌↔◌, ℕ, ◌+◌, ◌≤◌, ◌<◌, List, [], length, inl, inr, refl, sym, ◌∙◌, subst, arith}
+use Rattle.std.proofs.Common.{◌≡◌, ℕ, ◌+◌, ◌≤◌, ◌<◌, List, [], length, inl, inr, refl, sym, ◌∙◌, subst, arith}
 use Rattle.std.proofs.lemmas.Bool.{cases_eq}
 use Rattle.hive_model.specs.declared.places.Place.{Place}
 use Rattle.hive_model.specs.declared.places.Dir.{Dir}
 use Rattle.hive_model.specs.declared.places.Dir.TheVariants.{E, NE, NW, W, SW, SE}
 use Rattle.hive_model.specs.Lists.{IsOn}
+use Rattle.hive_model.specs.PlaceLists.{AreAll}
 use Rattle.hive_model.specs.Places.{step}
 use Rattle.hive_model.specs.Boards.{Stacks}
 use Rattle.hive_model.specs.Near.{with_place}
@@ -104,8 +105,11 @@ pub gains_ways : (b : Stacks) (S : Place → Place → Type 0) (p : Place) (n : 
 gains_ways b S p n xs ys all leads h = gains_all b (Toward S p) (S p) n xs ys all (λ d q (_, is). is) (λ q is. let (d, same) = leads q is in (d, (same, is))) h
 
 -- a list that was empty has what it gained
-pub gained_exactly : (b : Stacks) (S : Place → Type 0) (xs ys : List Place) → xs ≡ [] → Gains b S xs ys → (q : Place) → IsOn ys q ↔ S q
-gained_exactly b S xs ys none h q = (
-  λ on. elim (h.only q on) [ inl old ↦ absurd (subst (λ zs. IsOn zs q) none old) | inr is ↦ is ],
-  λ is. h.gained q is,
-)
+pub gained_all : (b : Stacks) (S : Place → Type 0) (xs ys : List Place) → xs ≡ [] → Gains b S xs ys → AreAll S ys
+gained_all b S xs ys none h = record {
+  in_order = h.list.in_order;
+  exact = λ q. (
+    λ on. elim (h.only q on) [ inl old ↦ absurd (subst (λ zs. IsOn zs q) none old) | inr is ↦ is ],
+    λ is. h.gained q is,
+  );
+}

@@ -10,11 +10,11 @@ mod ladybugs;
 mod spiders;
 mod steps;
 
-ghost use Rattle.std.specs.Prelude.{◌≡◌, ◌≢◌, ◌<◌, ◌↔◌, []};
+ghost use Rattle.std.specs.Prelude.{◌≡◌, ◌≢◌, ◌<◌, []};
 ghost use Rattle.hive_model.specs.declared.pieces.Kind.{Kind};
 ghost use Rattle.hive_model.specs.declared.pieces.Kind.TheVariants.{Mosquito};
-ghost use Rattle.hive_model.specs.Lists.{IsOn, Rises};
-ghost use Rattle.hive_model.specs.Places.{IsWithin, place_cmp};
+ghost use Rattle.hive_model.specs.PlaceLists.{AreAll};
+ghost use Rattle.hive_model.specs.Places.{IsWithin};
 ghost use Rattle.hive_model.specs.Reach.{Reach};
 
 use hive_model::{Board, Kind, Piece, Place, PlaceList};
@@ -29,8 +29,7 @@ pub fn reach<B: Board>(kind: Kind, board: &B, from: Place, out: &mut PlaceList)
     requires kind { kind ≢ Mosquito }
     requires empty { out.old.items ≡ [] }
     requires within { IsWithin 9500 from }
-    ensures places { (q : _) → IsOn out.new.items q ↔ Reach kind (B.stacks board.now) from q }
-    ensures order { Rises place_cmp out.new.items }
+    ensures { AreAll (Reach kind (B.stacks board.now) from) out.new.items }
 {
     // each board that answers where a piece stands is sound
     let _spot = board.spot(Piece::at(0));

@@ -105,8 +105,7 @@ fn copy_neighbours<B: Board>(board: &B, from: Place, out: &mut PlaceList)
 pub fn mosquito_reach<B: Board>(board: &B, from: Place, out: &mut PlaceList)
     requires empty { out.old.items ≡ [] }
     requires within { IsWithin 9500 from }
-    ensures places { (q : _) → IsOn out.new.items q ↔ Copies (B.stacks board.now) from q }
-    ensures order { Rises place_cmp out.new.items }
+    ensures { AreAll (Copies (B.stacks board.now) from) out.new.items }
 {
     // each board that answers where a piece stands is sound
     let _spot = board.spot(Piece::at(0));

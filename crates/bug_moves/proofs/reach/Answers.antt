@@ -1,20 +1,20 @@
 use Rattle.bug_moves.proofs.KindLaws.{queens, beetles, hoppers, spiders, ants, ladybugs}
 use Rattle.bug_moves.proofs.reach.Goals as goal
 
-pub returns-in-Queen-clause-places : goal.returns-in-Queen-clause-places
-returns-in-Queen-clause-places g c = queens c.args.kind (g.B.Board.stacks c.args.board.now) c.args.from c.args.out.now.items c.ground_steps.new.out.items c.in-Queen.is c.requires.empty c.ground_steps.ensures
+pub returns-in-Queen : goal.returns-in-Queen
+returns-in-Queen g c = queens c.args.kind (g.B.Board.stacks c.args.board.now) c.args.from c.args.out.now.items c.ground_steps.new.out.items c.in-Queen.is c.requires.empty c.ground_steps.ensures
 
-pub returns-in-Beetle-clause-places : goal.returns-in-Beetle-clause-places
-returns-in-Beetle-clause-places g c = beetles c.args.kind (g.B.Board.stacks c.args.board.now) c.args.from c.args.out.now.items c.beetle_steps.new.out.items c.in-Beetle.is c.requires.empty c.beetle_steps.ensures
+pub returns-in-Beetle : goal.returns-in-Beetle
+returns-in-Beetle g c = beetles c.args.kind (g.B.Board.stacks c.args.board.now) c.args.from c.args.out.now.items c.beetle_steps.new.out.items c.in-Beetle.is c.requires.empty c.beetle_steps.ensures
 
-pub returns-in-Grasshopper-clause-places : goal.returns-in-Grasshopper-clause-places
-returns-in-Grasshopper-clause-places g c = hoppers c.args.kind (g.B.Board.stacks c.args.board.now) c.args.from c.args.out.now.items c.hops.new.out.items c.in-Grasshopper.is c.requires.empty c.hops.ensures
+pub returns-in-Grasshopper : goal.returns-in-Grasshopper
+returns-in-Grasshopper g c = hoppers c.args.kind (g.B.Board.stacks c.args.board.now) c.args.from c.args.out.now.items c.hops.new.out.items c.in-Grasshopper.is c.requires.empty c.hops.ensures
 
-pub returns-in-Spider-clause-places : goal.returns-in-Spider-clause-places
-returns-in-Spider-clause-places g c = spiders c.args.kind (g.B.Board.stacks c.args.board.now) c.args.from c.args.out.now.items c.spider_ways.new.out.items c.in-Spider.is c.requires.empty c.spider_ways.ensures
+pub returns-in-Spider : goal.returns-in-Spider
+returns-in-Spider g c = spiders c.args.kind (g.B.Board.stacks c.args.board.now) c.args.from c.args.out.now.items c.spider_ways.new.out.items c.in-Spider.is c.requires.empty c.spider_ways.ensures
 
-pub returns-in-Ant-clause-places : goal.returns-in-Ant-clause-places
-returns-in-Ant-clause-places g c = ants c.args.kind (g.B.Board.stacks c.args.board.now) c.args.from c.args.out.now.items c.ant_ways.new.out.items c.in-Ant.is c.requires.empty c.ant_ways.ensures
+pub returns-in-Ant : goal.returns-in-Ant
+returns-in-Ant g c = ants c.args.kind (g.B.Board.stacks c.args.board.now) c.args.from c.args.out.now.items c.ant_ways.new.out.items c.in-Ant.is c.requires.empty c.ant_ways.ensures
 
-pub returns-in-Ladybug-clause-places : goal.returns-in-Ladybug-clause-places
-returns-in-Ladybug-clause-places g c = ladybugs c.args.kind (g.B.Board.stacks c.args.board.now) c.args.from c.args.out.now.items c.ladybug_ways.new.out.items c.in-Ladybug.is c.requires.empty c.ladybug_ways.ensures
+pub returns-in-Ladybug : goal.returns-in-Ladybug
+returns-in-Ladybug g c = ladybugs c.args.kind (g.B.Board.stacks c.args.board.now) c.args.from c.args.out.now.items c.ladybug_ways.new.out.items c.in-Ladybug.is c.requires.empty c.ladybug_ways.ensures

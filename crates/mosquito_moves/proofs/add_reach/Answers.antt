@@ -6,17 +6,17 @@ use Rattle.mosquito_moves.proofs.add_reach.Goals as goal
 pub add_place-requires : goal.add_place-requires
 add_place-requires g c =
     let b = g.B.Board.stacks c.args.board.now in
-    let near = got_at_hive c.args.kind b c.args.from c.reach.new.out.items c.loop-index.index c.place_at-place.result c.reach.ensures.places c.place_at-place.ensures in
+    let near = got_at_hive c.args.kind b c.args.from c.reach.new.out.items c.loop-index.index c.place_at-place.result c.reach.ensures.exact c.place_at-place.ensures in
     record { room = room_for b c.place_at-place.result c.loop-index.out.items c.loop-index.invariant.list near }
 
 pub loop-index-preserved : goal.loop-index-preserved
 loop-index-preserved g c =
     let b = g.B.Board.stacks c.args.board.now in
-    let near = got_at_hive c.args.kind b c.args.from c.reach.new.out.items c.loop-index.index c.place_at-place.result c.reach.ensures.places c.place_at-place.ensures in
+    let near = got_at_hive c.args.kind b c.args.from c.reach.new.out.items c.loop-index.index c.place_at-place.result c.reach.ensures.exact c.place_at-place.ensures in
     among_next b c.reach.new.out.items c.loop-index.index c.place_at-place.result c.args.out.now.items c.loop-index.out.items c.add_place.new.list.items c.loop-index.invariant c.place_at-place.ensures near c.add_place.ensures
 
 pub returns : goal.returns
 returns g c =
     let b = g.B.Board.stacks c.args.board.now in
     let all : length c.reach.new.out.items ≤ c.loop-index.index = omega (arith, c.len-many.ensures.value, c.loop-index-test.false) in
-    among_all c.args.kind b c.args.from c.reach.new.out.items c.loop-index.index c.args.out.now.items c.loop-index.out.items all c.reach.ensures.places c.loop-index.invariant
+    among_all c.args.kind b c.args.from c.reach.new.out.items c.loop-index.index c.args.out.now.items c.loop-index.out.items all c.reach.ensures.exact c.loop-index.invariant
