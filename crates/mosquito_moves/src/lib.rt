@@ -3,13 +3,11 @@
 //! The board is always the one from which the mosquito was lifted.
 #![tactic(auto)]
 
-ghost use Rattle.std.specs.Prelude.{◌≡◌, ◌≢◌, ◌↔◌, ◌<◌, [], Some, IsTrue};
+ghost use Rattle.std.specs.Prelude.{◌≡◌, ◌≢◌, ◌<◌, [], Some};
 ghost use Rattle.hive_model.specs.declared.pieces.Kind.{Kind};
 ghost use Rattle.hive_model.specs.declared.pieces.Kind.TheVariants.{Mosquito};
-ghost use Rattle.hive_model.specs.Boards.{is_occupied};
-ghost use Rattle.hive_model.specs.Lists.{IsOn, Rises};
-ghost use Rattle.hive_model.specs.Pieces.{is_kind};
-ghost use Rattle.hive_model.specs.Places.{IsWithin, place_cmp};
+ghost use Rattle.hive_model.specs.PlaceLists.{AreAll};
+ghost use Rattle.hive_model.specs.Places.{IsWithin};
 ghost use Rattle.hive_model.specs.Reach.{Reach, Copies, CopiesOne};
 ghost use Rattle.bug_moves.specs.Adding.{IsAround, Gains};
 ghost use Rattle.mosquito_moves.specs.Copied.{shows, touches_kind, CopiesKind};
@@ -28,17 +26,11 @@ const COPIED: [Kind; 7] = [
     Kind::Pillbug,
 ];
 
-fn is_same(a: Kind, b: Kind) -> bool
-    ensures { result ≡ is_kind a b }
-{
-    a == b
-}
-
 fn shows(top: Option<Piece>, kind: Kind) -> bool
     ensures { result ≡ shows kind top }
 {
     match top {
-        Some(piece) => is_same(piece.kind(), kind),
+        Some(piece) => piece.kind().is(kind),
         None => false,
     }
 }

@@ -115,9 +115,8 @@ fn add_places<B: Board, L: Board>(
 )
     requires within { IsWithin 9500 over }
     requires empty { out.old.items ≡ [] }
-    ensures places { (q : Place) → IsOn out.new.items q
-        ↔ ComesDown (B.stacks board.now) (L.stacks lifted.now) over from q }
-    ensures order { Rises place_cmp out.new.items }
+    ensures { AreAll (ComesDown (B.stacks board.now) (L.stacks lifted.now) over from)
+        out.new.items }
 {
     for dir in Dir::ALL {
         let to = over.step(dir);
@@ -142,9 +141,7 @@ pub fn throws<B: Board, C: Cuts>(
     requires may { (t : Spot) × IsThrower (B.stacks board.now) rest thrower t }
     requires cuts { C.board cuts.now ≡ B.stacks board.now }
     requires empty { out.old.items ≡ [] }
-    ensures places { (q : Place) → IsOn out.new.items q
-        ↔ ThrowsTo (B.stacks board.now) rest thrower thrown q }
-    ensures order { Rises place_cmp out.new.items }
+    ensures { AreAll (ThrowsTo (B.stacks board.now) rest thrower thrown) out.new.items }
 {
     let Some(over) = board.spot(thrower) else {
         return;

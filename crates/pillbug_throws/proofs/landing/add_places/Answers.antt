@@ -28,14 +28,14 @@ loop-dir-preserved g c =
           (down_not P c.args.over n low old c.loop-dir.invariant _ refl c.step-to.result c.step-to.ensures (λ there. let wrong : false ≡ true = sym w.if-comes_down.false ∙ c.comes_down.ensures.1 there in cc))
     ]
 
-pub returns-clause-places : goal.returns-clause-places
-returns-clause-places g c =
+pub returns : goal.returns
+returns g c =
     let b = g.B.Board.stacks c.args.board.now in
     let most : 6 ≤ c.loop-dir.dir-index = omega (arith, c.loop-dir-test.false) in
-    λ q. (
-      c.loop-dir.invariant.sound q,
-      all_down b (g.L.Board.stacks c.args.lifted.now) c.args.over c.args.from c.loop-dir.dir-index most c.loop-dir.out.items c.loop-dir.invariant q,
-    )
-
-pub returns-clause-order : goal.returns-clause-order
-returns-clause-order g c = c.loop-dir.invariant.order
+    record {
+      in_order = c.loop-dir.invariant.order;
+      exact = λ q. (
+        c.loop-dir.invariant.sound q,
+        all_down b (g.L.Board.stacks c.args.lifted.now) c.args.over c.args.from c.loop-dir.dir-index most c.loop-dir.out.items c.loop-dir.invariant q,
+      );
+    }

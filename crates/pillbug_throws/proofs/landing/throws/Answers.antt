@@ -2,19 +2,20 @@ use Rattle.std.proofs.Common.{◌≡◌, ◌∙◌, sym, subst, true, false}
 use Rattle.hive_model.specs.Boards.{Stacks}
 use Rattle.hive_model.specs.Steps.{FreeStep}
 use Rattle.hive_model.proofs.PlaceLemmas.{wider_on_board}
+use Rattle.hive_model.proofs.PlaceListLaws.{all_none, all_same}
 use Rattle.hive_model.proofs.BoardLemmas.{spot_within}
 use Rattle.pillbug_throws.specs.Throwing.{ComesDown, ThrowsTo}
 use Rattle.hive_model.proofs.LegalLaws.{neighbour_back}
-use Rattle.pillbug_throws.proofs.ThrowParts.{spot_occupied, alone_on_top, nothing, throw_loose, throw_down, throw_made}
+use Rattle.pillbug_throws.proofs.ThrowParts.{spot_occupied, alone_on_top, throw_loose, throw_down, throw_made}
 use Rattle.pillbug_throws.proofs.landing.throws.Goals as goal
 
 pub is_loose-requires-clause-occupied : goal.is_loose-requires-clause-occupied
 is_loose-requires-clause-occupied g c = spot_occupied (g.B.Board.stacks c.args.board.now) c.args.thrown c.in-Some-spot.from (sym c.in-Some-spot.ensures.spot)
 
-pub returns-then-not-is_loose-clause-places : goal.returns-then-not-is_loose-clause-places
-returns-then-not-is_loose-clause-places g c =
+pub returns-then-not-is_loose : goal.returns-then-not-is_loose
+returns-then-not-is_loose g c =
     let b = g.B.Board.stacks c.args.board.now in
-    nothing c.args.out.now.items c.requires.empty (ThrowsTo b c.args.rest c.args.thrower c.args.thrown) (λ q h.
+    all_none (ThrowsTo b c.args.rest c.args.thrower c.args.thrown) c.args.out.now.items c.requires.empty (λ q h.
     let loose = throw_loose b c.args.rest c.args.thrower c.args.thrown c.in-Some.over c.in-Some-spot.from (sym c.in-Some.ensures.spot) (sym c.in-Some-spot.ensures.spot) q h in
     let wrong : false ≡ true = sym c.if-not-is_loose.true ∙ c.is_loose.ensures.1 loose in cc)
 
@@ -30,16 +31,19 @@ climb_ok-requires-clause-within g c = wider_on_board c.in-Some-spot.from.place (
 pub add_places-requires-clause-within : goal.add_places-requires-clause-within
 add_places-requires-clause-within g c = wider_on_board c.in-Some.over.place (spot_within (g.B.Board.stacks c.args.board.now) c.spot.ensures.board c.args.thrower c.in-Some.over (sym c.in-Some.ensures.spot))
 
-pub returns-then-climb_ok-clause-places : goal.returns-then-climb_ok-clause-places
-returns-then-climb_ok-clause-places g c =
+pub returns-then-climb_ok : goal.returns-then-climb_ok
+returns-then-climb_ok g c =
     let b = g.B.Board.stacks c.args.board.now in
     let over = sym c.in-Some.ensures.spot in
     let from = sym c.in-Some-spot.ensures.spot in
     let loose = c.is_loose.ensures.0 c.if-not-is_loose.false in
     let up = subst (λ (s : Stacks). FreeStep s c.in-Some-spot.from.place c.in-Some.over.place) c.new-lifted.ensures (c.climb_ok.ensures.0 c.if-climb_ok.true) in
-    λ q. (
-      λ on. throw_made b c.args.rest c.args.thrower c.args.thrown c.in-Some.over c.in-Some-spot.from over from loose up q
-          (subst (λ (s : Stacks). ComesDown b s c.in-Some.over.place c.in-Some-spot.from.place q) c.new-lifted.ensures ((c.add_places.ensures.places q).0 on)),
-      λ h. (c.add_places.ensures.places q).1 (subst (λ (s : Stacks). ComesDown b s c.in-Some.over.place c.in-Some-spot.from.place q) (sym c.new-lifted.ensures)
-          (throw_down b c.args.rest c.args.thrower c.args.thrown c.in-Some.over c.in-Some-spot.from over from q h)),
-    )
+    all_same (ComesDown b (g.L.Board.stacks c.new-lifted.result) c.in-Some.over.place c.in-Some-spot.from.place) (ThrowsTo b c.args.rest c.args.thrower c.args.thrown)
+    c.add_places.new.out.items
+    (λ q. (
+      λ down. throw_made b c.args.rest c.args.thrower c.args.thrown c.in-Some.over c.in-Some-spot.from over from loose up q
+          (subst (λ (s : Stacks). ComesDown b s c.in-Some.over.place c.in-Some-spot.from.place q) c.new-lifted.ensures down),
+      λ h. subst (λ (s : Stacks). ComesDown b s c.in-Some.over.place c.in-Some-spot.from.place q) (sym c.new-lifted.ensures)
+          (throw_down b c.args.rest c.args.thrower c.args.thrown c.in-Some.over c.in-Some-spot.from over from q h),
+    ))
+    c.add_places.ensures
