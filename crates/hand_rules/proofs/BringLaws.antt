@@ -12,6 +12,7 @@ use Rattle.hive_model.specs.declared.places.Move.TheVariants.{Pass, To}
 use Rattle.hive_model.specs.Lists.{IsOn, Rises}
 use Rattle.hive_model.specs.Places.{place_cmp}
 use Rattle.hive_model.specs.Boards.{Stacks}
+use Rattle.hive_model.specs.PlaceLists.{AreAll}
 use Rattle.hive_model.specs.Legal.{move_cmp}
 use Rattle.hive_model.specs.Positions.{Position}
 use Rattle.hive_model.specs.Placement.{MayPlace, Placement}
@@ -87,25 +88,25 @@ module _ (t : GameType) (b : Stacks) (c : Colour) (turn : ℕ) (x : ℕ) (xs : L
     | inr other ↦ let low = h.0 in let less : y < x = omega (arith, low, other) in full (To y q) (less, h.1, h.2)
   ]
 
-  module _ (qs : List Place) (rise : Rises place_cmp qs) (places : (q : Place) → (IsOn qs q → MayPlace b c q) × (MayPlace b c q → IsOn qs q)) where
+  module _ (qs : List Place) (places : AreAll (MayPlace b c) qs) where
     pub more_brought : MayBring t b c turn x → (m : Move) → IsOn (xs ++ map (λ q. To x q) qs) m → IsBrought t b c turn (x + 1) m
     more_brought may m on = elim (on_append xs (map (λ q. To x q) qs) m on) [
       | inl old ↦ later m (sound m old)
       | inr new ↦
           let r = on_moves x qs m new in
           let low : x < x + 1 = omega arith in
-          subst (IsBrought t b c turn (x + 1)) (sym r.2) (low, may, (places r.0).0 r.1)
+          subst (IsBrought t b c turn (x + 1)) (sym r.2) (low, may, (places.exact r.0).0 r.1)
     ]
 
     pub more_listed : (m : Move) → IsBrought t b c turn (x + 1) m → IsOn (xs ++ map (λ q. To x q) qs) m
     more_listed Pass h = absurd h
     more_listed (To y q) h = elim (cases_eq y x) [
-      | inl same ↦ append_right xs (map (λ q. To x q) qs) (To y q) (subst (λ z. IsOn (map (λ q. To x q) qs) (To z q)) (sym same) (on_map (λ q. To x q) qs q ((places q).1 h.2)))
+      | inl same ↦ append_right xs (map (λ q. To x q) qs) (To y q) (subst (λ z. IsOn (map (λ q. To x q) qs) (To z q)) (sym same) (on_map (λ q. To x q) qs q ((places.exact q).1 h.2)))
       | inr other ↦ let low = h.0 in let less : y < x = omega (arith, low, other) in append_left xs (map (λ q. To x q) qs) (To y q) (full (To y q) (less, h.1, h.2))
     ]
 
     pub more_rises : Rises move_cmp xs → Rises move_cmp (xs ++ map (λ q. To x q) qs)
-    more_rises h = rises_append move_cmp xs (map (λ q. To x q) qs) h (rises_moves x qs rise) between
+    more_rises h = rises_append move_cmp xs (map (λ q. To x q) qs) h (rises_moves x qs places.in_order) between
       where
         before : (m : Move) (q : Place) → IsBrought t b c turn x m → move_cmp m (To x q) ≡ Less
         before Pass q h = absurd h

@@ -1,6 +1,6 @@
 //! Pieces in hand.
 
-ghost use Rattle.std.specs.Prelude.{◌≡◌, ◌↔◌, ◌≤◌, IsTrue, IfSome, IsNone};
+ghost use Rattle.std.specs.Prelude.{◌≡◌, ◌↔◌, ◌≤◌, ◌+◌, IsTrue, IfSome, IsNone};
 ghost use Rattle.hive_model.specs.Pieces.{kind_of, colour_of};
 ghost use Rattle.hive_model.specs.Placement.{IsInHand, IsLeastInHand};
 ghost use Rattle.hand_rules.specs.Hands.{HasNoneInHand, count_of, first_piece};
@@ -14,35 +14,22 @@ pub fn in_hand<B: Board>(game_type: GameType, board: &B, piece: Piece) -> bool
     game_type.has(piece.kind()) && board.spot(piece).is_none()
 }
 
-/// The index of the side's first piece of the kind.
+/// The index of the side's first piece of the kind. All of them are among the 28 pieces.
+#[tactic(auto, using(crate::proofs::KindLaws::piece_end))]
 fn first_piece(colour: Colour, kind: Kind) -> u8
-    ensures { result ≡ first_piece colour kind }
+    ensures first { result ≡ first_piece colour kind }
+    ensures within { result + count_of kind ≤ 28 }
 {
-    let side = match colour {
-        Colour::White => 0,
-        Colour::Black => 14,
-    };
-    let first = match kind {
-        Kind::Queen => 0,
-        Kind::Spider => 1,
-        Kind::Beetle => 3,
-        Kind::Grasshopper => 5,
-        Kind::Ant => 8,
-        Kind::Mosquito => 11,
-        Kind::Ladybug => 12,
-        Kind::Pillbug => 13,
-    };
-    side + first
+    colour.first() + kind.first()
 }
 
 /// How many pieces of the kind a side has.
 fn count_of(kind: Kind) -> u8
     ensures { result ≡ count_of kind }
 {
-    match kind {
-        Kind::Queen | Kind::Mosquito | Kind::Ladybug | Kind::Pillbug => 1,
-        Kind::Spider | Kind::Beetle => 2,
-        Kind::Grasshopper | Kind::Ant => 3,
+    match kind.most() {
+        0 => 1,
+        most => most,
     }
 }
 

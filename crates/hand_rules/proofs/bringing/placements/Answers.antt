@@ -56,9 +56,9 @@ loop-x-preserved g c =
             levels = ap (λ (v : Levels). length v.lists) w.out-is ∙ w.push_each.ensures.levels ∙ old.levels;
             others = ap without_level w.out-is ∙ w.push_each.ensures.others ∙ old.others;
             room = omega (arith, many, more, same, few, now, old.room);
-            order = subst (Rises move_cmp) (sym made) (more_rises t b c.args.colour turn x xs old.brought old.listed qs c.placement_places.ensures.order c.placement_places.ensures.places old.order);
-            brought = λ m on. more_brought t b c.args.colour turn x xs old.brought old.listed qs c.placement_places.ensures.order c.placement_places.ensures.places may m (subst (λ ms. IsOn ms m) made on);
-            listed = λ m h. subst (λ ms. IsOn ms m) (sym made) (more_listed t b c.args.colour turn x xs old.brought old.listed qs c.placement_places.ensures.order c.placement_places.ensures.places m h);
+            order = subst (Rises move_cmp) (sym made) (more_rises t b c.args.colour turn x xs old.brought old.listed qs c.placement_places.ensures old.order);
+            brought = λ m on. more_brought t b c.args.colour turn x xs old.brought old.listed qs c.placement_places.ensures may m (subst (λ ms. IsOn ms m) made on);
+            listed = λ m h. subst (λ ms. IsOn ms m) (sym made) (more_listed t b c.args.colour turn x xs old.brought old.listed qs c.placement_places.ensures m h);
           }
       | else-may_bring w ↦
           let made = ap last_level w.out-is in
