@@ -1,22 +1,21 @@
 -- What a throw is made of.
 use Rattle.std.proofs.Common.{◌≡◌, ℕ, suc, zero, ◌+◌, ◌≤◌, ◌<◌, Bool, true, not, ◌&&◌, List, [], ◌∷◌, length, take, inl, inr, refl, sym, ◌∙◌, ap, subst, arith, get_or}
-use Rattle.std.specs.Prelude.{Option, Some, IsTrue, nat_eq, ◌↔◌}
+use Rattle.std.specs.Prelude.{Option, Some, IsTrue, nat_eq}
 use Rattle.std.specs.declared.cmp.Ordering.TheVariants.{Less, Equal, Greater}
-use Rattle.std.proofs.lemmas.Bool.{eqb-true, eq-eqb, and_parts, and_from, not-true, not_from_false}
+use Rattle.std.proofs.lemmas.Bool.{eqb-true, eq-eqb, and_parts}
 use Rattle.hive_model.specs.declared.places.Place.{Place}
 use Rattle.hive_model.specs.declared.places.Dir.{Dir}
 use Rattle.hive_model.specs.declared.places.Dir.TheVariants.{E}
 use Rattle.hive_model.specs.declared.places.Spot.{Spot}
 use Rattle.hive_model.specs.Lists.{IsOn, Rises}
-use Rattle.hive_model.specs.Places.{place_cmp, is_place, step, dirs}
+use Rattle.hive_model.specs.Places.{place_cmp, step, dirs}
 use Rattle.hive_model.specs.Boards.{Stacks, stack_at, height_at, is_occupied, spot_of, is_on_top, is_top_spot, lift}
 use Rattle.hive_model.specs.Hive.{IsCut, are_neighbours}
 use Rattle.hive_model.specs.Near.{placed_by, with_place}
 use Rattle.hive_model.specs.Positions.{is_piece}
 use Rattle.hive_model.specs.Steps.{FreeStep}
-use Rattle.hive_model.proofs.PlaceLemmas.{false_place, is_other_place}
-use Rattle.hive_model.proofs.PieceLaws.{awake_from, from_awake}
-use Rattle.hive_model.proofs.RuleLaws.{dir_on, neighbours_from, from_neighbours}
+use Rattle.hive_model.proofs.PieceLaws.{awake_from}
+use Rattle.hive_model.proofs.RuleLaws.{dir_on, neighbours_from}
 use Rattle.hive_model.proofs.NearLaws.{on_with_place, with_place_on, rises_with}
 use Rattle.hive_model.proofs.GetLemmas.{get_within}
 use Rattle.hive_model.proofs.BoardLemmas.{stands_occupied, spot_of_stands}
@@ -45,20 +44,6 @@ loose_from b rest t x a e cut =
     let one = and_parts (nat_eq (height_at b a) 1) (not (is_piece x rest) && are_neighbours t a) e in
     let two = and_parts (not (is_piece x rest)) (are_neighbours t a) one.1 in
     record { alone = eqb-true (height_at b a) 1 one.0; awake = awake_from x rest two.0; beside = neighbours_from t a two.1; not_cut = cut }
-
-pub from_loose : (b : Stacks) (rest : Option ℕ) (t : Place) (x : ℕ) (a : Place) → IsLoose b rest t x a → at_hand b rest t x a ≡ true
-from_loose b rest t x a h = and_from _ _ (eq-eqb _ _ h.alone) (and_from _ _ (from_awake x rest h.awake) (from_neighbours t a h.beside))
-
-abbrev is_open_to : Stacks → Place → Place → Bool
-is_open_to b a q = nat_eq (height_at b q) 0 && not (is_place a q)
-
-pub down_from : (b c : Stacks) (t a q : Place) → is_open_to b a q ≡ true → FreeStep c t q → ComesDown b c t a q
-down_from b c t a q e h =
-    let both = and_parts (nat_eq (height_at b q) 0) (not (is_place a q)) e in
-    record { down = h; empty = eqb-true (height_at b q) 0 both.0; other = false_place a q (not-true _ both.1) }
-
-pub from_down : (b c : Stacks) (t a q : Place) → ComesDown b c t a q → is_open_to b a q ≡ true
-from_down b c t a q h = and_from _ _ (eq-eqb _ _ h.empty) (not_from_false _ (is_other_place a q h.other))
 
 -- Lists of places
 
@@ -124,12 +109,6 @@ all_down b c t a n most ps h q there =
     whole (e ∷ ds) (suc n) h d on = let less : length ds ≤ n = omega (arith, h) in elim on [ inl same ↦ inl same | inr later ↦ inr (whole ds n less d later) ]
 
 -- Throws
-
-pub nothing : (ps : List Place) → ps ≡ [] → (P : Place → Type 0) → ((q : Place) → P q → ⊥) → (q : Place) → IsOn ps q ↔ P q
-nothing ps e P none q = (λ on. absurd (subst (λ zs. IsOn zs q) e on), λ there. absurd (none q there))
-
-pub rises_nothing : (ps : List Place) → ps ≡ [] → Rises place_cmp ps
-rises_nothing ps e = subst (Rises place_cmp) (sym e) tt
 
 module _ (b : Stacks) (rest : Option ℕ) (y x : ℕ) (t a : Spot) (over : spot_of b y ≡ Some t) (from : spot_of b x ≡ Some a) where
   same_spots : (q : Place) (h : ThrowsTo b rest y x q) → (h.0 ≡ t) × (h.1 ≡ a)

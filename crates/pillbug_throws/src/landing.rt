@@ -3,27 +3,21 @@
 ghost use Rattle.std.specs.Prelude.{
   ◌≡◌,
   ◌↔◌,
-  ℕ,
   ◌<◌,
-  ◌≤◌,
-  ◌+◌,
   ◌&&◌,
   [],
-  length,
   nat_eq,
   not,
   Some,
   IsTrue,
 };
-ghost use Rattle.arrayvec.specs.ArrayVec.{array_vec_len};
 ghost use Rattle.hive_model.specs.declared.places.Place.{Place};
 ghost use Rattle.hive_model.specs.declared.places.Spot.{Spot};
-ghost use Rattle.hive_model.specs.Boards.{Stacks, height_at, is_occupied, spot_of};
+ghost use Rattle.hive_model.specs.Boards.{height_at, is_occupied};
 ghost use Rattle.hive_model.specs.Hive.{are_neighbours};
-ghost use Rattle.hive_model.specs.Lists.{IsOn, Rises};
-ghost use Rattle.hive_model.specs.Places.{IsWithin, is_place, place_cmp, step, dirs, AreNeighbours};
+ghost use Rattle.hive_model.specs.PlaceLists.{AreAll};
+ghost use Rattle.hive_model.specs.Places.{IsWithin, is_place, step, AreNeighbours};
 ghost use Rattle.hive_model.specs.Positions.{is_piece};
-ghost use Rattle.hive_model.specs.Steps.{FreeStep};
 ghost use Rattle.hive_model.specs.Throws.{IsThrower};
 ghost use Rattle.pillbug_throws.specs.Throwing.{IsLoose, ComesDown, ThrowsTo};
 
