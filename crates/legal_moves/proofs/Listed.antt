@@ -11,6 +11,7 @@ use Rattle.hive_model.specs.declared.places.Place.{Place}
 use Rattle.hive_model.specs.declared.places.Move.{Move}
 use Rattle.hive_model.specs.declared.places.Move.TheVariants.{Pass, To}
 use Rattle.hive_model.specs.Lists.{IsOn, Rises}
+use Rattle.hive_model.specs.PlaceLists.{AreAll}
 use Rattle.hive_model.specs.Places.{place_cmp}
 use Rattle.hive_model.specs.Boards.{IsBoard}
 use Rattle.hive_model.specs.Positions.{Position}
@@ -29,13 +30,8 @@ use Rattle.legal_moves.proofs.Pairing.{pair_is_listed, pass_is_listed}
 less_number : (x y : ℕ) → x < y → nat_cmp x y ≡ Less
 less_number x y h = sym (nat_cmp_is x y Less h)
 
--- before the first piece there is no pair
-pub no_pair_yet : (p : Position) (m : Move) → ¬ IsPairBelow p 0 m
-no_pair_yet p Pass h = h
-no_pair_yet p (To x q) h = let low = h.0 in omega (arith, low)
-
 -- the pairs of one piece more
-module _ (p : Position) (x : ℕ) (xs : List Move) (sound : (m : Move) → IsOn xs m → IsPairBelow p x m) (full : (m : Move) → IsPairBelow p x m → IsOn xs m) (qs : List Place) (legal : (q : Place) → (IsOn qs q → LegalPair p x q) × (LegalPair p x q → IsOn qs q)) where
+module _ (p : Position) (x : ℕ) (xs : List Move) (sound : (m : Move) → IsOn xs m → IsPairBelow p x m) (full : (m : Move) → IsPairBelow p x m → IsOn xs m) (qs : List Place) (legal : AreAll (LegalPair p x) qs) where
   later : (m : Move) → IsPairBelow p x m → IsPairBelow p (x + 1) m
   later Pass h = h
   later (To y q) h = let low = h.0 in (omega (arith, low), h.1)
@@ -46,18 +42,18 @@ module _ (p : Position) (x : ℕ) (xs : List Move) (sound : (m : Move) → IsOn 
     | inr new ↦
         let r = on_moves x qs m new in
         let low : x < x + 1 = omega arith in
-        subst (IsPairBelow p (x + 1)) (sym r.2) (low, (legal r.0).0 r.1)
+        subst (IsPairBelow p (x + 1)) (sym r.2) (low, (legal.exact r.0).0 r.1)
   ]
 
   pub more_full : (m : Move) → IsPairBelow p (x + 1) m → IsOn (xs ++ map (λ q. To x q) qs) m
   more_full Pass h = absurd h
   more_full (To y q) h = elim (cases_eq y x) [
-    | inl same ↦ append_right xs (map (λ q. To x q) qs) (To y q) (subst (λ z. IsOn (map (λ q. To x q) qs) (To z q)) (sym same) (on_map (λ q. To x q) qs q ((legal q).1 (subst (λ z. LegalPair p z q) same h.1))))
+    | inl same ↦ append_right xs (map (λ q. To x q) qs) (To y q) (subst (λ z. IsOn (map (λ q. To x q) qs) (To z q)) (sym same) (on_map (λ q. To x q) qs q ((legal.exact q).1 (subst (λ z. LegalPair p z q) same h.1))))
     | inr other ↦ let low = h.0 in let less : y < x = omega (arith, low, other) in append_left xs (map (λ q. To x q) qs) (To y q) (full (To y q) (less, h.1))
   ]
 
-  pub more_rises : Rises place_cmp qs → Rises move_cmp xs → Rises move_cmp (xs ++ map (λ q. To x q) qs)
-  more_rises rise h = rises_append move_cmp xs (map (λ q. To x q) qs) h (rises_moves x qs rise) between
+  pub more_rises : Rises move_cmp xs → Rises move_cmp (xs ++ map (λ q. To x q) qs)
+  more_rises h = rises_append move_cmp xs (map (λ q. To x q) qs) h (rises_moves x qs legal.in_order) between
     where
       before : (m : Move) (q : Place) → IsPairBelow p x m → move_cmp m (To x q) ≡ Less
       before Pass q h = absurd h

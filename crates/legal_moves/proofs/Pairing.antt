@@ -7,6 +7,7 @@ use Rattle.hive_model.specs.declared.pieces.GameType.{GameType}
 use Rattle.hive_model.specs.declared.places.Place.{Place}
 use Rattle.hive_model.specs.declared.places.Move.TheVariants.{Pass, To}
 use Rattle.hive_model.specs.Lists.{IsOn}
+use Rattle.hive_model.specs.PlaceLists.{AreAll}
 use Rattle.hive_model.specs.Boards.{Stacks, spot_of, IsBoard}
 use Rattle.hive_model.specs.Positions.{Position}
 use Rattle.hive_model.specs.Placement.{MayPlace, Placement}
@@ -65,10 +66,10 @@ module _ (p : Position) (is : IsBoard p.board) (on : is_over p ≡ false) where
 
 -- Some place on a list
 
-pub some_pair : (p : Position) (x : ℕ) (xs : List Place) (n : ℕ) → n ≡ length xs → ((q : Place) → IsOn xs q ↔ LegalPair p x q) → IsTrue (nat_lt 0 n) ↔ ((q : Place) × LegalPair p x q)
+pub some_pair : (p : Position) (x : ℕ) (xs : List Place) (n : ℕ) → n ≡ length xs → AreAll (LegalPair p x) xs → IsTrue (nat_lt 0 n) ↔ ((q : Place) × LegalPair p x q)
 some_pair p x xs n many is = (
-  λ e. let low = ltb-true 0 n e in let long : 0 < length xs = omega (arith, low, many) in let (q, on) = head_on xs long in (q, (is q).0 on),
-  λ (q, h). let long = on_long xs q ((is q).1 h) in let low : 0 < n = omega (arith, long, many) in lt-ltb 0 n low,
+  λ e. let low = ltb-true 0 n e in let long : 0 < length xs = omega (arith, low, many) in let (q, on) = head_on xs long in (q, (is.exact q).0 on),
+  λ (q, h). let long = on_long xs q ((is.exact q).1 h) in let low : 0 < n = omega (arith, long, many) in lt-ltb 0 n low,
 )
   where
     head_on : (ys : List Place) → 0 < length ys → (q : Place) × IsOn ys q

@@ -10,6 +10,7 @@ use Rattle.hive_model.specs.declared.pieces.Kind.TheVariants.{Mosquito, Pillbug}
 use Rattle.hive_model.specs.declared.places.Place.{Place}
 use Rattle.hive_model.specs.declared.places.Spot.{Spot}
 use Rattle.hive_model.specs.Lists.{IsOn, Rises}
+use Rattle.hive_model.specs.PlaceLists.{AreAll}
 use Rattle.hive_model.specs.Pieces.{kind_of, colour_of, is_kind, piece_of, queen_of, all_pieces}
 use Rattle.hive_model.specs.Places.{place_cmp}
 use Rattle.hive_model.specs.Boards.{Stacks, height_at, spot_of, is_in_play, IsBoard}
@@ -119,12 +120,12 @@ by_throw p x q h = elim h [ inl one ↦ thrown_throw p _ x q (own_pillbug p.side
 
 -- In the terms of the code
 
-pub throws_listed : (b : Stacks) (rest r1 r2 : Option ℕ) (y x : ℕ) (items ps : List Place) → r1 ≡ rest → r2 ≡ rest → (t : Spot) × IsThrower b r1 y t → ((q : Place) → IsOn items q ↔ ThrowsTo b r2 y x q) → ps ≡ items → (q : Place) → IsOn ps q ↔ ThrownBy b rest y x q
+pub throws_listed : (b : Stacks) (rest r1 r2 : Option ℕ) (y x : ℕ) (items ps : List Place) → r1 ≡ rest → r2 ≡ rest → (t : Spot) × IsThrower b r1 y t → AreAll (ThrowsTo b r2 y x) items → ps ≡ items → (q : Place) → IsOn ps q ↔ ThrownBy b rest y x q
 throws_listed b rest r1 r2 y x items ps e1 e2 is places same q =
     let by = subst (λ r. (t : Spot) × IsThrower b r y t) e1 is in
     let law = thrown_is b rest y x by q in (
-      λ on. law.0 (subst (λ r. ThrowsTo b r y x q) e2 ((places q).0 (subst (λ zs. IsOn zs q) same on))),
-      λ h. subst (λ zs. IsOn zs q) (sym same) ((places q).1 (subst (λ r. ThrowsTo b r y x q) (sym e2) (law.1 h))),
+      λ on. law.0 (subst (λ r. ThrowsTo b r y x q) e2 ((places.exact q).0 (subst (λ zs. IsOn zs q) same on))),
+      λ h. subst (λ zs. IsOn zs q) (sym same) ((places.exact q).1 (subst (λ r. ThrowsTo b r y x q) (sym e2) (law.1 h))),
     )
 
 pub both_throw : (p : Position) (x y1 y2 : ℕ) (xs ys zs : List Place) → y1 ≡ piece_of p.side Pillbug 0 → y2 ≡ piece_of p.side Mosquito 0
@@ -146,5 +147,5 @@ both_throw p x y1 y2 xs ys zs e1 e2 one two q = (
   ],
 )
 
-pub walk_goals : (p : Position) → IsBoard p.board → IsTrue (is_in_play p.board (queen_of p.side)) → (x : ℕ) (ys : List Place) → Rises place_cmp ys → ((q : Place) → IsOn ys q ↔ Walk p x q) → AreGoals p.board x ys
-walk_goals p is queen x ys rise places = record { in_order = rise; goals = λ q on. walk_goal p is queen x q ((places q).0 on) }
+pub walk_goals : (p : Position) → IsBoard p.board → IsTrue (is_in_play p.board (queen_of p.side)) → (x : ℕ) (ys : List Place) → AreAll (Walk p x) ys → AreGoals p.board x ys
+walk_goals p is queen x ys walks = record { in_order = walks.in_order; goals = λ q on. walk_goal p is queen x q ((walks.exact q).0 on) }

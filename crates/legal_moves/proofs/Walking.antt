@@ -6,16 +6,18 @@ use Rattle.hive_model.specs.declared.pieces.Kind.{Kind}
 use Rattle.hive_model.specs.declared.pieces.Kind.TheVariants.{Queen, Spider, Beetle, Grasshopper, Ant, Mosquito, Ladybug, Pillbug}
 use Rattle.hive_model.specs.declared.places.Place.{Place}
 use Rattle.hive_model.specs.declared.places.Spot.{Spot}
-use Rattle.hive_model.specs.Lists.{IsOn}
+use Rattle.hive_model.specs.PlaceLists.{AreAll}
 use Rattle.hive_model.specs.Pieces.{kind_of, colour_of}
 use Rattle.hive_model.specs.Boards.{Stacks, stack_at, height_at, is_occupied, spot_of, is_top_spot, is_on_top, lift}
 use Rattle.hive_model.specs.Hive.{IsCut}
 use Rattle.hive_model.specs.Reach.{Reach, Copies, MovesAs}
+use Rattle.hive_model.specs.Evaluation.{IsFreePiece}
 use Rattle.hive_model.specs.Legal.{Walk}
 use Rattle.hive_model.specs.Positions.{Position}
 use Rattle.hive_model.proofs.GetLemmas.{get_within}
 use Rattle.hive_model.proofs.BoardLemmas.{spot_of_stands, stands_occupied}
-use Rattle.legal_moves.specs.Going.{MayWalk, Goes}
+use Rattle.hive_model.proofs.PlaceListLaws.{all_same}
+use Rattle.legal_moves.specs.Going.{Goes}
 
 pub same_spot : (o : Option Spot) (s t : Spot) → o ≡ Some s → o ≡ Some t → s ≡ t
 same_spot o s t one two = let e : Some s ≡ Some t = sym one ∙ two in cc
@@ -32,35 +34,32 @@ stands_there b x s e = stands_occupied b x s.place s.level (spot_of_stands b x s
 -- Who may walk
 
 module _ (b : Stacks) (rest : Option ℕ) (x : ℕ) where
-  pub none_walks : spot_of b x ≡ None → ¬ MayWalk b rest x
-  none_walks none h = no_spot (spot_of b x) h.from none h.stands
+  pub none_walks : spot_of b x ≡ None → ¬ IsFreePiece b rest x
+  none_walks none h = no_spot (spot_of b x) h.spot none h.stands
 
   module _ (s : Spot) (stands : spot_of b x ≡ Some s) where
-    walk_top : MayWalk b rest x → height_at b s.place - s.level ≡ 1
+    walk_top : IsFreePiece b rest x → height_at b s.place - s.level ≡ 1
     walk_top h =
-        let same = same_spot (spot_of b x) h.from s h.stands stands in
+        let same = same_spot (spot_of b x) h.spot s h.stands stands in
         let top : s.level + 1 ≡ height_at b s.place = subst (λ (t : Spot). t.level + 1 ≡ height_at b t.place) same h.on_top in
         omega (arith, top)
 
-    pub not_walks : (rest ≡ Some x) ⊎ (height_at b s.place - s.level ≢ 1) → ¬ MayWalk b rest x
+    pub not_walks : (rest ≡ Some x) ⊎ (height_at b s.place - s.level ≢ 1) → ¬ IsFreePiece b rest x
     not_walks why h = elim why [ inl asleep ↦ h.awake asleep | inr covered ↦ covered (walk_top h) ]
 
-    pub walks_unless : (cut : Bool) → rest ≢ Some x → height_at b s.place - s.level ≡ 1 → (IsTrue cut → IsCut b s.place) × (IsCut b s.place → IsTrue cut) → IsTrue (not cut) ↔ MayWalk b rest x
+    pub walks_unless : (cut : Bool) → rest ≢ Some x → height_at b s.place - s.level ≡ 1 → (IsTrue cut → IsCut b s.place) × (IsCut b s.place → IsTrue cut) → IsTrue (not cut) ↔ IsFreePiece b rest x
     walks_unless cut awake top is = (
       λ e. record {
-        from = s;
+        spot = s;
         stands = stands;
         on_top = (let low = level_low b x s stands in omega (arith, top, low));
         awake = awake;
         not_cut = λ h. let wrong : true ≡ false = sym (is.1 h) ∙ not-true _ e in cc;
       },
       λ h.
-          let same = same_spot (spot_of b x) h.from s h.stands stands in
+          let same = same_spot (spot_of b x) h.spot s h.stands stands in
           not_from_false _ (false_from_ne_true _ (λ e. subst (λ (t : Spot). ¬ IsCut b t.place) same h.not_cut (is.0 e))),
     )
-
-pub walks_on_top : (b : Stacks) (rest : Option ℕ) (x : ℕ) → MayWalk b rest x → IsTrue (is_on_top b x)
-walks_on_top b rest x h = ap (is_top_spot b) h.stands ∙ eq-eqb _ _ h.on_top
 
 -- How it goes
 
@@ -78,23 +77,21 @@ as_itself Ladybug b p q h = (λ r. r, λ r. r)
 as_itself Pillbug b p q h = (λ r. r, λ r. r)
 
 module _ (b c : Stacks) (x : ℕ) (s : Spot) (stands : spot_of b x ≡ Some s) (lifted : c ≡ lift b x) (ys : List Place) where
-  goes_as : ((q : Place) → IsOn ys q ↔ MovesAs (kind_of x) c s.place q) → (q : Place) → IsOn ys q ↔ Goes b x q
-  goes_as is q = (
-    λ on. (s, stands, subst (λ d. MovesAs (kind_of x) d s.place q) lifted ((is q).0 on)),
+  goes_as : AreAll (MovesAs (kind_of x) c s.place) ys → AreAll (Goes b x) ys
+  goes_as = all_same (MovesAs (kind_of x) c s.place) (Goes b x) ys (λ q. (
+    λ moves. (s, stands, subst (λ d. MovesAs (kind_of x) d s.place q) lifted moves),
     λ h.
         let same = same_spot (spot_of b x) h.0 s h.1 stands in
-        (is q).1 (subst (λ (t : Spot). MovesAs (kind_of x) c t.place q) same (subst (λ d. MovesAs (kind_of x) d h.0.place q) (sym lifted) h.2)),
-  )
+        subst (λ (t : Spot). MovesAs (kind_of x) c t.place q) same (subst (λ d. MovesAs (kind_of x) d h.0.place q) (sym lifted) h.2),
+  ))
 
-  pub goes_mosquito : kind_of x ≡ Mosquito → ((q : Place) → IsOn ys q ↔ Copies c s.place q) → (q : Place) → IsOn ys q ↔ Goes b x q
-  goes_mosquito e is = goes_as (λ q. let law = as_mosquito (kind_of x) c s.place q e in (λ on. law.1 ((is q).0 on), λ h. (is q).1 (law.0 h)))
+  pub goes_mosquito : kind_of x ≡ Mosquito → AreAll (Copies c s.place) ys → AreAll (Goes b x) ys
+  goes_mosquito e h = goes_as (all_same (Copies c s.place) (MovesAs (kind_of x) c s.place) ys
+      (λ q. let law = as_mosquito (kind_of x) c s.place q e in (law.1, law.0)) h)
 
-  pub goes_itself : (k : Kind) → k ≡ kind_of x → k ≢ Mosquito → ((q : Place) → IsOn ys q ↔ Reach k c s.place q) → (q : Place) → IsOn ys q ↔ Goes b x q
-  goes_itself k e other is = goes_as (λ q.
-      let law = as_itself k c s.place q other in (
-        λ on. subst (λ j. MovesAs j c s.place q) e (law.1 ((is q).0 on)),
-        λ h. (is q).1 (law.0 (subst (λ j. MovesAs j c s.place q) (sym e) h)),
-      ))
+  pub goes_itself : (k : Kind) → k ≡ kind_of x → k ≢ Mosquito → AreAll (Reach k c s.place) ys → AreAll (Goes b x) ys
+  goes_itself k e other h = goes_as (subst (λ j. AreAll (MovesAs j c s.place) ys) e
+      (all_same (Reach k c s.place) (MovesAs k c s.place) ys (λ q. let law = as_itself k c s.place q other in (law.1, law.0)) h))
 
 -- Walks
 
@@ -102,14 +99,14 @@ module _ (p : Position) (x : ℕ) (q : Place) where
   pub walk_goes : Walk p x q → Goes p.board x q
   walk_goes h = (h.from, h.stands, h.moves)
 
-  pub walk_may : Walk p x q → MayWalk p.board p.rest x
-  walk_may h = record { from = h.from; stands = h.stands; on_top = h.on_top; awake = h.awake; not_cut = h.not_cut }
+  pub walk_may : Walk p x q → IsFreePiece p.board p.rest x
+  walk_may h = record { spot = h.from; stands = h.stands; on_top = h.on_top; awake = h.awake; not_cut = h.not_cut }
 
-  pub goes_walk : colour_of x ≡ p.side → MayWalk p.board p.rest x → Goes p.board x q → Walk p x q
+  pub goes_walk : colour_of x ≡ p.side → IsFreePiece p.board p.rest x → Goes p.board x q → Walk p x q
   goes_walk own may h =
-      let same = same_spot (spot_of p.board x) h.0 may.from h.1 may.stands in
+      let same = same_spot (spot_of p.board x) h.0 may.spot h.1 may.stands in
       record {
-        from = may.from;
+        from = may.spot;
         own = own;
         stands = may.stands;
         on_top = may.on_top;

@@ -1,5 +1,5 @@
 -- Whose turn it is, and where a piece may go.
-use Rattle.std.specs.Prelude.{◌≡◌, ◌≢◌, ℕ, ◌+◌, ◌≤◌, List, length, Option, Some, IsTrue, ◌⊎◌}
+use Rattle.std.specs.Prelude.{◌≡◌, ◌≢◌, ℕ, ◌≤◌, List, length, Option, Some, IsTrue, ◌⊎◌}
 use Rattle.hive_model.specs.declared.pieces.Colour.{Colour}
 use Rattle.hive_model.specs.declared.pieces.GameType.{GameType}
 use Rattle.hive_model.specs.declared.places.Place.{Place}
@@ -7,8 +7,7 @@ use Rattle.hive_model.specs.declared.places.Spot.{Spot}
 use Rattle.hive_model.specs.Lists.{IsOn, Rises}
 use Rattle.hive_model.specs.Pieces.{kind_of, queen_of}
 use Rattle.hive_model.specs.Places.{place_cmp}
-use Rattle.hive_model.specs.Boards.{Stacks, height_at, spot_of, is_in_play, lift}
-use Rattle.hive_model.specs.Hive.{IsCut}
+use Rattle.hive_model.specs.Boards.{Stacks, spot_of, is_in_play, lift}
 use Rattle.hive_model.specs.Near.{near}
 use Rattle.hive_model.specs.Reach.{MovesAs}
 use Rattle.hive_model.specs.Positions.{Position}
@@ -22,14 +21,6 @@ position_at t b side number rest = record { game_type = t; board = b; side = sid
 
 abbrev pub position_of : Stacks → Turn → Position
 position_of b t = position_at t.game_type b t.side t.number t.rest
-
--- the piece may be moved by its side: it is on top, it does not rest, and it stands on no cut place
-pub record MayWalk (b : Stacks) (rest : Option ℕ) (x : ℕ) : Type 0 where
-  pub from : Spot
-  pub stands : spot_of b x ≡ Some from
-  pub on_top : from.level + 1 ≡ height_at b from.place
-  pub awake : rest ≢ Some x
-  pub not_cut : ¬ IsCut b from.place
 
 -- the piece moves by its kind's rule from where it stands
 abbrev pub Goes : Stacks → ℕ → Place → Type 0

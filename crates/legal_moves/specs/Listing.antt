@@ -3,8 +3,7 @@ use Rattle.std.specs.Prelude.{◌≡◌, ℕ, ◌<◌, ◌≤◌, List, ◌++◌
 use Rattle.hive_model.specs.declared.places.Place.{Place}
 use Rattle.hive_model.specs.declared.places.Move.{Move}
 use Rattle.hive_model.specs.declared.places.Move.TheVariants.{Pass, To}
-use Rattle.hive_model.specs.Lists.{IsOn, Rises}
-use Rattle.hive_model.specs.Places.{place_cmp}
+use Rattle.hive_model.specs.PlaceLists.{AreAll}
 use Rattle.hive_model.specs.Positions.{Position}
 use Rattle.hive_model.specs.Legal.{LegalPair}
 use Rattle.hive_model.specs.Stack.{Levels, without_level}
@@ -22,8 +21,7 @@ HasPair p = (x : ℕ) × (q : Place) × LegalPair p x q
 -- the last level gains the legal pairs of the piece, in the order of the places, and nothing else changes
 pub record GainsPairs (p : Position) (x : ℕ) (old new : Levels) : Type 0 where
   pub places : List Place
-  pub in_order : Rises place_cmp places
-  pub legal : (q : Place) → (IsOn places q → LegalPair p x q) × (LegalPair p x q → IsOn places q)
+  pub legal : AreAll (LegalPair p x) places
   pub few : length places ≤ 196
   pub added : last_level new ≡ last_level old ++ map (λ q. To x q) places
   pub levels : length new.lists ≡ length old.lists

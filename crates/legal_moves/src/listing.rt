@@ -1,10 +1,9 @@
 //! The list of legal moves.
 
 ghost use Rattle.std.specs.Prelude.{◌≡◌, ◌↔◌, ◌+◌, ◌≤◌, [], length};
-ghost use Rattle.hive_model.specs.declared.places.Place.{Place};
 ghost use Rattle.hive_model.specs.declared.places.Move.{Move};
 ghost use Rattle.hive_model.specs.Lists.{IsOn, Rises};
-ghost use Rattle.hive_model.specs.Places.{place_cmp};
+ghost use Rattle.hive_model.specs.PlaceLists.{AreAll};
 ghost use Rattle.hive_model.specs.Boards.{IsBoard};
 ghost use Rattle.hive_model.specs.Placement.{MayPlace};
 ghost use Rattle.hive_model.specs.Legal.{is_over, moves, move_cmp};
@@ -31,9 +30,7 @@ fn push_piece<B: Board, C: Cuts>(
 )
     requires board { IsBoard (B.stacks board.now) }
     requires cuts { C.board cuts.now ≡ B.stacks board.now }
-    requires places { (q : Place) → IsOn open_places.now.items q
-        ↔ MayPlace (B.stacks board.now) turn.now.side q }
-    requires order { Rises place_cmp open_places.now.items }
+    requires places { AreAll (MayPlace (B.stacks board.now) turn.now.side) open_places.now.items }
     requires level { 1 ≤ length out.old.lists }
     requires room { length (last_level out.old) + 196 ≤ 5488 }
     ensures { GainsPairs (position_of (B.stacks board.now) turn.now) piece out.old out.new }

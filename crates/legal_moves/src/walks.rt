@@ -1,12 +1,11 @@
 //! Where a piece of the side to move goes by its kind's rule.
 
 ghost use Rattle.std.specs.Prelude.{◌≡◌, ◌↔◌, [], IsTrue};
-ghost use Rattle.hive_model.specs.declared.places.Place.{Place};
-ghost use Rattle.hive_model.specs.Lists.{IsOn, Rises};
-ghost use Rattle.hive_model.specs.Places.{place_cmp};
+ghost use Rattle.hive_model.specs.PlaceLists.{AreAll};
 ghost use Rattle.hive_model.specs.Boards.{IsBoard, is_on_top};
+ghost use Rattle.hive_model.specs.Evaluation.{IsFreePiece};
 ghost use Rattle.hive_model.specs.Legal.{Walk};
-ghost use Rattle.legal_moves.specs.Going.{MayWalk, Goes, position_of};
+ghost use Rattle.legal_moves.specs.Going.{Goes, position_of};
 
 use crate::turns::Turn;
 use bug_moves::reach;
@@ -18,7 +17,7 @@ use mosquito_moves::mosquito_reach;
 fn may_walk<B: Board, C: Cuts>(board: &B, cuts: &C, piece: Piece, rest: &Option<Piece>) -> bool
     requires board { IsBoard (B.stacks board.now) }
     requires cuts { C.board cuts.now ≡ B.stacks board.now }
-    ensures { IsTrue result ↔ MayWalk (B.stacks board.now) rest.now piece }
+    ensures { IsTrue result ↔ IsFreePiece (B.stacks board.now) rest.now piece }
 {
     let Some(spot) = board.spot(piece) else {
         return false;
@@ -35,8 +34,7 @@ fn go<B: Board>(board: &B, piece: Piece, out: &mut PlaceList)
     requires board { IsBoard (B.stacks board.now) }
     requires top { IsTrue (is_on_top (B.stacks board.now) piece) }
     requires empty { out.old.items ≡ [] }
-    ensures places { (q : Place) → IsOn out.new.items q ↔ Goes (B.stacks board.now) piece q }
-    ensures order { Rises place_cmp out.new.items }
+    ensures { AreAll (Goes (B.stacks board.now) piece) out.new.items }
 {
     let Some(spot) = board.spot(piece) else {
         return;
@@ -54,9 +52,7 @@ pub fn walks<B: Board, C: Cuts>(board: &B, cuts: &C, turn: &Turn, piece: Piece, 
     requires board { IsBoard (B.stacks board.now) }
     requires cuts { C.board cuts.now ≡ B.stacks board.now }
     requires empty { out.old.items ≡ [] }
-    ensures places { (q : Place) → IsOn out.new.items q
-        ↔ Walk (position_of (B.stacks board.now) turn.now) piece q }
-    ensures order { Rises place_cmp out.new.items }
+    ensures { AreAll (Walk (position_of (B.stacks board.now) turn.now) piece) out.new.items }
 {
     if piece.colour().is(turn.side) && may_walk(board, cuts, piece, &turn.rest) {
         go(board, piece, out);

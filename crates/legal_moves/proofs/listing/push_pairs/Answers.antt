@@ -19,7 +19,7 @@ loop-x-preserved g c =
       levels = gains.levels ∙ old.levels;
       others = gains.others ∙ old.others;
       room = subst (λ ms. length ms ≤ 196 * (x + 1)) (sym gains.added) (more_room x xs gains.places old.room gains.few);
-      order = subst (Rises move_cmp) (sym gains.added) (more_rises p x xs old.sound old.full gains.places gains.legal gains.in_order old.order);
+      order = subst (Rises move_cmp) (sym gains.added) (more_rises p x xs old.sound old.full gains.places gains.legal old.order);
       sound = λ m on. more_sound p x xs old.sound old.full gains.places gains.legal m (subst (λ ms. IsOn ms m) gains.added on);
       full = λ m h. subst (λ ms. IsOn ms m) (sym gains.added) (more_full p x xs old.sound old.full gains.places gains.legal m h);
     }

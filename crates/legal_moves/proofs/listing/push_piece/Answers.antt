@@ -1,7 +1,10 @@
 use Rattle.std.proofs.Common.{sym, subst}
 use Rattle.std.proofs.lemmas.Bool.{iff_false}
-use Rattle.hive_model.specs.Lists.{IsOn, Rises}
-use Rattle.hive_model.specs.Places.{place_cmp}
+use Rattle.hive_model.specs.PlaceLists.{AreAll}
+use Rattle.hive_model.specs.Placement.{MayPlace}
+use Rattle.hive_model.specs.Legal.{LegalPair}
+use Rattle.hive_model.proofs.PlaceListLaws.{all_same}
+use Rattle.legal_moves.specs.Going.{IsMoved, position_of}
 use Rattle.legal_moves.proofs.Pairing.{brought_pair, moved_pair}
 use Rattle.legal_moves.proofs.listing.push_piece.Goals as goal
 
@@ -13,11 +16,9 @@ returns-then-may_bring g c =
     let same = c.as_slice.ensures.value in
     record {
       places = c.as_slice.result.now;
-      in_order = subst (Rises place_cmp) (sym same) c.requires.order;
-      legal = λ q.
-          let law = brought_pair t.game_type b t.side t.number t.rest c.args.piece q may in
-          let listed = c.requires.places q in
-          (λ on. law.0 (listed.0 (subst (λ qs. IsOn qs q) same on)), λ h. subst (λ qs. IsOn qs q) (sym same) (listed.1 (law.1 h)));
+      legal = subst (AreAll (LegalPair (position_of b t) c.args.piece)) (sym same)
+          (all_same (MayPlace b t.side) (LegalPair (position_of b t) c.args.piece) c.args.open_places.now.items
+          (λ q. brought_pair t.game_type b t.side t.number t.rest c.args.piece q may) c.requires.places);
       few = c.as_slice.ensures.fits;
       added = c.push_each.ensures.added;
       levels = c.push_each.ensures.levels;
@@ -32,11 +33,9 @@ returns g c =
     let same = c.as_slice-2.ensures.value in
     record {
       places = c.as_slice-2.result.now;
-      in_order = subst (Rises place_cmp) (sym same) c.moved_places.ensures.order;
-      legal = λ q.
-          let law = moved_pair t.game_type b t.side t.number t.rest c.args.piece q none in
-          let listed = c.moved_places.ensures.places q in
-          (λ on. law.0 (listed.0 (subst (λ qs. IsOn qs q) same on)), λ h. subst (λ qs. IsOn qs q) (sym same) (listed.1 (law.1 h)));
+      legal = subst (AreAll (LegalPair (position_of b t) c.args.piece)) (sym same)
+          (all_same (IsMoved (position_of b t) c.args.piece) (LegalPair (position_of b t) c.args.piece) c.moved_places.new.out.items
+          (λ q. moved_pair t.game_type b t.side t.number t.rest c.args.piece q none) c.moved_places.ensures);
       few = c.as_slice-2.ensures.fits;
       added = c.push_each-2.ensures.added;
       levels = c.push_each-2.ensures.levels;

@@ -1,12 +1,23 @@
 use Rattle.std.proofs.lemmas.Bool.{iff_false}
-use Rattle.legal_moves.proofs.Pairing.{moved_pair}
+use Rattle.hive_model.specs.Legal.{LegalPair}
+use Rattle.hive_model.specs.Placement.{MayPlace}
+use Rattle.hive_model.proofs.PlaceListLaws.{all_same}
+use Rattle.legal_moves.specs.Going.{IsMoved, position_of}
+use Rattle.legal_moves.proofs.Pairing.{brought_pair, moved_pair}
 use Rattle.legal_moves.proofs.pairs.piece_places.Goals as goal
 
-pub returns-else-may_bring-clause-places : goal.returns-else-may_bring-clause-places
-returns-else-may_bring-clause-places g c q =
+pub returns-then-may_bring : goal.returns-then-may_bring
+returns-then-may_bring g c =
+    let b = g.B.Board.stacks c.args.board.now in
+    let t = c.args.turn.now in
+    let may = c.may_bring.ensures.0 c.if-may_bring.true in
+    all_same (MayPlace b t.side) (LegalPair (position_of b t) c.args.piece) c.placement_places.new.out.items
+    (λ q. brought_pair t.game_type b t.side t.number t.rest c.args.piece q may) c.placement_places.ensures
+
+pub returns-else-may_bring : goal.returns-else-may_bring
+returns-else-may_bring g c =
     let b = g.B.Board.stacks c.args.board.now in
     let t = c.args.turn.now in
     let none = iff_false c.may_bring.ensures c.if-may_bring.false in
-    let law = moved_pair t.game_type b t.side t.number t.rest c.args.piece q none in
-    let listed = c.moved_places.ensures.places q in
-    (λ on. law.0 (listed.0 on), λ h. listed.1 (law.1 h))
+    all_same (IsMoved (position_of b t) c.args.piece) (LegalPair (position_of b t) c.args.piece) c.moved_places.new.out.items
+    (λ q. moved_pair t.game_type b t.side t.number t.rest c.args.piece q none) c.moved_places.ensures

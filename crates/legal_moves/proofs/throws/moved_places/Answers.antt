@@ -8,4 +8,4 @@ pub add_all_throws-requires-clause-list : goal.add_all_throws-requires-clause-li
 add_all_throws-requires-clause-list g c =
     let b = g.B.Board.stacks c.args.board.now in
     let queen = ap (is_in_play b) (sym c.queen.ensures) ∙ sym c.is_in_play.ensures ∙ c.if-not-is_in_play.false in
-    walk_goals (position_of b c.args.turn.now) c.requires.board queen c.args.piece c.walks.new.out.items c.walks.ensures.order c.walks.ensures.places
+    walk_goals (position_of b c.args.turn.now) c.requires.board queen c.args.piece c.walks.new.out.items c.walks.ensures
