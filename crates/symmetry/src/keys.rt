@@ -134,7 +134,7 @@ fn is_taken(from: Option<Spot>, to: Option<Spot>, symmetry: Symmetry, shift: Pla
 }
 
 /// The place with the shift added.
-fn moved(place: Place, shift: Place) -> Place
+pub fn moved(place: Place, shift: Place) -> Place
     requires place { IsWithin 20000 place }
     requires shift { IsWithin 40000 shift }
     ensures { result ≡ shifted shift place }

@@ -6,7 +6,7 @@ mod keys;
 mod laws;
 mod symmetry;
 
-pub use keys::alike;
+pub use keys::{alike, moved};
 pub use laws::{
     after_is_alike, images_are_boards, legal_moves_are_alike, shift_is_only, states_are_alike,
     symmetries_are_isometries, takes_are_tested,
