@@ -9,13 +9,12 @@ ghost use Rattle.hive_model.specs.Places.{IsWithin};
 ghost use Rattle.hive_model.specs.Boards.{IsBoard};
 ghost use Rattle.hive_model.specs.Positions.{Position, opening};
 ghost use Rattle.hive_model.specs.Keys.{key};
-ghost use Rattle.symmetry.specs.Images.{shifted};
 ghost use Rattle.symmetry.specs.Takes.{takes_by};
 ghost use Rattle.opening_book.specs.Book.{line_count};
 ghost use Rattle.opening_book.specs.Plies.{IsPlaced, AreShifts, is_taken_to, one_if};
 
 use hive_model::{Game, Key, Move, Place};
-use symmetry::{Symmetry, alike};
+use symmetry::{Symmetry, alike, moved};
 
 /// Adds to the count of each move the plies of the game whose move a symmetry takes to it, and
 /// takes the game back to its opening.
@@ -108,17 +107,5 @@ fn is_taken_by(index: u8, shift: Option<Place>, from: &Move, to: &Move) -> bool
                 && moved(Symmetry::at(index).place(*place), shift).is(*goal)
         }
         _ => false,
-    }
-}
-
-/// The place with the shift added.
-fn moved(place: Place, shift: Place) -> Place
-    requires place { IsWithin 20000 place }
-    requires shift { IsWithin 40000 shift }
-    ensures { result ≡ shifted shift place }
-{
-    Place {
-        q: place.q + shift.q,
-        r: place.r + shift.r,
     }
 }
