@@ -4,3 +4,4 @@ pub mod ChangeLaws
 pub mod KeeperLemmas
 pub mod TakenLemmas
 pub mod BoardLaws
+pub mod UpdateLaws

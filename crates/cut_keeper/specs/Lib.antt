@@ -2,3 +2,4 @@ pub mod Rings
 pub mod Keeping
 pub mod Examining
 pub mod Slots
+pub mod Updating

@@ -9,6 +9,7 @@ ghost use Rattle.cut_keeper.specs.Rings.{ring, ring_mask};
 ghost use Rattle.cut_keeper.specs.Keeping.{Grown, AreChanges, undone, keeper_of};
 ghost use Rattle.cut_keeper.specs.Slots.{AtMost};
 ghost use Rattle.cut_keeper.specs.Examining.{Known, Right, IsTold};
+ghost use Rattle.cut_keeper.specs.Updating.{MadeRight, Updated, TakesFew};
 
 use crate::examining::{beside, examine, examine_all, set_height};
 use crate::rings::mask_of;
@@ -33,9 +34,7 @@ fn added_beside<B: Board, L: Ledger>(
     requires mask { mask ≡ ring_mask (ring (is_occupied (B.stacks board.now)) place) }
     requires low { height_at (B.stacks board.now) place ≤ 1 }
     requires arc { OneArc (is_occupied (B.stacks board.now)) place }
-    ensures right { (p : Place) → Right keeper.new (B.stacks board.now) p }
-    ensures undone { undone result keeper.new ≡ keeper.old }
-    ensures told { IsTold keeper.new result }
+    ensures made { MadeRight (B.stacks board.now) keeper.old keeper.new result }
     ensures steps { steps.new ≤ steps.old + 4 }
 {
     let mut delta = Delta::new();
@@ -52,9 +51,7 @@ fn added_elsewhere<B: Board, L: Ledger>(
 ) -> Delta
     requires sound { IsBoard (B.stacks board.now) }
     requires known { Known keeper.old (B.stacks board.now) }
-    ensures right { (p : Place) → Right keeper.new (B.stacks board.now) p }
-    ensures undone { undone result keeper.new ≡ keeper.old }
-    ensures told { IsTold keeper.new result }
+    ensures made { MadeRight (B.stacks board.now) keeper.old keeper.new result }
     ensures steps { steps.new ≤ steps.old + 28 }
 {
     let mut delta = Delta::new();
@@ -71,12 +68,9 @@ fn added_by_case<B: Board, L: Ledger>(
     requires sound { IsBoard (B.stacks board.now) }
     requires grown { Grown keeper.old (B.stacks board.now) place }
     requires within { IsWithin 9500 place }
-    ensures right { (p : Place) → Right keeper.new (B.stacks board.now) p }
-    ensures undone { undone result keeper.new ≡ keeper.old }
-    ensures told { IsTold keeper.new result }
-    ensures none { 1 < height_at (B.stacks board.now) place → steps.new ≡ steps.old }
-    ensures few { OneArc (is_occupied (B.stacks board.now)) place → steps.new ≤ steps.old + 5 }
-    ensures most { steps.new ≤ steps.old + 28 }
+    ensures made { MadeRight (B.stacks board.now) keeper.old keeper.new result }
+    ensures steps { TakesFew (B.stacks board.now) place (1 < height_at (B.stacks board.now) place)
+        steps.old steps.new }
 {
     // where the place was occupied before, its height alone changes
     if board.height(place) > 1 {
@@ -98,13 +92,10 @@ pub(crate) fn added<B: Board, L: Ledger>(
 ) -> Delta
     requires grown { Grown keeper.old (B.stacks board.now) place }
     requires within { IsWithin 9500 place }
-    ensures stands { keeper.new ≡ keeper_of (B.stacks board.now) }
+    ensures updated { Updated (B.stacks board.now) keeper.old keeper.new result }
     ensures short { AtMost 28 keeper.new }
-    ensures undone { undone result keeper.new ≡ keeper.old }
-    ensures changes { AreChanges keeper.old keeper.new result }
-    ensures none { 1 < height_at (B.stacks board.now) place → steps.new ≡ steps.old }
-    ensures few { OneArc (is_occupied (B.stacks board.now)) place → steps.new ≤ steps.old + 5 }
-    ensures most { steps.new ≤ steps.old + 28 }
+    ensures steps { TakesFew (B.stacks board.now) place (1 < height_at (B.stacks board.now) place)
+        steps.old steps.new }
 {
     let _spot = board.spot(Piece::at(0));
     let delta = added_by_case(keeper, board, place, steps);

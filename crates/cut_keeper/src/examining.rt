@@ -9,6 +9,7 @@ ghost use Rattle.cut_keeper.specs.Rings.{ring, ring_mask, later};
 ghost use Rattle.cut_keeper.specs.Keeping.{status_on, with_status, undone, changed, status_of};
 ghost use Rattle.cut_keeper.specs.Slots.{Few};
 ghost use Rattle.cut_keeper.specs.Examining.{Room, Known, Right, RightButHeight, Pending, suspects, IsTold, Told};
+ghost use Rattle.cut_keeper.specs.Updating.{MadeRight, Updated, TakesFew};
 
 use crate::rings::is_suspect;
 use crate::statuses::{Change, Delta, Status, are_same};
@@ -42,9 +43,7 @@ pub(crate) fn change(keeper: &mut Store, place: Place, status: Option<Status>, d
 pub(crate) fn set_height<B: Board>(keeper: &mut Store, board: &B, place: Place) -> Delta
     requires sound { IsBoard (B.stacks board.now) }
     requires right { RightButHeight keeper.old (B.stacks board.now) place }
-    ensures right { (p : Place) → Right keeper.new (B.stacks board.now) p }
-    ensures undone { undone result keeper.new ≡ keeper.old }
-    ensures told { IsTold keeper.new result }
+    ensures { MadeRight (B.stacks board.now) keeper.old keeper.new result }
 {
     let height = board.height(place);
     match keeper.status(place) {

@@ -15,6 +15,7 @@ ghost use Rattle.cut_keeper.specs.Keeping.{
   undone,
 };
 ghost use Rattle.cut_keeper.specs.Slots.{AtMost};
+ghost use Rattle.cut_keeper.specs.Updating.{MadeRight, Updated, TakesFew};
 
 use crate::statuses::{Delta, Status};
 use crate::store::Store;
@@ -86,12 +87,9 @@ impl CutKeeper {
     ) -> Delta
         requires grown { Grown self.old (B.stacks board.now) place }
         requires within { IsWithin 9500 place }
-        ensures stands { self.new ≡ keeper_of (B.stacks board.now) }
-        ensures undone { undone result self.new ≡ self.old }
-        ensures changes { AreChanges self.old self.new result }
-        ensures none { 1 < height_at (B.stacks board.now) place → steps.new ≡ steps.old }
-        ensures few { OneArc (is_occupied (B.stacks board.now)) place → steps.new ≤ steps.old + 5 }
-        ensures most { steps.new ≤ steps.old + 28 }
+        ensures updated { Updated (B.stacks board.now) self.old self.new result }
+        ensures steps { TakesFew (B.stacks board.now) place (1 < height_at (B.stacks board.now) place)
+            steps.old steps.new }
     {
         adding::added(&mut self.store, board, place, steps)
     }
@@ -108,12 +106,9 @@ impl CutKeeper {
     ) -> Delta
         requires shrunk { Shrunk self.old (B.stacks board.now) place }
         requires within { IsWithin 9500 place }
-        ensures stands { self.new ≡ keeper_of (B.stacks board.now) }
-        ensures undone { undone result self.new ≡ self.old }
-        ensures changes { AreChanges self.old self.new result }
-        ensures none { 0 < height_at (B.stacks board.now) place → steps.new ≡ steps.old }
-        ensures few { OneArc (is_occupied (B.stacks board.now)) place → steps.new ≤ steps.old + 5 }
-        ensures most { steps.new ≤ steps.old + 28 }
+        ensures updated { Updated (B.stacks board.now) self.old self.new result }
+        ensures steps { TakesFew (B.stacks board.now) place (0 < height_at (B.stacks board.now) place)
+            steps.old steps.new }
     {
         removing::removed(&mut self.store, board, place, steps)
     }

@@ -5,6 +5,7 @@ ghost use Rattle.hive_model.specs.Places.{IsWithin};
 ghost use Rattle.hive_model.specs.Boards.{Stacks, spot_of, is_on_top, put, lift};
 ghost use Rattle.hive_model.specs.Spread.{IsNearAll};
 ghost use Rattle.cut_keeper.specs.Keeping.{Grown, Shrunk, keeper_of, undone};
+ghost use Rattle.cut_keeper.specs.Updating.{MadeRight, Updated, TakesFew};
 
 use crate::keeper::CutKeeper;
 use crate::statuses::Delta;
@@ -46,8 +47,7 @@ fn added_in<B: Board, L: Ledger>(
     requires some { 0 < L.parts }
     requires grown { Grown keeper.old (B.stacks board.now) place }
     requires within { IsWithin 9500 place }
-    ensures stands { keeper.new ≡ keeper_of (B.stacks board.now) }
-    ensures undone { undone result keeper.new ≡ keeper.old }
+    ensures { Updated (B.stacks board.now) keeper.old keeper.new result }
 {
     let mut steps = Steps::<L>::new(blank);
     keeper.added(board, place, &mut steps)
@@ -64,8 +64,7 @@ fn removed_in<B: Board, L: Ledger>(
     requires some { 0 < L.parts }
     requires shrunk { Shrunk keeper.old (B.stacks board.now) place }
     requires within { IsWithin 9500 place }
-    ensures stands { keeper.new ≡ keeper_of (B.stacks board.now) }
-    ensures undone { undone result keeper.new ≡ keeper.old }
+    ensures { Updated (B.stacks board.now) keeper.old keeper.new result }
 {
     let mut steps = Steps::<L>::new(blank);
     keeper.removed(board, place, &mut steps)
@@ -75,8 +74,7 @@ fn removed_in<B: Board, L: Ledger>(
 pub(crate) fn added_uncounted<B: Board>(keeper: &mut CutKeeper, board: &B, place: Place) -> Delta
     requires grown { Grown keeper.old (B.stacks board.now) place }
     requires within { IsWithin 9500 place }
-    ensures stands { keeper.new ≡ keeper_of (B.stacks board.now) }
-    ensures undone { undone result keeper.new ≡ keeper.old }
+    ensures { Updated (B.stacks board.now) keeper.old keeper.new result }
 {
     added_in::<B, Brand>(keeper, board, place, Blank::new(1))
 }
@@ -85,8 +83,7 @@ pub(crate) fn added_uncounted<B: Board>(keeper: &mut CutKeeper, board: &B, place
 pub(crate) fn removed_uncounted<B: Board>(keeper: &mut CutKeeper, board: &B, place: Place) -> Delta
     requires shrunk { Shrunk keeper.old (B.stacks board.now) place }
     requires within { IsWithin 9500 place }
-    ensures stands { keeper.new ≡ keeper_of (B.stacks board.now) }
-    ensures undone { undone result keeper.new ≡ keeper.old }
+    ensures { Updated (B.stacks board.now) keeper.old keeper.new result }
 {
     removed_in::<B, Brand>(keeper, board, place, Blank::new(1))
 }

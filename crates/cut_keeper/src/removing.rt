@@ -9,6 +9,7 @@ ghost use Rattle.cut_keeper.specs.Rings.{ring, ring_mask};
 ghost use Rattle.cut_keeper.specs.Keeping.{Shrunk, AreChanges, undone, keeper_of};
 ghost use Rattle.cut_keeper.specs.Slots.{AtMost};
 ghost use Rattle.cut_keeper.specs.Examining.{Right, IsTold};
+ghost use Rattle.cut_keeper.specs.Updating.{MadeRight, Updated, TakesFew};
 
 use crate::examining::{beside, change, examine_all, set_height};
 use crate::rings::mask_of;
@@ -33,9 +34,7 @@ fn removed_beside<B: Board, L: Ledger>(
     requires mask { mask ≡ ring_mask (ring (is_occupied (B.stacks board.now)) place) }
     requires low { height_at (B.stacks board.now) place ≡ 0 }
     requires arc { OneArc (is_occupied (B.stacks board.now)) place }
-    ensures right { (p : Place) → Right keeper.new (B.stacks board.now) p }
-    ensures undone { undone result keeper.new ≡ keeper.old }
-    ensures told { IsTold keeper.new result }
+    ensures made { MadeRight (B.stacks board.now) keeper.old keeper.new result }
     ensures steps { steps.new ≤ steps.old + 3 }
 {
     let mut delta = Delta::new();
@@ -54,9 +53,7 @@ fn removed_elsewhere<B: Board, L: Ledger>(
     requires sound { IsBoard (B.stacks board.now) }
     requires shrunk { Shrunk keeper.old (B.stacks board.now) place }
     requires low { height_at (B.stacks board.now) place ≡ 0 }
-    ensures right { (p : Place) → Right keeper.new (B.stacks board.now) p }
-    ensures undone { undone result keeper.new ≡ keeper.old }
-    ensures told { IsTold keeper.new result }
+    ensures made { MadeRight (B.stacks board.now) keeper.old keeper.new result }
     ensures steps { steps.new ≤ steps.old + 28 }
 {
     let mut delta = Delta::new();
@@ -74,12 +71,9 @@ fn removed_by_case<B: Board, L: Ledger>(
     requires sound { IsBoard (B.stacks board.now) }
     requires shrunk { Shrunk keeper.old (B.stacks board.now) place }
     requires within { IsWithin 9500 place }
-    ensures right { (p : Place) → Right keeper.new (B.stacks board.now) p }
-    ensures undone { undone result keeper.new ≡ keeper.old }
-    ensures told { IsTold keeper.new result }
-    ensures none { 0 < height_at (B.stacks board.now) place → steps.new ≡ steps.old }
-    ensures few { OneArc (is_occupied (B.stacks board.now)) place → steps.new ≤ steps.old + 5 }
-    ensures most { steps.new ≤ steps.old + 28 }
+    ensures made { MadeRight (B.stacks board.now) keeper.old keeper.new result }
+    ensures steps { TakesFew (B.stacks board.now) place (0 < height_at (B.stacks board.now) place)
+        steps.old steps.new }
 {
     // where the place is occupied still, its height alone changes
     if board.height(place) > 0 {
@@ -102,13 +96,10 @@ pub(crate) fn removed<B: Board, L: Ledger>(
 ) -> Delta
     requires shrunk { Shrunk keeper.old (B.stacks board.now) place }
     requires within { IsWithin 9500 place }
-    ensures stands { keeper.new ≡ keeper_of (B.stacks board.now) }
+    ensures updated { Updated (B.stacks board.now) keeper.old keeper.new result }
     ensures short { AtMost 28 keeper.new }
-    ensures undone { undone result keeper.new ≡ keeper.old }
-    ensures changes { AreChanges keeper.old keeper.new result }
-    ensures none { 0 < height_at (B.stacks board.now) place → steps.new ≡ steps.old }
-    ensures few { OneArc (is_occupied (B.stacks board.now)) place → steps.new ≤ steps.old + 5 }
-    ensures most { steps.new ≤ steps.old + 28 }
+    ensures steps { TakesFew (B.stacks board.now) place (0 < height_at (B.stacks board.now) place)
+        steps.old steps.new }
 {
     let _spot = board.spot(Piece::at(0));
     let delta = removed_by_case(keeper, board, place, steps);

@@ -1,7 +1,7 @@
 -- The tests of being far from a win, and from a loss, hold exactly where the relations do.
 use Rattle.std.proofs.Common.{◌≡◌, ℕ, ◌<◌, true, false, not, ◌||◌, ◌⊎◌, inl, inr, length, refl, sym, ◌∙◌, ap, subst, arith}
 use Rattle.std.specs.Prelude.{Option, Some, None, nat_eq, nat_lt}
-use Rattle.std.specs.List.{list_all, filter}
+use Rattle.std.specs.List.{filter}
 use Rattle.std.proofs.lemmas.Bool.{and_parts, and_from, or_cases, or_left, or_right, not-true, not_from_false, false_from_ne_true, ltb-true, lt-ltb, eqb-true, eq-eqb}
 use Rattle.hive_model.specs.declared.pieces.Colour.{Colour}
 use Rattle.hive_model.specs.declared.pieces.Kind.TheVariants.{Mosquito, Pillbug}
@@ -9,7 +9,7 @@ use Rattle.hive_model.specs.declared.places.Place.{Place}
 use Rattle.hive_model.specs.declared.places.Spot.{Spot}
 use Rattle.hive_model.specs.Pieces.{kind_of, colour_of, is_kind, is_colour, other_side, queen_of}
 use Rattle.hive_model.specs.Places.{step, dirs, neighbours}
-use Rattle.hive_model.specs.Boards.{Stacks, height_at, is_occupied, top_at, spot_of}
+use Rattle.hive_model.specs.Boards.{Stacks, height_at, is_occupied, is_walled, top_at, spot_of}
 use Rattle.hive_model.specs.Evaluation.{occupied_round}
 use Rattle.hive_model.specs.Positions.{Position}
 use Rattle.hive_model.proofs.PieceLaws.{same_kind, from_same_kind, same_colour, from_same_colour}
@@ -28,7 +28,7 @@ own_thrower_from c (Some y) e =
 
 hole_from : (b : Stacks) (q : Place) → is_hole b q ≡ true → IsHole b q
 hole_from b q e =
-    let both = and_parts (nat_eq (height_at b q) 0) (list_all (λ d. is_occupied b (step q d)) dirs) e in
+    let both = and_parts (nat_eq (height_at b q) 0) (is_walled b q) e in
     record { empty = eqb-true (height_at b q) 0 both.0; round = λ d. all_at (λ d. is_occupied b (step q d)) dirs d both.1 (dir_on d) }
 
 from_hole : (b : Stacks) (q : Place) → IsHole b q → is_hole b q ≡ true

@@ -5,7 +5,7 @@
 -- the side to move, which stands beside her, throws her to an empty place beside itself; and there she is surrounded only where
 -- that place was a hole in the hive, with all six places around it occupied.
 use Rattle.std.specs.Prelude.{◌≡◌, ℕ, ◌≤◌, Bool, true, false, not, ◌&&◌, ◌||◌, nat_eq, nat_lt, length, Option, Some, None, IsTrue, ◌⊎◌}
-use Rattle.std.specs.List.{list_any, list_all, filter}
+use Rattle.std.specs.List.{list_any, filter}
 use Rattle.hive_model.specs.declared.pieces.Colour.{Colour}
 use Rattle.hive_model.specs.declared.pieces.Kind.TheVariants.{Mosquito, Pillbug}
 use Rattle.hive_model.specs.declared.places.Place.{Place}
@@ -13,7 +13,7 @@ use Rattle.hive_model.specs.declared.places.Dir.{Dir}
 use Rattle.hive_model.specs.declared.places.Spot.{Spot}
 use Rattle.hive_model.specs.Pieces.{kind_of, colour_of, is_kind, is_colour, other_side, queen_of}
 use Rattle.hive_model.specs.Places.{step, dirs, neighbours}
-use Rattle.hive_model.specs.Boards.{Stacks, height_at, is_occupied, top_at, spot_of}
+use Rattle.hive_model.specs.Boards.{Stacks, height_at, is_occupied, is_walled, top_at, spot_of}
 use Rattle.hive_model.specs.Evaluation.{round_queen}
 use Rattle.hive_model.specs.Positions.{Position}
 
@@ -53,7 +53,7 @@ pub record IsFarFromLoss (p : Position) : Type 0 where
 -- The tests of these
 
 abbrev pub is_hole : Stacks → Place → Bool
-is_hole b q = nat_eq (height_at b q) 0 && list_all (λ d. is_occupied b (step q d)) dirs
+is_hole b q = nat_eq (height_at b q) 0 && is_walled b q
 
 -- a neighbour is a hole
 abbrev pub has_hole : Stacks → Place → Bool

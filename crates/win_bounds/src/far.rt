@@ -1,33 +1,20 @@
 //! The test of being far from a win, over any board.
 
 ghost use Rattle.std.specs.Prelude.{◌≡◌, ◌≤ℤ◌, pos, neg_ℤ, Some, IsTrue};
-ghost use Rattle.std.specs.List.{list_all};
 ghost use Rattle.hive_model.specs.Pieces.{other_side, queen_of};
-ghost use Rattle.hive_model.specs.Places.{IsWithin, dirs, step};
-ghost use Rattle.hive_model.specs.Boards.{IsBoard, is_occupied, spot_of, top_at};
+ghost use Rattle.hive_model.specs.Places.{IsWithin};
+ghost use Rattle.hive_model.specs.Boards.{IsBoard, spot_of, top_at};
 ghost use Rattle.hive_model.specs.Minimax.{value};
 ghost use Rattle.hive_model.specs.Courses.{position};
 ghost use Rattle.win_bounds.specs.FarFromWin.{is_hole, has_hole, is_own_thrower, throws_in, is_far_place, is_far_spot, is_far_from_win, is_home_spot, is_far_from_loss};
 
-use hive_model::{Board, Colour, Dir, Game, Kind, Piece, Place, is_occupied};
+use hive_model::{Board, Colour, Dir, Game, Kind, Piece, Place, is_walled};
 
 /// Whether a piece is a pillbug or a mosquito of the side.
 fn is_own_thrower(side: Colour, piece: Piece) -> bool
     ensures { result ≡ is_own_thrower side (Some piece) }
 {
     piece.colour().is(side) && (piece.kind().is(Kind::Pillbug) || piece.kind().is(Kind::Mosquito))
-}
-
-/// Whether all six neighbours of the place are occupied.
-fn is_walled<B: Board>(board: &B, place: Place) -> bool
-    requires { IsWithin 10000 place }
-    ensures { result ≡ list_all (λ d. is_occupied (B.stacks board.now) (step place d)) dirs }
-{
-    Dir::ALL.iter().all(
-        |d| -> bool
-            requires { IsWithin 10000 place }
-        { is_occupied(board, place.step(*d)) },
-    )
 }
 
 /// Whether the place is empty and all six neighbours are occupied.

@@ -1,7 +1,8 @@
-use Rattle.std.proofs.Common.{◌≡◌, sym, ap, subst, arith, inl, inr, length}
+use Rattle.std.proofs.Common.{◌≡◌, sym, ap, subst, arith, length}
 use Rattle.hive_model.specs.Places.{dirs}
 use Rattle.cut_keeper.specs.Examining.{Pending}
 use Rattle.cut_keeper.proofs.KeeperLemmas.{grown_known, grown_occupied, pending_arc, three_suspects}
+use Rattle.cut_keeper.proofs.UpdateLaws.{made_right, none_pending}
 use Rattle.cut_keeper.proofs.ChangeLaws.{all_told_none}
 use Rattle.cut_keeper.proofs.adding.added_beside.Goals as goal
 
@@ -19,8 +20,11 @@ beside-requires-clause-room g c =
     let none : length c.new-delta.result ≡ 0 = ap length c.new-delta.ensures in
     omega (arith, few, none, c.examine.ensures.room)
 
-pub returns-clause-right : goal.returns-clause-right
-returns-clause-right g c = λ p. elim (c.beside.ensures.pending p) [ inl right ↦ right | inr (d, on, leads, s) ↦ absurd on ]
+pub returns-clause-made : goal.returns-clause-made
+returns-clause-made g c =
+    let b = g.B.Board.stacks c.args.board.now in
+    made_right b c.args.keeper.now c.examine.new.keeper c.beside.new.keeper c.new-delta.result c.examine.new.delta c.beside.new.delta
+    c.new-delta.ensures c.examine.ensures.undone c.beside.ensures.undone (none_pending _ b c.args.place c.beside.ensures.pending) c.beside.ensures.told.told
 
 pub returns-clause-steps : goal.returns-clause-steps
 returns-clause-steps g c =

@@ -1,10 +1,11 @@
-use Rattle.std.proofs.Common.{◌≡◌, sym, ap, subst, arith, inl, inr, length}
+use Rattle.std.proofs.Common.{◌≡◌, sym, ap, subst, arith, length}
 use Rattle.hive_model.specs.Places.{dirs}
 use Rattle.cut_keeper.specs.Examining.{Pending}
 use Rattle.cut_keeper.proofs.KeeperLemmas.{few_known, three_suspects}
 use Rattle.cut_keeper.proofs.TakenLemmas.{shrunk_known, pending_less}
 use Rattle.hive_model.specs.Lists.{IsOn}
 use Rattle.cut_keeper.specs.Keeping.{changed}
+use Rattle.cut_keeper.proofs.UpdateLaws.{made_right, none_pending}
 use Rattle.cut_keeper.proofs.ChangeLaws.{told_none, told_taken}
 use Rattle.cut_keeper.proofs.removing.removed_beside.Goals as goal
 
@@ -24,8 +25,11 @@ beside-requires-clause-room g c =
     let none : length c.new-delta.result ≡ 0 = ap length c.new-delta.ensures in
     omega (arith, few, none, c.change.ensures.room)
 
-pub returns-clause-right : goal.returns-clause-right
-returns-clause-right g c = λ p. elim (c.beside.ensures.pending p) [ inl right ↦ right | inr (d, on, leads, s) ↦ absurd on ]
+pub returns-clause-made : goal.returns-clause-made
+returns-clause-made g c =
+    let b = g.B.Board.stacks c.args.board.now in
+    made_right b c.args.keeper.now c.change.new.keeper c.beside.new.keeper c.new-delta.result c.change.new.delta c.beside.new.delta
+    c.new-delta.ensures c.change.ensures.undone c.beside.ensures.undone (none_pending _ b c.args.place c.beside.ensures.pending) c.beside.ensures.told.told
 
 pub returns-clause-steps : goal.returns-clause-steps
 returns-clause-steps g c =

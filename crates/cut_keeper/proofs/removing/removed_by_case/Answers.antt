@@ -1,4 +1,4 @@
-use Rattle.std.proofs.Common.{rules, ◌<◌, sym, ◌∙◌}
+use Rattle.std.proofs.Common.{rules, ◌≡◌, ◌≤◌, ◌<◌, refl, sym, ◌∙◌, arith}
 use Rattle.hive_model.specs.Boards.{height_at}
 use Rattle.cut_keeper.proofs.KeeperLemmas.{arc_mask, mask_arc}
 use Rattle.cut_keeper.proofs.TakenLemmas.{shrunk_high}
@@ -13,5 +13,22 @@ set_height-requires-clause-right g c =
 pub removed_beside-requires-clause-arc : goal.removed_beside-requires-clause-arc
 removed_beside-requires-clause-arc g c = arc_mask (g.B.Board.stacks c.args.board.now) c.args.place c.mask_of-mask.result c.mask_of-mask.ensures.mask (sym c.arcs.ensures ∙ c.if-arcs-eq1.true)
 
-pub returns-clause-few : goal.returns-clause-few
-returns-clause-few g c = λ arc. absurd (c.if-arcs-eq1.false (c.arcs.ensures ∙ mask_arc (g.B.Board.stacks c.args.board.now) c.args.place c.mask_of-mask.result c.mask_of-mask.ensures.mask arc))
+pub returns-then-height-gt0-clause-steps : goal.returns-then-height-gt0-clause-steps
+returns-then-height-gt0-clause-steps g c = record { none = λ _. refl; few = λ _. omega arith; most = omega arith }
+
+pub returns-then-arcs-eq1-clause-steps : goal.returns-then-arcs-eq1-clause-steps
+returns-then-arcs-eq1-clause-steps g c =
+    let b = g.B.Board.stacks c.args.board.now in
+    let low : height_at b c.args.place ≡ 0 = search rules in
+    let steps = c.removed_beside.ensures.steps in
+    record { none = λ high. absurd (omega (arith, low, high)); few = λ _. omega (arith, steps); most = omega (arith, steps) }
+
+pub returns-clause-steps : goal.returns-clause-steps
+returns-clause-steps g c =
+    let b = g.B.Board.stacks c.args.board.now in
+    let low : height_at b c.args.place ≡ 0 = search rules in
+    record {
+      none = λ high. absurd (omega (arith, low, high));
+      few = λ arc. absurd (c.if-arcs-eq1.false (c.arcs.ensures ∙ mask_arc b c.args.place c.mask_of-mask.result c.mask_of-mask.ensures.mask arc));
+      most = c.removed_elsewhere.ensures.steps;
+    }
