@@ -3,12 +3,12 @@
 ghost use Rattle.std.specs.Prelude.{◌≡◌, ◌<◌, ◌+◌, ◌≤◌};
 ghost use Rattle.hive_model.specs.declared.places.Place.{Place};
 ghost use Rattle.hive_model.specs.Places.{IsWithin};
-ghost use Rattle.hive_model.specs.Boards.{Stacks, IsBoard, height_at, is_occupied};
+ghost use Rattle.hive_model.specs.Boards.{IsBoard, height_at, is_occupied};
 ghost use Rattle.arc_law.specs.Arcs.{OneArc};
 ghost use Rattle.cut_keeper.specs.Rings.{ring, ring_mask};
-ghost use Rattle.cut_keeper.specs.Keeping.{Grown, AreChanges, undone, keeper_of};
+ghost use Rattle.cut_keeper.specs.Keeping.{Grown};
 ghost use Rattle.cut_keeper.specs.Slots.{AtMost};
-ghost use Rattle.cut_keeper.specs.Examining.{Known, Right, IsTold};
+ghost use Rattle.cut_keeper.specs.Examining.{Known};
 ghost use Rattle.cut_keeper.specs.Updating.{MadeRight, Updated, TakesFew};
 
 use crate::examining::{beside, examine, examine_all, set_height};

@@ -4,12 +4,12 @@ ghost use Rattle.std.specs.Prelude.{◌≡◌, ◌<◌, ◌+◌, ◌≤◌, leng
 ghost use Rattle.hive_model.specs.declared.places.Place.{Place};
 ghost use Rattle.hive_model.specs.Lists.{IsOn};
 ghost use Rattle.hive_model.specs.Places.{IsWithin, dirs};
-ghost use Rattle.hive_model.specs.Boards.{Stacks, StandsAt, IsBoard, is_occupied, spot_of};
+ghost use Rattle.hive_model.specs.Boards.{StandsAt, IsBoard, is_occupied, spot_of};
 ghost use Rattle.cut_keeper.specs.Rings.{ring, ring_mask, later};
 ghost use Rattle.cut_keeper.specs.Keeping.{status_on, with_status, undone, changed, status_of};
 ghost use Rattle.cut_keeper.specs.Slots.{Few};
 ghost use Rattle.cut_keeper.specs.Examining.{Room, Known, Right, RightButHeight, Pending, suspects, IsTold, Told};
-ghost use Rattle.cut_keeper.specs.Updating.{MadeRight, Updated, TakesFew};
+ghost use Rattle.cut_keeper.specs.Updating.{MadeRight};
 
 use crate::rings::is_suspect;
 use crate::statuses::{Change, Delta, Status, are_same};

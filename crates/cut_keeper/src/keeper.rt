@@ -1,21 +1,19 @@
 //! The keeper.
 
-ghost use Rattle.std.specs.Prelude.{◌≡◌, ◌↔◌, ◌<◌, ◌+◌, ◌≤◌, [], length, IfOk, IsTrue, Some};
+ghost use Rattle.std.specs.Prelude.{◌≡◌, ◌↔◌, ◌<◌, ◌≤◌, [], length, IfOk, IsTrue, Some};
 ghost use Rattle.hive_model.specs.Places.{IsWithin};
-ghost use Rattle.hive_model.specs.Boards.{Stacks, IsBoard, height_at, is_occupied};
+ghost use Rattle.hive_model.specs.Boards.{Stacks, IsBoard, height_at};
 ghost use Rattle.hive_model.specs.Hive.{IsCut};
-ghost use Rattle.arc_law.specs.Arcs.{OneArc};
 ghost use Rattle.cut_keeper.specs.Keeping.{
   Grown,
   Shrunk,
-  AreChanges,
   keeper_of,
   is_cut_status,
   status_on,
   undone,
 };
 ghost use Rattle.cut_keeper.specs.Slots.{AtMost};
-ghost use Rattle.cut_keeper.specs.Updating.{MadeRight, Updated, TakesFew};
+ghost use Rattle.cut_keeper.specs.Updating.{Updated, TakesFew};
 
 use crate::statuses::{Delta, Status};
 use crate::store::Store;

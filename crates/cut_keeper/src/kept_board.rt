@@ -1,11 +1,11 @@
 //! A board with the keeper that stands for it.
 
-ghost use Rattle.std.specs.Prelude.{◌≡◌, ◌<◌, [], Some, IfOk, IfSome, IsNone, IsTrue};
+ghost use Rattle.std.specs.Prelude.{◌≡◌, ◌<◌, [], IfOk, IfSome, IsNone, IsTrue};
 ghost use Rattle.hive_model.specs.Places.{IsWithin};
 ghost use Rattle.hive_model.specs.Boards.{Stacks, spot_of, is_on_top, put, lift};
 ghost use Rattle.hive_model.specs.Spread.{IsNearAll};
 ghost use Rattle.cut_keeper.specs.Keeping.{Grown, Shrunk, keeper_of, undone};
-ghost use Rattle.cut_keeper.specs.Updating.{MadeRight, Updated, TakesFew};
+ghost use Rattle.cut_keeper.specs.Updating.{Updated};
 
 use crate::keeper::CutKeeper;
 use crate::statuses::Delta;

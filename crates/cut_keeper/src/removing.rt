@@ -3,12 +3,11 @@
 ghost use Rattle.std.specs.Prelude.{◌≡◌, ◌<◌, ◌+◌, ◌≤◌};
 ghost use Rattle.hive_model.specs.declared.places.Place.{Place};
 ghost use Rattle.hive_model.specs.Places.{IsWithin};
-ghost use Rattle.hive_model.specs.Boards.{Stacks, IsBoard, height_at, is_occupied};
+ghost use Rattle.hive_model.specs.Boards.{IsBoard, height_at, is_occupied};
 ghost use Rattle.arc_law.specs.Arcs.{OneArc};
 ghost use Rattle.cut_keeper.specs.Rings.{ring, ring_mask};
-ghost use Rattle.cut_keeper.specs.Keeping.{Shrunk, AreChanges, undone, keeper_of};
+ghost use Rattle.cut_keeper.specs.Keeping.{Shrunk};
 ghost use Rattle.cut_keeper.specs.Slots.{AtMost};
-ghost use Rattle.cut_keeper.specs.Examining.{Right, IsTold};
 ghost use Rattle.cut_keeper.specs.Updating.{MadeRight, Updated, TakesFew};
 
 use crate::examining::{beside, change, examine_all, set_height};

@@ -1,14 +1,14 @@
 -- Where a piece goes by its kind's rule.
-use Rattle.std.proofs.Common.{◌≡◌, ◌≢◌, ◌↔◌, ℕ, ◌+◌, ◌-◌, ◌<◌, Bool, true, false, not, List, ◌⊎◌, inl, inr, refl, sym, ◌∙◌, ap, subst, arith}
+use Rattle.std.proofs.Common.{◌≡◌, ◌≢◌, ◌↔◌, ℕ, ◌+◌, ◌-◌, ◌<◌, Bool, true, false, not, List, ◌⊎◌, inl, inr, refl, sym, ◌∙◌, subst, arith}
 use Rattle.std.specs.Prelude.{Option, Some, None, IsTrue}
-use Rattle.std.proofs.lemmas.Bool.{eq-eqb, not-true, not_from_false, false_from_ne_true}
+use Rattle.std.proofs.lemmas.Bool.{not-true, not_from_false, false_from_ne_true}
 use Rattle.hive_model.specs.declared.pieces.Kind.{Kind}
 use Rattle.hive_model.specs.declared.pieces.Kind.TheVariants.{Queen, Spider, Beetle, Grasshopper, Ant, Mosquito, Ladybug, Pillbug}
 use Rattle.hive_model.specs.declared.places.Place.{Place}
 use Rattle.hive_model.specs.declared.places.Spot.{Spot}
 use Rattle.hive_model.specs.PlaceLists.{AreAll}
 use Rattle.hive_model.specs.Pieces.{kind_of, colour_of}
-use Rattle.hive_model.specs.Boards.{Stacks, stack_at, height_at, is_occupied, spot_of, is_top_spot, is_on_top, lift}
+use Rattle.hive_model.specs.Boards.{Stacks, stack_at, height_at, is_occupied, spot_of, lift}
 use Rattle.hive_model.specs.Hive.{IsCut}
 use Rattle.hive_model.specs.Reach.{Reach, Copies, MovesAs}
 use Rattle.hive_model.specs.Evaluation.{IsFreePiece}

@@ -1,11 +1,10 @@
 //! Where a piece is thrown, and where a piece of the board goes at all.
 
-ghost use Rattle.std.specs.Prelude.{◌≡◌, ◌↔◌, ◌⊎◌, [], IsTrue};
+ghost use Rattle.std.specs.Prelude.{◌≡◌, ◌↔◌, ◌⊎◌, []};
 ghost use Rattle.hive_model.specs.declared.places.Place.{Place};
 ghost use Rattle.hive_model.specs.Lists.{IsOn};
 ghost use Rattle.hive_model.specs.PlaceLists.{AreAll};
 ghost use Rattle.hive_model.specs.Boards.{IsBoard, is_in_play};
-ghost use Rattle.hive_model.specs.Legal.{Walk};
 ghost use Rattle.hive_model.specs.Throws.{Throw};
 ghost use Rattle.legal_moves.specs.Going.{ThrownBy, AreGoals, IsMoved, position_of};
 

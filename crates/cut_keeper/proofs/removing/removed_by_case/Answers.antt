@@ -1,4 +1,4 @@
-use Rattle.std.proofs.Common.{rules, ◌≡◌, ◌≤◌, ◌<◌, refl, sym, ◌∙◌, arith}
+use Rattle.std.proofs.Common.{rules, ◌≡◌, ◌<◌, refl, sym, ◌∙◌, arith}
 use Rattle.hive_model.specs.Boards.{height_at}
 use Rattle.cut_keeper.proofs.KeeperLemmas.{arc_mask, mask_arc}
 use Rattle.cut_keeper.proofs.TakenLemmas.{shrunk_high}
