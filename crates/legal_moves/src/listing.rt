@@ -15,7 +15,7 @@ ghost use Rattle.legal_moves.specs.Listing.{IsPairBelow, GainsPairs};
 use crate::throws::moved_places;
 use crate::turns::Turn;
 use hand_rules::{may_bring, placement_places, push_each};
-use hive_model::{Board, Colour, Cuts, GameType, Move, MoveStack, Piece, Place, PlaceList};
+use hive_model::{Board, Colour, Cuts, GameType, Move, MoveStack, Piece, PlaceList};
 
 /// Puts the legal moves of the piece at the end of the last level. `open_places` are the places
 /// where the side may place, and `places` is a list to write on.
