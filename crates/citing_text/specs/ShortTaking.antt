@@ -2,7 +2,7 @@
 use Rattle.std.specs.Prelude.{◌≡◌, ℕ, Bool, List, [], ◌∷◌, Option, None, Some}
 use Rattle.claim_walks.specs.Follows.{Ending, Shown}
 use Rattle.claim_walks.specs.Items.{Lent}
-use Rattle.claim_walks.specs.Taking.{Moment, Taking, of_stop}
+use Rattle.claim_walks.specs.Taking.{Moment, Taking, moment_of, of_stop}
 use Rattle.claim_walks.specs.declared.items.ItemAnswer.{ItemAnswer}
 use Rattle.claim_walks.specs.declared.answers.Halt.TheVariants.{Bad, Failed, Full}
 use Rattle.claim_walks.specs.declared.answers.Stop.{Stop}
@@ -21,16 +21,8 @@ use Rattle.citing_text.specs.Shortening.{short_ending}
 
 -- The moment of a walk over indices, of which these tell the count of faults, whether no more may be read, and so on.
 abbrev pub short_moment : {I : Type 0} → (I → ℕ) → (I → Bool) → (I → ℕ) → (I → Lent) → (I → List ℕ → ℕ → Type 0) → (I → ItemAnswer ℕ → Type 0) → ShortWalk I → Moment ℕ
-short_moment faults full count lenders known met walk = record {
-  names = walk.indices.ghost_name ∷ walk.draft.ghost_name ∷ [];
-  taken = walk.draft.now.taken;
-  faults = faults walk.indices.now;
-  full = full walk.indices.now;
-  count = count walk.indices.now;
-  lenders = lenders walk.indices.now;
-  known = known walk.indices.now;
-  met = met walk.indices.now;
-}
+short_moment faults full count lenders known met walk =
+    moment_of faults full count lenders known met (walk.indices.ghost_name ∷ walk.draft.ghost_name ∷ []) walk.draft.now.taken walk.indices.now
 
 -- why it was ended, or none where there was no memory for a token
 abbrev pub of_short_stop : Option (Stop Why) → Option (WalkAnswer Why)

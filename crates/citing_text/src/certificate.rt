@@ -1,18 +1,14 @@
 //! The walk of a whole certificate that writes its tokens.
 
-ghost use Rattle.std.specs.Prelude.{◌≡◌, ◌≢◌, ◌≤◌, ℕ, List, [], Option, Some, None, IfSome};
+ghost use Rattle.std.specs.Prelude.{◌≡◌, ◌≤◌, ℕ, List, [], Option, Some, None, IfSome};
 ghost use Rattle.hive_model.specs.Legal.{moves};
 ghost use Rattle.hive_model.specs.Minimax.{IsInner, value, best};
 ghost use Rattle.hive_model.specs.Courses.{position};
 ghost use Rattle.search_laws.specs.Laws.{IsSmall};
-ghost use Rattle.claim_walks.specs.Walks.{go_on, finish, place_of, Outcome};
-ghost use Rattle.claim_walks.specs.Follows.{Meets};
-ghost use Rattle.strategy_check.specs.declared.answers.Why.{Why as AnyWhy};
-ghost use Rattle.strategy_lemmas.specs.Short.{ShortSteps, short_rules, shortened};
-ghost use Rattle.claim_walks.specs.Answers.{Ended, EndsAs, IsOfWalk, ended};
-ghost use Rattle.claim_walks.specs.Taking.{PartCauses};
+ghost use Rattle.claim_walks.specs.Walks.{place_of};
+ghost use Rattle.claim_walks.specs.Answers.{Ended};
+ghost use Rattle.strategy_lemmas.specs.Short.{shortened};
 ghost use Rattle.strategy_check.specs.Checks.{index_faults};
-ghost use Rattle.citing_text.specs.Shortening.{short_ending, short_seen, short_sight};
 ghost use Rattle.citing_text.specs.Migrating.{
   ShortAnswers,
   ShortCountsBad,
@@ -22,65 +18,9 @@ ghost use Rattle.citing_text.specs.Migrating.{
 
 use crate::draft::Draft;
 use crate::shortening::{ShortWalk, short_of};
-use claim_walks::{Checked, Claim, Halt, ItemAnswer, Items, WalkAnswer, walk_certificate};
+use claim_walks::{Checked, Claim, Items, answer_of, walk_certificate};
 use hive_model::{Game, MoveStack};
 use strategy_check::Why;
-
-/// That something is left over.
-fn left_over(draft: &Draft) -> Option<Checked<Why>>
-    ensures { result ≡ Some (Checked.Refused draft.now.taken Why.Rest) }
-{
-    Some(Checked::Refused {
-        place: draft.taken,
-        why: Why::Rest,
-    })
-}
-
-/// What the end of a walk makes of the whole: nothing may be left.
-fn answer_of<I: Items<Item = u32>>(
-    walked: Option<WalkAnswer<Why>>,
-    draft: &Draft,
-    indices: &mut I,
-) -> Option<Checked<Why>>
-    ensures done { result ≡ Some Checked.Accepted → walked ≡ Some WalkAnswer.Done }
-    ensures told { (o : Outcome ShortSteps AnyWhy)
-        → Meets short_sight o (short_ending walked) (short_seen (I.left indices.old) draft.now)
-        → ShortAnswers (go_on o (finish short_rules)) result draft.now }
-    ensures legal { (place : ℕ) → IfSome walked (λ answer. IsOfWalk index_faults answer)
-        → result ≢ Some (Checked.Refused place Why.NoSuchMove) }
-    ensures bad { (o : Outcome ShortSteps AnyWhy)
-        → Meets short_sight o (short_ending walked) (short_seen (I.left indices.old) draft.now)
-        → IfSome walked (λ answer. I.count indices.old ≡ ended answer draft.now.taken)
-        → ShortCountsBad (go_on o (finish short_rules)) result (I.count indices.new) }
-    ensures refused { IfSome walked (λ answer. I.count indices.old ≡ ended answer draft.now.taken)
-        → ShortCountsRefused result (I.count indices.new) }
-    ensures cause { (first : ℕ)
-        → PartCauses walked first (I.faults indices.old) (I.full indices.old)
-        → ShortEndCauses result first (I.faults indices.new) (I.full indices.new) }
-    ensures lenders { I.lenders indices.new ≡ I.lenders indices.old }
-    ensures known { (input : List ℕ) (before : ℕ) → I.known indices.old input before
-        → I.known indices.new input before }
-    ensures met { IfSome walked (λ answer. EndsAs index_faults (I.met indices.old) answer)
-        → IfSome result (λ checked. Ended index_faults (I.met indices.new) checked) }
-{
-    match walked {
-        Some(WalkAnswer::Done) => match indices.take() {
-            ItemAnswer::End => Some(Checked::Accepted),
-            ItemAnswer::Item(_) => left_over(draft),
-            ItemAnswer::Bad => left_over(draft),
-            ItemAnswer::Failed => Some(Checked::Halted {
-                answer: Halt::Failed,
-            }),
-            ItemAnswer::Full => Some(Checked::Halted { answer: Halt::Full }),
-        },
-        Some(WalkAnswer::Refuses(why)) => Some(Checked::Refused {
-            place: draft.taken,
-            why,
-        }),
-        Some(WalkAnswer::Halts(answer)) => Some(Checked::Halted { answer }),
-        None => None,
-    }
-}
 
 /// Checks a certificate as its indices come, and writes its tokens into the draft, which is empty.
 /// None where there was no memory. Game and stack are as before.
@@ -123,12 +63,12 @@ pub fn shorten_certificate<G: Game, I: Items<Item = u32>>(
     ensures stack { stack.new ≡ stack.old }
 {
     let mut walker = ShortWalk::new(indices, draft);
-    let walked = walk_certificate(game, claim, &mut walker, stack);
-    match walked {
-        Some(walked) => answer_of(short_of(walked), draft, indices),
-        None => Some(Checked::Refused {
+    let Some(walked) = walk_certificate(game, claim, &mut walker, stack) else {
+        return Some(Checked::Refused {
             place: 0,
             why: Why::NoSuchMove,
-        }),
-    }
+        });
+    };
+    let walked = short_of(walked)?;
+    Some(answer_of(walked, draft.taken, indices))
 }

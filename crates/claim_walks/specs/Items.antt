@@ -1,5 +1,5 @@
 -- Items that a walk takes, where they are told: each is one that it can take, or a bad item.
-use Rattle.std.specs.Prelude.{◌≡◌, ℕ, ◌+◌, ◌-◌, ◌^◌, min, List, [], ◌∷◌, map, ⊤, Option, Some, None}
+use Rattle.std.specs.Prelude.{◌≡◌, ℕ, ◌+◌, ◌-◌, ◌^◌, min, Bool, true, false, List, [], ◌∷◌, map, ⊤, Option, Some, None}
 use Rattle.std.specs.Option.{option_map}
 use Rattle.claim_walks.specs.declared.items.ItemAnswer.{ItemAnswer}
 use Rattle.claim_walks.specs.declared.items.ItemAnswer.TheVariants.{Item, End, Bad, Failed, Full}
@@ -16,6 +16,11 @@ in_front item told = option_map (λ items. item ∷ items) told
 abbrev pub IsAtEnd : {T : Type 0} → Told T → Type 0
 IsAtEnd None = ⊤
 IsAtEnd (Some items) = items ≡ []
+
+-- none of these is left
+abbrev pub is_none_left : {T : Type 0} → List T → Bool
+is_none_left [] = true
+is_none_left (x ∷ xs) = false
 
 -- what a call gave, and what it took away; items are told after it exactly where they were told before
 abbrev pub Takes : {T : Type 0} → ItemAnswer T → Told T → Told T → Type 0

@@ -24,6 +24,20 @@ pub record Moment (T : Type 0) : Type 1 where
   pub known : List ℕ → ℕ → Type 0
   pub met : ItemAnswer T → Type 0
 
+-- The moment of a walk that goes through references of these names and took so many of these items, of which the functions in front tell
+-- the count of faults, whether no more may be read, and so on.
+abbrev pub moment_of : {I T : Type 0} → (I → ℕ) → (I → Bool) → (I → ℕ) → (I → Lent) → (I → List ℕ → ℕ → Type 0) → (I → ItemAnswer T → Type 0) → List ℕ → ℕ → I → Moment T
+moment_of faults full count lenders known met names taken items = record {
+  names = names;
+  taken = taken;
+  faults = faults items;
+  full = full items;
+  count = count items;
+  lenders = lenders items;
+  known = known items;
+  met = met items;
+}
+
 -- why a part of a walk ended, or none where neither a fault nor the items ended it
 abbrev pub PartCauses : {W : Type 0} → Option (WalkAnswer W) → ℕ → ℕ → Bool → Type 0
 PartCauses None = ReadCauses ⊥ ⊥

@@ -82,39 +82,6 @@ fn walk_root<G: Game, W: Walker>(
     walk_moves(game, level, place + 1, count, depth, least, walker, stack)
 }
 
-/// The same with the search for the move's place; none where it is not on the level.
-fn walk_level<G: Game, W: Walker>(
-    game: &mut G,
-    level: u32,
-    claim: &Claim,
-    walker: &mut W,
-    stack: &mut MoveStack,
-) -> Option<Walked<W::Stop>>
-    requires deep { claim.now.depth ≤ 64 }
-    requires inner { IsInner (position (G.course game.old)) claim.now.depth }
-    requires small { IsSmall 1000064 claim.now.value }
-    requires spare { claim.now.depth ≤ (G.course game.old).spare }
-    requires room { claim.now.depth - 1 ≤ stack.old.free }
-    requires level { level < length stack.old.lists }
-    requires listed { level_of stack.old level ≡ moves (position (G.course game.old)) }
-    ensures shown { W.is_true walker.old → result ≡ Some Walked.Done
-        → (best (position (G.course game.old)) claim.now.depth ≡ Some claim.now.best)
-        × (value (position (G.course game.old)) claim.now.depth ≡ claim.now.value) }
-    ensures told { LeadsToEnd W.rules W.sight W.ending (position (G.course game.old))
-        claim.now.depth claim.now.best claim.now.value result
-        (W.seen walker.old) (W.seen walker.new) }
-    ensures illegal { place_of claim.now.best (moves (position (G.course game.old))) ≡ None
-        → result ≡ None }
-    ensures legal { result ≡ None
-        → place_of claim.now.best (moves (position (G.course game.old))) ≡ None }
-    ensures part { IsPartIf W.goes W.stops result walker.old walker.new }
-    ensures game { G.course game.new ≡ G.course game.old }
-    ensures stack { stack.new ≡ stack.old }
-{
-    let place = find_move(level, claim.best, stack)?;
-    Some(walk_root(game, level, place, claim, walker, stack))
-}
-
 /// Walks a certificate, all but the test that nothing is left over: it shows the claimed move to be
 /// the best one at the claimed depth, 1 to 64, and to be worth what is claimed. None where that
 /// move is not legal. The game is not over, and has room for `depth` more plies, as the stack for
@@ -146,7 +113,11 @@ pub fn walk_certificate<G: Game, W: Walker>(
 {
     let level = stack.levels();
     game.list(stack);
-    let walked = walk_level(game, level, claim, walker, stack);
+    let Some(place) = find_move(level, claim.best, stack) else {
+        stack.drop_level();
+        return None;
+    };
+    let walked = walk_root(game, level, place, claim, walker, stack);
     stack.drop_level();
-    walked
+    Some(walked)
 }

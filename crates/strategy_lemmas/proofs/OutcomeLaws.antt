@@ -10,12 +10,13 @@ use Rattle.hive_model.specs.Minimax.{value}
 use Rattle.search_laws.specs.Leaves.{IsLeaf}
 use Rattle.claim_walks.specs.declared.limit.Limit.{Limit}
 use Rattle.claim_walks.specs.declared.limit.Limit.TheVariants.{AtMost, AtLeast}
+use Rattle.claim_walks.specs.Items.{is_none_left}
 use Rattle.claim_walks.specs.Limits.{is_kept}
 use Rattle.claim_walks.specs.Walks.{Outcome, Left, Fault, Halt, Step, Below, Ends, go_on, walk_all, walk_at, walk_step, leaf_outcome, walk, walk_moves, walk_root, place_of, certificate}
 use Rattle.claim_walks.proofs.WalkLaws.{walk-leaf, walk-suc, walk-ends}
 use Rattle.strategy_check.specs.declared.answers.Why.{Why}
 use Rattle.strategy_check.specs.declared.answers.Why.TheVariants.{BadIndex, Rest}
-use Rattle.strategy_check.specs.Trace.{Steps, steps, take_index, index_rules, trace, checked, is_none_left}
+use Rattle.strategy_check.specs.Trace.{Steps, steps, take_index, index_rules, trace, checked}
 use Rattle.strategy_lemmas.specs.declared.tokens.Token.{Token}
 use Rattle.strategy_lemmas.specs.declared.tokens.Token.TheVariants.{Index, Cite}
 use Rattle.lemma_list.specs.declared.lemmas.Lemma.{Lemma}

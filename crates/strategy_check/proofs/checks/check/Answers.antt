@@ -1,32 +1,31 @@
-use Rattle.std.proofs.Common.{rules, ◌≡◌, subst}
-use Rattle.claim_walks.specs.Answers.{Causes, ended, ending}
-use Rattle.claim_walks.specs.Follows.{Meets}
-use Rattle.claim_walks.proofs.ItemLaws.{answers-as, bad-as, meets-is, taking-is}
-use Rattle.strategy_check.specs.declared.answers.Why.TheVariants.{LeafFails, BadIndex}
+use Rattle.std.proofs.Common.{rules, refl, subst}
+use Rattle.claim_walks.specs.Answers.{Causes}
+use Rattle.claim_walks.proofs.ItemLaws.{taking-is}
+use Rattle.claim_walks.proofs.EndLaws.{certificate-answers, certificate-counts}
+use Rattle.strategy_check.specs.declared.answers.Why.TheVariants.{LeafFails, BadIndex, Rest}
 use Rattle.strategy_check.specs.Trace.{index_rules, steps}
 use Rattle.strategy_check.specs.Checks.{index_faults, index_sight, seen}
 use Rattle.strategy_check.specs.Taking.{moment}
-use Rattle.strategy_check.proofs.IndexWalks.{leaf-inner, place-inner}
+use Rattle.strategy_check.proofs.IndexWalks.{leaf-inner, place-inner, seen-tells}
 use Rattle.strategy_check.proofs.checks.check.Goals as goal
 
 pub returns-in-Some-clause-told : goal.returns-in-Some-clause-told
 returns-in-Some-clause-told g c = λ items e.
     let t = c.in-Some.ensures.told (steps items 0) (search rules) in
     let after = c.walk_certificate-walked.new.walker in
-    answers-as _ _ c.answer_of.result t.1
-    (c.answer_of.ensures.told t.0
-    (subst (λ x. Meets index_sight t.0 (ending c.walk_answer.result) (seen (g.I.Items.left x) after.taken)) (search rules) (meets-is index_rules index_sight t.0 c.in-Some.walked c.walk_answer.result _ c.walk_answer.ensures t.2)))
+    let told = g.I.Items.left after.indices.now in
+    certificate-answers index_rules index_sight told after.taken (seen told after.taken) (seen-tells told after.taken) Rest _ t.0 c.in-Some.walked c.walk_answer.result _ c.answer_of.result refl t.1 t.2 refl
+    c.walk_answer.ensures (search rules)
 
 pub returns-in-Some-clause-bad : goal.returns-in-Some-clause-bad
 returns-in-Some-clause-bad g c = λ items e none.
     let t = c.in-Some.ensures.told (steps items 0) (search rules) in
     let after = c.walk_certificate-walked.new.walker in
+    let told = g.I.Items.left after.indices.now in
     let at = moment g.I.Items.faults g.I.Items.full g.I.Items.count g.I.Items.lenders g.I.Items.known g.I.Items.met in
     let part = taking-is index_faults LeafFails BadIndex leaf-inner place-inner at c.in-Some.walked c.walk_answer.result _ after c.walk_answer.ensures c.in-Some.ensures.part in
-    bad-as _ _ c.answer_of.result _ t.1
-    (c.answer_of.ensures.bad t.0
-    (subst (λ x. Meets index_sight t.0 (ending c.walk_answer.result) (seen (g.I.Items.left x) after.taken)) (search rules) (meets-is index_rules index_sight t.0 c.in-Some.walked c.walk_answer.result _ c.walk_answer.ensures t.2))
-    (subst (λ x. g.I.Items.count x ≡ ended c.walk_answer.result after.taken) (search rules) (part.counted (search rules))))
+    certificate-counts index_rules index_sight told after.taken (seen told after.taken) (seen-tells told after.taken) Rest _ t.0 c.in-Some.walked c.walk_answer.result _ c.answer_of.result (g.I.Items.count after.indices.now) _ t.1 t.2 refl
+    c.walk_answer.ensures (search rules) (part.counted (search rules)) (search rules)
 
 pub returns-in-Some-clause-cause : goal.returns-in-Some-clause-cause
 returns-in-Some-clause-cause g c =

@@ -1,0 +1,92 @@
+-- What the answer of a whole check says of the walk.
+use Rattle.std.proofs.Common.{◌≡◌, ℕ, ◌+◌, Bool, true, false, cond, List, [], ◌∷◌, refl, sym, ap, subst, arith, ◌∙◌, Option, Some}
+use Rattle.claim_walks.specs.Walks.{Outcome, Left, Fault, Rules, go_on, finish}
+use Rattle.claim_walks.specs.Follows.{held, Sight, Meets}
+use Rattle.claim_walks.specs.Items.{Told, IsAtEnd, is_none_left}
+use Rattle.claim_walks.specs.Answers.{Answers, CountsBad, ended, ending}
+use Rattle.claim_walks.specs.Parts.{ending_of}
+use Rattle.claim_walks.specs.Taking.{of_walk, stop_ending}
+use Rattle.claim_walks.proofs.ItemLaws.{answers-as, bad-as, meets-is}
+use Rattle.claim_walks.specs.Ends.{IsLastLook, IsWhole}
+use Rattle.claim_walks.specs.declared.answers.Halt.TheVariants.{Bad, Failed, Full}
+use Rattle.claim_walks.specs.declared.answers.Stop.{Stop}
+use Rattle.claim_walks.specs.declared.answers.WalkAnswer.{WalkAnswer}
+use Rattle.claim_walks.specs.declared.answers.WalkAnswer.TheVariants.{Done, Refuses, Halts}
+use Rattle.claim_walks.specs.declared.answers.Checked.{Checked}
+use Rattle.claim_walks.specs.declared.answers.Checked.TheVariants.{Accepted, Refused, Halted}
+use Rattle.claim_walks.specs.declared.walker.Walked.{Walked}
+
+-- ---- what is left over
+
+none-is : {T : Type 0} (told : Told T) (items : List (Option T)) → told ≡ Some items → IsAtEnd told → is_none_left items ≡ true
+none-is told items e at_end = let empty : items ≡ [] = subst IsAtEnd e at_end in ap is_none_left empty
+
+some-is : {T : Type 0} (told : Told T) (items : List (Option T)) → told ≡ Some items → (told ≡ Some [] → ⊥) → is_none_left items ≡ false
+some-is told [] e more = absurd (more e)
+some-is told (x ∷ items) e more = refl
+
+-- ---- what is answered
+
+-- what is seen tells of the items that are left, and of so many that were taken
+pub record Tells {S W N T : Type 0} (R : Rules S W) (V : Sight S N) (told : Told T) (taken : ℕ) (n : N) : Type 0 where
+  pub items : S → List (Option T)
+  pub left : (s : S) → n ≡ V.view s → told ≡ Some (items s)
+  pub count : (s : S) → n ≡ V.view s → taken ≡ held (R.taken s)
+  pub place : V.place n ≡ taken
+  pub ends : (s : S) → R.at_end s ≡ is_none_left (items s)
+
+module _ {S W N T : Type 0} (R : Rules S W) (V : Sight S N) (told : Told T) (taken : ℕ) (n : N) (tells : Tells R V told taken n) where
+  finishes : (s : S) (b : Bool) → R.at_end s ≡ b → finish R s ≡ cond b (Left s) (Fault R.rest (R.taken s))
+  finishes s b e = ap (λ (x : Bool). cond x (Left s) (Fault R.rest (R.taken s))) e
+
+  last-look : (rest : W) (answer : Checked W) (o : Outcome S W) (s : S) → R.rest ≡ rest → o ≡ Left s → n ≡ V.view s → IsLastLook rest taken told answer → Answers (go_on o (finish R)) answer
+  last-look rest Accepted o s is left seen look =
+      (s, ap (λ (x : Outcome S W). go_on x (finish R)) left ∙ finishes s true (tells.ends s ∙ none-is told (tells.items s) (tells.left s seen) look))
+  last-look rest (Refused place why) o s is left seen look = (
+    R.taken s,
+    ap (λ (x : Outcome S W). go_on x (finish R)) left ∙ finishes s false (tells.ends s ∙ some-is told (tells.items s) (tells.left s seen) look.2) ∙ ap (λ (w : W). Fault w (R.taken s)) (is ∙ sym look.1),
+    look.0 ∙ tells.count s seen,
+  )
+  last-look rest (Halted Bad) o s is left seen look = absurd look
+  last-look rest (Halted Failed) o s is left seen look = tt
+  last-look rest (Halted Full) o s is left seen look = tt
+
+  pub whole-answers : (rest : W) (walked : WalkAnswer W) (answer : Checked W) (o : Outcome S W) → R.rest ≡ rest → Meets V o (ending walked) n → IsWhole rest walked taken told answer → Answers (go_on o (finish R)) answer
+  whole-answers rest Done answer o is m whole = last-look rest answer o m.0 is m.1 m.2 whole
+  whole-answers rest (Refuses why) answer o is m whole =
+      subst (λ (x : Checked W). Answers (go_on o (finish R)) x) (sym whole) (m.0, ap (λ (x : Outcome S W). go_on x (finish R)) m.1, sym tells.place ∙ m.2)
+  whole-answers rest (Halts Bad) answer o is m whole = subst (λ (x : Checked W). Answers (go_on o (finish R)) x) (sym whole) (m.0, ap (λ (x : Outcome S W). go_on x (finish R)) m.1)
+  whole-answers rest (Halts Failed) answer o is m whole = subst (λ (x : Checked W). Answers (go_on o (finish R)) x) (sym whole) tt
+  whole-answers rest (Halts Full) answer o is m whole = subst (λ (x : Checked W). Answers (go_on o (finish R)) x) (sym whole) tt
+
+  look-counts : (rest : W) (answer : Checked W) (o : Outcome S W) (count : ℕ) → IsLastLook rest taken told answer → CountsBad (go_on o (finish R)) answer count
+  look-counts rest Accepted o count look = tt
+  look-counts rest (Refused place why) o count look = tt
+  look-counts rest (Halted Bad) o count look = absurd look
+  look-counts rest (Halted Failed) o count look = tt
+  look-counts rest (Halted Full) o count look = tt
+
+  pub whole-counts : (rest : W) (walked : WalkAnswer W) (answer : Checked W) (o : Outcome S W) (before after : ℕ) → Meets V o (ending walked) n → IsWhole rest walked taken told answer → before ≡ ended walked taken → (answer ≡ Halted Bad → after ≡ before) →
+      CountsBad (go_on o (finish R)) answer after
+  whole-counts rest Done answer o before after m whole count same = look-counts rest answer o after whole
+  whole-counts rest (Refuses why) answer o before after m whole count same = subst (λ (x : Checked W). CountsBad (go_on o (finish R)) x after) (sym whole) tt
+  whole-counts rest (Halts Bad) answer o before after m whole count same =
+      let stands : after ≡ before = same whole in
+      let place : taken ≡ held m.0 = sym tells.place ∙ m.2 in
+      let is : after ≡ held (m.0 + 1) = omega (arith, stands, count, place) in
+      subst (λ (x : Checked W). CountsBad (go_on o (finish R)) x after) (sym whole) (m.0, ap (λ (x : Outcome S W). go_on x (finish R)) m.1, is)
+  whole-counts rest (Halts Failed) answer o before after m whole count same = subst (λ (x : Checked W). CountsBad (go_on o (finish R)) x after) (sym whole) tt
+  whole-counts rest (Halts Full) answer o before after m whole count same = subst (λ (x : Checked W). CountsBad (go_on o (finish R)) x after) (sym whole) tt
+
+  -- the same of the walk of a whole certificate, as the code ends it
+  pub certificate-answers : (rest : W) (whole_walk o : Outcome S W) (w : Walked (Stop W)) (walked : WalkAnswer W) (seen : N) (answer : Checked W) → R.rest ≡ rest → whole_walk ≡ go_on o (finish R) → Meets V o (ending_of R stop_ending w) seen → seen ≡ n →
+      walked ≡ of_walk R.leaf_fails R.bad_index w → IsWhole rest walked taken told answer → Answers whole_walk answer
+  certificate-answers rest whole_walk o w walked seen answer is e m same ends whole =
+      answers-as whole_walk (go_on o (finish R)) answer e
+      (whole-answers rest walked answer o is (subst (λ (x : N). Meets V o (ending walked) x) same (meets-is R V o w walked seen ends m)) whole)
+
+  pub certificate-counts : (rest : W) (whole_walk o : Outcome S W) (w : Walked (Stop W)) (walked : WalkAnswer W) (seen : N) (answer : Checked W) (before after : ℕ) → whole_walk ≡ go_on o (finish R) → Meets V o (ending_of R stop_ending w) seen → seen ≡ n →
+      walked ≡ of_walk R.leaf_fails R.bad_index w → IsWhole rest walked taken told answer → before ≡ ended walked taken → (answer ≡ Halted Bad → after ≡ before) → CountsBad whole_walk answer after
+  certificate-counts rest whole_walk o w walked seen answer before after e m same ends whole count stands =
+      bad-as whole_walk (go_on o (finish R)) answer after e
+      (whole-counts rest walked answer o before after (subst (λ (x : N). Meets V o (ending walked) x) same (meets-is R V o w walked seen ends m)) whole count stands)
