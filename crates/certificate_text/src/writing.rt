@@ -1,4 +1,4 @@
-//! The head of a certificate, as it is written.
+//! The head of a certificate and the lines behind it, as they are written.
 
 ghost use Rattle.std.specs.Prelude.{◌≡◌, ◌++◌, codes, decimal, OnOk, IfOk};
 ghost use Rattle.std.specs.Fmt.{signed_decimal};
@@ -7,8 +7,9 @@ ghost use Rattle.hive_model.specs.Legal.{moves};
 ghost use Rattle.hive_model.specs.Games.{IsGame};
 ghost use Rattle.hive_model.specs.Courses.{position};
 ghost use Rattle.hive_model.specs.Denotes.{text as text_of};
-ghost use Rattle.certificate_text.specs.Text.{head_text, written_line};
+ghost use Rattle.certificate_text.specs.Text.{head_text, index_line, written_line};
 
+use arrayvec::ArrayString;
 use claim_walks::Claim;
 use game_text::write_game;
 use hive_model::{Game, Move, ReplyText};
@@ -88,4 +89,15 @@ pub fn write_head<G: Game + Drop>(
     push_move(&mut text, game, claim.best)?;
     push_value(&mut text, claim.value)?;
     Ok(text)
+}
+
+/// An index on a line of its own.
+pub fn index_line(index: u32) -> ArrayString<16>
+    ensures { result.bytes ≡ index_line index }
+{
+    let mut line = ArrayString::new();
+    let mut buffer = Buffer::new();
+    line.push_str(buffer.format(index));
+    line.push_str("\n");
+    line
 }

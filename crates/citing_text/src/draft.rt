@@ -2,12 +2,11 @@
 
 ghost use Rattle.std.specs.Prelude.{◌≡◌, [], IfOk};
 ghost use Rattle.std.specs.Bool.{OnTrue};
-ghost use Rattle.claim_walks.specs.Follows.{held};
-ghost use Rattle.certificate_text.specs.Text.{index_line};
 ghost use Rattle.citing_text.specs.TokenText.{cite_line};
 ghost use Rattle.citing_text.specs.Drafts.{with_index, with_cite};
 
 use arrayvec::ArrayString;
+use certificate_text::index_line;
 use hive_model::ReplyText;
 use itoa::Buffer;
 use std::alloc::{AllocError, Global};
@@ -20,17 +19,6 @@ pub struct Draft {
     pub taken: u64,
     pub lemmas: Lemmas,
     pub text: ReplyText,
-}
-
-/// An index on a line of its own.
-fn index_line(index: u32) -> ArrayString<16>
-    ensures { result.bytes ≡ index_line index }
-{
-    let mut line = ArrayString::new();
-    let mut buffer = Buffer::new();
-    line.push_str(buffer.format(index));
-    line.push_str("\n");
-    line
 }
 
 /// What is cited on a line of its own.

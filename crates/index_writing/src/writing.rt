@@ -23,22 +23,10 @@ ghost use Rattle.index_writing.specs.Writing.{
 };
 
 use crate::judge::Judge;
-use arrayvec::ArrayString;
+use certificate_text::index_line;
 use claim_walks::Limit;
 use hive_model::{Game, Move, MoveStack};
 use io_edge::{Sink, write_all};
-use itoa::Buffer;
-
-/// An index on a line of its own.
-fn index_line(index: u32) -> ArrayString<16>
-    ensures { result.bytes ≡ index_line index }
-{
-    let mut line = ArrayString::new();
-    let mut buffer = Buffer::new();
-    line.push_str(buffer.format(index));
-    line.push_str("\n");
-    line
-}
 
 /// Writes an index.
 fn write_index<K: Sink>(index: u32, sink: &mut K) -> bool
