@@ -1,3 +1,4 @@
 pub mod TokenTextLaws
 pub mod ShortWalks
 pub mod Migrations
+pub mod EndWalks

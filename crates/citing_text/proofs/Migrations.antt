@@ -1,11 +1,8 @@
 -- What the walk of a whole certificate that writes tokens says of the indices.
-use Rattle.std.proofs.Common.{◌≡◌, ℕ, Bool, List, sym, ap, subst, ◌∙◌, ℤ, Option, Some, None}
+use Rattle.std.proofs.Common.{◌≡◌, ℕ, List, sym, ap, subst, ◌∙◌, ℤ, Option, Some}
 use Rattle.hive_model.specs.declared.places.Move.{Move}
 use Rattle.hive_model.specs.Positions.{Position}
 use Rattle.claim_walks.specs.Walks.{Outcome, Left, Fault, Halt}
-use Rattle.claim_walks.specs.Answers.{Causes, ReadCauses}
-use Rattle.claim_walks.specs.Taking.{PartCauses}
-use Rattle.claim_walks.specs.declared.answers.WalkAnswer.{WalkAnswer}
 use Rattle.strategy_check.specs.declared.answers.Why.{Why}
 use Rattle.claim_walks.specs.declared.answers.Halt.{Halt as AnyHalt}
 use Rattle.claim_walks.specs.declared.answers.Halt.TheVariants.{Bad, Failed, Full}
@@ -21,18 +18,8 @@ use Rattle.citing_text.specs.declared.migrating.Migrated.TheVariants.{Halted}
 use Rattle.citing_text.specs.TokenText.{token_lines}
 use Rattle.citing_text.specs.Migrating.{ShortAnswers, ShortCountsBad, Shortens, MigrateAnswers, MigrateCountsBad}
 
--- why the items ended a part of a walk, by how it ended
-pub part-causes : (answer : Option (WalkAnswer Why)) (walked : WalkAnswer Why) (first now : ℕ) (full : Bool) → answer ≡ Some walked → PartCauses answer first now full → Causes walked first now full
-part-causes answer walked first now full is h = subst (λ (x : Option (WalkAnswer Why)). PartCauses x first now full) is h
-
-pub no-causes : (answer : Option (WalkAnswer Why)) (first now : ℕ) (full : Bool) → answer ≡ None → PartCauses answer first now full → ReadCauses ⊥ ⊥ first now full
-no-causes answer first now full is h = subst (λ (x : Option (WalkAnswer Why)). PartCauses x first now full) is h
-
 pub answers-as : (o q : Outcome ShortSteps Why) (answer : Option (Checked Why)) (d : Draft) → o ≡ q → ShortAnswers q answer d → ShortAnswers o answer d
 answers-as o q answer d e h = subst (λ (x : Outcome ShortSteps Why). ShortAnswers x answer d) (sym e) h
-
-pub bad-as : (o q : Outcome ShortSteps Why) (answer : Option (Checked Why)) (count : ℕ) → o ≡ q → ShortCountsBad q answer count → ShortCountsBad o answer count
-bad-as o q answer count e h = subst (λ (x : Outcome ShortSteps Why). ShortCountsBad x answer count) (sym e) h
 
 module _ (p : Position) (d : ℕ) (m : Move) (v : ℤ) (items : List (Option ℕ)) where
   checked-is : (o : Outcome ShortSteps Why) → shortened p d m v items ≡ o → checked p d m v items ≡ of_indices o

@@ -1,6 +1,5 @@
 -- What the code of a walk that writes tokens finds at a node, and what its answers say.
 use Rattle.std.proofs.Common.{◌≡◌, ℕ, ◌+◌, Bool, true, false, List, [], ◌∷◌, ◌++◌, refl, sym, ap, subst, ◌∙◌, ℤ, Option, Some, None}
-use Rattle.std.specs.Prelude.{IfSome}
 use Rattle.std.specs.Bool.{OnTrue}
 use Rattle.hive_model.specs.Positions.{Position}
 use Rattle.hive_model.specs.Keys.{KeyParts, key}
@@ -8,7 +7,6 @@ use Rattle.claim_walks.specs.declared.limit.Limit.TheVariants.{AtLeast}
 use Rattle.claim_walks.specs.declared.walker.Walked.{Walked}
 use Rattle.claim_walks.specs.declared.walker.Walked.TheVariants.{Done as AllDone, LeafFails as ALeafFails, BadIndex as ABadIndex, Stops}
 use Rattle.claim_walks.specs.declared.walker.Took.{Took}
-use Rattle.claim_walks.specs.declared.walker.Took.TheVariants.{Shown as TookShown}
 use Rattle.claim_walks.specs.declared.answers.Halt.TheVariants.{Bad, Failed, Full}
 use Rattle.claim_walks.specs.declared.answers.Stop.{Stop}
 use Rattle.claim_walks.specs.declared.answers.WalkAnswer.{WalkAnswer}
@@ -18,14 +16,14 @@ use Rattle.claim_walks.specs.Items.{Told, Takes}
 use Rattle.claim_walks.specs.Walks.{Outcome, Step, Below, Ends}
 use Rattle.claim_walks.specs.Follows.{held, Ending, Refused as RefusedFor, BadItem, Meets, Follows}
 use Rattle.claim_walks.specs.Parts.{IsPart, IsFoundBy, EndsHere, Finds, ending_of}
-use Rattle.claim_walks.specs.Answers.{CountsOn, ended, ending}
+use Rattle.claim_walks.specs.Answers.{ending}
 use Rattle.claim_walks.specs.Taking.{Moment, Taking, GoesOn}
 use Rattle.claim_walks.proofs.NodeLaws.{ends-here}
 use Rattle.claim_walks.proofs.ItemLaws.{refuses}
 use Rattle.strategy_check.specs.declared.answers.Why.{Why}
 use Rattle.strategy_check.specs.declared.answers.Why.TheVariants.{BadIndex, LeafFails, TooShort}
 use Rattle.strategy_check.specs.Checks.{seen, index_sight, index_faults}
-use Rattle.strategy_check.specs.Trace.{Steps, trace}
+use Rattle.strategy_check.specs.Trace.{Steps, take_index, trace}
 use Rattle.strategy_check.proofs.IndexWalks as items
 use Rattle.strategy_lemmas.specs.declared.tokens.Token.{Token}
 use Rattle.strategy_lemmas.specs.declared.tokens.Token.TheVariants.{Index, Cite}
@@ -74,13 +72,13 @@ draft-is n k ls ks t u a b c = λ i. record { taken = a i; lemmas = b i; text = 
 pub seen-is : (a b : Told ℕ) (d e : Draft) → a ≡ b → d ≡ e → short_seen a d ≡ short_seen b e
 seen-is a b d e p q = λ i. short_seen (p i) (q i)
 
-record Is (a : Told ℕ) (d : Draft) (s : ShortSteps) : Type 0 where
-  left : a ≡ Some s.items.left
-  taken : d.taken ≡ held s.items.taken
-  lemmas : d.lemmas ≡ s.lemmas
-  text : d.text ≡ token_lines s.written
+pub record Is (a : Told ℕ) (d : Draft) (s : ShortSteps) : Type 0 where
+  pub left : a ≡ Some s.items.left
+  pub taken : d.taken ≡ held s.items.taken
+  pub lemmas : d.lemmas ≡ s.lemmas
+  pub text : d.text ≡ token_lines s.written
 
-told-is : (a : Told ℕ) (d : Draft) (s : ShortSteps) → short_seen a d ≡ short_sight.view s → Is a d s
+pub told-is : (a : Told ℕ) (d : Draft) (s : ShortSteps) → short_seen a d ≡ short_sight.view s → Is a d s
 told-is a d s e = record {
   left = ap (λ (x : ShortSeen). x.told) e;
   taken = ap (λ (x : ShortSeen). x.draft.taken) e;
@@ -107,26 +105,6 @@ index-took p d x a b draft i took none s e =
       seen-is b (Some t.0.left) (with_index i draft) (draft_of s1) (ap (λ x. x.told) t.2)
           (draft-is (held (draft.taken + 1)) (held t.0.taken) draft.lemmas s.lemmas (draft.text ++ index_line i) (token_lines (s.written ++ Index i ∷ [])) (ap (λ x. x.taken) t.2) is.lemmas
           (ap (λ u. u ++ index_line i) is.text ∙ sym (lines-more s.written (Index i)))),
-    )
-
-pub end-took : (p : Position) (d : ℕ) (x : ℤ) (a b : Told ℕ) (draft : Draft) → Takes End a b → server (key p) d x draft.lemmas ≡ None → (s : ShortSteps) → short_seen a draft ≡ short_sight.view s →
-    (o : Outcome ShortSteps Why) × (short_rules.take p d x s ≡ Ends o) × Meets short_sight o (RefusedFor TooShort) (short_seen b draft)
-end-took p d x a b draft took none s e =
-    let is = told-is a draft s e in
-    let t = items.end-took a b draft.taken took s.items (items-is a draft s is) in (
-      passes_over t.0 s.lemmas s.written,
-      ap (λ o. short_take o p d x s) (none-here (key p) d x draft s is.lemmas none) ∙ ap (λ (step : Step Steps Why). writes_index step s.lemmas s.written) t.1,
-      (t.2.0, ap (λ (o : Outcome Steps Why). passes_over o s.lemmas s.written) t.2.1, t.2.2),
-    )
-
-pub bad-took : (p : Position) (d : ℕ) (x : ℤ) (a b : Told ℕ) (draft : Draft) → Takes BadAnswer a b → server (key p) d x draft.lemmas ≡ None → (s : ShortSteps) → short_seen a draft ≡ short_sight.view s →
-    (o : Outcome ShortSteps Why) × (short_rules.take p d x s ≡ Ends o) × Meets short_sight o BadItem (short_seen b draft)
-bad-took p d x a b draft took none s e =
-    let is = told-is a draft s e in
-    let t = items.bad-took a b draft.taken took s.items (items-is a draft s is) in (
-      passes_over t.0 s.lemmas s.written,
-      ap (λ o. short_take o p d x s) (none-here (key p) d x draft s is.lemmas none) ∙ ap (λ (step : Step Steps Why). writes_index step s.lemmas s.written) t.1,
-      (t.2.0, ap (λ (o : Outcome Steps Why). passes_over o s.lemmas s.written) t.2.1, t.2.2),
     )
 
 pub index-added : (p : Position) (d : ℕ) (x : ℤ) (a b : Told ℕ) (draft added : Draft) (i : ℕ) → Takes (Item i) a b → server (key p) d x draft.lemmas ≡ None → added ≡ with_index i draft → (s : ShortSteps) →
@@ -160,6 +138,26 @@ passed-meets o (Refuses why) b k ls ks ws u text lemmas m = (m.0, ap (λ (o : Ou
 passed-meets o (Halts Bad) b k ls ks ws u text lemmas m = (m.0, ap (λ (o : Outcome Steps Why). passes_over o ls ws) m.1, m.2)
 passed-meets o (Halts Failed) b k ls ks ws u text lemmas m = tt
 passed-meets o (Halts Full) b k ls ks ws u text lemmas m = tt
+
+-- a node where no lemma serves ends as the walk over the indices alone ends there
+none-ends : (p : Position) (d : ℕ) (x : ℤ) (a b : Told ℕ) (draft : Draft) (w : WalkAnswer Why) →
+    ((s : Steps) → seen a draft.taken ≡ index_sight.view s → (o : Outcome Steps Why) × (take_index s.left s.taken ≡ Ends o) × Meets index_sight o (ending w) (seen b draft.taken)) →
+    server (key p) d x draft.lemmas ≡ None → (s : ShortSteps) → short_seen a draft ≡ short_sight.view s → (o : Outcome ShortSteps Why) × (short_rules.take p d x s ≡ Ends o) × Meets short_sight o (ending w) (short_seen b draft)
+none-ends p d x a b draft w took none s e =
+    let is = told-is a draft s e in
+    let t = took s.items (items-is a draft s is) in (
+      passes_over t.0 s.lemmas s.written,
+      ap (λ o. short_take o p d x s) (none-here (key p) d x draft s is.lemmas none) ∙ ap (λ (step : Step Steps Why). writes_index step s.lemmas s.written) t.1,
+      passed-meets t.0 w b draft.taken s.lemmas draft.lemmas s.written draft.text is.text is.lemmas t.2,
+    )
+
+pub end-took : (p : Position) (d : ℕ) (x : ℤ) (a b : Told ℕ) (draft : Draft) → Takes End a b → server (key p) d x draft.lemmas ≡ None → (s : ShortSteps) → short_seen a draft ≡ short_sight.view s →
+    (o : Outcome ShortSteps Why) × (short_rules.take p d x s ≡ Ends o) × Meets short_sight o (RefusedFor TooShort) (short_seen b draft)
+end-took p d x a b draft took none s e = none-ends p d x a b draft (Refuses TooShort) (items.end-took a b draft.taken took) none s e
+
+pub bad-took : (p : Position) (d : ℕ) (x : ℤ) (a b : Told ℕ) (draft : Draft) → Takes BadAnswer a b → server (key p) d x draft.lemmas ≡ None → (s : ShortSteps) → short_seen a draft ≡ short_sight.view s →
+    (o : Outcome ShortSteps Why) × (short_rules.take p d x s ≡ Ends o) × Meets short_sight o BadItem (short_seen b draft)
+bad-took p d x a b draft took none s e = none-ends p d x a b draft (Halts Bad) (items.bad-took a b draft.taken took) none s e
 
 pass-told : (p : Position) (d : ℕ) (x : ℤ) (n : ℕ) (a b : Told ℕ) (draft : Draft) (k : ℕ) (w : WalkAnswer Why) → server (key p) d x draft.lemmas ≡ Some n →
     Follows index_sight (trace p d (AtLeast x)) (seen a draft.taken) (ending w) (seen b k) →
@@ -205,25 +203,6 @@ module _ {I : Type 0} (at : ShortWalk I → Moment ℕ) where
 
   pub passed-is : (w : Option (WalkAnswer Why)) (r : Took (Option (Stop Why))) (a b : ShortWalk I) → r ≡ of_passed w → Taking index_faults w (at a) (at b) → IsFound r a b
   passed-is w r a b is h = subst (λ (u : Took (Option (Stop Why))). IsFound u a b) (sym is) (passed w a b h)
-
-pub passed-done : (w : Option (WalkAnswer Why)) (r : Took (Option (Stop Why))) → r ≡ of_passed w → r ≡ TookShown → w ≡ Some Done
-passed-done None r is shown = cc
-passed-done (Some Done) r is shown = refl
-passed-done (Some (Refuses why)) r is shown = cc
-passed-done (Some (Halts halt)) r is shown = cc
-
--- how many items were taken away where it ended, unless memory was wanting
-abbrev pub TookItems : Option (WalkAnswer Why) → ℕ → ℕ → Type 0
-TookItems answer now n = IfSome answer (λ walked. now ≡ ended walked n)
-
--- where the counts were equal before it, the items that it took are those that were taken away
-pub counts-items : (answer : Option (WalkAnswer Why)) (i j n m : ℕ) → IfSome answer (λ walked. CountsOn walked i j n m) → i ≡ n → TookItems answer j m
-counts-items None i j n m h e = tt
-counts-items (Some walked) i j n m h e = h e
-
-pub took-is : (answer : Option (WalkAnswer Why)) (n m k l : ℕ) → n ≡ m → k ≡ l → TookItems answer n k → TookItems answer m l
-took-is None n m k l e f h = tt
-took-is (Some walked) n m k l e f h = sym e ∙ h ∙ ap (ended walked) f
 
 pub on-true : {P : Type 0} (r : Bool) → OnTrue r P → r ≡ true → P
 on-true true h e = h

@@ -39,9 +39,11 @@ module _ {S W N T : Type 0} (R : Rules S W) (V : Sight S N) (told : Told T) (tak
   finishes : (s : S) (b : Bool) → R.at_end s ≡ b → finish R s ≡ cond b (Left s) (Fault R.rest (R.taken s))
   finishes s b e = ap (λ (x : Bool). cond x (Left s) (Fault R.rest (R.taken s))) e
 
+  pub ends-left : (o : Outcome S W) (s : S) → o ≡ Left s → n ≡ V.view s → IsAtEnd told → go_on o (finish R) ≡ Left s
+  ends-left o s left seen at_end = ap (λ (x : Outcome S W). go_on x (finish R)) left ∙ finishes s true (tells.ends s ∙ none-is told (tells.items s) (tells.left s seen) at_end)
+
   last-look : (rest : W) (answer : Checked W) (o : Outcome S W) (s : S) → R.rest ≡ rest → o ≡ Left s → n ≡ V.view s → IsLastLook rest taken told answer → Answers (go_on o (finish R)) answer
-  last-look rest Accepted o s is left seen look =
-      (s, ap (λ (x : Outcome S W). go_on x (finish R)) left ∙ finishes s true (tells.ends s ∙ none-is told (tells.items s) (tells.left s seen) look))
+  last-look rest Accepted o s is left seen look = (s, ends-left o s left seen look)
   last-look rest (Refused place why) o s is left seen look = (
     R.taken s,
     ap (λ (x : Outcome S W). go_on x (finish R)) left ∙ finishes s false (tells.ends s ∙ some-is told (tells.items s) (tells.left s seen) look.2) ∙ ap (λ (w : W). Fault w (R.taken s)) (is ∙ sym look.1),
