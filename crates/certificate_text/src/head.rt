@@ -70,7 +70,8 @@ fn next_text<S: Source>(reader: &mut LineReader, source: &mut S, line: u32) -> R
         (S.read_faults source.new) }
     ensures bytes { in_all reader.new (S.rest source.new) ≡ in_all reader.old (S.rest source.old) }
     ensures failed { result ≡ Err HeadFault.ReadFault → reader.new.taken < input_limit }
-    ensures read { (input : List ℕ) (before : ℕ) → line ≡ before + 1 → HasRead input (S.rest source.old) reader.old before
+    ensures read { (input : List ℕ) (before : ℕ) → line ≡ before + 1
+        → HasRead input (S.rest source.old) reader.old before
         → HasRead input (S.rest source.new) reader.new (last_line line result) }
 {
     match reader.next_line(source) {
