@@ -6,9 +6,9 @@ use Rattle.std.proofs.lemmas.List.{take-append-le}
 use Rattle.io_edge.specs.Outside.{ToldLists, ToldPrograms, Starts}
 use Rattle.io_edge.specs.Starts.{Engines}
 use Rattle.cup_core.specs.declared.pairing.Pairing.{Pairing}
-use Rattle.cup_games.specs.Played.{Side}
+use Rattle.match_runner.specs.Wires.{Wire}
 use Rattle.cup_core.specs.Engines.{Engine}
-use Rattle.cup_command.specs.Cup.{BreaksOff, cup_words, game_words, started_after}
+use Rattle.cup_command.specs.Cup.{BreaksOff, StartsFirst, cup_words, game_words, started_after}
 use Rattle.cup_command.specs.Links.{ClosesLinks, GivesUp, StartsAll}
 use Rattle.match_command.specs.Match.{NoneIsOpen}
 use Rattle.cup_command.proofs.Chains.{none-open, starts-append}
@@ -35,7 +35,7 @@ two-words engines (g ∷ games) = let more = two-words engines games in omega (a
 -- Giving up
 
 -- none was started
-pub gives-none : (failed : Type 0) (words : List (List (List ℕ))) (there : List Side) (before after : Engines)
+pub gives-none : (failed : Type 0) (words : List (List (List ℕ))) (there : List Wire) (before after : Engines)
     → 0 < length words → after.to_come ≡ before.to_come → ClosesLinks before.sent after.sent there → after.started ≡ before.started → GivesUp failed words there before after
 gives-none failed words there before after some same closes named = record {
   late = [];
@@ -47,7 +47,7 @@ gives-none failed words there before after some same closes named = record {
 }
 
 -- one was started, and no start failed
-pub gives-one : (failed : Type 0) (words : List (List ℕ)) (there : List Side) (first link : Side) (before after : Engines)
+pub gives-one : (failed : Type 0) (words : List (List ℕ)) (there : List Wire) (first link : Wire) (before after : Engines)
     → (failed → ⊥) → Starts before.to_come after.to_come link.rest link.written → ClosesLinks before.sent after.sent (there ++ (first ∷ (link ∷ []))) → after.started ≡ started_after before.started (words ∷ []) → GivesUp failed (words ∷ []) (there ++ first ∷ []) before after
 gives-one failed words there first link before after none starts closes named = record {
   late = link ∷ [];
@@ -59,7 +59,7 @@ gives-one failed words there first link before after none starts closes named = 
 }
 
 -- one more program was started before
-pub one-before : (failed : Type 0) (words : List (List (List ℕ))) (first : List (List ℕ)) (there : List Side) (link : Side) (before between after : Engines)
+pub one-before : (failed : Type 0) (words : List (List (List ℕ))) (first : List (List ℕ)) (there : List Wire) (link : Wire) (before between after : Engines)
     → Starts before.to_come between.to_come link.rest link.written → between.sent ≡ before.sent → between.started ≡ started_after before.started (first ∷ []) → GivesUp failed words (there ++ link ∷ []) between after → GivesUp failed (first ∷ words) there before after
 one-before failed words first there link before between after starts sent named g = record {
   late = link ∷ g.late;
@@ -71,7 +71,7 @@ one-before failed words first there link before between after starts sent named 
 }
 
 -- many programs were started before, and others were still to be started
-pub all-before : (failed : Type 0) (xs ys zs : List (List (List ℕ))) (links : List Side) (before between after : Engines)
+pub all-before : (failed : Type 0) (xs ys zs : List (List (List ℕ))) (links : List Wire) (before between after : Engines)
     → length links ≡ length xs → StartsAll before.to_come between.to_come links → between.sent ≡ before.sent → between.started ≡ started_after before.started xs → GivesUp failed ys links between after → GivesUp failed (xs ++ (ys ++ zs)) [] before after
 all-before failed xs ys zs links before between after many starts sent named g =
     let long : length (links ++ g.late) ≡ length xs + length g.late = length-append links g.late ∙ ap (λ n. n + length g.late) many in
@@ -90,12 +90,12 @@ all-before failed xs ys zs links before between after many starts sent named g =
 
 -- What is told
 
-pub record Late (all : List (List ℕ)) (now : ToldLists) (late : List Side) : Type 0 where
+pub record Late (all : List (List ℕ)) (now : ToldLists) (late : List Wire) : Type 0 where
   pub few : length late ≤ length all
   pub left : now ≡ Some (drop (length late) all)
   pub wrote : AllWrote late (replicate (length late) [])
 
-pub late-told : (late : List Side) (all : List (List ℕ)) (now : ToldLists) → StartsAll (Some all) now late → Late all now late
+pub late-told : (late : List Wire) (all : List (List ℕ)) (now : ToldLists) → StartsAll (Some all) now late → Late all now late
 late-told [] all now e = record { few = omega arith; left = e; wrote = tt }
 late-told (x ∷ xs) all now (None, s, r) = absurd s
 late-told (x ∷ xs) all now (Some mid, (bytes, e, f, g), r) =
@@ -108,15 +108,24 @@ late-told (x ∷ xs) all now (Some mid, (bytes, e, f, g), r) =
       wrote = (g, more.wrote);
     }
 
+-- the same, where it is told what was to come before the starts
+pub told-late : (late : List Wire) (all : List (List ℕ)) (before now : ToldLists) → StartsAll before now late → before ≡ Some all → Late all now late
+told-late late all before now starts e = late-told late all now (subst (λ a. StartsAll a now late) e starts)
+
+-- the programs that were started before it was given up
+pub starts-first : (failed : Type 0) (engines : List Engine) (before after : Engines) (g : GivesUp failed (cup_words engines) [] before after) → StartsFirst engines (length g.late) before after
+starts-first failed engines before after g = record {
+  started = g.named;
+  taken = λ all e. let told = told-late g.late all before.to_come after.to_come g.starts e in (told.few, told.left);
+}
+
 -- the programs that were started where one did not start
 pub breaks : (failed : Type 0) (engines : List Engine) (before after : Engines) → failed → GivesUp failed (cup_words engines) [] before after → BreaksOff engines before after
 breaks failed engines before after f g = record {
   count = length g.late;
   few = g.short f;
-  started = g.named;
-  programs = λ all e.
-      let told = late-told g.late all after.to_come (subst (λ a. StartsAll a after.to_come g.late) e g.starts) in
-      (told.few, told.left, gains-all g.late (replicate (length g.late) []) before.sent after.sent told.wrote g.closes);
+  first = starts-first failed engines before after g;
+  gains = λ all e. gains-all g.late (replicate (length g.late) []) before.sent after.sent (told-late g.late all before.to_come after.to_come g.starts e).wrote g.closes;
 }
 
 -- all that were started were closed

@@ -7,21 +7,22 @@ use Rattle.std.proofs.lemmas.List.Sums.{sum_by-cons}
 use Rattle.io_edge.specs.Outside.{ToldLists, CountsFailed, one_more}
 use Rattle.io_edge.specs.Starts.{Engines}
 use Rattle.match_command.specs.Match.{NoneIsOpen}
-use Rattle.cup_games.specs.Played.{Job, Side}
+use Rattle.match_runner.specs.Wires.{Wire}
+use Rattle.cup_games.specs.Played.{Job}
 use Rattle.cup_command.specs.Cup.{RoseBy}
 use Rattle.cup_command.specs.Links.{ClosesLinks, StartsAll, all_links, counted, failures, has_failed}
 
 -- One chain behind another
 
-pub starts-append : (a b c : ToldLists) (xs ys : List Side) → StartsAll a b xs → StartsAll b c ys → StartsAll a c (xs ++ ys)
+pub starts-append : (a b c : ToldLists) (xs ys : List Wire) → StartsAll a b xs → StartsAll b c ys → StartsAll a c (xs ++ ys)
 starts-append a b c [] ys e t = subst (λ m. StartsAll m c ys) e t
 starts-append a b c (x ∷ xs) ys (m, s, r) t = (m, s, starts-append m b c xs ys r t)
 
-pub closes-append : (a b c : ToldLists) (xs ys : List Side) → ClosesLinks a b xs → ClosesLinks b c ys → ClosesLinks a c (xs ++ ys)
+pub closes-append : (a b c : ToldLists) (xs ys : List Wire) → ClosesLinks a b xs → ClosesLinks b c ys → ClosesLinks a c (xs ++ ys)
 closes-append a b c [] ys e t = subst (λ m. ClosesLinks m c ys) e t
 closes-append a b c (x ∷ xs) ys (m, s, r) t = (m, s, closes-append m b c xs ys r t)
 
-pub counted-append : (xs ys : List Side) (n : ℕ) → counted (xs ++ ys) n ≡ counted ys (counted xs n)
+pub counted-append : (xs ys : List Wire) (n : ℕ) → counted (xs ++ ys) n ≡ counted ys (counted xs n)
 counted-append [] ys n = refl
 counted-append (x ∷ xs) ys n = counted-append xs ys (if has_failed x then one_more n else n)
 
@@ -31,20 +32,20 @@ nothing-left (x ∷ xs) e = absurd (omega (arith, e))
 
 -- What a close counts
 
-pub counts-one : (link : Side) (before now : ℕ) → CountsFailed (link.read_faults + link.write_faults) before now → now ≡ (if has_failed link then one_more before else before)
-counts-one link before now c = elim (nat_lt 0 (link.read_faults + link.write_faults)) as (λ t. nat_lt 0 (link.read_faults + link.write_faults) ≡ t → now ≡ (if t then one_more before else before)) [
+pub counts-one : (link : Wire) (before now : ℕ) → CountsFailed (link.reads + link.writes) before now → now ≡ (if has_failed link then one_more before else before)
+counts-one link before now c = elim (nat_lt 0 (link.reads + link.writes)) as (λ t. nat_lt 0 (link.reads + link.writes) ≡ t → now ≡ (if t then one_more before else before)) [
   | true ↦ λ e. c.failed (grind (arith, nat_tests))
   | false ↦ λ e. c.sound (grind (arith, nat_tests))
 ] refl
 
-counted-most : (xs : List Side) → counted xs (2 ^ 64 - 1) ≡ 2 ^ 64 - 1
+counted-most : (xs : List Wire) → counted xs (2 ^ 64 - 1) ≡ 2 ^ 64 - 1
 counted-most [] = refl
 counted-most (x ∷ xs) = elim (has_failed x) as (λ t. counted xs (if t then one_more (2 ^ 64 - 1) else 2 ^ 64 - 1) ≡ 2 ^ 64 - 1) [
   | true ↦ counted-most xs
   | false ↦ counted-most xs
 ]
 
-one-more : (xs : List Side) → ((m : ℕ) → RoseBy (failures xs) m (counted xs m)) → (n : ℕ) → RoseBy (1 + failures xs) n (counted xs (one_more n))
+one-more : (xs : List Wire) → ((m : ℕ) → RoseBy (failures xs) m (counted xs m)) → (n : ℕ) → RoseBy (1 + failures xs) n (counted xs (one_more n))
 one-more xs rest n = elim (cases_lt n (2 ^ 64 - 1)) [
   | inl low ↦
       let e : one_more n ≡ n + 1 = omega (arith, low) in
@@ -55,7 +56,7 @@ one-more xs rest n = elim (cases_lt n (2 ^ 64 - 1)) [
 ]
 
 -- as many failures are counted as there are links that have failed
-pub rises : (xs : List Side) (n : ℕ) → RoseBy (failures xs) n (counted xs n)
+pub rises : (xs : List Wire) (n : ℕ) → RoseBy (failures xs) n (counted xs n)
 rises [] n = inl (omega arith)
 rises (x ∷ xs) n = subst (λ k. RoseBy k n (counted (x ∷ xs) n)) (sym (sum_by-cons (λ link. if has_failed link then 1 else 0) x xs)) (elim (has_failed x) as (λ t. RoseBy ((if t then 1 else 0) + failures xs) n (counted xs (if t then one_more n else n))) [
   | true ↦ one-more xs (λ m. rises xs m) n
@@ -71,23 +72,23 @@ two-each (j ∷ js) = let more = two-each js in omega (arith, more)
 pub as-many : (old new : List Job) → length new ≡ length old → length (all_links new) ≡ length (all_links old)
 as-many old new e = let one = two-each old in let other = two-each new in omega (arith, e, one, other)
 
-taken : (xs : List Side) (coming later : List (List ℕ)) → StartsAll (Some coming) (Some later) xs → length coming ≡ length later + length xs
+taken : (xs : List Wire) (coming later : List (List ℕ)) → StartsAll (Some coming) (Some later) xs → length coming ≡ length later + length xs
 taken [] coming later e = let same : coming ≡ later = cc in ap length same ∙ omega arith
 taken (x ∷ xs) coming later (None, s, r) = absurd s
 taken (x ∷ xs) coming later (Some mid, (bytes, e, f, g), r) = let more = taken xs mid later r in let one = ap length e in omega (arith, more, one)
 
-untold : (xs : List Side) (all : List (List ℕ)) → ClosesLinks None (Some all) xs → ⊥
+untold : (xs : List Wire) (all : List (List ℕ)) → ClosesLinks None (Some all) xs → ⊥
 untold [] all e = cc
 untold (x ∷ xs) all (None, s, r) = untold xs all r
 untold (x ∷ xs) all (Some mid, s, r) = s
 
-closed : (xs : List Side) (lists all : List (List ℕ)) → ClosesLinks (Some lists) (Some all) xs → length all ≡ length lists + length xs
+closed : (xs : List Wire) (lists all : List (List ℕ)) → ClosesLinks (Some lists) (Some all) xs → length all ≡ length lists + length xs
 closed [] lists all e = let same : all ≡ lists = cc in ap length same ∙ omega arith
 closed (x ∷ xs) lists all (None, s, r) = absurd (untold xs all r)
 closed (x ∷ xs) lists all (Some mid, (bytes, e, f), r) = let more = closed xs mid all r in let one = ap length f ∙ length-append lists (bytes ∷ []) in omega (arith, more, one)
 
 -- where as many links were closed as were started, none is left open
-pub none-open : (before after : Engines) (xs ys : List Side) → StartsAll before.to_come after.to_come xs → ClosesLinks before.sent after.sent ys → length ys ≡ length xs → NoneIsOpen before after
+pub none-open : (before after : Engines) (xs ys : List Wire) → StartsAll before.to_come after.to_come xs → ClosesLinks before.sent after.sent ys → length ys ≡ length xs → NoneIsOpen before after
 none-open before after xs ys s c same coming later opened shut e f g h =
     let started : StartsAll (Some coming) (Some later) xs = subst (λ a. StartsAll a (Some later) xs) e (subst (λ b. StartsAll before.to_come b xs) f s) in
     let ended : ClosesLinks (Some opened) (Some shut) ys = subst (λ a. ClosesLinks a (Some shut) ys) g (subst (λ b. ClosesLinks before.sent b ys) h c) in

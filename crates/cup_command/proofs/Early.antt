@@ -6,10 +6,11 @@ use Rattle.io_edge.specs.Starts.{Engines}
 use Rattle.cup_core.specs.declared.pairing.Pairing.{Pairing}
 use Rattle.cup_core.specs.Cup.{pairings}
 use Rattle.cup_core.specs.Engines.{Engine}
-use Rattle.cup_games.specs.Played.{Job, Side, pairing}
+use Rattle.match_runner.specs.Wires.{Wire}
+use Rattle.cup_games.specs.Played.{Job, pairing}
 use Rattle.cup_command.specs.Cup.{EndsEarly, Gains, cup_words, started_after}
 use Rattle.cup_command.specs.Links.{ClosesLinks, GivesUp, StartsAll, all_links}
-use Rattle.cup_command.proofs.Breaks.{late-told, started-none, two-words}
+use Rattle.cup_command.proofs.Breaks.{starts-first, told-late, started-none, two-words}
 use Rattle.cup_command.proofs.Chains.{as-many, two-each}
 use Rattle.cup_command.proofs.Heard.{bytes_of, gains-all}
 use Rattle.cup_command.proofs.Steps.{take-all, take-none}
@@ -17,15 +18,15 @@ use Rattle.cup_command.proofs.Steps.{take-all, take-none}
 -- What was got
 
 -- what each of the links has written, where it is told
-abbrev wrote_by : List Side → List (List ℕ)
+abbrev wrote_by : List Wire → List (List ℕ)
 wrote_by [] = []
 wrote_by (l ∷ ls) = bytes_of l.written ∷ wrote_by ls
 
-long-wrote : (links : List Side) → length (wrote_by links) ≡ length links
+long-wrote : (links : List Wire) → length (wrote_by links) ≡ length links
 long-wrote [] = refl
 long-wrote (l ∷ ls) = let more = long-wrote ls in omega (arith, more)
 
-gains-wrote : (links : List Side) (before now : ToldLists) → ClosesLinks before now links → Gains before now (wrote_by links)
+gains-wrote : (links : List Wire) (before now : ToldLists) → ClosesLinks before now links → Gains before now (wrote_by links)
 gains-wrote [] before now e = gains-all [] [] before now tt e
 gains-wrote (l ∷ ls) before None c = tt
 gains-wrote (l ∷ ls) None (Some after) (None, c, r) = gains-wrote ls None (Some after) r
@@ -46,8 +47,11 @@ pub early-none : (engines : List Engine) (at : Engines) → EndsEarly engines at
 early-none engines at = record {
   count = 0;
   few = omega arith;
-  started = started-none at.started ∙ ap (λ ws. started_after at.started ws) (sym (take-none (cup_words engines)));
-  programs = λ all e. (omega arith, e ∙ ap (λ ls. Some ls) (drop-none all), [], refl, gains-all [] [] at.sent at.sent tt refl);
+  first = record {
+    started = started-none at.started ∙ ap (λ ws. started_after at.started ws) (sym (take-none (cup_words engines)));
+    taken = λ all e. (omega arith, e ∙ ap (λ ls. Some ls) (drop-none all));
+  };
+  gains = λ all e. ([], refl, gains-all [] [] at.sent at.sent tt refl);
 }
 
 -- at a start
@@ -55,10 +59,8 @@ pub early : (failed : Type 0) (engines : List Engine) (before after : Engines) �
 early failed engines before after g = record {
   count = length g.late;
   few = g.few;
-  started = g.named;
-  programs = λ all e.
-      let told = late-told g.late all after.to_come (subst (λ a. StartsAll a after.to_come g.late) e g.starts) in
-      (told.few, told.left, wrote_by g.late, long-wrote g.late, gains-wrote g.late before.sent after.sent g.closes);
+  first = starts-first failed engines before after g;
+  gains = λ all e. (wrote_by g.late, long-wrote g.late, gains-wrote g.late before.sent after.sent g.closes);
 }
 
 -- after all starts: as many links were closed
@@ -77,8 +79,11 @@ early-all engines games olds shut before between after whole pairs same starts s
     record {
       count = length (cup_words engines);
       few = omega arith;
-      started = began ∙ (named ∙ ap (λ ws. started_after before.started ws) (sym (take-all (length (cup_words engines)) (cup_words engines) (omega arith))));
-      programs = λ all e.
-          let told = late-told (all_links olds) all after.to_come (subst (λ a. StartsAll a after.to_come (all_links olds)) e opened) in
-          (subst (λ n. n ≤ length all) many told.few, told.left ∙ ap (λ n. Some (drop n all)) many, wrote_by (all_links shut), long-wrote (all_links shut) ∙ (as-many olds shut same ∙ many), gains-wrote (all_links shut) before.sent after.sent closed);
+      first = record {
+        started = began ∙ (named ∙ ap (λ ws. started_after before.started ws) (sym (take-all (length (cup_words engines)) (cup_words engines) (omega arith))));
+        taken = λ all e.
+            let told = told-late (all_links olds) all before.to_come after.to_come opened e in
+            (subst (λ n. n ≤ length all) many told.few, told.left ∙ ap (λ n. Some (drop n all)) many);
+      };
+      gains = λ all e. (wrote_by (all_links shut), long-wrote (all_links shut) ∙ (as-many olds shut same ∙ many), gains-wrote (all_links shut) before.sent after.sent closed);
     }

@@ -54,7 +54,7 @@ of-setup setup [] (new ∷ news) ends ran = absurd ran
 of-setup setup (old ∷ olds) [] ends ran = absurd ran
 of-setup setup (old ∷ olds) (new ∷ news) [] ran = absurd ran
 of-setup setup (old ∷ olds) (new ∷ news) (t ∷ ends) ran =
-    All-cons (IsOf setup) new news (λ u e. let same : t ≡ u = cc in subst (λ x. x.setup ≡ setup) same ran.1.same) (of-setup setup olds news ends ran.3)
+    All-cons (IsOf setup) new news (λ u e. let same : t ≡ u = cc in subst (λ x. x.setup ≡ setup) same ran.1.links.same) (of-setup setup olds news ends ran.3)
 
 pub of-setup-all : (setup : Setup) (olds news : List Job) → AllZip IsPlayed olds news → All (IsReady setup) olds → All (IsOf setup) news
 of-setup-all setup olds news all ready = of-setup setup olds news (ends_of news) (ran-all setup olds news all ready)

@@ -12,9 +12,10 @@ use Rattle.match_core.specs.declared.answers.Setup.{Setup}
 use Rattle.match_core.specs.declared.answers.Verdict.{Verdict}
 use Rattle.match_core.specs.Standing.{Standing}
 use Rattle.match_core.specs.Feeds.{IsFront}
-use Rattle.match_runner.specs.Runs.{HasBroken, IsFrontSent, IsLate}
+use Rattle.match_runner.specs.Runs.{IsFrontSent, IsLate, IsVerdict}
 use Rattle.match_command.specs.Match.{IsBroke, sent_in}
-use Rattle.cup_games.specs.Played.{HasRisen, IsRefereed, Job, Side}
+use Rattle.match_runner.specs.Wires.{HasFailed, Wire}
+use Rattle.cup_games.specs.Played.{IsRefereed, Job}
 use Rattle.cup_command.specs.Cup.{Gains, Heard, IsGame, PlayedBy, RoseBy, exceptions, got, said}
 use Rattle.cup_command.specs.Links.{ClosesLinks, IsReady, StartsAll, all_links, counted, failures, has_failed}
 use Rattle.cup_command.proofs.Chains.{rises}
@@ -35,7 +36,7 @@ heard old new = record {
 }
 
 -- the link tells what its program will say, and has written nothing
-record IsTold (link : Side) : Type 0 where
+record IsTold (link : Wire) : Type 0 where
   pub rest : link.rest ≡ Some (bytes_of link.rest)
   pub written : link.written ≡ Some []
 
@@ -65,36 +66,36 @@ some rose = go rose.higher
     go (inr x) = omega (arith, x)
 
 -- a link of which no call has failed
-pub sound : (old new : Side) → has_failed new ≡ false → HasRisen old new → ⊥
-sound old new none (inl x) = let no : new.read_faults + new.write_faults ≤ 0 = grind (arith, nat_tests) in let more = some x in omega (arith, more, no)
-sound old new none (inr x) = let no : new.read_faults + new.write_faults ≤ 0 = grind (arith, nat_tests) in let more = some x in omega (arith, more, no)
+pub sound : (old new : Wire) → has_failed new ≡ false → HasFailed old new → ⊥
+sound old new none (inl x) = let no : new.reads + new.writes ≤ 0 = grind (arith, nat_tests) in let more = some x in omega (arith, more, no)
+sound old new none (inr x) = let no : new.reads + new.writes ≤ 0 = grind (arith, nat_tests) in let more = some x in omega (arith, more, no)
 
 neither : (a b : Bool) → a || b ≡ false → (a ≡ false) × (b ≡ false)
 neither true b e = cc
 neither false true e = cc
 neither false false e = (refl, refl)
 
-verdict-of : {whole white black : Type 0} (v : Option Verdict) → (IsLate v → ⊥) → whole ⊎ (IsLate v ⊎ (HasBroken v White white ⊎ HasBroken v Black black)) → whole ⊎ IsBroke v
-verdict-of v in_time (inl x) = inl x
-verdict-of v in_time (inr (inl x)) = absurd (in_time x)
-verdict-of v in_time (inr (inr (inl x))) = inr (White, x.0)
-verdict-of v in_time (inr (inr (inr x))) = inr (Black, x.0)
+verdict-of : (full v : Option Verdict) (w0 w b0 b : Wire) → (IsLate v → ⊥) → IsVerdict full v w0 w b0 b → (v ≡ full) ⊎ IsBroke v
+verdict-of full v w0 w b0 b in_time (inl x) = inl x
+verdict-of full v w0 w b0 b in_time (inr (inl x)) = absurd (in_time x)
+verdict-of full v w0 w b0 b in_time (inr (inr (inl x))) = inr (White, x.0)
+verdict-of full v w0 w b0 b in_time (inr (inr (inr x))) = inr (Black, x.0)
 
 game-played : (setup : Setup) (old new : Job) (t : Standing) → AreTold old → IsRefereed setup t old.white_link new.white_link old.black_link new.black_link → IsGame setup t (heard old new)
 game-played setup old new t told r =
     let white = bytes_of old.white_link.rest in
     let black = bytes_of old.black_link.rest in
-    let f = r.front white black told.white.rest told.black.rest in
+    let f = r.links.front white black told.white.rest told.black.rest in
     record {
       moves = f.moves;
-      verdict = verdict-of t.verdict r.in_time (r.verdict white black told.white.rest told.black.rest);
+      verdict = verdict-of _ t.verdict old.white_link new.white_link old.black_link new.black_link r.in_time (r.links.verdict white black told.white.rest told.black.rest);
       sent = record {
         white_got = got-front old.white_link.written new.white_link.written (sent_in setup white black White) told.white.written f.to_white;
         black_got = got-front old.black_link.written new.black_link.written (sent_in setup white black Black) told.black.written f.to_black;
       };
       whole = λ e.
           let none = neither (has_failed new.white_link) (has_failed new.black_link) e in
-          let m = r.told white black told.white.rest told.black.rest (sound old.white_link new.white_link none.0) (sound old.black_link new.black_link none.1) r.in_time in
+          let m = r.links.told white black told.white.rest told.black.rest (sound old.white_link new.white_link none.0) (sound old.black_link new.black_link none.1) r.in_time in
           record {
             moves = m.moves;
             verdict = m.verdict;
@@ -136,7 +137,7 @@ record Opened (all : List (List ℕ)) (now : ToldLists) (olds news : List Job) :
   pub left : now ≡ Some others
   pub told : AllTold olds
 
-is-told : (link : Side) (bytes : List ℕ) → link.rest ≡ Some bytes → link.written ≡ Some [] → IsTold link
+is-told : (link : Wire) (bytes : List ℕ) → link.rest ≡ Some bytes → link.written ≡ Some [] → IsTold link
 is-told link bytes e f = record { rest = e ∙ ap (λ b. Some b) (sym (ap bytes_of e)); written = f }
 
 opened : (setup : Setup) (olds news : List Job) (ends : List Standing) (all : List (List ℕ)) (now : ToldLists) → Ran setup olds news ends → StartsAll (Some all) now (all_links olds) → Opened all now olds news
@@ -175,10 +176,10 @@ append-none [] = refl
 append-none (x ∷ xs) = ap (λ ys. x ∷ ys) (append-none xs)
 
 -- each link has written just this
-abbrev pub AllWrote : List Side → List (List ℕ) → Type 0
+abbrev pub AllWrote : List Wire → List (List ℕ) → Type 0
 AllWrote links wrote = AllZip (λ l w. l.written ≡ Some w) links wrote
 
-pub gains-all : (links : List Side) (wrote : List (List ℕ)) (before now : ToldLists) → AllWrote links wrote → ClosesLinks before now links → Gains before now wrote
+pub gains-all : (links : List Wire) (wrote : List (List ℕ)) (before now : ToldLists) → AllWrote links wrote → ClosesLinks before now links → Gains before now wrote
 gains-all [] [] before None all e = tt
 gains-all [] [] None (Some after) all e = cc
 gains-all [] [] (Some lists) (Some after) all e = let same : after ≡ lists = cc in same ∙ sym (append-none lists)
@@ -201,7 +202,7 @@ all-wrote setup (old ∷ olds) (new ∷ news) [] ran told = absurd ran
 all-wrote setup (old ∷ olds) (new ∷ news) (t ∷ ends) ran told =
     let white = bytes_of old.white_link.rest in
     let black = bytes_of old.black_link.rest in
-    let f = ran.1.front white black told.0.white.rest told.0.black.rest in (
+    let f = ran.1.links.front white black told.0.white.rest told.0.black.rest in (
       got-told old.white_link.written new.white_link.written (sent_in setup white black White) told.0.white.written f.to_white,
       (got-told old.black_link.written new.black_link.written (sent_in setup white black Black) told.0.black.written f.to_black, all-wrote setup olds news ends ran.3 told.1),
     )
@@ -221,7 +222,7 @@ few-exceptions : (olds news : List Job) → exceptions (all_heard olds news) ≤
 few-exceptions [] news = nothing (failures (all_links news))
 few-exceptions (old ∷ olds) [] = nothing 0
 few-exceptions (old ∷ olds) (new ∷ news) =
-    let failing : Side → ℕ = λ link. if has_failed link then 1 else 0 in
+    let failing : Wire → ℕ = λ link. if has_failed link then 1 else 0 in
     let e = sum_by-cons (λ (g : Heard). if g.excepted then 1 else 0) (heard old new) (all_heard olds news) in
     let f = sum_by-cons failing new.white_link (new.black_link ∷ all_links news) in
     let g = sum_by-cons failing new.black_link (all_links news) in

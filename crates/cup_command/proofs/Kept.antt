@@ -3,7 +3,8 @@ use Rattle.std.proofs.Common.{◌≡◌, ℕ, subst, Result, Ok, Err, None, IfOk
 use Rattle.io_edge.specs.Outside.{HasCause}
 use Rattle.match_core.specs.declared.answers.Setup.{Setup}
 use Rattle.cup_core.specs.declared.pairing.Pairing.{Pairing}
-use Rattle.cup_games.specs.Played.{Job, Side}
+use Rattle.match_runner.specs.Wires.{Wire}
+use Rattle.cup_games.specs.Played.{Job}
 use Rattle.cup_command.specs.Links.{ready}
 
 pub if-ok : {A E : Type 0} (P Q : A → Type 0) → ((a : A) → P a → Q a) → (r : Result A E) → IfOk r P → IfOk r Q
@@ -19,7 +20,7 @@ on-err P Q f (Ok a) p = tt
 on-err P Q f (Err e) p = f p
 
 -- the game that was made of two links
-pub is-ready : (setup : Setup) (game : Pairing) (white black : Side) (job : Job) → job.white ≡ game.white → job.black ≡ game.black → job.white_link ≡ white → job.black_link ≡ black → job.setup ≡ setup → job.referee ≡ None → job ≡ ready setup game white black
+pub is-ready : (setup : Setup) (game : Pairing) (white black : Wire) (job : Job) → job.white ≡ game.white → job.black ≡ game.black → job.white_link ≡ white → job.black_link ≡ black → job.setup ≡ setup → job.referee ≡ None → job ≡ ready setup game white black
 is-ready setup game white black job a b c d e f i = record {
   white = a i;
   black = b i;

@@ -10,11 +10,12 @@ use Rattle.io_edge.specs.Outside.{ToldLists, ToldPrograms}
 use Rattle.io_edge.specs.Starts.{Engines}
 use Rattle.match_core.specs.declared.answers.Setup.{Setup}
 use Rattle.cup_core.specs.declared.pairing.Pairing.{Pairing}
-use Rattle.cup_games.specs.Played.{Job, Side, pairing}
+use Rattle.match_runner.specs.Wires.{IsFresh, Wire}
+use Rattle.cup_games.specs.Played.{Job, pairing}
 use Rattle.cup_core.specs.Engines.{Engine}
 use Rattle.cup_core.specs.Cup.{pairings}
 use Rattle.cup_command.specs.Cup.{cup_words, game_words, started_after}
-use Rattle.cup_command.specs.Links.{GivesUp, IsFresh, IsReady, StartsAll, all_links, ended_text, jobs_text, ready}
+use Rattle.cup_command.specs.Links.{GivesUp, IsReady, StartsAll, all_links, ended_text, jobs_text, ready}
 use Rattle.cup_command.proofs.Chains.{starts-append, two-each}
 use Rattle.cup_command.proofs.Breaks.{all-before, append-none, started-more, two-words}
 
@@ -37,15 +38,15 @@ text-end setup games jobs i out all past so =
 
 -- Starts
 
-pub kept-step : (games : List Pairing) (jobs jobs_now : List Job) (i : ℕ) (game : Pairing) (setup : Setup) (w b : Side) → i < length games → game ≡ get_or games i game → map pairing jobs ≡ take i games → jobs_now ≡ jobs ++ ready setup game w b ∷ [] → map pairing jobs_now ≡ take (i + 1) games
+pub kept-step : (games : List Pairing) (jobs jobs_now : List Job) (i : ℕ) (game : Pairing) (setup : Setup) (w b : Wire) → i < length games → game ≡ get_or games i game → map pairing jobs ≡ take i games → jobs_now ≡ jobs ++ ready setup game w b ∷ [] → map pairing jobs_now ≡ take (i + 1) games
 kept-step games jobs jobs_now i game setup w b low g so now =
     ap (map pairing) now ∙ (map-append pairing jobs (ready setup game w b ∷ []) ∙ (ap (λ gs. gs ++ game ∷ []) so ∙ (ap (λ x. take i games ++ x ∷ []) g ∙ sym (take_more games i game low))))
 
-pub ready-step : (setup : Setup) (jobs jobs_now : List Job) (game : Pairing) (w b : Side) → IsFresh w → IsFresh b → All (IsReady setup) jobs → jobs_now ≡ jobs ++ ready setup game w b ∷ [] → All (IsReady setup) jobs_now
+pub ready-step : (setup : Setup) (jobs jobs_now : List Job) (game : Pairing) (w b : Wire) → IsFresh w.reads w.writes → IsFresh b.reads b.writes → All (IsReady setup) jobs → jobs_now ≡ jobs ++ ready setup game w b ∷ [] → All (IsReady setup) jobs_now
 ready-step setup jobs jobs_now game w b wf bf so now =
     subst (λ js. All (IsReady setup) js) (sym now) (All-push (IsReady setup) jobs (ready setup game w b) so (record { same = refl; white = wf; black = bf }))
 
-pub next-step : (setup : Setup) (jobs jobs_now : List Job) (game : Pairing) (w b : Side) (before mid now : ToldLists) → StartsAll before mid (all_links jobs) → StartsAll mid now (w ∷ (b ∷ [])) → jobs_now ≡ jobs ++ ready setup game w b ∷ [] → StartsAll before now (all_links jobs_now)
+pub next-step : (setup : Setup) (jobs jobs_now : List Job) (game : Pairing) (w b : Wire) (before mid now : ToldLists) → StartsAll before mid (all_links jobs) → StartsAll mid now (w ∷ (b ∷ [])) → jobs_now ≡ jobs ++ ready setup game w b ∷ [] → StartsAll before now (all_links jobs_now)
 next-step setup jobs jobs_now game w b before mid now one other same =
     subst (λ ls. StartsAll before now ls) (sym (ap all_links same ∙ flat_map-append (λ j. j.white_link ∷ (j.black_link ∷ [])) jobs (ready setup game w b ∷ []))) (starts-append before mid now (all_links jobs) (w ∷ (b ∷ [])) one other)
 
@@ -97,6 +98,10 @@ take-front zero [] ys e = take-none ys
 take-front zero (x ∷ xs) ys e = absurd (omega (arith, e))
 take-front (suc n) [] ys e = absurd (omega (arith, e))
 take-front (suc n) (x ∷ xs) ys e = ap (λ zs. x ∷ zs) (take-front n xs ys (omega (arith, e)))
+
+-- as many games stand there after they were played as were started
+pub as-many-after : (n : ℕ) (olds lent news behind : List Job) → length news ≡ length lent → length lent ≡ n → lent ≡ olds → length (take n (news ++ behind)) ≡ length olds
+as-many-after n olds lent news behind long many same = ap (λ (js : List Job). length js) (take-front n news behind (long ∙ many)) ∙ (long ∙ ap (λ (js : List Job). length js) same)
 
 pub named-end : (engines : List Engine) (games : List Pairing) (i : ℕ) (before now : ToldPrograms) → games ≡ pairings (length engines) → length games ≤ i → now ≡ started_after before (flat_map (game_words engines) (take i games)) → now ≡ started_after before (cup_words engines)
 named-end engines games i before now whole past named =

@@ -163,36 +163,42 @@ pub record TellsPart
   pub cut : n < length (cup_text setup engines ends places)
   pub wrote : after.written ≡ behind before.written (take n (cup_text setup engines ends places))
 
--- so many programs were started in their order, and not all; where it is told what was to come,
--- they were the first ones of those, and none of them got a byte
+-- so many programs were started in their order; where it is told what was to come, they were the
+-- first ones of those
+pub record StartsFirst
+    (engines : List Engine) (count : ℕ) (before after : Engines) : Type 0 where
+  pub started : after.started ≡ started_after before.started (take count (cup_words engines))
+  pub taken :
+      (all : List (List ℕ))
+      → before.to_come ≡ Some all
+      → (count ≤ length all) × (after.to_come ≡ Some (drop count all))
+
+-- the first programs were started, and not all; where it is told what was to come, none of them got a
+-- byte
 pub record BreaksOff (engines : List Engine) (before after : Engines) : Type 0 where
   pub count : ℕ
   pub few : count < length (cup_words engines)
-  pub started : after.started ≡ started_after before.started (take count (cup_words engines))
-  pub programs :
+  pub first : StartsFirst engines count before after
+  pub gains :
       (all : List (List ℕ))
       → before.to_come ≡ Some all
-      → (count ≤ length all)
-      × (after.to_come ≡ Some (drop count all))
-      × Gains before.sent after.sent (replicate count [])
+      → Gains before.sent after.sent (replicate count [])
 
 -- no game was begun, and nothing was written
 pub record NotBegun (engines : List Engine) (before after : Scene) : Type 0 where
   pub written : after.written ≡ before.written
   pub starts : BreaksOff engines before.engines after.engines
 
--- so many programs were started in their order, perhaps all; where it is told what was to come,
--- they were the first ones of those, and as many were closed: what each of them got was gained
+-- the first programs were started, perhaps all; where it is told what was to come, as many were
+-- closed: what each of them got was gained
 pub record EndsEarly (engines : List Engine) (before after : Engines) : Type 0 where
   pub count : ℕ
   pub few : count ≤ length (cup_words engines)
-  pub started : after.started ≡ started_after before.started (take count (cup_words engines))
-  pub programs :
+  pub first : StartsFirst engines count before after
+  pub gains :
       (all : List (List ℕ))
       → before.to_come ≡ Some all
-      → (count ≤ length all)
-      × (after.to_come ≡ Some (drop count all))
-      × (gained : List (List ℕ))
+      → (gained : List (List ℕ))
       × (length gained ≡ count)
       × Gains before.sent after.sent gained
 

@@ -6,27 +6,23 @@ use Rattle.io_edge.specs.Starts.{Engines}
 use Rattle.match_core.specs.declared.answers.Setup.{Setup}
 use Rattle.match_core.specs.Standing.{Standing}
 use Rattle.cup_core.specs.declared.pairing.Pairing.{Pairing}
-use Rattle.cup_games.specs.Played.{Job, Side}
+use Rattle.match_runner.specs.Wires.{IsFresh, Wire}
+use Rattle.cup_games.specs.Played.{Job}
 use Rattle.cup_command.specs.Cup.{started_after}
 use Rattle.cup_command.specs.Texts.{game_text}
 
 -- Starts
 
--- no read and no write of the link has failed yet
-pub record IsFresh (link : Side) : Type 0 where
-  pub reads : link.read_faults ≡ 0
-  pub writes : link.write_faults ≡ 0
-
 -- the two links of a game, white's first
-abbrev pub links_of : Job → List Side
+abbrev pub links_of : Job → List Wire
 links_of job = job.white_link ∷ (job.black_link ∷ [])
 
 -- the links of all games, in the order of the starts
-abbrev pub all_links : List Job → List Side
+abbrev pub all_links : List Job → List Wire
 all_links jobs = flat_map links_of jobs
 
 -- programs were started, one after the other, and these are their links
-abbrev pub StartsAll : ToldLists → ToldLists → List Side → Type 0
+abbrev pub StartsAll : ToldLists → ToldLists → List Wire → Type 0
 StartsAll before after [] = after ≡ before
 StartsAll before after (link ∷ links) =
     (between : ToldLists)
@@ -48,7 +44,7 @@ pub record IsPaired (engines : ℕ) (game : Pairing) : Type 0 where
   pub other : game.white ≢ game.black
 
 -- a game that was not played, by this setup and over these links
-abbrev pub ready : Setup → Pairing → Side → Side → Job
+abbrev pub ready : Setup → Pairing → Wire → Wire → Job
 ready setup game white black = record {
   white = game.white;
   black = game.black;
@@ -61,37 +57,37 @@ ready setup game white black = record {
 -- the game was not played, and its links are fresh
 pub record IsReady (setup : Setup) (job : Job) : Type 0 where
   pub same : job.setup ≡ setup
-  pub white : IsFresh job.white_link
-  pub black : IsFresh job.black_link
+  pub white : IsFresh job.white_link.reads job.white_link.writes
+  pub black : IsFresh job.black_link.reads job.black_link.writes
 
 -- Closes
 
 -- programs were closed, one after the other, and these were their links
-abbrev pub ClosesLinks : ToldLists → ToldLists → List Side → Type 0
+abbrev pub ClosesLinks : ToldLists → ToldLists → List Wire → Type 0
 ClosesLinks before after [] = after ≡ before
 ClosesLinks before after (link ∷ links) =
     (between : ToldLists) × Collects before between link.written × ClosesLinks between after links
 
 -- whether a read or a write of the link has failed
-abbrev pub has_failed : Side → Bool
-has_failed link = nat_lt 0 (link.read_faults + link.write_faults)
+abbrev pub has_failed : Wire → Bool
+has_failed link = nat_lt 0 (link.reads + link.writes)
 
 -- the count of programs that had failed, after the closes of these links
-abbrev pub counted : List Side → ℕ → ℕ
+abbrev pub counted : List Wire → ℕ → ℕ
 counted [] count = count
 counted (link ∷ links) count =
     counted links (if has_failed link then one_more count else count)
 
 -- how many of the links have failed
-abbrev pub failures : List Side → ℕ
+abbrev pub failures : List Wire → ℕ
 failures links = sum_by (λ link. if has_failed link then 1 else 0) links
 
 -- of the programs with these words the first ones were started, and all of them where none failed to
 -- start; and then all links were closed, those that were there before first
 pub record GivesUp
-    (failed : Type 0) (words : List (List (List ℕ))) (there : List Side) (before after : Engines)
+    (failed : Type 0) (words : List (List (List ℕ))) (there : List Wire) (before after : Engines)
     : Type 0 where
-  pub late : List Side
+  pub late : List Wire
   pub few : length late ≤ length words
   pub short : failed → length late < length words
   pub starts : StartsAll before.to_come after.to_come late

@@ -1,12 +1,13 @@
 //! The starts of the programs of a cup, game by game.
-ghost use Rattle.std.specs.Prelude.{◌≡◌, ◌≢◌, ◌≤◌, ◌<◌, ◌++◌, [], ◌∷◌, length, map, string_bytes, IfOk, OnOk, OnErr, IsErrOf};
-ghost use Rattle.std.specs.List.{All, flat_map};
+ghost use Rattle.std.specs.Prelude.{◌≡◌, ◌≤◌, ◌<◌, ◌++◌, [], ◌∷◌, length, map, string_bytes, IfOk, OnOk, OnErr, IsErrOf};
+ghost use Rattle.std.specs.List.{All};
 ghost use Rattle.io_edge.specs.Outside.{HasCause, Starts};
 ghost use Rattle.match_core.specs.Keeps.{IsSetup};
 ghost use Rattle.cup_core.specs.Cup.{pairings};
-ghost use Rattle.cup_games.specs.Played.{IsDepth, Side, pairing, side};
+ghost use Rattle.match_runner.specs.Wires.{IsFresh, Wire, wire};
+ghost use Rattle.cup_games.specs.Played.{IsDepth, pairing};
 ghost use Rattle.cup_command.specs.Cup.{cup_words, game_words, words_of};
-ghost use Rattle.cup_command.specs.Links.{ClosesLinks, GivesUp, IsFresh, IsPaired, IsReady, StartsAll, StartsBy, all_links, links_of, ready};
+ghost use Rattle.cup_command.specs.Links.{ClosesLinks, GivesUp, IsPaired, IsReady, StartsAll, StartsBy, all_links, links_of, ready};
 
 use crate::closing::{close_game, close_links};
 use cup_core::{Pairing, Program};
@@ -64,17 +65,17 @@ fn start_black<P: Spawner, G: Game + Drop>(
     requires setup { IsSetup setup }
     requires depth { IsDepth setup.level }
     requires paired { IsPaired (length programs.now) game }
-    ensures kept { IfOk result (λ games. (black : Side) × IsFresh black
+    ensures kept { IfOk result (λ games. (black : Wire) × IsFresh black.reads black.writes
         × Starts (P.engines spawner.old).to_come (P.engines spawner.new).to_come
         black.rest black.written
         × (games.items ≡ jobs.items ++ ready setup game
-        (side (P.Engine.rest white) (P.Engine.written white)
+        (wire (P.Engine.rest white) (P.Engine.written white)
         (P.Engine.read_faults white) (P.Engine.write_faults white)) black ∷ [])) }
     ensures starts { OnOk result (StartsBy (words_of programs.now game.black ∷ [])
         (P.engines spawner.old) (P.engines spawner.new)) }
     ensures closed { OnErr result (GivesUp (IsErrOf result StartFault.Failed)
         (words_of programs.now game.black ∷ [])
-        (all_links jobs.items ++ side (P.Engine.rest white) (P.Engine.written white)
+        (all_links jobs.items ++ wire (P.Engine.rest white) (P.Engine.written white)
         (P.Engine.read_faults white) (P.Engine.write_faults white) ∷ [])
         (P.engines spawner.old) (P.engines spawner.new)) }
     ensures cause { HasCause (IsErrOf result StartFault.Failed)
@@ -105,8 +106,8 @@ fn start_game<P: Spawner, G: Game + Drop>(
     requires setup { IsSetup setup }
     requires depth { IsDepth setup.level }
     requires paired { IsPaired (length programs.now) game }
-    ensures kept { IfOk result (λ games. (white : Side) × (black : Side)
-        × IsFresh white × IsFresh black
+    ensures kept { IfOk result (λ games. (white : Wire) × (black : Wire)
+        × IsFresh white.reads white.writes × IsFresh black.reads black.writes
         × StartsAll (P.engines spawner.old).to_come (P.engines spawner.new).to_come
         (white ∷ (black ∷ []))
         × (games.items ≡ jobs.items ++ ready setup game white black ∷ [])) }

@@ -1,13 +1,12 @@
 //! The text that tells a cup.
 ghost use Rattle.std.specs.Prelude.{◌≡◌, ◌≤◌, ◌++◌, List, length, map, Some, IfOk, OnOk};
 ghost use Rattle.std.specs.List.{All, flat_map, zip};
-ghost use Rattle.match_core.specs.Standing.{Standing};
 ghost use Rattle.cup_core.specs.Cup.{pairings};
 ghost use Rattle.cup_core.specs.declared.standing.Standing.{Standing as AnyPlace};
 ghost use Rattle.cup_games.specs.Played.{AreStandingsOf, HasVerdict, pairing};
 ghost use Rattle.match_command.specs.Texts.{shown};
 ghost use Rattle.cup_command.specs.Links.{IsOf, ended_text, jobs_text};
-ghost use Rattle.cup_command.specs.Texts.{game_text, moves_line, numbers_text, standing_text, text_of, verdict_line};
+ghost use Rattle.cup_command.specs.Texts.{moves_line, numbers_text, standing_text, text_of, verdict_line};
 
 use cup_core::{Pairing, Program, Standing as Place};
 use cup_games::{CupJob, standings};

@@ -1,6 +1,6 @@
 -- Where engines are asked to a depth no answer is late.
 use Rattle.std.specs.Prelude.{nat_le}
-use Rattle.std.proofs.Common.{◌⊎◌, inl, inr, ℕ, cond, List, [], ◌∷◌, length, subst, sym, Result, Ok, Err, Some}
+use Rattle.std.proofs.Common.{ℕ, cond, List, [], ◌∷◌, length, subst, sym, Result, Ok, Err, Some}
 use Rattle.std.specs.Bool.{⊤}
 use Rattle.hive_model.specs.declared.pieces.Colour.{Colour}
 use Rattle.hive_model.specs.declared.pieces.Colour.TheVariants.{White, Black}
@@ -22,8 +22,10 @@ use Rattle.match_core.specs.Replies.{is_ok, is_error}
 use Rattle.match_core.specs.Texts.{read_of}
 use Rattle.match_core.specs.Standing.{Standing, Happening, Sent, Line, TooLong, Ended, Broke, Reading, start, next, after_all, position_of, go, finish, ask, judge, judge_read, decide, accept, first_line, at_stage, keep, reply_ends, hear, question, forfeit, answered, outcome_of}
 use Rattle.match_core.proofs.Fair.{either}
-use Rattle.match_runner.specs.Turns.{Side, Watch}
-use Rattle.match_runner.specs.Runs.{Ran, Run, Whole, Cut, IsLate}
+use Rattle.match_runner.specs.Wires.{Watch}
+use Rattle.match_runner.specs.Turns.{Side}
+use Rattle.match_runner.proofs.Endings.{by_end}
+use Rattle.match_runner.specs.Runs.{Ran, Run, Cut, IsLate}
 use Rattle.cup_games.specs.Played.{IsDepth}
 
 -- a place where the clock is not read
@@ -125,12 +127,7 @@ comes setup s w0 w b0 b r0 r d run = subst InTime (sym run.1.here) (stays_on run
 breaks : (side : Colour) (setup : Setup) (t : Standing) (w0 w b0 b : Side) (r0 r : Watch) → IsDepth setup.level → Cut side setup t w0 w b0 b r0 r → InTime t
 breaks side setup t w0 w b0 b r0 r d cut = subst InTime (sym cut.4.next_is) (stays cut.0 Broke (comes setup cut.0 w0 cut.1 b0 cut.2 r0 r d cut.3))
 
-ended : (setup : Setup) (t : Standing) (w0 w b0 b : Side) (r0 r : Watch) (white black : Type 0) → IsDepth setup.level →
-    (Whole setup t w0 w b0 b r0 r) ⊎ ((Cut White setup t w0 w b0 b r0 r × white) ⊎ (Cut Black setup t w0 w b0 b r0 r × black)) → InTime t
-ended setup t w0 w b0 b r0 r white black d (inl whole) = comes setup t w0 w b0 b r0 r d whole.0
-ended setup t w0 w b0 b r0 r white black d (inr (inl cut)) = breaks White setup t w0 w b0 b r0 r d cut.0
-ended setup t w0 w b0 b r0 r white black d (inr (inr cut)) = breaks Black setup t w0 w b0 b r0 r d cut.0
-
 -- a match to a depth that was run never ends by a late answer
 pub never-late : (setup : Setup) (t : Standing) (w0 w b0 b : Side) (r0 r : Watch) (white black : Type 0) → IsDepth setup.level → Ran setup t w0 w b0 b r0 r white black → IsLate t.verdict → ⊥
-never-late setup t w0 w b0 b r0 r white black d ran = (ended setup t w0 w b0 b r0 r white black d ran.ended).verdict
+never-late setup t w0 w b0 b r0 r white black d ran =
+    (by_end setup t w0 w b0 b r0 r (InTime t) ran (λ whole. comes setup t w0 w b0 b r0 r d whole.0) (λ side cut. breaks side setup t w0 w b0 b r0 r d cut)).verdict

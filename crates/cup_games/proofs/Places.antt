@@ -38,7 +38,7 @@ pub all-judged : (xs ys : List Job) → AllZip IsPlayed xs ys → All HasVerdict
 all-judged [] [] all = All-nil HasVerdict
 all-judged [] (y ∷ ys) all = absurd all
 all-judged (x ∷ xs) [] all = absurd all
-all-judged (x ∷ xs) (y ∷ ys) all = All-cons HasVerdict y ys (some-weaker _ IsJudged (λ r refereed. refereed.judged) y.referee all.0) (all-judged xs ys all.1)
+all-judged (x ∷ xs) (y ∷ ys) all = All-cons HasVerdict y ys (some-weaker _ IsJudged (λ r refereed. refereed.links.judged) y.referee all.0) (all-judged xs ys all.1)
 
 pub zip-weaker : {A : Type 0} (R S : A → A → Type 0) → ((x y : A) → R x y → S x y) → (xs ys : List A) → AllZip R xs ys → AllZip S xs ys
 zip-weaker R S weaker [] [] all = tt

@@ -1,33 +1,23 @@
 -- The games of a cup, and what it is that one was played.
 use Rattle.std.specs.Prelude.{◌≡◌, ◌≢◌, ◌⊎◌, ℕ, List, map, Option, Some, None, IsSomeAnd, ⊤}
-use Rattle.io_edge.specs.Outside.{Told}
 use Rattle.match_core.specs.declared.answers.Level.{Level}
 use Rattle.match_core.specs.declared.answers.Level.TheVariants.{Depth, Time}
 use Rattle.match_core.specs.declared.answers.Setup.{Setup}
 use Rattle.match_core.specs.declared.answers.Verdict.{Verdict}
 use Rattle.match_core.specs.Keeps.{IsSetup}
 use Rattle.match_core.specs.Standing.{Standing}
-use Rattle.match_runner.specs.Runs.{SideRose, IsJudged, IsLate, FrontRun, VerdictRun, BrokeOnly, ToldRun}
+use Rattle.match_runner.specs.Wires.{Wire}
+use Rattle.match_runner.specs.Runs.{IsJudged, IsLate, RanLinks}
 use Rattle.cup_core.specs.declared.pairing.Pairing.{Pairing}
 use Rattle.cup_core.specs.declared.standing.Standing.{Standing as Place}
 use Rattle.cup_core.specs.Cup.{AreStandings}
-
--- what is seen of a link: what is to be read, what was written, and how often each has failed
-pub record Side : Type 0 where
-  pub rest : Told
-  pub written : Told
-  pub read_faults : ℕ
-  pub write_faults : ℕ
-
-abbrev pub side : Told → Told → ℕ → ℕ → Side
-side rest written reads writes = record { rest = rest; written = written; read_faults = reads; write_faults = writes }
 
 -- a game of a cup: two engines, a link to each, what is played by, and the referee once it was played
 pub record Job : Type 0 where
   pub white : ℕ
   pub black : ℕ
-  pub white_link : Side
-  pub black_link : Side
+  pub white_link : Wire
+  pub black_link : Wire
   pub setup : Setup
   pub referee : Option Standing
 
@@ -42,19 +32,10 @@ pub record IsJob (white black : ℕ) (setup : Setup) : Type 0 where
   pub valid : IsSetup setup
   pub depth : IsDepth setup.level
 
--- a read or a write of the link failed
-abbrev pub HasRisen : Side → Side → Type 0
-HasRisen old new = SideRose old.read_faults new.read_faults old.write_faults new.write_faults
-
--- the referee is of this setup, and has the verdict of the match of the lines of these two links, which is never a late answer
-pub record IsRefereed (setup : Setup) (r : Standing) (white0 white black0 black : Side) : Type 0 where
-  pub same : r.setup ≡ setup
-  pub judged : IsJudged r
-  pub in_time : IsLate r.verdict → ⊥
-  pub front : FrontRun setup r white0.rest white0.written white.written black0.rest black0.written black.written
-  pub verdict : VerdictRun setup r white0.rest black0.rest (HasRisen white0 white) (HasRisen black0 black)
-  pub broke : BrokeOnly r (HasRisen white0 white) (HasRisen black0 black)
-  pub told : ToldRun setup r white0.rest white0.written white.written black0.rest black0.written black.written (HasRisen white0 white) (HasRisen black0 black)
+-- the match of these two links was run by the referee, and its verdict is never a late answer
+pub record IsRefereed (setup : Setup) (r : Standing) (white0 white black0 black : Wire) : Type 0 where
+  pub links : RanLinks setup r white0 white black0 black
+  pub in_time : ¬ IsLate r.verdict
 
 -- the same engines, and the same setup
 pub record IsSameGame (old new : Job) : Type 0 where

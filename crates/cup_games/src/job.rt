@@ -2,7 +2,8 @@
 
 ghost use Rattle.std.specs.Prelude.{◌≡◌, ◌≢◌, Some, None, OnOk, OnErr, MatchOption};
 ghost use Rattle.match_core.specs.Keeps.{IsSetup};
-ghost use Rattle.cup_games.specs.Played.{side, IsDepth, IsSameGame, IsPlayed};
+ghost use Rattle.match_runner.specs.Wires.{wire};
+ghost use Rattle.cup_games.specs.Played.{IsDepth, IsSameGame, IsPlayed};
 
 use hive_model::Game;
 use io_edge::{Link, StepClock};
@@ -25,16 +26,17 @@ pub struct CupJob<L: Link, G: Game> {
 }
 
 impl<L: Link, G: Game> Model for CupJob<L, G> {
-    ghost use Rattle.cup_games.specs.Played.{Job, IsJob, side};
+    ghost use Rattle.match_runner.specs.Wires.{wire};
+    ghost use Rattle.cup_games.specs.Played.{Job, IsJob};
 
     ghost Value = { Job };
 
     ghost view = { λ j. record {
       white = j.white;
       black = j.black;
-      white_link = side (L.rest j.white_link) (L.written j.white_link)
+      white_link = wire (L.rest j.white_link) (L.written j.white_link)
           (L.read_faults j.white_link) (L.write_faults j.white_link);
-      black_link = side (L.rest j.black_link) (L.written j.black_link)
+      black_link = wire (L.rest j.black_link) (L.written j.black_link)
           (L.read_faults j.black_link) (L.write_faults j.black_link);
       setup = j.setup;
       referee = j.referee;
@@ -51,9 +53,9 @@ impl<L: Link, G: Game + Drop> CupJob<L, G> {
         requires other { white ≢ black }
         ensures white { result.white ≡ white }
         ensures black { result.black ≡ black }
-        ensures white_link { result.white_link ≡ side (L.rest white_link) (L.written white_link)
+        ensures white_link { result.white_link ≡ wire (L.rest white_link) (L.written white_link)
             (L.read_faults white_link) (L.write_faults white_link) }
-        ensures black_link { result.black_link ≡ side (L.rest black_link) (L.written black_link)
+        ensures black_link { result.black_link ≡ wire (L.rest black_link) (L.written black_link)
             (L.read_faults black_link) (L.write_faults black_link) }
         ensures setup { result.setup ≡ setup }
         ensures referee { result.referee ≡ None }
@@ -99,9 +101,9 @@ impl<L: Link, G: Game + Drop> CupJob<L, G> {
 
     /// The two links as they stand, white's first.
     pub fn links(self) -> (L, L)
-        ensures white { side (L.rest result.0) (L.written result.0) (L.read_faults result.0)
+        ensures white { wire (L.rest result.0) (L.written result.0) (L.read_faults result.0)
             (L.write_faults result.0) ≡ self.white_link }
-        ensures black { side (L.rest result.1) (L.written result.1) (L.read_faults result.1)
+        ensures black { wire (L.rest result.1) (L.written result.1) (L.read_faults result.1)
             (L.write_faults result.1) ≡ self.black_link }
     {
         (self.white_link, self.black_link)

@@ -1,5 +1,5 @@
 -- A match that was run over two links, and what is told of it once both are closed.
-use Rattle.std.proofs.Common.{◌≡◌, ◌⊎◌, ℕ, ◌+◌, ◌<◌, List, [], ◌∷◌, ◌++◌, None, Some, Ok, Err, inl, inr, refl, ap, sym, ◌∙◌, arith, append_assoc}
+use Rattle.std.proofs.Common.{◌≡◌, ℕ, ◌+◌, ◌<◌, List, [], ◌∷◌, ◌++◌, None, Some, Ok, Err, inl, inr, refl, ap, sym, ◌∙◌, arith, append_assoc}
 use Rattle.std.specs.declared.option.Option.{Option}
 use Rattle.std.specs.declared.result.Result.{Result}
 use Rattle.std.specs.Result.{IfOk}
@@ -9,11 +9,11 @@ use Rattle.hive_model.specs.declared.pieces.Colour.TheVariants.{White, Black}
 use Rattle.match_core.specs.declared.answers.Setup.{Setup}
 use Rattle.match_core.specs.declared.answers.Verdict.{Verdict}
 use Rattle.match_core.specs.Standing.{Standing}
-use Rattle.match_runner.specs.Turns.{Watch}
-use Rattle.match_runner.specs.Runs.{BrokeOnly, HasBroken, IsFrontSent, IsLate}
-use Rattle.match_command.specs.Match.{AreFronts, AreSent, Gains, IsBroke, IsPlayedBy, Means, means, sent_in}
+use Rattle.match_runner.specs.Wires.{HasFailed, IsFresh, Watch, Wire}
+use Rattle.match_runner.specs.Runs.{BrokeOnly, IsFrontSent, IsVerdict as IsVerdictBy, RanLinks, RanOver}
+use Rattle.match_command.specs.Match.{AreFronts, AreSent, Gains, IsBroke, IsPlayedBy, IsVerdict, Means, means, sent_in}
 use Rattle.match_command.specs.Texts.{match_text}
-use Rattle.match_command.specs.Wires.{ClosesTwo, CountsEither, HasFailed, IsFresh, PlayedOver, RanOver, Wire}
+use Rattle.match_command.specs.Wires.{ClosesTwo, CountsEither, PlayedOver}
 
 -- What was counted
 
@@ -23,9 +23,9 @@ failed w0 w f (inl r) = elim r.higher [ inl x ↦ omega (arith, x) | inr x ↦ o
 failed w0 w f (inr r) = elim r.higher [ inl x ↦ omega (arith, x) | inr x ↦ omega (arith, x) ]
 
 -- a side that broke was counted
-broke_counted : {white black rose : Type 0} (t : Standing) → BrokeOnly t white black → (white → rose) → (black → rose) → IsBroke t.verdict → rose
-broke_counted t b w k (White, e) = w (b.white e)
-broke_counted t b w k (Black, e) = k (b.black e)
+broke_counted : {rose : Type 0} (t : Standing) (w0 w b0 b : Wire) → BrokeOnly t w0 w b0 b → (HasFailed w0 w → rose) → (HasFailed b0 b → rose) → IsBroke t.verdict → rose
+broke_counted t w0 w b0 b broke white black (White, e) = white (broke.white e)
+broke_counted t w0 w b0 b broke white black (Black, e) = black (broke.black e)
 
 -- What was sent
 
@@ -65,16 +65,17 @@ all_gained setup white black before after w0 w b0 b closes e f x y =
 
 -- The verdict
 
-verdict_part : {whole white black rose : Type 0} (v : Option Verdict) → (white → rose) → (black → rose) → whole ⊎ (IsLate v ⊎ (HasBroken v White white ⊎ HasBroken v Black black)) → whole ⊎ (IsLate v ⊎ (IsBroke v × rose))
-verdict_part v w b (inl x) = inl x
-verdict_part v w b (inr (inl x)) = inr (inl x)
-verdict_part v w b (inr (inr (inl x))) = inr (inr ((White, x.0), w x.1))
-verdict_part v w b (inr (inr (inr x))) = inr (inr ((Black, x.0), b x.1))
+verdict_part : (full v : Option Verdict) (w0 w b0 b : Wire) (before after : Means) → (HasFailed w0 w → Rose before.engines.engine_faults after.engines.engine_faults) → (HasFailed b0 b → Rose before.engines.engine_faults after.engines.engine_faults)
+    → IsVerdictBy full v w0 w b0 b → IsVerdict full v before after
+verdict_part full v w0 w b0 b before after white black (inl x) = inl x
+verdict_part full v w0 w b0 b before after white black (inr (inl x)) = inr (inl x)
+verdict_part full v w0 w b0 b before after white black (inr (inr (inl x))) = inr (inr ((White, x.0), white x.1))
+verdict_part full v w0 w b0 b before after white black (inr (inr (inr x))) = inr (inr ((Black, x.0), black x.1))
 
 -- The match
 
 -- by the links' bytes
-played_by_links : (setup : Setup) (t : Standing) (w0 w b0 b : Wire) (r0 r : Watch) (before after : Engines) → RanOver setup t w0 w b0 b r0 r
+played_by_links : (setup : Setup) (t : Standing) (w0 w b0 b : Wire) (r0 r : Watch) (before after : Engines) → RanLinks setup t w0 w b0 b
     → (HasFailed w0 w → Rose before.engine_faults after.engine_faults) → (HasFailed b0 b → Rose before.engine_faults after.engine_faults) → ClosesTwo before.sent after.sent w.written b.written
     → (white black : List ℕ) → w0.rest ≡ Some white → b0.rest ≡ Some black → w0.written ≡ Some [] → b0.written ≡ Some []
     → IsPlayedBy setup white black t (means r0.last r0.readings before) (means r.last r.readings after)
@@ -82,7 +83,7 @@ played_by_links setup t w0 w b0 b r0 r before after ran white_counted black_coun
   part =
       let f = ran.front white black wr br in record {
         moves = f.moves;
-        verdict = verdict_part t.verdict white_counted black_counted (ran.verdict white black wr br);
+        verdict = verdict_part _ t.verdict w0 w b0 b (means r0.last r0.readings before) (means r.last r.readings after) white_counted black_counted (ran.verdict white black wr br);
         gains = parts_gained setup white black before.sent after.sent w0.written w.written b0.written b.written closes ww bw f.to_white f.to_black;
       };
   whole = λ calm in_time.
@@ -101,12 +102,14 @@ played_over setup t w0 w b0 b r0 r before after wf bf ran counts closes =
     let white : HasFailed w0 w → Rose before.engine_faults after.engine_faults = λ x. counts.white (failed w0 w wf x) in
     let black : HasFailed b0 b → Rose before.engine_faults after.engine_faults = λ x. counts.black (failed b0 b bf x) in
     record {
-      judged = ran.judged;
-      same = ran.same;
-      readings = ran.readings;
-      late = ran.late;
-      broke = broke_counted t ran.broke white black;
-      by_links = played_by_links setup t w0 w b0 b r0 r before after ran white black closes;
+      out = record {
+        judged = ran.links.judged;
+        same = ran.links.same;
+        readings = ran.readings;
+        late = ran.late;
+        broke = broke_counted t w0 w b0 b ran.links.broke white black;
+      };
+      by_links = played_by_links setup t w0 w b0 b r0 r before after ran.links white black closes;
     }
 
 -- the text tells the match that was played

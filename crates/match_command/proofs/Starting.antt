@@ -5,10 +5,11 @@ use Rattle.io_edge.specs.Starts.{Engines}
 use Rattle.command_runs.specs.declared.status.Status.TheVariants.{Done, WriteFault}
 use Rattle.match_core.specs.declared.answers.Setup.{Setup}
 use Rattle.match_core.specs.Standing.{Standing}
+use Rattle.match_runner.specs.Wires.{Wire}
 use Rattle.match_runner.specs.Runs.{IsLate}
 use Rattle.match_command.specs.Match.{AreFronts, AreSent, Gains, IsBroke, IsPlayedBy, MatchRun, Means, Played, Scene, end_of, means}
 use Rattle.match_command.specs.Texts.{match_text}
-use Rattle.match_command.specs.Wires.{PlayedOver, StartsTwo, Wire}
+use Rattle.match_command.specs.Wires.{PlayedOver, StartsTwo}
 
 -- what the links of two programs tell
 pub record TwoStarted (all : List (List ℕ)) (now : ToldLists) (w b : Wire) : Type 0 where
@@ -64,11 +65,13 @@ played_from : (setup : Setup) (t : Standing) (w b : Wire) (last readings : ℕ) 
 played_from setup t w b last readings before between after starts_two stays sent faults p =
     let counted : Rose between.engine_faults after.engines.engine_faults → Rose before.engine_faults after.engines.engine_faults = λ rose. subst (λ n. Rose n after.engines.engine_faults) faults rose in
     record {
-      judged = p.judged;
-      same = p.same;
-      readings = p.readings;
-      late = p.late;
-      broke = λ broke. counted (p.broke broke);
+      out = record {
+        judged = p.out.judged;
+        same = p.out.same;
+        readings = p.out.readings;
+        late = p.out.late;
+        broke = λ broke. counted (p.out.broke broke);
+      };
       programs = λ all e.
           let two = two_started before.to_come between.to_come w b all starts_two e in
           let by = p.by_links two.white two.black two.white_says two.black_says two.white_got two.black_got in record {

@@ -119,13 +119,17 @@ pub record StartsTwoOf
   pub left : after.engines.to_come ≡ Some others
   pub played : IsPlayedBy setup white black t before after
 
--- a match was played to its verdict, and stands so
-pub record Played (setup : Setup) (t : Standing) (before after : Means) : Type 0 where
+-- a match was played to its verdict, and stands so, whatever its programs say
+pub record PlayedOut (setup : Setup) (t : Standing) (before after : Means) : Type 0 where
   pub judged : IsJudged t
   pub same : t.setup ≡ setup
   pub readings : after.readings ≤ before.readings + (2 * length t.moves + 2)
   pub late : LateIn t.verdict before.last after.last
   pub broke : IsBroke t.verdict → Rose before.engines.engine_faults after.engines.engine_faults
+
+-- a match was played to its verdict, and stands so; and what its programs say tells what was played
+pub record Played (setup : Setup) (t : Standing) (before after : Means) : Type 0 where
+  pub out : PlayedOut setup t before after
   pub programs :
       (all : List (List ℕ))
       → before.engines.to_come ≡ Some all

@@ -1,16 +1,11 @@
-//! The two programs of a match: their start, the match over their links, and their end.
-ghost use Rattle.std.specs.Prelude.{◌≡◌, ◌+◌, ◌<◌, ◌≤◌, ℕ, length, map, string_bytes, IfOk, OnErr, IsErrOf};
+//! The two programs of a match: their start and their end.
+ghost use Rattle.std.specs.Prelude.{◌≡◌, ◌+◌, ◌<◌, length, map, string_bytes, IfOk, OnErr, IsErrOf};
 ghost use Rattle.io_edge.specs.Outside.{Collects, HasCause, Starts, with_last};
-ghost use Rattle.match_core.specs.Keeps.{IsSetup};
-ghost use Rattle.match_runner.specs.Turns.{watch};
+ghost use Rattle.match_runner.specs.Wires.{IsFresh};
 ghost use Rattle.match_command.specs.Match.{BothStarted, FewerStarted, NoneIsOpen, SendsNothing};
-ghost use Rattle.match_command.specs.Wires.{wire, ClosesTwo, CountsEither, IsFresh, RanOver, StartsTwo};
+ghost use Rattle.match_command.specs.Wires.{ClosesTwo, CountsEither, StartsTwo};
 
-use hive_model::Game;
-use io_edge::{Clock, Link, Spawner, StartFault};
-use match_core::{Referee, Setup};
-use match_runner::run_match;
-use std::alloc::{AllocError, Global};
+use io_edge::{Spawner, StartFault};
 
 /// Starts black's program beside white's, which is closed where black's does not start.
 fn start_black<P: Spawner>(
@@ -79,32 +74,6 @@ pub(crate) fn start_both<P: Spawner>(
         Ok(engine) => start_black(engine, black, spawner),
         Err(fault) => Err(fault),
     }
-}
-
-/// Runs a match over two links and a clock.
-pub(crate) fn run_over<L: Link, C: Clock, G: Game + Drop>(
-    alloc: Global,
-    white: &mut L,
-    black: &mut L,
-    clock: &mut C,
-    setup: Setup,
-) -> Result<Referee<G>, AllocError>
-    requires { IsSetup setup }
-    ensures ran { IfOk result (λ r. RanOver setup r
-        (wire (L.rest white.old) (L.written white.old)
-        (L.read_faults white.old) (L.write_faults white.old))
-        (wire (L.rest white.new) (L.written white.new)
-        (L.read_faults white.new) (L.write_faults white.new))
-        (wire (L.rest black.old) (L.written black.old)
-        (L.read_faults black.old) (L.write_faults black.old))
-        (wire (L.rest black.new) (L.written black.new)
-        (L.read_faults black.new) (L.write_faults black.new))
-        (watch (C.last clock.old) (C.readings clock.old))
-        (watch (C.last clock.new) (C.readings clock.new))) }
-    ensures later { C.last clock.old ≤ C.last clock.new }
-{
-    let referee = run_match(alloc, white, black, clock, setup)?;
-    Ok(referee)
 }
 
 /// Closes white's engine, then black's.

@@ -3,16 +3,18 @@ ghost use Rattle.std.specs.Prelude.{◌≡◌, ◌<◌, ◌≤◌, length, map, 
 ghost use Rattle.io_edge.specs.Outside.{HasCause, Told};
 ghost use Rattle.match_core.specs.Keeps.{IsSetup};
 ghost use Rattle.match_core.specs.Standing.{Standing};
+ghost use Rattle.match_runner.specs.Wires.{wire, IsFresh};
 ghost use Rattle.match_command.specs.Texts.{match_text};
 ghost use Rattle.match_command.specs.Match.{MatchRun, MatchStarts, NoneIsOpen, means, scene};
-ghost use Rattle.match_command.specs.Wires.{wire, ClosesTwo, IsFresh, PlayedOver};
+ghost use Rattle.match_command.specs.Wires.{ClosesTwo, PlayedOver};
 
-use crate::engines::{close_both, run_over, start_both};
+use crate::engines::{close_both, start_both};
 use crate::texts::tell_match;
 use command_runs::Status;
 use hive_model::{Game, ReplyText};
 use io_edge::{Clock, Sink, Spawner, StartFault, write_all};
 use match_core::{Referee, Setup};
+use match_runner::run_match;
 use std::alloc::{AllocError, Global};
 
 /// Plays a match of two programs that were started, and closes both, white's first: the two lines
@@ -44,7 +46,7 @@ fn play_and_close<P: Spawner, C: Clock, G: Game + Drop>(
     ensures started { (P.engines spawner.new).started ≡ (P.engines spawner.old).started }
     ensures later { C.last clock.old ≤ C.last clock.new }
 {
-    let referee: Result<Referee<G>, AllocError> = run_over(
+    let referee: Result<Referee<G>, AllocError> = run_match(
         alloc, &mut white, &mut black, clock, setup,
     );
     close_both(white, black, spawner);

@@ -11,7 +11,7 @@ use Rattle.match_core.specs.declared.answers.Task.{Task}
 use Rattle.match_core.specs.declared.answers.Task.TheVariants.{Greet, Begin, Ask, Tell}
 use Rattle.match_core.specs.declared.answers.Stage.{Stage}
 use Rattle.match_core.specs.declared.answers.Stage.TheVariants.{Send, Read, Before, After, Finished}
-use Rattle.match_core.specs.declared.answers.Act.TheVariants.{Read as ReadAct, Finish}
+use Rattle.match_core.specs.declared.answers.Act.TheVariants.{Read as ReadAct}
 use Rattle.match_core.specs.Keeps.{IsSetup, HasNext}
 use Rattle.match_core.specs.Texts.{read_of}
 use Rattle.match_core.specs.Standing.{Standing, Happening, start, match_after, next, after_all, act_at, answers, position_of}
@@ -20,7 +20,7 @@ use Rattle.match_core.specs.Plays.{left, IsBounded, IsPliesAt, given, reply_to, 
 use Rattle.match_core.proofs.Fair.{reads, ReadsOn}
 use Rattle.match_core.proofs.Tells.{fair}
 use Rattle.match_core.proofs.Falls.{matches_near_their_end}
-use Rattle.match_core.proofs.Follows.{open_at, finished_at, happens_none, happens_more, bounded_start}
+use Rattle.match_core.proofs.Follows.{open_at, finish_is, happens_none, happens_more, bounded_start}
 
 given_answers : (side : Colour) (marks : List Mark) → IsTrue (answers (ReadAct side) (given marks))
 given_answers side [] = refl
@@ -34,13 +34,6 @@ reply_answers (Read job Black) asked white black e = given_answers Black black
 reply_answers Before asked white black e = refl
 reply_answers After asked white black e = refl
 reply_answers Finished asked white black e = absurd (cc)
-
-pub finish_of : (stage : Stage) → is_finished stage ≡ true → act_at stage ≡ Finish
-finish_of (Send job side) e = absurd (cc)
-finish_of (Read job side) e = absurd (cc)
-finish_of Before e = absurd (cc)
-finish_of After e = absurd (cc)
-finish_of Finished e = refl
 
 abbrev EndsSo : Standing → List Happening → Type 0
 EndsSo s hs = Answering s hs × (is_finished (after_all s hs).stage ≡ true)
@@ -69,7 +62,7 @@ happens_ends (suc n) s white black b less =
 pub matches_end : MatchesEnd
 matches_end setup white black is =
     let r = happens_ends (left (start setup)) (start setup) white black (bounded_start setup is) (omega arith) in
-    (r.0, finish_of (match_after setup (match_of setup white black)).stage r.1)
+    (r.0, (finish_is (match_after setup (match_of setup white black)).stage).1 r.1)
 
 pub bounded_along : (hs : List Happening) (s : Standing) → IsBounded s → Answering s hs → IsBounded (after_all s hs)
 bounded_along [] s b a = b
@@ -78,7 +71,7 @@ bounded_along (h ∷ hs) s b (t, a) = bounded_along hs (next s h) (matches_near_
 pub matches_are_judged : MatchesAreJudged
 matches_are_judged setup hs is a =
     let b = bounded_along hs (start setup) (bounded_start setup is) a in
-    (λ e. sym b.judged ∙ finished_at (match_after setup hs).stage e, λ e. finish_of (match_after setup hs).stage (b.judged ∙ e))
+    let over = finish_is (match_after setup hs).stage in (λ e. sym b.judged ∙ over.0 e, λ e. over.1 (b.judged ∙ e))
 
 next_few : (job : Task) (plies limit : ℕ) → HasNext job plies limit → plies ≤ limit
 next_few Greet plies limit h = omega (arith, h)

@@ -77,40 +77,30 @@ ends_reply s Ask side c h v = answers_as s s.setup.level _ c h (omega arith) v
 ends_reply s (Tell m) White c h v = record { bounded = record { plies = h; count = omega arith; judged = v }; less = omega arith }
 ends_reply s (Tell m) Black c h v = decides s _ h (omega arith) v
 
+-- a reply that is read begins with so many events left, and each line of it is one less
+record ReadsFrom (job : Task) (side : Colour) (d : ℕ) : Type 0 where
+  most : ℕ
+  many : 1000 < most
+  left : (c : ℕ) → left_at (Read job side) d c ≡ most - c
+  before : (c : ℕ) → most < left_at (Send job side) d c
+
+reads_from : (job : Task) (side : Colour) (d : ℕ) → ReadsFrom job side d
+reads_from Greet White d = record { most = 8008 * d + 9009; many = omega arith; left = λ c. refl; before = λ c. omega arith }
+reads_from Greet Black d = record { most = 8008 * d + 8008; many = omega arith; left = λ c. refl; before = λ c. omega arith }
+reads_from Begin White d = record { most = 8008 * d + 6006; many = omega arith; left = λ c. refl; before = λ c. omega arith }
+reads_from Begin Black d = record { most = 8008 * d + 4004; many = omega arith; left = λ c. refl; before = λ c. omega arith }
+reads_from Ask side d = record { most = 8008 * d + 1001; many = omega arith; left = λ c. refl; before = λ c. omega arith }
+reads_from (Tell m) White d = record { most = 8008 * d + 6006; many = omega arith; left = λ c. refl; before = λ c. omega arith }
+reads_from (Tell m) Black d = record { most = 8008 * d + 4004; many = omega arith; left = λ c. refl; before = λ c. omega arith }
+
 some_left : (job : Task) (side : Colour) (d c : ℕ) → c ≤ 1000 → 0 < left_at (Read job side) d c
-some_left Greet White d c h = omega arith
-some_left Greet Black d c h = omega arith
-some_left Begin White d c h = omega arith
-some_left Begin Black d c h = omega arith
-some_left Ask side d c h = omega arith
-some_left (Tell m) White d c h = omega arith
-some_left (Tell m) Black d c h = omega arith
+some_left job side d c h = let r = reads_from job side d in let e = r.left c in let many = r.many in omega (arith, e, many, h)
 
 one_line_less : (job : Task) (side : Colour) (d c : ℕ) → c < 1000 → left_at (Read job side) d (c + 1) < left_at (Read job side) d c
-one_line_less Greet White d c h = omega arith
-one_line_less Greet Black d c h = omega arith
-one_line_less Begin White d c h = omega arith
-one_line_less Begin Black d c h = omega arith
-one_line_less Ask side d c h = omega arith
-one_line_less (Tell m) White d c h = omega arith
-one_line_less (Tell m) Black d c h = omega arith
+one_line_less job side d c h = let r = reads_from job side d in let e = r.left c in let f = r.left (c + 1) in let many = r.many in omega (arith, e, f, many, h)
 
-sent_less : (job : Task) (side : Colour) (d : ℕ) → left_at (Read job side) d 0 < left_at (Send job side) d 0
-sent_less Greet White d = omega arith
-sent_less Greet Black d = omega arith
-sent_less Begin White d = omega arith
-sent_less Begin Black d = omega arith
-sent_less Ask side d = omega arith
-sent_less (Tell m) White d = omega arith
-sent_less (Tell m) Black d = omega arith
-
-send_count : (job : Task) (side : Colour) (d c : ℕ) → left_at (Send job side) d 0 ≡ left_at (Send job side) d c
-send_count Greet side d c = refl
-send_count Begin White d c = refl
-send_count Begin Black d c = refl
-send_count Ask side d c = refl
-send_count (Tell m) White d c = refl
-send_count (Tell m) Black d c = refl
+sent_less : (job : Task) (side : Colour) (d c : ℕ) → left_at (Read job side) d 0 < left_at (Send job side) d c
+sent_less job side d c = let r = reads_from job side d in let e = r.left 0 in let before = r.before c in omega (arith, e, before)
 
 hears : (s : Standing) (job : Task) (side : Colour) (line : List ℕ) → s.count ≤ 1000 → HasNext job (length s.moves) s.setup.limit → false ≡ has_verdict s.verdict → Falls (hear s job side line) (left_at (Read job side) (s.setup.limit - length s.moves) s.count)
 hears s job side line c h v =
@@ -129,12 +119,9 @@ hears s job side line c h v =
 falls_at : (stage : Stage) (s : Standing) (h : Happening) → s.count ≤ 1000 → IsPliesAt stage (length s.moves) s.setup.limit → is_finished stage ≡ has_verdict s.verdict → IsTrue (answers (act_at stage) h) → Falls (at_stage s stage h) (left_at stage (s.setup.limit - length s.moves) s.count)
 falls_at (Send job side) s Sent c p v w = record {
   bounded = record { plies = p; count = omega arith; judged = v };
-  less = let d : ℕ = s.setup.limit - length s.moves in let e : left_at (Send job side) d 0 ≡ left_at (Send job side) d s.count = send_count job side d s.count in omega (arith, e, sent_less job side d);
+  less = sent_less job side (s.setup.limit - length s.moves) s.count;
 }
-falls_at (Send job side) s Broke c p v w =
-    let d : ℕ = s.setup.limit - length s.moves in
-    let e : left_at (Send job side) d 0 ≡ left_at (Send job side) d s.count = send_count job side d s.count in
-    ends_at s (Forfeit side BrokeCause) _ (omega (arith, e, sent_less job side d))
+falls_at (Send job side) s Broke c p v w = ends_at s (Forfeit side BrokeCause) _ (let less = sent_less job side (s.setup.limit - length s.moves) s.count in omega (arith, less))
 falls_at (Send job side) s (Line bytes) c p v w = absurd (cc)
 falls_at (Send job side) s TooLong c p v w = absurd (cc)
 falls_at (Send job side) s Ended c p v w = absurd (cc)

@@ -15,17 +15,16 @@ use Rattle.match_core.specs.declared.answers.Stage.TheVariants.{Send, Read, Befo
 use Rattle.match_core.specs.declared.answers.Cause.TheVariants.{Illegal, ErrLine, Flood}
 use Rattle.match_core.specs.declared.answers.Verdict.TheVariants.{Rules, Limit}
 use Rattle.match_core.specs.Replies.{is_ok, is_error}
-use Rattle.match_core.specs.Standing.{Standing, Happening, Sent, Line, TooLong, Ended, Broke, Reading, start, next, after_all, act_at, answers, position_of, finish, ask, judge, judge_read, decide, accept, first_line, at_stage, is_late, keep, reply_ends, hear, forfeit, answered, latest, outcome_of}
+use Rattle.match_core.specs.Standing.{Standing, Happening, Sent, Line, TooLong, Ended, Broke, Reading, start, next, act_at, answers, position_of, finish, ask, judge, judge_read, decide, accept, first_line, at_stage, is_late, keep, reply_ends, hear, forfeit, answered, latest, outcome_of}
 use Rattle.match_core.specs.Texts.{read_of}
-use Rattle.std.proofs.Common.{◌≡◌, ◌⊎◌, inl, inr, ◌≤◌, ℕ, zero, suc, Bool, true, false, cond, List, [], ◌∷◌, ◌++◌, length, refl, ap, sym, ◌∙◌, None, Some, IsTrue, arith, subst, Result, Ok, Err}
+use Rattle.std.proofs.Common.{◌≡◌, ◌↔◌, ◌⊎◌, inl, inr, ℕ, zero, suc, Bool, true, false, cond, List, [], ◌∷◌, length, refl, None, Some, IsTrue, arith, Result, Ok, Err}
 use Rattle.std.specs.Option.{option_map}
 use Rattle.hive_model.specs.Lines.{Line as Mark, Text, ToldLines}
 use Rattle.match_core.specs.Keeps.{IsSetup}
 use Rattle.match_core.specs.declared.answers.Act.TheVariants.{Finish}
-use Rattle.match_core.specs.Fairness.{Answering, sent, sent_at}
-use Rattle.match_core.specs.Plays.{left, IsBounded, given, others, reply_to, left_of_white, left_of_black, is_finished, happens}
-use Rattle.match_core.specs.Feeds.{Gave, FeedsAt, Feeds, IsInTime, AreInTime, with_asked, AreSame, MatchesAreOfTheirLines}
-use Rattle.match_core.proofs.Falls.{matches_near_their_end}
+use Rattle.match_core.specs.Fairness.{sent_at}
+use Rattle.match_core.specs.Plays.{IsBounded, given, others, reply_to, left_of_white, left_of_black, is_finished, happens}
+use Rattle.match_core.specs.Feeds.{Gave, FeedsAt, IsInTime, with_asked}
 
 -- what a function makes of a match does not hang on the moment of the question
 conds : (b : Bool) (x y x2 y2 : Standing) (a : ℕ) → x2 ≡ with_asked x a → y2 ≡ with_asked y a → cond b x2 y2 ≡ with_asked (cond b x y) a
@@ -156,12 +155,13 @@ open_at Before h w = refl
 open_at After h w = refl
 open_at Finished h w = absurd (cc)
 
-pub finished_at : (stage : Stage) → act_at stage ≡ Finish → is_finished stage ≡ true
-finished_at (Send job side) e = absurd (cc)
-finished_at (Read job side) e = absurd (cc)
-finished_at Before e = absurd (cc)
-finished_at After e = absurd (cc)
-finished_at Finished e = refl
+-- a match is over exactly where there is nothing to do
+pub finish_is : (stage : Stage) → (act_at stage ≡ Finish) ↔ (is_finished stage ≡ true)
+finish_is (Send job side) = (λ e. absurd (cc), λ e. absurd (cc))
+finish_is (Read job side) = (λ e. absurd (cc), λ e. absurd (cc))
+finish_is Before = (λ e. absurd (cc), λ e. absurd (cc))
+finish_is After = (λ e. absurd (cc), λ e. absurd (cc))
+finish_is Finished = (λ e. refl, λ e. refl)
 
 pub happens_none : (n : ℕ) (s : Standing) (white black : List Mark) → is_finished s.stage ≡ true → happens n s white black ≡ []
 unfolding happens
@@ -173,49 +173,5 @@ pub happens_more : (n : ℕ) (s : Standing) (white black : List Mark) → is_fin
 unfolding happens
 happens_more n s white black e = rw e refl
 
--- nothing more happens
-no_more : (hs : List Happening) (s : Standing) (a n : ℕ) (white black : List Mark) → Answering s hs → is_finished s.stage ≡ true → AreSame s hs (with_asked s a) (happens n (with_asked s a) white black)
-no_more [] s a n white black t e = rw (happens_none n (with_asked s a) white black e) (record { asked = a; match = refl; white = refl; black = refl })
-no_more (h ∷ hs) s a n white black (t, u) e = let f = open_at s.stage h t in absurd (cc)
-
-joins : (s t x : Standing) (h k : Happening) (hs : List Happening) (F : Standing → List Happening) → next t k ≡ x → AreSame (next s h) hs x (F x) → sent_at t t.stage k White ≡ sent_at s s.stage h White → sent_at t t.stage k Black ≡ sent_at s s.stage h Black
-    → AreSame s (h ∷ hs) t (k ∷ F (next t k))
-joins s t x h k hs F e r w b =
-    let q : AreSame (next s h) hs (next t k) (F (next t k)) = subst (λ y. AreSame (next s h) hs y (F y)) (sym e) r in
-    record {
-      asked = q.asked;
-      match = q.match;
-      white = ap (λ z. z ++ sent (next t k) (F (next t k)) White) w ∙ ap (λ z. sent_at s s.stage h White ++ z) q.white;
-      black = ap (λ z. z ++ sent (next t k) (F (next t k)) Black) b ∙ ap (λ z. sent_at s s.stage h Black ++ z) q.black;
-    }
-
-follows : (hs : List Happening) (s : Standing) (a n : ℕ) (white black : List Mark) (w b : ToldLines) → Answering s hs → AreInTime s hs → Feeds s hs White (Some white) w → Feeds s hs Black (Some black) b → act_at (after_all s hs).stage ≡ Finish → IsBounded s → left s ≤ n
-    → AreSame s hs (with_asked s a) (happens n (with_asked s a) white black)
-follows [] s a n white black w b t i e f fin bound less = no_more [] s a n white black tt (finished_at s.stage fin)
-follows (h ∷ hs) s a zero white black w b (t, u) (i, j) (mw, e, f) (mb, k, g) fin bound less = let c = matches_near_their_end s h bound t in let d = c.1 in absurd (omega (arith, d, less))
-follows (h ∷ hs) s a (suc n) white black w b (t, u) (i, j) (mw, e, f) (mb, k, g) fin bound less =
-    let c = matches_near_their_end s h bound t in
-    let st = same s a h white black mw mb t i e k in
-    let reply : Happening = reply_to s.stage a white black in
-    let x : Standing = with_asked (next s h) st.asked in
-    let moved : next (with_asked s a) reply ≡ x = next_is (with_asked s a) reply ∙ (st.match ∙ ap (λ y. with_asked y st.asked) (sym (next_is s h))) in
-    let wl : List Mark = left_of_white s.stage white in
-    let bl : List Mark = left_of_black s.stage black in
-    let few : left (next s h) ≤ n = let d = c.1 in omega (arith, d, less) in
-    let over : is_finished (at_stage s s.stage h).stage ≡ true → AreSame (next s h) hs x (happens n x wl bl) =
-    λ o. no_more hs (next s h) st.asked n wl bl u (ap (λ (y : Standing). is_finished y.stage) (next_is s h) ∙ o) in
-    let rest : AreSame (next s h) hs x (happens n x wl bl) =
-    elim st.w_left as (λ _. AreSame (next s h) hs x (happens n x wl bl)) [
-      | inr o ↦ over o
-      | inl p ↦ elim st.b_left as (λ _. AreSame (next s h) hs x (happens n x wl bl)) [
-        | inr o ↦ over o
-        | inl q ↦ follows hs (next s h) st.asked n wl bl w b u j (subst (λ y. Feeds (next s h) hs White y w) p f) (subst (λ y. Feeds (next s h) hs Black y b) q g) fin c.0 few
-      ]
-    ] in
-    rw (happens_more n (with_asked s a) white black (open_at s.stage h t)) (joins s (with_asked s a) x h reply hs (λ y. happens n y wl bl) moved rest st.w_sent st.b_sent)
-
 pub bounded_start : (setup : Setup) → IsSetup setup → IsBounded (start setup)
 bounded_start setup is = record { plies = is.some; count = omega arith; judged = refl }
-
-pub matches_are_of_their_lines : MatchesAreOfTheirLines
-matches_are_of_their_lines setup hs white black w b is t i e f fin = follows hs (start setup) 0 (left (start setup)) white black w b t i e f fin (bounded_start setup is) (omega arith)

@@ -19,11 +19,11 @@ use Rattle.match_core.specs.Texts.{read_of}
 use Rattle.std.proofs.Common.{◌≡◌, inl, inr, ◌≤◌, ℕ, zero, suc, true, cond, List, [], ◌∷◌, ◌++◌, length, refl, ap, sym, ◌∙◌, Some, arith, subst, Result, Ok, Err, append_assoc}
 use Rattle.hive_model.specs.Lines.{Line as Mark, ToldLines}
 use Rattle.match_core.specs.Fairness.{Answering, sent, sent_at}
-use Rattle.match_core.specs.Plays.{left, IsBounded, reply_to, left_of_white, left_of_black, is_finished, happens}
-use Rattle.match_core.specs.Feeds.{Feeds, AreInTime, with_asked, IsFront, MatchesBegin}
+use Rattle.match_core.specs.Plays.{left, IsBounded, reply_to, left_of_white, left_of_black, is_finished, happens, match_of}
+use Rattle.match_core.specs.Feeds.{Feeds, AreInTime, with_asked, IsFront, MatchesAreOfTheirLines, MatchesBegin}
 use Rattle.match_core.proofs.Falls.{matches_near_their_end}
 use Rattle.match_core.proofs.Fair.{either}
-use Rattle.match_core.proofs.Follows.{same, next_is, open_at, happens_more, bounded_start}
+use Rattle.match_core.proofs.Follows.{same, next_is, open_at, finish_is, happens_none, happens_more, bounded_start}
 use Rattle.std.proofs.lemmas.List.{append-nil}
 
 -- Moves only grow
@@ -130,13 +130,14 @@ pub record Begins (s : Standing) (hs : List Happening) (t : Standing) (all : Lis
   pub match : after_all t fs ≡ with_asked (after_all s hs) asked
   pub white : sent t fs White ≡ sent s hs White
   pub black : sent t fs Black ≡ sent s hs Black
+  pub whole : is_finished (after_all s hs).stage ≡ true → more ≡ []
 
-begins_none : (s : Standing) (a : ℕ) (all : List Happening) → Begins s [] (with_asked s a) all
-begins_none s a all = record { fs = []; more = all; asked = a; split = refl; match = refl; white = refl; black = refl }
+begins_none : (s : Standing) (a n : ℕ) (white black : List Mark) → Begins s [] (with_asked s a) (happens n (with_asked s a) white black)
+begins_none s a n white black = record { fs = []; more = happens n (with_asked s a) white black; asked = a; split = refl; match = refl; white = refl; black = refl; whole = λ e. happens_none n (with_asked s a) white black e }
 
-begins_over : (hs : List Happening) (s : Standing) (a : ℕ) (all : List Happening) → Answering s hs → is_finished s.stage ≡ true → Begins s hs (with_asked s a) all
-begins_over [] s a all t e = begins_none s a all
-begins_over (h ∷ hs) s a all (t, u) e = let f = open_at s.stage h t in absurd (cc)
+begins_over : (hs : List Happening) (s : Standing) (a n : ℕ) (white black : List Mark) → Answering s hs → is_finished s.stage ≡ true → Begins s hs (with_asked s a) (happens n (with_asked s a) white black)
+begins_over [] s a n white black t e = begins_none s a n white black
+begins_over (h ∷ hs) s a n white black (t, u) e = let f = open_at s.stage h t in absurd (cc)
 
 joins : (s t x : Standing) (h k : Happening) (hs : List Happening) (F : Standing → List Happening) → next t k ≡ x → Begins (next s h) hs x (F x) → sent_at t t.stage k White ≡ sent_at s s.stage h White → sent_at t t.stage k Black ≡ sent_at s s.stage h Black
     → Begins s (h ∷ hs) t (k ∷ F (next t k))
@@ -150,11 +151,12 @@ joins s t x h k hs F e r w b =
       match = q.match;
       white = ap (λ z. z ++ sent (next t k) q.fs White) w ∙ ap (λ z. sent_at s s.stage h White ++ z) q.white;
       black = ap (λ z. z ++ sent (next t k) q.fs Black) b ∙ ap (λ z. sent_at s s.stage h Black ++ z) q.black;
+      whole = q.whole;
     }
 
 begins : (hs : List Happening) (s : Standing) (a n : ℕ) (white black : List Mark) (w b : ToldLines) → Answering s hs → AreInTime s hs → Feeds s hs White (Some white) w → Feeds s hs Black (Some black) b → IsBounded s → left s ≤ n
     → Begins s hs (with_asked s a) (happens n (with_asked s a) white black)
-begins [] s a n white black w b t i e f bound less = begins_none s a _
+begins [] s a n white black w b t i e f bound less = begins_none s a n white black
 begins (h ∷ hs) s a zero white black w b (t, u) (i, j) (mw, e, f) (mb, k, g) bound less = let c = matches_near_their_end s h bound t in let d = c.1 in absurd (omega (arith, d, less))
 begins (h ∷ hs) s a (suc n) white black w b (t, u) (i, j) (mw, e, f) (mb, k, g) bound less =
     let c = matches_near_their_end s h bound t in
@@ -166,7 +168,7 @@ begins (h ∷ hs) s a (suc n) white black w b (t, u) (i, j) (mw, e, f) (mb, k, g
     let bl : List Mark = left_of_black s.stage black in
     let few : left (next s h) ≤ n = let d = c.1 in omega (arith, d, less) in
     let over : is_finished (at_stage s s.stage h).stage ≡ true → Begins (next s h) hs x (happens n x wl bl) =
-    λ o. begins_over hs (next s h) st.asked (happens n x wl bl) u (ap (λ (y : Standing). is_finished y.stage) (next_is s h) ∙ o) in
+    λ o. begins_over hs (next s h) st.asked n wl bl u (ap (λ (y : Standing). is_finished y.stage) (next_is s h) ∙ o) in
     let rest : Begins (next s h) hs x (happens n x wl bl) =
     elim st.w_left as (λ _. Begins (next s h) hs x (happens n x wl bl)) [
       | inr o ↦ over o
@@ -186,4 +188,17 @@ matches_begin setup hs white black w b is t i e f =
       moves = (g.0, ap (λ (x : List Happening). (match_after setup x).moves) q.split ∙ (ap (λ (x : Standing). x.moves) (after_all-append q.fs q.more (start setup)) ∙ (g.1 ∙ ap (λ z. z ++ g.0) m)));
       to_white = (sent (after_all (start setup) q.fs) q.more White, ap (λ x. sent (start setup) x White) q.split ∙ (sent-append q.fs q.more (start setup) White ∙ ap (λ z. z ++ sent (after_all (start setup) q.fs) q.more White) q.white));
       to_black = (sent (after_all (start setup) q.fs) q.more Black, ap (λ x. sent (start setup) x Black) q.split ∙ (sent-append q.fs q.more (start setup) Black ∙ ap (λ z. z ++ sent (after_all (start setup) q.fs) q.more Black) q.black));
+    }
+
+-- all of what happens was done, where the match is over
+pub matches_are_of_their_lines : MatchesAreOfTheirLines
+matches_are_of_their_lines setup hs white black w b is t i e f fin =
+    let q = begins hs (start setup) 0 (left (start setup)) white black w b t i e f (bounded_start setup is) (omega arith) in
+    let none : q.more ≡ [] = q.whole ((finish_is (match_after setup hs).stage).0 fin) in
+    let all : match_of setup white black ≡ q.fs = q.split ∙ (ap (λ z. q.fs ++ z) none ∙ append-nil q.fs) in
+    record {
+      asked = q.asked;
+      match = ap (match_after setup) all ∙ q.match;
+      white = ap (λ z. sent (start setup) z White) all ∙ q.white;
+      black = ap (λ z. sent (start setup) z Black) all ∙ q.black;
     }

@@ -35,37 +35,32 @@ abbrev Telling : Stage → Standing → Happening → Colour → List Move → T
 Telling stage s h to known =
     tell_lines (opening s.setup.game_type) (known ++ told_at stage h to) ≡ tell_lines (opening s.setup.game_type) known ++ cond (is_telling stage) (sent_at s stage h to) []
 
-white_tells : (stage : Stage) (s : Standing) (h : Happening) (tw tb : List Move) → ToldAt stage s.moves tw tb → Telling stage s h White tw
-white_tells (Send Greet side) s h tw tb t = none _ tw
-white_tells (Send Begin side) s h tw tb t = none _ tw
-white_tells (Send Ask side) s h tw tb t = none _ tw
-white_tells (Send (Tell m) White) s Sent tw tb t = one_more (opening s.setup.game_type) s.moves t.before tw m t.made t.white
-white_tells (Send (Tell m) Black) s Sent tw tb t = none _ tw
-white_tells (Send (Tell m) side) s (Line bytes) tw tb t = none _ tw
-white_tells (Send (Tell m) side) s TooLong tw tb t = none _ tw
-white_tells (Send (Tell m) side) s Ended tw tb t = none _ tw
-white_tells (Send (Tell m) side) s Broke tw tb t = none _ tw
-white_tells (Send (Tell m) side) s (Reading at) tw tb t = none _ tw
-white_tells (Read job side) s h tw tb t = none _ tw
-white_tells Before s h tw tb t = none _ tw
-white_tells After s h tw tb t = none _ tw
-white_tells Finished s h tw tb t = none _ tw
+-- of what white and black know, what this side knows
+abbrev known_of : Colour → List Move → List Move → List Move
+known_of White tw tb = tw
+known_of Black tw tb = tb
 
-black_tells : (stage : Stage) (s : Standing) (h : Happening) (tw tb : List Move) → ToldAt stage s.moves tw tb → Telling stage s h Black tb
-black_tells (Send Greet side) s h tw tb t = none _ tb
-black_tells (Send Begin side) s h tw tb t = none _ tb
-black_tells (Send Ask side) s h tw tb t = none _ tb
-black_tells (Send (Tell m) Black) s Sent tw tb t = one_more (opening s.setup.game_type) s.moves t.before tb m t.made t.black
-black_tells (Send (Tell m) White) s Sent tw tb t = none _ tb
-black_tells (Send (Tell m) side) s (Line bytes) tw tb t = none _ tb
-black_tells (Send (Tell m) side) s TooLong tw tb t = none _ tb
-black_tells (Send (Tell m) side) s Ended tw tb t = none _ tb
-black_tells (Send (Tell m) side) s Broke tw tb t = none _ tb
-black_tells (Send (Tell m) side) s (Reading at) tw tb t = none _ tb
-black_tells (Read job side) s h tw tb t = none _ tb
-black_tells Before s h tw tb t = none _ tb
-black_tells After s h tw tb t = none _ tb
-black_tells Finished s h tw tb t = none _ tb
+known_more : (to : Colour) (tw tb : List Move) (more : Colour → List Move) → known_of to (tw ++ more White) (tb ++ more Black) ≡ known_of to tw tb ++ more to
+known_more White tw tb more = refl
+known_more Black tw tb more = refl
+
+tells_at : (stage : Stage) (s : Standing) (h : Happening) (to : Colour) (tw tb : List Move) → ToldAt stage s.moves tw tb → Telling stage s h to (known_of to tw tb)
+tells_at (Send Greet side) s h to tw tb t = none _ _
+tells_at (Send Begin side) s h to tw tb t = none _ _
+tells_at (Send Ask side) s h to tw tb t = none _ _
+tells_at (Send (Tell m) White) s Sent White tw tb t = one_more (opening s.setup.game_type) s.moves t.before tw m t.made t.white
+tells_at (Send (Tell m) White) s Sent Black tw tb t = none _ tb
+tells_at (Send (Tell m) Black) s Sent White tw tb t = none _ tw
+tells_at (Send (Tell m) Black) s Sent Black tw tb t = one_more (opening s.setup.game_type) s.moves t.before tb m t.made t.black
+tells_at (Send (Tell m) side) s (Line bytes) to tw tb t = none _ _
+tells_at (Send (Tell m) side) s TooLong to tw tb t = none _ _
+tells_at (Send (Tell m) side) s Ended to tw tb t = none _ _
+tells_at (Send (Tell m) side) s Broke to tw tb t = none _ _
+tells_at (Send (Tell m) side) s (Reading at) to tw tb t = none _ _
+tells_at (Read job side) s h to tw tb t = none _ _
+tells_at Before s h to tw tb t = none _ _
+tells_at After s h to tw tb t = none _ _
+tells_at Finished s h to tw tb t = none _ _
 
 -- one event more, in front of those that follow
 in_front : (s : Standing) (h : Happening) (hs : List Happening) (to : Colour) (known : List Move) → (next s h).setup ≡ s.setup → Telling s.stage s h to known
@@ -80,21 +75,14 @@ in_front s h hs to known same now later =
     ∙ ap (λ (r : List (List ℕ)). r ++ telling_lines (next s h) hs to) now
     ∙ append_assoc (tell_lines (opening s.setup.game_type) known) (cond (is_telling s.stage) (sent_at s s.stage h to) []) (telling_lines (next s h) hs to)
 
-tells_white : (hs : List Happening) (s : Standing) (k : Heard) (tw tb : List Move) → Good s k tw tb → Answering s hs
-    → tell_lines (opening s.setup.game_type) (tw ++ told s hs White) ≡ tell_lines (opening s.setup.game_type) tw ++ telling_lines s hs White
-tells_white [] s k tw tb g a = none (opening s.setup.game_type) tw
-tells_white (h ∷ hs) s k tw tb g (w, a) =
+tells : (hs : List Happening) (s : Standing) (k : Heard) (to : Colour) (tw tb : List Move) → Good s k tw tb → Answering s hs
+    → tell_lines (opening s.setup.game_type) (known_of to tw tb ++ told s hs to) ≡ tell_lines (opening s.setup.game_type) (known_of to tw tb) ++ telling_lines s hs to
+tells [] s k to tw tb g a = none (opening s.setup.game_type) (known_of to tw tb)
+tells (h ∷ hs) s k to tw tb g (w, a) =
     let st = steps s k tw tb h g w in
-    in_front s h hs White tw st.same (white_tells s.stage s h tw tb g.told)
-    (tells_white hs (next s h) (heard_at s.stage k h) (tw ++ told_at s.stage h White) (tb ++ told_at s.stage h Black) st.good a)
-
-tells_black : (hs : List Happening) (s : Standing) (k : Heard) (tw tb : List Move) → Good s k tw tb → Answering s hs
-    → tell_lines (opening s.setup.game_type) (tb ++ told s hs Black) ≡ tell_lines (opening s.setup.game_type) tb ++ telling_lines s hs Black
-tells_black [] s k tw tb g a = none (opening s.setup.game_type) tb
-tells_black (h ∷ hs) s k tw tb g (w, a) =
-    let st = steps s k tw tb h g w in
-    in_front s h hs Black tb st.same (black_tells s.stage s h tw tb g.told)
-    (tells_black hs (next s h) (heard_at s.stage k h) (tw ++ told_at s.stage h White) (tb ++ told_at s.stage h Black) st.good a)
+    let later : (known : List Move) → Type 0 = λ known. tell_lines (opening (next s h).setup.game_type) (known ++ told (next s h) hs to) ≡ tell_lines (opening (next s h).setup.game_type) known ++ telling_lines (next s h) hs to in
+    in_front s h hs to (known_of to tw tb) st.same (tells_at s.stage s h to tw tb g.told)
+    (subst later (known_more to tw tb (told_at s.stage h)) (tells hs (next s h) (heard_at s.stage k h) to (tw ++ told_at s.stage h White) (tb ++ told_at s.stage h Black) st.good a))
 
 pub fair : (setup : Setup) (hs : List Happening) → Answering (start setup) hs → IsFair setup hs
 fair setup hs a =
@@ -106,6 +94,6 @@ fair setup hs a =
       stands = subst (λ (x : Setup). StandsUnder x.repetition x.game_type (match_after setup hs).moves) r.same r.good.legal.stands;
       white = some.0;
       black = some.1;
-      white_lines = sym (tells_white hs (start setup) nothing_heard [] [] (good_start setup) a);
-      black_lines = sym (tells_black hs (start setup) nothing_heard [] [] (good_start setup) a);
+      white_lines = sym (tells hs (start setup) nothing_heard White [] [] (good_start setup) a);
+      black_lines = sym (tells hs (start setup) nothing_heard Black [] [] (good_start setup) a);
     }

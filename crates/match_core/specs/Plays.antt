@@ -1,6 +1,5 @@
 -- The match of two sides whose lines are known.
 use Rattle.std.specs.Prelude.{◌≡◌, ◌↔◌, ℕ, zero, suc, ◌+◌, ◌-◌, ◌*◌, ◌<◌, ◌≤◌, Bool, true, false, cond, List, [], ◌∷◌, ◌++◌, length, Option, Some, None, IsTrue}
-use Rattle.hive_model.specs.declared.pieces.Colour.{Colour}
 use Rattle.hive_model.specs.declared.pieces.Colour.TheVariants.{White, Black}
 use Rattle.hive_model.specs.Lines.{Line as Mark, Text, TooLong as LongMark}
 use Rattle.match_core.specs.declared.answers.Setup.{Setup}
@@ -10,7 +9,7 @@ use Rattle.match_core.specs.declared.answers.Stage.TheVariants.{Send, Read, Befo
 use Rattle.match_core.specs.declared.answers.Verdict.{Verdict}
 use Rattle.match_core.specs.declared.answers.Act.TheVariants.{Finish}
 use Rattle.match_core.specs.Keeps.{HasNext, IsSetup}
-use Rattle.match_core.specs.Standing.{Standing, Happening, Sent, Line, TooLong, Ended, Broke, Reading, start, match_after, next, act_at, answers}
+use Rattle.match_core.specs.Standing.{Standing, Happening, Sent, Line, TooLong, Ended, Reading, start, match_after, next, act_at, answers}
 use Rattle.match_core.specs.Fairness.{Answering}
 
 -- a match that is over has a verdict
@@ -102,32 +101,6 @@ match_of setup white black = happens (left (start setup)) (start setup) white bl
 abbrev pub joined : List (List ℕ) → List ℕ
 joined [] = []
 joined (line ∷ lines) = line ++ joined lines
-
--- the line or mark that an event takes from a side
-abbrev pub taken_at : Stage → Happening → Colour → List Mark
-taken_at (Read job White) (Line bytes) White = Text bytes ∷ []
-taken_at (Read job White) TooLong White = LongMark ∷ []
-taken_at (Read job White) Sent White = []
-taken_at (Read job White) Ended White = []
-taken_at (Read job White) Broke White = []
-taken_at (Read job White) (Reading at) White = []
-taken_at (Read job White) h Black = []
-taken_at (Read job Black) (Line bytes) Black = Text bytes ∷ []
-taken_at (Read job Black) TooLong Black = LongMark ∷ []
-taken_at (Read job Black) Sent Black = []
-taken_at (Read job Black) Ended Black = []
-taken_at (Read job Black) Broke Black = []
-taken_at (Read job Black) (Reading at) Black = []
-taken_at (Read job Black) h White = []
-taken_at (Send job side) h to = []
-taken_at Before h to = []
-taken_at After h to = []
-taken_at Finished h to = []
-
--- the lines and marks that were taken from a side
-abbrev pub taken : Standing → List Happening → Colour → List Mark
-taken s [] to = []
-taken s (h ∷ hs) to = taken_at s.stage h to ++ taken (next s h) hs to
 
 -- may a match be at this place, after so many moves
 abbrev pub IsPliesAt : Stage → ℕ → ℕ → Type 0

@@ -1,22 +1,21 @@
 -- What an act that is done comes to.
-use Rattle.std.proofs.Common.{◌≡◌, ◌<◌, ◌≤◌, ℕ, ◌+◌, Bool, true, false, List, [], ◌∷◌, ◌++◌, length, take, refl, ap, sym, ◌∙◌, arith, append_assoc, None, Some, IsTrue}
+use Rattle.std.proofs.Common.{◌≡◌, ℕ, false, [], take, refl, ap, sym, ◌∙◌, arith, None, Some, IsTrue}
 use Rattle.std.proofs.lemmas.List.{append-nil}
-use Rattle.io_edge.specs.Outside.{Told, behind, HasCause, Rose}
+use Rattle.io_edge.specs.Outside.{Told, behind, HasCause}
 use Rattle.hive_model.specs.declared.pieces.Colour.{Colour}
 use Rattle.hive_model.specs.declared.pieces.Colour.TheVariants.{White, Black}
-use Rattle.line_feed.specs.Feed.{Reading as Reader}
 use Rattle.match_core.specs.declared.answers.Stage.{Stage}
 use Rattle.match_core.specs.declared.answers.Stage.TheVariants.{Send, Read, Before, After, Finished as FinishedStage}
-use Rattle.match_core.specs.declared.answers.Act.TheVariants.{Send as SendAct, Read as ReadAct, Clock, Finish}
+use Rattle.match_core.specs.declared.answers.Act.TheVariants.{Send as SendAct, Read as ReadAct, Clock}
 use Rattle.match_core.specs.Keeps.{line_at}
-use Rattle.match_core.specs.Standing.{Standing, Happening, Sent, Line, TooLong, Ended, Broke, Reading, next, act_at, answers}
+use Rattle.match_core.specs.Standing.{Standing, Happening, Sent, Line, TooLong, Ended, Broke, Reading, act_at, answers}
 use Rattle.match_core.specs.Fairness.{sent_at, is_side}
 use Rattle.match_core.specs.Plays.{joined}
 use Rattle.hive_model.specs.Lines.{ToldLines}
 use Rattle.match_core.specs.Feeds.{Gave, FeedsAt}
 use Rattle.match_runner.specs.declared.turns.Turn.{Turn}
 use Rattle.match_runner.specs.declared.turns.Turn.TheVariants.{GoOn, Finished, ReadFault, WriteFault, Memory}
-use Rattle.match_runner.specs.Turns.{Side, Tells, Hears, Looks, Turns, OneSide, CutSide, Goes, Breaks, KeepsAt, is_broke, side_of}
+use Rattle.match_runner.specs.Turns.{Side, Tells, Hears, Looks, Turns, OneSide, CutSide, KeepsAt, is_broke}
 
 pub other_cause : (failed : Type 0) (n : ℕ) → (failed → ⊥) → HasCause failed n n
 other_cause failed n f = record { later = omega arith; rose = λ x. absurd (f x); same = λ x. refl }

@@ -1,10 +1,8 @@
 use Rattle.std.specs.declared.option.Option.{Option}
-use Rattle.std.specs.Prelude.{nat_le, nat_lt}
+use Rattle.std.specs.Prelude.{nat_le}
 use Rattle.hive_model.specs.declared.pieces.Colour.{Colour}
 use Rattle.hive_model.specs.declared.pieces.Colour.TheVariants.{White, Black}
 use Rattle.hive_model.specs.declared.places.Move.{Move}
-use Rattle.hive_model.specs.Lists.{IsOn}
-use Rattle.hive_model.specs.Positions.{Position, opening}
 use Rattle.hive_model.specs.Legal.{is_over_state}
 use Rattle.hive_model.specs.Courses.{is_listed}
 use Rattle.move_text.specs.declared.faults.MoveFault.{MoveFault}
@@ -15,24 +13,20 @@ use Rattle.match_core.specs.declared.answers.Task.{Task}
 use Rattle.match_core.specs.declared.answers.Task.TheVariants.{Greet, Begin, Ask, Tell}
 use Rattle.match_core.specs.declared.answers.Stage.{Stage}
 use Rattle.match_core.specs.declared.answers.Stage.TheVariants.{Send, Read, Before, After, Finished}
-use Rattle.match_core.specs.declared.answers.Cause.{Cause}
 use Rattle.match_core.specs.declared.answers.Cause.TheVariants.{NotAMove, Illegal, ErrLine, Flood, LongLine, Ended as EndedCause, Broke as BrokeCause, Late}
 use Rattle.match_core.specs.declared.answers.Verdict.{Verdict}
 use Rattle.match_core.specs.declared.answers.Verdict.TheVariants.{Rules, Limit, Forfeit}
 use Rattle.match_core.specs.Replies.{is_ok, is_error}
-use Rattle.match_core.specs.Standing.{Standing, Happening, Sent, Line, TooLong, Ended, Broke, Reading, start, match_after, next, after_all, act_at, answers, position_of, go, finish, ask, judge, judge_read, decide, accept, first_line, at_stage, is_late, keep, reply_ends, hear, question, forfeit, answered, outcome_of}
+use Rattle.match_core.specs.Standing.{Standing, Happening, Sent, Line, TooLong, Ended, Broke, Reading, start, next, after_all, act_at, position_of, finish, ask, judge, judge_read, decide, accept, first_line, at_stage, is_late, keep, reply_ends, hear, forfeit, answered, outcome_of}
 use Rattle.match_core.specs.Texts.{read_of}
-use Rattle.match_core.specs.Keeps.{IsSetup}
-use Rattle.match_core.specs.declared.answers.Act.TheVariants.{Finish, Send as SendAct, Read as ReadAct}
-use Rattle.match_core.specs.Fairness.{Answering, sent, sent_at}
-use Rattle.std.proofs.Common.{◌≡◌, ◌⊎◌, inl, inr, ◌<◌, ◌≤◌, ℕ, ◌+◌, ◌*◌, Bool, true, false, cond, List, [], ◌∷◌, ◌++◌, length, length-append, refl, ap, sym, ◌∙◌, None, Some, IsTrue, arith, subst, Ok, Err}
-use Rattle.std.specs.Result.{IfOk}
+use Rattle.match_core.specs.declared.answers.Act.TheVariants.{Send as SendAct, Read as ReadAct}
+use Rattle.std.proofs.Common.{◌≡◌, ◌⊎◌, inl, inr, ℕ, false, cond, List, [], ◌∷◌, length, refl, ap, sym, ◌∙◌, Some, subst, Ok, Err}
 use Rattle.std.specs.declared.result.Result.{Result}
 use Rattle.match_core.proofs.Fair.{either}
 use Rattle.match_core.proofs.Follows.{next_is}
-use Rattle.io_edge.specs.Outside.{Told}
-use Rattle.match_runner.specs.Turns.{Side, Watch, Breaks, is_broke}
-use Rattle.match_runner.specs.Runs.{AreSound, FinalRun, Runs, Run, Cut, SideRose, BrokeOnly}
+use Rattle.match_runner.specs.Wires.{Watch, Wire}
+use Rattle.match_runner.specs.Turns.{Side, is_broke}
+use Rattle.match_runner.specs.Runs.{AreSound, FinalRun, Cut, BrokeOnly}
 
 -- no fault of a side ended the match
 abbrev IsUnbroken : Option Verdict → Type 0
@@ -143,27 +137,18 @@ verdict_broke Finished s side (inr e) = absurd (cc)
 pub cut_verdict : (side : Colour) (setup : Setup) (t : Standing) (w0 w b0 b : Side) (r0 r : Watch) → Cut side setup t w0 w b0 b r0 r → t.verdict ≡ Some (Forfeit side BrokeCause)
 cut_verdict side setup t w0 w b0 b r0 r (s, w1, b1, run, br, act) = ap (λ (x : Standing). x.verdict) (br.next_is ∙ next_is s Broke) ∙ verdict_broke s.stage s side act
 
-broke_final : (setup : Setup) (t : Standing) (w_rest w_old w_new b_rest b_old b_new w_left b_left : Told) (r0 r : Watch) (i0 i1 i2 i3 i4 i5 i6 i7 : ℕ) → FinalRun setup t w_rest w_old w_new b_rest b_old b_new w_left b_left r0 r i0 i1 i2 i3 i4 i5 i6 i7
-    → BrokeOnly t (SideRose i0 i1 i2 i3) (SideRose i4 i5 i6 i7)
-broke_final setup t w_rest w_old w_new b_rest b_old b_new w_left b_left r0 r i0 i1 i2 i3 i4 i5 i6 i7 (w_reader, b_reader, wh, bh, ran) =
-    elim ran.ended [
+pub broke_final : (setup : Setup) (t : Standing) (w0 w b0 b : Wire) (r0 r : Watch) → FinalRun setup t w0 w b0 b r0 r → BrokeOnly t w0 w b0 b
+broke_final setup t w0 w b0 b r0 r final =
+    elim final.ran.ended [
       | inl whole ↦
           let (hs, run) = whole.0 in
           let u : IsUnbroken t.verdict = subst (λ (x : Standing). IsUnbroken x.verdict) (sym run.here) (unbroken hs (start setup) run.sound (none_yet setup)) in
           record { white = λ e. absurd (u White e); black = λ e. absurd (u Black e) }
       | inr cut ↦ elim cut [
         | inl c ↦ let v = cut_verdict White setup t _ _ _ _ _ _ c.0 in record { white = λ e. c.1; black = λ e. absurd (other (sym v ∙ e)) }
-        | inr c ↦ let v = cut_verdict Black setup t _ _ _ _ _ _ c.0 in record { white = λ e. absurd (other_too (sym v ∙ e)); black = λ e. c.1 }
+        | inr c ↦ let v = cut_verdict Black setup t _ _ _ _ _ _ c.0 in record { white = λ e. absurd (other (sym e ∙ v)); black = λ e. c.1 }
       ]
     ]
   where
     other : Some (Forfeit White BrokeCause) ≡ Some (Forfeit Black BrokeCause) → ⊥
     other e = cc
-
-    other_too : Some (Forfeit Black BrokeCause) ≡ Some (Forfeit White BrokeCause) → ⊥
-    other_too e = cc
-
-pub all_broke : {X : Type 0} (o : Result Standing X) (setup : Setup) (w_rest w_old w_new b_rest b_old b_new w_left b_left : Told) (r0 r : Watch) (i0 i1 i2 i3 i4 i5 i6 i7 : ℕ)
-    → IfOk o (λ t. FinalRun setup t w_rest w_old w_new b_rest b_old b_new w_left b_left r0 r i0 i1 i2 i3 i4 i5 i6 i7) → IfOk o (λ t. BrokeOnly t (SideRose i0 i1 i2 i3) (SideRose i4 i5 i6 i7))
-all_broke (Ok t) setup w_rest w_old w_new b_rest b_old b_new w_left b_left r0 r i0 i1 i2 i3 i4 i5 i6 i7 f = broke_final setup t w_rest w_old w_new b_rest b_old b_new w_left b_left r0 r i0 i1 i2 i3 i4 i5 i6 i7 f
-all_broke (Err x) setup w_rest w_old w_new b_rest b_old b_new w_left b_left r0 r i0 i1 i2 i3 i4 i5 i6 i7 f = tt

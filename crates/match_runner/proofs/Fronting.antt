@@ -5,32 +5,26 @@ use Rattle.hive_model.specs.declared.pieces.Colour.TheVariants.{White, Black}
 use Rattle.match_core.specs.declared.answers.Setup.{Setup}
 use Rattle.match_core.specs.declared.answers.Stage.{Stage}
 use Rattle.match_core.specs.declared.answers.Stage.TheVariants.{Send, Read, Before, After, Finished as FinishedStage}
-use Rattle.match_core.specs.declared.answers.Act.TheVariants.{Send as SendAct, Read as ReadAct, Clock, Finish}
-use Rattle.match_core.specs.Standing.{Standing, Happening, start, match_after, next, after_all, act_at, answers, at_stage, forfeit, is_late, position_of, Sent, Line, TooLong, Ended, Broke, Reading}
+use Rattle.match_core.specs.declared.answers.Act.TheVariants.{Send as SendAct, Read as ReadAct, Finish}
+use Rattle.match_core.specs.Standing.{Standing, Happening, start, match_after, next, after_all, act_at, answers, at_stage, is_late, Sent, Line, TooLong, Ended, Broke, Reading}
 use Rattle.match_core.specs.Fairness.{Answering, sent, sent_at}
-use Rattle.match_core.specs.Plays.{joined, left, is_finished, IsBounded, match_of}
+use Rattle.match_core.specs.Plays.{joined, match_of}
 use Rattle.hive_model.specs.Lines.{ToldLines, Line as Mark, lines}
-use Rattle.match_core.specs.Feeds.{FeedsAt, Feeds, IsInTime, AreInTime, AreSame, IsFront}
-use Rattle.match_core.proofs.Falls.{matches_near_their_end}
-use Rattle.match_core.proofs.Fair.{after_all-snoc}
-use Rattle.match_runner.specs.Turns.{Side, Watch, OneSide, Goes, Breaks, is_broke, looks_at, side_of, Turns, KeepsAt, CutSide}
-use Rattle.match_runner.specs.Runs.{AreSound, looks, Served, Runs, Run, Whole, Cut, Ran, FinalRun, SideRose, FrontRun, IsFrontOf, IsFrontSent}
-use Rattle.std.proofs.Common.{◌≡◌, ◌⊎◌, inl, inr, ℕ, ◌+◌, Bool, true, false, List, [], ◌∷◌, refl, ap, sym, ◌∙◌, None, Some, IsTrue, subst, Ok, Err, ◌++◌, append_assoc}
-use Rattle.std.specs.Result.{IfOk}
-use Rattle.std.specs.declared.result.Result.{Result}
-use Rattle.io_edge.specs.Outside.{Told, behind, Rose}
+use Rattle.match_core.specs.Feeds.{FeedsAt, Feeds, IsInTime, AreInTime, IsFront}
+use Rattle.match_runner.specs.Wires.{Watch, Wire}
+use Rattle.match_runner.proofs.Endings.{by_end}
+use Rattle.match_runner.specs.Turns.{Side, is_broke, side_of, CutSide}
+use Rattle.match_runner.specs.Runs.{AreSound, Run, Cut, FinalRun, FrontRun, IsFrontOf, IsFrontSent}
+use Rattle.std.proofs.Common.{◌≡◌, ◌⊎◌, inl, inr, ℕ, ◌+◌, true, false, List, [], ◌∷◌, refl, ap, sym, ◌∙◌, Some, IsTrue, subst, ◌++◌, append_assoc}
+use Rattle.io_edge.specs.Outside.{Told, behind}
 use Rattle.line_feed.specs.Feed.{fresh}
-use Rattle.line_feed.specs.Ahead.{ahead_of}
-use Rattle.line_feed.proofs.AheadLemmas.{ahead_begin}
 use Rattle.match_core.specs.Keeps.{IsSetup}
-use Rattle.match_core.specs.declared.answers.Cause.TheVariants.{Late}
-use Rattle.match_core.specs.declared.answers.Verdict.TheVariants.{Forfeit}
 use Rattle.match_core.proofs.Follows.{next_is}
 use Rattle.match_core.proofs.Fronts.{matches_begin}
 use Rattle.match_runner.proofs.Looks.{moves_broke}
+use Rattle.match_runner.proofs.Telling.{feeds_from}
 use Rattle.match_runner.proofs.Progress.{joined-append, sent-snoc, feeds-snoc, answering-snoc, sound-snoc}
 use Rattle.std.specs.Prelude.{take, drop}
-use Rattle.match_runner.proofs.Acts.{behind-nil}
 
 abbrev IsLateAt : Stage → Standing → Happening → Type 0
 IsLateAt After s (Reading at) = is_late s at ≡ true
@@ -134,18 +128,10 @@ fronts setup hs white black w b is a v e f =
       to_black = subst (λ z. IsFront (joined z) (joined (sent (start setup) (match_of setup white black) Black))) (sym q.to_black) (joined_front _ _ g.to_black);
     }
 
-told_fronts : (setup : Setup) (s : Standing) (w_old b_old : Told) (w b : Side) (w_rest b_rest : Told) (r0 r : Watch) (white black : List ℕ) → IsSetup setup → w_rest ≡ Some white → b_rest ≡ Some black → (hs : List Happening)
-    → Runs setup s (side_of fresh w_rest w_old) w (side_of fresh b_rest b_old) b r0 r hs → (Feeds (start setup) hs White (Some (lines white)) w.ahead) × (Feeds (start setup) hs Black (Some (lines black)) b.ahead)
-told_fronts setup s w_old b_old w b w_rest b_rest r0 r white black is e f hs run = (
-  subst (λ x. Feeds (start setup) hs White x w.ahead) (ap (ahead_of fresh) e ∙ ahead_begin fresh (Some white) refl) run.white.feeds,
-  subst (λ x. Feeds (start setup) hs Black x b.ahead) (ap (ahead_of fresh) f ∙ ahead_begin fresh (Some black) refl) run.black.feeds,
-)
-
 front_run : (setup : Setup) (t : Standing) (w_old b_old : Told) (w b : Side) (w_rest b_rest : Told) (r0 r : Watch) (white black : List ℕ) → IsSetup setup → w_rest ≡ Some white → b_rest ≡ Some black
     → Run setup t (side_of fresh w_rest w_old) w (side_of fresh b_rest b_old) b r0 r → IsFrontOf setup (lines white) (lines black) t w_old w.written b_old b.written
 front_run setup t w_old b_old w b w_rest b_rest r0 r white black is e f (hs, run) =
-    let fed = told_fronts setup t w_old b_old w b w_rest b_rest r0 r white black is e f hs run in
-    let g = fronts setup hs (lines white) (lines black) w.ahead b.ahead is run.fits run.sound fed.0 fed.1 in
+    let g = fronts setup hs (lines white) (lines black) w.ahead b.ahead is run.fits run.sound (feeds_from setup hs White w_rest w_old w white e run.white) (feeds_from setup hs Black b_rest b_old b black f run.black) in
     record {
       moves = subst (λ (z : Standing). IsFront z.moves (match_after setup (match_of setup (lines white) (lines black))).moves) (sym run.here) g.moves;
       to_white = (joined (sent (start setup) hs White), run.white.wrote, g.to_white);
@@ -205,10 +191,9 @@ front_cut : (side : Colour) (setup : Setup) (t : Standing) (w_old b_old : Told) 
     → Cut side setup t (side_of fresh w_rest w_old) w (side_of fresh b_rest b_old) b r0 r → IsFrontOf setup (lines white) (lines black) t w_old w.written b_old b.written
 front_cut side setup t w_old b_old w b w_rest b_rest r0 r white black is e f (s, w1, b1, (hs, run), br, act) =
     let same : t.moves ≡ s.moves = ap (λ (x : Standing). x.moves) (br.next_is ∙ next_is s Broke) ∙ moves_broke s.stage s br.fits in
-    let fed = told_fronts setup s w_old b_old w1 b1 w_rest b_rest r0 r white black is e f hs run in
     let whole = front_run setup s w_old b_old w1 b1 w_rest b_rest r0 r white black is e f (hs, run) in
     let here : (act_at (match_after setup hs).stage ≡ SendAct side) ⊎ (act_at (match_after setup hs).stage ≡ ReadAct side) = subst (λ (x : Standing). (act_at x.stage ≡ SendAct side) ⊎ (act_at x.stage ≡ ReadAct side)) run.here act in
-    let g = cut_fronts side setup hs (lines white) (lines black) w1.ahead b1.ahead is run.fits run.sound fed.0 fed.1 here in
+    let g = cut_fronts side setup hs (lines white) (lines black) w1.ahead b1.ahead is run.fits run.sound (feeds_from setup hs White w_rest w_old w1 white e run.white) (feeds_from setup hs Black b_rest b_old b1 black f run.black) here in
     let cw : CutSide (match_after setup hs) White w1 w = subst (λ (x : Standing). CutSide x White w1 w) run.here br.white in
     let cb : CutSide (match_after setup hs) Black b1 b = subst (λ (x : Standing). CutSide x Black b1 b) run.here br.black in
     record {
@@ -217,18 +202,8 @@ front_cut side setup t w_old b_old w b w_rest b_rest r0 r white black is e f (s,
       to_black = cut_sent b_old b1.written b.written (joined (sent (start setup) hs Black)) _ _ cb.0 run.black.wrote cb.1 (g.to_black cb.0);
     }
 
-front_final : (setup : Setup) (t : Standing) (w_rest w_old w_new b_rest b_old b_new w_left b_left : Told) (r0 r : Watch) (i0 i1 i2 i3 i4 i5 i6 i7 : ℕ) → IsSetup setup → FinalRun setup t w_rest w_old w_new b_rest b_old b_new w_left b_left r0 r i0 i1 i2 i3 i4 i5 i6 i7
-    → FrontRun setup t w_rest w_old w_new b_rest b_old b_new
-front_final setup t w_rest w_old w_new b_rest b_old b_new w_left b_left r0 r i0 i1 i2 i3 i4 i5 i6 i7 is (w_reader, b_reader, wh, bh, ran) = λ white black e f.
-    elim ran.ended as (λ _. IsFrontOf setup (lines white) (lines black) t w_old w_new b_old b_new) [
-      | inl whole ↦ front_run setup t w_old b_old (side_of w_reader w_left w_new) (side_of b_reader b_left b_new) w_rest b_rest r0 r white black is e f whole.0
-      | inr cut ↦ elim cut as (λ _. IsFrontOf setup (lines white) (lines black) t w_old w_new b_old b_new) [
-        | inl c ↦ front_cut White setup t w_old b_old (side_of w_reader w_left w_new) (side_of b_reader b_left b_new) w_rest b_rest r0 r white black is e f c.0
-        | inr c ↦ front_cut Black setup t w_old b_old (side_of w_reader w_left w_new) (side_of b_reader b_left b_new) w_rest b_rest r0 r white black is e f c.0
-      ]
-    ]
-
-pub all_front : {X : Type 0} (o : Result Standing X) (setup : Setup) (w_rest w_old w_new b_rest b_old b_new w_left b_left : Told) (r0 r : Watch) (i0 i1 i2 i3 i4 i5 i6 i7 : ℕ) → IsSetup setup
-    → IfOk o (λ t. FinalRun setup t w_rest w_old w_new b_rest b_old b_new w_left b_left r0 r i0 i1 i2 i3 i4 i5 i6 i7) → IfOk o (λ t. FrontRun setup t w_rest w_old w_new b_rest b_old b_new)
-all_front (Ok t) setup w_rest w_old w_new b_rest b_old b_new w_left b_left r0 r i0 i1 i2 i3 i4 i5 i6 i7 is f = front_final setup t w_rest w_old w_new b_rest b_old b_new w_left b_left r0 r i0 i1 i2 i3 i4 i5 i6 i7 is f
-all_front (Err x) setup w_rest w_old w_new b_rest b_old b_new w_left b_left r0 r i0 i1 i2 i3 i4 i5 i6 i7 is f = tt
+pub front_final : (setup : Setup) (t : Standing) (w0 w b0 b : Wire) (r0 r : Watch) → IsSetup setup → FinalRun setup t w0 w b0 b r0 r → FrontRun setup t w0 w b0 b
+front_final setup t w0 w b0 b r0 r is final = λ white black e f.
+    by_end setup t _ _ _ _ r0 r (IsFrontOf setup (lines white) (lines black) t w0.written w.written b0.written b.written) final.ran
+    (λ whole. front_run setup t w0.written b0.written (side_of final.white_reader w.rest w.written) (side_of final.black_reader b.rest b.written) w0.rest b0.rest r0 r white black is e f whole.0)
+    (λ side cut. front_cut side setup t w0.written b0.written (side_of final.white_reader w.rest w.written) (side_of final.black_reader b.rest b.written) w0.rest b0.rest r0 r white black is e f cut)

@@ -1,18 +1,17 @@
 -- What a reader gives of the lines to come.
-use Rattle.std.proofs.Common.{◌≡◌, ◌≢◌, ◌↔◌, ◌<◌, ◌≤◌, ℕ, ◌+◌, Bool, true, false, List, [], ◌∷◌, length, refl, ap, sym, ◌∙◌, arith, None, Some}
+use Rattle.std.proofs.Common.{◌≡◌, ◌↔◌, ◌<◌, ◌≤◌, ℕ, ◌+◌, true, false, List, length, refl, arith}
 use Rattle.io_edge.specs.Outside.{Told}
 use Rattle.hive_model.specs.declared.pieces.Colour.{Colour}
-use Rattle.hive_model.specs.Lines.{Line as Mark, TooLong as LongMark, ToldLines, LongAhead, NoneAhead}
+use Rattle.hive_model.specs.Lines.{LongAhead}
 use Rattle.line_feed.specs.Feed.{Reading as Reader, Takes, Feeds as FeedsOne, pending, lf_after, input_limit}
 use Rattle.line_feed.specs.Ahead.{ahead_of}
-use Rattle.line_feed.specs.declared.answers.LineAnswer.{LineAnswer}
-use Rattle.line_feed.specs.declared.answers.LineAnswer.TheVariants.{Line as LineGiven, TooLong as LineTooLong, End, Failed, Full}
+use Rattle.line_feed.specs.declared.answers.LineAnswer.TheVariants.{Line as LineGiven, TooLong as LineTooLong, Full}
 use Rattle.line_feed.proofs.AheadLemmas.{long_ahead as long_left, full_ahead as full_left, passes_little}
 use Rattle.match_core.specs.declared.answers.Stage.{Stage}
 use Rattle.match_core.specs.declared.answers.Stage.TheVariants.{Send, Read, Before, After, Finished}
 use Rattle.match_core.specs.declared.answers.Act.TheVariants.{Read as ReadAct}
 use Rattle.match_core.specs.Plays.{is_finished}
-use Rattle.match_core.specs.Standing.{Standing, Happening, Line, TooLong, Ended, next, at_stage, act_at}
+use Rattle.match_core.specs.Standing.{Standing, TooLong, Ended, next, at_stage, act_at}
 
 pub gives_long : (old new : Reader) (r0 r1 : Told) → (bytes : List ℕ) × Takes r0 r1 old.taken new.taken bytes × FeedsOne LineTooLong old bytes new r1 → LongAhead (ahead_of old r0)
 gives_long old new r0 r1 fed = long_left old new r0 r1 fed

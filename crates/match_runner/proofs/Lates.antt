@@ -1,10 +1,8 @@
 use Rattle.std.specs.declared.option.Option.{Option}
-use Rattle.std.specs.Prelude.{nat_le, nat_lt}
+use Rattle.std.specs.Prelude.{nat_le}
 use Rattle.hive_model.specs.declared.pieces.Colour.{Colour}
 use Rattle.hive_model.specs.declared.pieces.Colour.TheVariants.{White, Black}
 use Rattle.hive_model.specs.declared.places.Move.{Move}
-use Rattle.hive_model.specs.Lists.{IsOn}
-use Rattle.hive_model.specs.Positions.{Position, opening}
 use Rattle.hive_model.specs.Legal.{is_over_state}
 use Rattle.hive_model.specs.Courses.{is_listed}
 use Rattle.move_text.specs.declared.faults.MoveFault.{MoveFault}
@@ -15,25 +13,23 @@ use Rattle.match_core.specs.declared.answers.Task.{Task}
 use Rattle.match_core.specs.declared.answers.Task.TheVariants.{Greet, Begin, Ask, Tell}
 use Rattle.match_core.specs.declared.answers.Stage.{Stage}
 use Rattle.match_core.specs.declared.answers.Stage.TheVariants.{Send, Read, Before, After, Finished}
-use Rattle.match_core.specs.declared.answers.Cause.{Cause}
-use Rattle.match_core.specs.declared.answers.Cause.TheVariants.{NotAMove, Illegal, ErrLine, Flood, LongLine, Ended as EndedCause, Broke as BrokeCause, Late}
+use Rattle.match_core.specs.declared.answers.Cause.TheVariants.{Illegal, ErrLine, Flood, Broke as BrokeCause, Late}
 use Rattle.match_core.specs.declared.answers.Verdict.{Verdict}
 use Rattle.match_core.specs.declared.answers.Verdict.TheVariants.{Rules, Limit, Forfeit}
 use Rattle.match_core.specs.Replies.{is_ok, is_error}
-use Rattle.match_core.specs.Standing.{Standing, Happening, Sent, Line, TooLong, Ended, Broke, Reading, start, match_after, next, after_all, act_at, answers, position_of, go, finish, ask, judge, judge_read, decide, accept, first_line, at_stage, is_late, keep, reply_ends, hear, question, forfeit, answered, outcome_of}
+use Rattle.match_core.specs.Standing.{Standing, Happening, Sent, Line, TooLong, Ended, Broke, Reading, start, next, after_all, act_at, answers, position_of, go, finish, ask, judge, judge_read, decide, accept, first_line, at_stage, is_late, keep, reply_ends, hear, question, forfeit, answered, outcome_of}
 use Rattle.match_core.specs.Texts.{read_of}
 use Rattle.match_core.specs.Keeps.{IsSetup}
-use Rattle.match_core.specs.declared.answers.Act.TheVariants.{Finish, Send as SendAct, Read as ReadAct}
-use Rattle.match_core.specs.Fairness.{Answering, sent, sent_at}
-use Rattle.std.proofs.Common.{◌≡◌, ◌⊎◌, inl, inr, ◌<◌, ◌≤◌, ℕ, ◌+◌, ◌*◌, Bool, true, false, cond, List, [], ◌∷◌, ◌++◌, length, length-append, refl, ap, sym, ◌∙◌, None, Some, IsTrue, arith, subst, Ok, Err}
-use Rattle.std.specs.Result.{IfOk}
+use Rattle.match_core.specs.Fairness.{Answering}
+use Rattle.std.proofs.Common.{◌≡◌, ◌≤◌, ℕ, false, cond, List, [], ◌∷◌, length, refl, sym, ◌∙◌, None, Some, IsTrue, arith, subst, Ok, Err}
 use Rattle.std.specs.declared.result.Result.{Result}
 use Rattle.match_core.proofs.Fair.{either}
 use Rattle.match_core.proofs.Follows.{next_is, open_at, bounded_start}
-use Rattle.io_edge.specs.Outside.{Told}
-use Rattle.match_runner.specs.Turns.{Side, Watch, KeepsAt}
-use Rattle.match_runner.specs.Runs.{FinalRun, Runs, Run, KeepTime, LateIn}
-use Rattle.match_core.specs.Plays.{has_verdict, is_finished, IsBounded}
+use Rattle.match_runner.specs.Wires.{Watch, Wire}
+use Rattle.match_runner.proofs.Endings.{by_end}
+use Rattle.match_runner.specs.Turns.{Side, KeepsAt}
+use Rattle.match_runner.specs.Runs.{FinalRun, Run, KeepTime, LateIn}
+use Rattle.match_core.specs.Plays.{has_verdict, IsBounded}
 use Rattle.match_core.proofs.Falls.{matches_near_their_end}
 use Rattle.match_runner.proofs.Causes.{cut_verdict}
 
@@ -169,18 +165,7 @@ late_run setup t w0 w b0 b r0 r is (hs, run) =
 late_broke : (v : Option Verdict) (side : Colour) (c0 c : ℕ) → v ≡ Some (Forfeit side BrokeCause) → LateIn v c0 c
 late_broke v side c0 c e = rw e tt
 
-late_final : (setup : Setup) (t : Standing) (w_rest w_old w_new b_rest b_old b_new w_left b_left : Told) (r0 r : Watch) (i0 i1 i2 i3 i4 i5 i6 i7 : ℕ) → IsSetup setup → FinalRun setup t w_rest w_old w_new b_rest b_old b_new w_left b_left r0 r i0 i1 i2 i3 i4 i5 i6 i7
-    → LateIn t.verdict r0.last r.last
-late_final setup t w_rest w_old w_new b_rest b_old b_new w_left b_left r0 r i0 i1 i2 i3 i4 i5 i6 i7 is (w_reader, b_reader, wh, bh, ran) =
-    elim ran.ended [
-      | inl whole ↦ late_run setup t _ _ _ _ r0 r is whole.0
-      | inr cut ↦ elim cut [
-        | inl c ↦ late_broke t.verdict White r0.last r.last (cut_verdict White setup t _ _ _ _ _ _ c.0)
-        | inr c ↦ late_broke t.verdict Black r0.last r.last (cut_verdict Black setup t _ _ _ _ _ _ c.0)
-      ]
-    ]
-
-pub all_late : {X : Type 0} (o : Result Standing X) (setup : Setup) (w_rest w_old w_new b_rest b_old b_new w_left b_left : Told) (r0 r : Watch) (i0 i1 i2 i3 i4 i5 i6 i7 : ℕ) → IsSetup setup
-    → IfOk o (λ t. FinalRun setup t w_rest w_old w_new b_rest b_old b_new w_left b_left r0 r i0 i1 i2 i3 i4 i5 i6 i7) → IfOk o (λ t. LateIn t.verdict r0.last r.last)
-all_late (Ok t) setup w_rest w_old w_new b_rest b_old b_new w_left b_left r0 r i0 i1 i2 i3 i4 i5 i6 i7 is f = late_final setup t w_rest w_old w_new b_rest b_old b_new w_left b_left r0 r i0 i1 i2 i3 i4 i5 i6 i7 is f
-all_late (Err x) setup w_rest w_old w_new b_rest b_old b_new w_left b_left r0 r i0 i1 i2 i3 i4 i5 i6 i7 is f = tt
+pub late_final : (setup : Setup) (t : Standing) (w0 w b0 b : Wire) (r0 r : Watch) → IsSetup setup → FinalRun setup t w0 w b0 b r0 r → LateIn t.verdict r0.last r.last
+late_final setup t w0 w b0 b r0 r is final =
+    by_end setup t _ _ _ _ r0 r (LateIn t.verdict r0.last r.last) final.ran (λ whole. late_run setup t _ _ _ _ r0 r is whole.0)
+    (λ side cut. late_broke t.verdict side r0.last r.last (cut_verdict side setup t _ _ _ _ _ _ cut))

@@ -1,10 +1,7 @@
-use Rattle.std.specs.declared.option.Option.{Option}
-use Rattle.std.specs.Prelude.{nat_le, nat_lt}
+use Rattle.std.specs.Prelude.{nat_le}
 use Rattle.hive_model.specs.declared.pieces.Colour.{Colour}
 use Rattle.hive_model.specs.declared.pieces.Colour.TheVariants.{White, Black}
 use Rattle.hive_model.specs.declared.places.Move.{Move}
-use Rattle.hive_model.specs.Lists.{IsOn}
-use Rattle.hive_model.specs.Positions.{Position, opening}
 use Rattle.hive_model.specs.Legal.{is_over_state}
 use Rattle.hive_model.specs.Courses.{is_listed}
 use Rattle.move_text.specs.declared.faults.MoveFault.{MoveFault}
@@ -15,24 +12,20 @@ use Rattle.match_core.specs.declared.answers.Task.{Task}
 use Rattle.match_core.specs.declared.answers.Task.TheVariants.{Greet, Begin, Ask, Tell}
 use Rattle.match_core.specs.declared.answers.Stage.{Stage}
 use Rattle.match_core.specs.declared.answers.Stage.TheVariants.{Send, Read, Before, After, Finished}
-use Rattle.match_core.specs.declared.answers.Cause.{Cause}
-use Rattle.match_core.specs.declared.answers.Cause.TheVariants.{NotAMove, Illegal, ErrLine, Flood, LongLine, Ended as EndedCause, Broke as BrokeCause, Late}
-use Rattle.match_core.specs.declared.answers.Verdict.{Verdict}
-use Rattle.match_core.specs.declared.answers.Verdict.TheVariants.{Rules, Limit, Forfeit}
+use Rattle.match_core.specs.declared.answers.Cause.TheVariants.{Illegal, ErrLine, Flood, Late}
+use Rattle.match_core.specs.declared.answers.Verdict.TheVariants.{Rules, Limit}
 use Rattle.match_core.specs.Replies.{is_ok, is_error}
 use Rattle.match_core.specs.Standing.{Standing, Happening, Sent, Line, TooLong, Ended, Broke, Reading, start, match_after, next, after_all, act_at, answers, position_of, go, finish, ask, judge, judge_read, decide, accept, first_line, at_stage, is_late, keep, reply_ends, hear, question, forfeit, answered, outcome_of}
 use Rattle.match_core.specs.Texts.{read_of}
-use Rattle.match_core.specs.Keeps.{IsSetup}
-use Rattle.match_core.specs.declared.answers.Act.TheVariants.{Finish, Send as SendAct, Read as ReadAct}
-use Rattle.match_core.specs.Fairness.{Answering, sent, sent_at}
-use Rattle.std.proofs.Common.{◌≡◌, ◌⊎◌, inl, inr, ◌<◌, ◌≤◌, ℕ, ◌+◌, ◌*◌, Bool, true, false, cond, List, [], ◌∷◌, ◌++◌, length, length-append, refl, ap, sym, ◌∙◌, None, Some, IsTrue, arith, subst, Ok, Err}
-use Rattle.std.specs.Result.{IfOk}
+use Rattle.match_core.specs.Fairness.{Answering}
+use Rattle.std.proofs.Common.{◌≡◌, ◌≤◌, ℕ, ◌+◌, ◌*◌, cond, List, [], ◌∷◌, ◌++◌, length, length-append, refl, ap, ◌∙◌, IsTrue, arith, Ok, Err}
 use Rattle.std.specs.declared.result.Result.{Result}
 use Rattle.match_core.proofs.Fair.{either}
 use Rattle.match_core.proofs.Follows.{next_is}
-use Rattle.io_edge.specs.Outside.{Told}
-use Rattle.match_runner.specs.Turns.{Side, Watch, Breaks, looks_at}
-use Rattle.match_runner.specs.Runs.{looks, FinalRun, Runs, Run}
+use Rattle.match_runner.specs.Wires.{Watch, Wire}
+use Rattle.match_runner.proofs.Endings.{by_end}
+use Rattle.match_runner.specs.Turns.{Side, Breaks, looks_at}
+use Rattle.match_runner.specs.Runs.{looks, FinalRun, Run}
 
 abbrev extra_job : Task → ℕ
 extra_job Greet = 0
@@ -175,18 +168,7 @@ read_cut setup s t w0 w w2 b0 b b2 r0 r run br =
     let e : t.moves ≡ s.moves = ap (λ (x : Standing). x.moves) (br.next_is ∙ next_is s Broke) ∙ moves_broke s.stage s br.fits in
     let f : length t.moves ≡ length s.moves = ap length e in omega (arith, k, f)
 
-read_final : (setup : Setup) (t : Standing) (w_rest w_old w_new b_rest b_old b_new w_left b_left : Told) (r0 r : Watch) (i0 i1 i2 i3 i4 i5 i6 i7 : ℕ) → FinalRun setup t w_rest w_old w_new b_rest b_old b_new w_left b_left r0 r i0 i1 i2 i3 i4 i5 i6 i7
-    → r.readings ≤ r0.readings + (2 * length t.moves + 2)
-read_final setup t w_rest w_old w_new b_rest b_old b_new w_left b_left r0 r i0 i1 i2 i3 i4 i5 i6 i7 (w_reader, b_reader, wh, bh, ran) =
-    elim ran.ended [
-      | inl whole ↦ read_run setup t _ _ _ _ r0 r whole.0
-      | inr cut ↦ elim cut [
-        | inl c ↦ let (s, w1, b1, run, br, act) = c.0 in read_cut setup s t _ w1 _ _ b1 _ r0 r run br
-        | inr c ↦ let (s, w1, b1, run, br, act) = c.0 in read_cut setup s t _ w1 _ _ b1 _ r0 r run br
-      ]
-    ]
-
-pub all_read : {X : Type 0} (o : Result Standing X) (setup : Setup) (w_rest w_old w_new b_rest b_old b_new w_left b_left : Told) (r0 r : Watch) (i0 i1 i2 i3 i4 i5 i6 i7 : ℕ)
-    → IfOk o (λ t. FinalRun setup t w_rest w_old w_new b_rest b_old b_new w_left b_left r0 r i0 i1 i2 i3 i4 i5 i6 i7) → IfOk o (λ t. r.readings ≤ r0.readings + (2 * length t.moves + 2))
-all_read (Ok t) setup w_rest w_old w_new b_rest b_old b_new w_left b_left r0 r i0 i1 i2 i3 i4 i5 i6 i7 f = read_final setup t w_rest w_old w_new b_rest b_old b_new w_left b_left r0 r i0 i1 i2 i3 i4 i5 i6 i7 f
-all_read (Err x) setup w_rest w_old w_new b_rest b_old b_new w_left b_left r0 r i0 i1 i2 i3 i4 i5 i6 i7 f = tt
+pub read_final : (setup : Setup) (t : Standing) (w0 w b0 b : Wire) (r0 r : Watch) → FinalRun setup t w0 w b0 b r0 r → r.readings ≤ r0.readings + (2 * length t.moves + 2)
+read_final setup t w0 w b0 b r0 r final =
+    by_end setup t _ _ _ _ r0 r (r.readings ≤ r0.readings + (2 * length t.moves + 2)) final.ran (λ whole. read_run setup t _ _ _ _ r0 r whole.0)
+    (λ side cut. let (s, w1, b1, run, br, act) = cut in read_cut setup s t _ w1 _ _ b1 _ r0 r run br)

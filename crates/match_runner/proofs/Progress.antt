@@ -1,25 +1,26 @@
 -- A run goes on by one act.
-use Rattle.std.proofs.Common.{◌≡◌, ◌⊎◌, inl, inr, ◌<◌, ◌≤◌, ℕ, ◌+◌, ◌*◌, Bool, true, false, List, [], ◌∷◌, ◌++◌, refl, ap, sym, ◌∙◌, arith, append_assoc, None, Some, IsTrue, subst}
+use Rattle.std.proofs.Common.{◌≡◌, inl, inr, ◌<◌, ◌≤◌, ℕ, ◌+◌, ◌*◌, false, List, [], ◌∷◌, ◌++◌, refl, ap, sym, ◌∙◌, arith, append_assoc, IsTrue, subst}
 use Rattle.std.proofs.lemmas.List.{append-nil}
-use Rattle.io_edge.specs.Outside.{Told, behind, Rose, HasCause}
+use Rattle.io_edge.specs.Outside.{behind, Rose}
 use Rattle.io_edge.proofs.Told.{behind-behind}
 use Rattle.hive_model.specs.declared.pieces.Colour.{Colour}
 use Rattle.hive_model.specs.declared.pieces.Colour.TheVariants.{White, Black}
 use Rattle.match_core.specs.declared.answers.Setup.{Setup}
 use Rattle.match_core.specs.declared.answers.Stage.{Stage}
 use Rattle.match_core.specs.declared.answers.Stage.TheVariants.{Send, Read, Before, After, Finished as FinishedStage}
-use Rattle.match_core.specs.declared.answers.Act.TheVariants.{Send as SendAct, Read as ReadAct, Clock, Finish}
+use Rattle.match_core.specs.declared.answers.Act.TheVariants.{Send as SendAct, Read as ReadAct, Finish}
 use Rattle.match_core.specs.Standing.{Standing, Happening, start, match_after, next, after_all, act_at, answers}
 use Rattle.match_core.specs.Fairness.{Answering, sent, sent_at}
-use Rattle.match_core.specs.Plays.{joined, left, is_finished, IsBounded}
+use Rattle.match_core.specs.Plays.{joined, left, is_finished}
 use Rattle.match_core.specs.Keeps.{IsSetup}
 use Rattle.hive_model.specs.Lines.{ToldLines}
 use Rattle.match_core.specs.Feeds.{FeedsAt, Feeds}
 use Rattle.match_core.proofs.Falls.{matches_near_their_end}
 use Rattle.match_core.proofs.Fair.{after_all-snoc}
-use Rattle.match_runner.specs.Turns.{Side, Watch, OneSide, Goes, Breaks, KeepsAt, is_broke, looks_at, side_of, Turns}
+use Rattle.match_runner.specs.Wires.{Watch}
+use Rattle.match_runner.specs.Turns.{Side, OneSide, Goes, Breaks, KeepsAt, is_broke, looks_at}
 use Rattle.match_runner.specs.declared.turns.Turn.TheVariants.{ReadFault, WriteFault}
-use Rattle.match_runner.specs.Runs.{AreSound, KeepTime, looks, Served, Runs, Run, Whole, Cut, Ran}
+use Rattle.match_runner.specs.Runs.{AreSound, KeepTime, looks, Served, Run, Ran}
 use Rattle.match_runner.proofs.Acts.{behind-nil}
 
 pub joined-append : (xs ys : List (List ℕ)) → joined (xs ++ ys) ≡ joined xs ++ joined ys

@@ -1,7 +1,6 @@
 -- A match keeps its setup.
-use Rattle.std.proofs.Common.{◌≡◌, ℕ, [], inl, inr, refl, ap, ◌∙◌}
+use Rattle.std.proofs.Common.{◌≡◌, [], refl, ap, ◌∙◌}
 use Rattle.hive_model.specs.declared.pieces.Colour.{Colour}
-use Rattle.io_edge.specs.Outside.{Told}
 use Rattle.match_core.specs.declared.answers.Setup.{Setup}
 use Rattle.match_core.specs.declared.answers.Stage.{Stage}
 use Rattle.match_core.specs.declared.answers.Stage.TheVariants.{Send, Read, Before, After, Finished}
@@ -9,7 +8,9 @@ use Rattle.match_core.specs.Standing.{Standing, Broke, at_stage, start}
 use Rattle.match_core.specs.Fairness.{nothing_heard}
 use Rattle.match_core.proofs.Fair.{goes, good_start}
 use Rattle.match_core.proofs.Follows.{next_is}
-use Rattle.match_runner.specs.Turns.{Side, Watch}
+use Rattle.match_runner.specs.Wires.{Watch, Wire}
+use Rattle.match_runner.proofs.Endings.{by_end}
+use Rattle.match_runner.specs.Turns.{Side}
 use Rattle.match_runner.specs.Runs.{Cut, FinalRun, Run}
 
 -- after a fault
@@ -29,10 +30,5 @@ cut_same side setup t w0 w b0 b r0 r (s, w1, b1, run, br, act) =
     ap (λ (x : Standing). x.setup) (br.next_is ∙ next_is s Broke) ∙ (broke_same s.stage s ∙ run_same setup s w0 w1 b0 b1 r0 r run)
 
 -- the match that a run answers
-pub final_same : (setup : Setup) (t : Standing) (w_rest w_old w_new b_rest b_old b_new w_left b_left : Told) (r0 r : Watch) (i0 i1 i2 i3 i4 i5 i6 i7 : ℕ)
-    → FinalRun setup t w_rest w_old w_new b_rest b_old b_new w_left b_left r0 r i0 i1 i2 i3 i4 i5 i6 i7 → t.setup ≡ setup
-final_same setup t w_rest w_old w_new b_rest b_old b_new w_left b_left r0 r i0 i1 i2 i3 i4 i5 i6 i7 (w_reader, b_reader, wh, bh, ran) =
-    elim ran.ended [
-      | inl whole ↦ run_same setup t _ _ _ _ r0 r whole.0
-      | inr cut ↦ elim cut [ inl c ↦ cut_same _ setup t _ _ _ _ r0 r c.0 | inr c ↦ cut_same _ setup t _ _ _ _ r0 r c.0 ]
-    ]
+pub final_same : (setup : Setup) (t : Standing) (w0 w b0 b : Wire) (r0 r : Watch) → FinalRun setup t w0 w b0 b r0 r → t.setup ≡ setup
+final_same setup t w0 w b0 b r0 r final = by_end setup t _ _ _ _ r0 r (t.setup ≡ setup) final.ran (λ whole. run_same setup t _ _ _ _ r0 r whole.0) (λ side cut. cut_same side setup t _ _ _ _ r0 r cut)

@@ -1,31 +1,30 @@
-use Rattle.std.proofs.lemmas.List.{append-nil}
-use Rattle.io_edge.proofs.Told.{behind-behind}
 use Rattle.hive_model.specs.declared.pieces.Colour.{Colour}
 use Rattle.hive_model.specs.declared.pieces.Colour.TheVariants.{White, Black}
 use Rattle.match_core.specs.declared.answers.Setup.{Setup}
 use Rattle.match_core.specs.declared.answers.Stage.{Stage}
 use Rattle.match_core.specs.declared.answers.Stage.TheVariants.{Send, Read, Before, After, Finished as FinishedStage}
-use Rattle.match_core.specs.declared.answers.Act.TheVariants.{Send as SendAct, Read as ReadAct, Clock, Finish}
+use Rattle.match_core.specs.declared.answers.Act.TheVariants.{Finish}
 use Rattle.match_core.specs.Standing.{Standing, Happening, start, match_after, next, after_all, act_at, answers, at_stage, forfeit, is_late, position_of, Sent, Line, TooLong, Ended, Broke, Reading}
-use Rattle.match_core.specs.Fairness.{Answering, sent, sent_at}
-use Rattle.match_core.specs.Plays.{joined, left, is_finished, IsBounded, match_of}
-use Rattle.hive_model.specs.Lines.{ToldLines, Line as Mark, lines}
-use Rattle.match_core.specs.Feeds.{FeedsAt, Feeds, IsInTime, AreInTime, AreSame}
-use Rattle.match_core.proofs.Falls.{matches_near_their_end}
-use Rattle.match_core.proofs.Fair.{after_all-snoc}
-use Rattle.match_runner.specs.Turns.{Side, Watch, OneSide, Goes, Breaks, is_broke, looks_at, side_of, Turns}
-use Rattle.match_runner.specs.Runs.{AreSound, looks, Served, Runs, Run, Whole, Cut, Ran, IsLate, IsMatch, ToldRun, FinalRun, SideRose}
-use Rattle.std.proofs.Common.{◌≡◌, ◌⊎◌, inl, inr, ℕ, ◌+◌, Bool, true, false, List, [], ◌∷◌, refl, ap, sym, ◌∙◌, None, Some, IsTrue, subst, Ok, Err}
-use Rattle.std.specs.Result.{IfOk}
-use Rattle.std.specs.declared.result.Result.{Result}
-use Rattle.io_edge.specs.Outside.{Told, behind, Rose}
+use Rattle.match_core.specs.Fairness.{Answering}
+use Rattle.match_core.specs.Plays.{joined}
+use Rattle.hive_model.specs.Lines.{lines}
+use Rattle.match_core.specs.Feeds.{Feeds, IsInTime, AreInTime}
+use Rattle.match_runner.specs.Wires.{Watch, Wire}
+use Rattle.match_runner.specs.Turns.{Side, is_broke, side_of}
+use Rattle.match_runner.specs.Runs.{AreSound, Served, Whole, IsLate, IsMatch, ToldRun, FinalRun}
+use Rattle.std.proofs.Common.{◌≡◌, inl, inr, ℕ, true, false, List, [], ◌∷◌, refl, ap, sym, ◌∙◌, Some, IsTrue, subst}
+use Rattle.io_edge.specs.Outside.{Told, behind}
 use Rattle.line_feed.specs.Feed.{fresh}
 use Rattle.line_feed.specs.Ahead.{ahead_of}
 use Rattle.line_feed.proofs.AheadLemmas.{ahead_begin}
 use Rattle.match_core.specs.Keeps.{IsSetup}
 use Rattle.match_core.specs.declared.answers.Cause.TheVariants.{Late}
-use Rattle.match_core.specs.declared.answers.Verdict.TheVariants.{Forfeit}
-use Rattle.match_core.proofs.Follows.{matches_are_of_their_lines, next_is}
+use Rattle.match_core.proofs.Follows.{next_is}
+use Rattle.match_core.proofs.Fronts.{matches_are_of_their_lines}
+
+-- the lines that a side will say, where its link tells its bytes
+pub feeds_from : (setup : Setup) (hs : List Happening) (to : Colour) (rest written : Told) (now : Side) (bytes : List ℕ) → rest ≡ Some bytes → Served (start setup) hs to (side_of fresh rest written) now → Feeds (start setup) hs to (Some (lines bytes)) now.ahead
+feeds_from setup hs to rest written now bytes e served = subst (λ x. Feeds (start setup) hs to x now.ahead) (ap (ahead_of fresh) e ∙ ahead_begin fresh (Some bytes) refl) served.feeds
 
 late_stops : (hs : List Happening) (s x : Standing) (side : Colour) (m n : ℕ) → x ≡ forfeit s side (Late m n) → Answering x hs → (IsLate (after_all x hs).verdict → ⊥) → ⊥
 late_stops [] s x side m n e a f = f (rw e tt)
@@ -53,27 +52,24 @@ in_time : (hs : List Happening) (s : Standing) → Answering s hs → AreSound h
 in_time [] s a v f = tt
 in_time (h ∷ hs) s (t, u) (v, w) f = (in_time_at s.stage s (next s h) h hs (next_is s h) u v f, in_time hs (next s h) u w f)
 
-pub told_of : (setup : Setup) (t : Standing) (w_rest w_old w_new b_rest b_old b_new w_left b_left : Told) (r0 r : Watch) (i0 i1 i2 i3 i4 i5 i6 i7 : ℕ) → IsSetup setup → FinalRun setup t w_rest w_old w_new b_rest b_old b_new w_left b_left r0 r i0 i1 i2 i3 i4 i5 i6 i7
-    → ToldRun setup t w_rest w_old w_new b_rest b_old b_new (SideRose i0 i1 i2 i3) (SideRose i4 i5 i6 i7)
-told_of setup t w_rest w_old w_new b_rest b_old b_new w_left b_left r0 r i0 i1 i2 i3 i4 i5 i6 i7 is (w_reader, b_reader, wh, bh, ran) = λ white black e f wn bn late.
-    elim ran.ended [
-      | inr cut ↦ elim cut [ inl c ↦ absurd (wn c.1) | inr c ↦ absurd (bn c.1) ]
-      | inl whole ↦
-          let (hs, run) = whole.0 in
-          let fin : act_at (match_after setup hs).stage ≡ Finish = subst (λ (x : Standing). act_at x.stage ≡ Finish) run.here whole.1 in
-          let nl : IsLate (match_after setup hs).verdict → ⊥ = subst (λ (x : Standing). IsLate x.verdict → ⊥) run.here late in
-          let fw : Feeds (start setup) hs White (Some (lines white)) (ahead_of w_reader w_left) = subst (λ x. Feeds (start setup) hs White x (ahead_of w_reader w_left)) (ap (ahead_of fresh) e ∙ ahead_begin fresh (Some white) refl) run.white.feeds in
-          let fb : Feeds (start setup) hs Black (Some (lines black)) (ahead_of b_reader b_left) = subst (λ x. Feeds (start setup) hs Black x (ahead_of b_reader b_left)) (ap (ahead_of fresh) f ∙ ahead_begin fresh (Some black) refl) run.black.feeds in
-          let same = matches_are_of_their_lines setup hs (lines white) (lines black) (ahead_of w_reader w_left) (ahead_of b_reader b_left) is run.fits (in_time hs (start setup) run.fits run.sound nl) fw fb fin in
-          record {
-            moves = ap (λ (x : Standing). x.moves) run.here ∙ sym (ap (λ (x : Standing). x.moves) same.match);
-            verdict = ap (λ (x : Standing). x.verdict) run.here ∙ sym (ap (λ (x : Standing). x.verdict) same.match);
-            to_white = run.white.wrote ∙ ap (λ x. behind w_old (joined x)) (sym same.white);
-            to_black = run.black.wrote ∙ ap (λ x. behind b_old (joined x)) (sym same.black);
-          }
-    ]
+-- a match that ended by itself, where both links tell their bytes
+pub whole_told : (setup : Setup) (t : Standing) (w0 w b0 b : Wire) (w_now b_now : Side) (r0 r : Watch) (white black : List ℕ) → IsSetup setup → w0.rest ≡ Some white → b0.rest ≡ Some black → ¬ IsLate t.verdict
+    → w_now.written ≡ w.written → b_now.written ≡ b.written → Whole setup t (side_of fresh w0.rest w0.written) w_now (side_of fresh b0.rest b0.written) b_now r0 r
+    → IsMatch setup (lines white) (lines black) t w0.written w.written b0.written b.written
+whole_told setup t w0 w b0 b w_now b_now r0 r white black is e f late ws bs ((hs, run), over) =
+    let fin : act_at (match_after setup hs).stage ≡ Finish = subst (λ (x : Standing). act_at x.stage ≡ Finish) run.here over in
+    let nl : IsLate (match_after setup hs).verdict → ⊥ = subst (λ (x : Standing). IsLate x.verdict → ⊥) run.here late in
+    let same = matches_are_of_their_lines setup hs (lines white) (lines black) w_now.ahead b_now.ahead is run.fits (in_time hs (start setup) run.fits run.sound nl) (feeds_from setup hs White w0.rest w0.written w_now white e run.white) (feeds_from setup hs Black b0.rest b0.written b_now black f run.black) fin in
+    record {
+      moves = ap (λ (x : Standing). x.moves) run.here ∙ sym (ap (λ (x : Standing). x.moves) same.match);
+      verdict = ap (λ (x : Standing). x.verdict) run.here ∙ sym (ap (λ (x : Standing). x.verdict) same.match);
+      to_white = sym ws ∙ (run.white.wrote ∙ ap (λ x. behind w0.written (joined x)) (sym same.white));
+      to_black = sym bs ∙ (run.black.wrote ∙ ap (λ x. behind b0.written (joined x)) (sym same.black));
+    }
 
-pub all_told : {X : Type 0} (o : Result Standing X) (setup : Setup) (w_rest w_old w_new b_rest b_old b_new w_left b_left : Told) (r0 r : Watch) (i0 i1 i2 i3 i4 i5 i6 i7 : ℕ) → IsSetup setup
-    → IfOk o (λ t. FinalRun setup t w_rest w_old w_new b_rest b_old b_new w_left b_left r0 r i0 i1 i2 i3 i4 i5 i6 i7) → IfOk o (λ t. ToldRun setup t w_rest w_old w_new b_rest b_old b_new (SideRose i0 i1 i2 i3) (SideRose i4 i5 i6 i7))
-all_told (Ok t) setup w_rest w_old w_new b_rest b_old b_new w_left b_left r0 r i0 i1 i2 i3 i4 i5 i6 i7 is f = told_of setup t w_rest w_old w_new b_rest b_old b_new w_left b_left r0 r i0 i1 i2 i3 i4 i5 i6 i7 is f
-all_told (Err x) setup w_rest w_old w_new b_rest b_old b_new w_left b_left r0 r i0 i1 i2 i3 i4 i5 i6 i7 is f = tt
+pub told_run : (setup : Setup) (t : Standing) (w0 w b0 b : Wire) (r0 r : Watch) → IsSetup setup → FinalRun setup t w0 w b0 b r0 r → ToldRun setup t w0 w b0 b
+told_run setup t w0 w b0 b r0 r is final = λ white black e f wn bn late.
+    elim final.ran.ended [
+      | inr cut ↦ elim cut [ inl c ↦ absurd (wn c.1) | inr c ↦ absurd (bn c.1) ]
+      | inl whole ↦ whole_told setup t w0 w b0 b _ _ r0 r white black is e f late refl refl whole
+    ]

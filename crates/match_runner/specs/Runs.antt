@@ -1,12 +1,12 @@
 -- What a whole run has done.
-use Rattle.std.specs.Prelude.{◌≡◌, ◌⊎◌, ℕ, ◌+◌, ◌<◌, ◌≤◌, Bool, true, false, List, [], ◌∷◌, ◌++◌, Option, Some, None, IsTrue}
-use Rattle.io_edge.specs.Outside.{Told, behind, Rose}
+use Rattle.std.specs.Prelude.{◌≡◌, ◌⊎◌, ℕ, ◌+◌, ◌*◌, ◌≤◌, true, false, List, [], ◌∷◌, length, Option, Some, None}
+use Rattle.io_edge.specs.Outside.{Told, behind}
 use Rattle.hive_model.specs.declared.pieces.Colour.{Colour}
 use Rattle.hive_model.specs.declared.pieces.Colour.TheVariants.{White, Black}
 use Rattle.line_feed.specs.Feed.{Reading as Reader, HoldsLittle, fresh}
 use Rattle.match_core.specs.declared.answers.Setup.{Setup}
 use Rattle.match_core.specs.declared.answers.Act.TheVariants.{Send as SendAct, Read as ReadAct, Finish}
-use Rattle.hive_model.specs.Lines.{Line as Mark, lines, ToldLines}
+use Rattle.hive_model.specs.Lines.{Line as Mark, lines}
 use Rattle.match_core.specs.declared.answers.Cause.TheVariants.{NotAMove, Illegal, ErrLine, Flood, LongLine, Ended as EndedCause, Broke as BrokeCause, Late}
 use Rattle.match_core.specs.declared.answers.Verdict.{Verdict}
 use Rattle.match_core.specs.declared.answers.Verdict.TheVariants.{Rules, Limit, Forfeit}
@@ -14,7 +14,8 @@ use Rattle.match_core.specs.Standing.{Standing, Happening, start, match_after, n
 use Rattle.match_core.specs.Fairness.{Answering, sent}
 use Rattle.match_core.specs.Plays.{joined, IsBounded, match_of, has_verdict}
 use Rattle.match_core.specs.Feeds.{Feeds, IsFront}
-use Rattle.match_runner.specs.Turns.{Side, Watch, Breaks, KeepsAt, is_broke, looks_at, side_of}
+use Rattle.match_runner.specs.Wires.{HasFailed, Watch, Wire}
+use Rattle.match_runner.specs.Turns.{Side, Breaks, KeepsAt, is_broke, looks_at, side_of}
 
 -- no event is a fault
 abbrev pub AreSound : List Happening → Type 0
@@ -65,17 +66,19 @@ Cut side setup t w0 w b0 b r0 r =
 pub record Ran (setup : Setup) (t : Standing) (w0 w b0 b : Side) (r0 r : Watch) (white_rose black_rose : Type 0) : Type 0 where
   pub ended : (Whole setup t w0 w b0 b r0 r) ⊎ ((Cut White setup t w0 w b0 b r0 r × white_rose) ⊎ (Cut Black setup t w0 w b0 b r0 r × black_rose))
 
--- a side's count of failed reads or of failed writes rose
-abbrev pub SideRose : ℕ → ℕ → ℕ → ℕ → Type 0
-SideRose reads0 reads writes0 writes = Rose reads0 reads ⊎ Rose writes0 writes
-
--- The run of a match over links that had these rests and have these now, and have sent and counted this. The lines to come of each
--- side are those of what its reader holds, the front of one line and at most one piece, and of what the link has left.
-abbrev pub FinalRun : Setup → Standing → Told → Told → Told → Told → Told → Told → Told → Told → Watch → Watch → ℕ → ℕ → ℕ → ℕ → ℕ → ℕ → ℕ → ℕ → Type 0
-FinalRun setup t w_rest w_old w_new b_rest b_old b_new w_left b_left r0 r w_reads0 w_reads w_writes0 w_writes b_reads0 b_reads b_writes0 b_writes =
-    (w_reader : Reader) × (b_reader : Reader) × HoldsLittle w_reader × HoldsLittle b_reader
-    × Ran setup t (side_of fresh w_rest w_old) (side_of w_reader w_left w_new) (side_of fresh b_rest b_old) (side_of b_reader b_left b_new)
-    r0 r (SideRose w_reads0 w_reads w_writes0 w_writes) (SideRose b_reads0 b_reads b_writes0 b_writes)
+-- The run of a match over two links that stood so before it and stand so behind it. The lines to come
+-- of each side are those of what its reader holds, the front of one line and at most one piece, and of
+-- what the link has left.
+pub record FinalRun
+    (setup : Setup) (t : Standing) (w0 w b0 b : Wire) (r0 r : Watch) : Type 0 where
+  pub white_reader : Reader
+  pub black_reader : Reader
+  pub white_little : HoldsLittle white_reader
+  pub black_little : HoldsLittle black_reader
+  pub ran :
+      Ran setup t (side_of fresh w0.rest w0.written) (side_of white_reader w.rest w.written)
+      (side_of fresh b0.rest b0.written) (side_of black_reader b.rest b.written) r0 r
+      (HasFailed w0 w) (HasFailed b0 b)
 
 -- a side forfeits for a late answer
 abbrev pub IsLate : Option Verdict → Type 0
@@ -92,22 +95,28 @@ IsLate (Some (Forfeit side BrokeCause)) = ⊥
 IsLate (Some (Forfeit side (Late asked answered))) = Unit {0}
 
 -- moves, verdict and the bytes sent are those of the match of these lines
-pub record IsMatch (setup : Setup) (white black : List Mark) (t : Standing) (w0 w b0 b : Told) : Type 0 where
+pub record IsMatch
+    (setup : Setup) (white black : List Mark) (t : Standing) (w0 w b0 b : Told) : Type 0 where
   pub moves : t.moves ≡ (match_after setup (match_of setup white black)).moves
   pub verdict : t.verdict ≡ (match_after setup (match_of setup white black)).verdict
   pub to_white : w ≡ behind w0 (joined (sent (start setup) (match_of setup white black) White))
   pub to_black : b ≡ behind b0 (joined (sent (start setup) (match_of setup white black) Black))
 
--- where both links tell their bytes, no count rose and no answer was late
-abbrev pub ToldRun : Setup → Standing → Told → Told → Told → Told → Told → Told → Type 0 → Type 0 → Type 0
-ToldRun setup t w_rest w_old w_new b_rest b_old b_new w_rose b_rose =
-    (white : List ℕ) (black : List ℕ) → w_rest ≡ Some white → b_rest ≡ Some black → (w_rose → ⊥) → (b_rose → ⊥) → (IsLate t.verdict → ⊥)
-    → IsMatch setup (lines white) (lines black) t w_old w_new b_old b_new
+-- where both links tell their bytes, no call failed and no answer was late
+abbrev pub ToldRun : Setup → Standing → Wire → Wire → Wire → Wire → Type 0
+ToldRun setup t w0 w b0 b =
+    (white black : List ℕ)
+    → w0.rest ≡ Some white
+    → b0.rest ≡ Some black
+    → ¬ HasFailed w0 w
+    → ¬ HasFailed b0 b
+    → ¬ IsLate t.verdict
+    → IsMatch setup (lines white) (lines black) t w0.written w.written b0.written b.written
 
--- a side is said to have broken only where one of its counts rose
-pub record BrokeOnly (t : Standing) (white_rose black_rose : Type 0) : Type 0 where
-  pub white : t.verdict ≡ Some (Forfeit White BrokeCause) → white_rose
-  pub black : t.verdict ≡ Some (Forfeit Black BrokeCause) → black_rose
+-- a side is said to have broken only where a call of its link failed
+pub record BrokeOnly (t : Standing) (w0 w b0 b : Wire) : Type 0 where
+  pub white : t.verdict ≡ Some (Forfeit White BrokeCause) → HasFailed w0 w
+  pub black : t.verdict ≡ Some (Forfeit Black BrokeCause) → HasFailed b0 b
 
 -- the match has a verdict
 abbrev pub IsJudged : Standing → Type 0
@@ -138,16 +147,50 @@ pub record IsFrontOf (setup : Setup) (white black : List Mark) (t : Standing) (w
   pub to_white : IsFrontSent w0 w (joined (sent (start setup) (match_of setup white black) White))
   pub to_black : IsFrontSent b0 b (joined (sent (start setup) (match_of setup white black) Black))
 
--- where both links tell their bytes, whatever rose and however late an answer was
-abbrev pub FrontRun : Setup → Standing → Told → Told → Told → Told → Told → Told → Type 0
-FrontRun setup t w_rest w_old w_new b_rest b_old b_new = (white : List ℕ) (black : List ℕ) → w_rest ≡ Some white → b_rest ≡ Some black
-    → IsFrontOf setup (lines white) (lines black) t w_old w_new b_old b_new
+-- where both links tell their bytes, whatever failed and however late an answer was
+abbrev pub FrontRun : Setup → Standing → Wire → Wire → Wire → Wire → Type 0
+FrontRun setup t w0 w b0 b =
+    (white black : List ℕ)
+    → w0.rest ≡ Some white
+    → b0.rest ≡ Some black
+    → IsFrontOf setup (lines white) (lines black) t w0.written w.written b0.written b.written
 
--- a side broke, and one of its counts rose
-abbrev pub HasBroken : Option Verdict → Colour → Type 0 → Type 0
-HasBroken v side rose = (v ≡ Some (Forfeit side BrokeCause)) × rose
+-- a side broke, and a call of its link failed
+abbrev pub HasBroken : Option Verdict → Colour → Wire → Wire → Type 0
+HasBroken verdict side before after =
+    (verdict ≡ Some (Forfeit side BrokeCause)) × HasFailed before after
 
--- where both links tell their bytes, the verdict is that of the match of these lines, or an answer was late, or a side broke
-abbrev pub VerdictRun : Setup → Standing → Told → Told → Type 0 → Type 0 → Type 0
-VerdictRun setup t w_rest b_rest w_rose b_rose = (white : List ℕ) (black : List ℕ) → w_rest ≡ Some white → b_rest ≡ Some black
-    → (t.verdict ≡ (match_after setup (match_of setup (lines white) (lines black))).verdict) ⊎ (IsLate t.verdict ⊎ (HasBroken t.verdict White w_rose ⊎ HasBroken t.verdict Black b_rose))
+-- the verdict is this one, or an answer was late, or a side broke
+abbrev pub IsVerdict : Option Verdict → Option Verdict → Wire → Wire → Wire → Wire → Type 0
+IsVerdict full verdict w0 w b0 b =
+    (verdict ≡ full)
+    ⊎ (IsLate verdict ⊎ (HasBroken verdict White w0 w ⊎ HasBroken verdict Black b0 b))
+
+-- where both links tell their bytes, the verdict is that of the match of these lines, or an answer was
+-- late, or a side broke
+abbrev pub VerdictRun : Setup → Standing → Wire → Wire → Wire → Wire → Type 0
+VerdictRun setup t w0 w b0 b =
+    (white black : List ℕ)
+    → w0.rest ≡ Some white
+    → b0.rest ≡ Some black
+    → IsVerdict (match_after setup (match_of setup (lines white) (lines black))).verdict t.verdict
+    w0 w b0 b
+
+-- a match that was run over two links: it is of this setup and has a verdict, and this is known of it
+-- by the links
+pub record RanLinks (setup : Setup) (t : Standing) (w0 w b0 b : Wire) : Type 0 where
+  pub same : t.setup ≡ setup
+  pub judged : IsJudged t
+  pub broke : BrokeOnly t w0 w b0 b
+  pub front : FrontRun setup t w0 w b0 b
+  pub verdict : VerdictRun setup t w0 w b0 b
+  pub told : ToldRun setup t w0 w b0 b
+
+-- a match that was run over two links and a clock, which is read at most twice for each move and twice
+-- more
+pub record RanOver
+    (setup : Setup) (t : Standing) (w0 w b0 b : Wire) (r0 r : Watch) : Type 0 where
+  pub events : FinalRun setup t w0 w b0 b r0 r
+  pub links : RanLinks setup t w0 w b0 b
+  pub late : LateIn t.verdict r0.last r.last
+  pub readings : r.readings ≤ r0.readings + (2 * length t.moves + 2)

@@ -1,21 +1,19 @@
 -- One act of a match, done over two links and a clock.
-use Rattle.std.specs.Prelude.{◌≡◌, ◌⊎◌, ℕ, ◌+◌, ◌*◌, ◌<◌, ◌≤◌, Bool, true, false, if◌then◌else◌, List, [], ◌∷◌, ◌++◌, length, take, Option, Some, None, IsTrue}
-use Rattle.std.specs.Option.{option_map}
-use Rattle.io_edge.specs.Outside.{Told, behind, Rose}
+use Rattle.std.specs.Prelude.{◌≡◌, ℕ, ◌+◌, ◌≤◌, Bool, true, false, if◌then◌else◌, take, IsTrue}
+use Rattle.io_edge.specs.Outside.{Told, behind}
 use Rattle.hive_model.specs.declared.pieces.Colour.{Colour}
 use Rattle.hive_model.specs.declared.pieces.Colour.TheVariants.{White, Black}
 use Rattle.line_feed.specs.Feed.{Reading as Reader}
 use Rattle.line_feed.specs.Ahead.{ahead_of}
-use Rattle.match_core.specs.declared.answers.Setup.{Setup}
 use Rattle.match_core.specs.declared.answers.Stage.{Stage}
 use Rattle.match_core.specs.declared.answers.Act.{Act}
 use Rattle.match_core.specs.declared.answers.Act.TheVariants.{Send as SendAct, Read as ReadAct, Clock, Finish}
 use Rattle.match_core.specs.Keeps.{line_at}
-use Rattle.match_core.specs.Standing.{Standing, Happening, Sent, Line, TooLong, Ended, Broke, Reading, start, match_after, next, act_at, answers}
-use Rattle.match_core.specs.Fairness.{Answering, sent, sent_at}
-use Rattle.match_core.specs.Plays.{joined, left, is_finished}
+use Rattle.match_core.specs.Standing.{Standing, Happening, Sent, Line, TooLong, Ended, Broke, Reading, next, act_at, answers}
+use Rattle.match_core.specs.Fairness.{sent_at}
+use Rattle.match_core.specs.Plays.{joined, is_finished}
 use Rattle.hive_model.specs.Lines.{ToldLines}
-use Rattle.match_core.specs.Feeds.{Gave, FeedsAt, Feeds}
+use Rattle.match_core.specs.Feeds.{Gave, FeedsAt}
 use Rattle.match_runner.specs.declared.turns.Turn.{Turn}
 use Rattle.match_runner.specs.declared.turns.Turn.TheVariants.{GoOn, Finished, ReadFault, WriteFault, Memory}
 
@@ -55,15 +53,6 @@ Looks (ReadFault side) s t before last = ⊥
 Looks (WriteFault side) s t before last = ⊥
 Looks Finished s t before last = ⊥
 Looks Memory s t before last = Unit {0}
-
--- a clock: its last reading, and how often it was read
-pub record Watch : Type 0 where
-  pub last : ℕ
-  pub readings : ℕ
-
--- a clock with this last reading, read so often
-abbrev pub watch : ℕ → ℕ → Watch
-watch last readings = record { last = last; readings = readings }
 
 -- a reading is that of the clock, and none before its last one
 abbrev pub KeepsAt : Happening → ℕ → ℕ → Type 0

@@ -1,7 +1,8 @@
 use Rattle.std.proofs.Common.{rules, ◌≡◌, ℕ, ◌∷◌, ◌++◌, List, [], arith, ap, ◌∙◌, refl, subst}
 use Rattle.io_edge.specs.Outside.{with_last}
 use Rattle.io_edge.specs.Starts.{Engines}
-use Rattle.cup_games.specs.Played.{Job, Side, side}
+use Rattle.match_runner.specs.Wires.{Wire, wire}
+use Rattle.cup_games.specs.Played.{Job}
 use Rattle.cup_command.specs.Cup.{words_of}
 use Rattle.cup_command.specs.Links.{ClosesLinks, all_links, links_of, ready}
 use Rattle.cup_command.proofs.Chains.{closes-append}
@@ -11,8 +12,8 @@ use Rattle.cup_command.proofs.links.start_black.Goals as goal
 
 pub returns-in-Ok-clause-kept : goal.returns-in-Ok-clause-kept
 returns-in-Ok-clause-kept g c =
-    let w : Side = side (g.P.Engine.Source.rest c.args.white) (g.P.Engine.Sink.written c.args.white) (g.P.Engine.Source.read_faults c.args.white) (g.P.Engine.Sink.write_faults c.args.white) in
-    let b : Side = side (g.P.Engine.Source.rest c.in-Ok.black) (g.P.Engine.Sink.written c.in-Ok.black) (g.P.Engine.Source.read_faults c.in-Ok.black) (g.P.Engine.Sink.write_faults c.in-Ok.black) in
+    let w : Wire = wire (g.P.Engine.Source.rest c.args.white) (g.P.Engine.Sink.written c.args.white) (g.P.Engine.Source.read_faults c.args.white) (g.P.Engine.Sink.write_faults c.args.white) in
+    let b : Wire = wire (g.P.Engine.Source.rest c.in-Ok.black) (g.P.Engine.Sink.written c.in-Ok.black) (g.P.Engine.Source.read_faults c.in-Ok.black) (g.P.Engine.Sink.write_faults c.in-Ok.black) in
     let made = c.new-job.ensures in
     let is : c.new-job.result ≡ ready c.args.setup c.args.game w b = is-ready c.args.setup c.args.game w b c.new-job.result made.white made.black made.white_link made.black_link made.setup made.referee in
     if-ok _ _ (λ games kept. (b, record { reads = c.in-Ok.ensures.fresh.0; writes = c.in-Ok.ensures.fresh.1 }, search rules, kept ∙ ap (λ (j : Job). c.args.jobs.items ++ j ∷ []) is)) c.keep_game.result c.keep_game.ensures.kept
@@ -30,8 +31,8 @@ returns-in-Ok-clause-starts g c =
 
 pub returns-in-Ok-clause-closed : goal.returns-in-Ok-clause-closed
 returns-in-Ok-clause-closed g c =
-    let w : Side = side (g.P.Engine.Source.rest c.args.white) (g.P.Engine.Sink.written c.args.white) (g.P.Engine.Source.read_faults c.args.white) (g.P.Engine.Sink.write_faults c.args.white) in
-    let b : Side = side (g.P.Engine.Source.rest c.in-Ok.black) (g.P.Engine.Sink.written c.in-Ok.black) (g.P.Engine.Source.read_faults c.in-Ok.black) (g.P.Engine.Sink.write_faults c.in-Ok.black) in
+    let w : Wire = wire (g.P.Engine.Source.rest c.args.white) (g.P.Engine.Sink.written c.args.white) (g.P.Engine.Source.read_faults c.args.white) (g.P.Engine.Sink.write_faults c.args.white) in
+    let b : Wire = wire (g.P.Engine.Source.rest c.in-Ok.black) (g.P.Engine.Sink.written c.in-Ok.black) (g.P.Engine.Source.read_faults c.in-Ok.black) (g.P.Engine.Sink.write_faults c.in-Ok.black) in
     let made = c.new-job.ensures in
     let is : c.new-job.result ≡ ready c.args.setup c.args.game w b = is-ready c.args.setup c.args.game w b c.new-job.result made.white made.black made.white_link made.black_link made.setup made.referee in
     let sent = (g.P.Spawner.engines c.keep_game.new.spawner).sent in
@@ -42,7 +43,7 @@ returns-in-Ok-clause-closed g c =
 
 pub returns-in-Err-clause-closed : goal.returns-in-Err-clause-closed
 returns-in-Err-clause-closed g c =
-    let w : Side = side (g.P.Engine.Source.rest c.args.white) (g.P.Engine.Sink.written c.args.white) (g.P.Engine.Source.read_faults c.args.white) (g.P.Engine.Sink.write_faults c.args.white) in
+    let w : Wire = wire (g.P.Engine.Source.rest c.args.white) (g.P.Engine.Sink.written c.args.white) (g.P.Engine.Source.read_faults c.args.white) (g.P.Engine.Sink.write_faults c.args.white) in
     let old = (g.P.Spawner.engines c.args.spawner.now).sent in
     let begun = (g.P.Spawner.engines c.start.new.self).sent in
     let mid = (g.P.Spawner.engines c.close_links.new.spawner).sent in

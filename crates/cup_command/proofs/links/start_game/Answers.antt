@@ -1,6 +1,6 @@
 use Rattle.std.proofs.Common.{rules, ◌∷◌, ◌∙◌, ℕ, List, [], arith, ap, refl}
 use Rattle.io_edge.specs.Outside.{with_last}
-use Rattle.cup_games.specs.Played.{Side, side}
+use Rattle.match_runner.specs.Wires.{Wire, wire}
 use Rattle.cup_command.specs.Cup.{started_after, words_of}
 use Rattle.cup_command.specs.Links.{all_links}
 use Rattle.cup_command.proofs.Breaks.{gives-none, one-before, started-more}
@@ -9,7 +9,7 @@ use Rattle.cup_command.proofs.links.start_game.Goals as goal
 
 pub returns-in-Ok-clause-kept : goal.returns-in-Ok-clause-kept
 returns-in-Ok-clause-kept g c =
-    let w : Side = side (g.P.Engine.Source.rest c.in-Ok.white) (g.P.Engine.Sink.written c.in-Ok.white) (g.P.Engine.Source.read_faults c.in-Ok.white) (g.P.Engine.Sink.write_faults c.in-Ok.white) in
+    let w : Wire = wire (g.P.Engine.Source.rest c.in-Ok.white) (g.P.Engine.Sink.written c.in-Ok.white) (g.P.Engine.Source.read_faults c.in-Ok.white) (g.P.Engine.Sink.write_faults c.in-Ok.white) in
     if-ok _ _ (λ games kept. (w, kept.0, record { reads = c.in-Ok.ensures.fresh.0; writes = c.in-Ok.ensures.fresh.1 }, kept.1, (_, c.in-Ok.ensures.next, (_, kept.2, refl)), kept.3)) c.start_black.result c.start_black.ensures.kept
 
 pub returns-in-Ok-clause-starts : goal.returns-in-Ok-clause-starts
@@ -23,7 +23,7 @@ returns-in-Ok-clause-starts g c =
 
 pub returns-in-Ok-clause-closed : goal.returns-in-Ok-clause-closed
 returns-in-Ok-clause-closed g c =
-    let w : Side = side (g.P.Engine.Source.rest c.in-Ok.white) (g.P.Engine.Sink.written c.in-Ok.white) (g.P.Engine.Source.read_faults c.in-Ok.white) (g.P.Engine.Sink.write_faults c.in-Ok.white) in
+    let w : Wire = wire (g.P.Engine.Source.rest c.in-Ok.white) (g.P.Engine.Sink.written c.in-Ok.white) (g.P.Engine.Source.read_faults c.in-Ok.white) (g.P.Engine.Sink.write_faults c.in-Ok.white) in
     let first = c.in-Ok.ensures.named ∙ ap (λ (ws : List (List ℕ)). with_last (g.P.Spawner.engines c.args.spawner.now).started ws) c.words_of.ensures.words in
     on-err _ _ (λ gives. one-before _ _ (words_of c.args.programs.now c.args.game.white) (all_links c.args.jobs.items) w _ _ _ c.in-Ok.ensures.next c.in-Ok.ensures.others.1 first gives) c.start_black.result c.start_black.ensures.closed
 

@@ -1,6 +1,5 @@
-use Rattle.match_runner.specs.Turns.{Watch, watch}
+use Rattle.match_runner.specs.Wires.{Watch, Wire, watch, wire}
 use Rattle.match_command.specs.Match.{means}
-use Rattle.match_command.specs.Wires.{Wire, wire}
 use Rattle.match_command.proofs.Closing.{played_over, told_match}
 use Rattle.match_command.proofs.playing.play_and_close.Goals as goal
 
@@ -8,7 +7,7 @@ pub returns-in-Ok-clause-played : goal.returns-in-Ok-clause-played
 returns-in-Ok-clause-played g c =
     let w0 : Wire = wire (g.P.Engine.Source.rest c.args.white) (g.P.Engine.Sink.written c.args.white) (g.P.Engine.Source.read_faults c.args.white) (g.P.Engine.Sink.write_faults c.args.white) in
     let b0 : Wire = wire (g.P.Engine.Source.rest c.args.black) (g.P.Engine.Sink.written c.args.black) (g.P.Engine.Source.read_faults c.args.black) (g.P.Engine.Sink.write_faults c.args.black) in
-    let ran = c.run_over-referee.new in
+    let ran = c.run_match-referee.new in
     let w : Wire = wire (g.P.Engine.Source.rest ran.white) (g.P.Engine.Sink.written ran.white) (g.P.Engine.Source.read_faults ran.white) (g.P.Engine.Sink.write_faults ran.white) in
     let b : Wire = wire (g.P.Engine.Source.rest ran.black) (g.P.Engine.Sink.written ran.black) (g.P.Engine.Source.read_faults ran.black) (g.P.Engine.Sink.write_faults ran.black) in
     let r0 : Watch = watch (g.C.Clock.last c.args.clock.now) (g.C.Clock.readings c.args.clock.now) in

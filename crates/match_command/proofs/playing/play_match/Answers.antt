@@ -2,7 +2,7 @@
 use Rattle.std.proofs.Common.{◌≡◌, ◌<◌, ◌∙◌, ℕ, List, length, take, ap, subst}
 use Rattle.io_edge.specs.Outside.{behind}
 use Rattle.match_command.specs.Match.{Means, means, scene}
-use Rattle.match_command.specs.Wires.{Wire, wire}
+use Rattle.match_runner.specs.Wires.{Wire, wire}
 use Rattle.match_command.proofs.Starting.{told_from, told_part, told_whole}
 use Rattle.match_command.proofs.playing.play_match.Goals as goal
 

@@ -1,8 +1,7 @@
 -- Each answer of the reader is an event.
-use Rattle.std.proofs.Common.{refl, ◌≡◌, ◌∙◌, ap, sym, subst, ℕ, List}
-use Rattle.line_feed.specs.Ahead.{ahead_of}
-use Rattle.match_core.specs.Standing.{Standing, Happening, Line, TooLong, Ended, next}
-use Rattle.match_runner.proofs.Hearing.{gives_long, full_ahead, little, long_finishes, end_finishes}
+use Rattle.std.proofs.Common.{refl, ◌∙◌, ap, ℕ, List}
+use Rattle.match_core.specs.Standing.{Standing, Line, TooLong, Ended, next}
+use Rattle.match_runner.proofs.Hearing.{gives_long, full_ahead, little, long_finishes}
 use Rattle.match_runner.proofs.turns.listen.Goals as goal
 
 pub returns-in-Ok-clause-heard : goal.returns-in-Ok-clause-heard

@@ -1,0 +1,85 @@
+-- The match that a run answers, by both links and the clock.
+use Rattle.std.proofs.Common.{◌≡◌, ◌≤◌, ℕ, ◌+◌, inl, inr}
+use Rattle.io_edge.specs.Outside.{HasCause, Rose}
+use Rattle.hive_model.specs.declared.pieces.Colour.TheVariants.{White, Black}
+use Rattle.line_feed.specs.Feed.{Reading as Reader, HoldsLittle, fresh}
+use Rattle.match_core.specs.declared.answers.Setup.{Setup}
+use Rattle.match_core.specs.Keeps.{IsSetup}
+use Rattle.match_core.specs.Standing.{Standing}
+use Rattle.match_runner.specs.declared.turns.Turn.{Turn}
+use Rattle.match_runner.specs.declared.turns.Turn.TheVariants.{GoOn, Finished, ReadFault, WriteFault, Memory}
+use Rattle.match_runner.specs.Wires.{HasFailed, Watch, Wire}
+use Rattle.match_runner.specs.Turns.{Side, Turns, looks_at, side_of}
+use Rattle.match_runner.specs.Runs.{FinalRun, Ran, RanOver, Run}
+use Rattle.match_runner.proofs.Causes.{broke_final}
+use Rattle.match_runner.proofs.Fronting.{front_final}
+use Rattle.match_runner.proofs.Judged.{final_judged}
+use Rattle.match_runner.proofs.Lates.{late_final}
+use Rattle.match_runner.proofs.Looks.{read_final}
+use Rattle.match_runner.proofs.Progress.{cut_read, cut_write, ran_whole, rose_from}
+use Rattle.match_runner.proofs.SameSetup.{final_same}
+use Rattle.match_runner.proofs.Telling.{told_run}
+use Rattle.match_runner.proofs.Verdicts.{verdict_run}
+
+-- all that is known of the match that a run answers
+ran_over : (setup : Setup) (t : Standing) (w0 w b0 b : Wire) (r0 r : Watch) → IsSetup setup → FinalRun setup t w0 w b0 b r0 r → RanOver setup t w0 w b0 b r0 r
+ran_over setup t w0 w b0 b r0 r is final = record {
+  events = final;
+  links = record {
+    same = final_same setup t w0 w b0 b r0 r final;
+    judged = final_judged setup t w0 w b0 b r0 r final;
+    broke = broke_final setup t w0 w b0 b r0 r final;
+    front = front_final setup t w0 w b0 b r0 r is final;
+    verdict = verdict_run setup t w0 w b0 b r0 r is final;
+    told = told_run setup t w0 w b0 b r0 r is final;
+  };
+  late = late_final setup t w0 w b0 b r0 r is final;
+  readings = read_final setup t w0 w b0 b r0 r final;
+}
+
+-- an act behind which the run is over
+abbrev pub IsLast : Turn → Type 0
+IsLast GoOn = ⊥
+IsLast Finished = Unit {0}
+IsLast (ReadFault side) = Unit {0}
+IsLast (WriteFault side) = Unit {0}
+IsLast Memory = ⊥
+
+-- which counts rose by an act that failed
+pub record Rises (turn : Turn) (w0 w b0 b : Wire) : Type 0 where
+  pub white_reads : turn ≡ ReadFault White → Rose w0.reads w.reads
+  pub white_writes : turn ≡ WriteFault White → Rose w0.writes w.writes
+  pub black_reads : turn ≡ ReadFault Black → Rose b0.reads b.reads
+  pub black_writes : turn ≡ WriteFault Black → Rose b0.writes b.writes
+
+pub rises : (turn : Turn) (w0 w b0 b : Wire) (w_reads w_writes b_reads b_writes : ℕ) → w0.reads ≤ w_reads → w0.writes ≤ w_writes → b0.reads ≤ b_reads → b0.writes ≤ b_writes
+    → HasCause (turn ≡ ReadFault White) w_reads w.reads → HasCause (turn ≡ WriteFault White) w_writes w.writes → HasCause (turn ≡ ReadFault Black) b_reads b.reads → HasCause (turn ≡ WriteFault Black) b_writes b.writes
+    → Rises turn w0 w b0 b
+rises turn w0 w b0 b w_reads w_writes b_reads b_writes wr ww br bw x y z u = record {
+  white_reads = λ e. rose_from _ _ _ wr (x.rose e);
+  white_writes = λ e. rose_from _ _ _ ww (y.rose e);
+  black_reads = λ e. rose_from _ _ _ br (z.rose e);
+  black_writes = λ e. rose_from _ _ _ bw (u.rose e);
+}
+
+last_act : (turn : Turn) (setup : Setup) (s t : Standing) (w0 w2 b0 b2 : Wire) (x0 x x2 y0 y y2 : Side) (r0 r r2 : Watch) → IsLast turn → Run setup s x0 x y0 y r0 r → Turns turn s t x x2 y y2 r.last r2.last → r2.readings ≤ r.readings + looks_at s.stage
+    → Rises turn w0 w2 b0 b2 → Ran setup t x0 x2 y0 y2 r0 r2 (HasFailed w0 w2) (HasFailed b0 b2)
+last_act GoOn setup s t w0 w2 b0 b2 x0 x x2 y0 y y2 r0 r r2 over run turned c rises = absurd over
+last_act Memory setup s t w0 w2 b0 b2 x0 x x2 y0 y y2 r0 r r2 over run turned c rises = absurd over
+last_act Finished setup s t w0 w2 b0 b2 x0 x x2 y0 y y2 r0 r r2 over run turned c rises = ran_whole setup s t x0 x x2 y0 y y2 r0 r r2 _ _ run turned c
+last_act (ReadFault side) setup s t w0 w2 b0 b2 x0 x x2 y0 y y2 r0 r r2 over run turned c rises = cut_read side setup s t x0 x x2 y0 y y2 r0 r r2 _ _ run turned c (λ e. inl (rises.white_reads e)) (λ e. inl (rises.black_reads e))
+last_act (WriteFault side) setup s t w0 w2 b0 b2 x0 x x2 y0 y y2 r0 r r2 over run turned c rises = cut_write side setup s t x0 x x2 y0 y y2 r0 r r2 _ _ run turned c (λ e. inr (rises.white_writes e)) (λ e. inr (rises.black_writes e))
+
+-- the run is over behind this act
+pub ends_over : (turn : Turn) (setup : Setup) (s t : Standing) (w_reader b_reader : Reader) (w0 w2 b0 b2 : Wire) (w b : Side) (r0 r r2 : Watch) → IsSetup setup → IsLast turn
+    → Run setup s (side_of fresh w0.rest w0.written) w (side_of fresh b0.rest b0.written) b r0 r
+    → Turns turn s t w (side_of w_reader w2.rest w2.written) b (side_of b_reader b2.rest b2.written) r.last r2.last → r2.readings ≤ r.readings + looks_at s.stage
+    → HoldsLittle w_reader → HoldsLittle b_reader → Rises turn w0 w2 b0 b2 → RanOver setup t w0 w2 b0 b2 r0 r2
+ends_over turn setup s t w_reader b_reader w0 w2 b0 b2 w b r0 r r2 is over run turned c wl bl rises =
+    ran_over setup t w0 w2 b0 b2 r0 r2 is (record {
+      white_reader = w_reader;
+      black_reader = b_reader;
+      white_little = wl;
+      black_little = bl;
+      ran = last_act turn setup s t w0 w2 b0 b2 _ w _ _ b _ r0 r r2 over run turned c rises;
+    })
