@@ -1,6 +1,6 @@
 //! The calls of what stands in memory: numbered from 1, and failing where their number is on a
 //! list.
-ghost use Rattle.std.specs.Prelude.{◌≡◌, ◌<◌, ℕ, None, MatchOption, true, false};
+ghost use Rattle.std.specs.Prelude.{◌≡◌, ◌<◌, None, MatchOption, true, false};
 ghost use Rattle.io_edge.specs.Outside.{one_more, HasCause};
 ghost use Rattle.io_edge.specs.Calls.{Calls, new_calls, next_fails, CountsCall};
 

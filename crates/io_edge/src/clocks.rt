@@ -1,5 +1,5 @@
 //! Clocks in memory, which count their readings.
-ghost use Rattle.std.specs.Prelude.{◌≡◌, ◌<◌, ◌≤◌, ◌+◌, ◌^◌, ℕ, min, drop, vec_len};
+ghost use Rattle.std.specs.Prelude.{◌≡◌, ◌<◌, ◌≤◌, ◌+◌, ◌^◌, min, drop, vec_len};
 ghost use Rattle.io_edge.specs.Outside.{one_more};
 ghost use Rattle.io_edge.specs.Clocks.{StepState, ClockState, last_moment, reading_after};
 

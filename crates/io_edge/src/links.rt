@@ -1,5 +1,5 @@
 //! A link in memory: both sides of one program.
-ghost use Rattle.std.specs.Prelude.{◌≡◌, ◌<◌, ◌↔◌, ◌+◌, ℕ, IsTrue, length, Some, refl};
+ghost use Rattle.std.specs.Prelude.{◌≡◌, ◌<◌, ◌↔◌, ◌+◌, IsTrue, length, Some, refl};
 ghost use Rattle.io_edge.specs.Outside.{Reads, Writes, HasCause};
 ghost use Rattle.io_edge.specs.Memory.{LinkState, ReadsInMemory, WritesInMemory, as_new};
 

@@ -1,5 +1,5 @@
 //! Bytes that come in pieces.
-ghost use Rattle.std.specs.Prelude.{◌≡◌, ◌<◌, ◌≤◌, ℕ, length, take, drop, vec_len, None, Some};
+ghost use Rattle.std.specs.Prelude.{◌≡◌, ◌<◌, ◌≤◌, length, take, drop, vec_len, Some};
 ghost use Rattle.io_edge.specs.Outside.{Reads};
 ghost use Rattle.io_edge.specs.Calls.{piece_of};
 ghost use Rattle.io_edge.specs.Memory.{Supply, Gives};

@@ -1,6 +1,6 @@
 //! A source and a sink that never fail.
-ghost use Rattle.std.specs.Prelude.{◌≡◌, ◌<◌, ℕ, length, None, Some};
-ghost use Rattle.io_edge.specs.Outside.{no_side, Told, Reads, one_more};
+ghost use Rattle.std.specs.Prelude.{◌≡◌, ◌<◌, length, None, Some};
+ghost use Rattle.io_edge.specs.Outside.{no_side, Reads, one_more};
 ghost use Rattle.io_edge.specs.Memory.{SureState, Gives};
 
 use crate::answers::{ReadAnswer, WriteAnswer};

@@ -27,11 +27,6 @@ unfolding ahead_of
 ahead_begin r None e = refl
 ahead_begin r (Some bytes) e = rw e refl
 
-pub whole_ahead_begin : (r : Reading) (t : Told) → r ≡ fresh → whole_ahead_of r t ≡ option_map whole_lines t
-unfolding whole_ahead_of
-whole_ahead_begin r None e = refl
-whole_ahead_begin r (Some bytes) e = rw e refl
-
 -- the lines to come of a reader whose source tells its bytes
 pub ahead_told : (r : Reading) (bytes : List ℕ) → ahead_of r (Some bytes) ≡ Some (lines_left r bytes)
 unfolding ahead_of

@@ -1,5 +1,5 @@
 -- The lines that a reader has given, as the first lines of the input.
-use Rattle.std.proofs.Common.{◌≡◌, ◌<◌, ◌≤◌, ℕ, ◌+◌, Bool, true, false, List, [], ◌∷◌, ◌++◌, length, refl, ap, sym, ◌∙◌, arith, append_assoc, length-append, add-zero, None, Some, subst}
+use Rattle.std.proofs.Common.{◌≡◌, ◌<◌, ℕ, ◌+◌, Bool, true, false, List, [], ◌∷◌, ◌++◌, length, refl, ap, sym, ◌∙◌, arith, append_assoc, length-append, add-zero, None, Some, subst}
 use Rattle.std.specs.Bool.{MatchBool}
 use Rattle.std.proofs.lemmas.List.{append-nil}
 use Rattle.io_edge.specs.Outside.{Told, in_front, IsAtEnd}
@@ -122,15 +122,3 @@ fed_held {r0} {r1} {r2} {old} {new} {bytes} {b1} {given} input f t h e =
     let n : whole_lines (pending new ++ []) ≡ [] = rw (append-nil (pending new)) h.no_whole in
     let (left, r) = was_read r2 r0 (bytes ++ b1) input (on_left r0 r1 r2 bytes b1 f.left t.left) e in
     (left, r, ap whole_lines (sym (append-nil (bytes ++ b1))) ∙ (w ∙ (ap (λ x. (given ++ []) ++ x) n ∙ rw (append-nil given, append-nil given) refl)), on_count bytes b1 old.taken new.taken f.counted t.counted)
-
-within_of : (finished : Bool) (bytes held : List ℕ) (given : List OneLine) (rest : Told) → Covers finished bytes held given rest → (others : List OneLine) × (lines bytes ≡ given ++ others)
-within_of true bytes held given rest (all, none, at_end) = ([], all ∙ sym (append-nil given))
-within_of false bytes held given rest s = (lines (held ++ []), ap lines (sym (append-nil bytes)) ∙ s.all [])
-
--- the bytes read, of which the lines given are the first, are within the limit
-pub fed_within : {r0 rest : Told} {reading : Reading} {bytes : List ℕ} {given : List OneLine} (input : List ℕ) → Fed r0 rest reading bytes given → r0 ≡ Some input → reading.taken ≤ input_limit
-    → (left : List ℕ) × (others : List OneLine) × (input ≡ bytes ++ left) × (length bytes ≤ input_limit) × (lines bytes ≡ given ++ others)
-fed_within {r0} {rest} {reading} {bytes} {given} input f e h =
-    let (left, w) = was_read rest r0 bytes input f.left e in
-    let (others, p) = within_of reading.finished bytes (pending reading) given rest f.covers in
-    (left, others, w.split, subst (λ n. n ≤ input_limit) f.counted h, p)
