@@ -66,15 +66,19 @@ gives_ahead : (old new : Reading) (bytes : List ℕ) (m : OneLine) (r0 r1 : Told
 gives_ahead old new bytes m r0 None e g = ap (ahead_of old) e ∙ rw (ahead_untold old, ahead_untold new) refl
 gives_ahead old new bytes m r0 (Some left) e g = ap (ahead_of old) e ∙ rw (ahead_told old (bytes ++ left), ahead_told new left) (ap Some (gives_told old new bytes left m g))
 
--- nothing was given
-holds_told : (old new : Reading) (bytes left : List ℕ) → Holds old bytes new → lines_left old (bytes ++ left) ≡ lines_left new left
-holds_told old new bytes left h =
-    left_open old.finished (lines (pending old ++ (bytes ++ left))) h.went_on
-    ∙ (ap lines (sym (append_assoc (pending old) bytes left)) ∙ (h.split.all left ∙ sym (left_open new.finished (lines (pending new ++ left)) h.goes_on)))
+-- nothing was given: what is told of the lines to come, of all of them or of the whole ones, stays
+held_left : (f : List ℕ → List OneLine) (old new : Reading) (bytes left : List ℕ) → old.finished ≡ false → new.finished ≡ false → f ((pending old ++ bytes) ++ left) ≡ f (pending new ++ left)
+    → (if old.finished then [] else f (pending old ++ (bytes ++ left))) ≡ (if new.finished then [] else f (pending new ++ left))
+held_left f old new bytes left went goes same =
+    left_open old.finished (f (pending old ++ (bytes ++ left))) went ∙ (ap f (sym (append_assoc (pending old) bytes left)) ∙ (same ∙ sym (left_open new.finished (f (pending new ++ left)) goes)))
+
+holds_as : (before now : List ℕ → List OneLine) (r0 r1 : Told) (bytes : List ℕ) → r0 ≡ in_front bytes r1 → ((left : List ℕ) → before (bytes ++ left) ≡ now left) → option_map now r1 ≡ option_map before r0
+holds_as before now r0 None bytes e same = sym (ap (option_map before) e)
+holds_as before now r0 (Some left) bytes e same = sym (ap (option_map before) e ∙ ap Some (same left))
 
 holds_ahead : (old new : Reading) (r0 r1 : Told) (bytes : List ℕ) → r0 ≡ in_front bytes r1 → Holds old bytes new → ahead_of new r1 ≡ ahead_of old r0
-holds_ahead old new r0 None bytes e h = sym (ap (ahead_of old) e ∙ rw (ahead_untold old, ahead_untold new) refl)
-holds_ahead old new r0 (Some left) bytes e h = sym (ap (ahead_of old) e ∙ rw (ahead_told old (bytes ++ left), ahead_told new left) (ap Some (holds_told old new bytes left h)))
+unfolding ahead_of
+holds_ahead old new r0 r1 bytes e h = holds_as (lines_left old) (lines_left new) r0 r1 bytes e (λ left. held_left lines old new bytes left h.went_on h.goes_on (h.split.all left))
 
 -- the source has ended
 append-nils : (xs ys : List ℕ) → xs ++ ys ≡ [] → (xs ≡ []) × (ys ≡ [])
@@ -154,14 +158,9 @@ whole_gives_ahead old new bytes m r0 (Some left) e g =
     (whole_ahead_told new left)
     (whole_line_left new.finished (pending old) (pending new) bytes left m g.line)
 
-whole_holds_told : (old new : Reading) (bytes left : List ℕ) → Holds old bytes new → whole_left old (bytes ++ left) ≡ whole_left new left
-whole_holds_told old new bytes left h =
-    left_open old.finished (whole_lines (pending old ++ (bytes ++ left))) h.went_on
-    ∙ (ap whole_lines (sym (append_assoc (pending old) bytes left)) ∙ (h.split.whole left ∙ sym (left_open new.finished (whole_lines (pending new ++ left)) h.goes_on)))
-
 whole_holds_ahead : (old new : Reading) (r0 r1 : Told) (bytes : List ℕ) → r0 ≡ in_front bytes r1 → Holds old bytes new → whole_ahead_of new r1 ≡ whole_ahead_of old r0
-whole_holds_ahead old new r0 None bytes e h = sym (ap (whole_ahead_of old) e ∙ rw (whole_ahead_untold old, whole_ahead_untold new) refl)
-whole_holds_ahead old new r0 (Some left) bytes e h = sym (ap (whole_ahead_of old) e ∙ rw (whole_ahead_told old (bytes ++ left), whole_ahead_told new left) (ap Some (whole_holds_told old new bytes left h)))
+unfolding whole_ahead_of
+whole_holds_ahead old new r0 r1 bytes e h = holds_as (whole_left old) (whole_left new) r0 r1 bytes e (λ left. held_left whole_lines old new bytes left h.went_on h.goes_on (h.split.whole left))
 
 -- the same for whole lines: once the source has ended there was none
 pub whole_advances : (a : LineAnswer) (old new : Reading) (r0 r1 : Told) → (bytes : List ℕ) × Takes r0 r1 old.taken new.taken bytes × Feeds a old bytes new r1

@@ -1,7 +1,7 @@
 -- Each answer of the part is an answer of the line.
 use Rattle.std.proofs.Common.{rules, arith, ◌≡◌, ◌≢◌, ap, length, ◌∙◌}
 use Rattle.line_feed.specs.Feed.{Reading}
-use Rattle.line_feed.proofs.Feeding.{begins, feeds_ended, feeds_last, feeds_end, feeds_held, keeps_reader, empty_list, held_within, held_exact, never}
+use Rattle.line_feed.proofs.Feeding.{begins, feeds_ended, feeds_last, feeds_end, feeds_held, keeps_reader, empty_list, kept_within, kept_exact, never}
 use Rattle.line_feed.proofs.reader.LineReader.read_on.Goals as goal
 
 pub returns-in-Ended-clause-fed : goal.returns-in-Ended-clause-fed
@@ -49,31 +49,16 @@ invariant_of-self-then-is_empty g c =
     record { has_room = omega arith; short = omega arith; no_lf = k.0; counted = k.1; little = omega arith; behind = omega (arith, k.2); exact = λ h. omega (arith, k.3 h); bounded = omega arith; ended = λ _. (empty_list _ empty, c.in-End.ensures.why.0, c.in-End.ensures.why.1) }
 
 pub returns-in-Failed-clause-within : goal.returns-in-Failed-clause-within
-returns-in-Failed-clause-within g c =
-    let passed_same = ap (λ (r : Reading). r.passed) c.self.view_is in
-    let k = keeps_reader _ (begins _ _ _ _ _ _ _ _ c.self.view_is c.self.invariant c.begin.ensures.part c.requires) c.in-Failed.ensures.read in
-    held_within c.read_part.new.part.items c.read_part.new.feed.ahead c.self.inside.passed c.read_part.new.feed.taken k.1 (omega (arith, k.2))
+returns-in-Failed-clause-within g c = kept_within _ c.self.inside.passed (ap (λ (r : Reading). r.passed) c.self.view_is) (begins _ _ _ _ _ _ _ _ c.self.view_is c.self.invariant c.begin.ensures.part c.requires) c.in-Failed.ensures.read
 
 pub returns-in-Failed-clause-exact : goal.returns-in-Failed-clause-exact
-returns-in-Failed-clause-exact g c = λ short.
-    let passed_same = ap (λ (r : Reading). r.passed) c.self.view_is in
-    let k = keeps_reader _ (begins _ _ _ _ _ _ _ _ c.self.view_is c.self.invariant c.begin.ensures.part c.requires) c.in-Failed.ensures.read in
-    held_exact c.read_part.new.part.items c.read_part.new.feed.ahead c.self.inside.passed c.read_part.new.feed.taken k.1 (λ less. omega (arith, k.3 less)) short
+returns-in-Failed-clause-exact g c = kept_exact _ c.self.inside.passed (ap (λ (r : Reading). r.passed) c.self.view_is) (begins _ _ _ _ _ _ _ _ c.self.view_is c.self.invariant c.begin.ensures.part c.requires) c.in-Failed.ensures.read
 
 pub returns-in-Full-clause-within : goal.returns-in-Full-clause-within
-returns-in-Full-clause-within g c =
-    let passed_same = ap (λ (r : Reading). r.passed) c.self.view_is in
-    let k = keeps_reader _ (begins _ _ _ _ _ _ _ _ c.self.view_is c.self.invariant c.begin.ensures.part c.requires) c.in-Full.ensures.read in
-    held_within c.read_part.new.part.items c.read_part.new.feed.ahead c.self.inside.passed c.read_part.new.feed.taken k.1 (omega (arith, k.2))
+returns-in-Full-clause-within g c = kept_within _ c.self.inside.passed (ap (λ (r : Reading). r.passed) c.self.view_is) (begins _ _ _ _ _ _ _ _ c.self.view_is c.self.invariant c.begin.ensures.part c.requires) c.in-Full.ensures.read
 
 pub returns-in-Full-clause-exact : goal.returns-in-Full-clause-exact
-returns-in-Full-clause-exact g c = λ short.
-    let passed_same = ap (λ (r : Reading). r.passed) c.self.view_is in
-    let k = keeps_reader _ (begins _ _ _ _ _ _ _ _ c.self.view_is c.self.invariant c.begin.ensures.part c.requires) c.in-Full.ensures.read in
-    held_exact c.read_part.new.part.items c.read_part.new.feed.ahead c.self.inside.passed c.read_part.new.feed.taken k.1 (λ less. omega (arith, k.3 less)) short
+returns-in-Full-clause-exact g c = kept_exact _ c.self.inside.passed (ap (λ (r : Reading). r.passed) c.self.view_is) (begins _ _ _ _ _ _ _ _ c.self.view_is c.self.invariant c.begin.ensures.part c.requires) c.in-Full.ensures.read
 
 pub returns-then-is_empty-clause-exact : goal.returns-then-is_empty-clause-exact
-returns-then-is_empty-clause-exact g c = λ short.
-    let passed_same = ap (λ (r : Reading). r.passed) c.self.view_is in
-    let k = keeps_reader _ (begins _ _ _ _ _ _ _ _ c.self.view_is c.self.invariant c.begin.ensures.part c.requires) c.in-End.ensures.read in
-    held_exact c.read_part.new.part.items c.read_part.new.feed.ahead c.self.inside.passed c.read_part.new.feed.taken k.1 (λ less. omega (arith, k.3 less)) short
+returns-then-is_empty-clause-exact g c = kept_exact _ c.self.inside.passed (ap (λ (r : Reading). r.passed) c.self.view_is) (begins _ _ _ _ _ _ _ _ c.self.view_is c.self.invariant c.begin.ensures.part c.requires) c.in-End.ensures.read
