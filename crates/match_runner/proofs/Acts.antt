@@ -1,14 +1,15 @@
 -- What an act that is done comes to.
-use Rattle.std.proofs.Common.{◌≡◌, ℕ, false, [], take, refl, ap, sym, ◌∙◌, arith, None, Some, IsTrue}
+use Rattle.std.proofs.Common.{◌≡◌, ℕ, false, [], take, refl, ap, sym, ◌∙◌, arith, None, Some, IsTrue, Bool, cond, subst, ◌∷◌}
 use Rattle.std.proofs.lemmas.List.{append-nil}
 use Rattle.io_edge.specs.Outside.{Told, behind, HasCause}
 use Rattle.hive_model.specs.declared.pieces.Colour.{Colour}
 use Rattle.hive_model.specs.declared.pieces.Colour.TheVariants.{White, Black}
+use Rattle.match_core.specs.declared.answers.Task.{Task}
 use Rattle.match_core.specs.declared.answers.Stage.{Stage}
 use Rattle.match_core.specs.declared.answers.Stage.TheVariants.{Send, Read, Before, After, Finished as FinishedStage}
 use Rattle.match_core.specs.declared.answers.Act.TheVariants.{Send as SendAct, Read as ReadAct, Clock}
 use Rattle.match_core.specs.Keeps.{line_at}
-use Rattle.match_core.specs.Standing.{Standing, Happening, Sent, Line, TooLong, Ended, Broke, Reading, act_at, answers}
+use Rattle.match_core.specs.Standing.{Standing, Happening, Sent, Line, TooLong, Ended, Broke, Reading, act_at, answers, line_for}
 use Rattle.match_core.specs.Fairness.{sent_at, is_side}
 use Rattle.match_core.specs.Plays.{joined}
 use Rattle.hive_model.specs.Lines.{ToldLines}
@@ -24,63 +25,52 @@ pub behind-nil : (t : Told) → t ≡ behind t []
 behind-nil None = refl
 behind-nil (Some w) = ap Some (sym (append-nil w))
 
+-- where a side is to be told, or heard, the stage is this
+sends_at : (stage : Stage) (at : Colour) → act_at stage ≡ SendAct at → (job : Task) × (stage ≡ Send job at)
+sends_at (Send job side) at e = (job, cc)
+sends_at (Read job side) at e = absurd (cc)
+sends_at Before at e = absurd (cc)
+sends_at After at e = absurd (cc)
+sends_at FinishedStage at e = absurd (cc)
+
+reads_at : (stage : Stage) (at : Colour) → act_at stage ≡ ReadAct at → (job : Task) × (stage ≡ Read job at)
+reads_at (Read job side) at e = (job, cc)
+reads_at (Send job side) at e = absurd (cc)
+reads_at Before at e = absurd (cc)
+reads_at After at e = absurd (cc)
+reads_at FinishedStage at e = absurd (cc)
+
 sent_line : (stage : Stage) (s : Standing) (at : Colour) → act_at stage ≡ SendAct at → joined (sent_at s stage Sent at) ≡ line_at s stage
-sent_line (Send job White) s White e = append-nil _
-sent_line (Send job Black) s Black e = append-nil _
-sent_line (Send job White) s Black e = absurd (cc)
-sent_line (Send job Black) s White e = absurd (cc)
-sent_line (Read job side) s at e = absurd (cc)
-sent_line Before s at e = absurd (cc)
-sent_line After s at e = absurd (cc)
-sent_line FinishedStage s at e = absurd (cc)
+sent_line stage s at e = let (job, is) = sends_at stage at e in subst (λ x. joined (sent_at s x Sent at) ≡ line_at s x) (sym is) (line_of job at)
+  where
+    line_of : (job : Task) (at : Colour) → joined (sent_at s (Send job at) Sent at) ≡ line_at s (Send job at)
+    line_of job White = append-nil _
+    line_of job Black = append-nil _
 
 feeds_send : (stage : Stage) (h : Happening) (at to : Colour) (o n : ToldLines) → act_at stage ≡ SendAct at → n ≡ o → FeedsAt stage h to o n
-feeds_send (Send job side) h at to o n e f = f
-feeds_send (Read job side) h at to o n e f = absurd (cc)
-feeds_send Before h at to o n e f = absurd (cc)
-feeds_send After h at to o n e f = absurd (cc)
-feeds_send FinishedStage h at to o n e f = absurd (cc)
+feeds_send stage h at to o n e f = let (job, is) = sends_at stage at e in subst (λ x. FeedsAt x h to o n) (sym is) f
 
 not_sent : (stage : Stage) (s : Standing) (at to : Colour) → act_at stage ≡ SendAct at → is_side at to ≡ false → sent_at s stage Sent to ≡ []
-not_sent (Send job White) s White Black e f = refl
-not_sent (Send job Black) s Black White e f = refl
-not_sent (Send job White) s Black to e f = absurd (cc)
-not_sent (Send job Black) s White to e f = absurd (cc)
-not_sent (Send job White) s White White e f = absurd (cc)
-not_sent (Send job Black) s Black Black e f = absurd (cc)
-not_sent (Read job side) s at to e f = absurd (cc)
-not_sent Before s at to e f = absurd (cc)
-not_sent After s at to e f = absurd (cc)
-not_sent FinishedStage s at to e f = absurd (cc)
+not_sent stage s at to e f = let (job, is) = sends_at stage at e in subst (λ x. sent_at s x Sent to ≡ []) (sym is) (ap (λ (b : Bool). cond b (line_for s job ∷ []) []) f)
 
 read_sends : (stage : Stage) (s : Standing) (h : Happening) (at to : Colour) → act_at stage ≡ ReadAct at → sent_at s stage h to ≡ []
-read_sends (Read job side) s h at to e = refl
-read_sends (Send job side) s h at to e = absurd (cc)
-read_sends Before s h at to e = absurd (cc)
-read_sends After s h at to e = absurd (cc)
-read_sends FinishedStage s h at to e = absurd (cc)
+read_sends stage s h at to e = let (job, is) = reads_at stage at e in subst (λ x. sent_at s x h to ≡ []) (sym is) refl
 
 feeds_read : (stage : Stage) (h : Happening) (at : Colour) (o n : ToldLines) → act_at stage ≡ ReadAct at → Gave h o n → FeedsAt stage h at o n
-feeds_read (Read job White) h White o n e g = g
-feeds_read (Read job Black) h Black o n e g = g
-feeds_read (Read job White) h Black o n e g = absurd (cc)
-feeds_read (Read job Black) h White o n e g = absurd (cc)
-feeds_read (Send job side) h at o n e g = absurd (cc)
-feeds_read Before h at o n e g = absurd (cc)
-feeds_read After h at o n e g = absurd (cc)
-feeds_read FinishedStage h at o n e g = absurd (cc)
+feeds_read stage h at o n e g = let (job, is) = reads_at stage at e in subst (λ x. FeedsAt x h at o n) (sym is) (gives job at)
+  where
+    gives : (job : Task) (at : Colour) → FeedsAt (Read job at) h at o n
+    gives job White = g
+    gives job Black = g
 
 feeds_other : (stage : Stage) (h : Happening) (at to : Colour) (o : ToldLines) → act_at stage ≡ ReadAct at → is_side at to ≡ false → FeedsAt stage h to o o
-feeds_other (Read job White) h White Black o e f = refl
-feeds_other (Read job Black) h Black White o e f = refl
-feeds_other (Read job White) h White White o e f = absurd (cc)
-feeds_other (Read job Black) h Black Black o e f = absurd (cc)
-feeds_other (Read job White) h Black to o e f = absurd (cc)
-feeds_other (Read job Black) h White to o e f = absurd (cc)
-feeds_other (Send job side) h at to o e f = absurd (cc)
-feeds_other Before h at to o e f = absurd (cc)
-feeds_other After h at to o e f = absurd (cc)
-feeds_other FinishedStage h at to o e f = absurd (cc)
+feeds_other stage h at to o e f = let (job, is) = reads_at stage at e in subst (λ x. FeedsAt x h to o o) (sym is) (stays job at to f)
+  where
+    stays : (job : Task) (at to : Colour) → is_side at to ≡ false → FeedsAt (Read job at) h to o o
+    stays job White Black f = refl
+    stays job Black White f = refl
+    stays job White White f = absurd (cc)
+    stays job Black Black f = absurd (cc)
 
 gave_fits : (stage : Stage) (h : Happening) (at : Colour) (o n : ToldLines) → act_at stage ≡ ReadAct at → Gave h o n → IsTrue (answers (act_at stage) h)
 gave_fits stage (Line bytes) at o n e g = rw e refl

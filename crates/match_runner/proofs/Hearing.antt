@@ -1,48 +1,46 @@
 -- What a reader gives of the lines to come.
-use Rattle.std.proofs.Common.{◌≡◌, ◌↔◌, ◌<◌, ◌≤◌, ℕ, ◌+◌, true, false, List, length, refl, arith}
-use Rattle.io_edge.specs.Outside.{Told}
+use Rattle.std.proofs.Common.{◌≡◌, ◌↔◌, ◌<◌, ◌≤◌, ◌+◌, true, false, length, refl, arith}
 use Rattle.hive_model.specs.declared.pieces.Colour.{Colour}
-use Rattle.hive_model.specs.Lines.{LongAhead}
-use Rattle.line_feed.specs.Feed.{Reading as Reader, Takes, Feeds as FeedsOne, pending, lf_after, input_limit}
-use Rattle.line_feed.specs.Ahead.{ahead_of}
-use Rattle.line_feed.specs.declared.answers.LineAnswer.TheVariants.{Line as LineGiven, TooLong as LineTooLong, Full}
-use Rattle.line_feed.proofs.AheadLemmas.{long_ahead as long_left, full_ahead as full_left, passes_little}
+use Rattle.line_feed.specs.Feed.{Reading as Reader, lf_after}
+use Rattle.line_feed.specs.declared.answers.LineAnswer.TheVariants.{Line as LineGiven, TooLong as LineTooLong}
+use Rattle.line_feed.proofs.AheadLemmas.{passes_little}
 use Rattle.match_core.specs.declared.answers.Stage.{Stage}
 use Rattle.match_core.specs.declared.answers.Stage.TheVariants.{Send, Read, Before, After, Finished}
 use Rattle.match_core.specs.declared.answers.Act.TheVariants.{Read as ReadAct}
 use Rattle.match_core.specs.Plays.{is_finished}
-use Rattle.match_core.specs.Standing.{Standing, TooLong, Ended, next, at_stage, act_at}
-
-pub gives_long : (old new : Reader) (r0 r1 : Told) → (bytes : List ℕ) × Takes r0 r1 old.taken new.taken bytes × FeedsOne LineTooLong old bytes new r1 → LongAhead (ahead_of old r0)
-gives_long old new r0 r1 fed = long_left old new r0 r1 fed
-
-pub full_ahead : (old new : Reader) (r0 r1 : Told) → (bytes : List ℕ) × Takes r0 r1 old.taken new.taken bytes × FeedsOne Full old bytes new r1 → (new.passed + 65536 < new.taken → 65536 < length (pending new)) → old.passed + 65536 < input_limit → LongAhead (ahead_of old r0)
-full_ahead old new r0 r1 fed f room = full_left old new r0 r1 fed f room
+use Rattle.match_core.specs.Standing.{Standing, TooLong, Ended, next, at_stage, act_at, Happening, Sent, Line, Broke, Reading}
 
 pub little : (old new : Reader) → (LineGiven ≡ LineTooLong) ↔ (old.passed + 65536 + length (lf_after new.finished) < new.passed) → new.passed ≤ old.passed + 65538
 little old new e = let k = passes_little LineGiven old new e (λ x. cc) in omega (arith, k)
 
-after_long : (stage : Stage) (s : Standing) (side : Colour) → act_at stage ≡ ReadAct side → is_finished (at_stage s stage TooLong).stage ≡ true
-after_long (Read job at) s side e = refl
-after_long (Send job at) s side e = absurd (cc)
-after_long Before s side e = absurd (cc)
-after_long After s side e = absurd (cc)
-after_long Finished s side e = absurd (cc)
+-- an event behind which nothing more is read of a side
+abbrev IsClosing : Happening → Type 0
+IsClosing TooLong = Unit {0}
+IsClosing Ended = Unit {0}
+IsClosing Sent = ⊥
+IsClosing (Line bytes) = ⊥
+IsClosing Broke = ⊥
+IsClosing (Reading at) = ⊥
+
+after_closing : (stage : Stage) (s : Standing) (side : Colour) (h : Happening) → IsClosing h → act_at stage ≡ ReadAct side → is_finished (at_stage s stage h).stage ≡ true
+after_closing (Read job at) s side TooLong c e = refl
+after_closing (Read job at) s side Ended c e = refl
+after_closing (Read job at) s side Sent c e = absurd c
+after_closing (Read job at) s side (Line bytes) c e = absurd c
+after_closing (Read job at) s side Broke c e = absurd c
+after_closing (Read job at) s side (Reading x) c e = absurd c
+after_closing (Send job at) s side h c e = absurd (cc)
+after_closing Before s side h c e = absurd (cc)
+after_closing After s side h c e = absurd (cc)
+after_closing Finished s side h c e = absurd (cc)
 
 pub long_finishes : (s t : Standing) (side : Colour) → act_at s.stage ≡ ReadAct side → t ≡ next s TooLong → is_finished t.stage ≡ true
 unfolding next
-long_finishes s t side e f = rw f (after_long s.stage s side e)
-
-after_end : (stage : Stage) (s : Standing) (side : Colour) → act_at stage ≡ ReadAct side → is_finished (at_stage s stage Ended).stage ≡ true
-after_end (Read job at) s side e = refl
-after_end (Send job at) s side e = absurd (cc)
-after_end Before s side e = absurd (cc)
-after_end After s side e = absurd (cc)
-after_end Finished s side e = absurd (cc)
+long_finishes s t side e f = rw f (after_closing s.stage s side TooLong tt e)
 
 pub end_finishes : (s t : Standing) (side : Colour) → act_at s.stage ≡ ReadAct side → t ≡ next s Ended → is_finished t.stage ≡ true
 unfolding next
-end_finishes s t side e f = rw f (after_end s.stage s side e)
+end_finishes s t side e f = rw f (after_closing s.stage s side Ended tt e)
 
 pub reads_open : (stage : Stage) (side : Colour) → act_at stage ≡ ReadAct side → is_finished stage ≡ false
 reads_open (Read job at) side e = refl

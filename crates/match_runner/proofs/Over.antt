@@ -1,5 +1,5 @@
 -- The match that a run answers, by both links and the clock.
-use Rattle.std.proofs.Common.{◌≡◌, ◌≤◌, ℕ, ◌+◌, inl, inr}
+use Rattle.std.proofs.Common.{◌≡◌, ◌≤◌, ℕ, ◌+◌, inl, inr, ap}
 use Rattle.io_edge.specs.Outside.{HasCause, Rose}
 use Rattle.hive_model.specs.declared.pieces.Colour.TheVariants.{White, Black}
 use Rattle.line_feed.specs.Feed.{Reading as Reader, HoldsLittle, fresh}
@@ -16,7 +16,7 @@ use Rattle.match_runner.proofs.Fronting.{front_final}
 use Rattle.match_runner.proofs.Judged.{final_judged}
 use Rattle.match_runner.proofs.Lates.{late_final}
 use Rattle.match_runner.proofs.Looks.{read_final}
-use Rattle.match_runner.proofs.Progress.{cut_read, cut_write, ran_whole, rose_from}
+use Rattle.match_runner.proofs.Progress.{cut_at, ran_whole, rose_from}
 use Rattle.match_runner.proofs.SameSetup.{final_same}
 use Rattle.match_runner.proofs.Telling.{told_run}
 use Rattle.match_runner.proofs.Verdicts.{verdict_run}
@@ -67,8 +67,8 @@ last_act : (turn : Turn) (setup : Setup) (s t : Standing) (w0 w2 b0 b2 : Wire) (
 last_act GoOn setup s t w0 w2 b0 b2 x0 x x2 y0 y y2 r0 r r2 over run turned c rises = absurd over
 last_act Memory setup s t w0 w2 b0 b2 x0 x x2 y0 y y2 r0 r r2 over run turned c rises = absurd over
 last_act Finished setup s t w0 w2 b0 b2 x0 x x2 y0 y y2 r0 r r2 over run turned c rises = ran_whole setup s t x0 x x2 y0 y y2 r0 r r2 _ _ run turned c
-last_act (ReadFault side) setup s t w0 w2 b0 b2 x0 x x2 y0 y y2 r0 r r2 over run turned c rises = cut_read side setup s t x0 x x2 y0 y y2 r0 r r2 _ _ run turned c (λ e. inl (rises.white_reads e)) (λ e. inl (rises.black_reads e))
-last_act (WriteFault side) setup s t w0 w2 b0 b2 x0 x x2 y0 y y2 r0 r r2 over run turned c rises = cut_write side setup s t x0 x x2 y0 y y2 r0 r r2 _ _ run turned c (λ e. inr (rises.white_writes e)) (λ e. inr (rises.black_writes e))
+last_act (ReadFault side) setup s t w0 w2 b0 b2 x0 x x2 y0 y y2 r0 r r2 over run turned c rises = cut_at side setup s t x0 x x2 y0 y y2 r0 r r2 _ _ run (inr turned.0) turned.1 turned.2 c (λ e. inl (rises.white_reads (ap ReadFault e))) (λ e. inl (rises.black_reads (ap ReadFault e)))
+last_act (WriteFault side) setup s t w0 w2 b0 b2 x0 x x2 y0 y y2 r0 r r2 over run turned c rises = cut_at side setup s t x0 x x2 y0 y y2 r0 r r2 _ _ run (inl turned.0) turned.1 turned.2 c (λ e. inr (rises.white_writes (ap WriteFault e))) (λ e. inr (rises.black_writes (ap WriteFault e)))
 
 -- the run is over behind this act
 pub ends_over : (turn : Turn) (setup : Setup) (s t : Standing) (w_reader b_reader : Reader) (w0 w2 b0 b2 : Wire) (w b : Side) (r0 r r2 : Watch) → IsSetup setup → IsLast turn

@@ -1,5 +1,6 @@
 -- A run goes on by one act.
-use Rattle.std.proofs.Common.{◌≡◌, inl, inr, ◌<◌, ◌≤◌, ℕ, ◌+◌, ◌*◌, false, List, [], ◌∷◌, ◌++◌, refl, ap, sym, ◌∙◌, arith, append_assoc, IsTrue, subst}
+use Rattle.std.specs.Prelude.{if◌then◌else◌}
+use Rattle.std.proofs.Common.{◌≡◌, inl, inr, ◌<◌, ◌≤◌, ℕ, ◌+◌, ◌*◌, false, List, [], ◌∷◌, ◌++◌, refl, ap, sym, ◌∙◌, arith, append_assoc, IsTrue, subst, ◌⊎◌, Bool}
 use Rattle.std.proofs.lemmas.List.{append-nil}
 use Rattle.io_edge.specs.Outside.{behind, Rose}
 use Rattle.io_edge.proofs.Told.{behind-behind}
@@ -8,6 +9,7 @@ use Rattle.hive_model.specs.declared.pieces.Colour.TheVariants.{White, Black}
 use Rattle.match_core.specs.declared.answers.Setup.{Setup}
 use Rattle.match_core.specs.declared.answers.Stage.{Stage}
 use Rattle.match_core.specs.declared.answers.Stage.TheVariants.{Send, Read, Before, After, Finished as FinishedStage}
+use Rattle.match_core.specs.declared.answers.Act.{Act}
 use Rattle.match_core.specs.declared.answers.Act.TheVariants.{Send as SendAct, Read as ReadAct, Finish}
 use Rattle.match_core.specs.Standing.{Standing, Happening, start, match_after, next, after_all, act_at, answers}
 use Rattle.match_core.specs.Fairness.{Answering, sent, sent_at}
@@ -18,9 +20,8 @@ use Rattle.match_core.specs.Feeds.{FeedsAt, Feeds}
 use Rattle.match_core.proofs.Falls.{matches_near_their_end}
 use Rattle.match_core.proofs.Fair.{after_all-snoc}
 use Rattle.match_runner.specs.Wires.{Watch}
-use Rattle.match_runner.specs.Turns.{Side, OneSide, Goes, Breaks, KeepsAt, is_broke, looks_at}
-use Rattle.match_runner.specs.declared.turns.Turn.TheVariants.{ReadFault, WriteFault}
-use Rattle.match_runner.specs.Runs.{AreSound, KeepTime, looks, Served, Run, Ran}
+use Rattle.match_runner.specs.Turns.{Side, OneSide, Goes, Breaks, KeepsAt, is_broke, is_clock, looks_at}
+use Rattle.match_runner.specs.Runs.{Cut, AreSound, KeepTime, looks, Served, Run, Ran}
 use Rattle.match_runner.proofs.Acts.{behind-nil}
 
 pub joined-append : (xs ys : List (List ℕ)) → joined (xs ++ ys) ≡ joined xs ++ joined ys
@@ -117,50 +118,32 @@ room_begin setup s is e = rw e (let k = is.few in omega (arith, k))
 run_later : (setup : Setup) (s : Standing) (w0 w b0 b : Side) (r0 r r2 : Watch) → Run setup s w0 w b0 b r0 r → r2.readings ≤ r.readings → r2.last ≡ r.last → Run setup s w0 w b0 b r0 r2
 run_later setup s w0 w b0 b r0 r r2 (hs, run) h k = (hs, record { here = run.here; fits = run.fits; sound = run.sound; white = run.white; black = run.black; readings = let a = run.readings in omega (arith, a, h); time = rw k run.time; bounded = run.bounded })
 
-no_look_read : (stage : Stage) (side : Colour) → act_at stage ≡ ReadAct side → looks_at stage ≡ 0
-no_look_read (Send job at) side e = refl
-no_look_read (Read job at) side e = refl
-no_look_read Before side e = absurd (cc)
-no_look_read After side e = absurd (cc)
-no_look_read FinishedStage side e = refl
-
-no_look_send : (stage : Stage) (side : Colour) → act_at stage ≡ SendAct side → looks_at stage ≡ 0
-no_look_send (Send job at) side e = refl
-no_look_send (Read job at) side e = refl
-no_look_send Before side e = absurd (cc)
-no_look_send After side e = absurd (cc)
-no_look_send FinishedStage side e = refl
-
-no_look_finish : (stage : Stage) → act_at stage ≡ Finish → looks_at stage ≡ 0
-no_look_finish (Send job at) e = refl
-no_look_finish (Read job at) e = refl
-no_look_finish Before e = absurd (cc)
-no_look_finish After e = absurd (cc)
-no_look_finish FinishedStage e = refl
+no_look : (stage : Stage) (act : Act) → act_at stage ≡ act → is_clock act ≡ false → looks_at stage ≡ 0
+no_look stage act e f = ap (λ (a : Act). if is_clock a then 1 else 0) e ∙ ap (λ (b : Bool). if b then 1 else 0) f
 
 pub rose_from : (a b c : ℕ) → a ≤ b → Rose b c → Rose a c
 rose_from a b c h r = record { higher = elim r.higher [ inl x ↦ inl (omega (arith, h, x)) | inr y ↦ inr y ]; below = r.below }
 
-pub cut_read : (side : Colour) (setup : Setup) (s t : Standing) (w0 w w2 b0 b b2 : Side) (r0 r r2 : Watch) (P Q : Type 0) → Run setup s w0 w b0 b r0 r → (act_at s.stage ≡ ReadAct side) × Breaks s t w w2 b b2 × (r2.last ≡ r.last) → r2.readings ≤ r.readings + looks_at s.stage
-    → (ReadFault side ≡ ReadFault White → P) → (ReadFault side ≡ ReadFault Black → Q) → Ran setup t w0 w2 b0 b2 r0 r2 P Q
-cut_read White setup s t w0 w w2 b0 b b2 r0 r r2 P Q run (e, br, k) c p q =
-    let n = no_look_read s.stage White e in
-    record { ended = inr (inl ((s, w, b, run_later setup s w0 w b0 b r0 r r2 run (omega (arith, n, c)) k, br, inr e), p refl)) }
-cut_read Black setup s t w0 w w2 b0 b b2 r0 r r2 P Q run (e, br, k) c p q =
-    let n = no_look_read s.stage Black e in
-    record { ended = inr (inr ((s, w, b, run_later setup s w0 w b0 b r0 r r2 run (omega (arith, n, c)) k, br, inr e), q refl)) }
+-- what a side that breaks was to do
+abbrev pub WasToDo : Colour → Stage → Type 0
+WasToDo side stage = (act_at stage ≡ SendAct side) ⊎ (act_at stage ≡ ReadAct side)
 
-pub cut_write : (side : Colour) (setup : Setup) (s t : Standing) (w0 w w2 b0 b b2 : Side) (r0 r r2 : Watch) (P Q : Type 0) → Run setup s w0 w b0 b r0 r → (act_at s.stage ≡ SendAct side) × Breaks s t w w2 b b2 × (r2.last ≡ r.last) → r2.readings ≤ r.readings + looks_at s.stage
-    → (WriteFault side ≡ WriteFault White → P) → (WriteFault side ≡ WriteFault Black → Q) → Ran setup t w0 w2 b0 b2 r0 r2 P Q
-cut_write White setup s t w0 w w2 b0 b b2 r0 r r2 P Q run (e, br, k) c p q =
-    let n = no_look_send s.stage White e in
-    record { ended = inr (inl ((s, w, b, run_later setup s w0 w b0 b r0 r r2 run (omega (arith, n, c)) k, br, inl e), p refl)) }
-cut_write Black setup s t w0 w w2 b0 b b2 r0 r r2 P Q run (e, br, k) c p q =
-    let n = no_look_send s.stage Black e in
-    record { ended = inr (inr ((s, w, b, run_later setup s w0 w b0 b r0 r r2 run (omega (arith, n, c)) k, br, inl e), q refl)) }
+no_look_cut : (side : Colour) (stage : Stage) → WasToDo side stage → looks_at stage ≡ 0
+no_look_cut side stage (inl e) = no_look stage (SendAct side) e refl
+no_look_cut side stage (inr e) = no_look stage (ReadAct side) e refl
+
+pub cut_at : (side : Colour) (setup : Setup) (s t : Standing) (w0 w w2 b0 b b2 : Side) (r0 r r2 : Watch) (P Q : Type 0) → Run setup s w0 w b0 b r0 r → WasToDo side s.stage → Breaks s t w w2 b b2 → r2.last ≡ r.last → r2.readings ≤ r.readings + looks_at s.stage
+    → (side ≡ White → P) → (side ≡ Black → Q) → Ran setup t w0 w2 b0 b2 r0 r2 P Q
+cut_at side setup s t w0 w w2 b0 b b2 r0 r r2 P Q run act br k c p q =
+    let n = no_look_cut side s.stage act in
+    cut_of side (s, w, b, run_later setup s w0 w b0 b r0 r r2 run (omega (arith, n, c)) k, br, act) p q
+  where
+    cut_of : (at : Colour) → Cut at setup t w0 w2 b0 b2 r0 r2 → (at ≡ White → P) → (at ≡ Black → Q) → Ran setup t w0 w2 b0 b2 r0 r2 P Q
+    cut_of White cut p q = record { ended = inr (inl (cut, p refl)) }
+    cut_of Black cut p q = record { ended = inr (inr (cut, q refl)) }
 
 pub ran_whole : (setup : Setup) (s t : Standing) (w0 w w2 b0 b b2 : Side) (r0 r r2 : Watch) (P Q : Type 0) → Run setup s w0 w b0 b r0 r → (t ≡ s) × (act_at s.stage ≡ Finish) × (w2 ≡ w) × (b2 ≡ b) × (r2.last ≡ r.last) → r2.readings ≤ r.readings + looks_at s.stage
     → Ran setup t w0 w2 b0 b2 r0 r2 P Q
 ran_whole setup s t w0 w w2 b0 b b2 r0 r r2 P Q run (e, f, x, y, k) c =
-    let n = no_look_finish s.stage f in
+    let n = no_look s.stage Finish f refl in
     record { ended = inl (rw (e, x, y) (run_later setup s w0 w b0 b r0 r r2 run (omega (arith, n, c)) k), rw e f) }

@@ -1,7 +1,8 @@
 -- Each answer of the reader is an event.
 use Rattle.std.proofs.Common.{refl, ◌∙◌, ap, ℕ, List}
 use Rattle.match_core.specs.Standing.{Standing, Line, TooLong, Ended, next}
-use Rattle.match_runner.proofs.Hearing.{gives_long, full_ahead, little, long_finishes}
+use Rattle.line_feed.proofs.AheadLemmas.{full_ahead, long_ahead}
+use Rattle.match_runner.proofs.Hearing.{little, long_finishes}
 use Rattle.match_runner.proofs.turns.listen.Goals as goal
 
 pub returns-in-Ok-clause-heard : goal.returns-in-Ok-clause-heard
@@ -14,7 +15,7 @@ pub returns-in-Ok-clause-room : goal.returns-in-Ok-clause-room
 returns-in-Ok-clause-room g c = λ _. little c.args.reader.now c.next_line.new.self c.in-Line.ensures.too_long
 
 pub returns-in-Ok-step-clause-heard : goal.returns-in-Ok-step-clause-heard
-returns-in-Ok-step-clause-heard g c = (TooLong, c.in-Ok-step.ensures.ok, gives_long c.args.reader.now c.next_line.new.self (g.L.Source.rest c.args.link.now) (g.L.Source.rest c.next_line.new.source) c.in-TooLong.ensures.fed)
+returns-in-Ok-step-clause-heard g c = (TooLong, c.in-Ok-step.ensures.ok, long_ahead c.args.reader.now c.next_line.new.self (g.L.Source.rest c.args.link.now) (g.L.Source.rest c.next_line.new.source) c.in-TooLong.ensures.fed)
 
 pub returns-in-Ok-step-clause-room : goal.returns-in-Ok-step-clause-room
 returns-in-Ok-step-clause-room g c = λ goes_on.
