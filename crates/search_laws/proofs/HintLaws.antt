@@ -1,7 +1,6 @@
 -- A move that is tried before its turn, and left out when its turn comes, over plain values.
 use Rattle.std.proofs.Common.{◌≡◌, ℕ, zero, suc, ◌+◌, ◌-◌, ◌<◌, ◌≤◌, List, [], ◌∷◌, length, drop, map, refl, sym, ap, subst, arith, ◌∙◌, ℤ, neg_ℤ, ◌≤ℤ◌, ◌<ℤ◌, Some, to_z, of_z}
 use Rattle.std.proofs.lemmas.Int.{ints, clamps, by_lt_z, to_z-of_z}
-use Rattle.std.proofs.lemmas.Option.{slice_get_within}
 use Rattle.std.specs.List.{slice_get}
 use Rattle.std.specs.Int.{int_max}
 use mir.Val.{SFits}
@@ -55,7 +54,7 @@ first-found v x w rest r ea eb low wide f = record {
   lower = λ b. f.lower (omega (arith, ints));
 }
 
-most_by-each : (f : Move → ℕ) (ms : List Move) (i : ℕ) (m : Move) → slice_get ms i ≡ Some m → f m ≤ most_by f ms
+pub most_by-each : (f : Move → ℕ) (ms : List Move) (i : ℕ) (m : Move) → slice_get ms i ≡ Some m → f m ≤ most_by f ms
 most_by-each f [] i m e = cc
 most_by-each f (n ∷ ms) zero m e = let same : n ≡ m = cc in omega (arith, ap f same)
 most_by-each f (n ∷ ms) (suc i) m e = omega (arith, most_by-each f ms i m e)
@@ -143,9 +142,3 @@ pub raised-is : (alpha found worth r : ℤ) → SFits w32 alpha → SFits w32 fo
     int_max alpha found ≡ int_max alpha worth → to_z w32 (of_z w32 r) ≡ int_max alpha worth
 raised-is alpha found worth r fa ff fr e up =
     to_z-of_z w32 r fr ∙ e ∙ ap (λ z. int_max z (to_z w32 (of_z w32 found))) (to_z-of_z w32 alpha fa) ∙ ap (int_max alpha) (to_z-of_z w32 found ff) ∙ up
-
-pub no-hint : (start now : Course) (i n : ℕ) (m : Move) (P : Type 0) → now ≡ start → n ≡ length (moves (position start)) → n ≤ i → slice_get (moves (position now)) i ≡ Some m → P
-no-hint start now i n m P same all past e =
-    let within = slice_get_within (moves (position now)) i m e in
-    let lengths : length (moves (position now)) ≡ length (moves (position start)) = ap (λ (h : Course). length (moves (position h))) same in
-    absurd (omega (arith, within, lengths, all, past))

@@ -11,3 +11,4 @@ pub mod HintLaws
 pub mod BestLaws
 pub mod RootLaws
 pub mod ReplyLaws
+pub mod NodeLaws

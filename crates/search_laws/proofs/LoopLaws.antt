@@ -1,16 +1,16 @@
 -- Steps of a loop over the moves of a level.
-use Rattle.std.proofs.Common.{◌≡◌, ℕ, ◌+◌, ◌<◌, ◌≤◌, ◌-ℤ◌, List, [], ◌∷◌, ◌++◌, length, drop, map, get_or, refl, ap, arith, ◌∙◌, ℤ, pos, neg_ℤ, ◌≤ℤ◌, Some, length-append}
+use Rattle.std.proofs.Common.{◌≡◌, ℕ, ◌+◌, ◌<◌, ◌≤◌, List, [], ◌∷◌, ◌++◌, length, drop, map, get_or, refl, ap, arith, ◌∙◌, ℤ, ◌≤ℤ◌, Some, length-append}
 use Rattle.std.proofs.lemmas.Int.{ints, clamps}
 use Rattle.std.proofs.lemmas.List.{drop_all}
 use Rattle.std.specs.List.{slice_get}
 use Rattle.std.specs.Int.{int_max}
 use Rattle.hive_model.specs.declared.places.Move.{Move}
-use Rattle.hive_model.specs.Stack.{Levels, level_of, with_level, without_level}
+use Rattle.hive_model.specs.Stack.{Levels, level_of, with_level}
 use Rattle.hive_model.specs.Minimax.{greatest_from, greatest}
-use Rattle.hive_model.specs.Courses.{Course, position, with_move, without_last}
+use Rattle.hive_model.specs.Courses.{Course, position, with_move}
 use Rattle.hive_model.specs.Games.{after}
 pub use Rattle.hive_model.proofs.GetLemmas.{on-at, drop-at}
-use Rattle.search_laws.proofs.CourseLaws.{without_level-with_level, without_last-with_move, position-with_move}
+use Rattle.search_laws.proofs.CourseLaws.{position-with_move}
 
 get_or-seam : {A : Type 0} (xs : List A) (x d : A) → get_or (xs ++ x ∷ []) (length xs) d ≡ x
 get_or-seam [] x d = refl
@@ -30,9 +30,6 @@ drop-all xs i h = drop_all i xs h
 
 pub int_max-below : (a x : ℤ) → a ≤ℤ x → int_max a x ≡ x
 int_max-below a x h = omega (arith, ints, clamps)
-
-pub int_max-above : (a x : ℤ) → x ≤ℤ a → int_max a x ≡ a
-int_max-above a x h = omega (arith, ints, clamps)
 
 -- one move more is tried
 pub greatest-step : (r : Move → ℤ) (ms : List Move) (i : ℕ) (m : Move) (a b v : ℤ) →
@@ -54,20 +51,9 @@ pub listed-at : (s old : Levels) (ms : List Move) (level i : ℕ) (m : Move) →
     slice_get (level_of s level) i ≡ Some m → slice_get ms i ≡ Some m
 listed-at s old ms level i m es el e = rw (level_of-with_level s old ms level es el) at e
 
--- a move that was played and taken back leaves the game as it was
-pub back-again : (g0 g1 g2 g3 : Course) (m : Move) → g1 ≡ with_move g0 m → g2 ≡ g1 → g3 ≡ without_last g2 → 1 ≤ g0.spare → g3 ≡ g0
-back-again g0 g1 g2 g3 m played same undone room = undone ∙ ap without_last (same ∙ played) ∙ without_last-with_move g0 m room
-
 -- what was searched behind a move
 pub position-behind : (g0 g1 start : Course) (m : Move) → g1 ≡ with_move g0 m → g0 ≡ start → position g1 ≡ after (position start) m
 position-behind g0 g1 start m played same = ap position (played ∙ ap (λ g. with_move g m) same) ∙ position-with_move start m
-
--- the level that was put on is taken away
-pub level-dropped : (s old s' s'' : Levels) (ms : List Move) → s ≡ with_level old ms → s' ≡ s → s'' ≡ without_level s' → 1 ≤ old.free → s'' ≡ old
-level-dropped s old s' s'' ms es same dropped room = dropped ∙ ap without_level (same ∙ es) ∙ without_level-with_level old ms room
-
-pub minus-is-neg : (z : ℤ) → pos 0 -ℤ z ≡ neg_ℤ z
-minus-is-neg z = omega (arith, ints)
 
 -- a list of moves that was read whole
 pub count-of-level : (s old : Levels) (ms : List Move) (level n : ℕ) → s ≡ with_level old ms → level ≡ length old.lists →

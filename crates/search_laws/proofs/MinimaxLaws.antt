@@ -98,18 +98,6 @@ value-at_zero p s c d v es ec e z ev =
     let f : end_value (state p) p.side 0 ≡ None = rw (← es, ← ec, ← z) (sym e) in
     rw z (ev ∙ sym (value-leaf p ∙ ap (λ o. unwrap_or o (eval p)) f))
 
-end_value-none : (s : State) (c : Colour) (d : ℕ) → None ≡ end_value s c d → is_over_state s ≡ false
-end_value-none NotStarted c d h = refl
-end_value-none InProgress c d h = refl
-end_value-none Draw c d h = cc
-end_value-none WhiteWins White d h = cc
-end_value-none WhiteWins Black d h = cc
-end_value-none BlackWins White d h = cc
-end_value-none BlackWins Black d h = cc
-
-pub inner-at : (p : Position) (s : State) (c : Colour) (d : ℕ) → s ≡ state p → None ≡ end_value s c d → 0 < d → IsInner p d
-inner-at p s c d es e deep = record { deep = deep; open_ = ap is_over_state (sym es) ∙ end_value-none s c d e }
-
 reply-low : (n : ℕ) (z : ℤ) → n ≤ 1000100 → IsSmall n z → negsuc 1000099 ≤ℤ neg_ℤ z
 reply-low n z h w = omega (arith, ints)
 

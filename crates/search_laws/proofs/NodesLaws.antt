@@ -1,13 +1,12 @@
 -- The nodes behind a position are its moves and the nodes behind them.
-use Rattle.std.proofs.Common.{◌≡◌, ℕ, zero, suc, ◌+◌, List, [], ◌∷◌, drop, refl, arith, Some}
-use Rattle.std.specs.List.{sum_by, slice_get}
+use Rattle.std.proofs.Common.{◌≡◌, ℕ, zero, suc, ◌+◌, List, [], ◌∷◌, refl, arith}
+use Rattle.std.specs.List.{sum_by}
 use Rattle.std.proofs.lemmas.List.Sums.{sum_by-cons}
 use Rattle.hive_model.specs.declared.places.Move.{Move}
 use Rattle.hive_model.specs.Positions.{Position}
 use Rattle.hive_model.specs.Legal.{moves}
 use Rattle.hive_model.specs.Games.{after}
 use Rattle.hive_model.specs.Minimax.{lines, nodes}
-use Rattle.search_laws.proofs.LoopLaws.{drop-at}
 
 sum_by-add : (f g : Move → ℕ) (ms : List Move) → sum_by (λ m. f m + g m) ms ≡ sum_by f ms + sum_by g ms
 sum_by-add f g [] = refl
@@ -43,8 +42,3 @@ nodes-step p (suc n) =
     let same = sum_by-same (λ m. 1 + nodes (after p m) n + lines (after p m) (suc n)) (λ m. 1 + nodes (after p m) (suc n)) (moves p)
     (λ m. omega (arith, nodes-next (after p m) n)) in
     omega (arith, nodes-next p (suc n), nodes-step p n, lines-next p (suc n), both, same)
-
--- the work that is left when i moves were tried
-pub nodes-more : (p : Position) (n i : ℕ) (m : Move) → slice_get (moves p) i ≡ Some m →
-    sum_by (λ m. 1 + nodes (after p m) n) (drop i (moves p)) ≡ 1 + nodes (after p m) n + sum_by (λ m. 1 + nodes (after p m) n) (drop (i + 1) (moves p))
-nodes-more p n i m e = rw (drop-at (moves p) i m e) (sum_by-cons (λ m. 1 + nodes (after p m) n) m (drop (i + 1) (moves p)))

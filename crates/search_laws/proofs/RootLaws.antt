@@ -1,5 +1,5 @@
 -- The loop over the moves of a root, over plain values.
-use Rattle.std.proofs.Common.{◌≡◌, ℕ, ◌+◌, ◌-◌, ◌%◌, ◌≤◌, Bool, cond, List, [], ◌∷◌, length, drop, map, refl, sym, ap, subst, arith, ◌∙◌, ℤ, pos, negsuc, neg_ℤ, ◌-ℤ◌, ◌≤ℤ◌, ◌<ℤ◌, Some}
+use Rattle.std.proofs.Common.{◌≡◌, ℕ, ◌+◌, ◌-◌, ◌%◌, ◌≤◌, Bool, cond, List, [], ◌∷◌, length, drop, map, refl, ap, subst, arith, ◌∙◌, ℤ, pos, negsuc, neg_ℤ, ◌-ℤ◌, ◌≤ℤ◌, ◌<ℤ◌, Some}
 use Rattle.std.proofs.lemmas.Int.{ints, clamps, by_lt_z}
 use Rattle.std.specs.List.{slice_get, find}
 use Rattle.std.specs.Int.{int_max}
@@ -8,12 +8,12 @@ use Rattle.hive_model.specs.Positions.{Position}
 use Rattle.hive_model.specs.Legal.{moves}
 use Rattle.hive_model.specs.Games.{after}
 use Rattle.hive_model.specs.Minimax.{IsInner, value, reply_value, greatest_from, best}
-use Rattle.hive_model.specs.Costs.{root_cost, every_from, cost, share}
+use Rattle.hive_model.specs.Costs.{root_cost, every_from, cost}
 use Rattle.hive_model.specs.Courses.{Course, position}
-use Rattle.search_laws.proofs.LoopLaws.{drop-at, greatest-step, greatest-start, greatest-end}
+use Rattle.search_laws.proofs.LoopLaws.{drop-at, greatest-step, greatest-end}
 use Rattle.search_laws.proofs.Greatest.{greatest_from-start}
 use Rattle.search_laws.specs.Laws.{IsSmall}
-use Rattle.search_laws.proofs.MinimaxLaws.{IsSmall-neg, wider, value-within, value-greatest, moves-not_over}
+use Rattle.search_laws.proofs.MinimaxLaws.{IsSmall-neg, wider, value-within}
 use Rattle.search_laws.proofs.BestLaws.{reaches, best-reaches}
 use Rattle.search_laws.proofs.CostLaws.{int_le-false, int_le-true}
 use Rattle.search_laws.specs.declared.window.Window.{Window}
@@ -37,17 +37,6 @@ small-value p d deep = wider (1000000 + d) 1000064 (value p d) (omega arith) (va
 
 small-reply : (p : Position) (d : ℕ) (m : Move) → d ≤ 64 → IsSmall 1000064 (reply_value p (d - 1) m)
 small-reply p d m deep = IsSmall-neg 1000064 (value (after p m) (d - 1)) (small-value (after p m) (d - 1) (omega arith))
-
-pub root-begin : (p : Position) (d : ℕ) (m : Move) → IsInner p d → d ≤ 64 → Root p d 0 (negsuc 1000089) m
-root-begin p d m inner deep =
-    let below : (n : Move) → negsuc 1000089 ≤ℤ reply_value p (d - 1) n = λ n. let k = small-reply p d n deep in omega (arith, ints, k.low) in
-    let value-low = small-value p d deep in
-    record {
-      rest = greatest-start (reply_value p (d - 1)) (moves p) (negsuc 1000089) below (moves-not_over p inner.open_) ∙ sym (value-greatest p d inner);
-      low = omega (arith, ints);
-      seeking = λ less. refl;
-      reached = λ same. absurd (omega (arith, ints, same, value-low.low));
-    }
 
 -- what the search of one move tells
 pub found-more : (p : Position) (d : ℕ) (m : Move) (w : Window) (g r : ℤ) → d ≤ 64 → w.alpha ≡ g -ℤ pos 1 → w.beta ≡ pos 1000100 →
@@ -129,10 +118,6 @@ every-all i [] = refl
 every-all i (m ∷ ms) =
     let e : i % 1 ≡ 0 = omega arith in
     rw e (ap (λ ns. m ∷ ns) (every-all (i + 1) ms))
-
-pub root-plays-end : (p : Position) (d i : ℕ) (g : ℤ) (n0 n1 : ℕ) → RootPlays p d i g n0 n1 → n1 ≤ n0 + share p d 0 1
-unfolding share
-root-plays-end p d i g n0 n1 so = rw (every-all 0 (moves p)) (omega (arith, so))
 
 -- ---- a turn, from what the calls ensure
 

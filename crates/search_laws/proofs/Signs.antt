@@ -1,29 +1,16 @@
 -- Signed numbers as the code computes them.
-use Rattle.std.proofs.Common.{◌≡◌, ℕ, ◌-ℤ◌, ◌≤◌, arith, ap, ◌∙◌, ℤ, pos, negsuc, neg_ℤ, ◌≤ℤ◌, ◌<ℤ◌, to_z, of_z, true, false}
-use Rattle.std.proofs.lemmas.Int.{ints, to_z-of_z}
-use Rattle.std.specs.Int.{int_max}
+use Rattle.std.proofs.Common.{◌≡◌, ◌-ℤ◌, ◌≤◌, arith, ℤ, pos, negsuc, neg_ℤ, ◌≤ℤ◌, ◌<ℤ◌, to_z, of_z, true, false}
+use Rattle.std.proofs.lemmas.Int.{ints}
 use mir.Val.{SFits}
 use lib.Signed.{le_z, lt_z}
 use mir.Syntax.{w32}
 use Rattle.search_laws.specs.Laws.{IsSmall}
-use Rattle.search_laws.proofs.MinimaxLaws.{wider}
-
-pub within-fits : (n : ℕ) (z : ℤ) → n ≤ 2000000 → IsSmall n z → SFits w32 z
-within-fits n z h w = omega (arith, ints)
 
 pub neg-fits : (z : ℤ) → IsSmall 1000100 z → SFits w32 (pos 0 -ℤ to_z w32 (of_z w32 z))
 neg-fits z w = omega (arith, ints)
 
 pub neg-is : (z : ℤ) → IsSmall 1000100 z → to_z w32 (of_z w32 (pos 0 -ℤ to_z w32 (of_z w32 z))) ≡ neg_ℤ z
 neg-is z w = omega (arith, ints)
-
--- the greater of the best so far and a negated reply
-pub max-is : (bits : ℕ) (best z r : ℤ) → IsSmall 1000064 z → SFits w32 r → to_z w32 bits ≡ best →
-    r ≡ int_max (to_z w32 bits) (to_z w32 (of_z w32 (pos 0 -ℤ to_z w32 (of_z w32 z)))) → to_z w32 (of_z w32 r) ≡ int_max best (neg_ℤ z)
-max-is bits best z r w fits is e = to_z-of_z w32 r fits ∙ e ∙ ap (λ y. int_max (to_z w32 bits) y) (neg-is z (wider 1000064 1000100 z (omega arith) w)) ∙ ap (λ y. int_max y (neg_ℤ z)) is
-
-pub same-bits : (z : ℤ) → negsuc 1000099 ≤ℤ z → z ≤ℤ pos 1000100 → to_z w32 (of_z w32 z) ≡ z
-same-bits z low high = omega (arith, ints)
 
 pub turned : (z : ℤ) → negsuc 1000099 ≤ℤ z → z ≤ℤ pos 1000100 → to_z w32 (of_z w32 (pos 0 -ℤ to_z w32 (of_z w32 z))) ≡ neg_ℤ z
 turned z low high = omega (arith, ints)

@@ -17,7 +17,7 @@ use Rattle.search_laws.proofs.LoopLaws.{greatest-step, greatest-end, listed-at, 
 use Rattle.search_laws.proofs.Greatest.{greatest-each, greatest_from-greatest}
 use Rattle.search_laws.proofs.MinimaxLaws.{value-greatest, moves-not_over}
 use Rattle.search_laws.specs.Tries.{tried_cost}
-use Rattle.search_laws.proofs.CostLaws.{cost-inner, tries-step, tries-first}
+use Rattle.search_laws.proofs.CostLaws.{tries-step}
 use Rattle.search_laws.specs.declared.window.Window.{Window}
 use Rattle.search_laws.specs.Found.{IsFound}
 use Rattle.search_laws.proofs.FoundLaws.{IsFound-neg, found-below, found-raises, found-cut, found-raised}
@@ -63,14 +63,6 @@ PlaysWithin p d w alpha i before now =
     now + tries_cost (tried_cost p (d - 1) w.beta) (reply_value p (d - 1)) alpha w.beta (drop i (moves p))
     ≤ before + tries_cost (tried_cost p (d - 1) w.beta) (reply_value p (d - 1)) w.alpha w.beta (moves p)
 
-pub cut-plays : (p : Position) (d : ℕ) (w inner : Window) (i : ℕ) (m : Move) (r : ℤ) (n0 n1 n2 : ℕ) → Turn p d w inner i m r →
-    PlaysWithin p d w inner.alpha i n0 n1 → n2 ≤ n1 + (1 + cost (after p m) (d - 1) (neg_ℤ inner.beta) (neg_ℤ inner.alpha)) → n2 ≤ n0 + cost p d w.alpha w.beta
-cut-plays p d w inner i m r n0 n1 n2 t so more =
-    let k : n2 ≤ n1 + (1 + cost (after p m) (d - 1) (neg_ℤ w.beta) (neg_ℤ inner.alpha)) = rw t.beta at more in
-    let first : 1 + cost (after p m) (d - 1) (neg_ℤ w.beta) (neg_ℤ inner.alpha) ≤ tries_cost (tried_cost p (d - 1) w.beta) (reply_value p (d - 1)) inner.alpha w.beta (drop i (moves p)) =
-    tries-first (tried_cost p (d - 1) w.beta) (reply_value p (d - 1)) inner.alpha w.beta (moves p) i m t.here in
-    rw (cost-inner p d w.alpha w.beta t.open_) (omega (arith, so, k, first))
-
 -- the answer did not reach beta: alpha is raised to what the move is worth
 pub turn-rest : (p : Position) (d : ℕ) (w inner : Window) (i : ℕ) (m : Move) (r alpha top : ℤ) → Turn p d w inner i m r → r <ℤ w.beta →
     alpha ≡ int_max inner.alpha r → greatest_from inner.alpha (map (reply_value p (d - 1)) (drop i (moves p))) ≡ top →
@@ -103,9 +95,6 @@ end-found p d w i alpha inner past high so =
     let f : greatest_from w.alpha (map worth (moves p)) ≡ int_max w.alpha (greatest (map worth (moves p))) =
     greatest_from-greatest w.alpha worth (moves p) (moves-not_over p inner.open_) in
     found-raised (value p d) w alpha high (e ∙ f ∙ ap (int_max w.alpha) (sym (value-greatest p d inner)))
-
-pub end-plays : (p : Position) (d : ℕ) (w : Window) (i : ℕ) (alpha : ℤ) (n0 n1 : ℕ) → IsInner p d → PlaysWithin p d w alpha i n0 n1 → n1 ≤ n0 + cost p d w.alpha w.beta
-end-plays p d w i alpha n0 n1 inner so = rw (cost-inner p d w.alpha w.beta inner) (omega (arith, so))
 
 -- ---- from what the calls ensure
 
