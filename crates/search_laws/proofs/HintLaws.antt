@@ -1,5 +1,5 @@
 -- A move that is tried before its turn, and left out when its turn comes, over plain values.
-use Rattle.std.proofs.Common.{◌≡◌, ℕ, zero, suc, ◌+◌, ◌-◌, ◌<◌, ◌≤◌, List, [], ◌∷◌, length, drop, map, refl, sym, ap, subst, arith, ◌∙◌, ℤ, neg_ℤ, ◌≤ℤ◌, ◌<ℤ◌, Some, to_z, of_z}
+use Rattle.std.proofs.Common.{◌≡◌, ℕ, zero, suc, ◌+◌, ◌-◌, ◌<◌, ◌≤◌, List, [], ◌∷◌, length, drop, map, refl, sym, ap, subst, arith, ◌∙◌, ℤ, neg_ℤ, ◌≤ℤ◌, ◌<ℤ◌, Some, to_z, of_z, false}
 use Rattle.std.proofs.lemmas.Int.{ints, clamps, by_lt_z, to_z-of_z}
 use Rattle.std.specs.List.{slice_get}
 use Rattle.std.specs.Int.{int_max}
@@ -19,7 +19,10 @@ use Rattle.search_laws.proofs.MinimaxLaws.{value-greatest}
 use Rattle.search_laws.specs.Tries.{tried_cost}
 use Rattle.search_laws.proofs.CostLaws.{cost-inner, tries-first, tries-step, tries-falls, TriedFalls, cost-falls}
 use Rattle.search_laws.specs.declared.window.Window.{Window}
-use Rattle.search_laws.specs.Found.{IsFound}
+use Rattle.search_laws.specs.Found.{IsFound, IsOpen}
+use Rattle.search_laws.proofs.FoundLaws.{found-below, found-raises}
+use Rattle.search_laws.proofs.Signs.{below}
+use lib.Signed.{le_z}
 use Rattle.search_laws.proofs.TurnLaws.{Turn, PlaysWithin}
 
 -- ---- a move that is skipped, since it was tried before
@@ -142,3 +145,18 @@ pub raised-is : (alpha found worth r : ℤ) → SFits w32 alpha → SFits w32 fo
     int_max alpha found ≡ int_max alpha worth → to_z w32 (of_z w32 r) ≡ int_max alpha worth
 raised-is alpha found worth r fa ff fr e up =
     to_z-of_z w32 r fr ∙ e ∙ ap (λ z. int_max z (to_z w32 (of_z w32 found))) (to_z-of_z w32 alpha fa) ∙ ap (int_max alpha) (to_z-of_z w32 found ff) ∙ up
+
+-- the move that was tried first did not reach beta: alpha is raised to what it is worth
+pub record Raised (worth : ℤ) (w : Window) (alpha : ℤ) : Type 0 where
+  pub is : alpha ≡ int_max w.alpha worth
+  pub less : worth <ℤ w.beta
+
+pub first-raised : (worth found r : ℤ) (w : Window) → IsOpen w → SFits w32 w.alpha → SFits w32 w.beta → SFits w32 found → SFits w32 r →
+    r ≡ int_max (to_z w32 (of_z w32 w.alpha)) (to_z w32 (of_z w32 found)) → le_z (to_z w32 (of_z w32 w.beta)) (to_z w32 (of_z w32 found)) ≡ false →
+    IsFound worth w found → Raised worth w (to_z w32 (of_z w32 r))
+first-raised worth found r w wide fa fb ff fr e test tried =
+    let under : found <ℤ w.beta = below w.beta found fb ff test in
+    record {
+      is = raised-is w.alpha found worth r fa ff fr e (found-raises worth w found under tried);
+      less = found-below worth w found wide.open_ under tried;
+    }

@@ -1,5 +1,5 @@
 -- From the room for a search to the node that it lists, to each move of the node, and to the search behind the move.
-use Rattle.std.proofs.Common.{◌≡◌, ℕ, ◌-◌, length, refl, sym, ap, subst, arith, ◌∙◌, Some}
+use Rattle.std.proofs.Common.{◌≡◌, ℕ, ◌-◌, ◌≤◌, length, refl, sym, ap, subst, arith, ◌∙◌, Some}
 use Rattle.std.specs.List.{slice_get}
 use Rattle.hive_model.specs.declared.places.Move.{Move}
 use Rattle.hive_model.specs.Legal.{moves}
@@ -53,4 +53,16 @@ reply-room start played s m d can moved = record {
   deep = omega (arith, can.deep);
   spare = omega (arith, ap (λ (h : Course). h.spare) moved, can.spare);
   free = can.free;
+}
+
+-- what is as it was twice is as it was
+pub before-then : (a b c : Course) (r s t : Levels) → AreAsBefore a b r s → AreAsBefore b c s t → AreAsBefore a c r t
+before-then a b c r s t one two = record { game = two.game ∙ one.game; stack = two.stack ∙ one.stack }
+
+-- there is room for fewer plies, where game and stack are as before
+pub room-within : (start now : Course) (old s : Levels) (d n : ℕ) → n ≤ d → HasRoom d start old → AreAsBefore start now old s → HasRoom n now s
+room-within start now old s d n fewer room same = record {
+  deep = omega (arith, fewer, room.deep);
+  spare = omega (arith, fewer, room.spare, ap (λ (h : Course). h.spare) same.game);
+  free = omega (arith, fewer, room.free, ap (λ (l : Levels). l.free) same.stack);
 }
