@@ -1,23 +1,23 @@
 //! The best move of a position at one depth.
 
-ghost use Rattle.std.specs.Prelude.{◌≡◌, ◌+◌, ◌-◌, ◌≤◌, ◌<◌, None, Some, IfSome, false, ◌<ℤ◌, ◌≤ℤ◌, pos, neg_ℤ, negsuc, length, slice_get, nat_eq, if◌then◌else◌};
+ghost use Rattle.std.specs.Prelude.{◌≡◌, ◌+◌, ◌-◌, ◌≤◌, None, Some, IfSome, false, ◌≤ℤ◌, neg_ℤ, negsuc, slice_get, nat_eq, if◌then◌else◌};
 ghost use Rattle.std.specs.Option.{option_eq};
 ghost use Rattle.hive_model.specs.declared.places.Move.{Move as AnyMove};
-ghost use Rattle.hive_model.specs.Lists.{IsOn};
 ghost use Rattle.hive_model.specs.Legal.{is_over, moves};
 ghost use Rattle.hive_model.specs.Games.{after};
-ghost use Rattle.hive_model.specs.Minimax.{IsInner, value, best, nodes, reply_value};
+ghost use Rattle.hive_model.specs.Minimax.{value, nodes, reply_value};
 ghost use Rattle.hive_model.specs.Costs.{cost, share};
 ghost use Rattle.hive_model.specs.Courses.{position};
-ghost use Rattle.hive_model.specs.Stack.{level_of};
-ghost use Rattle.search_laws.specs.Found.{IsFound};
+ghost use Rattle.search_laws.specs.Found.{IsFound, IsOpen};
+ghost use Rattle.search_laws.specs.Nodes.{HasRoom, IsNode, CanReply, AreAsBefore};
 ghost use Rattle.search_core.specs.Times.{behind, sum_but};
 ghost use Rattle.ticker.specs.Ticks.{has_come, HasStopped, KeepsTime};
 ghost use Rattle.deepening.specs.Shares.{turns_share};
+ghost use Rattle.deepening.specs.Tops.{IsTop};
 
 use hive_model::{Best, Game, Move, MoveStack};
 use io_edge::Clock;
-use search_core::{Tried, Window, keep_found, kept_hint, reply, root_choice};
+use search_core::{Tried, Window, keep_found, reply, root_choice};
 use ticker::Ticker;
 use value_table::ValueTable;
 
@@ -56,14 +56,10 @@ pub(crate) fn best_reply<G: Game, C: Clock>(
 ) -> Option<Best>
     requires goes_on { is_over (position (G.course game.old)) ≡ false }
     requires some { 1 ≤ depth }
-    requires deep { depth ≤ 64 }
-    requires spare { depth ≤ (G.course game.old).spare }
-    requires room { depth ≤ stack.old.free }
+    requires room { HasRoom depth (G.course game.old) stack.old }
     requires early { has_come ticker.old.deadline (C.last clock.old) ≡ false }
-    ensures first { IfSome result (λ b. best (position (G.course game.old)) depth ≡ Some b.best) }
-    ensures worth { IfSome result (λ b. b.value ≡ value (position (G.course game.old)) depth) }
-    ensures game { G.course game.new ≡ G.course game.old }
-    ensures stack { stack.new ≡ stack.old }
+    ensures top { IfSome result (λ b. IsTop (position (G.course game.old)) depth b) }
+    ensures before { AreAsBefore (G.course game.old) (G.course game.new) stack.old stack.new }
     ensures stopped { result ≡ None → HasStopped ticker.old ticker.new (C.last clock.new) }
     ensures time { KeepsTime ticker.old ticker.new (C.readings clock.old) (C.readings clock.new)
         (C.last clock.old) (C.last clock.new) (nodes (position (G.course game.old)) depth) }
@@ -73,7 +69,7 @@ pub(crate) fn best_reply<G: Game, C: Clock>(
     let key = game.key();
     let level = stack.levels();
     game.list(stack);
-    let hint = root_choice(kept_hint(table, &key), game, table, stack, level);
+    let hint = root_choice(&key, game, table, stack, level);
     let found = try_all(game, level, depth, hint, stack, table, ticker, clock);
     stack.drop_level();
     let top = found?;
@@ -101,17 +97,9 @@ fn try_all<G: Game, C: Clock>(
     ticker: &mut Ticker,
     clock: &mut C,
 ) -> Option<Top>
-    requires deep { depth ≤ 64 }
-    requires inner { IsInner (position (G.course game.old)) depth }
-    requires spare { depth ≤ (G.course game.old).spare }
-    requires room { depth - 1 ≤ stack.old.free }
-    requires level { level < length stack.old.lists }
-    requires listed { level_of stack.old level ≡ moves (position (G.course game.old)) }
-    ensures first { IfSome result (λ t. best (position (G.course game.old)) depth
-        ≡ Some t.best.best) }
-    ensures worth { IfSome result (λ t. t.best.value ≡ value (position (G.course game.old)) depth) }
-    ensures game { G.course game.new ≡ G.course game.old }
-    ensures stack { stack.new ≡ stack.old }
+    requires node { IsNode depth level (G.course game.old) stack.old }
+    ensures top { IfSome result (λ t. IsTop (position (G.course game.old)) depth t.best) }
+    ensures before { AreAsBefore (G.course game.old) (G.course game.new) stack.old stack.new }
     ensures stopped { result ≡ None → HasStopped ticker.old ticker.new (C.last clock.new) }
     ensures time { KeepsTime ticker.old ticker.new (C.readings clock.old) (C.readings clock.new)
         (C.last clock.old) (C.last clock.new) (nodes (position (G.course game.old)) depth) }
@@ -151,21 +139,13 @@ fn try_in_turn<G: Game, C: Clock>(
     ticker: &mut Ticker,
     clock: &mut C,
 ) -> Option<Top>
-    requires deep { depth ≤ 64 }
-    requires inner { IsInner (position (G.course game.old)) depth }
-    requires spare { depth ≤ (G.course game.old).spare }
-    requires room { depth - 1 ≤ stack.old.free }
-    requires level { level < length stack.old.lists }
-    requires listed { level_of stack.old level ≡ moves (position (G.course game.old)) }
+    requires node { IsNode depth level (G.course game.old) stack.old }
     requires low { negsuc 1000088 ≤ℤ begun.worth }
     requires high { begun.worth ≤ℤ value (position (G.course game.old)) depth }
     requires known { IfSome begun.hint (λ i. (m : AnyMove) → slice_get (moves (position (G.course game.old))) i ≡ Some m
         → reply_value (position (G.course game.old)) (depth - 1) m ≡ begun.worth) }
-    ensures first { IfSome result (λ t. best (position (G.course game.old)) depth
-        ≡ Some t.best.best) }
-    ensures worth { IfSome result (λ t. t.best.value ≡ value (position (G.course game.old)) depth) }
-    ensures game { G.course game.new ≡ G.course game.old }
-    ensures stack { stack.new ≡ stack.old }
+    ensures top { IfSome result (λ t. IsTop (position (G.course game.old)) depth t.best) }
+    ensures before { AreAsBefore (G.course game.old) (G.course game.new) stack.old stack.new }
     ensures stopped { result ≡ None → HasStopped ticker.old ticker.new (C.last clock.new) }
     ensures time { KeepsTime ticker.old ticker.new (C.readings clock.old) (C.readings clock.new)
         (C.last clock.old) (C.last clock.new)
@@ -223,19 +203,13 @@ fn worth_of<G: Game, C: Clock>(
     ticker: &mut Ticker,
     clock: &mut C,
 ) -> Option<i32>
-    requires open_ { window.alpha <ℤ window.beta }
-    requires alpha { negsuc 1000099 ≤ℤ window.alpha }
-    requires beta { window.beta ≤ℤ pos 1000100 }
-    requires deep { depth < 64 }
-    requires legal { IsOn (moves (position (G.course game.old))) m }
-    requires spare { depth < (G.course game.old).spare }
-    requires room { depth ≤ stack.old.free }
+    requires window { IsOpen window }
+    requires can { CanReply m depth (G.course game.old) stack.old }
     requires known { begun.hint ≡ Some i → reply_value (position (G.course game.old)) depth m
         ≡ begun.worth }
     ensures found { IfSome result (λ v. IsFound (reply_value (position (G.course game.old)) depth m)
         window v) }
-    ensures game { G.course game.new ≡ G.course game.old }
-    ensures stack { stack.new ≡ stack.old }
+    ensures before { AreAsBefore (G.course game.old) (G.course game.new) stack.old stack.new }
     ensures stopped { result ≡ None → HasStopped ticker.old ticker.new (C.last clock.new) }
     ensures time { KeepsTime ticker.old ticker.new (C.readings clock.old) (C.readings clock.new) (C.last clock.old) (C.last clock.new)
         (if option_eq nat_eq begun.hint (Some i) then 0 else behind (position (G.course game.old)) depth m) }

@@ -1,4 +1,4 @@
-use Rattle.std.proofs.Common.{rules, ◌≡◌, arith, length, refl, ap, ◌∙◌, Some, pos, ◌-ℤ◌, ◌-◌, ◌≤ℤ◌, ◌<ℤ◌, to_z, of_z, ℕ}
+use Rattle.std.proofs.Common.{rules, ◌≡◌, arith, length, refl, ap, ◌∙◌, Some, pos, ◌-ℤ◌, ◌-◌, ◌≤◌, ◌≤ℤ◌, ◌<ℤ◌, to_z, of_z, ℕ}
 use Rattle.std.specs.List.{slice_get}
 use Rattle.std.proofs.lemmas.Int.{ints, to_z-of_z}
 use mir.Val.{SFits}
@@ -10,7 +10,7 @@ use Rattle.hive_model.specs.Legal.{moves}
 use Rattle.search_laws.proofs.MinimaxLaws.{moves-not_over}
 use Rattle.search_laws.proofs.Signs.{lt-true, lt-false}
 use Rattle.search_laws.specs.declared.window.Window.{Window}
-use Rattle.search_laws.proofs.LoopLaws.{on-at}
+use Rattle.search_laws.proofs.NodeLaws.{node-reply, before-then}
 use Rattle.search_laws.proofs.HintLaws.{here-in}
 use Rattle.search_core.proofs.TimeLaws.{keeps-none, keeps-more, less}
 use Rattle.deepening.proofs.RootStops.{root-from, known-at, turns-begin, turns-end, turns-stop, turn-left_of, known-time}
@@ -21,41 +21,43 @@ use Rattle.deepening.proofs.root.try_in_turn.Goals.{then-found-greatest, else-fo
 pub get-best-requires-clause-place : goal.get-best-requires-clause-place
 get-best-requires-clause-place g c =
     let p = position (g.G.Game.course c.args.game.now) in
-    let all : c.level_len-count.result ≡ length (moves p) = c.level_len-count.ensures ∙ ap length c.requires.listed in
-    omega (arith, all, c.level_len-count.ensures, moves-not_over p c.requires.inner.open_)
+    let all : c.level_len-count.result ≡ length (moves p) = c.level_len-count.ensures ∙ ap length c.requires.node.listed in
+    omega (arith, all, c.level_len-count.ensures, moves-not_over p c.requires.node.inner.open_)
 
 pub loop-i-init : goal.loop-i-init
 loop-i-init g c =
     let p = position (g.G.Game.course c.args.game.now) in
-    let small = small-value p c.args.depth c.requires.deep in
+    let small = small-value p c.args.depth c.requires.node.deep in
     record {
-      game = refl;
-      stack = refl;
-      root = root-from _ _ _ _ c.requires.inner (omega (arith, ints, c.requires.low, c.requires.high, small.high)) (omega (arith, ints, c.requires.low, c.requires.high, small.high));
+      before = record { game = refl; stack = refl };
+      root = root-from _ _ _ _ c.requires.node.inner (omega (arith, ints, c.requires.low, c.requires.high, small.high)) (omega (arith, ints, c.requires.low, c.requires.high, small.high));
       plays = turns-begin _ _ _ _ (omega (arith, ints, c.requires.low, c.requires.high, small.high));
       left = omega arith;
       time = keeps-more _ _ _ _ _ _ _ _ (omega arith) (keeps-none _ _ _);
     }
 
-pub worth_of-requires-clause-open_ : goal.worth_of-requires-clause-open_
-worth_of-requires-clause-open_ g c =
+pub worth_of-requires-clause-window : goal.worth_of-requires-clause-window
+worth_of-requires-clause-window g c =
     let p = position (g.G.Game.course c.args.game.now) in
+    let low = c.loop-i.invariant.root.low in
     let top = root-value p c.args.depth c.loop-i.i _ _ c.loop-i.invariant.root in
-    let small = small-value p c.args.depth c.requires.deep in
-    omega (arith, ints, top, small.high, c.loop-i.invariant.root.low)
+    let small = small-value p c.args.depth c.requires.node.deep in
+    record {
+      open_ = omega (arith, ints, top, small.high, low);
+      alpha = omega (arith, ints, top, small.high, low);
+      beta = omega (arith, ints);
+    }
 
-pub worth_of-requires-clause-legal : goal.worth_of-requires-clause-legal
-worth_of-requires-clause-legal g c =
-    let turn = c.loop-i.invariant in
-    let here : slice_get (moves (position (g.G.Game.course c.args.game.now))) c.loop-i.i ≡ Some c.get-m.result = here-in _ _ _ _ _ _ turn.stack c.requires.listed c.get-m.ensures in
-    rw (c.again.ensures, turn.game) (on-at _ _ _ here)
+pub worth_of-requires-clause-can : goal.worth_of-requires-clause-can
+worth_of-requires-clause-can g c =
+    rw c.again.ensures (node-reply (g.G.Game.course c.args.game.now) _ _ _ c.args.depth c.args.level c.loop-i.i c.get-m.result c.requires.node c.loop-i.invariant.before c.get-m.ensures)
 
 pub worth_of-requires-clause-known : goal.worth_of-requires-clause-known
 worth_of-requires-clause-known g c =
     let turn = c.loop-i.invariant in
     let p = position (g.G.Game.course c.args.game.now) in
-    let here : slice_get (moves p) c.loop-i.i ≡ Some c.get-m.result = here-in _ _ _ _ _ _ turn.stack c.requires.listed c.get-m.ensures in
-    λ e. rw (c.again.ensures, turn.game)
+    let here : slice_get (moves p) c.loop-i.i ≡ Some c.get-m.result = here-in _ _ _ _ _ _ turn.before.stack c.requires.node.listed c.get-m.ensures in
+    λ e. rw (c.again.ensures, turn.before.game)
     (known-at (λ (j : ℕ). (m : Move) → slice_get (moves p) j ≡ Some m → reply_value p (c.args.depth - 1) m ≡ c.args.begun.worth) c.args.begun.hint c.loop-i.i c.requires.known e c.get-m.result here)
 
 pub loop-i-preserved : goal.loop-i-preserved
@@ -64,25 +66,24 @@ loop-i-preserved g c =
     let turn = c.loop-i.invariant in
     let best = to_z w32 c.loop-i.greatest-bits in
     let top = root-value (position start) c.args.depth c.loop-i.i _ _ turn.root in
-    let small = small-value (position start) c.args.depth c.requires.deep in
+    let small = small-value (position start) c.args.depth c.requires.node.deep in
     let alpha : to_z w32 (of_z w32 (best -ℤ pos 1)) ≡ best -ℤ pos 1 = omega (arith, ints, top, small.high, turn.root.low) in
     let fits : SFits w32 c.in_ok-found.found = search rules in
-    let here : slice_get (moves (position start)) c.loop-i.i ≡ Some c.get-m.result = here-in _ _ _ _ _ _ turn.stack c.requires.listed c.get-m.ensures in
+    let here : slice_get (moves (position start)) c.loop-i.i ≡ Some c.get-m.result = here-in _ _ _ _ _ _ turn.before.stack c.requires.node.listed c.get-m.ensures in
     let fewer = turn-left_of (position start) c.args.depth c.loop-i.i c.get-m.result c.args.begun.hint here in
     let left = less _ _ _ _ fewer turn.left in
-    let time = known-time start (g.G.Game.course c.loop-i.game) c.args.depth c.loop-i.i c.get-m.result c.args.begun.hint _ _ _ _ _ _ _ _ _ turn.game here turn.left turn.time (rw c.again.ensures at c.worth_of.ensures.time) in
+    let time = known-time start (g.G.Game.course c.loop-i.game) c.args.depth c.loop-i.i c.get-m.result c.args.begun.hint _ _ _ _ _ _ _ _ _ turn.before.game here turn.left turn.time (rw c.again.ensures at c.worth_of.ensures.time) in
     let window : Window = record { alpha = to_z w32 (of_z w32 (best -ℤ pos 1)); beta = pos 1000100 } in
     let made : Tried start c.args.depth c.loop-i.i best c.loop-i.best c.get-m.result window c.in_ok-found.found
     (g.G.Game.played c.args.game.now) (g.G.Game.played c.loop-i.game) (g.G.Game.played c.worth_of.new.game) =
-    tried start _ _ _ _ _ _ _ _ _ _ _ turn.game turn.root here c.requires.deep alpha refl (rw c.again.ensures at c.in_ok-found.ensures.found) turn.plays (rw c.again.ensures at c.worth_of.ensures.played) in
+    tried start _ _ _ _ _ _ _ _ _ _ _ turn.before.game turn.root here c.requires.node.deep alpha refl (rw c.again.ensures at c.in_ok-found.ensures.found) turn.plays (rw c.again.ensures at c.worth_of.ensures.played) in
     let same : to_z w32 (of_z w32 c.in_ok-found.found) ≡ c.in_ok-found.found = to_z-of_z w32 c.in_ok-found.found fits in
     elim c.if-found-greatest.branch [
       | then-found-greatest w ↦
           let above : best <ℤ c.in_ok-found.found = rw same at (lt-true best (to_z w32 (of_z w32 c.in_ok-found.found)) w.if-found-greatest.true) in
           let kept = tried-more _ _ _ _ _ _ _ _ _ _ _ made above in
           record {
-            game = c.worth_of.ensures.game ∙ turn.game;
-            stack = c.worth_of.ensures.stack ∙ turn.stack;
+            before = before-then _ _ _ _ _ _ turn.before c.worth_of.ensures.before;
             root = rw (w.greatest-is ∙ same, w.best-is) kept.root;
             plays = rw (w.greatest-is ∙ same) kept.plays;
             left = left;
@@ -92,8 +93,7 @@ loop-i-preserved g c =
           let under : c.in_ok-found.found ≤ℤ best = rw same at (lt-false best (to_z w32 (of_z w32 c.in_ok-found.found)) w.if-found-greatest.false) in
           let kept = tried-less _ _ _ _ _ _ _ _ _ _ _ made under in
           record {
-            game = c.worth_of.ensures.game ∙ turn.game;
-            stack = c.worth_of.ensures.stack ∙ turn.stack;
+            before = before-then _ _ _ _ _ _ turn.before c.worth_of.ensures.before;
             root = rw (w.greatest-is, w.best-is) kept.root;
             plays = rw w.greatest-is kept.plays;
             left = left;
@@ -105,9 +105,9 @@ pub returns-in_err-found-clause-time : goal.returns-in_err-found-clause-time
 returns-in_err-found-clause-time g c =
     let start = g.G.Game.course c.args.game.now in
     let turn = c.loop-i.invariant in
-    let here : slice_get (moves (position start)) c.loop-i.i ≡ Some c.get-m.result = here-in _ _ _ _ _ _ turn.stack c.requires.listed c.get-m.ensures in
+    let here : slice_get (moves (position start)) c.loop-i.i ≡ Some c.get-m.result = here-in _ _ _ _ _ _ turn.before.stack c.requires.node.listed c.get-m.ensures in
     keeps-more _ _ _ _ _ _ _ _ (omega arith)
-    (known-time start (g.G.Game.course c.loop-i.game) c.args.depth c.loop-i.i c.get-m.result c.args.begun.hint _ _ _ _ _ _ _ _ _ turn.game here turn.left turn.time (rw c.again.ensures at c.worth_of.ensures.time))
+    (known-time start (g.G.Game.course c.loop-i.game) c.args.depth c.loop-i.i c.get-m.result c.args.begun.hint _ _ _ _ _ _ _ _ _ turn.before.game here turn.left turn.time (rw c.again.ensures at c.worth_of.ensures.time))
 
 pub returns-in_err-found-clause-played : goal.returns-in_err-found-clause-played
 returns-in_err-found-clause-played g c =
@@ -115,26 +115,21 @@ returns-in_err-found-clause-played g c =
     let turn = c.loop-i.invariant in
     let best = to_z w32 c.loop-i.greatest-bits in
     let top = root-value (position start) c.args.depth c.loop-i.i _ _ turn.root in
-    let small = small-value (position start) c.args.depth c.requires.deep in
+    let small = small-value (position start) c.args.depth c.requires.node.deep in
     let alpha : to_z w32 (of_z w32 (best -ℤ pos 1)) ≡ best -ℤ pos 1 = omega (arith, ints, top, small.high, turn.root.low) in
-    let here : slice_get (moves (position start)) c.loop-i.i ≡ Some c.get-m.result = here-in _ _ _ _ _ _ turn.stack c.requires.listed c.get-m.ensures in
+    let here : slice_get (moves (position start)) c.loop-i.i ≡ Some c.get-m.result = here-in _ _ _ _ _ _ turn.before.stack c.requires.node.listed c.get-m.ensures in
     let window : Window = record { alpha = to_z w32 (of_z w32 (best -ℤ pos 1)); beta = pos 1000100 } in
-    turns-stop start (g.G.Game.course c.loop-i.game) c.args.depth c.loop-i.i best c.get-m.result window _ _ _ turn.game here alpha refl turn.plays (rw c.again.ensures at c.worth_of.ensures.played)
+    turns-stop start (g.G.Game.course c.loop-i.game) c.args.depth c.loop-i.i best c.get-m.result window _ _ _ turn.before.game here alpha refl turn.plays (rw c.again.ensures at c.worth_of.ensures.played)
 
 pub returns-clause-time : goal.returns-clause-time
 returns-clause-time g c = keeps-more _ _ _ _ _ _ _ _ (omega arith) c.loop-i.invariant.time
 
-pub returns-clause-first : goal.returns-clause-first
-returns-clause-first g c =
+pub returns-clause-top : goal.returns-clause-top
+returns-clause-top g c =
     let p = position (g.G.Game.course c.args.game.now) in
-    let all : c.level_len-count.result ≡ length (moves p) = c.level_len-count.ensures ∙ ap length c.requires.listed in
-    root-best _ _ _ _ _ c.requires.inner c.loop-i.invariant.root (omega (arith, all, c.loop-i-test.false))
-
-pub returns-clause-worth : goal.returns-clause-worth
-returns-clause-worth g c =
-    let p = position (g.G.Game.course c.args.game.now) in
-    let all : c.level_len-count.result ≡ length (moves p) = c.level_len-count.ensures ∙ ap length c.requires.listed in
-    root-end _ _ _ _ _ c.loop-i.invariant.root (omega (arith, all, c.loop-i-test.false))
+    let all : c.level_len-count.result ≡ length (moves p) = c.level_len-count.ensures ∙ ap length c.requires.node.listed in
+    let past : length (moves p) ≤ c.loop-i.i = omega (arith, all, c.loop-i-test.false) in
+    record { first = root-best _ _ _ _ _ c.requires.node.inner c.loop-i.invariant.root past; worth = root-end _ _ _ _ _ c.loop-i.invariant.root past }
 
 pub returns-clause-played : goal.returns-clause-played
 returns-clause-played g c = turns-end _ _ _ _ _ _ c.loop-i.invariant.plays
