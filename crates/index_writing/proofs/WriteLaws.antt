@@ -1,8 +1,7 @@
 -- What is written piece by piece, and the least indices of a node.
 use Rattle.std.proofs.Common.{◌≡◌, ℕ, zero, suc, ◌+◌, ◌-◌, ◌<◌, ◌≤◌, Bool, true, false, cond, List, [], ◌∷◌, ◌++◌, length, take, drop, refl, sym, ap, subst, arith, ◌∙◌, Some, None, inl, inr}
-use Rattle.std.specs.Prelude.{◌+ℤ◌}
 use Rattle.search_laws.proofs.LoopLaws.{drop-at, drop-all}
-use Rattle.std.specs.Prelude.{ℤ, pos, neg_ℤ, ◌-ℤ◌, ◌≤ℤ◌, slice_get}
+use Rattle.std.specs.Prelude.{ℤ, pos, neg_ℤ, ◌-ℤ◌, slice_get}
 use Rattle.std.specs.List.{flat_map, position_from}
 use Rattle.std.proofs.lemmas.Grind.{flat_map-append}
 use Rattle.std.proofs.lemmas.List.{take-append-le, append-nil, length-append}
@@ -15,9 +14,7 @@ use Rattle.hive_model.specs.Legal.{moves}
 use Rattle.hive_model.specs.Games.{after}
 use Rattle.hive_model.specs.Courses.{Course, position, with_move}
 use Rattle.hive_model.specs.Minimax.{IsInner, value}
-use Rattle.search_laws.specs.Found.{IsFound}
-use Rattle.search_laws.specs.declared.window.Window.{Window}
-use Rattle.std.proofs.lemmas.Int.{by_lt_z, ints}
+use Rattle.std.proofs.lemmas.Int.{ints}
 use Rattle.claim_walks.proofs.SoundLaws.{keeps-true, true-keeps}
 use Rattle.search_laws.specs.Leaves.{IsLeaf}
 use Rattle.search_laws.specs.Laws.{IsSmall}
@@ -167,22 +164,6 @@ kept-same c v w forth back =
     no true e g = let yes_ : is_kept c w ≡ true = true-keeps c w (back (keeps-true c v e)) in absurd (cc)
     no false e g = sym e
 
-pub found-most : (x v w : ℤ) (window : Window) → window.alpha ≡ x → window.beta ≡ x +ℤ pos 1 → IsFound v window w → is_kept (AtMost x) w ≡ is_kept (AtMost x) v
-found-most x v w window low high found =
-    kept-same (AtMost x) v w
-    (λ k. let under : v ≤ℤ w = found.upper (omega (arith, ints, k, low)) in omega (arith, ints, k, under))
-    (λ k. by_lt_z w (x +ℤ pos 1)
-    (λ less. omega (arith, ints, less))
-    (λ more. let over : w ≤ℤ v = found.lower (omega (arith, ints, more, high)) in omega (arith, ints, over, k)))
-
-pub found-least : (x v w : ℤ) (window : Window) → window.alpha ≡ x -ℤ pos 1 → window.beta ≡ x → IsFound v window w → is_kept (AtLeast x) w ≡ is_kept (AtLeast x) v
-found-least x v w window low high found =
-    kept-same (AtLeast x) v w
-    (λ k. let over : w ≤ℤ v = found.lower (omega (arith, ints, k, high)) in omega (arith, ints, k, over))
-    (λ k. by_lt_z w x
-    (λ less. let under : v ≤ℤ w = found.upper (omega (arith, ints, less, low)) in omega (arith, ints, under, k))
-    (λ more. more))
-
 -- ---- the code
 
 pub child-written : (start played : Course) (m : Move) (e : ℕ) (c : Limit) (r : Bool) (a b : Told) → played ≡ with_move start m →
@@ -252,9 +233,6 @@ find-step p e c i m here so not = position-step (keeps_below p e c) (λ n. []) (
 pub find-met : (p : Position) (e : ℕ) (c : Limit) (i : ℕ) (m : Move) → slice_get (moves p) i ≡ Some m → first_kept p e c (moves p) ≡ position_from (keeps_below p e c) i (drop i (moves p)) → keeps_below p e c m ≡ true →
     Some i ≡ first_kept p e c (moves p)
 find-met p e c i m here so yes_ = position-met (keeps_below p e c) (λ n. []) (moves p) i m so here yes_
-
-pub find-past : (p : Position) (e : ℕ) (c : Limit) (i : ℕ) → first_kept p e c (moves p) ≡ position_from (keeps_below p e c) i (drop i (moves p)) → length (moves p) ≤ i → None ≡ first_kept p e c (moves p)
-find-past p e c i so past = position-none (keeps_below p e c) (λ n. []) (moves p) i so past
 
 pub kept-at : (start now : Course) (e : ℕ) (c : Limit) (m : Move) (r b : Bool) → now ≡ start → r ≡ keeps_below (position now) e c m → r ≡ b → keeps_below (position start) e c m ≡ b
 kept-at start now e c m r b same kept is = ap (λ (g : Course). keeps_below (position g) e c m) (sym same) ∙ sym kept ∙ is
