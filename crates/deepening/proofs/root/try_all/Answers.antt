@@ -6,11 +6,11 @@ use Rattle.hive_model.specs.Minimax.{reply_value}
 use Rattle.hive_model.specs.Courses.{position}
 use Rattle.hive_model.specs.Legal.{moves}
 use Rattle.search_laws.specs.declared.window.Window.{Window}
-use Rattle.search_laws.proofs.NodeLaws.{node-again, node-reply}
+use Rattle.search_laws.proofs.NodeLaws.{node-again, node-at, node-reply}
 use Rattle.search_laws.proofs.HintLaws.{here-in, reply-low}
 use Rattle.search_laws.proofs.RootLaws.{small-value}
 use Rattle.search_core.proofs.TimeLaws.{one-time, both-time, rest-time}
-use Rattle.deepening.proofs.RootStops.{first-exact, reply-least, turns-within, first-then-turns, first-alone, known-here, turns-here}
+use Rattle.deepening.proofs.RootStops.{first-known, reply-least, turns-within, first-then-turns, first-alone, known-here, turns-here}
 use Rattle.deepening.proofs.root.try_all.Goals as goal
 
 pub reply-requires-clause-window : goal.reply-requires-clause-window
@@ -26,65 +26,46 @@ try_in_turn-requires-clause-node g c = node-again _ _ _ _ _ _ c.requires.node c.
 pub returns-in_err-worth-clause-time : goal.returns-in_err-worth-clause-time
 returns-in_err-worth-clause-time g c =
     let start = g.G.Game.course c.args.game.now in
-    let here : slice_get (moves (position start)) c.in-Some.first ≡ Some c.get-m.result =
-    here-in c.args.stack.now c.args.stack.now c.args.level c.in-Some.first (moves (position start)) c.get-m.result refl c.requires.node.listed c.get-m.ensures in
+    let here = node-at start _ _ c.args.depth c.args.level c.in-Some.first c.get-m.result c.requires.node refl c.get-m.ensures in
     one-time start start c.args.depth c.in-Some.first c.get-m.result _ _ _ _ _ _ c.requires.node.inner here refl c.reply.ensures.time
 
 pub returns-in_err-worth-clause-played : goal.returns-in_err-worth-clause-played
 returns-in_err-worth-clause-played g c =
     let start = g.G.Game.course c.args.game.now in
-    let here : slice_get (moves (position start)) c.in-Some.first ≡ Some c.get-m.result =
-    here-in c.args.stack.now c.args.stack.now c.args.level c.in-Some.first (moves (position start)) c.get-m.result refl c.requires.node.listed c.get-m.ensures in
+    let here = node-at start _ _ c.args.depth c.args.level c.in-Some.first c.get-m.result c.requires.node refl c.get-m.ensures in
     first-alone (position start) c.args.depth c.in-Some.first c.get-m.result _ _ _ _ here refl refl c.reply.ensures.played
 
 pub try_in_turn-requires-clause-low : goal.try_in_turn-requires-clause-low
 try_in_turn-requires-clause-low g c =
     let start = g.G.Game.course c.args.game.now in
-    let here : slice_get (moves (position start)) c.in-Some.first ≡ Some c.get-m.result =
-    here-in c.args.stack.now c.args.stack.now c.args.level c.in-Some.first (moves (position start)) c.get-m.result refl c.requires.node.listed c.get-m.ensures in
-    let window : Window = record { alpha = negsuc 1000090; beta = pos 1000100 } in
-    let number : to_z w32 (of_z w32 c.in_ok-worth.worth) ≡ c.in_ok-worth.worth = to_z-of_z w32 c.in_ok-worth.worth (search rules) in
-    let exact : c.in_ok-worth.worth ≡ reply_value (position start) (c.args.depth - 1) c.get-m.result =
-    first-exact (position start) c.args.depth c.get-m.result window c.in_ok-worth.worth c.requires.node.deep refl refl c.in_ok-worth.ensures.found in
+    let first = first-known start _ c.args.depth c.args.level c.in-Some.first c.get-m.result c.in_ok-worth.worth c.requires.node c.get-m.ensures (search rules) c.in_ok-worth.ensures.found in
     let least = reply-least (position start) c.args.depth c.get-m.result c.requires.node.deep in
-    rw (number, exact) (omega (arith, ints, least))
+    rw first.exact (omega (arith, ints, least))
 
 pub try_in_turn-requires-clause-high : goal.try_in_turn-requires-clause-high
 try_in_turn-requires-clause-high g c =
     let start = g.G.Game.course c.args.game.now in
-    let here : slice_get (moves (position start)) c.in-Some.first ≡ Some c.get-m.result =
-    here-in c.args.stack.now c.args.stack.now c.args.level c.in-Some.first (moves (position start)) c.get-m.result refl c.requires.node.listed c.get-m.ensures in
-    let window : Window = record { alpha = negsuc 1000090; beta = pos 1000100 } in
-    let number : to_z w32 (of_z w32 c.in_ok-worth.worth) ≡ c.in_ok-worth.worth = to_z-of_z w32 c.in_ok-worth.worth (search rules) in
-    let exact : c.in_ok-worth.worth ≡ reply_value (position start) (c.args.depth - 1) c.get-m.result =
-    first-exact (position start) c.args.depth c.get-m.result window c.in_ok-worth.worth c.requires.node.deep refl refl c.in_ok-worth.ensures.found in
-    let most = reply-low (position start) c.args.depth c.in-Some.first c.get-m.result c.requires.node.inner here in
-    rw (number, exact, c.reply.ensures.before.game) most
+    let first = first-known start _ c.args.depth c.args.level c.in-Some.first c.get-m.result c.in_ok-worth.worth c.requires.node c.get-m.ensures (search rules) c.in_ok-worth.ensures.found in
+    let most = reply-low (position start) c.args.depth c.in-Some.first c.get-m.result c.requires.node.inner first.here in
+    rw (first.exact, c.reply.ensures.before.game) most
 
 pub try_in_turn-requires-clause-known : goal.try_in_turn-requires-clause-known
 try_in_turn-requires-clause-known g c =
     let start = g.G.Game.course c.args.game.now in
-    let here : slice_get (moves (position start)) c.in-Some.first ≡ Some c.get-m.result =
-    here-in c.args.stack.now c.args.stack.now c.args.level c.in-Some.first (moves (position start)) c.get-m.result refl c.requires.node.listed c.get-m.ensures in
-    let window : Window = record { alpha = negsuc 1000090; beta = pos 1000100 } in
-    let number : to_z w32 (of_z w32 c.in_ok-worth.worth) ≡ c.in_ok-worth.worth = to_z-of_z w32 c.in_ok-worth.worth (search rules) in
-    let exact : c.in_ok-worth.worth ≡ reply_value (position start) (c.args.depth - 1) c.get-m.result =
-    first-exact (position start) c.args.depth c.get-m.result window c.in_ok-worth.worth c.requires.node.deep refl refl c.in_ok-worth.ensures.found in
-    known-here start (g.G.Game.course c.reply.new.game) c.args.depth c.in-Some.first c.get-m.result (to_z w32 (of_z w32 c.in_ok-worth.worth)) c.reply.ensures.before.game here (number ∙ exact)
+    let first = first-known start _ c.args.depth c.args.level c.in-Some.first c.get-m.result c.in_ok-worth.worth c.requires.node c.get-m.ensures (search rules) c.in_ok-worth.ensures.found in
+    known-here start (g.G.Game.course c.reply.new.game) c.args.depth c.in-Some.first c.get-m.result (to_z w32 (of_z w32 c.in_ok-worth.worth)) c.reply.ensures.before.game first.here first.exact
 
 pub returns-then-first-level_len-clause-time : goal.returns-then-first-level_len-clause-time
 returns-then-first-level_len-clause-time g c =
     let start = g.G.Game.course c.args.game.now in
-    let here : slice_get (moves (position start)) c.in-Some.first ≡ Some c.get-m.result =
-    here-in c.args.stack.now c.args.stack.now c.args.level c.in-Some.first (moves (position start)) c.get-m.result refl c.requires.node.listed c.get-m.ensures in
+    let here = node-at start _ _ c.args.depth c.args.level c.in-Some.first c.get-m.result c.requires.node refl c.get-m.ensures in
     both-time start start (g.G.Game.course c.reply.new.game) c.args.depth c.in-Some.first c.get-m.result (Some c.in-Some.first) _ _ _ _ _ _ _ _ _
     c.requires.node.inner here refl refl c.reply.ensures.before.game c.reply.ensures.time c.try_in_turn.ensures.time
 
 pub returns-then-first-level_len-clause-played : goal.returns-then-first-level_len-clause-played
 returns-then-first-level_len-clause-played g c =
     let start = g.G.Game.course c.args.game.now in
-    let here : slice_get (moves (position start)) c.in-Some.first ≡ Some c.get-m.result =
-    here-in c.args.stack.now c.args.stack.now c.args.level c.in-Some.first (moves (position start)) c.get-m.result refl c.requires.node.listed c.get-m.ensures in
+    let here = node-at start _ _ c.args.depth c.args.level c.in-Some.first c.get-m.result c.requires.node refl c.get-m.ensures in
     first-then-turns (position start) c.args.depth c.in-Some.first c.get-m.result _ _ _ _ _ here refl refl c.reply.ensures.played
     (turns-here start (g.G.Game.course c.reply.new.game) c.args.depth _ _ c.reply.ensures.before.game c.try_in_turn.ensures.played)
 

@@ -13,7 +13,7 @@ use Rattle.search_laws.specs.declared.window.Window.{Window}
 use Rattle.search_laws.proofs.NodeLaws.{node-reply, before-then}
 use Rattle.search_laws.proofs.HintLaws.{here-in}
 use Rattle.search_core.proofs.TimeLaws.{keeps-none, keeps-more, less}
-use Rattle.deepening.proofs.RootStops.{root-from, known-at, turns-begin, turns-end, turns-stop, turn-left_of, known-time}
+use Rattle.deepening.proofs.RootStops.{root-from, root-alpha, known-at, turns-begin, turns-end, turns-stop, turn-left_of, known-time}
 use Rattle.search_laws.proofs.RootLaws.{Tried, tried, tried-more, tried-less, root-best, root-end, root-value, small-value}
 use Rattle.deepening.proofs.root.try_in_turn.Goals as goal
 use Rattle.deepening.proofs.root.try_in_turn.Goals.{then-found-greatest, else-found-greatest}
@@ -65,9 +65,7 @@ loop-i-preserved g c =
     let start = g.G.Game.course c.args.game.now in
     let turn = c.loop-i.invariant in
     let best = to_z w32 c.loop-i.greatest-bits in
-    let top = root-value (position start) c.args.depth c.loop-i.i _ _ turn.root in
-    let small = small-value (position start) c.args.depth c.requires.node.deep in
-    let alpha : to_z w32 (of_z w32 (best -ℤ pos 1)) ≡ best -ℤ pos 1 = omega (arith, ints, top, small.high, turn.root.low) in
+    let alpha = root-alpha (position start) c.args.depth c.loop-i.i best c.loop-i.best c.requires.node.deep turn.root in
     let fits : SFits w32 c.in_ok-found.found = search rules in
     let here : slice_get (moves (position start)) c.loop-i.i ≡ Some c.get-m.result = here-in _ _ _ _ _ _ turn.before.stack c.requires.node.listed c.get-m.ensures in
     let fewer = turn-left_of (position start) c.args.depth c.loop-i.i c.get-m.result c.args.begun.hint here in
@@ -114,9 +112,7 @@ returns-in_err-found-clause-played g c =
     let start = g.G.Game.course c.args.game.now in
     let turn = c.loop-i.invariant in
     let best = to_z w32 c.loop-i.greatest-bits in
-    let top = root-value (position start) c.args.depth c.loop-i.i _ _ turn.root in
-    let small = small-value (position start) c.args.depth c.requires.node.deep in
-    let alpha : to_z w32 (of_z w32 (best -ℤ pos 1)) ≡ best -ℤ pos 1 = omega (arith, ints, top, small.high, turn.root.low) in
+    let alpha = root-alpha (position start) c.args.depth c.loop-i.i best c.loop-i.best c.requires.node.deep turn.root in
     let here : slice_get (moves (position start)) c.loop-i.i ≡ Some c.get-m.result = here-in _ _ _ _ _ _ turn.before.stack c.requires.node.listed c.get-m.ensures in
     let window : Window = record { alpha = to_z w32 (of_z w32 (best -ℤ pos 1)); beta = pos 1000100 } in
     turns-stop start (g.G.Game.course c.loop-i.game) c.args.depth c.loop-i.i best c.get-m.result window _ _ _ turn.before.game here alpha refl turn.plays (rw c.again.ensures at c.worth_of.ensures.played)
