@@ -1,6 +1,6 @@
 -- A position is worth so much exactly where a legal move is.
-use Rattle.std.proofs.Common.{◌≡◌, ℕ, ◌+◌, ◌-◌, ◌≤◌, Bool, true, false, List, length, drop, sym, ap, arith, ◌∙◌, ℤ, pos, neg_ℤ, ◌≤ℤ◌, ◌<ℤ◌, Option, Some, None}
-use Rattle.std.specs.Prelude.{IsTrue, IfSome, IsSomeAnd, not, int_le, ◌-ℤ◌, ◌+ℤ◌, ◌||◌}
+use Rattle.std.proofs.Common.{◌≡◌, ℕ, ◌+◌, ◌-◌, ◌≤◌, Bool, true, false, List, drop, sym, ap, arith, ◌∙◌, ℤ, pos, neg_ℤ, ◌≤ℤ◌, ◌<ℤ◌, Option, Some, None}
+use Rattle.std.specs.Prelude.{IsTrue, IfSome, IsSomeAnd, not, int_le, ◌-ℤ◌, ◌||◌}
 use Rattle.std.proofs.lemmas.Int.{ints}
 use Rattle.std.specs.List.{slice_get, list_any}
 use Rattle.hive_model.specs.declared.places.Move.{Move}
@@ -12,7 +12,7 @@ use Rattle.hive_model.specs.Games.{after}
 use Rattle.hive_model.specs.Courses.{Course, position, with_move}
 use Rattle.hive_model.proofs.RuleLaws.{any_has, has_any}
 use Rattle.search_laws.proofs.CourseLaws.{position-with_move}
-use Rattle.search_laws.proofs.LoopLaws.{on-at, drop-at, drop-all}
+use Rattle.search_laws.proofs.LoopLaws.{on-at, drop-at}
 use Rattle.search_laws.proofs.BestLaws.{greatest-met}
 use Rattle.search_laws.proofs.HintLaws.{reply-low}
 use Rattle.search_laws.proofs.MinimaxLaws.{moves-not_over, value-greatest}
@@ -54,9 +54,6 @@ one-reaches p d i n m inner here is =
 pub any-step : (f : Move → Bool) (ms : List Move) (i : ℕ) (m : Move) (b : Bool) → slice_get ms i ≡ Some m → f m ≡ false → list_any f (drop i ms) ≡ b → list_any f (drop (i + 1) ms) ≡ b
 any-step f ms i m b here fails so = sym (ap (list_any f) (drop-at ms i m here) ∙ ap (λ t. t || list_any f (drop (i + 1) ms)) fails) ∙ so
 
-pub any-end : (f : Move → Bool) (ms : List Move) (i : ℕ) (b : Bool) → length ms ≤ i → list_any f (drop i ms) ≡ b → false ≡ b
-any-end f ms i b past so = sym (ap (list_any f) (drop-all ms i past)) ∙ so
-
 -- what is worth so much to one side is not worth more than the opposite to the other
 pub turned-reaches : (n v : ℤ) → not (int_le (pos 1 -ℤ n) v) ≡ int_le n (neg_ℤ v)
 turned-reaches n v = bool-is (not (int_le (pos 1 -ℤ n) v)) (int_le n (neg_ℤ v)) (λ e. grind (arith, ints)) (λ e. grind (arith, ints))
@@ -71,9 +68,6 @@ more-is n v more = grind (arith, ints)
 
 pub under-is : (n k v : ℤ) → k ≡ n -ℤ pos 1 → int_le n v ≡ false → int_le v k ≡ true
 under-is n k v one less = grind (arith, ints)
-
-pub at_most-is : (n k v : ℤ) → k ≡ n +ℤ pos 1 → not (int_le k v) ≡ int_le v n
-at_most-is n k v one = bool-is (not (int_le k v)) (int_le v n) (λ e. grind (arith, ints)) (λ e. grind (arith, ints))
 
 -- ---- from what the calls ensure
 

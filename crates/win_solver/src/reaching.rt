@@ -1,24 +1,10 @@
 //! Whether a position is worth so much to its side to move.
 
-ghost use Rattle.std.specs.Prelude.{
-  ◌≡◌,
-  ◌-◌,
-  ◌<◌,
-  ◌≤◌,
-  ◌≤ℤ◌,
-  int_le,
-  length,
-  negsuc,
-  pos,
-  is_some,
-  IsSome,
-  IsTrue,
-};
-ghost use Rattle.hive_model.specs.Lists.{IsOn};
-ghost use Rattle.hive_model.specs.Legal.{moves};
+ghost use Rattle.std.specs.Prelude.{◌≡◌, int_le, is_some, IsSome, IsTrue};
 ghost use Rattle.hive_model.specs.Minimax.{IsInner, value, reply_value};
 ghost use Rattle.hive_model.specs.Courses.{position};
-ghost use Rattle.hive_model.specs.Stack.{level_of};
+ghost use Rattle.search_laws.specs.Nodes.{HasRoom, IsNode, CanReply, AreAsBefore};
+ghost use Rattle.win_solver.specs.Asked.{CanBeAsked};
 
 use crate::facts::{GREATEST_EVALUATION, keep_answer, leaf_reaches, told_by};
 use hive_model::{Game, Move, MoveStack};
@@ -37,14 +23,10 @@ pub(crate) fn reaches<G: Game>(
     stack: &mut MoveStack,
     table: &mut ValueTable,
 ) -> bool
-    requires low { negsuc 1000099 ≤ℤ least }
-    requires high { least ≤ℤ pos 1000101 }
-    requires deep { depth ≤ 64 }
-    requires spare { depth ≤ (G.course game.old).spare }
-    requires room { depth ≤ stack.old.free }
+    requires asked { CanBeAsked least }
+    requires room { HasRoom depth (G.course game.old) stack.old }
     ensures reached { result ≡ int_le least (value (position (G.course game.old)) depth) }
-    ensures game { G.course game.new ≡ G.course game.old }
-    ensures stack { stack.new ≡ stack.old }
+    ensures before { AreAsBefore (G.course game.old) (G.course game.new) stack.old stack.new }
 {
     if let Some(known) = leaf_reaches(game, depth, least) {
         return known;
@@ -72,14 +54,11 @@ fn reaches_at_once<G: Game>(
     stack: &mut MoveStack,
     table: &mut ValueTable,
 ) -> bool
-    requires low { negsuc 1000099 ≤ℤ least }
-    requires high { least ≤ℤ pos 1000101 }
+    requires asked { CanBeAsked least }
     requires inner { IsInner (position (G.course game.old)) 1 }
-    requires spare { 1 ≤ (G.course game.old).spare }
-    requires room { 1 ≤ stack.old.free }
+    requires room { HasRoom 1 (G.course game.old) stack.old }
     ensures reached { result ≡ int_le least (value (position (G.course game.old)) 1) }
-    ensures game { G.course game.new ≡ G.course game.old }
-    ensures stack { stack.new ≡ stack.old }
+    ensures before { AreAsBefore (G.course game.old) (G.course game.new) stack.old stack.new }
 {
     if least > GREATEST_EVALUATION && is_far_from_win(game) {
         return false;
@@ -101,15 +80,11 @@ fn find_reply<G: Game>(
     stack: &mut MoveStack,
     table: &mut ValueTable,
 ) -> Option<u32>
-    requires low { negsuc 1000099 ≤ℤ least }
-    requires high { least ≤ℤ pos 1000101 }
-    requires deep { depth ≤ 64 }
+    requires asked { CanBeAsked least }
     requires inner { IsInner (position (G.course game.old)) depth }
-    requires spare { depth ≤ (G.course game.old).spare }
-    requires room { depth ≤ stack.old.free }
+    requires room { HasRoom depth (G.course game.old) stack.old }
     ensures found { is_some result ≡ int_le least (value (position (G.course game.old)) depth) }
-    ensures game { G.course game.new ≡ G.course game.old }
-    ensures stack { stack.new ≡ stack.old }
+    ensures before { AreAsBefore (G.course game.old) (G.course game.new) stack.old stack.new }
 {
     let level = stack.levels();
     game.list(stack);
@@ -129,17 +104,10 @@ fn first_reply<G: Game>(
     stack: &mut MoveStack,
     table: &mut ValueTable,
 ) -> Option<u32>
-    requires low { negsuc 1000099 ≤ℤ least }
-    requires high { least ≤ℤ pos 1000101 }
-    requires deep { depth ≤ 64 }
-    requires inner { IsInner (position (G.course game.old)) depth }
-    requires spare { depth ≤ (G.course game.old).spare }
-    requires room { depth - 1 ≤ stack.old.free }
-    requires level { level < length stack.old.lists }
-    requires listed { level_of stack.old level ≡ moves (position (G.course game.old)) }
+    requires asked { CanBeAsked least }
+    requires node { IsNode depth level (G.course game.old) stack.old }
     ensures found { is_some result ≡ int_le least (value (position (G.course game.old)) depth) }
-    ensures game { G.course game.new ≡ G.course game.old }
-    ensures stack { stack.new ≡ stack.old }
+    ensures before { AreAsBefore (G.course game.old) (G.course game.new) stack.old stack.new }
 {
     let hinted = hinted_reply(game, level, depth, least, hint, stack, table);
     if hinted.is_some() {
@@ -168,18 +136,11 @@ fn hinted_reply<G: Game>(
     stack: &mut MoveStack,
     table: &mut ValueTable,
 ) -> Option<u32>
-    requires low { negsuc 1000099 ≤ℤ least }
-    requires high { least ≤ℤ pos 1000101 }
-    requires deep { depth ≤ 64 }
-    requires inner { IsInner (position (G.course game.old)) depth }
-    requires spare { depth ≤ (G.course game.old).spare }
-    requires room { depth - 1 ≤ stack.old.free }
-    requires level { level < length stack.old.lists }
-    requires listed { level_of stack.old level ≡ moves (position (G.course game.old)) }
+    requires asked { CanBeAsked least }
+    requires node { IsNode depth level (G.course game.old) stack.old }
     ensures found { IsSome result
         → IsTrue (int_le least (value (position (G.course game.old)) depth)) }
-    ensures game { G.course game.new ≡ G.course game.old }
-    ensures stack { stack.new ≡ stack.old }
+    ensures before { AreAsBefore (G.course game.old) (G.course game.new) stack.old stack.new }
 {
     let place = first_choice(hint, game, table, stack, level)?;
     if place >= stack.level_len(level) {
@@ -203,16 +164,11 @@ fn reply_reaches<G: Game>(
     stack: &mut MoveStack,
     table: &mut ValueTable,
 ) -> bool
-    requires low { negsuc 1000099 ≤ℤ least }
-    requires high { least ≤ℤ pos 1000101 }
-    requires deep { depth < 64 }
-    requires legal { IsOn (moves (position (G.course game.old))) m }
-    requires spare { depth < (G.course game.old).spare }
-    requires room { depth ≤ stack.old.free }
+    requires asked { CanBeAsked least }
+    requires can { CanReply m depth (G.course game.old) stack.old }
     ensures reached { result
         ≡ int_le least (reply_value (position (G.course game.old)) depth m) }
-    ensures game { G.course game.new ≡ G.course game.old }
-    ensures stack { stack.new ≡ stack.old }
+    ensures before { AreAsBefore (G.course game.old) (G.course game.new) stack.old stack.new }
 {
     game.play(m);
     let answered = reaches(game, depth, 1 - least, stack, table);
@@ -229,14 +185,10 @@ pub(crate) fn deepen<G: Game>(
     stack: &mut MoveStack,
     table: &mut ValueTable,
 ) -> bool
-    requires low { negsuc 1000099 ≤ℤ least }
-    requires high { least ≤ℤ pos 1000101 }
-    requires deep { depth ≤ 64 }
-    requires spare { depth ≤ (G.course game.old).spare }
-    requires room { depth ≤ stack.old.free }
+    requires asked { CanBeAsked least }
+    requires room { HasRoom depth (G.course game.old) stack.old }
     ensures reached { result ≡ int_le least (value (position (G.course game.old)) depth) }
-    ensures game { G.course game.new ≡ G.course game.old }
-    ensures stack { stack.new ≡ stack.old }
+    ensures before { AreAsBefore (G.course game.old) (G.course game.new) stack.old stack.new }
 {
     for shallow in 1..depth {
         let _ = reaches(game, shallow, least, stack, table);

@@ -1,13 +1,9 @@
-use Rattle.std.proofs.Common.{rules, ◌≡◌, arith, refl, ◌∙◌, Some, pos, negsuc, ◌-◌, to_z, of_z}
-use Rattle.std.specs.List.{slice_get}
-use Rattle.std.proofs.lemmas.Int.{ints, to_z-of_z}
+use Rattle.std.proofs.Common.{rules, arith, refl, Some, ◌-◌, to_z, of_z}
+use Rattle.std.proofs.lemmas.Int.{ints}
 use mir.Syntax.{w32}
-use Rattle.hive_model.specs.Minimax.{reply_value}
 use Rattle.hive_model.specs.Courses.{position}
-use Rattle.hive_model.specs.Legal.{moves}
-use Rattle.search_laws.specs.declared.window.Window.{Window}
 use Rattle.search_laws.proofs.NodeLaws.{node-again, node-at, node-reply}
-use Rattle.search_laws.proofs.HintLaws.{here-in, reply-low}
+use Rattle.search_laws.proofs.HintLaws.{reply-low}
 use Rattle.search_laws.proofs.RootLaws.{small-value}
 use Rattle.search_core.proofs.TimeLaws.{one-time, both-time, rest-time}
 use Rattle.deepening.proofs.RootStops.{first-known, reply-least, turns-within, first-then-turns, first-alone, known-here, turns-here}

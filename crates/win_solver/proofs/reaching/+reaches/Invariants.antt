@@ -4,6 +4,7 @@ use Rattle.std.specs.List.{list_any}
 use Rattle.hive_model.specs.Legal.{moves}
 use Rattle.hive_model.specs.Minimax.{value}
 use Rattle.hive_model.specs.Courses.{position}
+use Rattle.search_laws.specs.Nodes.{AreAsBefore}
 use Rattle.win_solver.proofs.ReachLaws.{reply_reaches}
 use Rattle.win_solver.proofs.reaching.+reaches.Given as goal
 
@@ -29,7 +30,6 @@ abbrev pub invariant-first_reply-loop-i : goal.invariant-first_reply-loop-i
 invariant-first_reply-loop-i g l =
     let p = position (g.G.Game.course l.fn.game) in
     record {
-      game : g.G.Game.course l.game ≡ g.G.Game.course l.fn.game;
-      stack : l.stack ≡ l.fn.stack;
+      before : AreAsBefore (g.G.Game.course l.fn.game) (g.G.Game.course l.game) l.fn.stack l.stack;
       rest : list_any (reply_reaches p (l.depth - 1) l.least) (drop l.i (moves p)) ≡ int_le l.least (value p l.depth);
     }
