@@ -4,10 +4,8 @@ use Rattle.std.proofs.lemmas.List.{length-map}
 use Rattle.std.specs.List.{All}
 use Rattle.hive_model.specs.declared.pieces.GameType.{GameType}
 use Rattle.hive_model.specs.declared.places.Move.{Move}
-use Rattle.hive_model.specs.Positions.{opening}
-use Rattle.hive_model.specs.Games.{replay}
 use Rattle.hive_model.specs.Courses.{Course}
-use Rattle.root_share.specs.Answer.{root_of, AreEqualGames, IsGameOf}
+use Rattle.root_share.specs.Answer.{AreEqualGames, IsGameOf}
 use Rattle.root_share.proofs.BestLaws.{get_or-map}
 
 get_or-same : {A : Type 0} (xs : List A) (k : ℕ) (d e : A) → k < length xs → get_or xs k d ≡ get_or xs k e
@@ -32,9 +30,3 @@ equal-games t ms room (c ∷ cs) all =
 
 pub all-spare : (t : GameType) (ms : List Move) (room : ℕ) (cs : List Course) → All (IsGameOf t ms room) cs → All (λ c. room ≤ c.spare) cs
 all-spare t ms room cs all k d h = let each : IsGameOf t ms room (get_or cs k d) = all k d h in each.spare
-
-pub root-of-game : (t : GameType) (ms : List Move) (room : ℕ) (cs : List Course) → 0 < length cs → All (IsGameOf t ms room) cs → root_of cs ≡ replay (opening t) ms
-root-of-game t ms room [] some all = absurd (omega (arith, some))
-root-of-game t ms room (c ∷ cs) some all =
-    let one : IsGameOf t ms room c = all 0 c (omega arith) in
-    rw (one.game_type, one.made) refl

@@ -4,7 +4,6 @@ ghost use Rattle.std.specs.Prelude.{◌≡◌, ◌+◌, ◌<◌, ◌≤◌, [], 
 ghost use Rattle.std.specs.List.{All};
 ghost use Rattle.hive_model.specs.Legal.{moves, is_over};
 ghost use Rattle.hive_model.specs.Minimax.{value, best};
-ghost use Rattle.hive_model.specs.Courses.{position};
 ghost use Rattle.root_share.specs.Answer.{PlaysWithin, root_of, AreEqualGames};
 
 use crate::gate::Gate;

@@ -19,7 +19,6 @@ pub struct View {
 }
 
 impl Model for View {
-    ghost use Rattle.std.specs.Prelude.{ℕ};
     ghost use Rattle.std.specs.Prelude.{false};
     ghost use Rattle.hive_model.specs.Positions.{opening};
     ghost use Rattle.root_share.specs.Run.{first_bound};

@@ -5,11 +5,12 @@ ghost use Rattle.std.specs.Prelude.{negsuc, ◌-ℤ◌, ◌≤ℤ◌, ◌<ℤ◌
 ghost use Rattle.hive_model.specs.Lists.{IsOn};
 ghost use Rattle.hive_model.specs.Legal.{moves};
 ghost use Rattle.hive_model.specs.Games.{after};
-ghost use Rattle.hive_model.specs.Minimax.{value, reply_value, IsInner};
+ghost use Rattle.hive_model.specs.Minimax.{value, reply_value};
 ghost use Rattle.hive_model.specs.Costs.{cost, share};
 ghost use Rattle.hive_model.specs.Courses.{position};
 ghost use Rattle.root_share.specs.Word.{IsSeat};
 ghost use Rattle.root_share.specs.Answer.{IsAnswer, is_tried};
+ghost use Rattle.root_share.specs.Ready.{IsReady};
 
 use crate::candidate::{Candidate, better};
 use crate::gate::Gate;
@@ -69,12 +70,8 @@ fn try_child<G: Game, T: Gate>(
     found: Option<Candidate>,
 ) -> Option<Candidate>
     requires seat { IsSeat word.now.table_id seat.old }
-    requires root { seat.old.me.0.root ≡ position (G.course worker.old.game) }
-    requires depth { seat.old.me.0.depth ≡ depth }
-    requires inner { IsInner seat.old.me.0.root depth }
-    requires deep { depth ≤ 64 }
-    requires spare { depth ≤ (G.course worker.old.game).spare }
-    requires prepared { depth ≤ worker.old.searcher }
+    requires ready { IsReady seat.old.me.0.root seat.old.me.0.depth depth (G.course worker.old.game)
+        worker.old.searcher }
     requires here { slice_get (moves seat.old.me.0.root) child ≡ Some m }
     requires before { IsAnswer seat.old.me.0.root depth (is_tried part parts child) found }
     ensures seat { IsSeat word.now.table_id seat.new }
@@ -118,12 +115,8 @@ pub fn run_one<G: Game, T: Gate>(
     worker: &mut Worker<G>,
 ) -> Option<Candidate>
     requires seat { IsSeat word.now.table_id seat.old }
-    requires root { seat.old.me.0.root ≡ position (G.course worker.old.game) }
-    requires depth { seat.old.me.0.depth ≡ depth }
-    requires inner { IsInner seat.old.me.0.root depth }
-    requires deep { depth ≤ 64 }
-    requires spare { depth ≤ (G.course worker.old.game).spare }
-    requires prepared { depth ≤ worker.old.searcher }
+    requires ready { IsReady seat.old.me.0.root seat.old.me.0.depth depth (G.course worker.old.game)
+        worker.old.searcher }
     requires listed { root.now.lists ≡ moves seat.old.me.0.root ∷ [] }
     requires parts { 0 < parts }
     ensures seat { IsSeat word.now.table_id seat.new }
