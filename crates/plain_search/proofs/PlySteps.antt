@@ -18,6 +18,3 @@ levels-left s s1 old ms d same listed room =
 -- plies for which there is room before a move and behind it
 pub spare-before : (now start : Course) (d : ℕ) → now ≡ start → d ≤ start.spare → 0 < d → d - 1 < now.spare
 spare-before now start d same room deep = let e : now.spare ≡ start.spare = ap (λ (g : Course). g.spare) same in omega (arith, e, room, deep)
-
-pub spare-behind : (start played : Course) (m : Move) (d : ℕ) → played ≡ with_move start m → d < start.spare → d ≤ played.spare
-spare-behind start played m d moved room = let e : played.spare ≡ start.spare - 1 = ap (λ (g : Course). g.spare) moved in omega (arith, e, room)

@@ -1,11 +1,10 @@
 //! How many lists of legal moves there are.
 
 ghost use Rattle.std.specs.Prelude.{◌≡◌, ◌+◌, ◌*◌, ◌<◌, ◌≤◌, length};
-ghost use Rattle.hive_model.specs.Lists.{IsOn};
-ghost use Rattle.hive_model.specs.Legal.{moves};
 ghost use Rattle.hive_model.specs.Games.{after};
 ghost use Rattle.hive_model.specs.Minimax.{lines};
 ghost use Rattle.hive_model.specs.Courses.{position};
+ghost use Rattle.search_laws.specs.Nodes.{HasRoom, CanReply, AreAsBefore};
 
 use hive_model::{Game, Move, MoveStack};
 
@@ -30,11 +29,9 @@ pub fn count_lines<G: Game>(game: &mut G, plies: u32, stack: &mut MoveStack) -> 
 fn lines_from<G: Game>(game: &mut G, plies: u32, stack: &mut MoveStack) -> u128
     requires deep { plies ≤ 8 }
     requires few { length (position (G.course game.old)).board + 2 * plies ≤ 44 }
-    requires spare { plies ≤ (G.course game.old).spare }
-    requires room { plies ≤ stack.old.free }
+    requires room { HasRoom plies (G.course game.old) stack.old }
     ensures count { result ≡ lines (position (G.course game.old)) plies }
-    ensures game { G.course game.new ≡ G.course game.old }
-    ensures stack { stack.new ≡ stack.old }
+    ensures before { AreAsBefore (G.course game.old) (G.course game.new) stack.old stack.new }
 {
     if plies == 0 {
         return 1;
@@ -59,13 +56,10 @@ fn lines_from<G: Game>(game: &mut G, plies: u32, stack: &mut MoveStack) -> u128
 #[cycle(count)]
 fn lines_behind<G: Game>(game: &mut G, m: Move, plies: u32, stack: &mut MoveStack) -> u128
     requires deep { plies < 8 }
-    requires legal { IsOn (moves (position (G.course game.old))) m }
     requires few { length (position (G.course game.old)).board + 2 * plies + 2 ≤ 44 }
-    requires spare { plies < (G.course game.old).spare }
-    requires room { plies ≤ stack.old.free }
+    requires can { CanReply m plies (G.course game.old) stack.old }
     ensures count { result ≡ lines (after (position (G.course game.old)) m) plies }
-    ensures game { G.course game.new ≡ G.course game.old }
-    ensures stack { stack.new ≡ stack.old }
+    ensures before { AreAsBefore (G.course game.old) (G.course game.new) stack.old stack.new }
 {
     game.play(m);
     let lines = lines_from(game, plies, stack);

@@ -1,10 +1,9 @@
 //! What a position is worth by minimax.
 
-ghost use Rattle.std.specs.Prelude.{◌≡◌, ◌<◌, ◌≤◌};
-ghost use Rattle.hive_model.specs.Lists.{IsOn};
-ghost use Rattle.hive_model.specs.Legal.{moves};
+ghost use Rattle.std.specs.Prelude.{◌≡◌};
 ghost use Rattle.hive_model.specs.Minimax.{value, reply_value};
 ghost use Rattle.hive_model.specs.Courses.{position};
+ghost use Rattle.search_laws.specs.Nodes.{HasRoom, CanReply, AreAsBefore};
 
 use hive_model::{Game, Move, MoveStack};
 use search_laws::leaf_value;
@@ -18,12 +17,9 @@ const LOWEST: i32 = -1_000_100;
 /// before.
 #[cycle(minimax)]
 pub fn minimax<G: Game>(game: &mut G, depth: u32, stack: &mut MoveStack) -> i32
-    requires deep { depth ≤ 64 }
-    requires spare { depth ≤ (G.course game.old).spare }
-    requires room { depth ≤ stack.old.free }
+    requires room { HasRoom depth (G.course game.old) stack.old }
     ensures worth { result ≡ value (position (G.course game.old)) depth }
-    ensures game { G.course game.new ≡ G.course game.old }
-    ensures stack { stack.new ≡ stack.old }
+    ensures before { AreAsBefore (G.course game.old) (G.course game.new) stack.old stack.new }
 {
     if let Some(worth) = leaf_value(game, depth) {
         return worth;
@@ -43,13 +39,9 @@ pub fn minimax<G: Game>(game: &mut G, depth: u32, stack: &mut MoveStack) -> i32
 /// What a legal move is worth to the side that makes it, with `depth` plies of best play behind it.
 #[cycle(minimax)]
 fn reply<G: Game>(game: &mut G, m: Move, depth: u32, stack: &mut MoveStack) -> i32
-    requires deep { depth < 64 }
-    requires legal { IsOn (moves (position (G.course game.old))) m }
-    requires spare { depth < (G.course game.old).spare }
-    requires room { depth ≤ stack.old.free }
+    requires can { CanReply m depth (G.course game.old) stack.old }
     ensures worth { result ≡ reply_value (position (G.course game.old)) depth m }
-    ensures game { G.course game.new ≡ G.course game.old }
-    ensures stack { stack.new ≡ stack.old }
+    ensures before { AreAsBefore (G.course game.old) (G.course game.new) stack.old stack.new }
 {
     game.play(m);
     let worth = minimax(game, depth, stack);

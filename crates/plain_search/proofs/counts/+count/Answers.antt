@@ -1,9 +1,11 @@
-use Rattle.std.proofs.Common.{rules, ◌≡◌, ◌+◌, ◌^◌, ◌<◌, Some, refl, arith, ◌∙◌}
+use Rattle.std.proofs.Common.{rules, ◌≡◌, ◌+◌, ◌-◌, ◌^◌, ◌<◌, Some, refl, arith}
 use Rattle.std.specs.List.{slice_get}
 use Rattle.hive_model.specs.Legal.{moves}
 use Rattle.hive_model.specs.Courses.{position}
 use Rattle.search_laws.proofs.TurnLaws.{move-here, move-legal, count-here}
-use Rattle.plain_search.proofs.PlySteps.{levels-left, spare-before, spare-behind}
+use Rattle.search_laws.specs.Nodes.{CanReply}
+use Rattle.search_laws.proofs.NodeLaws.{reply-room, before-then}
+use Rattle.plain_search.proofs.PlySteps.{levels-left, spare-before}
 use Rattle.plain_search.proofs.CountSteps.{count-begin, count-step, count-fits, count-one, count-none, behind-few, behind-count, count-now, few-now}
 use Rattle.plain_search.proofs.counts.+count.Goals as goal
 
@@ -14,10 +16,7 @@ lines_behind-lines_from-lines-requires g t c κs within = (
     within,
     (
       omega arith,
-      (
-        behind-few _ _ c.args.m _ c.play.ensures.moved c.requires.few,
-        (spare-behind _ _ c.args.m _ c.play.ensures.moved c.requires.spare, c.requires.room),
-      ),
+      (behind-few _ _ c.args.m _ c.play.ensures.moved c.requires.few, reply-room _ _ _ c.args.m _ c.requires.can c.play.ensures.moved),
     ),
   ),
 )
@@ -35,29 +34,22 @@ lines_from-returns-then-plies-eq1-clause-count g t c =
 
 pub lines_from-loop-i-init : goal.lines_from-loop-i-init
 lines_from-loop-i-init g t c = record {
-  game = c.list.ensures.same;
-  stack = refl;
+  before = record { game = c.list.ensures.same; stack = refl };
   rest = count-begin _ _ (omega arith);
 }
 
 pub lines_from-lines_behind-total-requires : goal.lines_from-lines_behind-total-requires
 lines_from-lines_behind-total-requires g t c κs within =
     let turn = c.loop-i.invariant in
-    let start = g.G.Game.course c.args.game.now in (
+    let start = g.G.Game.course c.args.game.now in
+    let can : CanReply c.get-m.result (c.args.plies - 1) (g.G.Game.course c.loop-i.game) c.loop-i.stack = record {
+      legal = move-legal start start _ _ _ _ _ _ _ refl c.list.ensures.listed turn.before.stack c.levels-level.ensures c.get-m.ensures turn.before.game;
+      deep = omega arith;
+      spare = spare-before _ _ _ turn.before.game c.requires.room.spare (omega arith);
+      free = levels-left _ _ _ _ _ turn.before.stack c.list.ensures.listed c.requires.room.free;
+    } in (
       search rules,
-      (
-        within,
-        (
-          omega arith,
-          (
-            move-legal start start _ _ _ _ _ _ _ refl c.list.ensures.listed turn.stack c.levels-level.ensures c.get-m.ensures turn.game,
-            (
-              few-now _ _ _ turn.game c.requires.few (omega arith),
-              (spare-before _ _ _ turn.game c.requires.spare (omega arith), levels-left _ _ _ _ _ turn.stack c.list.ensures.listed c.requires.room),
-            ),
-          ),
-        ),
-      ),
+      (within, (omega arith, (few-now _ _ _ turn.before.game c.requires.few (omega arith), can))),
     )
 
 pub lines_from-overflow_add-total : goal.lines_from-overflow_add-total
@@ -65,9 +57,9 @@ lines_from-overflow_add-total g t c =
     let turn = c.loop-i.invariant in
     let start = g.G.Game.course c.args.game.now in
     let here : slice_get (moves (position start)) c.loop-i.i ≡ Some c.get-m.result =
-    move-here start start _ _ _ _ _ _ refl c.list.ensures.listed turn.stack c.levels-level.ensures c.get-m.ensures in
+    move-here start start _ _ _ _ _ _ refl c.list.ensures.listed turn.before.stack c.levels-level.ensures c.get-m.ensures in
     let small : c.loop-i.total + c.lines_behind-total.result < 2 ^ 128 =
-    count-fits (position start) c.args.plies c.loop-i.i c.loop-i.total c.get-m.result _ here (count-now _ _ _ _ _ turn.game c.lines_behind-total.ensures.count) turn.rest c.requires.deep c.requires.few in
+    count-fits (position start) c.args.plies c.loop-i.i c.loop-i.total c.get-m.result _ here (count-now _ _ _ _ _ turn.before.game c.lines_behind-total.ensures.count) turn.rest c.requires.deep c.requires.few in
     search rules
 
 pub lines_from-loop-i-preserved : goal.lines_from-loop-i-preserved
@@ -75,9 +67,8 @@ lines_from-loop-i-preserved g t c =
     let turn = c.loop-i.invariant in
     let start = g.G.Game.course c.args.game.now in
     let here : slice_get (moves (position start)) c.loop-i.i ≡ Some c.get-m.result =
-    move-here start start _ _ _ _ _ _ refl c.list.ensures.listed turn.stack c.levels-level.ensures c.get-m.ensures in
+    move-here start start _ _ _ _ _ _ refl c.list.ensures.listed turn.before.stack c.levels-level.ensures c.get-m.ensures in
     record {
-      game = c.lines_behind-total.ensures.game ∙ turn.game;
-      stack = c.lines_behind-total.ensures.stack ∙ turn.stack;
-      rest = count-step (position start) c.args.plies c.loop-i.i c.loop-i.total c.get-m.result _ here (count-now _ _ _ _ _ turn.game c.lines_behind-total.ensures.count) turn.rest;
+      before = before-then _ _ _ _ _ _ turn.before c.lines_behind-total.ensures.before;
+      rest = count-step (position start) c.args.plies c.loop-i.i c.loop-i.total c.get-m.result _ here (count-now _ _ _ _ _ turn.before.game c.lines_behind-total.ensures.count) turn.rest;
     }

@@ -4,6 +4,7 @@ use Rattle.hive_model.specs.Legal.{moves}
 use Rattle.hive_model.specs.Games.{after}
 use Rattle.hive_model.specs.Minimax.{lines}
 use Rattle.hive_model.specs.Courses.{position}
+use Rattle.search_laws.specs.Nodes.{AreAsBefore}
 use Rattle.plain_search.proofs.counts.+count.Given as goal
 
 abbrev pub decreases-lines_behind : goal.decreases-lines_behind
@@ -17,7 +18,6 @@ abbrev pub invariant-lines_from-loop-i : goal.invariant-lines_from-loop-i
 invariant-lines_from-loop-i g l =
     let p = position (g.G.Game.course l.fn.game) in
     record {
-      game : g.G.Game.course l.game ≡ g.G.Game.course l.fn.game;
-      stack : l.stack ≡ l.initial.stack;
+      before : AreAsBefore (g.G.Game.course l.fn.game) (g.G.Game.course l.game) l.initial.stack l.stack;
       rest : l.total + sum_by (λ m. lines (after p m) (l.plies - 1)) (drop l.i (moves p)) ≡ lines p l.plies;
     }

@@ -2,6 +2,7 @@ use Rattle.std.proofs.Common.{◌≡◌, ◌+◌, ◌*◌, ◌-◌, drop, map}
 use Rattle.hive_model.specs.Minimax.{value, reply_value, greatest_from}
 use Rattle.hive_model.specs.Legal.{moves}
 use Rattle.hive_model.specs.Courses.{position}
+use Rattle.search_laws.specs.Nodes.{AreAsBefore}
 use Rattle.plain_search.proofs.values.+minimax.Given as goal
 
 abbrev pub decreases-reply : goal.decreases-reply
@@ -15,7 +16,6 @@ abbrev pub invariant-minimax-loop-i : goal.invariant-minimax-loop-i
 invariant-minimax-loop-i g l =
     let p = position (g.G.Game.course l.fn.game) in
     record {
-      game : g.G.Game.course l.game ≡ g.G.Game.course l.fn.game;
-      stack : l.stack ≡ l.initial.stack;
+      before : AreAsBefore (g.G.Game.course l.fn.game) (g.G.Game.course l.game) l.initial.stack l.stack;
       rest : greatest_from l.best (map (reply_value p (l.depth - 1)) (drop l.i (moves p))) ≡ value p l.depth;
     }
