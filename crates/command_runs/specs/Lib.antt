@@ -5,3 +5,4 @@ pub mod OneGame
 pub mod Asking
 pub mod GameRun
 pub mod Served
+pub mod Runs

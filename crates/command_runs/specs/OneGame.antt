@@ -40,6 +40,10 @@ abbrev pub asked : List Line → Result Parsed (List ℕ)
 asked [] = Err (codes "no line")
 asked (line ∷ others) = and_no_more (game_in line) others
 
+-- the input is exactly one line, a game that is not over
+abbrev pub AsksOne : List ℕ → Type 0
+AsksOne input = (game : Parsed) × (asked (lines input) ≡ Ok game)
+
 -- the line that is written where there is no such game
 abbrev pub bad_line : List ℕ → List ℕ
 bad_line why = codes "bad " ++ (why ++ 10 ∷ [])

@@ -1,10 +1,10 @@
 -- Runs that their source and their sink served.
-use Rattle.std.specs.Prelude.{◌≡◌, ℕ, ◌<◌, List, length, Some}
+use Rattle.std.specs.Prelude.{◌≡◌, ◌⊎◌, ℕ, ◌<◌, List, length, Some}
 use Rattle.io_edge.specs.Outside.{HasCause, Rose}
 use Rattle.line_feed.specs.Feed.{input_limit}
 use Rattle.command_runs.specs.Input.{Sides}
 use Rattle.command_runs.specs.declared.status.Status.{Status}
-use Rattle.command_runs.specs.declared.status.Status.TheVariants.{ReadFault, WriteFault}
+use Rattle.command_runs.specs.declared.status.Status.TheVariants.{Done, ReadFault, WriteFault, Memory}
 
 -- the count of faults that is the cause of this failure did not rise
 pub record NoFault (failed : Type 0) : Type 0 where
@@ -20,3 +20,11 @@ pub record Served (status : Status) (before : Sides) (input : List ℕ) : Type 0
   pub writes : NoFault (status ≡ WriteFault)
   pub told : before.rest ≡ Some input
   pub below : length input < input_limit
+
+-- Where the streams served a run of this kind, and it has such an input, it is done, unless memory is
+-- wanting.
+abbrev pub RunsAreDone : (Status → Sides → Sides → Type 0) → (List ℕ → Type 0) → Type 0
+RunsAreDone Run Asks =
+    (status : Status) → (before : Sides) → (after : Sides) → Run status before after
+    → (input : List ℕ) → Served status before input → Asks input
+    → (status ≡ Done) ⊎ (status ≡ Memory)

@@ -10,9 +10,6 @@ use Rattle.line_feed.proofs.FedLemmas.{fed_begin}
 use Rattle.strategy_check.specs.declared.answers.Why.{Why}
 use Rattle.strategy_check.specs.declared.answers.Why.TheVariants.{NoSuchMove, BadIndex, LeafFails, TooShort, Rest}
 use Rattle.strategy_check.specs.Checks.{OnShort, looked_at}
-use Rattle.certificate_text.specs.declared.head.HeadFault.{HeadFault}
-use Rattle.certificate_text.specs.declared.head.HeadFault.TheVariants.{BadLine as LineFault, BadGame as NoGame, ReadFault as NoRead, InputFull as IsFull, Memory as HeadMemory}
-use Rattle.certificate_text.specs.Heads.{fault_line}
 use Rattle.certificate_text.specs.Taken.{HasRead}
 use Rattle.certificate_text.proofs.TakenLaws.{read-more, within-limit}
 use Rattle.command_runs.specs.Input.{IsAllRead, Sides, WhereTold}
@@ -26,8 +23,8 @@ use Rattle.text_verdicts.specs.declared.verdict.Unread.{Unread}
 use Rattle.text_verdicts.specs.declared.verdict.Unread.TheVariants.{ReadFault, InputFull, Memory as WantsMemory}
 use Rattle.text_verdicts.specs.Verdicts.{status_of, verdict_line}
 use Rattle.text_verdicts.specs.Laws.{AcceptedAreDone}
-use Rattle.text_verdicts.specs.Reading.{Judges, TellsJudged, WasReadAs, of_fault}
-use Rattle.text_verdicts.specs.Runs.{AtMostWereRead, Judgement, TookLess, TookLimit, VerdictRun, WasReadToJudge, WasReadToRefuse, WroteVerdict}
+use Rattle.text_verdicts.specs.Reading.{Judges, TellsJudged, WasReadAs}
+use Rattle.text_verdicts.specs.Runs.{AtMostWereRead, Judgement, VerdictRun, WasReadToJudge, WasReadToRefuse, WroteVerdict}
 
 -- only what is accepted is done
 pub done-accepted : (v : Verdict) → status_of v ≡ Done → v ≡ Accepted
@@ -96,24 +93,6 @@ refused-read head place lines Rest input rest reader few r stops = within-most (
 pub bad-read : (head lines line : ℕ) (input : List ℕ) (rest : Told) (reader : Reading) → line ≡ min (lines + head) (2 ^ 64 - 1) → HasRead input rest reader (head + lines) → AtMostWereRead line input rest
 bad-read head lines line input rest reader is r =
     (r.given, given_were_read input r.fed refl r.within r.little, omega (arith, is, r.few, within-limit input rest reader (head + lines) r))
-
--- what was read where a read has failed, and where no more may be read
-pub less-read : (input : List ℕ) (rest : Told) (reader : Reading) (most : ℕ) → HasRead input rest reader most → reader.taken < input_limit → TookLess input rest
-less-read input rest reader most r below =
-    let (left, w) = split input rest r.bytes r.fed.left in (r.bytes, left, w, subst (λ (n : ℕ). n < input_limit) r.fed.counted below)
-
-pub limit-read : (input : List ℕ) (rest : Told) (reader : Reading) (most : ℕ) → HasRead input rest reader most → reader.taken ≡ input_limit → TookLimit input rest
-limit-read input rest reader most r full =
-    let (left, w) = split input rest r.bytes r.fed.left in (r.bytes, left, w, sym r.fed.counted ∙ full)
-
--- what was read where there is no head
-pub fault-read : (head : ℕ) (fault : HeadFault) (input : List ℕ) (rest : Told) (reader : Reading) → HasRead input rest reader (fault_line head fault) → (fault ≡ NoRead → reader.taken < input_limit)
-    → (fault ≡ IsFull → reader.taken ≡ input_limit) → WasReadAs head (of_fault fault) input rest
-fault-read head (LineFault n) input rest reader r failed full = most-read n input rest reader r
-fault-read head (NoGame fault) input rest reader r failed full = most-read 2 input rest reader r
-fault-read head NoRead input rest reader r failed full = less-read input rest reader head r (failed refl)
-fault-read head IsFull input rest reader r failed full = limit-read input rest reader head r (full refl)
-fault-read head HeadMemory input rest reader r failed full = tt
 
 -- ---- a run
 

@@ -1,2 +1,3 @@
 pub mod JudgeLaws
+pub mod TextLaws
 pub mod AskedLaws

@@ -1,10 +1,8 @@
 -- A law of the checks of texts.
-use Rattle.std.specs.Prelude.{◌≡◌, ◌⊎◌, ℕ, List}
+use Rattle.std.specs.Prelude.{◌≡◌, ℕ, List, [], Some}
 use Rattle.hive_model.specs.Lines.{lines}
 use Rattle.command_runs.specs.Input.{Sides}
-use Rattle.command_runs.specs.Served.{Served}
-use Rattle.command_runs.specs.declared.status.Status.{Status}
-use Rattle.command_runs.specs.declared.status.Status.TheVariants.{Done, Memory}
+use Rattle.command_runs.specs.Served.{RunsAreDone}
 use Rattle.text_verdicts.specs.declared.verdict.Verdict.TheVariants.{Accepted}
 use Rattle.text_verdicts.specs.Runs.{Judgement, VerdictRun}
 
@@ -12,8 +10,11 @@ use Rattle.text_verdicts.specs.Runs.{Judgement, VerdictRun}
 -- wanting.
 abbrev pub AcceptedAreDone : Type 0
 AcceptedAreDone =
-    (head : ℕ) → (verdict : Judgement) → (status : Status) → (before : Sides) → (after : Sides)
-    → VerdictRun head verdict status before after
-    → (input : List ℕ) → Served status before input
-    → verdict (lines input) ≡ Accepted
-    → (status ≡ Done) ⊎ (status ≡ Memory)
+    (head : ℕ) → (verdict : Judgement)
+    → RunsAreDone (VerdictRun head verdict) (λ input. verdict (lines input) ≡ Accepted)
+
+-- what a run has written, where nothing was written before, is accepted
+abbrev pub WritesAccepted : Judgement → Sides → Sides → Type 0
+WritesAccepted verdict before after =
+    (input : List ℕ) → before.rest ≡ Some input → before.written ≡ Some []
+    → (text : List ℕ) × (after.written ≡ Some text) × (verdict (lines text) ≡ Accepted)

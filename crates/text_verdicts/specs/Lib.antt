@@ -1,4 +1,5 @@
 pub mod Verdicts
 pub mod Reading
 pub mod Runs
+pub mod Judging
 pub mod Laws

@@ -2,10 +2,12 @@
 //! checks one.
 #![tactic(auto)]
 
+mod judging;
 mod laws;
 mod told;
 mod verdict;
 
+pub use judging::{TextForm, check_text};
 pub use laws::accepted_texts_are_done;
 pub use told::tell_judged;
 pub use verdict::{Unread, Verdict, fault_verdict, verdict_of};

@@ -1,0 +1,52 @@
+-- What is judged of a text by its head, and what a reader has read that is lent to a walk.
+use Rattle.std.proofs.Common.{◌≡◌, ℕ, ◌+◌, Bool, true, false, List, drop, refl, sym, ap, subst, arith}
+use Rattle.std.specs.Prelude.{Result, Err, if◌then◌else◌}
+use Rattle.io_edge.specs.Outside.{Told}
+use Rattle.hive_model.specs.Lines.{Line, ToldLines}
+use Rattle.line_feed.specs.Feed.{Reading}
+use Rattle.certificate_text.specs.declared.head.HeadFault.{HeadFault}
+use Rattle.certificate_text.specs.declared.head.HeadFault.TheVariants.{BadLine as LineFault, BadGame as NoGame, ReadFault as NoRead, InputFull as IsFull, Memory as NoMemory}
+use Rattle.certificate_text.specs.Heads.{Reads}
+use Rattle.certificate_text.specs.Taken.{HasRead}
+use Rattle.text_verdicts.specs.declared.verdict.Verdict.{Verdict}
+use Rattle.text_verdicts.specs.declared.verdict.Verdict.TheVariants.{Accepted, GameOver}
+use Rattle.text_verdicts.specs.declared.verdict.Unread.{Unread}
+use Rattle.text_verdicts.specs.Judging.{of_head, text_verdict}
+use Rattle.text_verdicts.specs.Reading.{Judges, of_fault}
+use Rattle.text_verdicts.specs.Runs.{Judgement}
+
+module _ {H : Type 0} (n : ℕ) (head_of : List Line → Result H HeadFault) (worth : H → Judgement) where
+  pub verdict-is : (ls : List Line) (r : Result H HeadFault) → head_of ls ≡ r → text_verdict n head_of worth ls ≡ of_head worth r (drop n ls)
+  unfolding text_verdict
+  verdict-is ls r e = ap (λ h. of_head worth h (drop n ls)) e
+
+  -- where there is no head
+  of-fault : (ls : List Line) (fault : HeadFault) (later : ToldLines) → (let r : Result H HeadFault = Err fault in Reads n r (head_of ls) ls later) → Judges (of_fault fault) (text_verdict n head_of worth ls)
+  of-fault ls (LineFault k) later h = verdict-is ls (Err (LineFault k)) h
+  of-fault ls (NoGame fault) later h = verdict-is ls (Err (NoGame fault)) h
+  of-fault ls NoRead later h = tt
+  of-fault ls IsFull later h = tt
+  of-fault ls NoMemory later h = tt
+
+  pub fault-judges : (ls : List Line) (fault : HeadFault) (result : Result Verdict Unread) (later : ToldLines) → result ≡ of_fault fault →
+      (let r : Result H HeadFault = Err fault in Reads n r (head_of ls) ls later) → Judges result (text_verdict n head_of worth ls)
+  fault-judges ls fault result later e h = subst (λ (r : Result Verdict Unread). Judges r (text_verdict n head_of worth ls)) (sym e) (of-fault ls fault later h)
+
+  -- no fault of a head is accepted
+  pub never-fault : (fault : HeadFault) (rest : List Line) → (let r : Result H HeadFault = Err fault in of_head worth r rest ≡ Accepted) → ⊥
+  never-fault (LineFault k) rest e = cc
+  never-fault (NoGame fault) rest e = cc
+  never-fault NoRead rest e = cc
+  never-fault IsFull rest e = cc
+  never-fault NoMemory rest e = cc
+
+-- before the first item behind a head, no line was read but those of the head
+pub read-begins : (head : ℕ) (text : List ℕ) (rest0 rest1 : Told) (reader0 reader1 : Reading) (lines : ℕ) → reader1 ≡ reader0 → rest1 ≡ rest0 → lines ≡ 0 → HasRead text rest0 reader0 head → HasRead text rest1 reader1 (head + lines)
+read-begins head text rest0 rest1 reader0 reader1 lines same_reader same_rest none r =
+    let same : head ≡ head + lines = omega (arith, none) in
+    subst (λ (n : ℕ). HasRead text rest1 reader1 n) same (subst (λ (x : Reading). HasRead text rest1 x head) (sym same_reader) (subst (λ (x : Told). HasRead text x reader0 head) (sym same_rest) r))
+
+-- of a game that goes on its own verdict is told
+pub if-open : (over : Bool) (v : Verdict) → over ≡ false → (if over then GameOver else v) ≡ v
+if-open true v e = cc
+if-open false v e = refl
