@@ -26,7 +26,7 @@ use Rattle.claim_walks.proofs.PlaceLaws.{place-here, place-first}
 use Rattle.certificate_text.specs.Text.{index_line, head_text}
 use Rattle.index_writing.specs.Writing.{Wrote, index_lines, lines_below}
 use Rattle.index_writing.proofs.WriteLaws.{wrote-as, wrote-then, wrote-stop, wrote-is, index-written}
-use Rattle.strategy_make.specs.Making.{least_at, least_indices, certificate, certificate_of}
+use Rattle.strategy_make.specs.Making.{least_indices, certificate, certificate_of}
 
 -- ---- the parts of the least indices of a root
 
@@ -124,11 +124,6 @@ place-some m ms o is on =
 
 pub place-at : (m : Move) (ms : List Move) (o : Option ℕ) (k : ℕ) → o ≡ place_of m ms → o ≡ Some k → slice_get ms k ≡ Some m
 place-at m ms o k is found = place-here m ms k (sym is ∙ found)
-
--- the least indices are those with the move's place
-pub indices-written : (p : Position) (d k : ℕ) (m : Move) (v : ℤ) (o : Option ℕ) (r : Bool) (a b : Told) → o ≡ place_of m (moves p) → o ≡ Some k → Wrote r (index_lines (least_moves p (d - 1) k m v)) a b →
-    Wrote r (index_lines (least_indices p d m v)) a b
-indices-written p d k m v o r a b is found h = wrote-as r _ _ a b (ap (λ z. index_lines (least_at p d m v z)) (sym found ∙ is)) h
 
 -- ---- a whole certificate
 

@@ -47,28 +47,29 @@ least-hold p d m inner is =
 
 -- ---- the fields of the lines
 
-number-is : (n low high : ℕ) → high < 2 ^ 64 → low ≤ n → n ≤ high → number_at (decimal n) low high ≡ Some n
+pub number-is : (n low high : ℕ) → high < 2 ^ 64 → low ≤ n → n ≤ high → number_at (decimal n) low high ≡ Some n
 number-is n low high fits from to = number_again (decimal n) low high n fits (record { digits = refl; low = from; high = to })
 
-version-is : version_at 1 (codes "hive-certificate " ++ decimal 1) ≡ Some 1
-version-is =
-    let fits : 1 < 2 ^ 64 = lit< tt in
-    ap (λ o. then_at o (λ t. number_at t 1 1)) (some-behind (codes "hive-certificate ") _ (decimal 1) refl) ∙ number-is 1 1 1 fits (omega arith) (omega arith)
+version-is : (newest n : ℕ) → 1 ≤ n → n ≤ newest → newest ≤ 2 → version_at newest (codes "hive-certificate " ++ decimal n) ≡ Some n
+version-is newest n some known few =
+    let fits : 2 < 2 ^ 64 = lit< tt in
+    ap (λ o. then_at o (λ t. number_at t 1 newest)) (some-behind (codes "hive-certificate ") _ (decimal n) refl) ∙ number-is n 1 newest (omega (arith, few, fits)) some known
 
 depth-is : (d : ℕ) → 1 ≤ d → d ≤ 64 → depth_at (codes "depth " ++ decimal d) ≡ Some d
 depth-is d some deep =
     let fits : 64 < 2 ^ 64 = lit< tt in
     ap (λ o. then_at o (λ t. number_at t 1 64)) (some-behind (codes "depth ") _ (decimal d) refl) ∙ number-is d 1 64 fits some deep
 
-no-minus : (n : ℕ) → n < 2 ^ 64 → behind_word (codes "-") (decimal n) ≡ None
-no-minus n h = decimal_by_steps (λ _ ds. behind_word (codes "-") ds ≡ None) (λ n low. digit n) (λ n ds low front. more ds (n % 10) front) n h
+-- no number begins with a byte that is no digit
+pub no-mark : (mark : ℕ) → ((n : ℕ) → n < 10 → 48 + n ≢ mark) → (n : ℕ) → n < 2 ^ 64 → behind_word (mark ∷ []) (decimal n) ≡ None
+no-mark mark other n h = decimal_by_steps (λ _ ds. behind_word (mark ∷ []) ds ≡ None) (λ n low. digit n low) (λ n ds low front. more ds (n % 10) (omega arith) front) n h
   where
-    digit : (n : ℕ) → behind_word (codes "-") ((48 + n) ∷ []) ≡ None
-    digit n = ap (λ t. if t then Some [] else None) (ne_eqb (48 + n) 45 (λ e. omega (arith, e)))
+    digit : (n : ℕ) → n < 10 → behind_word (mark ∷ []) ((48 + n) ∷ []) ≡ None
+    digit n low = ap (λ t. if t then Some [] else None) (ne_eqb (48 + n) mark (other n low))
 
-    more : (ds : List ℕ) (n : ℕ) → behind_word (codes "-") ds ≡ None → behind_word (codes "-") (ds ++ (48 + n) ∷ []) ≡ None
-    more [] n e = digit n
-    more (b ∷ ds) n e = go (nat_eq b 45) e
+    more : (ds : List ℕ) (n : ℕ) → n < 10 → behind_word (mark ∷ []) ds ≡ None → behind_word (mark ∷ []) (ds ++ (48 + n) ∷ []) ≡ None
+    more [] n low e = digit n low
+    more (b ∷ ds) n low e = go (nat_eq b mark) e
       where
         go : (t : Bool) → (if t then Some ds else None) ≡ None → (if t then Some (ds ++ (48 + n) ∷ []) else None) ≡ None
         go true e = absurd (cc)
@@ -78,7 +79,7 @@ int-is : (v : ℤ) → IsSmall 1000064 v → int_at (signed_decimal v) ≡ Some 
 int-is (pos n) h =
     let fits : 1000064 < 2 ^ 64 = lit< tt in
     let high : n ≤ 1000064 = omega (arith, ints, h.high) in
-    ap (λ o. signed o (decimal n)) (no-minus n (omega (arith, high, fits))) ∙ ap (option_map (λ k. pos k)) (number-is n 0 1000064 fits (omega arith) high)
+    ap (λ o. signed o (decimal n)) (no-mark 45 (λ k low e. omega (arith, e)) n (omega (arith, high, fits))) ∙ ap (option_map (λ k. pos k)) (number-is n 0 1000064 fits (omega arith) high)
 int-is (negsuc n) h =
     let fits : 1000064 < 2 ^ 64 = lit< tt in
     let high : suc n ≤ 1000064 = omega (arith, ints, h.low) in
@@ -100,11 +101,11 @@ move-is x some = ap (λ o. then_at o not_empty) (some-behind (codes "move ") _ x
 
 -- ---- the head
 
-head-is : (a b c e f x : List ℕ) (rest : List Line) (v d : ℕ) (g : Parsed) (w : ℤ) → version_at 1 a ≡ Some v → game_of b ≡ Ok g → depth_at c ≡ Some d → move_at e ≡ Some x → value_at f ≡ Some w →
-    head_of 1 (Text a ∷ (Text b ∷ (Text c ∷ (Text e ∷ (Text f ∷ rest))))) ≡ Ok (head_is v g d x w)
-head-is a b c e f x rest v d g w one two three four five =
+head-is : (newest : ℕ) (a b c e f x : List ℕ) (rest : List Line) (v d : ℕ) (g : Parsed) (w : ℤ) → version_at newest a ≡ Some v → game_of b ≡ Ok g → depth_at c ≡ Some d → move_at e ≡ Some x → value_at f ≡ Some w →
+    head_of newest (Text a ∷ (Text b ∷ (Text c ∷ (Text e ∷ (Text f ∷ rest))))) ≡ Ok (head_is v g d x w)
+head-is newest a b c e f x rest v d g w one two three four five =
     let ls : List Line = Text a ∷ (Text b ∷ (Text c ∷ (Text e ∷ (Text f ∷ rest)))) in
-    head-begins 1 ls
+    head-begins newest ls
     ∙ ap (λ o. and_then (or_bad 1 o) (λ v. after_version ls v)) one
     ∙ ap (λ o. and_then (or_bad_game o) (λ g. after_game ls v g)) two
     ∙ ap (λ o. and_then (or_bad 3 o) (λ d. after_depth ls v g d)) three
@@ -144,29 +145,43 @@ legal-text t ms m game few legal =
     let sound = games_sound t ms game low in
     legal_denotes (replay (opening t) ms) m sound.0 (moves_legal (replay (opening t) ms) sound.0.board m legal)
 
-lines-are : (t : GameType) (ms : List Move) (d : ℕ) (m : Move) (v : ℤ) → MayClaim t ms d m v →
-    lines (certificate t ms d m v) ≡ Text (codes "hive-certificate " ++ decimal 1) ∷ (Text (string t ms) ∷ (Text (codes "depth " ++ decimal d)
-    ∷ (Text (codes "move " ++ move-text t ms m) ∷ (Text (codes "value " ++ signed_decimal v) ∷ lines (index_lines (least_indices (replay (opening t) ms) d m v))))))
-unfolding certificate head_text
-lines-are t ms d m v may =
+abbrev pub HeadLines : ℕ → GameType → List Move → ℕ → Move → ℤ → List Line → List Line
+HeadLines n t ms d m v rest =
+    Text (codes "hive-certificate " ++ decimal n) ∷ (Text (string t ms) ∷ (Text (codes "depth " ++ decimal d) ∷ (Text (codes "move " ++ move-text t ms m) ∷ (Text (codes "value " ++ signed_decimal v) ∷ rest))))
+
+-- the lines of the head of a version, and those behind it
+pub head-lines : (n : ℕ) (t : GameType) (ms : List Move) (d : ℕ) (m : Move) (v : ℤ) (rest : List ℕ) → n ≤ 2 → MayClaim t ms d m v → lines (head_text n t ms d m v ++ rest) ≡ HeadLines n t ms d m v (lines rest)
+unfolding head_text
+head-lines n t ms d m v rest known may =
     let few = may.few in
     let deep = may.deep in
     let p : Position = replay (opening t) ms in
-    five-lines (codes "hive-certificate " ++ decimal 1) (string t ms) (codes "depth " ++ decimal d) (codes "move " ++ move-text t ms m) (codes "value " ++ signed_decimal v) (index_lines (least_indices p d m v))
-    (word 7 (codes "hive-certificate ") (decimal 1) (record { plain = refl; short = omega arith }) (decimal-plain 1 (omega arith)) (omega arith))
+    five-lines (codes "hive-certificate " ++ decimal n) (string t ms) (codes "depth " ++ decimal d) (codes "move " ++ move-text t ms m) (codes "value " ++ signed_decimal v) rest
+    (word 7 (codes "hive-certificate ") (decimal n) (record { plain = refl; short = omega arith }) (decimal-plain n (omega (arith, known))) (omega arith))
     (string-plain t ms may.game few)
     (word 7 (codes "depth ") (decimal d) (record { plain = refl; short = omega arith }) (decimal-plain d (omega (arith, deep))) (omega arith))
     (word 8 (codes "move ") (move-text t ms m) (record { plain = refl; short = omega arith }) (denotes-plain p.game_type p.board (move-text t ms m) m (legal-text t ms m may.game few may.legal)) (omega arith))
     (word 8 (codes "value ") (signed_decimal v) (record { plain = refl; short = omega arith }) (value-plain v may.small) (omega arith))
 
+-- so the head of a version that is known is read
+pub head-read : (newest n : ℕ) (t : GameType) (ms : List Move) (d : ℕ) (m : Move) (v : ℤ) (rest : List ℕ) → 1 ≤ n → n ≤ newest → newest ≤ 2 → MayClaim t ms d m v →
+    head_of newest (lines (head_text n t ms d m v ++ rest)) ≡ Ok (head_is n (record { game_type = t; moves = ms }) d (move-text t ms m) v)
+head-read newest n t ms d m v rest some known few may =
+    let p : Position = replay (opening t) ms in
+    ap (head_of newest) (head-lines n t ms d m v rest (omega (arith, known, few)) may)
+    ∙ head-is newest (codes "hive-certificate " ++ decimal n) (string t ms) (codes "depth " ++ decimal d) (codes "move " ++ move-text t ms m) (codes "value " ++ signed_decimal v) (move-text t ms m)
+    (lines rest) n d (record { game_type = t; moves = ms }) v
+    (version-is newest n some known few) (game_again (string t ms) t ms (strings t ms may.game may.few)) (depth-is d may.some may.deep)
+    (move-is (move-text t ms m) (denotes-some p.game_type p.board (move-text t ms m) m (legal-text t ms m may.game may.few may.legal))) (value-is v may.small)
+
+certificate-is : (t : GameType) (ms : List Move) (d : ℕ) (m : Move) (v : ℤ) → certificate t ms d m v ≡ head_text 1 t ms d m v ++ index_lines (least_indices (replay (opening t) ms) d m v)
+unfolding certificate
+certificate-is t ms d m v = refl
+
 pub heads : HeadsAreRead
 heads t ms d m v may =
-    let p : Position = replay (opening t) ms in
-    ap (head_of 1) (lines-are t ms d m v may)
-    ∙ head-is (codes "hive-certificate " ++ decimal 1) (string t ms) (codes "depth " ++ decimal d) (codes "move " ++ move-text t ms m) (codes "value " ++ signed_decimal v) (move-text t ms m)
-    (lines (index_lines (least_indices p d m v))) 1 d (record { game_type = t; moves = ms }) v
-    version-is (game_again (string t ms) t ms (strings t ms may.game may.few)) (depth-is d may.some may.deep)
-    (move-is (move-text t ms m) (denotes-some p.game_type p.board (move-text t ms m) m (legal-text t ms m may.game may.few may.legal))) (value-is v may.small)
+    ap (λ x. head_of 1 (lines x)) (certificate-is t ms d m v)
+    ∙ head-read 1 1 t ms d m v (index_lines (least_indices (replay (opening t) ms) d m v)) (omega arith) (omega arith) (omega arith) may
 
 pub indices : IndicesAreRead
 indices t ms d m v may =
@@ -176,5 +191,6 @@ indices t ms d m v may =
     let low : length ms ≤ 9000 = omega (arith, few) in
     let room : length ms + 1 + (d - 1) ≤ 9000 = omega (arith, few, deep) in
     let sound = games_sound t ms may.game low in
-    ap (λ ls. map index_in (drop 5 ls)) (lines-are t ms d m v may)
+    ap (λ x. map index_in (drop 5 (lines x))) (certificate-is t ms d m v)
+    ∙ ap (λ ls. map index_in (drop 5 ls)) (head-lines 1 t ms d m v (index_lines (least_indices p d m v)) (omega arith) may)
     ∙ indices-read (least_indices p d m v) (indices-low p d (length ms) m v sound.0 sound.1 room may.legal)
