@@ -8,7 +8,7 @@ use Rattle.hive_model.specs.Courses.{Course}
 use Rattle.hive_model.specs.Legal.{is_over}
 use Rattle.hive_model.specs.Games.{replay}
 use Rattle.hive_model.specs.Denotes.{Denotes}
-use Rattle.hive_model.specs.Lines.{Line, lines, ToldLines}
+use Rattle.hive_model.specs.Lines.{Line, lines}
 use Rattle.hive_model.specs.Minimax.{IsInner, best, value}
 use Rattle.search_laws.proofs.MinimaxLaws.{value-fits}
 use Rattle.move_text.specs.declared.faults.MoveFault.{MoveFault}
@@ -26,40 +26,20 @@ use Rattle.strategy_lemmas.specs.Cited.{CitedSteps, cited_checked, IsReached}
 use Rattle.strategy_lemmas.proofs.CitedLaws.{items-sound}
 use Rattle.citing_text.specs.TokenText.{token_in}
 use Rattle.certificate_text.specs.declared.head.Head.{Head}
-use Rattle.certificate_text.specs.declared.head.HeadFault.{HeadFault}
-use Rattle.certificate_text.specs.declared.head.HeadFault.TheVariants.{BadLine as LineFault, BadGame as NoGame, ReadFault as NoRead, InputFull as IsFull, Memory as NoMemory}
 use Rattle.certificate_text.specs.Text.{HeadRead, head_of, index_in}
-use Rattle.certificate_text.specs.Heads.{ReadsHead}
 use Rattle.strategy_make.specs.Making.{certificate, least_indices}
 use Rattle.strategy_make.specs.Laws.{MayClaim, claimed}
 use Rattle.strategy_make.proofs.MakeLaws.{best-on}
 use Rattle.strategy_make.proofs.ReadLaws.{heads, indices, least-hold, legal-text, move-text}
 use Rattle.io_edge.specs.Outside.{behind}
 use Rattle.text_verdicts.proofs.AskedLaws.{asked-open}
-use Rattle.text_verdicts.specs.declared.verdict.Verdict.{Verdict}
+use Rattle.text_verdicts.proofs.TextLaws.{if-open, never-fault, verdict-is}
 use Rattle.text_verdicts.specs.declared.verdict.Verdict.TheVariants.{Accepted, GameOver}
-use Rattle.text_verdicts.specs.declared.verdict.Unread.{Unread}
-use Rattle.text_verdicts.specs.Reading.{Judges, of_fault}
+use Rattle.text_verdicts.specs.Judging.{of_head}
 use Rattle.text_verdicts.specs.Verdicts.{of_walk}
-use Rattle.certificate_commands.specs.Verdicts.{claimed_move, end_of, of_claim, of_head, of_items, of_tokens, of_cited, of_lines, of_move, verdict}
+use Rattle.certificate_commands.specs.Verdicts.{claimed_move, end_of, of_claim, of_items, of_tokens, of_cited, of_lines, of_move, verdict}
 use Rattle.certificate_commands.specs.Laws.{AcceptedIsTrue, CertificatesAreAccepted, CertifiedIsAccepted, ClaimsIn, HeldIsAccepted, HeldCitedIsAccepted, IsTrueClaim, MayCertify}
 use Rattle.certificate_commands.proofs.HeadLaws.{Keeps, head-keeps, end-reached, head-later}
-
-pub verdict-is : (ls : List Line) (r : HeadRead) → head_of 2 ls ≡ r → verdict ls ≡ of_head r (drop 5 ls)
-unfolding verdict
-verdict-is ls r e = ap (λ h. of_head h (drop 5 ls)) e
-
--- where there is no head
-of-fault : (ls : List Line) (fault : HeadFault) (later : ToldLines) → (let r : HeadRead = Err fault in ReadsHead r (head_of 2 ls) ls later) → Judges (of_fault fault) (verdict ls)
-of-fault ls (LineFault n) later h = verdict-is ls (Err (LineFault n)) h
-of-fault ls (NoGame fault) later h = verdict-is ls (Err (NoGame fault)) h
-of-fault ls NoRead later h = tt
-of-fault ls IsFull later h = tt
-of-fault ls NoMemory later h = tt
-
-pub fault-judges : (ls : List Line) (fault : HeadFault) (result : Result Verdict Unread) (later : ToldLines) → result ≡ of_fault fault →
-    (let r : HeadRead = Err fault in ReadsHead r (head_of 2 ls) ls later) → Judges result (verdict ls)
-fault-judges ls fault result later e h = subst (λ (r : Result Verdict Unread). Judges r (verdict ls)) (sym e) (of-fault ls fault later h)
 
 -- ---- what is accepted is true
 
@@ -103,30 +83,22 @@ claim-true head rest false some e h =
     move-true head rest (claimed_move head) (end-reached head some) (record { deep = some.some; open_ = e }) refl (sym same ∙ h)
 
 pub accepted-true : AcceptedIsTrue
-accepted-true = λ ls h. go ls (head_of 2 ls) refl (sym (verdict-is ls (head_of 2 ls) refl) ∙ h)
+accepted-true = λ ls h. go ls (head_of 2 ls) refl (sym (verdict-is 5 (head_of 2) of_claim ls (head_of 2 ls) refl) ∙ h)
   where
-    go : (ls : List Line) (r : HeadRead) → head_of 2 ls ≡ r → of_head r (drop 5 ls) ≡ Accepted → (head : Head) × (m : Move) × IsTrueClaim ls head m
+    go : (ls : List Line) (r : HeadRead) → head_of 2 ls ≡ r → of_head of_claim r (drop 5 ls) ≡ Accepted → (head : Head) × (m : Move) × IsTrueClaim ls head m
     go ls (Ok head) e h =
         let (m, denotes, first, worth) = claim-true head (drop 5 ls) (is_over (end_of head)) (head-keeps 2 ls head e) refl h in
         (head, m, record { has_head = e; denotes = denotes; is_best = first; is_worth = worth })
-    go ls (Err (LineFault n)) e h = cc
-    go ls (Err (NoGame fault)) e h = cc
-    go ls (Err NoRead) e h = cc
-    go ls (Err IsFull) e h = cc
-    go ls (Err NoMemory) e h = cc
+    go ls (Err fault) e h = absurd (never-fault 5 (head_of 2) of_claim fault (drop 5 ls) h)
 
 -- ---- what holds is accepted
-
-if-open : (over : Bool) (v : Verdict) → over ≡ false → (if over then GameOver else v) ≡ v
-if-open true v e = cc
-if-open false v e = refl
 
 -- of lines with a claim those behind the head are judged
 claim-judged : (ls : List Line) (version : ℕ) (head : Head) (m : Move) → ClaimsIn ls version head m
     → verdict ls ≡ of_lines version (end_of head) head.depth m head.value (drop 5 ls)
 claim-judged ls version head m h =
     let p : Position = end_of head in
-    verdict-is ls (Ok head) h.has_head
+    verdict-is 5 (head_of 2) of_claim ls (Ok head) h.has_head
     ∙ if-open (is_over p) (of_move head.version p head.depth (claimed_move head) head.value (drop 5 ls)) h.open_
     ∙ ap (λ r. of_move head.version p head.depth r head.value (drop 5 ls)) h.denotes
     ∙ ap (λ n. of_lines n p head.depth m head.value (drop 5 ls)) h.is_of
@@ -134,13 +106,13 @@ claim-judged ls version head m h =
 pub held-accepted : HeldIsAccepted
 held-accepted = λ ls head m indices h.
     claim-judged ls 1 head m h.claims
-    ∙ ap (of_items (end_of head) head.depth m head.value) h.are_indices
+    ∙ ap (of_items (end_of head) head.depth m head.value) h.are_items
     ∙ ap (of_walk 5) h.hold.1
 
 pub held-cited : HeldCitedIsAccepted
 held-cited = λ ls head m tokens h.
     claim-judged ls 2 head m h.claims
-    ∙ ap (of_tokens (end_of head) head.depth m head.value) h.are_tokens
+    ∙ ap (of_tokens (end_of head) head.depth m head.value) h.are_items
     ∙ ap (of_cited 5) h.hold.1
 
 -- the written text of a legal move denotes it
@@ -169,7 +141,7 @@ certificate-accepted = λ t ms depth m h.
         open_ = h.open_;
         denotes = named t ms depth m v may;
       };
-      are_indices = indices t ms depth m v may;
+      are_items = indices t ms depth m v may;
       hold = least-hold p depth m (record { deep = h.some; open_ = h.open_ }) h.is_best;
     })
 

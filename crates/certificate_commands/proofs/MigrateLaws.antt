@@ -1,8 +1,9 @@
 -- What the parts of a migration write.
 use Rattle.std.proofs.Common.{◌≡◌, ℕ, ◌+◌, Bool, true, false, List, map, drop, ◌++◌, refl, sym, ap, subst, arith, ◌∙◌, ℤ, Option, Some, None}
-use Rattle.std.specs.Prelude.{Ok, Err, IsTrue, ◌↔◌, if◌then◌else◌}
+use Rattle.std.specs.Prelude.{Result, Ok, Err, IsTrue, ◌↔◌}
 use Rattle.io_edge.specs.Outside.{Told as AnyTold}
 use Rattle.hive_model.specs.declared.places.Move.{Move}
+use Rattle.hive_model.specs.Boards.{Stacks}
 use Rattle.hive_model.specs.Positions.{Position, opening}
 use Rattle.hive_model.specs.Courses.{Course, position}
 use Rattle.hive_model.specs.Legal.{is_over, moves}
@@ -27,11 +28,12 @@ use Rattle.certificate_text.specs.Heads.{ReadsHead}
 use Rattle.certificate_text.specs.Text.{HeadRead, head_of, head_text, index_in}
 use Rattle.citing_text.specs.Migrating.{Shortens}
 use Rattle.text_verdicts.specs.declared.verdict.Verdict.{Verdict}
-use Rattle.text_verdicts.specs.declared.verdict.Verdict.TheVariants.{GameOver, BadLine, Refused as VerdictRefused}
+use Rattle.text_verdicts.specs.declared.verdict.Verdict.TheVariants.{BadLine, Refused as VerdictRefused}
 use Rattle.text_verdicts.specs.Verdicts.{of_walk}
+use Rattle.text_verdicts.proofs.TextLaws.{if-open, verdict-is}
 use Rattle.certificate_commands.specs.declared.migrating.Taken.{Taken}
 use Rattle.certificate_commands.specs.declared.migrating.Taken.TheVariants.{Written, Cut, Judged, Missed}
-use Rattle.certificate_commands.specs.Verdicts.{claimed_move, end_of, of_claim, of_head, of_items, of_lines, of_move}
+use Rattle.certificate_commands.specs.Verdicts.{claimed_move, end_of, of_claim, of_items, of_lines, of_move}
 use Rattle.certificate_commands.specs.Migrating.{MigratesHead, MigratesTo, Missing, OfItems, Writes, first_verdict}
 
 pub writes-as : (v w : Verdict) (Is Also : List ℕ → Type 0) (r : Taken) (a b : AnyTold) → v ≡ w → ((text : List ℕ) → Is text → Also text) → Writes v Is r a b → Writes w Also r a b
@@ -48,10 +50,6 @@ module _ (p : Position) (d : ℕ) (m : Move) (v : ℤ) (items : List (Option ℕ
   bad-judged lines n line e count at = let same : held (n + 1 + 5) ≡ line = omega (arith, count, at) in ap (of_walk 5) e ∙ ap (λ k. BadLine k) same
 
 -- ---- a head
-
-if-open : (over : Bool) (v : Verdict) → over ≡ false → (if over then GameOver else v) ≡ v
-if-open true v e = cc
-if-open false v e = refl
 
 -- the verdict on a claim of the first version whose move is read
 pub claim-items : (head : Head) (rest : List Line) (m : Move) → head.version ≡ 1 → is_over (end_of head) ≡ false → claimed_move head ≡ Ok m → of_claim head rest ≡ of_items (end_of head) head.depth m head.value (map index_in rest)
@@ -89,21 +87,17 @@ course-writes head rest m c r a b kind made first goes read h =
     head-writes head rest m r a b first (sym (ap is_over same) ∙ goes) (ap (λ (p : Position). move_of head.game_type p.board head.claim_text) (sym same) ∙ sym read) all
 
 -- where the text of the move denotes none
-pub no-move : (head : Head) (rest : List Line) (c : Course) (fault : MoveFault) → c.game_type ≡ head.game_type → c.made ≡ head.moves → is_over (position c) ≡ false →
-    Err fault ≡ move_of head.game_type (position c).board head.claim_text → of_claim head rest ≡ VerdictRefused 0 NoSuchMove
-no-move head rest c fault kind made goes read =
+pub no-move : (head : Head) (rest : List Line) (c : Course) (text : List ℕ) (board : Stacks) (read : Result Move MoveFault) → c.game_type ≡ head.game_type → c.made ≡ head.moves → is_over (position c) ≡ false →
+    board ≡ (position c).board → text ≡ head.claim_text → read ≡ move_of head.game_type board text → of_claim head rest ≡ of_move head.version (end_of head) head.depth read head.value rest
+no-move head rest c text board read kind made goes there same_text is =
     let same : position c ≡ end_of head = λ i. replay (opening (kind i)) (made i) in
-    let denotes : claimed_move head ≡ Err fault = ap (λ (p : Position). move_of head.game_type p.board head.claim_text) (sym same) ∙ sym read in
+    let denotes : claimed_move head ≡ read = ap (λ (p : Position). move_of head.game_type p.board head.claim_text) (sym same) ∙ sym (is ∙ (λ i. move_of head.game_type (there i) (same_text i))) in
     if-open (is_over (end_of head)) (of_move head.version (end_of head) head.depth (claimed_move head) head.value rest) (sym (ap is_over same) ∙ goes)
     ∙ ap (λ r. of_move head.version (end_of head) head.depth r head.value rest) denotes
 
-pub first-is : (ls : List Line) (r : HeadRead) → head_of 1 ls ≡ r → first_verdict ls ≡ of_head r (drop 5 ls)
-unfolding first_verdict
-first-is ls r e = ap (λ h. of_head h (drop 5 ls)) e
-
 pub all-writes : (ls : List Line) (head : Head) (r : Taken) (a b : AnyTold) → head_of 1 ls ≡ Ok head → Writes (of_claim head (drop 5 ls)) (MigratesHead head (drop 5 ls)) r a b → Writes (first_verdict ls) (MigratesTo ls) r a b
 all-writes ls head r a b e h =
-    writes-as (of_claim head (drop 5 ls)) (first_verdict ls) (MigratesHead head (drop 5 ls)) (MigratesTo ls) r a b (sym (first-is ls (Ok head) e)) (λ text is. record { head = head; has_head = e; migrates = is }) h
+    writes-as (of_claim head (drop 5 ls)) (first_verdict ls) (MigratesHead head (drop 5 ls)) (MigratesTo ls) r a b (sym (verdict-is 5 (head_of 1) of_claim ls (Ok head) e)) (λ text is. record { head = head; has_head = e; migrates = is }) h
 
 -- where the move is not legal
 no-place : (m : Move) (ms : List Move) (b : Bool) → (IsTrue b ↔ IsOn ms m) → b ≡ false → (o : Option ℕ) → place_of m ms ≡ o → None ≡ o
@@ -117,8 +111,8 @@ illegal-judged p d m v items b legal no_ =
 
 -- where there is no head
 pub fault-writes : (ls : List Line) (fault : HeadFault) (r : Taken) (a b : AnyTold) (later : ToldLines) → Missing fault r → (let h : HeadRead = Err fault in ReadsHead h (head_of 1 ls) ls later) → Writes (first_verdict ls) (MigratesTo ls) r a b
-fault-writes ls (LineFault n) r a b later e h = subst (λ (t : Taken). Writes (first_verdict ls) (MigratesTo ls) t a b) (sym e) (first-is ls (Err (LineFault n)) h)
-fault-writes ls (NoGame fault) r a b later e h = subst (λ (t : Taken). Writes (first_verdict ls) (MigratesTo ls) t a b) (sym e) (first-is ls (Err (NoGame fault)) h)
+fault-writes ls (LineFault n) r a b later e h = subst (λ (t : Taken). Writes (first_verdict ls) (MigratesTo ls) t a b) (sym e) (verdict-is 5 (head_of 1) of_claim ls (Err (LineFault n)) h)
+fault-writes ls (NoGame fault) r a b later e h = subst (λ (t : Taken). Writes (first_verdict ls) (MigratesTo ls) t a b) (sym e) (verdict-is 5 (head_of 1) of_claim ls (Err (NoGame fault)) h)
 fault-writes ls NoRead r a b later e h = subst (λ (t : Taken). Writes (first_verdict ls) (MigratesTo ls) t a b) (sym e) tt
 fault-writes ls IsFull r a b later e h = subst (λ (t : Taken). Writes (first_verdict ls) (MigratesTo ls) t a b) (sym e) tt
 fault-writes ls NoMemory r a b later e h = subst (λ (t : Taken). Writes (first_verdict ls) (MigratesTo ls) t a b) (sym e) tt

@@ -5,6 +5,7 @@ use Rattle.io_edge.specs.Outside.{behind}
 use Rattle.hive_model.specs.declared.places.Move.{Move}
 use Rattle.hive_model.specs.Lines.{Line, lines}
 use Rattle.certificate_text.specs.declared.head.Head.{Head}
+use Rattle.certificate_text.specs.Text.{head_of}
 use Rattle.command_runs.specs.Input.{Sides}
 use Rattle.command_runs.specs.Served.{Served}
 use Rattle.command_runs.specs.declared.status.Status.{Status}
@@ -13,19 +14,20 @@ use Rattle.text_verdicts.specs.declared.verdict.Verdict.TheVariants.{Accepted}
 use Rattle.text_verdicts.specs.Verdicts.{of_walk}
 use Rattle.command_runs.proofs.ServedLemmas.{no_failure}
 use Rattle.text_verdicts.proofs.JudgeLaws.{accepted-done}
+use Rattle.text_verdicts.proofs.TextLaws.{verdict-is}
 use Rattle.certificate_commands.specs.Laws.{HoldsOf}
-use Rattle.certificate_commands.specs.Verdicts.{end_of, of_items}
+use Rattle.certificate_commands.specs.Verdicts.{end_of, of_claim, of_items}
 use Rattle.certificate_commands.specs.Migrating.{MigrateRun, first_verdict}
 use Rattle.certificate_commands.specs.MigrationLaws.{MigratedIsAccepted, MigrationsAreDone}
 use Rattle.certificate_commands.proofs.CitingTexts.{migrated-accepted}
 use Rattle.certificate_commands.proofs.HeadLaws.{head-first}
-use Rattle.certificate_commands.proofs.MigrateLaws.{claim-items, first-is}
+use Rattle.certificate_commands.proofs.MigrateLaws.{claim-items}
 
 pub first-accepted : (ls : List Line) (head : Head) (m : Move) (indices : List ℕ) → HoldsOf ls head m indices → first_verdict ls ≡ Accepted
 first-accepted ls head m indices h =
-    first-is ls (Ok head) (head-first ls head h.claims.has_head h.claims.is_of)
+    verdict-is 5 (head_of 1) of_claim ls (Ok head) (head-first ls head h.claims.has_head h.claims.is_of)
     ∙ claim-items head (drop 5 ls) m h.claims.is_of h.claims.open_ h.claims.denotes
-    ∙ ap (of_items (end_of head) head.depth m head.value) h.are_indices
+    ∙ ap (of_items (end_of head) head.depth m head.value) h.are_items
     ∙ ap (of_walk 5) h.hold.1
 
 ended : (status : Status) (before after : Sides) → MigrateRun status before after → (input : List ℕ) → Served status before input
@@ -41,7 +43,8 @@ ended Memory before after run input served is = inr refl
 ended InputFull before after run input served is = accepted-done 5 first_verdict InputFull before after run input served is
 
 pub migrations-done : MigrationsAreDone
-migrations-done = λ status before after run input served head m indices h.
+migrations-done = λ status before after run input served asks.
+    let (head, m, indices, h) = asks in
     ended status before after run input served (first-accepted (lines input) head m indices h)
 
 pub migrated-are-accepted : MigratedIsAccepted

@@ -29,4 +29,4 @@ certificates_of depth game text = (m : Move) × Certifies depth game text m
 
 -- what was written and read where `certify` of this depth ends with this status
 abbrev pub CertifyRun : ℕ → Status → Sides → Sides → Type 0
-CertifyRun depth status before after = GameRun (certificates_of depth) status before after
+CertifyRun depth = GameRun (certificates_of depth)

@@ -1,13 +1,12 @@
 -- Laws of certificates that are written and checked.
-use Rattle.std.specs.Prelude.{◌≡◌, ◌⊎◌, ℕ, ◌≤◌, false, List, [], length, map, drop, Some, Ok}
+use Rattle.std.specs.Prelude.{◌≡◌, ℕ, ◌≤◌, false, List, length, map, drop, ℤ, Option, Some, Ok}
 use Rattle.hive_model.specs.declared.pieces.GameType.{GameType}
 use Rattle.hive_model.specs.declared.places.Move.{Move}
-use Rattle.hive_model.specs.Positions.{opening}
+use Rattle.hive_model.specs.Positions.{Position, opening}
 use Rattle.hive_model.specs.Legal.{is_over}
 use Rattle.hive_model.specs.Games.{IsGame, replay}
 use Rattle.hive_model.specs.Lines.{Line, lines}
 use Rattle.hive_model.specs.Minimax.{best, value}
-use Rattle.game_text.specs.declared.parsed.Parsed.{Parsed}
 use Rattle.strategy_check.specs.Trace.{Holds}
 use Rattle.strategy_lemmas.specs.declared.tokens.Token.{Token}
 use Rattle.strategy_lemmas.specs.Cited.{HoldsCited}
@@ -16,11 +15,11 @@ use Rattle.certificate_text.specs.declared.head.Head.{Head}
 use Rattle.certificate_text.specs.Text.{head_of, index_in}
 use Rattle.strategy_make.specs.Making.{certificate}
 use Rattle.command_runs.specs.Input.{Sides, WhereTold}
-use Rattle.command_runs.specs.OneGame.{asked}
-use Rattle.command_runs.specs.Served.{Served}
-use Rattle.command_runs.specs.declared.status.Status.{Status}
-use Rattle.command_runs.specs.declared.status.Status.TheVariants.{Done, Memory}
+use Rattle.command_runs.specs.OneGame.{AsksOne}
+use Rattle.command_runs.specs.Served.{RunsAreDone}
+use Rattle.command_runs.specs.declared.status.Status.TheVariants.{Done}
 use Rattle.text_verdicts.specs.declared.verdict.Verdict.TheVariants.{Accepted}
+use Rattle.text_verdicts.specs.Laws.{WritesAccepted}
 use Rattle.certificate_commands.specs.Certifying.{CertifyRun}
 use Rattle.certificate_commands.specs.Verdicts.{CheckRun, claimed_move, end_of, verdict}
 
@@ -51,11 +50,17 @@ pub record ClaimsIn (ls : List Line) (version : ℕ) (head : Head) (m : Move) : 
   pub open_ : is_over (end_of head) ≡ false
   pub denotes : claimed_move head ≡ Ok m
 
+-- the lines are a head of this version with its claim, and items of which this holds
+pub record HoldsAs {T : Type 0} (version : ℕ) (item_in : Line → Option T)
+    (Of : Position → ℕ → Move → ℤ → List T → Type 0)
+    (ls : List Line) (head : Head) (m : Move) (items : List T) : Type 0 where
+  pub claims : ClaimsIn ls version head m
+  pub are_items : map item_in (drop 5 ls) ≡ map (λ item. Some item) items
+  pub hold : Of (end_of head) head.depth m head.value items
+
 -- the lines are a head of the first version with its claim, and indices that hold of it
-pub record HoldsOf (ls : List Line) (head : Head) (m : Move) (indices : List ℕ) : Type 0 where
-  pub claims : ClaimsIn ls 1 head m
-  pub are_indices : map index_in (drop 5 ls) ≡ map (λ i. Some i) indices
-  pub hold : Holds (end_of head) head.depth m head.value indices
+abbrev pub HoldsOf : List Line → Head → Move → List ℕ → Type 0
+HoldsOf = HoldsAs 1 index_in Holds
 
 -- such lines are accepted
 abbrev pub HeldIsAccepted : Type 0
@@ -64,11 +69,8 @@ HeldIsAccepted =
     → HoldsOf ls head m indices → verdict ls ≡ Accepted
 
 -- the same of a head of the second version, and tokens
-pub record HoldsCitedOf (ls : List Line) (head : Head) (m : Move) (tokens : List Token)
-    : Type 0 where
-  pub claims : ClaimsIn ls 2 head m
-  pub are_tokens : map token_in (drop 5 ls) ≡ map (λ t. Some t) tokens
-  pub hold : HoldsCited (end_of head) head.depth m head.value tokens
+abbrev pub HoldsCitedOf : List Line → Head → Move → List Token → Type 0
+HoldsCitedOf = HoldsAs 2 token_in HoldsCited
 
 -- such lines are accepted too
 abbrev pub HeldCitedIsAccepted : Type 0
@@ -95,25 +97,13 @@ CertificatesAreAccepted =
 abbrev pub CertifiedIsAccepted : Type 0
 CertifiedIsAccepted =
     (depth : ℕ) → 1 ≤ depth → depth ≤ 64 → (before : Sides) → (after : Sides)
-    → CertifyRun depth Done before after
-    → (input : List ℕ) → before.rest ≡ Some input → before.written ≡ Some []
-    → (text : List ℕ) × (after.written ≡ Some text) × (verdict (lines text) ≡ Accepted)
+    → CertifyRun depth Done before after → WritesAccepted verdict before after
 
 -- Where the streams served the run, the answer to an input that is exactly one line, a game that is
 -- not over, is done, unless memory is wanting.
 abbrev pub CertifiesAreDone : Type 0
-CertifiesAreDone =
-    (depth : ℕ) → (status : Status) → (before : Sides) → (after : Sides)
-    → CertifyRun depth status before after
-    → (input : List ℕ) → Served status before input
-    → (game : Parsed) → asked (lines input) ≡ Ok game
-    → (status ≡ Done) ⊎ (status ≡ Memory)
+CertifiesAreDone = (depth : ℕ) → RunsAreDone (CertifyRun depth) AsksOne
 
 -- The same of a check of an input that is accepted.
 abbrev pub ChecksAreDone : Type 0
-ChecksAreDone =
-    (status : Status) → (before : Sides) → (after : Sides)
-    → CheckRun status before after
-    → (input : List ℕ) → Served status before input
-    → verdict (lines input) ≡ Accepted
-    → (status ≡ Done) ⊎ (status ≡ Memory)
+ChecksAreDone = RunsAreDone CheckRun (λ input. verdict (lines input) ≡ Accepted)

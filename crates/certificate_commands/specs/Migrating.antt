@@ -1,15 +1,18 @@
 -- What is written where a certificate is made into one that cites.
 use Rattle.std.specs.Prelude.{◌≡◌, ◌⊎◌, ℕ, ◌<◌, false, ⊤, List, map, drop, ◌++◌, length, take, ℤ, Option, Some, Result, Ok, Err}
-use Rattle.io_edge.specs.Outside.{Told, behind}
+use Rattle.io_edge.specs.Outside.{Aside, HasCause, Told, behind}
 use Rattle.hive_model.specs.declared.places.Move.{Move}
 use Rattle.hive_model.specs.Positions.{Position}
 use Rattle.hive_model.specs.Legal.{is_over}
 use Rattle.hive_model.specs.Lines.{Line, lines}
+use Rattle.line_feed.specs.Ahead.{ahead_of}
+use Rattle.line_feed.specs.Feed.{Reading}
 use Rattle.strategy_check.specs.Trace.{Holds}
 use Rattle.strategy_lemmas.specs.Short.{short}
 use Rattle.certificate_text.specs.declared.head.Head.{Head}
 use Rattle.certificate_text.specs.declared.head.HeadFault.{HeadFault}
 use Rattle.certificate_text.specs.declared.head.HeadFault.TheVariants.{BadLine as LineFault, BadGame as NoGame, ReadFault as NoRead, InputFull as IsFull, Memory as NoMemory}
+use Rattle.certificate_text.specs.Taken.{HasRead}
 use Rattle.certificate_text.specs.Text.{head_of, head_text, index_in}
 use Rattle.citing_text.specs.TokenText.{token_lines}
 use Rattle.citing_text.specs.Migrating.{Shortens}
@@ -20,14 +23,16 @@ use Rattle.text_verdicts.specs.declared.verdict.Verdict.{Verdict}
 use Rattle.text_verdicts.specs.declared.verdict.Verdict.TheVariants.{Accepted, Refused as VerdictRefused, BadCite, BadLine, BadGame, GameOver}
 use Rattle.text_verdicts.specs.declared.verdict.Unread.{Unread}
 use Rattle.text_verdicts.specs.declared.verdict.Unread.TheVariants.{ReadFault as UnreadFault, InputFull as UnreadFull, Memory as UnreadMemory}
-use Rattle.text_verdicts.specs.Runs.{CutVerdict, VerdictRun}
+use Rattle.text_verdicts.specs.Judging.{text_verdict}
+use Rattle.text_verdicts.specs.Reading.{WasReadAs}
+use Rattle.text_verdicts.specs.Runs.{CutVerdict, Judgement, VerdictRun}
 use Rattle.certificate_commands.specs.declared.migrating.Taken.{Taken}
 use Rattle.certificate_commands.specs.declared.migrating.Taken.TheVariants.{Written, Cut, Judged, Missed}
-use Rattle.certificate_commands.specs.Verdicts.{claimed_move, end_of, of_head}
+use Rattle.certificate_commands.specs.Verdicts.{claimed_move, end_of, of_claim}
 
 -- the verdict on the lines of a text whose version is the first
-unfoldable pub first_verdict : List Line → Verdict
-first_verdict ls = of_head (head_of 1 ls) (drop 5 ls)
+abbrev pub first_verdict : List Line → Verdict
+first_verdict = text_verdict 5 (head_of 1) of_claim
 
 -- What is written of a head and the lines behind it, where the game is not over and the lines are
 -- indices that hold of the claim: the head of the second version, with the game and the move in
@@ -91,6 +96,19 @@ judged_of Written = Ok Accepted
 judged_of Cut = Ok Accepted
 judged_of (Judged v) = Ok v
 judged_of (Missed unread) = Err unread
+
+-- How the lines to come were taken where so many lines were read at most: what was written of them,
+-- where they are told, by their worth and the texts that they make; and that nothing was written else.
+-- Why the input could not be read or the text not be written, and what was then read of the input.
+pub record MigratesAhead (worth : Judgement) (texts : List Line → List ℕ → Type 0) (most : ℕ)
+    (taken : Taken) (reader : Reading) (source sink source' sink' : Aside) : Type 0 where
+  pub told : (left : List Line) → ahead_of reader source.bytes ≡ Some left
+      → Writes (worth left) (texts left) taken sink.bytes sink'.bytes
+  pub late : WritesLate taken sink.bytes sink'.bytes
+  pub reads : HasCause (taken ≡ Missed UnreadFault) source.faults source'.faults
+  pub writes : HasCause (taken ≡ Cut) sink.faults sink'.faults
+  pub read : (text : List ℕ) → HasRead text source.bytes reader most
+      → WasReadAs 5 (judged_of taken) text source'.bytes
 
 -- the text that the lines of the input make was written, and the input was read to its end
 pub record WroteMigration (input : List ℕ) (before after : Sides) : Type 0 where

@@ -1,13 +1,12 @@
 -- Laws of certificates that become ones that cite.
-use Rattle.std.specs.Prelude.{◌≡◌, ◌⊎◌, ℕ, List, [], Some}
+use Rattle.std.specs.Prelude.{ℕ, List}
 use Rattle.hive_model.specs.declared.places.Move.{Move}
 use Rattle.hive_model.specs.Lines.{lines}
 use Rattle.certificate_text.specs.declared.head.Head.{Head}
 use Rattle.command_runs.specs.Input.{Sides}
-use Rattle.command_runs.specs.Served.{Served}
-use Rattle.command_runs.specs.declared.status.Status.{Status}
-use Rattle.command_runs.specs.declared.status.Status.TheVariants.{Done, Memory}
-use Rattle.text_verdicts.specs.declared.verdict.Verdict.TheVariants.{Accepted}
+use Rattle.command_runs.specs.Served.{RunsAreDone}
+use Rattle.command_runs.specs.declared.status.Status.TheVariants.{Done}
+use Rattle.text_verdicts.specs.Laws.{WritesAccepted}
 use Rattle.certificate_commands.specs.Laws.{HoldsOf}
 use Rattle.certificate_commands.specs.Verdicts.{verdict}
 use Rattle.certificate_commands.specs.Migrating.{MigrateRun}
@@ -16,15 +15,11 @@ use Rattle.certificate_commands.specs.Migrating.{MigrateRun}
 -- it is done, unless memory is wanting.
 abbrev pub MigrationsAreDone : Type 0
 MigrationsAreDone =
-    (status : Status) → (before : Sides) → (after : Sides)
-    → MigrateRun status before after
-    → (input : List ℕ) → Served status before input
-    → (head : Head) → (m : Move) → (indices : List ℕ) → HoldsOf (lines input) head m indices
-    → (status ≡ Done) ⊎ (status ≡ Memory)
+    RunsAreDone MigrateRun
+    (λ input. (head : Head) × (m : Move) × (indices : List ℕ) × HoldsOf (lines input) head m indices)
 
 -- what is written where a run is done is accepted
 abbrev pub MigratedIsAccepted : Type 0
 MigratedIsAccepted =
     (before : Sides) → (after : Sides) → MigrateRun Done before after
-    → (input : List ℕ) → before.rest ≡ Some input → before.written ≡ Some []
-    → (text : List ℕ) × (after.written ≡ Some text) × (verdict (lines text) ≡ Accepted)
+    → WritesAccepted verdict before after

@@ -1,10 +1,13 @@
 -- What the lines of a text are worth as a certificate.
-use Rattle.std.specs.Prelude.{ℕ, ◌+◌, nat_eq, List, map, drop, ℤ, Option, Result, Ok, Err, if◌then◌else◌}
+use Rattle.std.specs.Prelude.{ℕ, ◌+◌, ◌≤◌, nat_eq, List, map, ℤ, Option, Result, Ok, Err, if◌then◌else◌}
 use Rattle.hive_model.specs.declared.places.Move.{Move}
 use Rattle.hive_model.specs.Positions.{Position, opening}
 use Rattle.hive_model.specs.Legal.{is_over}
 use Rattle.hive_model.specs.Games.{replay}
 use Rattle.hive_model.specs.Lines.{Line}
+use Rattle.hive_model.specs.Courses.{Course, position}
+use Rattle.hive_model.specs.Minimax.{IsInner}
+use Rattle.search_laws.specs.Laws.{IsSmall}
 use Rattle.move_text.specs.declared.faults.MoveFault.{MoveFault}
 use Rattle.move_text.specs.Moves.{move_of}
 use Rattle.claim_walks.specs.Walks.{Outcome, Left, Fault, Halt}
@@ -17,13 +20,13 @@ use Rattle.strategy_lemmas.specs.declared.tokens.WhyCited.TheVariants.{NoSuchMov
 use Rattle.strategy_lemmas.specs.Cited.{CitedSteps, cited_checked}
 use Rattle.citing_text.specs.TokenText.{token_in}
 use Rattle.certificate_text.specs.declared.head.Head.{Head}
-use Rattle.certificate_text.specs.declared.head.HeadFault.TheVariants.{BadLine as LineFault, BadGame as NoGame, ReadFault, InputFull, Memory}
-use Rattle.certificate_text.specs.Text.{HeadRead, head_of, index_in}
+use Rattle.certificate_text.specs.Text.{head_of, index_in}
 use Rattle.command_runs.specs.Input.{Sides}
 use Rattle.command_runs.specs.declared.status.Status.{Status}
 use Rattle.text_verdicts.specs.declared.verdict.Verdict.{Verdict}
-use Rattle.text_verdicts.specs.declared.verdict.Verdict.TheVariants.{Accepted, Refused, BadCite, BadLine, BadGame, GameOver}
+use Rattle.text_verdicts.specs.declared.verdict.Verdict.TheVariants.{Accepted, Refused, BadCite, BadLine, GameOver}
 use Rattle.text_verdicts.specs.Verdicts.{of_walk}
+use Rattle.text_verdicts.specs.Judging.{text_verdict}
 use Rattle.text_verdicts.specs.Runs.{VerdictRun}
 
 -- the position at the end of the game of a head
@@ -33,6 +36,13 @@ end_of head = replay (opening head.game_type) head.moves
 -- the move that is claimed there, legal or not, if its text denotes one
 abbrev pub claimed_move : Head → Result Move MoveFault
 claimed_move head = move_of head.game_type (end_of head).board head.claim_text
+
+-- a claim of this depth and value can be judged of the game under way, which goes on
+pub record IsClaimOf (course : Course) (depth : ℕ) (value : ℤ) : Type 0 where
+  pub deep : depth ≤ 64
+  pub inner : IsInner (position course) depth
+  pub small : IsSmall 1000064 value
+  pub spare : depth ≤ course.spare
 
 -- what indices behind the head make of the claim that a move of a position is the best one, and is
 -- worth so much
@@ -77,20 +87,10 @@ of_claim head rest =
     if is_over (end_of head) then GameOver
     else of_move head.version (end_of head) head.depth (claimed_move head) head.value rest
 
--- the same of the lines behind a head, or of the fault of a head; the last three are no faults of
--- lines
-abbrev pub of_head : HeadRead → List Line → Verdict
-of_head (Ok head) rest = of_claim head rest
-of_head (Err (LineFault n)) rest = BadLine n
-of_head (Err (NoGame fault)) rest = BadGame fault
-of_head (Err ReadFault) rest = BadLine 0
-of_head (Err InputFull) rest = BadLine 0
-of_head (Err Memory) rest = BadLine 0
-
 -- the verdict on the lines of a text
-unfoldable pub verdict : List Line → Verdict
-verdict lines = of_head (head_of 2 lines) (drop 5 lines)
+abbrev pub verdict : List Line → Verdict
+verdict = text_verdict 5 (head_of 2) of_claim
 
 -- what was written and read where `check` ends with this status
 abbrev pub CheckRun : Status → Sides → Sides → Type 0
-CheckRun status before after = VerdictRun 5 verdict status before after
+CheckRun = VerdictRun 5 verdict

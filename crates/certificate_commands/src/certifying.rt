@@ -6,6 +6,7 @@ ghost use Rattle.io_edge.specs.Outside.{HasCause};
 ghost use Rattle.hive_model.specs.Courses.{position};
 ghost use Rattle.hive_model.specs.Minimax.{best};
 ghost use Rattle.command_runs.specs.GameRun.{WritesAnswer};
+ghost use Rattle.command_runs.specs.Runs.{RunsAs, side_of};
 ghost use Rattle.strategy_make.specs.Making.{certificate_of};
 ghost use Rattle.certificate_commands.specs.Certifying.{CertifyRun, HasCertificate};
 
@@ -68,13 +69,9 @@ pub fn certify<S: Source, K: Sink, G: Game + Drop>(
 ) -> Status
     requires some { 1 ≤ depth }
     requires deep { depth ≤ 64 }
-    ensures run { CertifyRun depth result
-        (record { rest = S.rest input.old; written = K.written output.old })
-        (record { rest = S.rest input.new; written = K.written output.new }) }
-    ensures reads { HasCause (result ≡ Status.ReadFault)
-        (S.read_faults input.old) (S.read_faults input.new) }
-    ensures writes { HasCause (result ≡ Status.WriteFault)
-        (K.write_faults output.old) (K.write_faults output.new) }
+    ensures { RunsAs (CertifyRun depth) result
+        (side_of S.rest S.read_faults input.old) (side_of K.written K.write_faults output.old)
+        (side_of S.rest S.read_faults input.new) (side_of K.written K.write_faults output.new) }
 {
     let game = match read_one_game::<S, G>(alloc, input, depth) {
         Ok(game) => game,

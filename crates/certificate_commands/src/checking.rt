@@ -1,28 +1,23 @@
 //! Checks of certificates.
 
-ghost use Rattle.std.specs.Prelude.{◌≡◌, ◌≤◌, ℕ, List, length, map, Some, Err};
-ghost use Rattle.io_edge.specs.Outside.{HasCause};
-ghost use Rattle.line_feed.specs.Ahead.{ahead_of};
-ghost use Rattle.hive_model.specs.Lines.{Line as AnyLine, lines};
-ghost use Rattle.hive_model.specs.Minimax.{IsInner};
+ghost use Rattle.std.specs.Prelude.{◌≤◌, length, map};
 ghost use Rattle.hive_model.specs.Courses.{position};
-ghost use Rattle.search_laws.specs.Laws.{IsSmall};
 ghost use Rattle.move_text.specs.Moves.{move_of};
-ghost use Rattle.certificate_text.specs.Text.{index_in};
+ghost use Rattle.certificate_text.specs.Text.{head_of, index_in};
 ghost use Rattle.certificate_text.specs.Heads.{IsHead};
-ghost use Rattle.certificate_text.specs.Taken.{HasRead};
-ghost use Rattle.text_verdicts.specs.Reading.{Judges, WasReadAs};
+ghost use Rattle.command_runs.specs.Runs.{RunsAs, side_of};
+ghost use Rattle.text_verdicts.specs.Judging.{JudgesAhead};
 ghost use Rattle.certificate_commands.specs.Verdicts.{
   CheckRun,
+  IsClaimOf,
   of_claim,
   of_items,
   of_lines,
   of_move,
-  verdict,
 };
 
 use crate::citing::judge_tokens;
-use certificate_text::{Head, LineIndices, read_head};
+use certificate_text::{Head, HeadFault, LineIndices, read_head};
 use command_runs::{Status, is_over};
 use game_text::played;
 use hive_model::{Game, MoveStack};
@@ -32,7 +27,7 @@ use move_text::read_move;
 use std::alloc::Global;
 use strategy_check::{Claim, Why, check as check_indices};
 use strategy_lemmas::Lemmas;
-use text_verdicts::{Unread, Verdict, fault_verdict, tell_judged, verdict_of};
+use text_verdicts::{TextForm, Unread, Verdict, check_text, verdict_of};
 
 /// The greatest version of a certificate that is known.
 const NEWEST: u32 = 2;
@@ -48,18 +43,11 @@ fn judge_indices<S: Source, G: Game>(
     claim: &Claim,
     stack: &mut MoveStack,
 ) -> Result<Verdict, Unread>
-    requires deep { claim.now.depth ≤ 64 }
-    requires inner { IsInner (position (G.course game.old)) claim.now.depth }
-    requires small { IsSmall 1000064 claim.now.value }
-    requires spare { claim.now.depth ≤ (G.course game.old).spare }
+    requires claim { IsClaimOf (G.course game.old) claim.now.depth claim.now.value }
     requires room { claim.now.depth ≤ stack.old.free }
-    ensures judged { (left : List AnyLine) → ahead_of reader.old (S.rest input.old) ≡ Some left
-        → Judges result (of_items (position (G.course game.old))
-        claim.now.depth claim.now.best claim.now.value (map index_in left)) }
-    ensures cause { HasCause (result ≡ Err Unread.ReadFault)
-        (S.read_faults input.old) (S.read_faults input.new) }
-    ensures read { (text : List ℕ) → HasRead text (S.rest input.old) reader.old 5
-        → WasReadAs 5 result text (S.rest input.new) }
+    ensures { JudgesAhead 5 (λ left. of_items (position (G.course game.old))
+        claim.now.depth claim.now.best claim.now.value (map index_in left)) 5 result reader.old
+        (side_of S.rest S.read_faults input.old) (side_of S.rest S.read_faults input.new) }
 {
     let mut indices = LineIndices::new(reader, input);
     let checked = check_indices(game, claim, &mut indices, stack);
@@ -77,17 +65,10 @@ fn judge_move<S: Source, G: Game>(
     input: &mut S,
     game: &mut G,
 ) -> Result<Verdict, Unread>
-    requires deep { claim.now.depth ≤ 64 }
-    requires inner { IsInner (position (G.course game.old)) claim.now.depth }
-    requires small { IsSmall 1000064 claim.now.value }
-    requires spare { claim.now.depth ≤ (G.course game.old).spare }
-    ensures judged { (left : List AnyLine) → ahead_of reader.old (S.rest input.old) ≡ Some left
-        → Judges result (of_lines version (position (G.course game.old))
-        claim.now.depth claim.now.best claim.now.value left) }
-    ensures cause { HasCause (result ≡ Err Unread.ReadFault)
-        (S.read_faults input.old) (S.read_faults input.new) }
-    ensures read { (text : List ℕ) → HasRead text (S.rest input.old) reader.old 5
-        → WasReadAs 5 result text (S.rest input.new) }
+    requires claim { IsClaimOf (G.course game.old) claim.now.depth claim.now.value }
+    ensures { JudgesAhead 5 (of_lines version (position (G.course game.old))
+        claim.now.depth claim.now.best claim.now.value) 5 result reader.old
+        (side_of S.rest S.read_faults input.old) (side_of S.rest S.read_faults input.new) }
 {
     let Ok(mut stack) = MoveStack::new(alloc, claim.depth) else {
         return Err(Unread::Memory);
@@ -110,19 +91,12 @@ fn judge_text<S: Source, G: Game>(
     input: &mut S,
     game: &mut G,
 ) -> Result<Verdict, Unread>
-    requires deep { head.now.depth ≤ 64 }
-    requires inner { IsInner (position (G.course game.old)) head.now.depth }
-    requires small { IsSmall 1000064 head.now.value }
+    requires claim { IsClaimOf (G.course game.old) head.now.depth head.now.value }
     requires short { length head.now.claim_text ≤ 65536 }
-    requires spare { head.now.depth ≤ (G.course game.old).spare }
-    ensures judged { (left : List AnyLine) → ahead_of reader.old (S.rest input.old) ≡ Some left
-        → Judges result (of_move head.now.version (position (G.course game.old)) head.now.depth
+    ensures { JudgesAhead 5 (of_move head.now.version (position (G.course game.old)) head.now.depth
         (move_of head.now.game_type (position (G.course game.old)).board head.now.claim_text)
-        head.now.value left) }
-    ensures cause { HasCause (result ≡ Err Unread.ReadFault)
-        (S.read_faults input.old) (S.read_faults input.new) }
-    ensures read { (text : List ℕ) → HasRead text (S.rest input.old) reader.old 5
-        → WasReadAs 5 result text (S.rest input.new) }
+        head.now.value) 5 result reader.old
+        (side_of S.rest S.read_faults input.old) (side_of S.rest S.read_faults input.new) }
 {
     let _state = game.state();
     match read_move(head.game_type, game, head.claim_text.items()) {
@@ -149,12 +123,8 @@ fn judge_claim<S: Source, G: Game + Drop>(
     input: &mut S,
 ) -> Result<Verdict, Unread>
     requires { IsHead NEWEST head.now }
-    ensures judged { (left : List AnyLine) → ahead_of reader.old (S.rest input.old) ≡ Some left
-        → Judges result (of_claim head.now left) }
-    ensures cause { HasCause (result ≡ Err Unread.ReadFault)
-        (S.read_faults input.old) (S.read_faults input.new) }
-    ensures read { (text : List ℕ) → HasRead text (S.rest input.old) reader.old 5
-        → WasReadAs 5 result text (S.rest input.new) }
+    ensures { JudgesAhead 5 (of_claim head.now) 5 result reader.old
+        (side_of S.rest S.read_faults input.old) (side_of S.rest S.read_faults input.new) }
 {
     let Ok(mut game) = played::<G>(alloc, head.game_type, head.moves.items(), head.depth) else {
         return Err(Unread::Memory);
@@ -165,38 +135,38 @@ fn judge_claim<S: Source, G: Game + Drop>(
     judge_text(alloc, head, reader, input, &mut game)
 }
 
-/// The verdict on the lines to come.
-fn judge_lines<S: Source, G: Game + Drop>(
-    alloc: Global,
-    reader: &mut LineReader,
-    input: &mut S,
-) -> Result<Verdict, Unread>
-    ensures judged { (left : List AnyLine) → ahead_of reader.old (S.rest input.old) ≡ Some left
-        → Judges result (verdict left) }
-    ensures cause { HasCause (result ≡ Err Unread.ReadFault)
-        (S.read_faults input.old) (S.read_faults input.new) }
-    ensures read { (text : List ℕ) → HasRead text (S.rest input.old) reader.old 0
-        → WasReadAs 5 result text (S.rest input.new) }
-{
-    match read_head::<G, S>(alloc, reader, input, NEWEST) {
-        Ok(head) => judge_claim::<S, G>(alloc, &head, reader, input),
-        Err(fault) => fault_verdict(fault),
-    }
-}
+/// The form of certificates of both versions.
+struct Certificates;
 
-/// The verdict on the input.
-fn judge<S: Source, G: Game + Drop>(alloc: Global, input: &mut S) -> Result<Verdict, Unread>
-    ensures judged { (text : List ℕ) → S.rest input.old ≡ Some text
-        → Judges result (verdict (lines text)) }
-    ensures read { (text : List ℕ) → S.rest input.old ≡ Some text
-        → WasReadAs 5 result text (S.rest input.new) }
-    ensures cause { HasCause (result ≡ Err Unread.ReadFault)
-        (S.read_faults input.old) (S.read_faults input.new) }
-{
-    let Ok(mut reader) = LineReader::new(alloc) else {
-        return Err(Unread::Memory);
-    };
-    judge_lines::<S, G>(alloc, &mut reader, input)
+impl TextForm for Certificates {
+    type Head = Head;
+
+    ghost head_lines = { 5 };
+
+    ghost head_of = { head_of 2 };
+
+    ghost keeps = { IsHead 2 };
+
+    ghost worth = { of_claim };
+
+    fn read_head<S: Source, G: Game + Drop>(
+        &self,
+        alloc: Global,
+        reader: &mut LineReader,
+        input: &mut S,
+    ) -> Result<Head, HeadFault> {
+        read_head::<G, S>(alloc, reader, input, NEWEST)
+    }
+
+    fn judge_claim<S: Source, G: Game + Drop>(
+        &self,
+        alloc: Global,
+        head: Head,
+        reader: &mut LineReader,
+        input: &mut S,
+    ) -> Result<Verdict, Unread> {
+        judge_claim::<S, G>(alloc, &head, reader, input)
+    }
 }
 
 /// Checks the input, which is to be a certificate: the lines `hive-certificate 1` or
@@ -218,14 +188,9 @@ pub fn check<S: Source, K: Sink, G: Game + Drop>(
     input: &mut S,
     output: &mut K,
 ) -> Status
-    ensures run { CheckRun result
-        (record { rest = S.rest input.old; written = K.written output.old })
-        (record { rest = S.rest input.new; written = K.written output.new }) }
-    ensures reads { HasCause (result ≡ Status.ReadFault)
-        (S.read_faults input.old) (S.read_faults input.new) }
-    ensures writes { HasCause (result ≡ Status.WriteFault)
-        (K.write_faults output.old) (K.write_faults output.new) }
+    ensures { RunsAs CheckRun result
+        (side_of S.rest S.read_faults input.old) (side_of K.written K.write_faults output.old)
+        (side_of S.rest S.read_faults input.new) (side_of K.written K.write_faults output.new) }
 {
-    let judged = judge::<S, G>(alloc, input);
-    tell_judged(alloc, judged, output)
+    check_text::<Certificates, S, K, G>(alloc, &Certificates, input, output)
 }

@@ -1,13 +1,9 @@
 //! Checks of certificates that cite.
 
-ghost use Rattle.std.specs.Prelude.{◌≡◌, ◌+◌, ◌≤◌, ◌↔◌, ℕ, List, map, Some, Err};
-ghost use Rattle.io_edge.specs.Outside.{HasCause, Told as AnyTold};
+ghost use Rattle.std.specs.Prelude.{◌≡◌, ◌+◌, ◌≤◌, ◌↔◌, ℕ, List, map, Err};
+ghost use Rattle.io_edge.specs.Outside.{Told as AnyTold};
 ghost use Rattle.line_feed.specs.Feed.{Reading};
-ghost use Rattle.line_feed.specs.Ahead.{ahead_of};
-ghost use Rattle.hive_model.specs.Lines.{Line as AnyLine};
-ghost use Rattle.hive_model.specs.Minimax.{IsInner};
 ghost use Rattle.hive_model.specs.Courses.{position};
-ghost use Rattle.search_laws.specs.Laws.{IsSmall};
 ghost use Rattle.claim_walks.specs.Walks.{Outcome};
 ghost use Rattle.strategy_lemmas.specs.declared.tokens.WhyCited.{WhyCited as AnyWhy};
 ghost use Rattle.strategy_lemmas.specs.declared.tokens.Token.{Token as AnyToken};
@@ -16,8 +12,10 @@ ghost use Rattle.claim_walks.specs.Answers.{Answers, CountsBad, CountsRefused, E
 ghost use Rattle.strategy_lemmas.specs.CitedChecks.{cited_faults};
 ghost use Rattle.certificate_text.specs.Taken.{HasRead, StopsAt};
 ghost use Rattle.citing_text.specs.TokenText.{token_in};
+ghost use Rattle.command_runs.specs.Runs.{side_of};
+ghost use Rattle.text_verdicts.specs.Judging.{JudgesAhead};
 ghost use Rattle.text_verdicts.specs.Reading.{Judges, WasReadAs};
-ghost use Rattle.certificate_commands.specs.Verdicts.{of_cited, of_tokens, of_why};
+ghost use Rattle.certificate_commands.specs.Verdicts.{IsClaimOf, of_cited, of_tokens, of_why};
 
 use crate::checking::HEAD_LINES;
 use citing_text::LineTokens;
@@ -91,18 +89,11 @@ pub(crate) fn judge_tokens<S: Source, G: Game>(
     lemmas: &mut Lemmas,
     stack: &mut MoveStack,
 ) -> Result<Verdict, Unread>
-    requires deep { claim.now.depth ≤ 64 }
-    requires inner { IsInner (position (G.course game.old)) claim.now.depth }
-    requires small { IsSmall 1000064 claim.now.value }
-    requires spare { claim.now.depth ≤ (G.course game.old).spare }
+    requires claim { IsClaimOf (G.course game.old) claim.now.depth claim.now.value }
     requires room { claim.now.depth ≤ stack.old.free }
-    ensures judged { (left : List AnyLine) → ahead_of reader.old (S.rest input.old) ≡ Some left
-        → Judges result (of_tokens (position (G.course game.old))
-        claim.now.depth claim.now.best claim.now.value (map token_in left)) }
-    ensures cause { HasCause (result ≡ Err Unread.ReadFault)
-        (S.read_faults input.old) (S.read_faults input.new) }
-    ensures read { (text : List ℕ) → HasRead text (S.rest input.old) reader.old 5
-        → WasReadAs 5 result text (S.rest input.new) }
+    ensures { JudgesAhead 5 (λ left. of_tokens (position (G.course game.old))
+        claim.now.depth claim.now.best claim.now.value (map token_in left)) 5 result reader.old
+        (side_of S.rest S.read_faults input.old) (side_of S.rest S.read_faults input.new) }
 {
     let mut tokens = LineTokens::new(reader, input);
     let checked = check_cited(game, claim, &mut tokens, lemmas, stack);

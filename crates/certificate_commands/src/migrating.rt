@@ -3,13 +3,11 @@
 ghost use Rattle.std.specs.Prelude.{◌≡◌, ◌≢◌, ◌+◌, ◌<◌, ◌≤◌, ◌↔◌, ℕ, ℤ, List, map, Option, Some};
 ghost use Rattle.io_edge.specs.Outside.{HasCause, Told as AnyTold};
 ghost use Rattle.line_feed.specs.Feed.{Reading, input_limit};
-ghost use Rattle.line_feed.specs.Ahead.{ahead_of};
-ghost use Rattle.hive_model.specs.Lines.{Line as AnyLine, lines};
+ghost use Rattle.hive_model.specs.Lines.{lines};
 ghost use Rattle.hive_model.specs.Minimax.{IsInner};
 ghost use Rattle.hive_model.specs.Courses.{position};
 ghost use Rattle.hive_model.specs.declared.places.Move.{Move as AnyMove};
 ghost use Rattle.hive_model.specs.Positions.{Position};
-ghost use Rattle.search_laws.specs.Laws.{IsSmall};
 ghost use Rattle.strategy_check.specs.Trace.{checked};
 ghost use Rattle.certificate_text.specs.Text.{head_text, index_in};
 ghost use Rattle.certificate_text.specs.Heads.{IsHead, fault_line};
@@ -21,10 +19,12 @@ ghost use Rattle.citing_text.specs.Migrating.{
 };
 ghost use Rattle.citing_text.specs.Migrating as calls;
 ghost use Rattle.citing_text.specs.Endings.{MigrateEnded};
+ghost use Rattle.command_runs.specs.Runs.{RunsAs, side_of};
 ghost use Rattle.text_verdicts.specs.Reading.{WasReadAs};
-ghost use Rattle.certificate_commands.specs.Verdicts.{of_claim, of_items};
+ghost use Rattle.certificate_commands.specs.Verdicts.{IsClaimOf, of_claim, of_items};
 ghost use Rattle.certificate_commands.specs.Migrating.{
   MigrateRun,
+  MigratesAhead,
   MigratesHead,
   MigratesTo,
   Missing,
@@ -108,24 +108,16 @@ fn migrate_lines<S: Source, G: Game, K: Sink>(
     stack: &mut MoveStack,
     output: &mut K,
 ) -> Taken
-    requires deep { claim.now.depth ≤ 64 }
-    requires inner { IsInner (position (G.course game.old)) claim.now.depth }
-    requires small { IsSmall 1000064 claim.now.value }
-    requires spare { claim.now.depth ≤ (G.course game.old).spare }
+    requires claim { IsClaimOf (G.course game.old) claim.now.depth claim.now.value }
     requires room { claim.now.depth ≤ stack.old.free }
-    ensures told { (left : List AnyLine) → ahead_of reader.old (S.rest input.old) ≡ Some left
-        → Writes (of_items (position (G.course game.old))
+    ensures { MigratesAhead
+        (λ left. of_items (position (G.course game.old))
         claim.now.depth claim.now.best claim.now.value (map index_in left))
-        (OfItems (position (G.course game.old))
-        claim.now.depth claim.now.best claim.now.value (map index_in left) head.now) result
-        (K.written output.old) (K.written output.new) }
-    ensures late { WritesLate result (K.written output.old) (K.written output.new) }
-    ensures reads { HasCause (result ≡ Taken.Missed Unread.ReadFault)
-        (S.read_faults input.old) (S.read_faults input.new) }
-    ensures writes { HasCause (result ≡ Taken.Cut)
-        (K.write_faults output.old) (K.write_faults output.new) }
-    ensures read { (text : List ℕ) → HasRead text (S.rest input.old) reader.old 5
-        → WasReadAs 5 (judged_of result) text (S.rest input.new) }
+        (λ left. OfItems (position (G.course game.old))
+        claim.now.depth claim.now.best claim.now.value (map index_in left) head.now)
+        5 result reader.old
+        (side_of S.rest S.read_faults input.old) (side_of K.written K.write_faults output.old)
+        (side_of S.rest S.read_faults input.new) (side_of K.written K.write_faults output.new) }
 {
     let mut indices = LineIndices::new(reader, input);
     let migrated = migrate_indices(alloc, game, claim, &mut indices, head, stack, output);
@@ -141,25 +133,17 @@ fn migrate_move<S: Source, G: Game + Drop, K: Sink>(
     game: &mut G,
     output: &mut K,
 ) -> Taken
-    requires deep { claim.now.depth ≤ 64 }
-    requires inner { IsInner (position (G.course game.old)) claim.now.depth }
-    requires small { IsSmall 1000064 claim.now.value }
-    requires spare { claim.now.depth ≤ (G.course game.old).spare }
-    ensures told { (left : List AnyLine) → ahead_of reader.old (S.rest input.old) ≡ Some left
-        → Writes (of_items (position (G.course game.old))
+    requires claim { IsClaimOf (G.course game.old) claim.now.depth claim.now.value }
+    ensures { MigratesAhead
+        (λ left. of_items (position (G.course game.old))
         claim.now.depth claim.now.best claim.now.value (map index_in left))
-        (OfItems (position (G.course game.old))
+        (λ left. OfItems (position (G.course game.old))
         claim.now.depth claim.now.best claim.now.value (map index_in left)
         (head_text 2 (G.course game.old).game_type (G.course game.old).made
-        claim.now.depth claim.now.best claim.now.value)) result
-        (K.written output.old) (K.written output.new) }
-    ensures late { WritesLate result (K.written output.old) (K.written output.new) }
-    ensures reads { HasCause (result ≡ Taken.Missed Unread.ReadFault)
-        (S.read_faults input.old) (S.read_faults input.new) }
-    ensures writes { HasCause (result ≡ Taken.Cut)
-        (K.write_faults output.old) (K.write_faults output.new) }
-    ensures read { (text : List ℕ) → HasRead text (S.rest input.old) reader.old 5
-        → WasReadAs 5 (judged_of result) text (S.rest input.new) }
+        claim.now.depth claim.now.best claim.now.value))
+        5 result reader.old
+        (side_of S.rest S.read_faults input.old) (side_of K.written K.write_faults output.old)
+        (side_of S.rest S.read_faults input.new) (side_of K.written K.write_faults output.new) }
 {
     if !game.is_legal(claim.best) {
         return Taken::Judged(Verdict::Refused {
@@ -199,16 +183,9 @@ fn migrate_text<S: Source, G: Game + Drop, K: Sink>(
     requires made { (G.course game.old).made ≡ head.now.moves }
     requires inner { IsInner (position (G.course game.old)) head.now.depth }
     requires spare { head.now.depth ≤ (G.course game.old).spare }
-    ensures told { (left : List AnyLine) → ahead_of reader.old (S.rest input.old) ≡ Some left
-        → Writes (of_claim head.now left) (MigratesHead head.now left) result
-        (K.written output.old) (K.written output.new) }
-    ensures late { WritesLate result (K.written output.old) (K.written output.new) }
-    ensures reads { HasCause (result ≡ Taken.Missed Unread.ReadFault)
-        (S.read_faults input.old) (S.read_faults input.new) }
-    ensures writes { HasCause (result ≡ Taken.Cut)
-        (K.write_faults output.old) (K.write_faults output.new) }
-    ensures read { (text : List ℕ) → HasRead text (S.rest input.old) reader.old 5
-        → WasReadAs 5 (judged_of result) text (S.rest input.new) }
+    ensures { MigratesAhead (of_claim head.now) (MigratesHead head.now) 5 result reader.old
+        (side_of S.rest S.read_faults input.old) (side_of K.written K.write_faults output.old)
+        (side_of S.rest S.read_faults input.new) (side_of K.written K.write_faults output.new) }
 {
     let _state = game.state();
     match read_move(head.game_type, game, head.claim_text.items()) {
@@ -236,16 +213,9 @@ fn migrate_claim<S: Source, G: Game + Drop, K: Sink>(
     output: &mut K,
 ) -> Taken
     requires { IsHead 1 head.now }
-    ensures told { (left : List AnyLine) → ahead_of reader.old (S.rest input.old) ≡ Some left
-        → Writes (of_claim head.now left) (MigratesHead head.now left) result
-        (K.written output.old) (K.written output.new) }
-    ensures late { WritesLate result (K.written output.old) (K.written output.new) }
-    ensures reads { HasCause (result ≡ Taken.Missed Unread.ReadFault)
-        (S.read_faults input.old) (S.read_faults input.new) }
-    ensures writes { HasCause (result ≡ Taken.Cut)
-        (K.write_faults output.old) (K.write_faults output.new) }
-    ensures read { (text : List ℕ) → HasRead text (S.rest input.old) reader.old 5
-        → WasReadAs 5 (judged_of result) text (S.rest input.new) }
+    ensures { MigratesAhead (of_claim head.now) (MigratesHead head.now) 5 result reader.old
+        (side_of S.rest S.read_faults input.old) (side_of K.written K.write_faults output.old)
+        (side_of S.rest S.read_faults input.new) (side_of K.written K.write_faults output.new) }
 {
     let Ok(mut game) = played::<G>(alloc, head.game_type, head.moves.items(), head.depth) else {
         return Taken::Missed(Unread::Memory);
@@ -284,16 +254,9 @@ fn migrate_all<S: Source, G: Game + Drop, K: Sink>(
     input: &mut S,
     output: &mut K,
 ) -> Taken
-    ensures told { (left : List AnyLine) → ahead_of reader.old (S.rest input.old) ≡ Some left
-        → Writes (first_verdict left) (MigratesTo left) result
-        (K.written output.old) (K.written output.new) }
-    ensures late { WritesLate result (K.written output.old) (K.written output.new) }
-    ensures reads { HasCause (result ≡ Taken.Missed Unread.ReadFault)
-        (S.read_faults input.old) (S.read_faults input.new) }
-    ensures writes { HasCause (result ≡ Taken.Cut)
-        (K.write_faults output.old) (K.write_faults output.new) }
-    ensures read { (text : List ℕ) → HasRead text (S.rest input.old) reader.old 0
-        → WasReadAs 5 (judged_of result) text (S.rest input.new) }
+    ensures { MigratesAhead first_verdict MigratesTo 0 result reader.old
+        (side_of S.rest S.read_faults input.old) (side_of K.written K.write_faults output.old)
+        (side_of S.rest S.read_faults input.new) (side_of K.written K.write_faults output.new) }
 {
     match read_head::<G, S>(alloc, reader, input, FIRST) {
         Ok(head) => migrate_claim::<S, G, K>(alloc, &head, reader, input, output),
@@ -335,13 +298,9 @@ pub fn migrate<S: Source, K: Sink, G: Game + Drop>(
     input: &mut S,
     output: &mut K,
 ) -> Status
-    ensures run { MigrateRun result
-        (record { rest = S.rest input.old; written = K.written output.old })
-        (record { rest = S.rest input.new; written = K.written output.new }) }
-    ensures reads { HasCause (result ≡ Status.ReadFault)
-        (S.read_faults input.old) (S.read_faults input.new) }
-    ensures writes { HasCause (result ≡ Status.WriteFault)
-        (K.write_faults output.old) (K.write_faults output.new) }
+    ensures { RunsAs MigrateRun result
+        (side_of S.rest S.read_faults input.old) (side_of K.written K.write_faults output.old)
+        (side_of S.rest S.read_faults input.new) (side_of K.written K.write_faults output.new) }
 {
     match migrate_input::<S, G, K>(alloc, input, output) {
         Taken::Written => Status::Done,

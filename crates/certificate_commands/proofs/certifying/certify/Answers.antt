@@ -6,16 +6,27 @@ use Rattle.certificate_commands.specs.Certifying.{certificates_of}
 use Rattle.certificate_commands.proofs.CertifyLaws.{certified, has-one}
 use Rattle.certificate_commands.proofs.certifying.certify.Goals as goal
 
-pub returns-in-Err-clause-run : goal.returns-in-Err-clause-run
-returns-in-Err-clause-run g c = none_run (certificates_of c.args.depth) c.in-Err.none c.tell_none.result _ _ c.in-Err.ensures.none c.tell_none.ensures.told
+pub returns-in-Err : goal.returns-in-Err
+returns-in-Err g c = record {
+  run = none_run (certificates_of c.args.depth) c.in-Err.none c.tell_none.result _ _ c.in-Err.ensures.none c.tell_none.ensures.told;
+  reads = search rules;
+  writes = search rules;
+}
 
-pub returns-then-not-has_certificate-clause-run : goal.returns-then-not-has_certificate-clause-run
-returns-then-not-has_certificate-clause-run g c = λ input told.
-    let (game, is, end) = c.in-Ok.ensures.game input told in
-    let yes : c.has_certificate.result ≡ true = c.has_certificate.ensures.every (has-one (g.G.Game.course c.in-Ok.game) game (lines input) is.asks end) in
-    let no : c.has_certificate.result ≡ false = search rules in
-    absurd (cc)
+pub returns-then-not-has_certificate : goal.returns-then-not-has_certificate
+returns-then-not-has_certificate g c = record {
+  run = λ input told.
+      let (game, is, end) = c.in-Ok.ensures.game input told in
+      let yes : c.has_certificate.result ≡ true = c.has_certificate.ensures.every (has-one (g.G.Game.course c.in-Ok.game) game (lines input) is.asks end) in
+      let no : c.has_certificate.result ≡ false = search rules in
+      absurd (cc);
+  reads = search rules;
+  writes = search rules;
+}
 
-pub returns-clause-run : goal.returns-clause-run
-returns-clause-run g c =
-    certified c.args.depth c.tell_certificate.result _ _ (g.G.Game.course c.in-Ok.game) c.requires.some (search rules) c.in-Ok.ensures.game c.tell_certificate.ensures.told
+pub returns : goal.returns
+returns g c = record {
+  run = certified c.args.depth c.tell_certificate.result _ _ (g.G.Game.course c.in-Ok.game) c.requires.some (search rules) c.in-Ok.ensures.game c.tell_certificate.ensures.told;
+  reads = search rules;
+  writes = search rules;
+}
