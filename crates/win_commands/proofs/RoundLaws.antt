@@ -1,6 +1,6 @@
 -- What is written of a game is accepted.
 use Rattle.std.proofs.Common.{◌≡◌, ℕ, ◌+◌, ◌^◌, ◌≤◌, ◌<◌, Bool, true, false, List, ◌∷◌, ◌++◌, length, map, refl, sym, ap, subst, ◌∙◌, arith, lit<, Some}
-use Rattle.std.specs.Prelude.{codes, decimal, Ok, if◌then◌else◌}
+use Rattle.std.specs.Prelude.{codes, decimal, Ok}
 use Rattle.std.proofs.lemmas.Fmt.{decimal_digit}
 use Rattle.std.proofs.lemmas.List.{append_assoc}
 use Rattle.hive_model.specs.declared.pieces.GameType.{GameType}
@@ -29,14 +29,12 @@ use Rattle.win_solver.specs.Solution.{least_solution, limit_of}
 use Rattle.win_solver.proofs.SolutionLaws.{least-is, least-solves}
 use Rattle.text_verdicts.specs.Verdicts.{of_walk}
 use Rattle.text_verdicts.proofs.AskedLaws.{asked-open}
+use Rattle.text_verdicts.proofs.TextLaws.{if-open, verdict-is}
 use Rattle.win_commands.specs.declared.head.Head.{Head}
-use Rattle.text_verdicts.specs.declared.verdict.Verdict.{Verdict}
-use Rattle.text_verdicts.specs.declared.verdict.Verdict.TheVariants.{GameOver}
 use Rattle.win_commands.specs.Text.{answer_at, answer_of, answer_word, head_text, is_forced, plies_at, version_at}
-use Rattle.win_commands.specs.Verdicts.{head_of, of_items, verdict}
+use Rattle.win_commands.specs.Verdicts.{head_of, of_claim, of_items, verdict}
 use Rattle.win_commands.specs.Laws.{MayAsk, SolutionsAreAccepted, SolvedIsAccepted}
 use Rattle.win_commands.proofs.HeadLaws.{after_answer, after_game, after_plies, after_version, begins, head_is}
-use Rattle.win_commands.proofs.VerdictLaws.{verdict-is}
 
 -- ---- the fields
 
@@ -102,10 +100,6 @@ four-read a b c d rest v game plies answer one two three four =
 
 -- ---- the verdict
 
-if-open : (over : Bool) (v : Verdict) → over ≡ false → (if over then GameOver else v) ≡ v
-if-open true v e = cc
-if-open false v e = refl
-
 solution-low : (t : GameType) (ms : List Move) (plies : ℕ) (answer : Bool) → MayAsk t ms plies → AreLow (least_solution (replay (opening t) ms) plies (replay (opening t) ms).side answer)
 solution-low t ms plies answer may =
     let few = may.few in
@@ -128,7 +122,7 @@ accepted t ms plies may =
     four-read (codes "hive-solution 1") (string t ms) (codes "plies " ++ decimal plies) (codes "answer " ++ answer_word answer) (lines (index_lines indices)) 1 game plies answer
     version-is (game_again (string t ms) t ms (strings t ms may.game may.few)) (plies-is plies may.some may.short) (answer-is answer) in
     ap verdict (head-lines t ms plies answer (index_lines indices) (string-plain t ms may.game may.few) may.short)
-    ∙ verdict-is ls (Ok head) read
+    ∙ verdict-is 4 head_of of_claim ls (Ok head) read
     ∙ if-open (is_over p) (of_items p plies answer (map index_in (lines (index_lines indices)))) may.open_
     ∙ ap (of_items p plies answer) (indices-read indices (solution-low t ms plies answer may))
     ∙ ap (of_walk 4) (least-solves p plies p.side).1

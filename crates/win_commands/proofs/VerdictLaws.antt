@@ -1,44 +1,24 @@
 -- What an accepted text says.
-use Rattle.std.proofs.Common.{◌≡◌, ℕ, Bool, true, false, List, drop, map, refl, sym, ap, subst, ◌∙◌, Option}
+use Rattle.std.proofs.Common.{◌≡◌, ℕ, Bool, true, false, List, drop, map, refl, sym, ◌∙◌, Option}
 use Rattle.std.specs.Prelude.{Result, Ok, Err}
 use Rattle.hive_model.specs.Positions.{Position}
 use Rattle.hive_model.specs.Legal.{is_over}
-use Rattle.hive_model.specs.Lines.{Line, ToldLines}
+use Rattle.hive_model.specs.Lines.{Line}
 use Rattle.claim_walks.specs.Walks.{Outcome, Left, Fault, Halt}
 use Rattle.strategy_check.specs.declared.answers.Why.{Why}
 use Rattle.strategy_check.specs.Trace.{Steps}
 use Rattle.certificate_text.specs.declared.head.HeadFault.{HeadFault}
-use Rattle.certificate_text.specs.declared.head.HeadFault.TheVariants.{BadLine as LineFault, BadGame as NoGame, ReadFault as NoRead, InputFull as IsFull, Memory as NoMemory}
 use Rattle.certificate_text.specs.Text.{index_in}
 use Rattle.win_solver.specs.Solution.{solved}
 use Rattle.win_solver.proofs.SolutionLaws.{solved-sound}
 use Rattle.command_runs.specs.OneGame.{last_position}
 use Rattle.win_commands.specs.declared.head.Head.{Head}
-use Rattle.text_verdicts.specs.declared.verdict.Verdict.{Verdict}
 use Rattle.text_verdicts.specs.declared.verdict.Verdict.TheVariants.{Accepted, GameOver}
-use Rattle.text_verdicts.specs.declared.verdict.Unread.{Unread}
-use Rattle.text_verdicts.specs.Reading.{Judges, of_fault}
 use Rattle.text_verdicts.specs.Verdicts.{of_walk}
-use Rattle.certificate_text.specs.Heads.{Reads}
+use Rattle.text_verdicts.proofs.TextLaws.{never-fault, verdict-is}
 use Rattle.win_commands.specs.Text.{is_forced}
-use Rattle.win_commands.specs.Verdicts.{head_of, of_claim, of_head, of_items, verdict}
+use Rattle.win_commands.specs.Verdicts.{head_of, of_claim, of_items, verdict}
 use Rattle.win_commands.specs.Laws.{AcceptedIsTrue, IsTrueText}
-
-pub verdict-is : (lines : List Line) (r : Result Head HeadFault) → head_of lines ≡ r → verdict lines ≡ of_head r (drop 4 lines)
-unfolding verdict
-verdict-is lines r e = ap (λ h. of_head h (drop 4 lines)) e
-
--- where there is no head
-of-fault : (lines : List Line) (fault : HeadFault) (later : ToldLines) → (let r : Result Head HeadFault = Err fault in Reads 4 r (head_of lines) lines later) → Judges (of_fault fault) (verdict lines)
-of-fault lines (LineFault n) later h = verdict-is lines (Err (LineFault n)) h
-of-fault lines (NoGame fault) later h = verdict-is lines (Err (NoGame fault)) h
-of-fault lines NoRead later h = tt
-of-fault lines IsFull later h = tt
-of-fault lines NoMemory later h = tt
-
-pub fault-judges : (lines : List Line) (fault : HeadFault) (result : Result Verdict Unread) (later : ToldLines) → result ≡ of_fault fault →
-    (let r : Result Head HeadFault = Err fault in Reads 4 r (head_of lines) lines later) → Judges result (verdict lines)
-fault-judges lines fault result later e h = subst (λ (r : Result Verdict Unread). Judges r (verdict lines)) (sym e) (of-fault lines fault later h)
 
 -- ---- what is accepted is true
 
@@ -56,17 +36,9 @@ claim-true head rest h = go (is_over (last_position head.game)) refl
         let same : of_claim head rest ≡ of_items (last_position head.game) head.plies head.answer (map index_in rest) = rw e refl in
         walk-true (last_position head.game) head.plies head.answer (map index_in rest) (solved (last_position head.game) head.plies (last_position head.game).side head.answer (map index_in rest)) refl (sym same ∙ h)
 
--- no fault of a head is accepted
-never-fault : (fault : HeadFault) (rest : List Line) → (let r : Result Head HeadFault = Err fault in of_head r rest ≡ Accepted) → ⊥
-never-fault (LineFault n) rest e = cc
-never-fault (NoGame fault) rest e = cc
-never-fault NoRead rest e = cc
-never-fault IsFull rest e = cc
-never-fault NoMemory rest e = cc
-
 pub accepted-true : AcceptedIsTrue
 accepted-true = λ lines h. go lines (head_of lines) refl h
   where
     go : (lines : List Line) (r : Result Head HeadFault) → head_of lines ≡ r → verdict lines ≡ Accepted → (head : Head) × IsTrueText lines head
-    go lines (Ok head) e h = (head, record { has_head = e; is_true = claim-true head (drop 4 lines) (sym (verdict-is lines (Ok head) e) ∙ h) })
-    go lines (Err fault) e h = absurd (never-fault fault (drop 4 lines) (sym (verdict-is lines (Err fault) e) ∙ h))
+    go lines (Ok head) e h = (head, record { has_head = e; is_true = claim-true head (drop 4 lines) (sym (verdict-is 4 head_of of_claim lines (Ok head) e) ∙ h) })
+    go lines (Err fault) e h = absurd (never-fault 4 head_of of_claim fault (drop 4 lines) (sym (verdict-is 4 head_of of_claim lines (Err fault) e) ∙ h))

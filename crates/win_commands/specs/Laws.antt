@@ -1,19 +1,18 @@
 -- Laws of forced wins that are told and checked.
-use Rattle.std.specs.Prelude.{◌≡◌, ◌⊎◌, ℕ, ◌≤◌, false, List, [], length, Some, Ok}
+use Rattle.std.specs.Prelude.{◌≡◌, ℕ, ◌≤◌, false, List, length, Ok}
 use Rattle.hive_model.specs.declared.pieces.GameType.{GameType}
 use Rattle.hive_model.specs.declared.places.Move.{Move}
 use Rattle.hive_model.specs.Positions.{opening}
 use Rattle.hive_model.specs.Legal.{is_over}
 use Rattle.hive_model.specs.Games.{IsGame, replay}
 use Rattle.hive_model.specs.Lines.{Line, lines}
-use Rattle.game_text.specs.declared.parsed.Parsed.{Parsed}
 use Rattle.command_runs.specs.Input.{Sides, WhereTold}
-use Rattle.command_runs.specs.OneGame.{asked, last_position}
-use Rattle.command_runs.specs.Served.{Served}
-use Rattle.command_runs.specs.declared.status.Status.{Status}
-use Rattle.command_runs.specs.declared.status.Status.TheVariants.{Done, Memory}
+use Rattle.command_runs.specs.OneGame.{AsksOne, last_position}
+use Rattle.command_runs.specs.Served.{RunsAreDone}
+use Rattle.command_runs.specs.declared.status.Status.TheVariants.{Done}
 use Rattle.win_commands.specs.declared.head.Head.{Head}
 use Rattle.text_verdicts.specs.declared.verdict.Verdict.TheVariants.{Accepted}
+use Rattle.text_verdicts.specs.Laws.{WritesAccepted}
 use Rattle.win_commands.specs.Text.{is_forced, solution_text}
 use Rattle.win_commands.specs.Verdicts.{head_of, verdict}
 use Rattle.win_commands.specs.Runs.{SolveRun, VerifyRun}
@@ -36,20 +35,11 @@ VerifiedIsTrue =
 -- Where the streams served the run, the answer to an input that is exactly one line, a game that is
 -- not over, is done, unless memory is wanting.
 abbrev pub SolvesAreDone : Type 0
-SolvesAreDone =
-    (plies : ℕ) → (status : Status) → (before : Sides) → (after : Sides)
-    → SolveRun plies status before after
-    → (input : List ℕ) → Served status before input
-    → (game : Parsed) → asked (lines input) ≡ Ok game
-    → (status ≡ Done) ⊎ (status ≡ Memory)
+SolvesAreDone = (plies : ℕ) → RunsAreDone (SolveRun plies) AsksOne
 
 -- The same of a check of an input that is accepted.
 abbrev pub VerifiesAreDone : Type 0
-VerifiesAreDone =
-    (status : Status) → (before : Sides) → (after : Sides) → VerifyRun status before after
-    → (input : List ℕ) → Served status before input
-    → verdict (lines input) ≡ Accepted
-    → (status ≡ Done) ⊎ (status ≡ Memory)
+VerifiesAreDone = RunsAreDone VerifyRun (λ input. verdict (lines input) ≡ Accepted)
 
 -- what a solution may be asked about: a game of at most 5,000 moves that is not over, and 1 to 16
 -- plies
@@ -70,6 +60,4 @@ SolutionsAreAccepted =
 abbrev pub SolvedIsAccepted : Type 0
 SolvedIsAccepted =
     (plies : ℕ) → 1 ≤ plies → plies ≤ 16 → (before : Sides) → (after : Sides)
-    → SolveRun plies Done before after
-    → (input : List ℕ) → before.rest ≡ Some input → before.written ≡ Some []
-    → (text : List ℕ) × (after.written ≡ Some text) × (verdict (lines text) ≡ Accepted)
+    → SolveRun plies Done before after → WritesAccepted verdict before after

@@ -9,8 +9,8 @@ use Rattle.win_commands.specs.Verdicts.{verdict}
 
 -- one game is answered by the least solution of the true answer
 abbrev pub SolveRun : ℕ → Status → Sides → Sides → Type 0
-SolveRun plies status before after = GameRun (solution_of plies) status before after
+SolveRun plies = GameRun (solution_of plies)
 
 -- a check writes the line of the verdict on the lines of the input
 abbrev pub VerifyRun : Status → Sides → Sides → Type 0
-VerifyRun status before after = VerdictRun 4 verdict status before after
+VerifyRun = VerdictRun 4 verdict

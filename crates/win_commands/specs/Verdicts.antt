@@ -1,16 +1,17 @@
 -- What the lines of a text are worth as a solution.
-use Rattle.std.specs.Prelude.{ℕ, Bool, List, map, drop, Option, Result, Ok, Err, if◌then◌else◌}
+use Rattle.std.specs.Prelude.{ℕ, ◌≤◌, Bool, List, length, map, drop, Option, Result, Ok, if◌then◌else◌}
 use Rattle.hive_model.specs.Positions.{Position}
 use Rattle.hive_model.specs.Legal.{is_over}
+use Rattle.hive_model.specs.Games.{IsGame}
 use Rattle.hive_model.specs.Lines.{Line}
 use Rattle.certificate_text.specs.declared.head.HeadFault.{HeadFault}
-use Rattle.certificate_text.specs.declared.head.HeadFault.TheVariants.{BadLine as LineFault, BadGame as NoGame, ReadFault, InputFull, Memory}
 use Rattle.certificate_text.specs.Text.{and_then, field_in, game_in, index_in}
 use Rattle.win_solver.specs.Solution.{solved}
 use Rattle.command_runs.specs.OneGame.{last_position}
 use Rattle.win_commands.specs.declared.head.Head.{Head}
 use Rattle.text_verdicts.specs.declared.verdict.Verdict.{Verdict}
-use Rattle.text_verdicts.specs.declared.verdict.Verdict.TheVariants.{BadLine, BadGame, GameOver}
+use Rattle.text_verdicts.specs.declared.verdict.Verdict.TheVariants.{GameOver}
+use Rattle.text_verdicts.specs.Judging.{text_verdict}
 use Rattle.text_verdicts.specs.Verdicts.{of_walk}
 use Rattle.win_commands.specs.Text.{version_at, plies_at, answer_at}
 
@@ -26,6 +27,13 @@ head_of lines =
     and_then (field_in 4 answer_at (drop 3 lines)) (λ answer.
     Ok (record { game = game; plies = plies; answer = answer })))))
 
+-- what every head that was read keeps
+pub record IsHead (head : Head) : Type 0 where
+  pub legal : IsGame head.game.game_type head.game.moves
+  pub few : length head.game.moves ≤ 5000
+  pub some : 1 ≤ head.plies
+  pub short : head.plies ≤ 16
+
 -- The verdict
 
 -- what the items of the lines behind the head make of its answer about a position
@@ -38,16 +46,6 @@ of_claim head rest =
     if is_over (last_position head.game) then GameOver
     else of_items (last_position head.game) head.plies head.answer (map index_in rest)
 
--- the same of the lines behind a head, or of the fault of a head; the last three are no faults of
--- lines
-abbrev pub of_head : Result Head HeadFault → List Line → Verdict
-of_head (Ok head) rest = of_claim head rest
-of_head (Err (LineFault n)) rest = BadLine n
-of_head (Err (NoGame fault)) rest = BadGame fault
-of_head (Err ReadFault) rest = BadLine 0
-of_head (Err InputFull) rest = BadLine 0
-of_head (Err Memory) rest = BadLine 0
-
 -- the verdict on the lines of a text
-unfoldable pub verdict : List Line → Verdict
-verdict lines = of_head (head_of lines) (drop 4 lines)
+abbrev pub verdict : List Line → Verdict
+verdict = text_verdict 4 head_of of_claim

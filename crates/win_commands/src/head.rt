@@ -1,14 +1,13 @@
 //! The head of a solution.
 
-ghost use Rattle.std.specs.Prelude.{◌≡◌, ◌<◌, ◌≤◌, ℕ, List, length, Some, Err, IfOk};
+ghost use Rattle.std.specs.Prelude.{◌≡◌, ◌<◌, ℕ, List, Some, Err, IfOk};
 ghost use Rattle.io_edge.specs.Outside.{HasCause};
 ghost use Rattle.line_feed.specs.Feed.{input_limit};
 ghost use Rattle.line_feed.specs.Ahead.{ahead_of};
 ghost use Rattle.hive_model.specs.Lines.{Line as AnyLine};
-ghost use Rattle.hive_model.specs.Games.{IsGame};
 ghost use Rattle.certificate_text.specs.Heads.{Reads, last_line};
 ghost use Rattle.certificate_text.specs.Taken.{HasRead};
-ghost use Rattle.win_commands.specs.Verdicts.{head_of};
+ghost use Rattle.win_commands.specs.Verdicts.{IsHead, head_of};
 
 use crate::fields::{Answer, Plies, Version};
 use certificate_text::{HeadFault, read_field, read_game_line};
@@ -35,9 +34,7 @@ pub(crate) fn read_head<G: Game + Drop, S: Source>(
 ) -> Result<Head, HeadFault>
     ensures told { (lines : List AnyLine) → ahead_of reader.old (S.rest source.old) ≡ Some lines
         → Reads 4 result (head_of lines) lines (ahead_of reader.new (S.rest source.new)) }
-    ensures game { IfOk result (λ h. IsGame h.game.game_type h.game.moves
-        × (length h.game.moves ≤ 5000)) }
-    ensures plies { IfOk result (λ h. (1 ≤ h.plies) × (h.plies ≤ 16)) }
+    ensures head { IfOk result IsHead }
     ensures full { result ≡ Err HeadFault.InputFull → reader.new.taken ≡ input_limit }
     ensures cause { HasCause (result ≡ Err HeadFault.ReadFault)
         (S.read_faults source.old) (S.read_faults source.new) }

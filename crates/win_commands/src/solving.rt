@@ -4,6 +4,7 @@ ghost use Rattle.std.specs.Prelude.{◌≡◌, ◌≤◌, ◌++◌, false};
 ghost use Rattle.io_edge.specs.Outside.{HasCause};
 ghost use Rattle.hive_model.specs.Courses.{position};
 ghost use Rattle.command_runs.specs.GameRun.{WritesAnswer};
+ghost use Rattle.command_runs.specs.Runs.{RunsAs, side_of};
 ghost use Rattle.index_writing.specs.Writing.{Wrote};
 ghost use Rattle.win_commands.specs.Text.{solution_lines, solution_text};
 ghost use Rattle.win_commands.specs.Runs.{SolveRun};
@@ -84,13 +85,9 @@ pub fn solve<S: Source, K: Sink, G: Game + Drop>(
 ) -> Status
     requires some { 1 ≤ plies }
     requires few { plies ≤ 16 }
-    ensures run { SolveRun plies result
-        (record { rest = S.rest input.old; written = K.written output.old })
-        (record { rest = S.rest input.new; written = K.written output.new }) }
-    ensures reads { HasCause (result ≡ Status.ReadFault)
-        (S.read_faults input.old) (S.read_faults input.new) }
-    ensures writes { HasCause (result ≡ Status.WriteFault)
-        (K.write_faults output.old) (K.write_faults output.new) }
+    ensures { RunsAs (SolveRun plies) result
+        (side_of S.rest S.read_faults input.old) (side_of K.written K.write_faults output.old)
+        (side_of S.rest S.read_faults input.new) (side_of K.written K.write_faults output.new) }
 {
     match read_one_game::<S, G>(alloc, input, plies) {
         Ok(game) => tell_solution(alloc, game, plies, output),

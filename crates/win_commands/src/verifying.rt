@@ -1,27 +1,23 @@
 //! Checks of solutions.
 
-ghost use Rattle.std.specs.Prelude.{◌≡◌, ◌≤◌, ℕ, List, length, map, Some, Err};
-ghost use Rattle.io_edge.specs.Outside.{HasCause};
-ghost use Rattle.line_feed.specs.Ahead.{ahead_of};
-ghost use Rattle.hive_model.specs.Lines.{Line as AnyLine, lines};
-ghost use Rattle.hive_model.specs.Games.{IsGame};
+ghost use Rattle.std.specs.Prelude.{◌≤◌, map};
 ghost use Rattle.hive_model.specs.Minimax.{IsInner};
 ghost use Rattle.hive_model.specs.Courses.{position};
 ghost use Rattle.certificate_text.specs.Text.{index_in};
-ghost use Rattle.certificate_text.specs.Taken.{HasRead};
-ghost use Rattle.text_verdicts.specs.Reading.{Judges, WasReadAs};
-ghost use Rattle.win_commands.specs.Verdicts.{of_claim, of_items, verdict};
+ghost use Rattle.command_runs.specs.Runs.{RunsAs, side_of};
+ghost use Rattle.text_verdicts.specs.Judging.{JudgesAhead};
+ghost use Rattle.win_commands.specs.Verdicts.{IsHead, head_of, of_claim, of_items};
 ghost use Rattle.win_commands.specs.Runs.{VerifyRun};
 
 use crate::head::{Head, read_head};
-use certificate_text::LineIndices;
+use certificate_text::{HeadFault, LineIndices};
 use command_runs::{Status, is_over};
 use game_text::played;
 use hive_model::{Game, MoveStack};
 use io_edge::{Sink, Source};
 use line_feed::LineReader;
 use std::alloc::Global;
-use text_verdicts::{Unread, Verdict, fault_verdict, tell_judged, verdict_of};
+use text_verdicts::{TextForm, Unread, Verdict, check_text, verdict_of};
 use win_solver::check_solution;
 
 /// How many lines a head has.
@@ -40,12 +36,10 @@ fn judge_indices<S: Source, G: Game>(
     requires inner { IsInner (position (G.course game.old)) plies }
     requires spare { plies ≤ (G.course game.old).spare }
     requires room { plies ≤ stack.old.free }
-    ensures judged { (left : List AnyLine) → ahead_of reader.old (S.rest input.old) ≡ Some left
-        → Judges result (of_items (position (G.course game.old)) plies answer (map index_in left)) }
-    ensures cause { HasCause (result ≡ Err Unread.ReadFault)
-        (S.read_faults input.old) (S.read_faults input.new) }
-    ensures read { (text : List ℕ) → HasRead text (S.rest input.old) reader.old 4
-        → WasReadAs 4 result text (S.rest input.new) }
+    ensures { JudgesAhead 4
+        (λ left. of_items (position (G.course game.old)) plies answer (map index_in left))
+        4 result reader.old
+        (side_of S.rest S.read_faults input.old) (side_of S.rest S.read_faults input.new) }
 {
     let mut indices = LineIndices::new(reader, input);
     let checked = check_solution(game, plies, answer, &mut indices, stack);
@@ -59,16 +53,9 @@ fn judge_claim<S: Source, G: Game + Drop>(
     reader: &mut LineReader,
     input: &mut S,
 ) -> Result<Verdict, Unread>
-    requires game { IsGame head.game.game_type head.game.moves }
-    requires moves { length head.game.moves ≤ 5000 }
-    requires some { 1 ≤ head.plies }
-    requires few { head.plies ≤ 16 }
-    ensures judged { (left : List AnyLine) → ahead_of reader.old (S.rest input.old) ≡ Some left
-        → Judges result (of_claim head left) }
-    ensures cause { HasCause (result ≡ Err Unread.ReadFault)
-        (S.read_faults input.old) (S.read_faults input.new) }
-    ensures read { (text : List ℕ) → HasRead text (S.rest input.old) reader.old 4
-        → WasReadAs 4 result text (S.rest input.new) }
+    requires { IsHead head }
+    ensures { JudgesAhead 4 (of_claim head) 4 result reader.old
+        (side_of S.rest S.read_faults input.old) (side_of S.rest S.read_faults input.new) }
 {
     let Ok(mut game) = played::<G>(
         alloc,
@@ -94,38 +81,38 @@ fn judge_claim<S: Source, G: Game + Drop>(
     )
 }
 
-/// The verdict on the lines to come.
-fn judge_lines<S: Source, G: Game + Drop>(
-    alloc: Global,
-    reader: &mut LineReader,
-    input: &mut S,
-) -> Result<Verdict, Unread>
-    ensures judged { (left : List AnyLine) → ahead_of reader.old (S.rest input.old) ≡ Some left
-        → Judges result (verdict left) }
-    ensures cause { HasCause (result ≡ Err Unread.ReadFault)
-        (S.read_faults input.old) (S.read_faults input.new) }
-    ensures read { (text : List ℕ) → HasRead text (S.rest input.old) reader.old 0
-        → WasReadAs 4 result text (S.rest input.new) }
-{
-    match read_head::<G, S>(alloc, reader, input) {
-        Ok(head) => judge_claim::<S, G>(alloc, head, reader, input),
-        Err(fault) => fault_verdict(fault),
-    }
-}
+/// The form of solutions.
+struct Solutions;
 
-/// The verdict on the input.
-fn judge<S: Source, G: Game + Drop>(alloc: Global, input: &mut S) -> Result<Verdict, Unread>
-    ensures judged { (text : List ℕ) → S.rest input.old ≡ Some text
-        → Judges result (verdict (lines text)) }
-    ensures read { (text : List ℕ) → S.rest input.old ≡ Some text
-        → WasReadAs 4 result text (S.rest input.new) }
-    ensures cause { HasCause (result ≡ Err Unread.ReadFault)
-        (S.read_faults input.old) (S.read_faults input.new) }
-{
-    let Ok(mut reader) = LineReader::new(alloc) else {
-        return Err(Unread::Memory);
-    };
-    judge_lines::<S, G>(alloc, &mut reader, input)
+impl TextForm for Solutions {
+    type Head = Head;
+
+    ghost head_lines = { 4 };
+
+    ghost head_of = { head_of };
+
+    ghost keeps = { IsHead };
+
+    ghost worth = { of_claim };
+
+    fn read_head<S: Source, G: Game + Drop>(
+        &self,
+        alloc: Global,
+        reader: &mut LineReader,
+        input: &mut S,
+    ) -> Result<Head, HeadFault> {
+        read_head::<G, S>(alloc, reader, input)
+    }
+
+    fn judge_claim<S: Source, G: Game + Drop>(
+        &self,
+        alloc: Global,
+        head: Head,
+        reader: &mut LineReader,
+        input: &mut S,
+    ) -> Result<Verdict, Unread> {
+        judge_claim::<S, G>(alloc, head, reader, input)
+    }
 }
 
 /// Checks the input, which is to be a solution: the lines `hive-solution 1`, a game string, `plies
@@ -144,14 +131,9 @@ pub fn verify<S: Source, K: Sink, G: Game + Drop>(
     input: &mut S,
     output: &mut K,
 ) -> Status
-    ensures run { VerifyRun result
-        (record { rest = S.rest input.old; written = K.written output.old })
-        (record { rest = S.rest input.new; written = K.written output.new }) }
-    ensures reads { HasCause (result ≡ Status.ReadFault)
-        (S.read_faults input.old) (S.read_faults input.new) }
-    ensures writes { HasCause (result ≡ Status.WriteFault)
-        (K.write_faults output.old) (K.write_faults output.new) }
+    ensures { RunsAs VerifyRun result
+        (side_of S.rest S.read_faults input.old) (side_of K.written K.write_faults output.old)
+        (side_of S.rest S.read_faults input.new) (side_of K.written K.write_faults output.new) }
 {
-    let judged = judge::<S, G>(alloc, input);
-    tell_judged(alloc, judged, output)
+    check_text::<Solutions, S, K, G>(alloc, &Solutions, input, output)
 }

@@ -1,27 +1,25 @@
-use Rattle.std.proofs.Common.{◌≡◌, ℕ, ◌+◌, List, ap, rules, subst, sym}
-use Rattle.io_edge.specs.Outside.{Told}
-use Rattle.line_feed.specs.Feed.{Reading}
+use Rattle.std.proofs.Common.{ℕ, ◌+◌, ap, rules, subst, sym}
 use Rattle.claim_walks.specs.Answers.{CountsRefused}
 use Rattle.strategy_check.specs.Checks.{index_faults}
 use Rattle.certificate_text.specs.Taken.{HasRead}
 use Rattle.text_verdicts.specs.Reading.{WasReadAs}
+use Rattle.text_verdicts.proofs.TextLaws.{read-begins}
 use Rattle.win_commands.proofs.verifying.judge_indices.Goals as goal
 
--- before the first index, no line was read but those of the head
-begins : (text : List ℕ) (rest0 rest1 : Told) (reader0 reader1 : Reading) (lines : ℕ) → reader1 ≡ reader0 → rest1 ≡ rest0 → lines ≡ 0 → HasRead text rest0 reader0 4 → HasRead text rest1 reader1 (4 + lines)
-begins text rest0 rest1 reader0 reader1 lines same_reader same_rest none r =
-    subst (λ (n : ℕ). HasRead text rest1 reader1 (4 + n)) (sym none) (subst (λ (x : Reading). HasRead text rest1 x 4) (sym same_reader) (subst (λ (x : Told). HasRead text x reader0 4) (sym same_rest) r))
-
-pub returns-clause-read : goal.returns-clause-read
-returns-clause-read g c = λ text r.
-    let before = c.new-indices.result in
-    let after = c.check_solution-checked.new.indices in
-    let begun : HasRead text (g.S.Source.rest before.source.now) before.reader.now (4 + before.lines) =
-    begins text _ _ _ _ _ c.new-indices.ensures.same_reader (ap g.S.Source.rest c.new-indices.ensures.same_source) c.new-indices.ensures.none r in
-    let went : HasRead text (g.S.Source.rest after.source.now) after.reader.now (4 + after.lines) = c.check_solution-checked.ensures.known text 4 begun in
-    let taken : HasRead text (g.S.Source.rest after.source.now) after.reader.now (4 + c.lines.result) =
-    subst (λ (n : ℕ). HasRead text (g.S.Source.rest after.source.now) after.reader.now (4 + n)) (sym c.lines.ensures) went in
-    let few : CountsRefused index_faults c.check_solution-checked.result c.lines.result =
-    subst (λ (n : ℕ). CountsRefused index_faults c.check_solution-checked.result n) (sym c.lines.ensures) (c.check_solution-checked.ensures.refused c.new-indices.ensures.none) in
-    let told : WasReadAs 4 c.verdict_of.result text (g.S.Source.rest after.source.now) = c.verdict_of.ensures.read text _ _ taken few c.check_solution-checked.ensures.met in
-    search (rules, told)
+pub returns : goal.returns
+returns g c = record {
+  judged = search rules;
+  cause = search rules;
+  read = λ text r.
+      let before = c.new-indices.result in
+      let after = c.check_solution-checked.new.indices in
+      let begun : HasRead text (g.S.Source.rest before.source.now) before.reader.now (4 + before.lines) =
+      read-begins 4 text _ _ _ _ _ c.new-indices.ensures.same_reader (ap g.S.Source.rest c.new-indices.ensures.same_source) c.new-indices.ensures.none r in
+      let went : HasRead text (g.S.Source.rest after.source.now) after.reader.now (4 + after.lines) = c.check_solution-checked.ensures.known text 4 begun in
+      let taken : HasRead text (g.S.Source.rest after.source.now) after.reader.now (4 + c.lines.result) =
+      subst (λ (n : ℕ). HasRead text (g.S.Source.rest after.source.now) after.reader.now (4 + n)) (sym c.lines.ensures) went in
+      let few : CountsRefused index_faults c.check_solution-checked.result c.lines.result =
+      subst (λ (n : ℕ). CountsRefused index_faults c.check_solution-checked.result n) (sym c.lines.ensures) (c.check_solution-checked.ensures.refused c.new-indices.ensures.none) in
+      let told : WasReadAs 4 c.verdict_of.result text (g.S.Source.rest after.source.now) = c.verdict_of.ensures.read text _ _ taken few c.check_solution-checked.ensures.met in
+      search (rules, told);
+}
