@@ -1,5 +1,5 @@
 -- The games behind the first line, one after another.
-use Rattle.std.proofs.Common.{◌≡◌, ◌<◌, ◌≤◌, ℕ, ◌+◌, ◌^◌, List, [], ◌∷◌, ◌++◌, length, refl, ap, sym, ◌∙◌, subst, inr, Some, arith, append_assoc, length-append}
+use Rattle.std.proofs.Common.{◌≡◌, ◌<◌, ◌≤◌, ℕ, ◌+◌, List, [], ◌∷◌, ◌++◌, length, refl, ap, sym, ◌∙◌, subst, inr, Some, arith, append_assoc, length-append}
 use Rattle.std.proofs.lemmas.List.{append-nil, map-append}
 use Rattle.io_edge.specs.Outside.{Told}
 use Rattle.hive_model.specs.Courses.{Course}
@@ -64,14 +64,6 @@ one_counted {start} {now} {new} {from} {to} {rest} {first} {last} {next} {number
   numbered = let n = c.numbered in let l = length-append c.ls (line ∷ []) in omega (arith, n, l);
   counted = let k = c.counted in let long = is.long in omega (arith, k, long, plies);
 }
-
--- there is room to count its plies and its line
-pub room_to_count : {start now : Reading} {from to : Told} {first last : Counts} {number : ℕ} (made passed : ℕ) → Counting start now from to first last number → now.passed + made < passed → passed ≤ input_limit
-    → (last.plies + made < 2 ^ 40) × (number + 1 < 2 ^ 64)
-room_to_count made passed c long within =
-    let k = c.counted in
-    let n = c.numbered in
-    (omega (arith, k, n, long, within), omega (arith, k, n, long, within))
 
 -- The end of the counting
 

@@ -68,11 +68,6 @@ no_line input rest start games whole = (
 
 -- The run
 
--- the line was written, or a part of it
-pub told_run : (status : Status) (before after : Sides) (line : List ℕ) → WhereTold before.rest (λ input. IsAnswer input after.rest line) → WritesAs line Done status before.written after.written → BookRun status before after
-told_run status before after line is (inl (e, wrote)) = subst (λ s. BookRun s before after) (sym e) (λ input told. (line, record { is_answer = is input told; wrote = wrote }))
-told_run status before after line is (inr (e, (n, less, wrote))) = subst (λ s. BookRun s before after) (sym e) (λ input told. (line, n, record { is_text = inr (is input told); cut = less; wrote = wrote }))
-
 bad_run : (status : Status) (before after : Sides) (text : List ℕ) → WhereTold before.rest (λ input. IsNoBook (Bad text) input after.rest) → WritesAs text BadInput status before.written after.written → BookRun status before after
 bad_run status before after text none (inl (e, wrote)) = subst (λ s. BookRun s before after) (sym e) (λ input told.
     let (why, bad, is) = none input told in (why, record { bad = bad; wrote = wrote ∙ ap (behind before.written) is }))
@@ -123,18 +118,18 @@ not_bad input rest why start games asks (inr (inr (given, no_game))) =
     (subst (λ ls. Asks ls start games) (read.of_input ∙ ap (λ ls. ls ++ others) r.are) asks) r.none
 
 pub books_done : BooksAreDone
-books_done Done before after run input served start games asks = inl refl
-books_done Memory before after run input served start games asks = inr refl
-books_done BadInput before after run input served start games asks =
+books_done Done before after run input served (start, games, asks) = inl refl
+books_done Memory before after run input served (start, games, asks) = inr refl
+books_done BadInput before after run input served (start, games, asks) =
     let (why, wrote) = run input served.told in absurd (not_bad input after.rest why start games asks wrote.bad)
-books_done ReadFault before after run input served start games asks = absurd (no_failure served.reads refl)
-books_done WriteFault before after run input served start games asks = absurd (no_failure served.writes refl)
-books_done InputFull before after (same, run) input served start games asks =
+books_done ReadFault before after run input served (start, games, asks) = absurd (no_failure served.reads refl)
+books_done WriteFault before after run input served (start, games, asks) = absurd (no_failure served.writes refl)
+books_done InputFull before after (same, run) input served (start, games, asks) =
     let (bytes, left, full, is) = run input served.told in
     absurd (not_full input bytes left after.rest is.was_read full served.below)
-books_done Refused before after run input served start games asks = absurd run
-books_done Usage before after run input served start games asks = absurd run
-books_done SpawnFault before after run input served start games asks = absurd run
+books_done Refused before after run input served (start, games, asks) = absurd run
+books_done Usage before after run input served (start, games, asks) = absurd run
+books_done SpawnFault before after run input served (start, games, asks) = absurd run
 
 made_move : (start : Parsed) (games : List Played) (found : Option (Move × ℕ)) → IsBook (last_position start) games found → IsMadeMove start games found
 made_move start games None book = tt

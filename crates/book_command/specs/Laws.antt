@@ -1,5 +1,5 @@
 -- When the run of a book is done, and what it has written then.
-use Rattle.std.specs.Prelude.{◌≡◌, ◌⊎◌, ℕ, ◌<◌, List, Option, Some, None}
+use Rattle.std.specs.Prelude.{◌≡◌, ℕ, ◌<◌, List, Option, Some, None}
 use Rattle.io_edge.specs.Outside.{behind}
 use Rattle.hive_model.specs.declared.places.Move.{Move}
 use Rattle.hive_model.specs.Lines.{lines}
@@ -9,9 +9,8 @@ use Rattle.hive_model.specs.Legal.{moves}
 use Rattle.hive_model.specs.Lists.{IsOn}
 use Rattle.command_runs.specs.Input.{Sides, WhereTold}
 use Rattle.command_runs.specs.OneGame.{last_position}
-use Rattle.command_runs.specs.Served.{Served}
-use Rattle.command_runs.specs.declared.status.Status.{Status}
-use Rattle.command_runs.specs.declared.status.Status.TheVariants.{Done, Memory}
+use Rattle.command_runs.specs.Served.{RunsAreDone}
+use Rattle.command_runs.specs.declared.status.Status.TheVariants.{Done}
 use Rattle.book_command.specs.Asked.{Asks}
 use Rattle.book_command.specs.Runs.{BookRun}
 use Rattle.book_command.specs.Text.{book_line}
@@ -20,10 +19,8 @@ use Rattle.book_command.specs.Text.{book_line}
 -- each other line a game, it is done, unless memory is wanting.
 abbrev pub BooksAreDone : Type 0
 BooksAreDone =
-    (status : Status) → (before : Sides) → (after : Sides) → BookRun status before after
-    → (input : List ℕ) → Served status before input
-    → (start : Parsed) → (games : List Played) → Asks (lines input) start games
-    → (status ≡ Done) ⊎ (status ≡ Memory)
+    RunsAreDone BookRun
+    (λ input. (start : Parsed) × (games : List Played) × Asks (lines input) start games)
 
 -- a legal move of the position, made in these games as often as is told and at least once; or none
 abbrev pub IsMadeMove : Parsed → List Played → Option (Move × ℕ) → Type 0

@@ -7,6 +7,7 @@ ghost use Rattle.hive_model.specs.Legal.{is_over};
 ghost use Rattle.opening_book.specs.Book.{IsTally};
 ghost use Rattle.command_runs.specs.Input.{WhereTold};
 ghost use Rattle.command_runs.specs.GameRun.{WritesAs};
+ghost use Rattle.command_runs.specs.Runs.{RunsAs, side_of};
 ghost use Rattle.book_command.specs.Reading.{IsNoBook};
 ghost use Rattle.book_command.specs.Runs.{BookRun, IsAnswer};
 
@@ -92,13 +93,9 @@ pub fn book<S: Source, K: Sink, G: Game + Drop>(
     input: &mut S,
     output: &mut K,
 ) -> Status
-    ensures run { BookRun result
-        (record { rest = S.rest input.old; written = K.written output.old })
-        (record { rest = S.rest input.new; written = K.written output.new }) }
-    ensures reads { HasCause (result ≡ Status.ReadFault)
-        (S.read_faults input.old) (S.read_faults input.new) }
-    ensures writes { HasCause (result ≡ Status.WriteFault)
-        (K.write_faults output.old) (K.write_faults output.new) }
+    ensures { RunsAs BookRun result
+        (side_of S.rest S.read_faults input.old) (side_of K.written K.write_faults output.old)
+        (side_of S.rest S.read_faults input.new) (side_of K.written K.write_faults output.new) }
 {
     match answer::<S, G>(alloc, input) {
         Ok(line) => tell(line.items(), output),

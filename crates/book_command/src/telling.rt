@@ -1,6 +1,6 @@
 //! The line that a book writes.
 
-ghost use Rattle.std.specs.Prelude.{◌≡◌, ◌++◌, ◌∷◌, ℕ, List, decimal, IfOk};
+ghost use Rattle.std.specs.Prelude.{◌≡◌, ◌++◌, ◌∷◌, List, decimal, IfOk};
 ghost use Rattle.hive_model.specs.Courses.{position};
 ghost use Rattle.hive_model.specs.Denotes.{text as text_of};
 ghost use Rattle.hive_model.specs.Legal.{moves};
