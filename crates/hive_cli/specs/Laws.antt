@@ -1,15 +1,13 @@
 -- What follows from the clauses of a run.
-use Rattle.std.specs.Prelude.{◌≡◌, ◌⊎◌, ℕ, Bool, false, List, [], Ok}
+use Rattle.std.specs.Prelude.{◌≡◌, ◌⊎◌, ℕ, Bool, false, List, []}
 use Rattle.hive_model.specs.Lines.{Line, lines}
-use Rattle.game_text.specs.declared.parsed.Parsed.{Parsed}
-use Rattle.command_runs.specs.Input.{Sides}
 use Rattle.hive_cli.specs.Service.{HasExit, last_of, output, searches}
 use Rattle.hive_cli.specs.ServiceRun.{Scene}
 use Rattle.hive_cli.specs.Count.{CountRun}
-use Rattle.command_runs.specs.OneGame.{asked}
+use Rattle.command_runs.specs.OneGame.{AsksOne}
 use Rattle.hive_cli.specs.Replay.{ReplayRun, answers, replays, some_refused}
 use Rattle.hive_cli.specs.Session.{SessionRun}
-use Rattle.command_runs.specs.Served.{Served}
+use Rattle.command_runs.specs.Served.{RunsAreDone, Served}
 use Rattle.command_runs.specs.declared.status.Status.{Status}
 use Rattle.command_runs.specs.declared.status.Status.TheVariants.{Done, Memory}
 
@@ -30,10 +28,7 @@ ReplaysAreDone =
 
 -- The same of a count whose input is exactly one line, a game that is not over.
 abbrev pub CountsAreDone : Type 0
-CountsAreDone =
-    (plies : ℕ) → (status : Status) → (before : Sides) → (after : Sides) → CountRun plies status before after
-    → (input : List ℕ) → Served status before input → (game : Parsed) → asked (lines input) ≡ Ok game
-    → (status ≡ Done) ⊎ (status ≡ Memory)
+CountsAreDone = (plies : ℕ) → RunsAreDone (CountRun plies) AsksOne
 
 -- what a replay makes of lines: it answers each of them, one after another, it has refused a line just where one of them is
 -- refused, none of them ends it, and none asks for a search, so that it has no use for depths
