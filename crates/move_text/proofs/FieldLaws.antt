@@ -1,6 +1,6 @@
 -- The fields of lines are read exactly.
-use Rattle.std.proofs.Common.{◌≡◌, ℕ, ◌+◌, ◌*◌, ◌-◌, ◌/◌, ◌%◌, ◌^◌, ◌≤◌, ◌<◌, Bool, true, false, List, [], ◌∷◌, ◌++◌, Result, Ok, Err, refl, sym, ◌∙◌, ap, subst, arith, ◌⊎◌, inl, inr}
-use Rattle.std.specs.Prelude.{Option, Some, None, IfSome, codes, decimal, not, ◌&&◌, nat_eq, nat_le, nat_lt, if◌then◌else◌}
+use Rattle.std.proofs.Common.{◌≡◌, ℕ, ◌+◌, ◌*◌, ◌-◌, ◌/◌, ◌%◌, ◌^◌, ◌≤◌, ◌<◌, Bool, true, false, List, [], ◌∷◌, ◌++◌, Result, Ok, Err, refl, sym, ◌∙◌, ap, subst, arith}
+use Rattle.std.specs.Prelude.{Option, Some, None, IfSome, decimal, not, ◌&&◌, nat_eq, nat_le, nat_lt, if◌then◌else◌}
 use Rattle.std.specs.Str.{bytes_eq, IsUtf8, IsAscii}
 use Rattle.std.specs.Str.Parse.{ParsesUnsigned}
 use Rattle.std.proofs.lemmas.Str.{IsUtf8-from_ascii}
@@ -11,7 +11,8 @@ use Rattle.hive_model.specs.declared.pieces.GameType.{GameType}
 use Rattle.hive_model.specs.declared.places.State.{State}
 use Rattle.hive_model.specs.declared.places.State.TheVariants.{NotStarted, InProgress, Draw, WhiteWins, BlackWins}
 use Rattle.hive_model.specs.Fields.{IsNumberText, type_bytes, state_bytes, two_digits, IsTimeText}
-use Rattle.move_text.specs.Readers.{game_type_of, type_at, state_at, two_digit_number, budget_of, time_at}
+use Rattle.move_text.specs.Readers.{game_type_of, game_types, type_at, states, state_at, two_digit_number, budget_of, time_at}
+use Rattle.move_text.proofs.TableLaws.{name_is}
 
 -- Numbers
 
@@ -38,45 +39,9 @@ printed_same text letters printed number n same e p h other =
 
 -- Texts of a few values
 
-text_taken : {X : Type 0} (text word : List ℕ) (x : X) (o : Option X) (y : X) → (if bytes_eq text word then Some x else o) ≡ Some y → ((text ≡ word) × (x ≡ y)) ⊎ (o ≡ Some y)
-text_taken {X} text word x o y = go (bytes_eq text word) refl
-  where
-    go : (t : Bool) → bytes_eq text word ≡ t → (if t then Some x else o) ≡ Some y → ((text ≡ word) × (x ≡ y)) ⊎ (o ≡ Some y)
-    go true e h = let same : x ≡ y = cc in inl ((bytes_eq-Decides text word).0 e, same)
-    go false e h = inr h
-
 pub type_found : (text : List ℕ) (t : GameType) → type_at text ≡ Some t → text ≡ type_bytes t
 unfolding type_at
-type_found text t h =
-    elim (text_taken text (codes "Base") (game_type_of false false false) _ t h) [
-      | inl r ↦ r.0 ∙ ap type_bytes r.1
-      | inr h2 ↦
-          elim (text_taken text (codes "Base+M") (game_type_of true false false) _ t h2) [
-            | inl r ↦ r.0 ∙ ap type_bytes r.1
-            | inr h3 ↦
-                elim (text_taken text (codes "Base+L") (game_type_of false true false) _ t h3) [
-                  | inl r ↦ r.0 ∙ ap type_bytes r.1
-                  | inr h4 ↦
-                      elim (text_taken text (codes "Base+P") (game_type_of false false true) _ t h4) [
-                        | inl r ↦ r.0 ∙ ap type_bytes r.1
-                        | inr h5 ↦
-                            elim (text_taken text (codes "Base+ML") (game_type_of true true false) _ t h5) [
-                              | inl r ↦ r.0 ∙ ap type_bytes r.1
-                              | inr h6 ↦
-                                  elim (text_taken text (codes "Base+MP") (game_type_of true false true) _ t h6) [
-                                    | inl r ↦ r.0 ∙ ap type_bytes r.1
-                                    | inr h7 ↦
-                                        elim (text_taken text (codes "Base+LP") (game_type_of false true true) _ t h7) [
-                                          | inl r ↦ r.0 ∙ ap type_bytes r.1
-                                          | inr h8 ↦
-                                              elim (text_taken text (codes "Base+MLP") (game_type_of true true true) None t h8) [ inl r ↦ r.0 ∙ ap type_bytes r.1 | inr h9 ↦ absurd (cc) ]
-                                        ]
-                                  ]
-                            ]
-                      ]
-                ]
-          ]
-    ]
+type_found = name_is type_bytes game_types
 
 type_again : (m l p : Bool) → type_at (type_bytes (game_type_of m l p)) ≡ Some (game_type_of m l p)
 unfolding type_at
@@ -98,24 +63,7 @@ if_type_found text (Some t) e = type_found text t (sym e)
 
 pub state_found : (text : List ℕ) (s : State) → state_at text ≡ Some s → text ≡ state_bytes s
 unfolding state_at
-state_found text s h =
-    elim (text_taken text (codes "NotStarted") NotStarted _ s h) [
-      | inl r ↦ r.0 ∙ ap state_bytes r.1
-      | inr h2 ↦
-          elim (text_taken text (codes "InProgress") InProgress _ s h2) [
-            | inl r ↦ r.0 ∙ ap state_bytes r.1
-            | inr h3 ↦
-                elim (text_taken text (codes "Draw") Draw _ s h3) [
-                  | inl r ↦ r.0 ∙ ap state_bytes r.1
-                  | inr h4 ↦
-                      elim (text_taken text (codes "WhiteWins") WhiteWins _ s h4) [
-                        | inl r ↦ r.0 ∙ ap state_bytes r.1
-                        | inr h5 ↦
-                            elim (text_taken text (codes "BlackWins") BlackWins None s h5) [ inl r ↦ r.0 ∙ ap state_bytes r.1 | inr h6 ↦ absurd (cc) ]
-                      ]
-                ]
-          ]
-    ]
+state_found = name_is state_bytes states
 
 state_again : (s : State) → state_at (state_bytes s) ≡ Some s
 unfolding state_at

@@ -7,110 +7,55 @@ use Rattle.hive_model.specs.declared.pieces.Kind.TheVariants.{Queen, Spider, Bee
 use Rattle.hive_model.specs.Pieces.{piece_of, IsNumber}
 use Rattle.hive_model.specs.Texts.{name_of, piece_text}
 
+-- what holds of each kind and each of its numbers
+record HoldsOfNumbers (P : Kind → ℕ → Type 0) : Type 0 where
+  queen : P Queen 0
+  spider1 : P Spider 1
+  spider2 : P Spider 2
+  beetle1 : P Beetle 1
+  beetle2 : P Beetle 2
+  grasshopper1 : P Grasshopper 1
+  grasshopper2 : P Grasshopper 2
+  grasshopper3 : P Grasshopper 3
+  ant1 : P Ant 1
+  ant2 : P Ant 2
+  ant3 : P Ant 3
+  mosquito : P Mosquito 0
+  ladybug : P Ladybug 0
+  pillbug : P Pillbug 0
+
+of_number : (P : Kind → ℕ → Type 0) → HoldsOfNumbers P → (k : Kind) (n : ℕ) → IsNumber k n → P k n
+of_number P all Queen zero h = all.queen
+of_number P all Queen (suc n) h = absurd (omega (arith, h.0))
+of_number P all Spider zero h = absurd (omega (arith, h.1 refl))
+of_number P all Spider (suc zero) h = all.spider1
+of_number P all Spider (suc (suc zero)) h = all.spider2
+of_number P all Spider (suc (suc (suc n))) h = absurd (omega (arith, h.0))
+of_number P all Beetle zero h = absurd (omega (arith, h.1 refl))
+of_number P all Beetle (suc zero) h = all.beetle1
+of_number P all Beetle (suc (suc zero)) h = all.beetle2
+of_number P all Beetle (suc (suc (suc n))) h = absurd (omega (arith, h.0))
+of_number P all Grasshopper zero h = absurd (omega (arith, h.1 refl))
+of_number P all Grasshopper (suc zero) h = all.grasshopper1
+of_number P all Grasshopper (suc (suc zero)) h = all.grasshopper2
+of_number P all Grasshopper (suc (suc (suc zero))) h = all.grasshopper3
+of_number P all Grasshopper (suc (suc (suc (suc n)))) h = absurd (omega (arith, h.0))
+of_number P all Ant zero h = absurd (omega (arith, h.1 refl))
+of_number P all Ant (suc zero) h = all.ant1
+of_number P all Ant (suc (suc zero)) h = all.ant2
+of_number P all Ant (suc (suc (suc zero))) h = all.ant3
+of_number P all Ant (suc (suc (suc (suc n)))) h = absurd (omega (arith, h.0))
+of_number P all Mosquito zero h = all.mosquito
+of_number P all Mosquito (suc n) h = absurd (omega (arith, h.0))
+of_number P all Ladybug zero h = all.ladybug
+of_number P all Ladybug (suc n) h = absurd (omega (arith, h.0))
+of_number P all Pillbug zero h = all.pillbug
+of_number P all Pillbug (suc n) h = absurd (omega (arith, h.0))
+
 pub text_of_piece : (c : Colour) (k : Kind) (n : ℕ) → IsNumber k n → piece_text (piece_of c k n) ≡ name_of c k n
-text_of_piece White Queen zero h = refl
-text_of_piece White Queen (suc n) h = absurd (omega (arith, h.0))
-text_of_piece White Spider zero h = absurd (omega (arith, h.1 refl))
-text_of_piece White Spider (suc zero) h = refl
-text_of_piece White Spider (suc (suc zero)) h = refl
-text_of_piece White Spider (suc (suc (suc n))) h = absurd (omega (arith, h.0))
-text_of_piece White Beetle zero h = absurd (omega (arith, h.1 refl))
-text_of_piece White Beetle (suc zero) h = refl
-text_of_piece White Beetle (suc (suc zero)) h = refl
-text_of_piece White Beetle (suc (suc (suc n))) h = absurd (omega (arith, h.0))
-text_of_piece White Grasshopper zero h = absurd (omega (arith, h.1 refl))
-text_of_piece White Grasshopper (suc zero) h = refl
-text_of_piece White Grasshopper (suc (suc zero)) h = refl
-text_of_piece White Grasshopper (suc (suc (suc zero))) h = refl
-text_of_piece White Grasshopper (suc (suc (suc (suc n)))) h = absurd (omega (arith, h.0))
-text_of_piece White Ant zero h = absurd (omega (arith, h.1 refl))
-text_of_piece White Ant (suc zero) h = refl
-text_of_piece White Ant (suc (suc zero)) h = refl
-text_of_piece White Ant (suc (suc (suc zero))) h = refl
-text_of_piece White Ant (suc (suc (suc (suc n)))) h = absurd (omega (arith, h.0))
-text_of_piece White Mosquito zero h = refl
-text_of_piece White Mosquito (suc n) h = absurd (omega (arith, h.0))
-text_of_piece White Ladybug zero h = refl
-text_of_piece White Ladybug (suc n) h = absurd (omega (arith, h.0))
-text_of_piece White Pillbug zero h = refl
-text_of_piece White Pillbug (suc n) h = absurd (omega (arith, h.0))
-text_of_piece Black Queen zero h = refl
-text_of_piece Black Queen (suc n) h = absurd (omega (arith, h.0))
-text_of_piece Black Spider zero h = absurd (omega (arith, h.1 refl))
-text_of_piece Black Spider (suc zero) h = refl
-text_of_piece Black Spider (suc (suc zero)) h = refl
-text_of_piece Black Spider (suc (suc (suc n))) h = absurd (omega (arith, h.0))
-text_of_piece Black Beetle zero h = absurd (omega (arith, h.1 refl))
-text_of_piece Black Beetle (suc zero) h = refl
-text_of_piece Black Beetle (suc (suc zero)) h = refl
-text_of_piece Black Beetle (suc (suc (suc n))) h = absurd (omega (arith, h.0))
-text_of_piece Black Grasshopper zero h = absurd (omega (arith, h.1 refl))
-text_of_piece Black Grasshopper (suc zero) h = refl
-text_of_piece Black Grasshopper (suc (suc zero)) h = refl
-text_of_piece Black Grasshopper (suc (suc (suc zero))) h = refl
-text_of_piece Black Grasshopper (suc (suc (suc (suc n)))) h = absurd (omega (arith, h.0))
-text_of_piece Black Ant zero h = absurd (omega (arith, h.1 refl))
-text_of_piece Black Ant (suc zero) h = refl
-text_of_piece Black Ant (suc (suc zero)) h = refl
-text_of_piece Black Ant (suc (suc (suc zero))) h = refl
-text_of_piece Black Ant (suc (suc (suc (suc n)))) h = absurd (omega (arith, h.0))
-text_of_piece Black Mosquito zero h = refl
-text_of_piece Black Mosquito (suc n) h = absurd (omega (arith, h.0))
-text_of_piece Black Ladybug zero h = refl
-text_of_piece Black Ladybug (suc n) h = absurd (omega (arith, h.0))
-text_of_piece Black Pillbug zero h = refl
-text_of_piece Black Pillbug (suc n) h = absurd (omega (arith, h.0))
+text_of_piece White = of_number (λ k n. piece_text (piece_of White k n) ≡ name_of White k n) (record { queen = refl; spider1 = refl; spider2 = refl; beetle1 = refl; beetle2 = refl; grasshopper1 = refl; grasshopper2 = refl; grasshopper3 = refl; ant1 = refl; ant2 = refl; ant3 = refl; mosquito = refl; ladybug = refl; pillbug = refl })
+text_of_piece Black = of_number (λ k n. piece_text (piece_of Black k n) ≡ name_of Black k n) (record { queen = refl; spider1 = refl; spider2 = refl; beetle1 = refl; beetle2 = refl; grasshopper1 = refl; grasshopper2 = refl; grasshopper3 = refl; ant1 = refl; ant2 = refl; ant3 = refl; mosquito = refl; ladybug = refl; pillbug = refl })
 
 pub piece_within : (c : Colour) (k : Kind) (n : ℕ) → IsNumber k n → piece_of c k n < 28
-piece_within White Queen zero h = lit< tt
-piece_within White Queen (suc n) h = absurd (omega (arith, h.0))
-piece_within White Spider zero h = absurd (omega (arith, h.1 refl))
-piece_within White Spider (suc zero) h = lit< tt
-piece_within White Spider (suc (suc zero)) h = lit< tt
-piece_within White Spider (suc (suc (suc n))) h = absurd (omega (arith, h.0))
-piece_within White Beetle zero h = absurd (omega (arith, h.1 refl))
-piece_within White Beetle (suc zero) h = lit< tt
-piece_within White Beetle (suc (suc zero)) h = lit< tt
-piece_within White Beetle (suc (suc (suc n))) h = absurd (omega (arith, h.0))
-piece_within White Grasshopper zero h = absurd (omega (arith, h.1 refl))
-piece_within White Grasshopper (suc zero) h = lit< tt
-piece_within White Grasshopper (suc (suc zero)) h = lit< tt
-piece_within White Grasshopper (suc (suc (suc zero))) h = lit< tt
-piece_within White Grasshopper (suc (suc (suc (suc n)))) h = absurd (omega (arith, h.0))
-piece_within White Ant zero h = absurd (omega (arith, h.1 refl))
-piece_within White Ant (suc zero) h = lit< tt
-piece_within White Ant (suc (suc zero)) h = lit< tt
-piece_within White Ant (suc (suc (suc zero))) h = lit< tt
-piece_within White Ant (suc (suc (suc (suc n)))) h = absurd (omega (arith, h.0))
-piece_within White Mosquito zero h = lit< tt
-piece_within White Mosquito (suc n) h = absurd (omega (arith, h.0))
-piece_within White Ladybug zero h = lit< tt
-piece_within White Ladybug (suc n) h = absurd (omega (arith, h.0))
-piece_within White Pillbug zero h = lit< tt
-piece_within White Pillbug (suc n) h = absurd (omega (arith, h.0))
-piece_within Black Queen zero h = lit< tt
-piece_within Black Queen (suc n) h = absurd (omega (arith, h.0))
-piece_within Black Spider zero h = absurd (omega (arith, h.1 refl))
-piece_within Black Spider (suc zero) h = lit< tt
-piece_within Black Spider (suc (suc zero)) h = lit< tt
-piece_within Black Spider (suc (suc (suc n))) h = absurd (omega (arith, h.0))
-piece_within Black Beetle zero h = absurd (omega (arith, h.1 refl))
-piece_within Black Beetle (suc zero) h = lit< tt
-piece_within Black Beetle (suc (suc zero)) h = lit< tt
-piece_within Black Beetle (suc (suc (suc n))) h = absurd (omega (arith, h.0))
-piece_within Black Grasshopper zero h = absurd (omega (arith, h.1 refl))
-piece_within Black Grasshopper (suc zero) h = lit< tt
-piece_within Black Grasshopper (suc (suc zero)) h = lit< tt
-piece_within Black Grasshopper (suc (suc (suc zero))) h = lit< tt
-piece_within Black Grasshopper (suc (suc (suc (suc n)))) h = absurd (omega (arith, h.0))
-piece_within Black Ant zero h = absurd (omega (arith, h.1 refl))
-piece_within Black Ant (suc zero) h = lit< tt
-piece_within Black Ant (suc (suc zero)) h = lit< tt
-piece_within Black Ant (suc (suc (suc zero))) h = lit< tt
-piece_within Black Ant (suc (suc (suc (suc n)))) h = absurd (omega (arith, h.0))
-piece_within Black Mosquito zero h = lit< tt
-piece_within Black Mosquito (suc n) h = absurd (omega (arith, h.0))
-piece_within Black Ladybug zero h = lit< tt
-piece_within Black Ladybug (suc n) h = absurd (omega (arith, h.0))
-piece_within Black Pillbug zero h = lit< tt
-piece_within Black Pillbug (suc n) h = absurd (omega (arith, h.0))
+piece_within White = of_number (λ k n. piece_of White k n < 28) (record { queen = lit< tt; spider1 = lit< tt; spider2 = lit< tt; beetle1 = lit< tt; beetle2 = lit< tt; grasshopper1 = lit< tt; grasshopper2 = lit< tt; grasshopper3 = lit< tt; ant1 = lit< tt; ant2 = lit< tt; ant3 = lit< tt; mosquito = lit< tt; ladybug = lit< tt; pillbug = lit< tt })
+piece_within Black = of_number (λ k n. piece_of Black k n < 28) (record { queen = lit< tt; spider1 = lit< tt; spider2 = lit< tt; beetle1 = lit< tt; beetle2 = lit< tt; grasshopper1 = lit< tt; grasshopper2 = lit< tt; grasshopper3 = lit< tt; ant1 = lit< tt; ant2 = lit< tt; ant3 = lit< tt; mosquito = lit< tt; ladybug = lit< tt; pillbug = lit< tt })

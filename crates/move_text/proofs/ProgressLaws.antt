@@ -5,10 +5,8 @@ use Rattle.std.proofs.lemmas.Bool.{eqb-true, ltb-true, leb-true, eqb-false}
 use Rattle.hive_model.specs.declared.pieces.Colour.{Colour}
 use Rattle.hive_model.specs.declared.pieces.Colour.TheVariants.{White, Black}
 use Rattle.hive_model.specs.declared.pieces.Kind.{Kind}
-use Rattle.hive_model.specs.declared.pieces.Kind.TheVariants.{Queen, Spider, Beetle, Grasshopper, Ant, Mosquito, Ladybug, Pillbug}
 use Rattle.hive_model.specs.Pieces.{piece_of, most_of, IsNumber}
 use Rattle.hive_model.specs.declared.forms.Stroke.{Stroke}
-use Rattle.hive_model.specs.declared.forms.Stroke.TheVariants.{Dash, Slash, Backslash}
 use Rattle.hive_model.specs.declared.forms.Mark.TheVariants.{On, Before, After}
 use Rattle.hive_model.specs.declared.forms.Form.{Form}
 use Rattle.hive_model.specs.declared.forms.Form.TheVariants.{Passes, Alone, Beside}
@@ -17,9 +15,10 @@ use Rattle.move_text.specs.declared.progress.Naming.TheVariants.{Empty, Side, Ki
 use Rattle.move_text.specs.declared.progress.Progress.{Progress}
 use Rattle.move_text.specs.declared.progress.Progress.TheVariants.{AtP, AtPa, AtPas, AtPass, First, Second, Marked}
 use Rattle.hive_model.specs.Texts.{colour_code, kind_code, number_code, piece_text, stroke_code, form_text, IsForm, Begins}
-use Rattle.move_text.specs.Scan.{colour_at, kind_at, stroke_at, sided, kinded, naming_with, after_first, on_first, before_second, behind_second, after_second, on_second, progress_with, end_of}
+use Rattle.move_text.specs.Scan.{colours, colour_at, kinds, kind_at, strokes, stroke_at, sided, kinded, naming_with, after_first, on_first, before_second, behind_second, after_second, on_second, progress_with, end_of}
 use Rattle.move_text.proofs.Names.{text_of_piece, piece_within}
 use Rattle.move_text.proofs.Runs.{then_run, run}
+use Rattle.move_text.proofs.TableLaws.{code_is}
 
 -- What was read
 
@@ -67,53 +66,13 @@ taken {X} b n x o y = go (nat_eq b n) refl
     go false e h = inr h
 
 colour_is : (b : ℕ) (c : Colour) → colour_at b ≡ Some c → b ≡ colour_code c
-colour_is b c h =
-    elim (taken b 119 White _ c h) [
-      | inl r ↦ r.0 ∙ ap colour_code r.1
-      | inr h2 ↦ elim (taken b 98 Black None c h2) [ inl r ↦ r.0 ∙ ap colour_code r.1 | inr h3 ↦ absurd (cc) ]
-    ]
+colour_is = code_is colour_code colours
 
 stroke_is : (b : ℕ) (s : Stroke) → stroke_at b ≡ Some s → b ≡ stroke_code s
-stroke_is b s h =
-    elim (taken b 45 Dash _ s h) [
-      | inl r ↦ r.0 ∙ ap stroke_code r.1
-      | inr h2 ↦ elim (taken b 47 Slash _ s h2) [
-        | inl r ↦ r.0 ∙ ap stroke_code r.1
-        | inr h3 ↦ elim (taken b 92 Backslash None s h3) [ inl r ↦ r.0 ∙ ap stroke_code r.1 | inr h4 ↦ absurd (cc) ]
-      ]
-    ]
+stroke_is = code_is stroke_code strokes
 
 kind_is : (b : ℕ) (k : Kind) → kind_at b ≡ Some k → b ≡ kind_code k
-kind_is b k h =
-    elim (taken b 81 Queen _ k h) [
-      | inl r ↦ r.0 ∙ ap kind_code r.1
-      | inr h2 ↦
-          elim (taken b 83 Spider _ k h2) [
-            | inl r ↦ r.0 ∙ ap kind_code r.1
-            | inr h3 ↦
-                elim (taken b 66 Beetle _ k h3) [
-                  | inl r ↦ r.0 ∙ ap kind_code r.1
-                  | inr h4 ↦
-                      elim (taken b 71 Grasshopper _ k h4) [
-                        | inl r ↦ r.0 ∙ ap kind_code r.1
-                        | inr h5 ↦
-                            elim (taken b 65 Ant _ k h5) [
-                              | inl r ↦ r.0 ∙ ap kind_code r.1
-                              | inr h6 ↦
-                                  elim (taken b 77 Mosquito _ k h6) [
-                                    | inl r ↦ r.0 ∙ ap kind_code r.1
-                                    | inr h7 ↦
-                                        elim (taken b 76 Ladybug _ k h7) [
-                                          | inl r ↦ r.0 ∙ ap kind_code r.1
-                                          | inr h8 ↦
-                                              elim (taken b 80 Pillbug None k h8) [ inl r ↦ r.0 ∙ ap kind_code r.1 | inr h9 ↦ absurd (cc) ]
-                                        ]
-                                  ]
-                            ]
-                      ]
-                ]
-          ]
-    ]
+kind_is = code_is kind_code kinds
 
 record NameGrows (n : Naming) (b : ℕ) (next : Naming) : Type 0 where
   is : IsNaming next

@@ -1,32 +1,37 @@
 -- What the fields of a line hold, as functions that compute.
-use Rattle.std.specs.Prelude.{ℕ, ◌+◌, ◌*◌, ◌-◌, ◌/◌, ◌%◌, Bool, true, false, ◌&&◌, nat_le, nat_lt, nat_eq, List, [], ◌∷◌, codes, Option, Some, None, if◌then◌else◌}
+use Rattle.std.specs.Prelude.{ℕ, ◌+◌, ◌*◌, ◌-◌, ◌/◌, ◌%◌, Bool, true, false, ◌&&◌, nat_le, nat_lt, nat_eq, List, [], ◌∷◌, decimal, Option, Some, None, if◌then◌else◌}
 use Rattle.std.specs.Str.{bytes_eq}
+use Rattle.std.specs.Str.Parse.{digits_value}
 use Rattle.hive_model.specs.declared.pieces.GameType.{GameType}
 use Rattle.hive_model.specs.declared.places.State.{State}
 use Rattle.hive_model.specs.declared.places.State.TheVariants.{NotStarted, InProgress, Draw, WhiteWins, BlackWins}
-use Rattle.hive_model.specs.Fields.{clock_bytes}
+use Rattle.hive_model.specs.Fields.{clock_bytes, state_bytes, type_bytes}
+use Rattle.move_text.specs.Tables.{named_by}
+
+-- a number with no leading zero, in this range
+unfoldable pub number_at : List ℕ → ℕ → ℕ → Option ℕ
+number_at text least most =
+    if bytes_eq (decimal (digits_value 10 text)) text && (nat_le least (digits_value 10 text) && nat_le (digits_value 10 text) most)
+    then Some (digits_value 10 text) else None
 
 abbrev pub game_type_of : Bool → Bool → Bool → GameType
 game_type_of m l p = record { mosquito = m; ladybug = l; pillbug = p }
 
-unfoldable pub type_at : List ℕ → Option GameType
-type_at text =
-    if bytes_eq text (codes "Base") then Some (game_type_of false false false) else
-    if bytes_eq text (codes "Base+M") then Some (game_type_of true false false) else
-    if bytes_eq text (codes "Base+L") then Some (game_type_of false true false) else
-    if bytes_eq text (codes "Base+P") then Some (game_type_of false false true) else
-    if bytes_eq text (codes "Base+ML") then Some (game_type_of true true false) else
-    if bytes_eq text (codes "Base+MP") then Some (game_type_of true false true) else
-    if bytes_eq text (codes "Base+LP") then Some (game_type_of false true true) else
-    if bytes_eq text (codes "Base+MLP") then Some (game_type_of true true true) else None
+abbrev pub game_types : List GameType
+game_types =
+    game_type_of false false false ∷ game_type_of true false false ∷ game_type_of false true false ∷ game_type_of false false true
+    ∷ game_type_of true true false ∷ game_type_of true false true ∷ game_type_of false true true ∷ game_type_of true true true ∷ []
 
+-- the game type that the text names
+unfoldable pub type_at : List ℕ → Option GameType
+type_at = named_by type_bytes game_types
+
+abbrev pub states : List State
+states = NotStarted ∷ InProgress ∷ Draw ∷ WhiteWins ∷ BlackWins ∷ []
+
+-- the state that the text names
 unfoldable pub state_at : List ℕ → Option State
-state_at text =
-    if bytes_eq text (codes "NotStarted") then Some NotStarted else
-    if bytes_eq text (codes "InProgress") then Some InProgress else
-    if bytes_eq text (codes "Draw") then Some Draw else
-    if bytes_eq text (codes "WhiteWins") then Some WhiteWins else
-    if bytes_eq text (codes "BlackWins") then Some BlackWins else None
+state_at = named_by state_bytes states
 
 -- the number of two digits that is at most a bound
 abbrev pub is_digit : ℕ → Bool

@@ -6,6 +6,8 @@ use Rattle.hive_model.specs.declared.pieces.Colour.TheVariants.{White, Black}
 use Rattle.hive_model.specs.declared.pieces.Kind.{Kind}
 use Rattle.hive_model.specs.declared.pieces.Kind.TheVariants.{Queen, Spider, Beetle, Grasshopper, Ant, Mosquito, Ladybug, Pillbug}
 use Rattle.hive_model.specs.Pieces.{piece_of, most_of}
+use Rattle.hive_model.specs.Texts.{colour_code, kind_code, stroke_code}
+use Rattle.move_text.specs.Tables.{coded_by}
 use Rattle.hive_model.specs.declared.forms.Stroke.{Stroke}
 use Rattle.hive_model.specs.declared.forms.Stroke.TheVariants.{Dash, Slash, Backslash}
 use Rattle.hive_model.specs.declared.forms.Mark.{Mark}
@@ -17,23 +19,24 @@ use Rattle.move_text.specs.declared.progress.Naming.TheVariants.{Empty, Side, Ki
 use Rattle.move_text.specs.declared.progress.Progress.{Progress}
 use Rattle.move_text.specs.declared.progress.Progress.TheVariants.{AtP, AtPa, AtPas, AtPass, First, Second, Marked}
 
--- the byte of a colour, a kind and a stroke
+abbrev pub colours : List Colour
+colours = White ∷ Black ∷ []
+
+abbrev pub kinds : List Kind
+kinds = Queen ∷ Spider ∷ Beetle ∷ Grasshopper ∷ Ant ∷ Mosquito ∷ Ladybug ∷ Pillbug ∷ []
+
+abbrev pub strokes : List Stroke
+strokes = Dash ∷ Slash ∷ Backslash ∷ []
+
+-- what a byte stands for: a colour, a kind and a stroke
 abbrev pub colour_at : ℕ → Option Colour
-colour_at b = if nat_eq b 119 then Some White else if nat_eq b 98 then Some Black else None
+colour_at = coded_by colour_code colours
 
 abbrev pub kind_at : ℕ → Option Kind
-kind_at b =
-    if nat_eq b 81 then Some Queen else
-    if nat_eq b 83 then Some Spider else
-    if nat_eq b 66 then Some Beetle else
-    if nat_eq b 71 then Some Grasshopper else
-    if nat_eq b 65 then Some Ant else
-    if nat_eq b 77 then Some Mosquito else
-    if nat_eq b 76 then Some Ladybug else
-    if nat_eq b 80 then Some Pillbug else None
+kind_at = coded_by kind_code kinds
 
 abbrev pub stroke_at : ℕ → Option Stroke
-stroke_at b = if nat_eq b 45 then Some Dash else if nat_eq b 47 then Some Slash else if nat_eq b 92 then Some Backslash else None
+stroke_at = coded_by stroke_code strokes
 
 abbrev pub sided : Option Colour → Option Naming
 sided None = None

@@ -25,7 +25,14 @@ ghost use Rattle.hive_model.specs.Fields.{
   state_bytes,
   two_digits,
 };
-ghost use Rattle.move_text.specs.Readers.{type_at, state_at, two_digit_number, time_at, time_bytes};
+ghost use Rattle.move_text.specs.Readers.{
+  number_at,
+  type_at,
+  state_at,
+  two_digit_number,
+  time_at,
+  time_bytes,
+};
 
 use arrayvec::ArrayString;
 use hive_model::{GameType, State};
@@ -37,6 +44,7 @@ use std::str;
 pub fn read_number(text: &[u8], least: u64, most: u64) -> Option<u64>
     ensures found { IfSome result (λ n. IsNumberText text.now least most n) }
     ensures only { (n : ℕ) → IsNumberText text.now least most n → result ≡ Some n }
+    ensures value { result ≡ number_at text.now least most }
 {
     let Ok(letters) = str::from_utf8(text) else {
         return None;
@@ -97,6 +105,7 @@ fn type_at(text: &[u8]) -> Option<GameType>
 pub fn read_type(text: &[u8]) -> Option<GameType>
     ensures found { IfSome result (λ t. text.now ≡ type_bytes t) }
     ensures only { (t : AnyType) → text.now ≡ type_bytes t → result ≡ Some t }
+    ensures value { result ≡ type_at text.now }
 {
     type_at(text)
 }
@@ -149,6 +158,7 @@ fn state_at(text: &[u8]) -> Option<State>
 pub fn read_state(text: &[u8]) -> Option<State>
     ensures found { IfSome result (λ s. text.now ≡ state_bytes s) }
     ensures only { (s : AnyState) → text.now ≡ state_bytes s → result ≡ Some s }
+    ensures value { result ≡ state_at text.now }
 {
     state_at(text)
 }
@@ -206,6 +216,7 @@ fn time_at(text: &[u8]) -> Option<u64>
 pub fn read_time(text: &[u8]) -> Option<u64>
     ensures found { IfSome result (λ n. IsTimeText text.now n) }
     ensures only { (n : ℕ) → IsTimeText text.now n → result ≡ Some n }
+    ensures value { result ≡ time_at text.now }
 {
     time_at(text)
 }
