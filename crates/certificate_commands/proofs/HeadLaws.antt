@@ -9,8 +9,8 @@ use Rattle.hive_model.specs.Lines.{Line, Text, TooLong}
 use Rattle.hive_model.specs.Strings.{IsGameLine}
 use Rattle.rule_laws.proofs.Games.{games_sound}
 use Rattle.strategy_lemmas.specs.Cited.{IsReached}
-use Rattle.uhp_words.specs.Numbers.{number_at}
-use Rattle.uhp_words.proofs.FieldLaws.{number_found, number_again}
+use Rattle.move_text.specs.Readers.{number_at}
+use Rattle.move_text.proofs.NumberLaws.{number_found, number_again}
 use Rattle.game_text.specs.declared.faults.GameFault.{GameFault}
 use Rattle.game_text.specs.declared.parsed.Parsed.{Parsed}
 use Rattle.game_text.specs.Reading.{game_of}

@@ -9,7 +9,7 @@ use Rattle.hive_model.specs.Legal.{moves}
 use Rattle.hive_model.specs.Games.{after}
 use Rattle.hive_model.specs.Keys.{KeyParts, key}
 use Rattle.hive_model.specs.Lines.{Line, Text, TooLong}
-use Rattle.uhp_words.proofs.FieldLaws.{number_found}
+use Rattle.move_text.proofs.NumberLaws.{number_found}
 use Rattle.claim_walks.specs.declared.limit.Limit.{Limit}
 use Rattle.claim_walks.specs.declared.limit.Limit.TheVariants.{AtLeast}
 use Rattle.claim_walks.specs.Limits.{Each}

@@ -9,7 +9,7 @@ use Rattle.hive_model.specs.Games.{replay}
 use Rattle.hive_model.specs.Denotes.{text}
 use Rattle.hive_model.specs.Lines.{Line, Text, TooLong}
 use Rattle.hive_model.specs.Strings.{string}
-use Rattle.uhp_words.specs.Numbers.{number_at}
+use Rattle.move_text.specs.Readers.{number_at}
 use Rattle.game_text.specs.Turns.{behind_word}
 use Rattle.game_text.specs.Reading.{game_of}
 use Rattle.game_text.specs.declared.parsed.Parsed.{Parsed}

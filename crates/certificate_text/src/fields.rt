@@ -14,7 +14,7 @@ ghost use Rattle.std.specs.Prelude.{
   MatchOption,
 };
 ghost use Rattle.game_text.specs.Turns.{behind_word};
-ghost use Rattle.uhp_words.specs.Numbers.{number_at};
+ghost use Rattle.move_text.specs.Readers.{number_at};
 ghost use Rattle.search_laws.specs.Laws.{IsSmall};
 ghost use Rattle.certificate_text.specs.Text.{
   version_at,

@@ -3,7 +3,7 @@
 use Rattle.std.specs.Prelude.{ℕ, List, ◌++◌, codes, decimal, Option, Some, None, option_map}
 use Rattle.std.specs.List.{flat_map}
 use Rattle.hive_model.specs.Lines.{Line, Text, TooLong}
-use Rattle.uhp_words.specs.Numbers.{number_at}
+use Rattle.move_text.specs.Readers.{number_at}
 use Rattle.game_text.specs.Turns.{behind_word}
 use Rattle.certificate_text.specs.Text.{index_at, index_line, written_line}
 use Rattle.strategy_lemmas.specs.declared.tokens.Token.{Token}

@@ -26,7 +26,7 @@ use Rattle.game_text.specs.Turns.{IsTurn, turn_at}
 use Rattle.game_text.specs.Reading.{may_follow, moves_from, Agrees, first_empty, is_state, is_turn_of, confirmed, at_moves, at_turn, after_state, at_state, after_type, at_type, game_at, game_under}
 use Rattle.game_text.specs.Refusals.{HasParts, AreNotEmpty, HasForm, IsMalformed, IsReadUpTo, IsReadWhole, IsRefusedUnder}
 use Rattle.game_text.proofs.TurnLaws.{turn_found, turn_again}
-use Rattle.game_text.proofs.FieldReads.{first}
+use Rattle.game_text.proofs.FieldReads.{first, none_read}
 use Rattle.game_text.proofs.OpenLaws.{seen_by, reached_all, third_ends, not_listed, over_stops, open_stands, stands_open}
 use Rattle.game_text.proofs.OrderLaws.{moves_found, moves_again, denoted_size}
 use Rattle.game_text.proofs.StopLaws.{Stops, StopsAt, moves_stop, bad_again, illegal_again}
@@ -219,25 +219,13 @@ refused_found r line fault h = go (parts line) refl h
 -- A fault of the line is read
 
 type_none : (x : List ℕ) → ((t : GameType) → x ≢ type_bytes t) → type_at x ≡ None
-type_none x none = go (type_at x) refl
-  where
-    go : (o : Option GameType) → type_at x ≡ o → type_at x ≡ None
-    go None e = e
-    go (Some t) e = absurd (none t (type_found x t e))
+type_none = none_read type_at (λ x t. x ≡ type_bytes t) type_found
 
 state_none : (x : List ℕ) → ((s : State) → x ≢ state_bytes s) → state_at x ≡ None
-state_none x none = go (state_at x) refl
-  where
-    go : (o : Option State) → state_at x ≡ o → state_at x ≡ None
-    go None e = e
-    go (Some s) e = absurd (none s (state_found x s e))
+state_none = none_read state_at (λ x s. x ≡ state_bytes s) state_found
 
 turn_none : (x : List ℕ) → ((u : Turn) → ¬ IsTurn x u) → turn_at x ≡ None
-turn_none x none = go (turn_at x) refl
-  where
-    go : (o : Option Turn) → turn_at x ≡ o → turn_at x ≡ None
-    go None e = e
-    go (Some u) e = absurd (none u (turn_found x u e))
+turn_none = none_read turn_at IsTurn turn_found
 
 malformed_again : (r : Bool) (line : List ℕ) (k : ℕ) → IsMalformed line k → game_under r line ≡ Err (Malformed k)
 malformed_again r line k (inl (e, h)) = first r line h.part h.rest None h.parts_are (type_none h.part h.none) ∙ ap (λ (n : ℕ). Err (Malformed n)) (sym e)

@@ -1,10 +1,9 @@
 -- What a part declares as the turn, as a function that computes.
-use Rattle.std.specs.Prelude.{◌≡◌, ℕ, ◌≤◌, ◌&&◌, nat_eq, nat_le, List, [], ◌∷◌, codes, decimal, Option, Some, None, option_map, if◌then◌else◌}
-use Rattle.std.specs.Str.{bytes_eq}
-use Rattle.std.specs.Str.Parse.{digits_value}
+use Rattle.std.specs.Prelude.{◌≡◌, ℕ, ◌≤◌, nat_eq, List, [], ◌∷◌, codes, Option, Some, None, option_map, if◌then◌else◌}
 use Rattle.hive_model.specs.declared.pieces.Colour.{Colour}
 use Rattle.hive_model.specs.declared.pieces.Colour.TheVariants.{White, Black}
 use Rattle.hive_model.specs.Strings.{turn_bytes}
+use Rattle.move_text.specs.Readers.{number_at}
 use Rattle.game_text.specs.declared.turns.Turn.{Turn}
 
 -- the part declares this turn: `White[n]` or `Black[n]`, with a number of 1 to 9 digits that is not 0
@@ -12,10 +11,6 @@ pub record IsTurn (text : List ℕ) (u : Turn) : Type 0 where
   pub text_is : text ≡ turn_bytes u.side u.number
   pub low : 1 ≤ u.number
   pub high : u.number ≤ 999999999
-
--- a number with no leading zero, in this range
-abbrev pub number_at : List ℕ → ℕ → ℕ → Option ℕ
-number_at text least most = if bytes_eq (decimal (digits_value 10 text)) text && (nat_le least (digits_value 10 text) && nat_le (digits_value 10 text) most) then Some (digits_value 10 text) else None
 
 -- what stands behind a word
 abbrev pub behind_word : List ℕ → List ℕ → Option (List ℕ)

@@ -1,7 +1,7 @@
 //! Reading the turn of a game string.
 
-ghost use Rattle.std.specs.Prelude.{◌≡◌, ℕ, ◌∷◌, ◌++◌, [], List, codes, IfSome};
-ghost use Rattle.hive_model.specs.Fields.{IsNumberText};
+ghost use Rattle.std.specs.Prelude.{◌≡◌, ◌≢◌, ℕ, ◌∷◌, ◌++◌, [], List, None, codes, IfSome};
+ghost use Rattle.hive_model.specs.Strings.{side_name};
 ghost use Rattle.game_text.specs.Turns.{turn_at};
 
 use hive_model::Colour;
@@ -14,34 +14,17 @@ pub struct Turn {
     pub number: u64,
 }
 
-/// The number in the brackets behind `White`.
-fn white_turn(text: &[u8]) -> Option<u64>
-    ensures found { IfSome result (λ n. (digits : List ℕ)
-        × (text.now ≡ codes "White[" ++ (digits ++ 93 ∷ [])) × IsNumberText digits 1 999999999 n) }
-    ensures only { (n : ℕ) (digits : List ℕ) → text.now
-        ≡ codes "White[" ++ (digits ++ 93 ∷ []) → IsNumberText digits 1 999999999 n → result
-        ≡ Some n }
+/// The side that the text names, and what stands in the brackets behind it.
+fn bracketed(text: &[u8]) -> Option<(Colour, &[u8])>
+    ensures found { IfSome result (λ r. text.now ≡ side_name r.0 ++ (r.1.now ++ 93 ∷ [])) }
+    ensures white { (digits : List ℕ) → text.now ≡ codes "White[" ++ (digits ++ 93 ∷ [])
+        → result ≢ None }
+    ensures black { (digits : List ℕ) → text.now ≡ codes "Black[" ++ (digits ++ 93 ∷ [])
+        → result ≢ None }
 {
     match text {
-        [b'W', b'h', b'i', b't', b'e', b'[', digits @ .., b']'] => read_number(
-            digits, 1, 999999999,
-        ),
-        _ => None,
-    }
-}
-
-/// The number in the brackets behind `Black`.
-fn black_turn(text: &[u8]) -> Option<u64>
-    ensures found { IfSome result (λ n. (digits : List ℕ)
-        × (text.now ≡ codes "Black[" ++ (digits ++ 93 ∷ [])) × IsNumberText digits 1 999999999 n) }
-    ensures only { (n : ℕ) (digits : List ℕ) → text.now
-        ≡ codes "Black[" ++ (digits ++ 93 ∷ []) → IsNumberText digits 1 999999999 n → result
-        ≡ Some n }
-{
-    match text {
-        [b'B', b'l', b'a', b'c', b'k', b'[', digits @ .., b']'] => read_number(
-            digits, 1, 999999999,
-        ),
+        [b'W', b'h', b'i', b't', b'e', b'[', digits @ .., b']'] => Some((Colour::White, digits)),
+        [b'B', b'l', b'a', b'c', b'k', b'[', digits @ .., b']'] => Some((Colour::Black, digits)),
         _ => None,
     }
 }
@@ -51,17 +34,11 @@ fn black_turn(text: &[u8]) -> Option<u64>
 pub fn read_turn(text: &[u8]) -> Option<Turn>
     ensures { result ≡ turn_at text.now }
 {
-    if let Some(number) = white_turn(text) {
-        return Some(Turn {
-            side: Colour::White,
-            number,
-        });
-    }
-    match black_turn(text) {
-        Some(number) => Some(Turn {
-            side: Colour::Black,
-            number,
-        }),
+    let Some((side, digits)) = bracketed(text) else {
+        return None;
+    };
+    match read_number(digits, 1, 999999999) {
+        Some(number) => Some(Turn { side, number }),
         None => None,
     }
 }

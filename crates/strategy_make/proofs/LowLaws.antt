@@ -12,8 +12,8 @@ use Rattle.hive_model.specs.Minimax.{value}
 use Rattle.hive_model.specs.Lines.{lines, line_of}
 use Rattle.rule_laws.proofs.Games.{listed_keep}
 use Rattle.line_feed.proofs.PartLemmas.{line_parts-nil}
-use Rattle.uhp_words.specs.Numbers.{number_at}
-use Rattle.uhp_words.proofs.FieldLaws.{number_again}
+use Rattle.move_text.specs.Readers.{number_at}
+use Rattle.move_text.proofs.NumberLaws.{number_again}
 use Rattle.claim_walks.specs.declared.limit.Limit.{Limit}
 use Rattle.claim_walks.specs.declared.limit.Limit.TheVariants.{AtMost, AtLeast}
 use Rattle.claim_walks.specs.Limits.{Each, is_kept}

@@ -26,8 +26,8 @@ use Rattle.game_text.specs.Reading.{game_of}
 use Rattle.game_text.specs.declared.parsed.Parsed.{Parsed}
 use Rattle.game_text.proofs.GameLaws.{strings}
 use Rattle.game_text.proofs.LineLaws.{game_again}
-use Rattle.uhp_words.specs.Numbers.{number_at}
-use Rattle.uhp_words.proofs.FieldLaws.{number_again}
+use Rattle.move_text.specs.Readers.{number_at}
+use Rattle.move_text.proofs.NumberLaws.{number_again}
 use Rattle.search_laws.specs.Laws.{IsSmall}
 use Rattle.strategy_check.specs.Trace.{Holds}
 use Rattle.strategy_check.proofs.LeastLaws.{least-holds}

@@ -15,7 +15,7 @@ use Rattle.uhp_words.specs.declared.command.Command.{Command}
 use Rattle.uhp_words.specs.declared.command.Command.TheVariants.{Info, NewGame, Play, Pass, ValidMoves, BestDepth, BestTime, Undo, Options, OptionGet, OptionSet, Exit}
 use Rattle.uhp_words.specs.declared.command.CommandFault.{CommandFault}
 use Rattle.uhp_words.specs.declared.command.CommandFault.TheVariants.{Unknown, Arguments}
-use Rattle.uhp_words.specs.Numbers.{number_at}
+use Rattle.move_text.specs.Readers.{number_at}
 use Rattle.uhp_words.specs.Reading.{command_of}
 use Rattle.uhp_words.specs.Spans.{bytes_at}
 use Rattle.uhp_session.specs.Answers.{Begun, State, Answer, reached, is_ended, written, with_moves, refuse, go_on, in_game, begin, make, play, undo, set_table, set_workers, set_repetition, set, table_line, workers_line, repetition_line, or_base, command_answer, words_answer, after_of, next}

@@ -27,7 +27,7 @@ use Rattle.uhp_words.specs.declared.command.CommandFault.{CommandFault}
 use Rattle.uhp_words.specs.declared.command.CommandFault.TheVariants.{Unknown, Arguments}
 use Rattle.uhp_words.specs.Reading.{command_of}
 use Rattle.uhp_words.specs.Spans.{bytes_at}
-use Rattle.uhp_words.specs.Numbers.{number_at}
+use Rattle.move_text.specs.Readers.{number_at}
 use Rattle.uhp_session.specs.declared.lines.LineIn.{LineIn}
 use Rattle.uhp_session.specs.declared.lines.LineIn.TheVariants.{Text, TooLong}
 use Rattle.uhp_session.specs.declared.lines.Reply.{Reply}

@@ -1,7 +1,7 @@
 //! The lines of options.
 
 ghost use Rattle.std.specs.Prelude.{◌≡◌, ◌≤◌, [], ◌∷◌, ◌++◌, Some, codes, decimal, IfOk, IfSome, OnOk};
-ghost use Rattle.uhp_words.specs.Numbers.{number_at};
+ghost use Rattle.move_text.specs.Readers.{number_at};
 ghost use Rattle.uhp_session.specs.Answers.{text_of, ended, table_line, workers_line, switch, repetition_line};
 
 use crate::lines::Reply;

@@ -5,16 +5,16 @@ use Rattle.std.specs.Str.{bytes_eq}
 use Rattle.std.proofs.lemmas.Fmt.{decimal_nonempty}
 use Rattle.std.proofs.lemmas.Slice.Eq.{bytes_eq-Decides}
 use Rattle.hive_model.specs.Fields.{IsNumberText}
-use Rattle.move_text.specs.Readers.{time_at}
+use Rattle.move_text.specs.Readers.{number_at, time_at}
 use Rattle.move_text.proofs.FieldLaws.{time_found}
 use Rattle.uhp_words.specs.declared.command.Command.{Command}
 use Rattle.uhp_words.specs.declared.command.Command.TheVariants.{Play, BestDepth, BestTime, Undo}
 use Rattle.uhp_words.specs.Spaces.{IsBare, first_word, rest_of}
 use Rattle.uhp_words.specs.Spans.{span_of}
-use Rattle.uhp_words.specs.Numbers.{number_at}
 use Rattle.uhp_words.specs.Grammar.{IsDepth, IsTime, IsPlies}
 use Rattle.uhp_words.specs.Reading.{alone, play_of, depth_of, time_of, plies_of, limit_of, undo_of}
-use Rattle.uhp_words.proofs.FieldLaws.{number_found, number_again, time_again}
+use Rattle.move_text.proofs.NumberLaws.{number_found, number_again}
+use Rattle.uhp_words.proofs.FieldLaws.{time_again}
 use Rattle.uhp_words.proofs.SplitLaws.{split_of, reads_bare}
 
 -- a text that is not the one word can only be the other

@@ -1,6 +1,5 @@
 pub mod Spaces
 pub mod Spans
 pub mod Verbs
-pub mod Numbers
 pub mod Grammar
 pub mod Reading

@@ -1,7 +1,7 @@
 -- The command that a line is, as a function that computes.
 use Rattle.std.specs.Prelude.{ℕ, List, [], ◌∷◌, codes, Option, Some, None, Result, Ok, Err, if◌then◌else◌}
 use Rattle.std.specs.Str.{bytes_eq}
-use Rattle.move_text.specs.Readers.{time_at}
+use Rattle.move_text.specs.Readers.{number_at, time_at}
 use Rattle.uhp_words.specs.declared.command.Command.{Command}
 use Rattle.uhp_words.specs.declared.command.Command.TheVariants.{Info, NewGame, Play, Pass, ValidMoves, BestDepth, BestTime, Undo, Options, OptionGet, OptionSet, Exit}
 use Rattle.uhp_words.specs.declared.command.CommandFault.{CommandFault}
@@ -11,7 +11,6 @@ use Rattle.uhp_words.specs.declared.verb.Verb.TheVariants.{Info as InfoWord, New
 use Rattle.uhp_words.specs.Spaces.{after_spaces, before_spaces, first_word, rest_of, is_word}
 use Rattle.uhp_words.specs.Spans.{span_of}
 use Rattle.uhp_words.specs.Verbs.{verb_at}
-use Rattle.uhp_words.specs.Numbers.{number_at}
 
 -- a command that takes nothing more
 abbrev pub alone : Command → List ℕ → Option Command

@@ -2,7 +2,6 @@
 #![tactic(auto)]
 
 mod command;
-mod fields;
 mod read;
 mod reply;
 mod span;

@@ -18,10 +18,10 @@ ghost use Rattle.uhp_words.specs.Reading.{
 };
 
 use crate::command::{Command, CommandFault};
-use crate::fields::{number_at, time_at};
 use crate::span::span_of;
 use crate::verb::{Verb, verb_at};
 use crate::words::{after_spaces, before_spaces, first_word, is_word, rest_of};
+use move_text::{read_number, read_time};
 
 /// A command that takes nothing more.
 fn alone(command: Command, rest: &[u8]) -> Option<Command>
@@ -50,13 +50,13 @@ fn limit_of(rest: &[u8]) -> Option<Command>
 {
     let word = first_word(rest);
     if word == b"depth".as_slice() {
-        let depth = number_at(rest_of(rest), 1, 64)?;
+        let depth = read_number(rest_of(rest), 1, 64)?;
         return Some(Command::BestDepth {
             depth: depth as u32,
         });
     }
     if word == b"time".as_slice() {
-        let budget = time_at(rest_of(rest))?;
+        let budget = read_time(rest_of(rest))?;
         return Some(Command::BestTime { budget });
     }
     None
@@ -69,7 +69,7 @@ fn undo_of(rest: &[u8]) -> Option<Command>
     if rest.is_empty() {
         return Some(Command::Undo { plies: 1 });
     }
-    let plies = number_at(rest, 1, 999_999_999)?;
+    let plies = read_number(rest, 1, 999_999_999)?;
     Some(Command::Undo {
         plies: plies as u32,
     })

@@ -12,8 +12,8 @@ use Rattle.hive_model.specs.Games.{replay}
 use Rattle.hive_model.specs.Lines.{Line, Text, lines}
 use Rattle.hive_model.specs.Strings.{string}
 use Rattle.rule_laws.proofs.Games.{games_sound}
-use Rattle.uhp_words.proofs.FieldLaws.{number_again}
-use Rattle.uhp_words.specs.Numbers.{number_at}
+use Rattle.move_text.proofs.NumberLaws.{number_again}
+use Rattle.move_text.specs.Readers.{number_at}
 use Rattle.game_text.specs.Reading.{game_of}
 use Rattle.game_text.specs.declared.parsed.Parsed.{Parsed}
 use Rattle.game_text.proofs.GameLaws.{strings}

@@ -7,7 +7,7 @@ use Rattle.hive_model.specs.declared.places.Move.{Move}
 use Rattle.hive_model.specs.Positions.{Position, opening}
 use Rattle.hive_model.specs.Games.{replay}
 use Rattle.hive_model.specs.Strings.{string}
-use Rattle.uhp_words.specs.Numbers.{number_at}
+use Rattle.move_text.specs.Readers.{number_at}
 use Rattle.game_text.specs.Turns.{behind_word}
 use Rattle.certificate_text.specs.Text.{then_at, written_line}
 use Rattle.index_writing.specs.Writing.{index_lines}

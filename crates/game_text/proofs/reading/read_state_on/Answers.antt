@@ -2,20 +2,20 @@ use Rattle.std.proofs.Common.{◌≡◌, ◌∷◌, ◌∙◌, [], sym, subst, B
 use Rattle.hive_model.specs.Strings.{parts}
 use Rattle.game_text.specs.Reading.{Agrees}
 use Rattle.game_text.proofs.ReadLaws.{match_none, match_some, match_split}
-use Rattle.game_text.proofs.FieldReads.{state_read, second}
+use Rattle.game_text.proofs.FieldReads.{second}
 use Rattle.game_text.proofs.reading.read_state_on.Goals as goal
 
 pub returns-in_default : goal.returns-in_default
 returns-in_default g c =
     let split = match_split c.cut.result.1 (parts c.args.text.now) c.cut.result.0.now (λ (r : Bor (List ℕ)). parts r.now) c.cut.ensures.parts in
-    second c.args.repetition c.args.game_type _ _ split.0 _ split.1 (state_read _ _ c.read_state.ensures.found c.read_state.ensures.only ∙ c.in_default.is)
+    second c.args.repetition c.args.game_type _ _ split.0 _ split.1 (sym c.read_state.ensures.value ∙ c.in_default.is)
 
 pub returns-in-None : goal.returns-in-None
 returns-in-None g c =
     let split = match_none c.cut.result.1 (parts c.args.text.now ≡ c.cut.result.0.now ∷ []) (λ (r : Bor (List ℕ)). parts c.args.text.now ≡ c.cut.result.0.now ∷ parts r.now) c.in-None.is c.cut.ensures.parts in
-    second c.args.repetition c.args.game_type _ _ [] _ split (state_read _ _ c.read_state.ensures.found c.read_state.ensures.only ∙ c.in-Some.is)
+    second c.args.repetition c.args.game_type _ _ [] _ split (sym c.read_state.ensures.value ∙ c.in-Some.is)
 
 pub returns-in-Some-more : goal.returns-in-Some-more
 returns-in-Some-more g c =
     let split = match_some c.cut.result.1 _ (λ (r : Bor (List ℕ)). parts c.args.text.now ≡ c.cut.result.0.now ∷ parts r.now) c.in-Some-more.rest c.in-Some-more.is c.cut.ensures.parts in
-    subst (Agrees c.read_turn_on.result) (sym (second c.args.repetition c.args.game_type _ _ (parts c.in-Some-more.rest.now) _ split (state_read _ _ c.read_state.ensures.found c.read_state.ensures.only ∙ c.in-Some.is))) c.read_turn_on.ensures
+    subst (Agrees c.read_turn_on.result) (sym (second c.args.repetition c.args.game_type _ _ (parts c.in-Some-more.rest.now) _ split (sym c.read_state.ensures.value ∙ c.in-Some.is))) c.read_turn_on.ensures
