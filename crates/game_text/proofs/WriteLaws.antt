@@ -96,24 +96,6 @@ pub record IsCopying (g c : Course) (i : ℕ) (done : List (List ℕ)) : Type 0 
 here : (g c : Course) (i : ℕ) (done : List (List ℕ)) → IsCopying g c i done → position c ≡ replay (opening g.game_type) (take i g.made)
 here g c i done h = λ j. replay (opening (h.kind j)) (h.made j)
 
-pub copy_begins : (g c : Course) (done : List (List ℕ)) → c.game_type ≡ g.game_type → c.made ≡ [] → done ≡ [] → length g.made ≤ c.spare → IsGame g.game_type g.made → length g.made ≤ 5064 → IsCopying g c 0 done
-copy_begins g c done kind fresh none room legal few = record {
-  kind = kind;
-  made = fresh ∙ sym (taken g.made);
-  room = omega (arith, room);
-  legal = legal;
-  few = few;
-  written = (λ j. none j ++ texts (replay (opening (kind j)) (fresh j)) (whole g.made j));
-}
-  where
-    taken : (ms : List Move) → take 0 ms ≡ []
-    taken [] = refl
-    taken (k ∷ ms) = refl
-
-    whole : (ms : List Move) → drop 0 ms ≡ ms
-    whole [] = refl
-    whole (k ∷ ms) = refl
-
 pub copy_sound : (g c : Course) (i : ℕ) (done : List (List ℕ)) → IsCopying g c i done → IsSound (position c)
 copy_sound g c i done h =
     let few = h.few in
@@ -144,10 +126,3 @@ copy_on g c d i j done done2 m h at less next up more =
           ∙ append_assoc done (text (position c).board m ∷ []) (texts (after (position c) m) (drop (i + 1) g.made))
           ∙ ap (λ ms. done ++ texts (position c) ms) (sym (drop-at g.made i m at)) ∙ h.written;
     })
-
-pub copy_ends : (g c : Course) (i : ℕ) (done : List (List ℕ)) → IsCopying g c i done → length g.made ≤ i → done ≡ texts (opening g.game_type) g.made
-copy_ends g c i done h all = none done ∙ ap (λ ms. done ++ texts (position c) ms) (sym (drop_all i g.made all)) ∙ h.written
-  where
-    none : (xs : List (List ℕ)) → xs ≡ xs ++ []
-    none [] = refl
-    none (x ∷ xs) = ap (λ (ys : List (List ℕ)). x ∷ ys) (none xs)
