@@ -1,4 +1,3 @@
-pub mod NameLemmas
 pub mod WordLemmas
 pub mod GivenLemmas
 pub mod ProgramLaws

@@ -1,6 +1,6 @@
 -- The commands, by the words that name them.
-use Rattle.std.specs.Prelude.{Bool, true, false, List, [], ◌∷◌, ℕ, Option, None, Some, codes, if◌then◌else◌}
-use Rattle.std.specs.Str.{bytes_eq}
+use Rattle.std.specs.Prelude.{Bool, true, false, List, [], ◌∷◌, ℕ, Option, Some, codes}
+use Rattle.move_text.specs.Tables.{named_by}
 use Rattle.command_words.specs.declared.name.Name.{Name}
 use Rattle.command_words.specs.declared.name.Name.TheVariants.{Uhp, Replay, Count, Grow, Certify, Check, Solve, Verify, Match, Cup, Book, Migrate}
 
@@ -19,21 +19,12 @@ name_text Cup = codes "cup"
 name_text Book = codes "book"
 name_text Migrate = codes "migrate"
 
+abbrev pub names : List Name
+names = Uhp ∷ Replay ∷ Count ∷ Grow ∷ Certify ∷ Check ∷ Solve ∷ Verify ∷ Match ∷ Cup ∷ Book ∷ Migrate ∷ []
+
 -- the command that a word names
 abbrev pub name_at : List ℕ → Option Name
-name_at word =
-    if bytes_eq word (codes "uhp") then Some Uhp else
-    if bytes_eq word (codes "replay") then Some Replay else
-    if bytes_eq word (codes "count") then Some Count else
-    if bytes_eq word (codes "grow") then Some Grow else
-    if bytes_eq word (codes "certify") then Some Certify else
-    if bytes_eq word (codes "check") then Some Check else
-    if bytes_eq word (codes "solve") then Some Solve else
-    if bytes_eq word (codes "verify") then Some Verify else
-    if bytes_eq word (codes "match") then Some Match else
-    if bytes_eq word (codes "cup") then Some Cup else
-    if bytes_eq word (codes "book") then Some Book else
-    if bytes_eq word (codes "migrate") then Some Migrate else None
+name_at = named_by name_text names
 
 -- the command that the first word names; `uhp` where there is no word
 abbrev pub named : List (List ℕ) → Option Name

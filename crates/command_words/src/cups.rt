@@ -7,7 +7,6 @@ ghost use Rattle.std.specs.Prelude.{
   Some,
   length,
   map,
-  string_bytes,
   IfOk,
   IfSome,
   IsTrue,

@@ -22,7 +22,7 @@ ghost use Rattle.command_words.specs.Matches.{
 use crate::program::{begins_words, words_of};
 use crate::setup::setup_of;
 use match_core::Setup;
-use option_words::{GivenOptions, options_of};
+use option_words::options_of;
 use std::alloc::{AllocError, Global};
 
 /// The options of a match, in the order in which their values are asked for.

@@ -1,5 +1,5 @@
 //! Commands with one option, a number.
-ghost use Rattle.std.specs.Prelude.{◌≡◌, ◌<◌, ◌≤◌, ◌^◌, ℕ, Some, length, IfOk, IfSome};
+ghost use Rattle.std.specs.Prelude.{◌≡◌, ◌<◌, ℕ, Some, length, IfOk, IfSome};
 ghost use Rattle.command_words.specs.Words.{AreNumbered};
 
 use move_text::read_number;

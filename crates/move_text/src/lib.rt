@@ -12,6 +12,7 @@ pub use faults::MoveFault;
 pub use fields::{read_number, read_state, read_time, read_type, state_text, time_text, type_text};
 pub use laws::texts_denote;
 pub use moves::{read_move, write_move};
+pub use spelling::piece_name;
 
 #[cfg(test)]
 mod tests;

@@ -73,6 +73,15 @@ fn push_piece(text: &mut ArrayString<16>, piece: Piece)
     text.push_str(number_name(piece.number()));
 }
 
+/// The name of a piece, as the texts of moves spell it.
+pub fn piece_name(piece: Piece) -> ArrayString<16>
+    ensures { result.bytes ≡ piece_text piece }
+{
+    let mut text = ArrayString::new();
+    push_piece(&mut text, piece);
+    text
+}
+
 fn push_destination(text: &mut ArrayString<16>, mark: Mark, reference: Piece)
     requires { array_string_len text.old ≤ 12 }
     ensures bytes { text.new.bytes ≡ text.old.bytes ++ destination mark (piece_text reference) }

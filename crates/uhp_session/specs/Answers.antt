@@ -1,6 +1,7 @@
 -- What a session answers to a line, and what it is afterwards: the table of answers and refusals.
-use Rattle.std.specs.Prelude.{ℕ, ◌-◌, ◌≤◌, nat_eq, nat_lt, nat_le, Bool, true, false, List, [], ◌∷◌, ◌++◌, length, map, take, codes, decimal, Option, Some, None, Result, Ok, Err, if◌then◌else◌}
+use Rattle.std.specs.Prelude.{◌≡◌, ℕ, ◌-◌, ◌≤◌, nat_eq, nat_lt, nat_le, Bool, true, false, List, [], ◌∷◌, ◌++◌, length, map, take, codes, decimal, Option, Some, None, Result, Ok, Err, IfOk, OnOk, OnErr, if◌then◌else◌}
 use Rattle.std.specs.Str.{bytes_eq}
+use Rattle.std.specs.declared.alloc.AllocError.{AllocError}
 use Rattle.hive_model.specs.declared.pieces.GameType.{GameType}
 use Rattle.hive_model.specs.declared.places.Move.{Move}
 use Rattle.hive_model.specs.Boards.{Stacks}
@@ -289,6 +290,12 @@ line_in TooLong = LongLine
 abbrev pub text_of : Reply → Option (List ℕ)
 text_of (ReplyText text) = Some text
 text_of ReplyExit = None
+
+-- A session in a state gave this answer: what the reply tells, and the state after it. After want of memory the state is as before.
+pub record Gave (told : Answer) (result : Result Reply AllocError) (old new : State) : Type 0 where
+  pub reply : IfOk result (λ r. text_of r ≡ reply_of told)
+  pub next : OnOk result (new ≡ after_of old told)
+  pub err : OnErr result (new ≡ old)
 
 -- a line that is handed on has at most 65,536 bytes
 abbrev pub IsShort : Line → Type 0

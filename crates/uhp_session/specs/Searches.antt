@@ -1,5 +1,6 @@
 -- Searches for a time: what a line asks for, what an entry tells of the search that answered it, and what the answer took.
-use Rattle.std.specs.Prelude.{◌≡◌, ℕ, ◌+◌, ◌<◌, ◌≤◌, List, [], ◌∷◌, ◌++◌, Option, Some, None, Result, Ok, codes, if◌then◌else◌}
+use Rattle.std.specs.Prelude.{◌≡◌, ℕ, ◌+◌, ◌<◌, ◌≤◌, List, [], ◌∷◌, ◌++◌, Option, Some, None, Result, Ok, IfOk, OnOk, OnErr, codes, if◌then◌else◌}
+use Rattle.std.specs.declared.alloc.AllocError.{AllocError}
 use Rattle.hive_model.specs.declared.answers.Timed.{Timed}
 use Rattle.hive_model.specs.Positions.{Position}
 use Rattle.hive_model.specs.Lines.{Line, Text as TextLine, TooLong as LongLine}
@@ -8,7 +9,8 @@ use Rattle.uhp_words.specs.declared.command.Command.{Command}
 use Rattle.uhp_words.specs.declared.command.Command.TheVariants.{BestTime}
 use Rattle.uhp_words.specs.declared.command.CommandFault.{CommandFault}
 use Rattle.uhp_words.specs.Reading.{command_of}
-use Rattle.uhp_session.specs.Answers.{Begun, State, reached, is_ended, best_text, ended}
+use Rattle.uhp_session.specs.declared.lines.Reply.{Reply}
+use Rattle.uhp_session.specs.Answers.{Begun, State, reached, is_ended, best_text, ended, text_of}
 
 -- What a line asks for
 
@@ -74,6 +76,16 @@ abbrev pub IsAnswered : Option Search → (ℕ → Option (List ℕ)) → Option
 IsAnswered None reply answer before after = (answer ≡ reply 0) × TakesNoTime before after
 IsAnswered (Some asked) reply answer before after =
     (entry : Timed) × (answer ≡ reply entry.depth) × Searched asked entry before after
+
+-- A line that asks for this search, or for none, was answered so by what was in one state before, and is to be in this state next.
+-- After want of memory the state is as before, and no entry was appended. The clock's last reading never falls.
+pub record Answered {S : Type 0} (asked : Option Search) (told : ℕ → Option (List ℕ)) (follow : S) (result : Result Reply AllocError)
+    (old new : S) (before after : Times) : Type 0 where
+  pub reply : IfOk result (λ r. IsAnswered asked told (text_of r) before after)
+  pub next : OnOk result (new ≡ follow)
+  pub err : OnErr result (new ≡ old)
+  pub memory : OnErr result (after.timed ≡ before.timed)
+  pub later : before.last ≤ after.last
 
 -- the best move of this game at the depth of an entry was told, and the entry tells of this search
 abbrev pub HasTold : Search → Begun → Option (List ℕ) → Times → Times → Type 0

@@ -12,6 +12,7 @@ ghost use Rattle.hive_model.specs.Stack.{with_level};
 ghost use Rattle.move_text.specs.Moves.{move_of};
 ghost use Rattle.uhp_session.specs.Answers.{Begun, reached, is_ended, written, with_moves, text_of, ended, joined, best_text};
 ghost use Rattle.uhp_session.specs.Searches.{HasTold, times};
+ghost use Rattle.uhp_session.specs.Teams.{IsTeam};
 
 use crate::lines::Reply;
 use crate::lists::joined_moves;
@@ -335,10 +336,7 @@ impl<G: Game + Send + Drop> Current<G> {
         gate: &T,
     ) -> Result<Reply, AllocError>
         requires goes_on { is_over (reached self.now) ≡ false }
-        requires workers { 1 ≤ team.workers }
-        requires few { team.workers ≤ 16 }
-        requires entries { 1 ≤ team.entries }
-        requires large { team.entries ≤ 1048576 }
+        requires team { IsTeam team.workers team.entries }
         requires some { 1 ≤ depth }
         requires deep { depth ≤ 64 }
         ensures { IfOk result (λ r. text_of r

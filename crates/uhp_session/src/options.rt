@@ -1,7 +1,6 @@
 //! The lines of options.
 
-ghost use Rattle.std.specs.Prelude.{◌≡◌, ◌≤◌, [], ◌∷◌, ◌++◌, Some, codes, decimal, IfOk, IfSome, OnOk};
-ghost use Rattle.move_text.specs.Readers.{number_at};
+ghost use Rattle.std.specs.Prelude.{◌≡◌, [], ◌∷◌, ◌++◌, Some, codes, decimal, IfOk, OnOk};
 ghost use Rattle.uhp_session.specs.Answers.{text_of, ended, table_line, workers_line, switch, repetition_line};
 
 use crate::lines::Reply;
@@ -9,15 +8,6 @@ use crate::says::close;
 use hive_model::ReplyText;
 use itoa::Buffer;
 use std::alloc::{AllocError, Global};
-
-/// A number in this range.
-pub(crate) fn number_in(text: &[u8], least: u64, most: u64) -> Option<u64>
-    ensures value { result ≡ number_at text.now least most }
-    ensures large { IfSome result (λ n. least ≤ n) }
-    ensures small { IfSome result (λ n. n ≤ most) }
-{
-    move_text::read_number(text, least, most)
-}
 
 /// Appends the line of an option: what stands before its value, the value, and what stands behind
 /// it. After want of memory a part of these was appended.

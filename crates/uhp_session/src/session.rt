@@ -4,20 +4,43 @@ ghost use Rattle.std.specs.Prelude.{◌≡◌, ◌≤◌, length, None, Ok, IfOk
 ghost use Rattle.game_text.specs.Reading.{game_under};
 ghost use Rattle.uhp_words.specs.Grammar.{IsCommand, AreWithin};
 ghost use Rattle.uhp_words.specs.Reading.{command_of};
-ghost use Rattle.uhp_session.specs.Answers.{fresh, reply, next, line_in, text_of, IsShort, reply_of, after_of, words_answer, command_answer, get, set, go_on, with_game, or_base, begin, in_game, play, while_on, list, best_line, undo};
-ghost use Rattle.uhp_session.specs.Searches.{IsAnswered, IsUntimed, asks, command_search, search_in, times};
+ghost use Rattle.uhp_session.specs.Answers.{
+  Gave,
+  IsShort,
+  after_of,
+  begin,
+  best_line,
+  command_answer,
+  fresh,
+  get,
+  go_on,
+  in_game,
+  line_in,
+  list,
+  next,
+  or_base,
+  play,
+  reply,
+  reply_of,
+  set,
+  text_of,
+  undo,
+  while_on,
+  words_answer,
+};
+ghost use Rattle.uhp_session.specs.Searches.{Answered, IsUntimed, asks, command_search, search_in, times};
 
 use crate::current::Current;
 use crate::lines::{LineIn, Reply, or_base};
-use crate::lists::joined_moves;
-use crate::options::{number_in, tell_options, tell_repetition, tell_table, tell_workers};
+use crate::options::{tell_options, tell_repetition, tell_table, tell_workers};
 use crate::refusals::{refuse_game, refuse_move};
-use crate::says::{close, say};
+use crate::says::say;
 use crate::workers::{Team, taken};
 use deepening::Searcher;
 use game_text::read_game_under;
-use hive_model::{Game, MoveStack, TimedList};
+use hive_model::{Game, TimedList};
 use io_edge::Clock;
+use move_text::read_number;
 use root_share::Gate;
 use std::alloc::{AllocError, Global};
 use std::marker::Model;
@@ -95,14 +118,10 @@ impl<G: Game + Send + Drop> Session<G> {
         gate: &T,
     ) -> Result<Reply, AllocError>
         requires { IsShort (line_in line) }
-        ensures reply { IfOk result (λ r. IsAnswered (asks self.old (line_in line.entry))
-            (reply self.old (line_in line.entry)) (text_of r)
+        ensures { Answered (asks self.old (line_in line.entry)) (reply self.old (line_in line.entry))
+            (next self.old (line_in line.entry)) result self.old self.new
             (times (C.last clock.old) (C.readings clock.old) timed.old)
-            (times (C.last clock.new) (C.readings clock.new) timed.new)) }
-        ensures next { OnOk result (self.new ≡ next self.old (line_in line.entry)) }
-        ensures err { OnErr result (self.new ≡ self.old) }
-        ensures memory { OnErr result (timed.new ≡ timed.old) }
-        ensures later { C.last clock.old ≤ C.last clock.new }
+            (times (C.last clock.new) (C.readings clock.new) timed.new) }
     {
         match line {
             LineIn::Text(bytes) => self.answer(rt, alloc, bytes, clock, timed, gate),
@@ -121,16 +140,12 @@ impl<G: Game + Send + Drop> Session<G> {
         gate: &T,
     ) -> Result<Reply, AllocError>
         requires short { length line.now ≤ 65536 }
-        ensures reply { IfOk result (λ r. IsAnswered (command_search self.old (command_of line.now))
+        ensures { Answered (command_search self.old (command_of line.now))
             (λ depth. reply_of (words_answer self.old line.now depth (command_of line.now)))
-            (text_of r)
+            (after_of self.old (words_answer self.old line.now 1 (command_of line.now)))
+            result self.old self.new
             (times (C.last clock.old) (C.readings clock.old) timed.old)
-            (times (C.last clock.new) (C.readings clock.new) timed.new)) }
-        ensures next { OnOk result (self.new ≡ after_of self.old
-            (words_answer self.old line.now 1 (command_of line.now))) }
-        ensures err { OnErr result (self.new ≡ self.old) }
-        ensures memory { OnErr result (timed.new ≡ timed.old) }
-        ensures later { C.last clock.old ≤ C.last clock.new }
+            (times (C.last clock.new) (C.readings clock.new) timed.new) }
     {
         match read_command(line) {
             Ok(command) => self.perform(rt, alloc, line, command, clock, timed, gate),
@@ -153,15 +168,11 @@ impl<G: Game + Send + Drop> Session<G> {
         requires short { length line.now ≤ 65536 }
         requires within { AreWithin line.now command }
         requires reads { IsCommand line.now command }
-        ensures reply { IfOk result (λ r. IsAnswered (command_search self.old (Ok command))
-            (λ depth. reply_of (command_answer self.old line.now depth command)) (text_of r)
+        ensures { Answered (command_search self.old (Ok command))
+            (λ depth. reply_of (command_answer self.old line.now depth command))
+            (after_of self.old (command_answer self.old line.now 1 command)) result self.old self.new
             (times (C.last clock.old) (C.readings clock.old) timed.old)
-            (times (C.last clock.new) (C.readings clock.new) timed.new)) }
-        ensures next { OnOk result (self.new ≡ after_of self.old
-            (command_answer self.old line.now 1 command)) }
-        ensures err { OnErr result (self.new ≡ self.old) }
-        ensures memory { OnErr result (timed.new ≡ timed.old) }
-        ensures later { C.last clock.old ≤ C.last clock.new }
+            (times (C.last clock.new) (C.readings clock.new) timed.new) }
     {
         match command {
             Command::BestTime { budget } => self.best_in(alloc, budget, clock, timed),
@@ -226,13 +237,10 @@ impl<G: Game + Send + Drop> Session<G> {
 
     /// Gives the option of this name this value.
     fn set_option(&mut self, alloc: Global, name: &[u8], value: &[u8]) -> Result<Reply, AllocError>
-        ensures reply { IfOk result (λ r. text_of r ≡ reply_of (set self.old name.now value.now)) }
-        ensures next { OnOk result (self.new ≡ after_of self.old
-            (set self.old name.now value.now)) }
-        ensures err { OnErr result (self.new ≡ self.old) }
+        ensures { Gave (set self.old name.now value.now) result self.old self.new }
     {
         if name == b"Table".as_slice() {
-            let Some(entries) = number_in(value, 1, 1_048_576) else {
+            let Some(entries) = read_number(value, 1, 1_048_576) else {
                 return say(alloc, b"err 9 value out of range");
             };
             let reply = tell_table(alloc, entries as u32)?;
@@ -241,7 +249,7 @@ impl<G: Game + Send + Drop> Session<G> {
             return Ok(reply);
         }
         if name == b"Workers".as_slice() {
-            let Some(workers) = number_in(value, 1, 16) else {
+            let Some(workers) = read_number(value, 1, 16) else {
                 return say(alloc, b"err 9 value out of range");
             };
             let reply = tell_workers(alloc, workers as u32)?;
@@ -250,7 +258,7 @@ impl<G: Game + Send + Drop> Session<G> {
             return Ok(reply);
         }
         if name == b"Repetition".as_slice() {
-            let Some(number) = number_in(value, 0, 1) else {
+            let Some(number) = read_number(value, 0, 1) else {
                 return say(alloc, b"err 9 value out of range");
             };
             let reply = tell_repetition(alloc, number == 1)?;
@@ -262,9 +270,7 @@ impl<G: Game + Send + Drop> Session<G> {
 
     /// The game is now this one, and its string is told.
     fn go_on(&mut self, alloc: Global, game: Current<G>) -> Result<Reply, AllocError>
-        ensures reply { IfOk result (λ r. text_of r ≡ reply_of (go_on self.old game)) }
-        ensures next { OnOk result (self.new ≡ after_of self.old (go_on self.old game)) }
-        ensures err { OnErr result (self.new ≡ self.old) }
+        ensures { Gave (go_on self.old game) result self.old self.new }
     {
         let reply = game.tell(alloc)?;
         self.game = Some(game);
@@ -274,11 +280,8 @@ impl<G: Game + Send + Drop> Session<G> {
     /// Begins the game of a text, with the rule that the options have now.
     fn begin(&mut self, alloc: Global, text: &[u8]) -> Result<Reply, AllocError>
         requires { length text.now ≤ 65536 }
-        ensures reply { IfOk result (λ r. text_of r
-            ≡ reply_of (begin self.old (game_under self.old.repetition (or_base text.now)))) }
-        ensures next { OnOk result (self.new ≡ after_of self.old
-            (begin self.old (game_under self.old.repetition (or_base text.now)))) }
-        ensures err { OnErr result (self.new ≡ self.old) }
+        ensures { Gave (begin self.old (game_under self.old.repetition (or_base text.now))) result
+            self.old self.new }
     {
         let repetition = self.repetition;
         match read_game_under::<G>(alloc, or_base(text), repetition) {
@@ -294,11 +297,7 @@ impl<G: Game + Send + Drop> Session<G> {
     /// Plays the move of a text.
     fn play(&mut self, alloc: Global, words: &[u8]) -> Result<Reply, AllocError>
         requires { length words.now ≤ 65536 }
-        ensures reply { IfOk result (λ r. text_of r
-            ≡ reply_of (in_game self.old self.old.game (play self.old words.now))) }
-        ensures next { OnOk result (self.new ≡ after_of self.old
-            (in_game self.old self.old.game (play self.old words.now))) }
-        ensures err { OnErr result (self.new ≡ self.old) }
+        ensures { Gave (in_game self.old self.old.game (play self.old words.now)) result self.old self.new }
     {
         let Some(game) = &mut self.game else {
             return say(alloc, b"err 3 no game");
@@ -378,13 +377,11 @@ impl<G: Game + Send + Drop> Session<G> {
         timed: &mut TimedList,
     ) -> Result<Reply, AllocError>
         requires { budget ≤ 359999000 }
-        ensures reply { IfOk result (λ r. IsAnswered (search_in self.old.game budget)
-            (λ depth. reply_of (while_on self.old (best_line self.old depth))) (text_of r)
+        ensures { Answered (search_in self.old.game budget)
+            (λ depth. reply_of (while_on self.old (best_line self.old depth)))
+            self.old result self.old self.new
             (times (C.last clock.old) (C.readings clock.old) timed.old)
-            (times (C.last clock.new) (C.readings clock.new) timed.new)) }
-        ensures same { self.new ≡ self.old }
-        ensures memory { OnErr result (timed.new ≡ timed.old) }
-        ensures later { C.last clock.old ≤ C.last clock.new }
+            (times (C.last clock.new) (C.readings clock.new) timed.new) }
     {
         let entries = (self.table / self.workers).max(1);
         let Some(game) = &mut self.game else {
@@ -401,11 +398,7 @@ impl<G: Game + Send + Drop> Session<G> {
 
     /// Takes the last plies back, so many.
     fn undo(&mut self, alloc: Global, plies: u32) -> Result<Reply, AllocError>
-        ensures reply { IfOk result (λ r. text_of r
-            ≡ reply_of (in_game self.old self.old.game (undo self.old plies))) }
-        ensures next { OnOk result (self.new ≡ after_of self.old
-            (in_game self.old self.old.game (undo self.old plies))) }
-        ensures err { OnErr result (self.new ≡ self.old) }
+        ensures { Gave (in_game self.old self.old.game (undo self.old plies)) result self.old self.new }
     {
         let Some(game) = &self.game else {
             return say(alloc, b"err 3 no game");

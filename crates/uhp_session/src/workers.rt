@@ -8,6 +8,7 @@ ghost use Rattle.hive_model.specs.Games.{IsGame, replay};
 ghost use Rattle.hive_model.specs.Legal.{is_over};
 ghost use Rattle.hive_model.specs.Minimax.{best};
 ghost use Rattle.root_share.specs.Answer.{IsGameOf};
+ghost use Rattle.uhp_session.specs.Teams.{IsTeam};
 
 use deepening::Searcher;
 use game_text::played;
@@ -65,10 +66,7 @@ pub(crate) fn best_by<R: Threads + Sync, G: Game + Send + Drop, T: Gate + Sync>(
     requires game { IsGame game_type moves.now }
     requires short { length moves.now ≤ 5000 }
     requires goes_on { is_over (replay (opening game_type) moves.now) ≡ false }
-    requires workers { 1 ≤ team.workers }
-    requires few { team.workers ≤ 16 }
-    requires entries { 1 ≤ team.entries }
-    requires large { team.entries ≤ 1048576 }
+    requires team { IsTeam team.workers team.entries }
     requires some { 1 ≤ depth }
     requires deep { depth ≤ 64 }
     ensures { IfOk result (λ m. best (replay (opening game_type) moves.now) depth ≡ Some m) }

@@ -29,13 +29,13 @@ best_shared-requires-clause-prepared g c κs within =
 pub best_shared-requires-clause-goes_on : goal.best_shared-requires-clause-goes_on
 best_shared-requires-clause-goes_on g c κs within =
     let ws = c.deref_mut.result.now in
-    let some : 1 ≤ length ws = rw c.deref_mut.ensures.value (rw c.in_ok-workers.ensures.count c.requires.workers) in
+    let some : 1 ≤ length ws = rw c.deref_mut.ensures.value (rw c.in_ok-workers.ensures.count c.requires.team.workers) in
     let root = root-is c.args.game_type c.args.moves.now c.args.depth ws (λ w. g.G.Game.course w.game) some (rw c.deref_mut.ensures.value c.in_ok-workers.ensures.games) in
     subst (λ p. is_over p ≡ false) (sym root) c.requires.goes_on
 
 pub returns : goal.returns
 returns g c =
     let ws = c.deref_mut.result.now in
-    let some : 1 ≤ length ws = rw c.deref_mut.ensures.value (rw c.in_ok-workers.ensures.count c.requires.workers) in
+    let some : 1 ≤ length ws = rw c.deref_mut.ensures.value (rw c.in_ok-workers.ensures.count c.requires.team.workers) in
     let root = root-is c.args.game_type c.args.moves.now c.args.depth ws (λ w. g.G.Game.course w.game) some (rw c.deref_mut.ensures.value c.in_ok-workers.ensures.games) in
     subst (λ p. best p c.args.depth ≡ Some c.in_ok-found.found.best) root c.in_ok-found.ensures.first
