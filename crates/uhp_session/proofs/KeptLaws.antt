@@ -13,10 +13,8 @@ use Rattle.hive_model.specs.Keys.{KeyParts, key}
 use Rattle.hive_model.specs.Repetition.{positions, keys}
 use Rattle.hive_model.specs.Courses.{Course, position, with_move, without_last}
 use Rattle.hive_model.specs.Strings.{texts}
-use Rattle.game_text.specs.declared.seen.Seen.{Seen}
-use Rattle.game_text.specs.Seen.{keys_kept, Sees}
+use Rattle.game_text.specs.Seen.{keys_kept}
 use Rattle.game_text.proofs.OpenLaws.{keys_size}
-use Rattle.game_text.proofs.SeenLaws.{sees_same}
 use Rattle.game_text.proofs.WriteLaws.{taken_size}
 use Rattle.move_text.specs.Moves.{IsMoveWithin}
 use Rattle.move_text.proofs.LegalSpell.{listed_within}
@@ -114,20 +112,3 @@ few_less c e back few =
 -- a move was made and taken back
 pub taken_back : (ms : List Move) (m : Move) → take (length (ms ++ m ∷ []) - 1) (ms ++ m ∷ []) ≡ ms
 taken_back ms m = take-all_but_last ms m
-
--- A move that was made and taken back, since there was no memory for the key of its position
-
-pub kind_again : (c d e f : Course) (m : Move) → d.game_type ≡ c.game_type → e ≡ with_move d m → f ≡ without_last e → f.game_type ≡ c.game_type
-kind_again c d e f m kind moved back = ap (λ (z : Course). z.game_type) back ∙ ap (λ (z : Course). z.game_type) moved ∙ kind
-
-pub made_again : (c d e f : Course) (m : Move) → d.made ≡ c.made → e ≡ with_move d m → f ≡ without_last e → f.made ≡ c.made
-made_again c d e f m made moved back =
-    ap (λ (z : Course). z.made) back ∙ ap (λ (z : Course). take (length z.made - 1) z.made) moved ∙ taken_back d.made m ∙ made
-
-pub sees_again : (s t : Seen) (c f : Course) → t ≡ s → f.game_type ≡ c.game_type → f.made ≡ c.made → Sees s c → Sees t f
-sees_again s t c f same kind made h = subst (λ z. Sees z f) (sym same) (sees_same s c f (sym kind) (sym made) h)
-
-pub one_made : (d e : Course) (m : Move) → e ≡ with_move d m → 1 ≤ length e.made
-one_made d e m moved =
-    let size : length e.made ≡ length (d.made ++ m ∷ []) = ap (λ (z : Course). length z.made) moved in
-    omega (arith, size, length-append d.made (m ∷ []))

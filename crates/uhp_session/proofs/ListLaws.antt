@@ -1,7 +1,7 @@
 -- Written moves, joined by semicolons.
 use Rattle.std.proofs.Common.{◌≡◌, ℕ, suc, ◌+◌, ◌≤◌, ◌<◌, List, [], ◌∷◌, ◌++◌, length, take, refl, sym, ◌∙◌, ap, arith, append_assoc, if◌then◌else◌}
 use Rattle.std.specs.Prelude.{Some, slice_get, map, nat_eq}
-use Rattle.std.proofs.lemmas.List.{take_all, length-map, length-take-le, map_push}
+use Rattle.std.proofs.lemmas.List.{length-map, length-take-le, map_push}
 use Rattle.std.proofs.lemmas.Bool.{eqb-true, false_from_ne_true}
 use Rattle.hive_model.specs.declared.places.Move.{Move}
 use Rattle.hive_model.specs.Strings.{joined_on}
@@ -28,10 +28,3 @@ written_on f ms i m old new part at less before is pushed =
     pushed ∙ (λ j. if nat_eq i 0 then before j ++ is j else before j ++ 59 ∷ is j)
     ∙ ap (λ n. if nat_eq n 0 then joined (map f (take i ms)) ++ f m else joined (map f (take i ms)) ++ 59 ∷ f m) (sym size)
     ∙ sym (joined_more (map f (take i ms)) (f m)) ∙ ap joined (sym (map_push f (take i ms) m)) ∙ ap (λ (r : List Move). joined (map f r)) (sym (taken_next ms i m at))
-
-pub written_all : (f : Move → List ℕ) (ms : List Move) (i : ℕ) (text : List ℕ) → length ms ≤ i → text ≡ joined (map f (take i ms)) → text ≡ joined (map f ms)
-written_all f ms i text all is = is ∙ ap (λ (r : List Move). joined (map f r)) (take_all i ms all)
-
-pub written_none : (f : Move → List ℕ) (ms : List Move) (text : List ℕ) → text ≡ [] → text ≡ joined (map f (take 0 ms))
-written_none f [] text none = none
-written_none f (k ∷ ms) text none = none

@@ -4,22 +4,11 @@ use Rattle.hive_model.specs.declared.pieces.GameType.{GameType}
 use Rattle.hive_model.specs.declared.places.Move.{Move}
 use Rattle.hive_model.specs.declared.places.State.{State}
 use Rattle.hive_model.specs.declared.places.State.TheVariants.{NotStarted, InProgress, Draw, WhiteWins, BlackWins}
-use Rattle.hive_model.specs.Courses.{Course, position}
 use Rattle.hive_model.specs.Legal.{state, is_over, is_over_state}
-use Rattle.hive_model.specs.Repetition.{keys, ends_as, outcome_under, StandsUnder}
-use Rattle.game_text.specs.declared.seen.Seen.{Seen}
-use Rattle.game_text.specs.Reading.{is_third}
-use Rattle.game_text.specs.Seen.{Sees}
-use Rattle.game_text.proofs.OpenLaws.{outcome_is}
-use Rattle.game_text.proofs.SeenLaws.{third_seen}
+use Rattle.hive_model.specs.Repetition.{ends_as, StandsUnder}
 use Rattle.uhp_session.specs.Answers.{Begun, reached, is_ended}
 
 -- The outcome
-
-pub outcome_kept : (s : Seen) (c : Course) → Sees s c → ends_as (is_third s.repetition s.keys) (state (position c)) ≡ outcome_under s.repetition c.game_type c.made
-outcome_kept s c h =
-    ap (λ b. ends_as b (state (position c))) (third_seen s c h)
-    ∙ outcome_is s.repetition c.game_type c.made (keys c.game_type c.made) (position c) (record { seen_is = refl; place = refl })
 
 ends_later : (b : Bool) (s : State) → is_over_state (ends_as b s) ≡ false → is_over_state s ≡ false
 ends_later true NotStarted e = refl

@@ -1,6 +1,6 @@
 //! Lists of legal moves, written.
 
-ghost use Rattle.std.specs.Prelude.{◌≡◌, ◌<◌, [], ◌∷◌, ◌++◌, length, map, IfOk, OnOk, Some, slice_get, if◌then◌else◌};
+ghost use Rattle.std.specs.Prelude.{◌≡◌, ◌<◌, ◌∷◌, ◌++◌, length, map, IfOk, OnOk, if◌then◌else◌};
 ghost use Rattle.hive_model.specs.Boards.{IsBoard};
 ghost use Rattle.hive_model.specs.Denotes.{text as text_of};
 ghost use Rattle.hive_model.specs.Stack.{level_of};

@@ -1,33 +1,13 @@
 //! A session over any game.
 
-ghost use Rattle.std.specs.Prelude.{◌≡◌, ◌≤◌, length, None, Ok, IfOk, IfSome, OnOk, OnErr};
+ghost use Rattle.std.specs.Prelude.{◌≡◌, ◌≤◌, length, Ok, IfOk, OnOk, OnErr};
 ghost use Rattle.game_text.specs.Reading.{game_under};
 ghost use Rattle.uhp_words.specs.Grammar.{IsCommand, AreWithin};
 ghost use Rattle.uhp_words.specs.Reading.{command_of};
-ghost use Rattle.uhp_session.specs.Answers.{
-  Gave,
-  IsShort,
-  after_of,
-  begin,
-  best_line,
-  command_answer,
-  fresh,
-  get,
-  go_on,
-  in_game,
-  line_in,
-  list,
-  next,
-  or_base,
-  play,
-  reply,
-  reply_of,
-  set,
-  text_of,
-  undo,
-  while_on,
-  words_answer,
-};
+ghost use Rattle.uhp_session.specs.Answers.{Gave, IsShort, after_of, begin, best_line};
+ghost use Rattle.uhp_session.specs.Answers.{command_answer, fresh, get, go_on, in_game, line_in};
+ghost use Rattle.uhp_session.specs.Answers.{list, next, or_base, play, reply, reply_of, set};
+ghost use Rattle.uhp_session.specs.Answers.{text_of, undo, while_on, words_answer};
 ghost use Rattle.uhp_session.specs.Searches.{Answered, IsUntimed, asks, command_search, search_in, times};
 
 use crate::current::Current;
