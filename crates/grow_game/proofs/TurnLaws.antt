@@ -52,17 +52,6 @@ shorter from now next ts i n t some turn here back =
     ap (λ (c : Course). c.made) back ∙ ap (λ (ms : List Move). take (length ms - 1) ms) (last-made from now ts i n t some turn here)
     ∙ take-all_but_last (moves_of (take (i - 1) ts)) t.m
 
-pub back-step : (from now next : Course) (ts : List Ply) (i n : ℕ) (t : Ply) → 0 < i → AreBack from ts i now n → slice_get ts (i - 1) ≡ Some t →
-    next ≡ without_last now → AreBack from ts (i - 1) next (n + 1)
-back-step from now next ts i n t some turn here back =
-    let more : next.spare ≡ now.spare + 1 = ap (λ (c : Course). c.spare) back in
-    record {
-      kind = ap (λ (c : Course). c.game_type) back ∙ turn.kind;
-      made = shorter from now next ts i n t some turn here back;
-      undone = omega (arith, turn.undone, some);
-      spare = omega (arith, turn.spare, more, some);
-    }
-
 -- the key that stood before the ply stands again
 pub back-key : (from now next : Course) (ts : List Ply) (i n : ℕ) (t : Ply) → AreKeyed (opening from.game_type) ts → 0 < i → AreBack from ts i now n →
     slice_get ts (i - 1) ≡ Some t → next ≡ without_last now → key (position next) ≡ t.before
@@ -211,11 +200,6 @@ growing-all seed plies from now state i made sum turn past =
 
 begins : (c : Course) → c.made ≡ [] → position c ≡ opening c.game_type
 begins c none = ap (λ (ms : List Move). replay (opening c.game_type) ms) none
-
-pub made-keyed : (seed plies : ℕ) (from to : Course) (made : List Ply) (sum : ℕ) → AreMade seed plies from to made sum → from.made ≡ [] →
-    AreKeyed (opening to.game_type) made
-made-keyed seed plies from to made sum turn fresh =
-    subst (λ (p : Position). AreKeyed p made) (begins from fresh ∙ ap opening (sym turn.kind)) turn.keyed
 
 pub made-legal : (seed plies : ℕ) (from to back : Course) (made : List Ply) (sum : ℕ) → AreMade seed plies from to made sum → from.made ≡ [] →
     back.game_type ≡ to.game_type → back.made ≡ [] → AreLegal (position back) (moves_of made)

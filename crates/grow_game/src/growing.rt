@@ -1,6 +1,6 @@
 //! The game that a number makes, taken back and played again.
 
-ghost use Rattle.std.specs.Prelude.{◌≡◌, ℕ, ◌+◌, ◌≤◌, [], length, IfOk};
+ghost use Rattle.std.specs.Prelude.{◌≡◌, ◌+◌, ◌≤◌, [], length, IfOk};
 ghost use Rattle.hive_model.specs.Courses.{position};
 ghost use Rattle.grow_game.specs.Growing.{full_type, start, grown_moves, choices, TellsBest};
 ghost use Rattle.grow_game.specs.Made.{AreMade};
