@@ -11,10 +11,6 @@ use Rattle.option_words.specs.Options.{IsValue}
 
 -- ---- from an item to the lexer
 
--- a word that begins with `--` and goes on is not `--`
-pub not_dashes : (b : ℕ) (bs : Text) → bytes_eq (45 ∷ (45 ∷ (b ∷ bs))) (codes "--") ≡ false
-not_dashes b bs = refl
-
 pub one_word_long : (name v : Text) → Lacks 61 name → long_of (codes "--" ++ (name ++ 61 ∷ v)) ≡ Some (name, Some v)
 one_word_long [] v h = ap Some (name_and_value-at [] v h)
 one_word_long (b ∷ bs) v h = ap Some (name_and_value-at (b ∷ bs) v h)
