@@ -87,13 +87,6 @@ run_on {S} {v} {before} {old} {new} (bytes, given, written, entries, asked, run)
   | inr rests ↦ absurd rests.stops
 ]
 
--- the bytes that were settled are more
-pub run_moves : {S : Type 0} {v : Service S} {old new : Standing S} → Rounds v None old new → input_limit - settled new.reader < input_limit - settled old.reader
-run_moves {S} {v} {old} {new} (b1, round) = elim round.does [
-  | inl (line, gives, answers) ↦ let m = gives.moves_on in let h = round.within in omega arith
-  | inr rests ↦ absurd rests.stops
-]
-
 -- The end
 
 -- the entries of the lines so far tell of the searches of lines that are the same

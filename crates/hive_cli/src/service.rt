@@ -1,11 +1,11 @@
 //! A service over a source and a sink: the reply to each line is written before the next line is
 //! read.
-ghost use Rattle.std.specs.Prelude.{◌≡◌, ◌≤◌, Bool, false, Some, IfOk, OnOk, OnErr};
+ghost use Rattle.std.specs.Prelude.{◌≡◌, Bool, false, Some};
 ghost use Rattle.std.specs.Thread.{IsSync};
 ghost use Rattle.io_edge.specs.Outside.{HasCause};
-ghost use Rattle.uhp_session.specs.Answers.{line_in, text_of, IsShort};
-ghost use Rattle.uhp_session.specs.Searches.{times};
-ghost use Rattle.hive_cli.specs.Rounds.{Answers, IsReply, Rounds, standing, status_of};
+ghost use Rattle.uhp_session.specs.Answers.{line_in, IsShort};
+ghost use Rattle.uhp_session.specs.Searches.{Answered, times};
+ghost use Rattle.hive_cli.specs.Rounds.{Answers, Rounds, standing, status_of};
 ghost use Rattle.hive_cli.specs.Service.{Service};
 ghost use Rattle.hive_cli.specs.ServiceRun.{ServiceRun, scene};
 
@@ -33,7 +33,7 @@ pub(crate) trait LineService {
     ///
     /// Where the line asks for a search for a time, one entry that tells of it is appended, and the
     /// reply is that at the entry's depth. Where it asks for none, the clock is not read. After
-    /// want of memory no entry is appended.
+    /// want of memory the state is as before, and no entry is appended.
     fn answer<R: Threads + Sync, C: Clock>(
         &mut self,
         rt: &R,
@@ -44,12 +44,11 @@ pub(crate) trait LineService {
     ) -> Result<Reply, AllocError>
         requires sync { IsSync R.row }
         requires short { IsShort (line_in line) }
-        ensures reply { IfOk result (λ r. IsReply service self.old (line_in line.entry) (text_of r)
+        ensures answered { Answered (service.asks self.old (line_in line.entry))
+            (service.reply self.old (line_in line.entry))
+            (service.next self.old (line_in line.entry)) result self.old self.new
             (times (C.last clock.old) (C.readings clock.old) timed.old)
-            (times (C.last clock.new) (C.readings clock.new) timed.new)) }
-        ensures next { OnOk result (self.new ≡ service.next self.old (line_in line.entry)) }
-        ensures memory { OnErr result (timed.new ≡ timed.old) }
-        ensures later { C.last clock.old ≤ C.last clock.new }
+            (times (C.last clock.new) (C.readings clock.new) timed.new) }
         ensures clock { takes_time ≡ false → clock.new ≡ clock.old }
         ensures timed { takes_time ≡ false → timed.new ≡ timed.old };
 
