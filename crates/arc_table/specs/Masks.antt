@@ -1,5 +1,6 @@
--- The occupied neighbours of a place as a mask: bit i is set where the neighbour in direction i is occupied, in the order E, NE, NW, W, SW, SE.
--- That order is a circle: after SE comes E. An arc is a run of set bits round this circle that begins after a bit that is not set and ends before one.
+-- The occupied neighbours of a place as a mask: bit i is set where the neighbour in direction i is
+-- occupied, in the order E, NE, NW, W, SW, SE. That order is a circle: after SE comes E. An arc is
+-- a run of set bits round this circle that begins after a bit that is not set and ends before one.
 -- So an arc has one to five bits, and the masks 0 and 63 have none.
 use Rattle.std.specs.Prelude.{ℕ, ◌+◌, ◌/◌, ◌%◌, ◌^◌, Bool, not, ◌&&◌, ◌==◌, List, [], ◌∷◌, map, if◌then◌else◌}
 use Rattle.std.specs.List.{range_with_len}

@@ -53,7 +53,9 @@ points_of v side = worth (winner v) side
 
 -- what an engine gets of a game with its verdict
 abbrev pub gets : ℕ → Pairing × Verdict → ℕ
-gets e g = (if nat_eq g.0.white e then points_of g.1 White else 0) + (if nat_eq g.0.black e then points_of g.1 Black else 0)
+gets e g =
+    (if nat_eq g.0.white e then points_of g.1 White else 0)
+    + (if nat_eq g.0.black e then points_of g.1 Black else 0)
 
 -- the points of an engine in a cup of n engines, by the verdicts of its games in their order
 abbrev pub points : ℕ → List Verdict → ℕ → ℕ
@@ -67,7 +69,8 @@ plays e g = if nat_eq g.white e || nat_eq g.black e then 1 else 0
 
 -- an engine, its points and the number of its games
 abbrev pub standing : ℕ → List Verdict → ℕ → Standing
-standing n vs e = record { engine = e; points = points n vs e; games = sum_by (plays e) (pairings n) }
+standing n vs e =
+    record { engine = e; points = points n vs e; games = sum_by (plays e) (pairings n) }
 
 -- more points, or as many and the lower number
 abbrev pub is_ahead : Standing → Standing → Bool

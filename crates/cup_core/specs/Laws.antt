@@ -6,4 +6,6 @@ use Rattle.cup_core.specs.Cup.{numbers, points}
 
 -- with n engines the points of all of them add up to twice n (n - 1)
 abbrev pub PointsAddUp : Type 0
-PointsAddUp = (n : ℕ) (vs : List Verdict) → length vs ≡ n * (n - 1) → sum_by (points n vs) (numbers n) ≡ 2 * (n * (n - 1))
+PointsAddUp =
+    (n : ℕ) (vs : List Verdict) → length vs ≡ n * (n - 1)
+    → sum_by (points n vs) (numbers n) ≡ 2 * (n * (n - 1))

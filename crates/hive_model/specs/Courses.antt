@@ -25,7 +25,8 @@ with_move c m = record { game_type = c.game_type; made = c.made ++ m ∷ []; spa
 
 -- the game without its last move
 abbrev pub without_last : Course → Course
-without_last c = record { game_type = c.game_type; made = take (length c.made - 1) c.made; spare = c.spare + 1 }
+without_last c =
+    record { game_type = c.game_type; made = take (length c.made - 1) c.made; spare = c.spare + 1 }
 
 -- the two are one move
 abbrev pub is_move : Move → Move → Bool

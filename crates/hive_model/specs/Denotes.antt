@@ -47,13 +47,15 @@ pub record DenotesBeside (t : GameType) (b : Stacks) (text : List ℕ) (m : Move
   pub in_play : place_in (without b piece) reference ≡ Some place
   pub goes : m ≡ To piece (place_by place mark)
 
--- The text denotes the move: it is `pass` and the move is the pass, or it names the piece that moves and where it goes. A reference
--- is looked up on the board without the moving piece.
+-- The text denotes the move: it is `pass` and the move is the pass, or it names the piece that
+-- moves and where it goes. A reference is looked up on the board without the moving piece.
 abbrev pub Denotes : GameType → Stacks → List ℕ → Move → Type 0
-Denotes t b text m = ((text ≡ codes "pass") × (m ≡ Pass)) ⊎ (DenotesAlone t b text m ⊎ DenotesBeside t b text m)
+Denotes t b text m =
+    ((text ≡ codes "pass") × (m ≡ Pass)) ⊎ (DenotesAlone t b text m ⊎ DenotesBeside t b text m)
 
--- The one spelling of a move. A destination that is occupied is written as its top piece; an empty one by the top piece of its
--- first occupied neighbour in the order W, E, SW, NE, NW, SE. Both are looked up on the board without the moving piece.
+-- The one spelling of a move. A destination that is occupied is written as its top piece; an empty
+-- one by the top piece of its first occupied neighbour in the order W, E, SW, NE, NW, SE. Both are
+-- looked up on the board without the moving piece.
 
 -- how a place next to a reference, or the reference itself, is named
 pub record Candidate : Type 0 where

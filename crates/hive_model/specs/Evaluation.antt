@@ -40,7 +40,8 @@ is_free_piece b rest x = not (is_piece x rest) && is_uncut_top b (spot_of b x)
 
 -- what a piece counts for a side: its weight where it is a free piece of that side
 abbrev pub counted : Stacks → Option ℕ → Colour → ℕ → ℕ
-counted b rest c x = if is_colour (colour_of x) c && is_free_piece b rest x then weight_of (kind_of x) else 0
+counted b rest c x =
+    if is_colour (colour_of x) c && is_free_piece b rest x then weight_of (kind_of x) else 0
 
 -- the weights of a side's free pieces, each counted once
 abbrev pub free_weight : Stacks → Option ℕ → Colour → ℕ
@@ -54,9 +55,9 @@ occupied_round b (Some s) = length (filter (is_occupied b) (neighbours s.place))
 abbrev pub round_queen : Stacks → Colour → ℕ
 round_queen b c = occupied_round b (spot_of b (queen_of c))
 
--- From a side's view: 40 for each occupied neighbour of the other's queen, less 40 for each of its own queen, and the weights of
--- its own free pieces, less those of the other side's. It goes over all 28 pieces: one that is not of the game type never stands
--- on the board.
+-- From a side's view: 40 for each occupied neighbour of the other's queen, less 40 for each of its
+-- own queen, and the weights of its own free pieces, less those of the other side's. It goes over
+-- all 28 pieces: one that is not of the game type never stands on the board.
 unfoldable pub evaluation : Stacks → Option ℕ → Colour → ℤ
 evaluation b rest side =
     pos 40 *ℤ (pos (round_queen b (other_side side)) -ℤ pos (round_queen b side))

@@ -52,7 +52,9 @@ all_met ps found = list_all (on_list found) ps
 
 -- from each occupied place neighbour after neighbour is met, until all are
 abbrev pub is_one : Stacks → Bool
-is_one b = list_all (λ p. all_met (places_of b) (p ∷ flood are_neighbours (length (places_of b)) (p ∷ []) (places_of b))) (places_of b)
+is_one b =
+    list_all (λ p. all_met (places_of b)
+    (p ∷ flood are_neighbours (length (places_of b)) (p ∷ []) (places_of b))) (places_of b)
 
 abbrev pub is_separating : Stacks → Place → Bool
 is_separating b p = is_occupied b p && not (is_one (cleared b p))

@@ -25,7 +25,8 @@ product a b = (a * b) % (2 ^ 64)
 
 abbrev pub spot_number : Spot → ℕ
 spot_number s =
-    bit_xor (bit_xor (product (cast_unsigned w32 s.place.q) spread_q) (product (cast_unsigned w32 s.place.r) spread_r)) (s.level + 1)
+    bit_xor (bit_xor (product (cast_unsigned w32 s.place.q) spread_q)
+    (product (cast_unsigned w32 s.place.r) spread_r)) (s.level + 1)
 
 -- the number of the spots before, with one spot more
 abbrev pub mixed : ℕ → Option Spot → ℕ
@@ -36,5 +37,8 @@ abbrev pub number_of : KeyParts → ℕ
 number_of k = fold mixed 0 k.spots
 
 -- equal keys have equal numbers
-pub equal_numbers : (a b : KeyParts) → IsTrue (same_key a b) → fed.u64 (number_of a) ≡ fed.u64 (number_of b)
-equal_numbers a b e = ap (λ spots. fed.u64 (fold mixed 0 spots)) ((spots_decided a.spots b.spots).0 (and_parts (same_spots a.spots b.spots) _ e).0)
+pub equal_numbers : (a b : KeyParts) → IsTrue (same_key a b)
+    → fed.u64 (number_of a) ≡ fed.u64 (number_of b)
+equal_numbers a b e =
+    ap (λ spots. fed.u64 (fold mixed 0 spots))
+    ((spots_decided a.spots b.spots).0 (and_parts (same_spots a.spots b.spots) _ e).0)

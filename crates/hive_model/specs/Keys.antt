@@ -8,8 +8,9 @@ use Rattle.hive_model.specs.Places.{IsWithin}
 use Rattle.hive_model.specs.Boards.{Stacks, spot_of}
 use Rattle.hive_model.specs.Positions.{Position}
 
--- The place and the level of each of the 28 pieces, in their order, the game type, the side to move, the turn, capped at 5, and
--- the resting piece. Places are absolute. From the fifth turn on no rule asks for its number.
+-- The place and the level of each of the 28 pieces, in their order, the game type, the side to
+-- move, the turn, capped at 5, and the resting piece. Places are absolute. From the fifth turn on
+-- no rule asks for its number.
 pub record KeyParts : Type 0 where
   pub spots : List (Option Spot)
   pub game_type : GameType
@@ -18,7 +19,14 @@ pub record KeyParts : Type 0 where
   pub rest : Option ℕ
 
 unfoldable pub key_of : GameType → Stacks → Colour → ℕ → Option ℕ → KeyParts
-key_of t b side turn rest = record { spots = map (spot_of b) all_pieces; game_type = t; side = side; turn = min turn 5; rest = rest }
+key_of t b side turn rest =
+    record {
+      spots = map (spot_of b) all_pieces;
+      game_type = t;
+      side = side;
+      turn = min turn 5;
+      rest = rest;
+    }
 
 -- a position's key
 abbrev pub key : Position → KeyParts

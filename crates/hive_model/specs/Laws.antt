@@ -1,5 +1,6 @@
--- The laws of the definitions. Each rule is said twice: as a relation in the rule's own words, and as a test that computes.
--- The laws say that the test holds exactly where the relation does, and what the lists of places and moves have on them.
+-- The laws of the definitions. Each rule is said twice: as a relation in the rule's own words, and
+-- as a test that computes. The laws say that the test holds exactly where the relation does, and
+-- what the lists of places and moves have on them.
 use Rattle.std.specs.Prelude.{◌≡◌, ℕ, ◌≤◌, ◌<◌, Bool, List, [], ◌∷◌, length, Option, Some, None, IsTrue, ◌↔◌}
 use Rattle.std.specs.declared.cmp.Ordering.{Ordering}
 use Rattle.hive_model.specs.declared.pieces.Colour.{Colour}
@@ -29,13 +30,16 @@ use Rattle.hive_model.specs.Legal.{IsSurrounded, IsOver, Walk, LegalPair, IsLega
 abbrev pub NeighboursAreTested : Type 0
 NeighboursAreTested = (p q : Place) → IsTrue (are_neighbours p q) ↔ AreNeighbours p q
 
--- a board is tested to be one hive exactly where each two occupied places are the ends of a walk over occupied places
+-- a board is tested to be one hive exactly where each two occupied places are the ends of a walk
+-- over occupied places
 abbrev pub OneHiveIsTested : Type 0
 OneHiveIsTested = (b : Stacks) → IsBoard b → IsTrue (is_one b) ↔ OneHive b
 
--- a place is tested to be separating exactly where it is occupied and the board without its pieces is not one hive
+-- a place is tested to be separating exactly where it is occupied and the board without its pieces
+-- is not one hive
 abbrev pub SeparatingIsTested : Type 0
-SeparatingIsTested = (b : Stacks) → IsBoard b → (p : Place) → IsTrue (is_separating b p) ↔ IsSeparating b p
+SeparatingIsTested =
+    (b : Stacks) → IsBoard b → (p : Place) → IsTrue (is_separating b p) ↔ IsSeparating b p
 
 -- a place is tested to be a cut place exactly where it is separating and of height 1
 abbrev pub CutIsTested : Type 0
@@ -49,7 +53,8 @@ GroundStepIsTested = (b : Stacks) (p q : Place) → IsTrue (is_ground_step b p q
 
 -- a step that is not blocked, and has an occupied place at one of its ends
 abbrev pub ClimbingStepIsTested : Type 0
-ClimbingStepIsTested = (b : Stacks) (p q : Place) → IsTrue (is_climbing_step b p q) ↔ ClimbingStep b p q
+ClimbingStepIsTested =
+    (b : Stacks) (p q : Place) → IsTrue (is_climbing_step b p q) ↔ ClimbingStep b p q
 
 -- a step that no two higher neighbours block
 abbrev pub FreeStepIsTested : Type 0
@@ -57,18 +62,21 @@ FreeStepIsTested = (b : Stacks) (p q : Place) → IsTrue (is_free b p q) ↔ Fre
 
 -- Moves of bugs
 
--- whatever its kind, a bug reaches by the test the places that the rule of its kind leads to: a list of places of an ant's or a
--- spider's way, a grasshopper's direction and length, the two places that a ladybug goes over
+-- whatever its kind, a bug reaches by the test the places that the rule of its kind leads to: a
+-- list of places of an ant's or a spider's way, a grasshopper's direction and length, the two
+-- places that a ladybug goes over
 abbrev pub ReachIsTested : Type 0
 ReachIsTested = (k : Kind) (b : Stacks) (p q : Place) → IsTrue (reaches k b p q) ↔ Reach k b p q
 
--- a mosquito moves as a beetle on a stack, and on the ground as a neighbouring top piece that is no mosquito
+-- a mosquito moves as a beetle on a stack, and on the ground as a neighbouring top piece that is no
+-- mosquito
 abbrev pub CopiesAreTested : Type 0
 CopiesAreTested = (b : Stacks) (p q : Place) → IsTrue (copies b p q) ↔ Copies b p q
 
 -- every kind, the mosquito too
 abbrev pub MovesAsIsTested : Type 0
-MovesAsIsTested = (k : Kind) (b : Stacks) (p q : Place) → IsTrue (moves_as k b p q) ↔ MovesAs k b p q
+MovesAsIsTested =
+    (k : Kind) (b : Stacks) (p q : Place) → IsTrue (moves_as k b p q) ↔ MovesAs k b p q
 
 -- Placements
 
@@ -78,17 +86,21 @@ InHandIsTested = (t : GameType) (b : Stacks) (x : ℕ) → IsTrue (is_in_hand t 
 
 -- it is the least in hand where none of its kind and colour with a smaller number is in hand
 abbrev pub LeastInHandIsTested : Type 0
-LeastInHandIsTested = (t : GameType) (b : Stacks) (x : ℕ) → x < 28 → IsTrue (is_least_in_hand t b x) ↔ IsLeastInHand t b x
+LeastInHandIsTested =
+    (t : GameType) (b : Stacks) (x : ℕ) → x < 28
+    → IsTrue (is_least_in_hand t b x) ↔ IsLeastInHand t b x
 
 -- the next piece of a kind and colour is the least of them in hand
 abbrev pub NextIsLeast : Type 0
 NextIsLeast = (t : GameType) (b : Stacks) (c : Colour) (k : Kind) (x : ℕ)
-    → (next_of t b c k ≡ Some x) ↔ ((x < 28) × (kind_of x ≡ k) × (colour_of x ≡ c) × IsLeastInHand t b x)
+    → (next_of t b c k ≡ Some x) ↔ ((x < 28) × (kind_of x ≡ k) × (colour_of x ≡ c)
+    × IsLeastInHand t b x)
 
 -- there is no next one exactly where none of them is in hand
 abbrev pub NextMayBeNone : Type 0
 NextMayBeNone = (t : GameType) (b : Stacks) (c : Colour) (k : Kind)
-    → (next_of t b c k ≡ None) ↔ ((x : ℕ) → x < 28 → kind_of x ≡ k → colour_of x ≡ c → ¬ IsInHand t b x)
+    → (next_of t b c k ≡ None) ↔ ((x : ℕ) → x < 28 → kind_of x ≡ k → colour_of x ≡ c
+    → ¬ IsInHand t b x)
 
 -- where a side may place
 abbrev pub MayPlaceIsTested : Type 0
@@ -96,27 +108,35 @@ MayPlaceIsTested = (b : Stacks) (c : Colour) (q : Place) → IsTrue (may_place b
 
 -- which piece may be placed, and where
 abbrev pub PlacementIsTested : Type 0
-PlacementIsTested = (p : Position) (x : ℕ) (q : Place) → x < 28 → IsTrue (is_placement p x q) ↔ Placement p x q
+PlacementIsTested =
+    (p : Position) (x : ℕ) (q : Place) → x < 28 → IsTrue (is_placement p x q) ↔ Placement p x q
 
 -- Throws
 
 -- a piece is tested to be a thrower exactly where it is one on the place where it stands
 abbrev pub ThrowerIsTested : Type 0
-ThrowerIsTested = (b : Stacks) (rest : Option ℕ) (y : ℕ) → y < 28 → IsTrue (is_thrower b rest y) ↔ ((t : Spot) × IsThrower b rest y t)
+ThrowerIsTested =
+    (b : Stacks) (rest : Option ℕ) (y : ℕ) → y < 28
+    → IsTrue (is_thrower b rest y) ↔ ((t : Spot) × IsThrower b rest y t)
 
 -- a piece is tested to be thrown over a place exactly where it is thrown from where it stands
 abbrev pub ThrowOverIsTested : Type 0
-ThrowOverIsTested = (b : Stacks) → IsBoard b → (rest : Option ℕ) (t : Spot) (x : ℕ) (q : Place) → IsTrue (throws_over b rest (Some t) x (spot_of b x) q) ↔ ((a : Spot) × ThrowOver b rest t.place x a q)
+ThrowOverIsTested =
+    (b : Stacks) → IsBoard b → (rest : Option ℕ) (t : Spot) (x : ℕ) (q : Place)
+    → IsTrue (throws_over b rest (Some t) x (spot_of b x) q)
+    ↔ ((a : Spot) × ThrowOver b rest t.place x a q)
 
 -- some thrower of the side to move throws the piece there
 abbrev pub ThrowIsTested : Type 0
-ThrowIsTested = (p : Position) → IsBoard p.board → (x : ℕ) (q : Place) → IsTrue (is_throw p x q) ↔ Throw p x q
+ThrowIsTested =
+    (p : Position) → IsBoard p.board → (x : ℕ) (q : Place) → IsTrue (is_throw p x q) ↔ Throw p x q
 
 -- Moves of the side to move, and the end of a game
 
 -- an own top piece that does not rest and stands on no cut place moves by its kind's rule
 abbrev pub WalkIsTested : Type 0
-WalkIsTested = (p : Position) → IsBoard p.board → (x : ℕ) (q : Place) → IsTrue (is_walk p x q) ↔ Walk p x q
+WalkIsTested =
+    (p : Position) → IsBoard p.board → (x : ℕ) (q : Place) → IsTrue (is_walk p x q) ↔ Walk p x q
 
 -- a side's queen is in play, and all six neighbours of her place are occupied
 abbrev pub SurroundedIsTested : Type 0
@@ -128,11 +148,16 @@ OverIsTested = (p : Position) → IsTrue (is_over p) ↔ IsOver p
 
 -- a placement, and once the own queen is in play a walk or a throw
 abbrev pub LegalPairIsTested : Type 0
-LegalPairIsTested = (p : Position) → IsBoard p.board → (x : ℕ) (q : Place) → x < 28 → IsTrue (is_legal_pair p x q) ↔ LegalPair p x q
+LegalPairIsTested =
+    (p : Position) → IsBoard p.board → (x : ℕ) (q : Place) → x < 28
+    → IsTrue (is_legal_pair p x q) ↔ LegalPair p x q
 
--- every legal pair has one of the 28 pieces and ends on the origin, an occupied place or a neighbour of one
+-- every legal pair has one of the 28 pieces and ends on the origin, an occupied place or a
+-- neighbour of one
 abbrev pub LegalPairIsNear : Type 0
-LegalPairIsNear = (p : Position) → IsBoard p.board → (x : ℕ) (q : Place) → LegalPair p x q → (x < 28) × IsOn (near p.board) q
+LegalPairIsNear =
+    (p : Position) → IsBoard p.board → (x : ℕ) (q : Place) → LegalPair p x q
+    → (x < 28) × IsOn (near p.board) q
 
 -- The list of legal moves
 
@@ -164,7 +189,9 @@ ListedMovesAreTested = (p : Position) (m : Move) → IsTrue (is_listed p m) ↔ 
 
 -- a piece in hand that is put on a place of the plane leaves a board
 abbrev pub PutKeepsBoards : Type 0
-PutKeepsBoards = (b : Stacks) (x : ℕ) (p : Place) → IsBoard b → x < 28 → spot_of b x ≡ None → IsWithin 9000 p → IsBoard (put b x p)
+PutKeepsBoards =
+    (b : Stacks) (x : ℕ) (p : Place) → IsBoard b → x < 28 → spot_of b x ≡ None → IsWithin 9000 p
+    → IsBoard (put b x p)
 
 -- a piece on top that is lifted leaves a board
 abbrev pub LiftKeepsBoards : Type 0
@@ -176,16 +203,21 @@ LiftKeepsBoards = (b : Stacks) (x : ℕ) → IsBoard b → IsTrue (is_on_top b x
 abbrev pub StepTo : (Place → Place → Bool) → List Place → Place → Place → Type 0
 StepTo s places p q = IsTrue (s p q) × IsOn places q
 
--- as many rounds as the list is long find each place that a way of one step or more over the list leads to, and no other
+-- as many rounds as the list is long find each place that a way of one step or more over the list
+-- leads to, and no other
 abbrev pub FloodsFindWays : Type 0
-FloodsFindWays = (s : Place → Place → Bool) (places : List Place) (rounds : ℕ) → length places ≤ rounds → (p q : Place)
-    → IsOn (flood s rounds (p ∷ []) places) q ↔ ((first : Place) × (way : List Place) × IsPath (StepTo s places) p (first ∷ way) q)
+FloodsFindWays =
+    (s : Place → Place → Bool) (places : List Place) (rounds : ℕ) → length places ≤ rounds
+    → (p q : Place)
+    → IsOn (flood s rounds (p ∷ []) places) q
+    ↔ ((first : Place) × (way : List Place) × IsPath (StepTo s places) p (first ∷ way) q)
 
 -- Lists in order
 
 -- two lists in strict order with the same members are equal
 abbrev pub IsSettledByMembers : {X : Type 0} → (X → X → Ordering) → Type 0
-IsSettledByMembers {X} R = (xs ys : List X) → Rises R xs → Rises R ys → ((x : X) → IsOn xs x ↔ IsOn ys x) → xs ≡ ys
+IsSettledByMembers {X} R =
+    (xs ys : List X) → Rises R xs → Rises R ys → ((x : X) → IsOn xs x ↔ IsOn ys x) → xs ≡ ys
 
 -- of places, by q and then by r
 abbrev pub PlacesAreSettled : Type 0

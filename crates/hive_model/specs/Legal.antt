@@ -42,7 +42,8 @@ is_surrounded_at b (Some s) = is_walled b s.place
 abbrev pub is_surrounded : Stacks → Colour → Bool
 is_surrounded b c = is_surrounded_at b (spot_of b (queen_of c))
 
--- both surrounded is a draw, and one a win of the other side; else the game has not started where no ply was played
+-- both surrounded is a draw, and one a win of the other side; else the game has not started where
+-- no ply was played
 abbrev pub state_from : Bool → Bool → Bool → State
 state_from true true fresh = Draw
 state_from false true fresh = WhiteWins
@@ -51,7 +52,9 @@ state_from false false true = NotStarted
 state_from false false false = InProgress
 
 unfoldable pub state : Position → State
-state p = state_from (is_surrounded p.board White) (is_surrounded p.board Black) (nat_eq p.turn 1 && is_colour p.side White)
+state p =
+    state_from (is_surrounded p.board White) (is_surrounded p.board Black)
+    (nat_eq p.turn 1 && is_colour p.side White)
 
 abbrev pub is_over_state : State → Bool
 is_over_state NotStarted = false
@@ -77,9 +80,11 @@ pub record Walk (p : Position) (x : ℕ) (q : Place) : Type 0 where
 
 -- a placement; and once the mover's queen is in play, a move of a piece of its own, or a throw
 abbrev pub LegalPair : Position → ℕ → Place → Type 0
-LegalPair p x q = Placement p x q ⊎ (IsTrue (is_in_play p.board (queen_of p.side)) × (Walk p x q ⊎ Throw p x q))
+LegalPair p x q =
+    Placement p x q ⊎ (IsTrue (is_in_play p.board (queen_of p.side)) × (Walk p x q ⊎ Throw p x q))
 
--- while the game is not over a legal pair is a legal move, and where there is no such pair it is the pass
+-- while the game is not over a legal pair is a legal move, and where there is no such pair it is
+-- the pass
 abbrev pub IsLegal : Position → Move → Type 0
 IsLegal p (To x q) = (¬ IsOver p) × LegalPair p x q
 IsLegal p Pass = (¬ IsOver p) × ((x : ℕ) (q : Place) → ¬ LegalPair p x q)
@@ -89,13 +94,15 @@ IsLegal p Pass = (¬ IsOver p) × ((x : ℕ) (q : Place) → ¬ LegalPair p x q)
 abbrev pub walks_from : Position → ℕ → Option Spot → Place → Bool
 walks_from p x None q = false
 walks_from p x (Some s) q =
-    is_top_spot p.board (Some s) && (not (rests p x) && (not (is_cut p.board s.place) && moves_as (kind_of x) (lift p.board x) s.place q))
+    is_top_spot p.board (Some s) && (not (rests p x)
+    && (not (is_cut p.board s.place) && moves_as (kind_of x) (lift p.board x) s.place q))
 
 abbrev pub is_walk : Position → ℕ → Place → Bool
 is_walk p x q = is_colour (colour_of x) p.side && walks_from p x (spot_of p.board x) q
 
 abbrev pub is_legal_pair : Position → ℕ → Place → Bool
-is_legal_pair p x q = is_placement p x q || is_in_play p.board (queen_of p.side) && (is_walk p x q || is_throw p x q)
+is_legal_pair p x q =
+    is_placement p x q || is_in_play p.board (queen_of p.side) && (is_walk p x q || is_throw p x q)
 
 -- The list of legal moves
 

@@ -1,4 +1,5 @@
--- The lines of a byte stream, as one list for the whole stream: nothing here knows in which pieces the bytes come.
+-- The lines of a byte stream, as one list for the whole stream: nothing here knows in which pieces
+-- the bytes come.
 use Rattle.std.specs.Prelude.{◌≡◌, ℕ, ◌-◌, ◌==◌, nat_lt, if◌then◌else◌, List, [], ◌∷◌, length, map, take, slice_index, Option, Some, None}
 use Rattle.hive_model.specs.Lists.{onto}
 
@@ -24,7 +25,8 @@ whole_parts (b ∷ bs) = if b == 10 then [] ∷ whole_parts bs else into b (whol
 
 -- a part without one last CR (13)
 abbrev pub without_cr : List ℕ → List ℕ
-without_cr part = if slice_index part (length part - 1) == 13 then take (length part - 1) part else part
+without_cr part =
+    if slice_index part (length part - 1) == 13 then take (length part - 1) part else part
 
 -- a part of more than 65,536 bytes, a last CR counted, is too long
 unfoldable pub line_of : List ℕ → Line

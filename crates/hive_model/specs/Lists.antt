@@ -9,7 +9,8 @@ abbrev pub IsOn : {X : Type 0} → List X → X → Type 0
 IsOn [] x = ⊥
 IsOn (y ∷ ys) x = (y ≡ x) ⊎ IsOn ys x
 
--- a list of places after the first, each one step from the one before, and the last is the second given
+-- a list of places after the first, each one step from the one before, and the last is the second
+-- given
 abbrev pub IsPath : {X : Type 0} → (X → X → Type 0) → X → List X → X → Type 0
 IsPath S a [] b = a ≡ b
 IsPath S a (x ∷ xs) b = S a x × IsPath S x xs b
@@ -18,10 +19,13 @@ IsPath S a (x ∷ xs) b = S a x × IsPath S x xs b
 abbrev pub is_met : {X : Type 0} → (X → X → Bool) → List X → X → Bool
 is_met s front x = list_any (λ f. s f x) front
 
--- what is left where one list after another of next ones is taken, until a number of rounds is over: the ones taken
+-- what is left where one list after another of next ones is taken, until a number of rounds is
+-- over: the ones taken
 abbrev pub flood : {X : Type 0} → (X → X → Bool) → ℕ → List X → List X → List X
 flood s zero front rest = []
-flood s (suc n) front rest = filter (is_met s front) rest ++ flood s n (filter (is_met s front) rest) (filter (λ x. not (is_met s front x)) rest)
+flood s (suc n) front rest =
+    filter (is_met s front) rest ++ flood s n (filter (is_met s front) rest)
+    (filter (λ x. not (is_met s front x)) rest)
 
 -- in order, each once
 abbrev pub Rises : {X : Type 0} → (X → X → Ordering) → List X → Type 0

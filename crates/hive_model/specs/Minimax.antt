@@ -14,8 +14,8 @@ use Rattle.hive_model.specs.Evaluation.{eval}
 
 -- Values
 
--- What the end of a game is worth to a side, where d plies were left to search: a draw is worth nothing, and a win is worth
--- the more the sooner it comes. None where the game goes on.
+-- What the end of a game is worth to a side, where d plies were left to search: a draw is worth
+-- nothing, and a win is worth the more the sooner it comes. None where the game goes on.
 abbrev pub end_value : State → Colour → ℕ → Option ℤ
 end_value NotStarted side d = None
 end_value InProgress side d = None
@@ -38,7 +38,9 @@ greatest (x ∷ xs) = greatest_from x xs
 -- what a position is worth to its side to move after d plies of best play of both sides
 unfoldable pub value : Position → ℕ → ℤ
 value p zero = unwrap_or (end_value (state p) p.side 0) (eval p)
-value p (suc d) = unwrap_or (end_value (state p) p.side (suc d)) (greatest (map (λ m. neg_ℤ (value (after p m) d)) (moves p)))
+value p (suc d) =
+    unwrap_or (end_value (state p) p.side (suc d))
+    (greatest (map (λ m. neg_ℤ (value (after p m) d)) (moves p)))
 
 -- what a move is worth to the side that makes it, with d plies of best play behind it
 abbrev pub reply_value : Position → ℕ → Move → ℤ
@@ -67,7 +69,8 @@ pub record IsBest (p : Position) (d : ℕ) (m : Move) : Type 0 where
   pub move : slice_get (moves p) place ≡ Some m
   pub worth : IsFirstGreatest (replies p (d - 1)) place (reply_value p (d - 1) m)
 
--- the same as a function: the first of the legal moves that is worth as much as the greatest worth; d is at least 1
+-- the same as a function: the first of the legal moves that is worth as much as the greatest worth;
+-- d is at least 1
 unfoldable pub best : Position → ℕ → Option Move
 best p d = find (λ m. int_le (greatest (replies p (d - 1))) (reply_value p (d - 1) m)) (moves p)
 

@@ -40,16 +40,17 @@ pub record Touches (b : Stacks) (c : Colour) (q : Place) : Type 0 where
 abbrev pub IsBeside : Stacks → Place → Type 0
 IsBeside b q = (d : Dir) × IsTrue (is_occupied b (step q d))
 
--- The place is empty. On an empty board it is the origin; where the other side alone has pieces on the board it is beside an
--- occupied place; else it touches a top piece of the side's colour and none of the other's.
+-- The place is empty. On an empty board it is the origin; where the other side alone has pieces on
+-- the board it is beside an occupied place; else it touches a top piece of the side's colour and
+-- none of the other's.
 pub record MayPlace (b : Stacks) (c : Colour) (q : Place) : Type 0 where
   pub empty : height_at b q ≡ 0
   pub on_empty : ¬ HasColour b c → ¬ HasColour b (other_side c) → q ≡ origin
   pub on_others : ¬ HasColour b c → HasColour b (other_side c) → IsBeside b q
   pub on_own : HasColour b c → Touches b c q × (¬ Touches b (other_side c) q)
 
--- The piece is the mover's, and the least of its kind in hand. On its first turn a side places no queen; on its fourth or a
--- later turn, while its queen is in hand, nothing else.
+-- The piece is the mover's, and the least of its kind in hand. On its first turn a side places no
+-- queen; on its fourth or a later turn, while its queen is in hand, nothing else.
 pub record Placement (p : Position) (x : ℕ) (q : Place) : Type 0 where
   pub is_piece : IsTrue (is_in_set x)
   pub own : colour_of x ≡ p.side
@@ -67,11 +68,14 @@ abbrev pub is_in_hand : GameType → Stacks → ℕ → Bool
 is_in_hand t b x = has_kind t (kind_of x) && not (is_in_play b x)
 
 abbrev pub is_least_in_hand : GameType → Stacks → ℕ → Bool
-is_least_in_hand t b x = is_in_hand t b x && not (list_any (λ y. nat_lt y x && (is_like x y && is_in_hand t b y)) all_pieces)
+is_least_in_hand t b x =
+    is_in_hand t b x && not (list_any (λ y. nat_lt y x
+    && (is_like x y && is_in_hand t b y)) all_pieces)
 
 -- the least piece in hand of a kind and colour, or none where none of the kind is in hand
 abbrev pub next_of : GameType → Stacks → Colour → Kind → Option ℕ
-next_of t b c k = find (λ x. is_kind (kind_of x) k && (is_colour (colour_of x) c && is_in_hand t b x)) all_pieces
+next_of t b c k =
+    find (λ x. is_kind (kind_of x) k && (is_colour (colour_of x) c && is_in_hand t b x)) all_pieces
 
 abbrev pub shows_colour : Option ℕ → Colour → Bool
 shows_colour None c = false
@@ -91,6 +95,7 @@ may_place b c q = not (is_occupied b q) && (
 
 abbrev pub is_placement : Position → ℕ → Place → Bool
 is_placement p x q =
-    is_colour (colour_of x) p.side && (is_least_in_hand p.game_type p.board x && (may_place p.board p.side q
+    is_colour (colour_of x) p.side && (is_least_in_hand p.game_type p.board x
+    && (may_place p.board p.side q
     && (not (is_kind (kind_of x) Queen && nat_eq p.turn 1)
     && (is_kind (kind_of x) Queen || (nat_lt p.turn 4 || is_in_play p.board (queen_of p.side))))))

@@ -9,8 +9,8 @@ use Rattle.hive_model.specs.Pieces.{kind_of, colour_of, OfType}
 use Rattle.hive_model.specs.Boards.{Stacks, is_in_play, is_on_top, StandsAt, IsBoard}
 use Rattle.hive_model.specs.Hive.{OneHive}
 
--- a game type, the board, the side to move, the turn number, and the piece that rests: the one that was placed, moved or
--- thrown on the last ply
+-- a game type, the board, the side to move, the turn number, and the piece that rests: the one that
+-- was placed, moved or thrown on the last ply
 pub record Position : Type 0 where
   pub game_type : GameType
   pub board : Stacks
@@ -30,13 +30,15 @@ is_piece x (Some y) = nat_eq x y
 abbrev pub rests : Position → ℕ → Bool
 rests p x = is_piece x p.rest
 
--- A position is sound where each piece stands at most once and is of the game type, the board is one hive, only beetles and
--- mosquitoes stand above the ground, of each kind and colour the numbers on the board are the least ones, and the resting
--- piece, if any, is on the board and on top.
+-- A position is sound where each piece stands at most once and is of the game type, the board is
+-- one hive, only beetles and mosquitoes stand above the ground, of each kind and colour the numbers
+-- on the board are the least ones, and the resting piece, if any, is on the board and on top.
 pub record IsSound (p : Position) : Type 0 where
   pub board : IsBoard p.board
   pub of_type : (x : ℕ) → IsTrue (is_in_play p.board x) → OfType p.game_type x
   pub one_hive : OneHive p.board
-  pub above : (x : ℕ) (q : Place) (level : ℕ) → StandsAt p.board x q level → 0 < level → (kind_of x ≡ Beetle) ⊎ (kind_of x ≡ Mosquito)
-  pub least : (x y : ℕ) → IsTrue (is_in_play p.board x) → y < x → kind_of y ≡ kind_of x → colour_of y ≡ colour_of x → IsTrue (is_in_play p.board y)
+  pub above : (x : ℕ) (q : Place) (level : ℕ) → StandsAt p.board x q level → 0 < level
+      → (kind_of x ≡ Beetle) ⊎ (kind_of x ≡ Mosquito)
+  pub least : (x y : ℕ) → IsTrue (is_in_play p.board x) → y < x → kind_of y ≡ kind_of x
+      → colour_of y ≡ colour_of x → IsTrue (is_in_play p.board y)
   pub resting : (x : ℕ) → p.rest ≡ Some x → IsTrue (is_on_top p.board x)

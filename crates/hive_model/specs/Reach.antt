@@ -14,7 +14,8 @@ use Rattle.hive_model.specs.Hive.{on_list}
 use Rattle.hive_model.specs.Steps.{GroundStep, ClimbingStep, is_ground_step, is_climbing_step}
 use Rattle.hive_model.specs.Near.{near}
 
--- a grasshopper hops in one direction over one or more occupied places in a row, and comes down on the empty place behind
+-- a grasshopper hops in one direction over one or more occupied places in a row, and comes down on
+-- the empty place behind
 pub record Hop (b : Stacks) (p q : Place) : Type 0 where
   pub dir : Dir
   pub far : ℕ
@@ -43,8 +44,8 @@ pub record OverTwo (b : Stacks) (p q : Place) : Type 0 where
   pub second_occupied : IsTrue (is_occupied b second)
   pub empty : height_at b q ≡ 0
 
--- how each kind moves: queen and pillbug one ground step, a beetle one ground step or climbing step, an ant one ground step
--- after another; a mosquito has no way of its own
+-- how each kind moves: queen and pillbug one ground step, a beetle one ground step or climbing
+-- step, an ant one ground step after another; a mosquito has no way of its own
 abbrev pub ReachBy : Kind → Stacks → Place → Place → Type 0
 ReachBy Queen b p q = GroundStep b p q
 ReachBy Pillbug b p q = GroundStep b p q
@@ -69,7 +70,8 @@ pub record CopiesOne (b : Stacks) (p q : Place) : Type 0 where
 
 -- a mosquito on a stack moves as a beetle, and one on the ground as a piece that it touches
 abbrev pub Copies : Stacks → Place → Place → Type 0
-Copies b p q = (IsTrue (is_occupied b p) × Reach Beetle b p q) ⊎ ((height_at b p ≡ 0) × CopiesOne b p q)
+Copies b p q =
+    (IsTrue (is_occupied b p) × Reach Beetle b p q) ⊎ ((height_at b p ≡ 0) × CopiesOne b p q)
 
 -- every kind moves by its own rule, and the mosquito by what it copies
 abbrev pub MovesAs : Kind → Stacks → Place → Place → Type 0
@@ -94,15 +96,20 @@ line_length p q = max (unsigned_abs (q.q -ℤ p.q)) (unsigned_abs (q.r -ℤ p.r)
 
 abbrev pub is_hop : Stacks → Place → Place → Bool
 is_hop b p q = nat_le 2 (line_length p q) && (nat_eq (height_at b q) 0
-    && list_any (λ d. is_place (steps (line_length p q) p d) q && all_over b (line_length p q - 1) p d) dirs)
+    && list_any (λ d. is_place (steps (line_length p q) p d) q
+    && all_over b (line_length p q - 1) p d) dirs)
 
 abbrev pub is_three_steps : Stacks → Place → Place → Bool
-is_three_steps b p q = list_any (λ x. is_ground_step b p x && list_any (λ y. is_ground_step b x y && (is_ground_step b y q
+is_three_steps b p q =
+    list_any (λ x. is_ground_step b p x
+    && list_any (λ y. is_ground_step b x y && (is_ground_step b y q
     && (not (is_place p y) && not (is_place x q)))) (neighbours x)) (neighbours p)
 
 abbrev pub is_over_two : Stacks → Place → Place → Bool
-is_over_two b p q = nat_eq (height_at b q) 0 && list_any (λ x. is_occupied b x && (is_climbing_step b p x
-    && list_any (λ y. is_occupied b y && (is_climbing_step b x y && is_climbing_step b y q)) (neighbours x))) (neighbours p)
+is_over_two b p q =
+    nat_eq (height_at b q) 0 && list_any (λ x. is_occupied b x && (is_climbing_step b p x
+    && list_any (λ y. is_occupied b y && (is_climbing_step b x y && is_climbing_step b y q))
+    (neighbours x))) (neighbours p)
 
 abbrev pub is_ant_way : Stacks → Place → Place → Bool
 is_ant_way b p q = on_list (flood (is_ground_step b) (length (near b)) (p ∷ []) (near b)) q
@@ -125,7 +132,9 @@ copies_one b p q None = false
 copies_one b p q (Some y) = not (is_kind (kind_of y) Mosquito) && reaches (kind_of y) b p q
 
 abbrev pub copies : Stacks → Place → Place → Bool
-copies b p q = if is_occupied b p then reaches Beetle b p q else list_any (λ d. copies_one b p q (top_at b (step p d))) dirs
+copies b p q =
+    if is_occupied b p then reaches Beetle b p q
+    else list_any (λ d. copies_one b p q (top_at b (step p d))) dirs
 
 -- a piece of this kind that was lifted from p moves to q
 abbrev pub moves_as : Kind → Stacks → Place → Place → Bool

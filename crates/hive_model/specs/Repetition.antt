@@ -1,4 +1,5 @@
--- Third repetition: a game is drawn where its position stands for the third time, if that rule is switched on.
+-- Third repetition: a game is drawn where its position stands for the third time, if that rule is
+-- switched on.
 use Rattle.std.specs.Prelude.{◌≡◌, ℕ, ◌-◌, Bool, true, false, ◌&&◌, nat_le, List, [], ◌∷◌, ◌++◌, length, map, Option, Some, None, slice_get, IsTrue, ◌↔◌, if◌then◌else◌}
 use Rattle.std.specs.List.{count_by}
 use Rattle.hive_model.specs.declared.pieces.GameType.{GameType}
@@ -13,7 +14,8 @@ use Rattle.hive_model.specs.SameKeys.{same_key}
 
 -- When positions stand alike
 
--- Two positions stand alike where their boards, the sides to move and the resting pieces are equal. The turn does not count.
+-- Two positions stand alike where their boards, the sides to move and the resting pieces are equal.
+-- The turn does not count.
 pub record StandAlike (p q : Position) : Type 0 where
   pub board : p.board ≡ q.board
   pub side : p.side ≡ q.side
@@ -28,7 +30,8 @@ pub record HaveSameBoard (a b : KeyParts) : Type 0 where
 
 -- the key with no number of the turn
 abbrev pub without_turn : KeyParts → KeyParts
-without_turn k = record { spots = k.spots; game_type = k.game_type; side = k.side; turn = 0; rest = k.rest }
+without_turn k =
+    record { spots = k.spots; game_type = k.game_type; side = k.side; turn = 0; rest = k.rest }
 
 -- the test of it
 unfoldable pub same_board : KeyParts → KeyParts → Bool
@@ -68,14 +71,16 @@ abbrev pub ends_as : Bool → State → State
 ends_as false s = s
 ends_as true s = if is_over_state s then s else Draw
 
--- How a game goes on or ended: by its position where that ends it; else it is drawn where the rule is switched on and the
--- position stands for the third time.
+-- How a game goes on or ended: by its position where that ends it; else it is drawn where the rule
+-- is switched on and the position stands for the third time.
 abbrev pub outcome_under : Bool → GameType → List Move → State
 outcome_under r t ms = ends_as (r && nat_le 3 (times t ms)) (state (replay (opening t) ms))
 
 -- no move follows the end of the game: none of its proper fronts is over
 abbrev pub StandsUnder : Bool → GameType → List Move → Type 0
-StandsUnder r t ms = (front : List Move) (m : Move) (rest : List Move) → ms ≡ front ++ m ∷ rest → is_over_state (outcome_under r t front) ≡ false
+StandsUnder r t ms =
+    (front : List Move) (m : Move) (rest : List Move) → ms ≡ front ++ m ∷ rest
+    → is_over_state (outcome_under r t front) ≡ false
 
 -- The laws
 
@@ -89,7 +94,9 @@ pub record StandsOn (r : Bool) (t : GameType) (ms : List Move) (m : Move) : Type
   pub open_yet : is_over_state (outcome_under r t ms) ≡ false
 
 abbrev pub StandsMoveByMove : Type 0
-StandsMoveByMove = (r : Bool) (t : GameType) (ms : List Move) (m : Move) → StandsUnder r t (ms ++ m ∷ []) ↔ StandsOn r t ms m
+StandsMoveByMove =
+    (r : Bool) (t : GameType) (ms : List Move) (m : Move)
+    → StandsUnder r t (ms ++ m ∷ []) ↔ StandsOn r t ms m
 
 -- the test says that all but the turns are equal
 abbrev pub SameBoardIsTested : Type 0
@@ -101,4 +108,6 @@ KeysGiveTimes = (t : GameType) (ms : List Move) → count_last (keys t ms) ≡ t
 
 -- a move adds the key of the position that it leads to
 abbrev pub KeysGrow : Type 0
-KeysGrow = (t : GameType) (ms : List Move) (m : Move) → keys t (ms ++ m ∷ []) ≡ keys t ms ++ key (replay (opening t) (ms ++ m ∷ [])) ∷ []
+KeysGrow =
+    (t : GameType) (ms : List Move) (m : Move)
+    → keys t (ms ++ m ∷ []) ≡ keys t ms ++ key (replay (opening t) (ms ++ m ∷ [])) ∷ []

@@ -18,9 +18,18 @@ spots p q = (search rules, search rules)
 
 pub options : {X : Type 0} {E : X → X → Bool} → Decides E → Decides (option_eq E)
 options d None None = (λ _. refl, λ _. refl)
-options d None (Some y) = (λ h. let wrong : false ≡ true = h in absurd (cc), λ h. let wrong : None ≡ Some y = h in absurd (cc))
-options d (Some x) None = (λ h. let wrong : false ≡ true = h in absurd (cc), λ h. let wrong : Some x ≡ None = h in absurd (cc))
-options d (Some x) (Some y) = (λ h. ap Some ((d x y).0 h), λ h. (d x y).1 (let s : Some x ≡ Some y = h in cc))
+options d None (Some y) = (
+  λ h. let wrong : false ≡ true = h in absurd (cc),
+  λ h. let wrong : None ≡ Some y = h
+      in absurd (cc),
+)
+options d (Some x) None = (
+  λ h. let wrong : false ≡ true = h in absurd (cc),
+  λ h. let wrong : Some x ≡ None = h
+      in absurd (cc),
+)
+options d (Some x) (Some y) =
+    (λ h. ap Some ((d x y).0 h), λ h. (d x y).1 (let s : Some x ≡ Some y = h in cc))
 
 -- the test of the spots of two keys
 abbrev pub same_spots : List (Option Spot) → List (Option Spot) → Bool

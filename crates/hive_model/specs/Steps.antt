@@ -1,4 +1,5 @@
--- Steps of a piece to a neighbour. They are judged on the board from which the moving piece was lifted.
+-- Steps of a piece to a neighbour. They are judged on the board from which the moving piece was
+-- lifted.
 use Rattle.std.specs.Prelude.{◌≡◌, max, Bool, false, not, ◌&&◌, ◌||◌, nat_eq, nat_lt, IsTrue, ◌⊎◌}
 use Rattle.std.specs.List.{list_any}
 use Rattle.hive_model.specs.declared.places.Place.{Place}
@@ -6,21 +7,24 @@ use Rattle.hive_model.specs.declared.places.Dir.{Dir}
 use Rattle.hive_model.specs.Places.{is_place, step, dirs, dir_before, dir_after}
 use Rattle.hive_model.specs.Boards.{Stacks, height_at, is_occupied}
 
--- a step is blocked where both common neighbours are higher than the greater of the heights of its two places
+-- a step is blocked where both common neighbours are higher than the greater of the heights of its
+-- two places
 abbrev pub is_blocked : Stacks → Place → Dir → Bool
 is_blocked b p d =
     nat_lt (max (height_at b p) (height_at b (step p d))) (height_at b (step p (dir_before d)))
     && nat_lt (max (height_at b p) (height_at b (step p d))) (height_at b (step p (dir_after d)))
 
--- a ground step goes from an empty place to an empty neighbour, and exactly one of the common neighbours is occupied:
--- with none the piece leaves the hive on its way, and with both it does not fit through the gate
+-- a ground step goes from an empty place to an empty neighbour, and exactly one of the common
+-- neighbours is occupied: with none the piece leaves the hive on its way, and with both it does not
+-- fit through the gate
 pub record GroundStep (b : Stacks) (p q : Place) : Type 0 where
   pub dir : Dir
   pub leads : step p dir ≡ q
   pub from_empty : height_at b p ≡ 0
   pub to_empty : height_at b q ≡ 0
   -- exactly one of the two common neighbours is occupied
-  pub beside : is_occupied b (step p (dir_before dir)) ≡ not (is_occupied b (step p (dir_after dir)))
+  pub beside : is_occupied b (step p (dir_before dir))
+      ≡ not (is_occupied b (step p (dir_after dir)))
 
 -- a step that is not blocked
 pub record FreeStep (b : Stacks) (p q : Place) : Type 0 where
@@ -39,7 +43,8 @@ pub record ClimbingStep (b : Stacks) (p q : Place) : Type 0 where
 
 abbrev pub ground_at : Stacks → Place → Dir → Bool
 ground_at b p d = nat_eq (height_at b p) 0 && (nat_eq (height_at b (step p d)) 0
-    && (is_occupied b (step p (dir_before d)) && not (is_occupied b (step p (dir_after d))) || not (is_occupied b (step p (dir_before d))) && is_occupied b (step p (dir_after d))))
+    && (is_occupied b (step p (dir_before d)) && not (is_occupied b (step p (dir_after d)))
+    || not (is_occupied b (step p (dir_before d))) && is_occupied b (step p (dir_after d))))
 
 abbrev pub is_ground_step : Stacks → Place → Place → Bool
 is_ground_step b p q = list_any (λ d. is_place (step p d) q && ground_at b p d) dirs

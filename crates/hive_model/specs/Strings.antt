@@ -38,7 +38,8 @@ texts p (m ∷ ms) = text p.board m ∷ texts (after p m) ms
 
 -- type, this state, turn and moves, joined by semicolons
 abbrev pub string_with : GameType → State → Position → List (List ℕ) → List ℕ
-string_with t s end rest = joined_on (type_bytes t) (state_bytes s ∷ turn_bytes end.side end.turn ∷ rest)
+string_with t s end rest =
+    joined_on (type_bytes t) (state_bytes s ∷ turn_bytes end.side end.turn ∷ rest)
 
 -- the same with the state of the position
 abbrev pub string_from : GameType → Position → List (List ℕ) → List ℕ
@@ -50,7 +51,8 @@ string t ms = string_from t (replay (opening t) ms) (texts (opening t) ms)
 
 -- the same with the outcome under the rule of third repetition for the state
 unfoldable pub string_under : Bool → GameType → List Move → List ℕ
-string_under r t ms = string_with t (outcome_under r t ms) (replay (opening t) ms) (texts (opening t) ms)
+string_under r t ms =
+    string_with t (outcome_under r t ms) (replay (opening t) ms) (texts (opening t) ms)
 
 -- the texts denote the moves, each on the board before it
 abbrev pub DenoteMoves : Position → List (List ℕ) → List Move → Type 0
@@ -59,11 +61,13 @@ DenoteMoves p [] (m ∷ ms) = ⊥
 DenoteMoves p (x ∷ xs) [] = ⊥
 DenoteMoves p (x ∷ xs) (m ∷ ms) = Denotes p.game_type p.board x m × DenoteMoves (after p m) xs ms
 
--- the line has a type, a state, a turn and texts that denote the moves of a game of at most 5,000 moves, the declared state is
--- this one, and the declared turn is that of the game
+-- the line has a type, a state, a turn and texts that denote the moves of a game of at most 5,000
+-- moves, the declared state is this one, and the declared turn is that of the game
 pub record IsFullWith (line : List ℕ) (s : State) (t : GameType) (ms : List Move) : Type 0 where
   pub rest : List (List ℕ)
-  pub parts_are : parts line ≡ type_bytes t ∷ (state_bytes s ∷ (turn_bytes (replay (opening t) ms).side (replay (opening t) ms).turn ∷ rest))
+  pub parts_are : parts line ≡ type_bytes t
+      ∷ (state_bytes s ∷ (turn_bytes (replay (opening t) ms).side (replay (opening t) ms).turn
+      ∷ rest))
   pub denote : DenoteMoves (opening t) rest ms
   pub legal : IsGame t ms
   pub few : length ms ≤ 5000
@@ -76,7 +80,8 @@ IsFull line t ms = IsFullWith line (state (replay (opening t) ms)) t ms
 abbrev pub IsGameLine : List ℕ → GameType → List Move → Type 0
 IsGameLine line t ms = ((line ≡ type_bytes t) × (ms ≡ [])) ⊎ IsFull line t ms
 
--- the declared state is the outcome under the rule of third repetition, and no move follows the end of the game
+-- the declared state is the outcome under the rule of third repetition, and no move follows the end
+-- of the game
 abbrev pub IsFullUnder : Bool → List ℕ → GameType → List Move → Type 0
 IsFullUnder r line t ms = IsFullWith line (outcome_under r t ms) t ms × StandsUnder r t ms
 

@@ -68,8 +68,8 @@ pub record Begins (bytes : List ℕ) : Type 0 where
   pub rest : List ℕ
   pub text : form_text form ≡ bytes ++ rest
 
--- The text is no move text. The offset is the least such that no move text begins with one byte more than
--- that, or the length, where the whole text is the beginning of a longer move text only.
+-- The text is no move text. The offset is the least such that no move text begins with one byte
+-- more than that, or the length, where the whole text is the beginning of a longer move text only.
 pub record IsNoText (text : List ℕ) (offset : ℕ) : Type 0 where
   pub none : (f : Form) → IsForm f → ¬ (text ≡ form_text f)
   pub within : offset ≤ length text

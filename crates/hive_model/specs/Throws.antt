@@ -1,4 +1,5 @@
--- Throws: a pillbug, or a mosquito that touches one, lifts a neighbouring piece over itself to another neighbouring place.
+-- Throws: a pillbug, or a mosquito that touches one, lifts a neighbouring piece over itself to
+-- another neighbouring place.
 use Rattle.std.specs.Prelude.{◌≡◌, ◌≢◌, ℕ, Bool, false, not, ◌&&◌, ◌||◌, nat_eq, Option, Some, None, IsTrue, ◌⊎◌}
 use Rattle.std.specs.List.{list_any}
 use Rattle.hive_model.specs.declared.pieces.Kind.TheVariants.{Mosquito, Pillbug}
@@ -31,10 +32,11 @@ pub record IsThrower (b : Stacks) (rest : Option ℕ) (y : ℕ) (t : Spot) : Typ
   pub awake : rest ≢ Some y
   pub can : CanThrow b y t.place
 
--- A thrower on t throws a piece from a to q. The thrown piece, of either colour, is alone on a neighbour of t that is no cut
--- place, and does not rest. On the board without it neither the step up onto the thrower nor the step down is blocked. It
--- comes down on an empty place.
-pub record ThrowOver (b : Stacks) (rest : Option ℕ) (t : Place) (x : ℕ) (a : Spot) (q : Place) : Type 0 where
+-- A thrower on t throws a piece from a to q. The thrown piece, of either colour, is alone on a
+-- neighbour of t that is no cut place, and does not rest. On the board without it neither the step
+-- up onto the thrower nor the step down is blocked. It comes down on an empty place.
+pub record ThrowOver (b : Stacks) (rest : Option ℕ) (t : Place) (x : ℕ) (a : Spot)
+    (q : Place) : Type 0 where
   pub stands : spot_of b x ≡ Some a
   pub alone : height_at b a.place ≡ 1
   pub awake : rest ≢ Some x
@@ -61,11 +63,14 @@ is_pillbug None = false
 is_pillbug (Some x) = is_kind (kind_of x) Pillbug
 
 abbrev pub can_throw : Stacks → ℕ → Place → Bool
-can_throw b y t = is_kind (kind_of y) Pillbug || is_kind (kind_of y) Mosquito && list_any (λ d. is_pillbug (top_at b (step t d))) dirs
+can_throw b y t =
+    is_kind (kind_of y) Pillbug || is_kind (kind_of y) Mosquito
+    && list_any (λ d. is_pillbug (top_at b (step t d))) dirs
 
 abbrev pub throws_from : Stacks → Option ℕ → ℕ → Option Spot → Bool
 throws_from b rest y None = false
-throws_from b rest y (Some t) = nat_eq (height_at b t.place) 1 && (not (is_piece y rest) && can_throw b y t.place)
+throws_from b rest y (Some t) =
+    nat_eq (height_at b t.place) 1 && (not (is_piece y rest) && can_throw b y t.place)
 
 -- the piece is a thrower
 abbrev pub is_thrower : Stacks → Option ℕ → ℕ → Bool
@@ -75,7 +80,8 @@ abbrev pub throws_over : Stacks → Option ℕ → Option Spot → ℕ → Optio
 throws_over b rest None x other q = false
 throws_over b rest (Some t) x None q = false
 throws_over b rest (Some t) x (Some a) q =
-    nat_eq (height_at b a.place) 1 && (not (is_piece x rest) && (are_neighbours t.place a.place && (not (is_cut b a.place)
+    nat_eq (height_at b a.place) 1 && (not (is_piece x rest)
+    && (are_neighbours t.place a.place && (not (is_cut b a.place)
     && (is_free (lift b x) a.place t.place && (is_free (lift b x) t.place q
     && (nat_eq (height_at b q) 0 && not (is_place a.place q)))))))
 
@@ -84,4 +90,6 @@ abbrev pub is_thrown_by : Stacks → Option ℕ → ℕ → ℕ → Place → Bo
 is_thrown_by b rest y x q = throws_over b rest (spot_of b y) x (spot_of b x) q
 
 abbrev pub is_throw : Position → ℕ → Place → Bool
-is_throw p x q = list_any (λ y. is_colour (colour_of y) p.side && (is_thrower p.board p.rest y && is_thrown_by p.board p.rest y x q)) all_pieces
+is_throw p x q =
+    list_any (λ y. is_colour (colour_of y) p.side
+    && (is_thrower p.board p.rest y && is_thrown_by p.board p.rest y x q)) all_pieces

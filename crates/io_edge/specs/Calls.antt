@@ -36,4 +36,5 @@ greatest_size sizes call = max (slice_index sizes (min call (length sizes) - 1))
 -- how many of so many bytes are the piece of a call: all of them up to the greatest size, and where
 -- no sizes are given just all
 abbrev pub piece_of : List ℕ → ℕ → ℕ → ℕ
-piece_of sizes call bytes = if length sizes == 0 then bytes else min (greatest_size sizes call) bytes
+piece_of sizes call bytes =
+    if length sizes == 0 then bytes else min (greatest_size sizes call) bytes

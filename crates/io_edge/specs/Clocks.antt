@@ -5,7 +5,8 @@ use Rattle.std.specs.Prelude.{ℕ, ◌-◌, ◌^◌, min, max, List, [], ◌∷�
 abbrev pub last_moment : ℕ
 last_moment = 2 ^ 62 - 1
 
--- a clock that goes by steps: the reading to come, the step, the last reading, and how often it was read
+-- a clock that goes by steps: the reading to come, the step, the last reading, and how often it was
+-- read
 pub record StepState : Type 0 where
   pub next : ℕ
   pub step : ℕ

@@ -44,9 +44,11 @@ Gives ReadFailed left sizes call room = ⊥
 -- a read fails exactly where its number is on the list
 abbrev pub AnswersRead : ReadAnswer → SourceState → ℕ → Type 0
 AnswersRead (Got n) source room =
-    (next_fails source.calls ≡ false) × Gives (Got n) source.left source.sizes (next_number source.calls) room
+    (next_fails source.calls ≡ false) × Gives (Got n) source.left source.sizes
+    (next_number source.calls) room
 AnswersRead End source room =
-    (next_fails source.calls ≡ false) × Gives End source.left source.sizes (next_number source.calls) room
+    (next_fails source.calls ≡ false) × Gives End source.left source.sizes
+    (next_number source.calls) room
 AnswersRead ReadFailed source room = next_fails source.calls ≡ true
 
 -- a read of a source, into a buffer of this length: what it answers, and how it is counted
@@ -72,5 +74,9 @@ pub record WritesInMemory (answer : WriteAnswer) (bytes : ℕ) (before now : Sin
 abbrev pub as_new : LinkState → LinkState
 as_new link = record {
   source = record link.source { calls = new_calls link.source.calls.failing };
-  sink = record { written = []; sizes = link.sink.sizes; calls = new_calls link.sink.calls.failing };
+  sink = record {
+    written = [];
+    sizes = link.sink.sizes;
+    calls = new_calls link.sink.calls.failing;
+  };
 }

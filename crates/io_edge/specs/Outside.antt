@@ -34,7 +34,8 @@ abbrev pub IsAtEnd : Told → Type 0
 IsAtEnd None = ⊤
 IsAtEnd (Some bytes) = bytes ≡ []
 
--- what a read gave, and what it took away; bytes are told after it exactly where they were told before
+-- what a read gave, and what it took away; bytes are told after it exactly where they were told
+-- before
 abbrev pub Reads : ReadAnswer → List ℕ → Told → Told → Type 0
 Reads (Got n) buffer old new = (0 < n) × (n ≤ length buffer) × (old ≡ in_front (take n buffer) new)
 Reads End buffer old new = (new ≡ old) × IsAtEnd old
@@ -45,7 +46,8 @@ abbrev pub Writes : WriteAnswer → List ℕ → Told → Told → Type 0
 Writes (Took n) bytes old new = (0 < n) × (n ≤ length bytes) × (new ≡ behind old (take n bytes))
 Writes WriteFailed bytes old new = new ≡ old
 
--- a failure has its cause in the count of faults, which never falls: it rose where the call failed, and stands where it did not
+-- a failure has its cause in the count of faults, which never falls: it rose where the call failed,
+-- and stands where it did not
 pub record HasCause (failed : Type 0) (before now : ℕ) : Type 0 where
   pub later : before ≤ now
   pub rose : failed → Rose before now
@@ -59,8 +61,8 @@ no_side = record { bytes = None; faults = 0 }
 abbrev pub ToldLists : Type 0
 ToldLists = Option (List (List ℕ))
 
--- the programs that were started, in the order of the starts, each by its words, and each word by its
--- bytes; where they are told
+-- the programs that were started, in the order of the starts, each by its words, and each word by
+-- its bytes; where they are told
 abbrev pub ToldPrograms : Type 0
 ToldPrograms = Option (List (List (List ℕ)))
 
@@ -79,7 +81,8 @@ Starts (Some coming) (Some later) rest written =
 abbrev pub Collects : ToldLists → ToldLists → Told → Type 0
 Collects before None written = ⊤
 Collects None (Some all) written = ⊥
-Collects (Some lists) (Some all) written = (bytes : List ℕ) × (written ≡ Some bytes) × (all ≡ lists ++ bytes ∷ [])
+Collects (Some lists) (Some all) written =
+    (bytes : List ℕ) × (written ≡ Some bytes) × (all ≡ lists ++ bytes ∷ [])
 
 -- a count one greater: a count is a u64, and stands still at its greatest value
 abbrev pub one_more : ℕ → ℕ

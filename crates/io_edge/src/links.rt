@@ -60,7 +60,10 @@ impl Source for MemLink {
 
     ghost read_faults = { λ l. l.source.calls.faults };
 
-    ghost source_aside = { λ l. record { bytes = Some l.sink.written; faults = l.sink.calls.faults } };
+    ghost source_aside = { λ l. record {
+      bytes = Some l.sink.written;
+      faults = l.sink.calls.faults;
+    } };
 
     /// Reads from the source, by its rules, and leaves the sink.
     fn read(&mut self, buffer: &mut [u8]) -> ReadAnswer
@@ -81,7 +84,10 @@ impl Sink for MemLink {
 
     ghost write_faults = { λ l. l.sink.calls.faults };
 
-    ghost sink_aside = { λ l. record { bytes = Some l.source.left; faults = l.source.calls.faults } };
+    ghost sink_aside = { λ l. record {
+      bytes = Some l.source.left;
+      faults = l.source.calls.faults;
+    } };
 
     /// Writes to the sink, by its rules, and leaves the source.
     fn write(&mut self, bytes: &[u8]) -> WriteAnswer

@@ -51,7 +51,8 @@ impl Source for SureSource {
     fn read(&mut self, buffer: &mut [u8]) -> ReadAnswer
         requires { 0 < length buffer.old }
         ensures bytes { Reads result buffer.new (Some self.old.left) (Some self.new.left) }
-        ensures piece { Gives result self.old.left self.old.sizes self.new.made (length buffer.old) }
+        ensures piece { Gives result self.old.left self.old.sizes self.new.made
+            (length buffer.old) }
         ensures sizes { self.new.sizes ≡ self.old.sizes }
         ensures made { self.new.made ≡ one_more self.old.made }
     {

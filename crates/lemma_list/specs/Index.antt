@@ -15,11 +15,14 @@ abbrev pub last_before : KeyParts → List Lemma → ℕ → Option ℕ
 last_before k ls zero = None
 last_before k ls (suc n) = cond (has_key k (slice_get ls n)) (Some n) (last_before k ls n)
 
--- The map has for each key the place of its last lemma, and beside each lemma stands the place of the one before it with its
--- key. The map has no more keys than there are lemmas, and room for 65,536.
-pub record IsIndexed {S : Type 0} (ls : List Lemma) (previous : List (Option ℕ)) (last : IndexMap KeyParts ℕ S) : Type 0 where
+-- The map has for each key the place of its last lemma, and beside each lemma stands the place of
+-- the one before it with its key. The map has no more keys than there are lemmas, and room for
+-- 65,536.
+pub record IsIndexed {S : Type 0} (ls : List Lemma) (previous : List (Option ℕ))
+    (last : IndexMap KeyParts ℕ S) : Type 0 where
   pub lasts : (k : KeyParts) → get same_key last k ≡ last_before k ls (length ls)
   pub beside : length previous ≡ length ls
-  pub linked : (i : ℕ) (l : Lemma) → slice_get ls i ≡ Some l → slice_get previous i ≡ Some (last_before l.key ls i)
+  pub linked : (i : ℕ) (l : Lemma) → slice_get ls i ≡ Some l
+      → slice_get previous i ≡ Some (last_before l.key ls i)
   pub keys : index_map_len last ≤ length ls
   pub room : 65536 ≤ index_map_len last + spare last

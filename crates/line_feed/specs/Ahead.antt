@@ -23,8 +23,8 @@ ahead_of r rest = option_map (lines_left r) rest
 unfoldable pub whole_ahead_of : Reading → Told → ToldLines
 whole_ahead_of r rest = option_map (whole_left r) rest
 
--- what an answer does to the lines to come: a line that is given or passed over was the first of them,
--- at the end there is none, and a failure or a full reader leaves them
+-- what an answer does to the lines to come: a line that is given or passed over was the first of
+-- them, at the end there is none, and a failure or a full reader leaves them
 abbrev pub Advances : LineAnswer → List ℕ → ToldLines → ToldLines → Type 0
 Advances Line last old new = old ≡ option_map (λ left. Text last ∷ left) new
 Advances TooLong last old new = old ≡ option_map (λ left. LongLine ∷ left) new

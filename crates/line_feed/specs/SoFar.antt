@@ -5,12 +5,17 @@ use Rattle.io_edge.specs.Outside.{Told, in_front, IsAtEnd}
 use Rattle.hive_model.specs.Lines.{Line as OneLine, lines}
 use Rattle.line_feed.specs.Feed.{Reading, pending, SplitsOff, input_limit}
 
--- Of these bytes these lines were given: all of them where the source has ended, and else the first ones, whatever comes later.
+-- Of these bytes these lines were given: all of them where the source has ended, and else the first
+-- ones, whatever comes later.
 abbrev pub Covers : Bool → List ℕ → List ℕ → List OneLine → Told → Type 0
-Covers finished bytes held given rest = MatchBool finished ((lines bytes ≡ given) × (held ≡ []) × IsAtEnd rest) (SplitsOff [] bytes given held)
+Covers finished bytes held given rest =
+    MatchBool finished ((lines bytes ≡ given) × (held ≡ []) × IsAtEnd rest)
+    (SplitsOff [] bytes given held)
 
--- Since the source stood at the first rest, these bytes were read by this reader, which was new, and it gave these lines.
-pub record Fed (old rest : Told) (reading : Reading) (bytes : List ℕ) (given : List OneLine) : Type 0 where
+-- Since the source stood at the first rest, these bytes were read by this reader, which was new,
+-- and it gave these lines.
+pub record Fed (old rest : Told) (reading : Reading) (bytes : List ℕ)
+    (given : List OneLine) : Type 0 where
   pub left : old ≡ in_front bytes rest
   pub counted : reading.taken ≡ length bytes
   pub covers : Covers reading.finished bytes (pending reading) given rest

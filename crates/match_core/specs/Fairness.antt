@@ -83,7 +83,8 @@ is_telling Finished = false
 -- those of the lines that were sent to a side that tell it a move
 abbrev pub telling_lines : Standing → List Happening → Colour → List (List ℕ)
 telling_lines s [] to = []
-telling_lines s (h ∷ hs) to = cond (is_telling s.stage) (sent_at s s.stage h to) [] ++ telling_lines (next s h) hs to
+telling_lines s (h ∷ hs) to =
+    cond (is_telling s.stage) (sent_at s s.stage h to) [] ++ telling_lines (next s h) hs to
 
 -- the lines that tell these moves, each made in the position that those before it lead to
 abbrev pub tell_lines : Position → List Move → List (List ℕ)
@@ -92,7 +93,9 @@ tell_lines p (m ∷ ms) = tell_line p m ∷ tell_lines (after p m) ms
 
 -- all moves were told, or all but the last
 abbrev pub WasTold : List Move → List Move → Type 0
-WasTold told moves = (told ≡ moves) ⊎ ((before : List Move) × (last : Move) × (moves ≡ before ++ last ∷ []) × (told ≡ before))
+WasTold told moves =
+    (told ≡ moves) ⊎ ((before : List Move) × (last : Move) × (moves ≡ before ++ last ∷ [])
+    × (told ≡ before))
 
 -- a whole reply, its ok left out, and the side that gave it
 pub record Reply : Type 0 where
@@ -111,7 +114,8 @@ nothing_heard = record { begun = []; last = record { side = White; lines = [] } 
 -- what was heard once this has happened: a line goes on the reply that is begun, and `ok` ends it
 abbrev pub heard_at : Stage → Heard → Happening → Heard
 heard_at (Read job side) k (Line bytes) =
-    cond (is_ok bytes) (record { begun = []; last = record { side = side; lines = k.begun } }) (record { begun = k.begun ++ bytes ∷ []; last = k.last })
+    cond (is_ok bytes) (record { begun = []; last = record { side = side; lines = k.begun } })
+    (record { begun = k.begun ++ bytes ∷ []; last = k.last })
 heard_at (Read job side) k Sent = k
 heard_at (Read job side) k TooLong = k
 heard_at (Read job side) k Ended = k
@@ -132,7 +136,8 @@ abbrev pub first_of : List (List ℕ) → List ℕ
 first_of [] = []
 first_of (line ∷ lines) = line
 
--- a move is accepted: it is legal, and is what the first line of the last whole reply, which the side to move gave, denotes
+-- a move is accepted: it is legal, and is what the first line of the last whole reply, which the
+-- side to move gave, denotes
 pub record Accepts (s : Standing) (reply : Reply) (m : Move) : Type 0 where
   pub side : reply.side ≡ (position_of s).side
   pub denotes : Denotes s.setup.game_type (position_of s).board (first_of reply.lines) m
@@ -140,20 +145,26 @@ pub record Accepts (s : Standing) (reply : Reply) (m : Move) : Type 0 where
 
 -- an event leaves the moves, or accepts one
 abbrev pub MovesOn : Standing → Standing → Reply → Type 0
-MovesOn s t reply = (t.moves ≡ s.moves) ⊎ ((m : Move) × (t.moves ≡ s.moves ++ m ∷ []) × Accepts s reply m)
+MovesOn s t reply =
+    (t.moves ≡ s.moves) ⊎ ((m : Move) × (t.moves ≡ s.moves ++ m ∷ []) × Accepts s reply m)
 
--- The moves are a legal game, and none follows the end of the game. Each side was told all of them, or all but the last, each
--- once and in order, and the lines that told it a move are those of these moves.
+-- The moves are a legal game, and none follows the end of the game. Each side was told all of them,
+-- or all but the last, each once and in order, and the lines that told it a move are those of these
+-- moves.
 pub record IsFair (setup : Setup) (hs : List Happening) : Type 0 where
   pub legal : IsGame setup.game_type (match_after setup hs).moves
   pub stands : StandsUnder setup.repetition setup.game_type (match_after setup hs).moves
   pub white : WasTold (told (start setup) hs White) (match_after setup hs).moves
   pub black : WasTold (told (start setup) hs Black) (match_after setup hs).moves
-  pub white_lines : telling_lines (start setup) hs White ≡ tell_lines (opening setup.game_type) (told (start setup) hs White)
-  pub black_lines : telling_lines (start setup) hs Black ≡ tell_lines (opening setup.game_type) (told (start setup) hs Black)
+  pub white_lines : telling_lines (start setup) hs White
+      ≡ tell_lines (opening setup.game_type) (told (start setup) hs White)
+  pub black_lines : telling_lines (start setup) hs Black
+      ≡ tell_lines (opening setup.game_type) (told (start setup) hs Black)
 
 -- the law of fair matches, over every list of events that answer the acts
 pub record MatchesAreFair : Type 0 where
   pub fair : (setup : Setup) (hs : List Happening) → Answering (start setup) hs → IsFair setup hs
-  pub read : (setup : Setup) (hs : List Happening) (h : Happening) → IsSetup setup → Answering (start setup) (hs ++ h ∷ []) →
-      MovesOn (match_after setup hs) (match_after setup (hs ++ h ∷ [])) (heard (start setup) nothing_heard (hs ++ h ∷ [])).last
+  pub read : (setup : Setup) (hs : List Happening) (h : Happening) → IsSetup setup
+      → Answering (start setup) (hs ++ h ∷ []) →
+      MovesOn (match_after setup hs) (match_after setup (hs ++ h ∷ []))
+      (heard (start setup) nothing_heard (hs ++ h ∷ [])).last

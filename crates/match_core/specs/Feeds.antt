@@ -13,7 +13,8 @@ use Rattle.match_core.specs.Standing.{Standing, Happening, Sent, Line, TooLong, 
 use Rattle.match_core.specs.Fairness.{is_side, sent, Answering}
 use Rattle.match_core.specs.Plays.{match_of}
 
--- what a reader gives of the lines to come (after the last two a match is over, and what is left is not asked)
+-- what a reader gives of the lines to come (after the last two a match is over, and what is left is
+-- not asked)
 abbrev pub Gave : Happening → ToldLines → ToldLines → Type 0
 Gave (Line bytes) old new = old ≡ option_map (λ marks. Text bytes ∷ marks) new
 Gave TooLong old new = LongAhead old
@@ -38,7 +39,8 @@ FeedsAt Finished h to old new = new ≡ old
 -- all that happened took just these lines of a side
 abbrev pub Feeds : Standing → List Happening → Colour → ToldLines → ToldLines → Type 0
 Feeds s [] to old new = new ≡ old
-Feeds s (h ∷ hs) to old new = (mid : ToldLines) × FeedsAt s.stage h to old mid × Feeds (next s h) hs to mid new
+Feeds s (h ∷ hs) to old new =
+    (mid : ToldLines) × FeedsAt s.stage h to old mid × Feeds (next s h) hs to mid new
 
 -- an event is no fault, and no answer is late
 abbrev pub IsInTime : Stage → Standing → Happening → Type 0
@@ -65,19 +67,34 @@ AreInTime s (h ∷ hs) = IsInTime s.stage s h × AreInTime (next s h) hs
 
 -- the match, but for the moment at which the last question was asked
 abbrev pub with_asked : Standing → ℕ → Standing
-with_asked s asked = record { setup = s.setup; moves = s.moves; stage = s.stage; asked = asked; first = s.first; count = s.count; verdict = s.verdict }
+with_asked s asked =
+    record {
+      setup = s.setup;
+      moves = s.moves;
+      stage = s.stage;
+      asked = asked;
+      first = s.first;
+      count = s.count;
+      verdict = s.verdict;
+    }
 
 -- t and fs are s and hs, but for readings of the clock
-pub record AreSame (s : Standing) (hs : List Happening) (t : Standing) (fs : List Happening) : Type 0 where
+pub record AreSame (s : Standing) (hs : List Happening) (t : Standing)
+    (fs : List Happening) : Type 0 where
   pub asked : ℕ
   pub match : after_all t fs ≡ with_asked (after_all s hs) asked
   pub white : sent t fs White ≡ sent s hs White
   pub black : sent t fs Black ≡ sent s hs Black
 
--- a whole match that took just these lines, with no fault and no late answer, is the match of these lines
+-- a whole match that took just these lines, with no fault and no late answer, is the match of these
+-- lines
 abbrev pub MatchesAreOfTheirLines : Type 0
-MatchesAreOfTheirLines = (setup : Setup) (hs : List Happening) (white black : List Mark) (w b : ToldLines) → IsSetup setup → Answering (start setup) hs → AreInTime (start setup) hs
-    → Feeds (start setup) hs White (Some white) w → Feeds (start setup) hs Black (Some black) b → act_at (match_after setup hs).stage ≡ Finish → AreSame (start setup) hs (start setup) (match_of setup white black)
+MatchesAreOfTheirLines =
+    (setup : Setup) (hs : List Happening) (white black : List Mark) (w b : ToldLines)
+    → IsSetup setup → Answering (start setup) hs → AreInTime (start setup) hs
+    → Feeds (start setup) hs White (Some white) w → Feeds (start setup) hs Black (Some black) b
+    → act_at (match_after setup hs).stage ≡ Finish
+    → AreSame (start setup) hs (start setup) (match_of setup white black)
 
 -- a list goes on from its front
 abbrev pub IsFront : {X : Type 0} → List X → List X → Type 0
@@ -85,11 +102,18 @@ IsFront {X} front all = (more : List X) × (all ≡ front ++ more)
 
 -- the moves, and the lines sent to each side, are the first of those of the match of these lines
 pub record IsBegun (setup : Setup) (hs : List Happening) (white black : List Mark) : Type 0 where
-  pub moves : IsFront (match_after setup hs).moves (match_after setup (match_of setup white black)).moves
-  pub to_white : IsFront (sent (start setup) hs White) (sent (start setup) (match_of setup white black) White)
-  pub to_black : IsFront (sent (start setup) hs Black) (sent (start setup) (match_of setup white black) Black)
+  pub moves : IsFront (match_after setup hs).moves
+      (match_after setup (match_of setup white black)).moves
+  pub to_white : IsFront (sent (start setup) hs White)
+      (sent (start setup) (match_of setup white black) White)
+  pub to_black : IsFront (sent (start setup) hs Black)
+      (sent (start setup) (match_of setup white black) Black)
 
--- a match that took just these lines so far, with no fault and no late answer, is a front of the match of these lines
+-- a match that took just these lines so far, with no fault and no late answer, is a front of the
+-- match of these lines
 abbrev pub MatchesBegin : Type 0
-MatchesBegin = (setup : Setup) (hs : List Happening) (white black : List Mark) (w b : ToldLines) → IsSetup setup → Answering (start setup) hs → AreInTime (start setup) hs
-    → Feeds (start setup) hs White (Some white) w → Feeds (start setup) hs Black (Some black) b → IsBegun setup hs white black
+MatchesBegin =
+    (setup : Setup) (hs : List Happening) (white black : List Mark) (w b : ToldLines)
+    → IsSetup setup → Answering (start setup) hs → AreInTime (start setup) hs
+    → Feeds (start setup) hs White (Some white) w → Feeds (start setup) hs Black (Some black) b
+    → IsBegun setup hs white black

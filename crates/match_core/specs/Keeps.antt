@@ -15,7 +15,8 @@ use Rattle.match_core.specs.declared.answers.Event.TheVariants.{Sent, Line, TooL
 use Rattle.match_core.specs.Texts.{most_sent}
 use Rattle.match_core.specs.Standing.{Standing, line_for}
 
--- A depth is from 1 to 64. A time is whole seconds, at most 99 hours, 59 minutes and 59 seconds; a margin is at most an hour.
+-- A depth is from 1 to 64. A time is whole seconds, at most 99 hours, 59 minutes and 59 seconds; a
+-- margin is at most an hour.
 abbrev pub IsLevel : Level → Type 0
 IsLevel (Depth depth) = (1 ≤ depth) × (depth ≤ 64)
 IsLevel (Time budget margin) = (budget % 1000 ≡ 0) × (budget ≤ 359999000) × (margin ≤ 3600000)
@@ -35,8 +36,10 @@ HasNext (Tell told) plies limit = plies ≤ limit
 
 -- the line to send is ready, and the game may go on
 abbrev pub FitsStage : Stage → Standing → List ℕ → Type 0
-FitsStage (Send job side) s text = (text ≡ line_for s job) × HasNext job (length s.moves) s.setup.limit
-FitsStage (Read job side) s text = (text ≡ line_for s job) × HasNext job (length s.moves) s.setup.limit
+FitsStage (Send job side) s text =
+    (text ≡ line_for s job) × HasNext job (length s.moves) s.setup.limit
+FitsStage (Read job side) s text =
+    (text ≡ line_for s job) × HasNext job (length s.moves) s.setup.limit
 FitsStage Before s text = length s.moves < s.setup.limit
 FitsStage After s text = length s.moves < s.setup.limit
 FitsStage Finished s text = Unit {0}
@@ -53,8 +56,8 @@ SeesFor Begin seen game = Sees seen game
 SeesFor Ask seen game = Sees seen game
 SeesFor (Tell told) seen game = SeesBefore seen game
 
--- The keys that are kept are those of all positions of the game, or of all but the last while a move is told. Of a match that is
--- over nothing is said.
+-- The keys that are kept are those of all positions of the game, or of all but the last while a
+-- move is told. Of a match that is over nothing is said.
 abbrev pub SeesAt : Stage → Seen → Course → Type 0
 SeesAt (Send job side) seen game = SeesFor job seen game
 SeesAt (Read job side) seen game = SeesFor job seen game
@@ -92,9 +95,10 @@ IsSettled Before = Unit {0}
 IsSettled After = Unit {0}
 IsSettled Finished = ⊥
 
--- The game is the one of the moves, with room for the rest, and the rule of third repetition is the setup's. The keys of the
--- positions are kept, and the line to send is ready.
-pub record IsReferee (s : Standing) (game : Course) (seen : Seen) (text : List ℕ) (room : ℕ) : Type 0 where
+-- The game is the one of the moves, with room for the rest, and the rule of third repetition is the
+-- setup's. The keys of the positions are kept, and the line to send is ready.
+pub record IsReferee (s : Standing) (game : Course) (seen : Seen) (text : List ℕ)
+    (room : ℕ) : Type 0 where
   pub kind : game.game_type ≡ s.setup.game_type
   pub same : game.made ≡ s.moves
   pub spare : s.setup.limit ≤ length s.moves + game.spare

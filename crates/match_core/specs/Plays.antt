@@ -25,7 +25,8 @@ is_finished Before = false
 is_finished After = false
 is_finished Finished = true
 
--- at most so many events are left, where d more moves may be made and c lines of the reply were read
+-- at most so many events are left, where d more moves may be made and c lines of the reply were
+-- read
 abbrev pub left_at : Stage → ℕ → ℕ → ℕ
 left_at (Read Greet White) d c = 8008 * d + 9009 - c
 left_at (Read Greet Black) d c = 8008 * d + 8008 - c
@@ -91,7 +92,9 @@ unfoldable pub happens : ℕ → Standing → List Mark → List Mark → List H
 happens zero s white black = []
 happens (suc n) s white black =
     cond (is_finished s.stage) []
-    (reply_to s.stage s.asked white black ∷ happens n (next s (reply_to s.stage s.asked white black)) (left_of_white s.stage white) (left_of_black s.stage black))
+    (reply_to s.stage s.asked white black
+    ∷ happens n (next s (reply_to s.stage s.asked white black)) (left_of_white s.stage white)
+    (left_of_black s.stage black))
 
 -- all that happens in the match of two sides whose lines are these
 abbrev pub match_of : Setup → List Mark → List Mark → List Happening
@@ -110,7 +113,8 @@ IsPliesAt Before plies limit = plies < limit
 IsPliesAt After plies limit = plies < limit
 IsPliesAt Finished plies limit = Unit {0}
 
--- a match at its place: it has no more moves and lines than it may have, and is over exactly where it has a verdict
+-- a match at its place: it has no more moves and lines than it may have, and is over exactly where
+-- it has a verdict
 pub record IsBounded (s : Standing) : Type 0 where
   pub plies : IsPliesAt s.stage (length s.moves) s.setup.limit
   pub count : s.count ≤ 1000
@@ -118,14 +122,20 @@ pub record IsBounded (s : Standing) : Type 0 where
 
 -- an event that answers the act brings the match nearer to its end
 abbrev pub MatchesNearTheirEnd : Type 0
-MatchesNearTheirEnd = (s : Standing) (h : Happening) → IsBounded s → IsTrue (answers (act_at s.stage) h) → IsBounded (next s h) × (left (next s h) < left s)
+MatchesNearTheirEnd =
+    (s : Standing) (h : Happening) → IsBounded s → IsTrue (answers (act_at s.stage) h)
+    → IsBounded (next s h) × (left (next s h) < left s)
 
--- the match of two sides is one to its end: what happens in it answers the acts, and is not cut before there is a verdict
+-- the match of two sides is one to its end: what happens in it answers the acts, and is not cut
+-- before there is a verdict
 abbrev pub MatchesEnd : Type 0
 MatchesEnd = (setup : Setup) (white black : List Mark) → IsSetup setup
-    → Answering (start setup) (match_of setup white black) × (act_at (match_after setup (match_of setup white black)).stage ≡ Finish)
+    → Answering (start setup) (match_of setup white black)
+    × (act_at (match_after setup (match_of setup white black)).stage ≡ Finish)
 
 -- a match is over exactly where it has a verdict
 abbrev pub MatchesAreJudged : Type 0
-MatchesAreJudged = (setup : Setup) (hs : List Happening) → IsSetup setup → Answering (start setup) hs
-    → (act_at (match_after setup hs).stage ≡ Finish) ↔ (has_verdict (match_after setup hs).verdict ≡ true)
+MatchesAreJudged =
+    (setup : Setup) (hs : List Happening) → IsSetup setup → Answering (start setup) hs
+    → (act_at (match_after setup hs).stage ≡ Finish)
+    ↔ (has_verdict (match_after setup hs).verdict ≡ true)

@@ -46,8 +46,8 @@ happening EndedEvent line = Ended
 happening BrokeEvent line = Broke
 happening (ReadingEvent at) line = Reading at
 
--- a match: the place that it has reached, the first clock reading of the current question, and of the current reply
--- the first line and the number of lines
+-- a match: the place that it has reached, the first clock reading of the current question, and of
+-- the current reply the first line and the number of lines
 pub record Standing : Type 0 where
   pub setup : Setup
   pub moves : List Move
@@ -67,7 +67,16 @@ position_before s = replay (opening s.setup.game_type) (take (length s.moves - 1
 
 -- white's greeting is read first
 abbrev pub start : Setup → Standing
-start setup = record { setup = setup; moves = []; stage = Read Greet White; asked = 0; first = None; count = 0; verdict = None }
+start setup =
+    record {
+      setup = setup;
+      moves = [];
+      stage = Read Greet White;
+      asked = 0;
+      first = None;
+      count = 0;
+      verdict = None;
+    }
 
 -- the act to come
 abbrev pub act_at : Stage → Act
@@ -86,11 +95,29 @@ line_for s (Tell told) = tell_line (position_before s) told
 
 -- on to a place, where nothing was read of a reply yet
 abbrev pub go : Standing → Stage → Standing
-go s stage = record { setup = s.setup; moves = s.moves; stage = stage; asked = s.asked; first = None; count = 0; verdict = s.verdict }
+go s stage =
+    record {
+      setup = s.setup;
+      moves = s.moves;
+      stage = stage;
+      asked = s.asked;
+      first = None;
+      count = 0;
+      verdict = s.verdict;
+    }
 
 -- the match is over
 abbrev pub finish : Standing → Verdict → Standing
-finish s verdict = record { setup = s.setup; moves = s.moves; stage = Finished; asked = s.asked; first = None; count = 0; verdict = Some verdict }
+finish s verdict =
+    record {
+      setup = s.setup;
+      moves = s.moves;
+      stage = Finished;
+      asked = s.asked;
+      first = None;
+      count = 0;
+      verdict = Some verdict;
+    }
 
 -- a side loses by this cause
 abbrev pub forfeit : Standing → Colour → Cause → Standing
@@ -107,7 +134,16 @@ ask s = go s (question s.setup.level (position_of s).side)
 
 -- a move is accepted: it is played, and then told to white and to black
 abbrev pub accept : Standing → Move → Standing
-accept s m = record { setup = s.setup; moves = s.moves ++ m ∷ []; stage = Send (Tell m) White; asked = s.asked; first = None; count = 0; verdict = s.verdict }
+accept s m =
+    record {
+      setup = s.setup;
+      moves = s.moves ++ m ∷ [];
+      stage = Send (Tell m) White;
+      asked = s.asked;
+      first = None;
+      count = 0;
+      verdict = s.verdict;
+    }
 
 -- the first line of a reply, empty where there is none
 abbrev pub first_line : Standing → List ℕ
@@ -116,14 +152,16 @@ first_line s = unwrap_or s.first []
 -- the side to move forfeits where its line is no move, or a move that is not legal
 abbrev pub judge_read : Standing → List ℕ → Result Move MoveFault → Standing
 judge_read s line (Err fault) = forfeit s (position_of s).side (NotAMove line)
-judge_read s line (Ok m) = cond (is_listed (position_of s) m) (accept s m) (forfeit s (position_of s).side (Illegal line))
+judge_read s line (Ok m) =
+    cond (is_listed (position_of s) m) (accept s m) (forfeit s (position_of s).side (Illegal line))
 
 -- the reply of the side to move is judged
 unfoldable pub judge : Standing → Standing
-judge s = judge_read s (first_line s) (read_of s.setup.game_type (position_of s).board (first_line s))
+judge s =
+    judge_read s (first_line s) (read_of s.setup.game_type (position_of s).board (first_line s))
 
--- How the game goes on or ended: by its position where that ends it; else it is drawn where the match is played with the rule of
--- third repetition and the position stands for the third time.
+-- How the game goes on or ended: by its position where that ends it; else it is drawn where the
+-- match is played with the rule of third repetition and the position stands for the third time.
 abbrev pub outcome_of : Standing → State
 outcome_of s = outcome_under s.setup.repetition s.setup.game_type s.moves
 
@@ -136,7 +174,16 @@ decide s =
 -- a reply to a question has ended: where it has a time, the clock is read before it is judged
 abbrev pub answered : Standing → Level → Standing
 answered s (Depth depth) = judge s
-answered s (Time budget margin) = record { setup = s.setup; moves = s.moves; stage = After; asked = s.asked; first = s.first; count = s.count; verdict = s.verdict }
+answered s (Time budget margin) =
+    record {
+      setup = s.setup;
+      moves = s.moves;
+      stage = After;
+      asked = s.asked;
+      first = s.first;
+      count = s.count;
+      verdict = s.verdict;
+    }
 
 -- a reply has ended
 abbrev pub reply_ends : Standing → Task → Colour → Standing
@@ -150,7 +197,16 @@ reply_ends s (Tell told) Black = decide s
 
 -- a line of a reply that does not end it
 abbrev pub keep : Standing → Stage → List ℕ → Standing
-keep s stage line = record { setup = s.setup; moves = s.moves; stage = stage; asked = s.asked; first = Some (unwrap_or s.first line); count = s.count + 1; verdict = s.verdict }
+keep s stage line =
+    record {
+      setup = s.setup;
+      moves = s.moves;
+      stage = stage;
+      asked = s.asked;
+      first = Some (unwrap_or s.first line);
+      count = s.count + 1;
+      verdict = s.verdict;
+    }
 
 -- a line of a reply ends it, tells a fault, is the 1,001st, or is kept
 abbrev pub hear : Standing → Task → Colour → List ℕ → Standing
@@ -188,7 +244,16 @@ at_read s job side (Reading at) = s
 
 -- the clock is read before the question
 abbrev pub at_before : Standing → Happening → Standing
-at_before s (Reading at) = record { setup = s.setup; moves = s.moves; stage = Send Ask (position_of s).side; asked = at; first = s.first; count = s.count; verdict = s.verdict }
+at_before s (Reading at) =
+    record {
+      setup = s.setup;
+      moves = s.moves;
+      stage = Send Ask (position_of s).side;
+      asked = at;
+      first = s.first;
+      count = s.count;
+      verdict = s.verdict;
+    }
 at_before s Sent = s
 at_before s (Line bytes) = s
 at_before s TooLong = s
@@ -197,7 +262,8 @@ at_before s Broke = s
 
 -- the clock is read after the reply
 abbrev pub at_after : Standing → Happening → Standing
-at_after s (Reading at) = cond (is_late s at) (forfeit s (position_of s).side (Late s.asked at)) (judge s)
+at_after s (Reading at) =
+    cond (is_late s at) (forfeit s (position_of s).side (Late s.asked at)) (judge s)
 at_after s Sent = s
 at_after s (Line bytes) = s
 at_after s TooLong = s

@@ -27,8 +27,9 @@ abbrev pub looks : Standing → List Happening → ℕ
 looks s [] = 0
 looks s (h ∷ hs) = looks_at s.stage + looks (next s h) hs
 
--- the readings among the events are those of a clock: none is before the one before it, nor the first before the clock's last
--- reading at the beginning, and the latest of them is the clock's last reading now
+-- the readings among the events are those of a clock: none is before the one before it, nor the
+-- first before the clock's last reading at the beginning, and the latest of them is the clock's
+-- last reading now
 abbrev pub KeepTime : ℕ → List Happening → ℕ → Type 0
 KeepTime before [] now = now ≡ before
 KeepTime before (h ∷ hs) now = (mid : ℕ) × KeepsAt h before mid × KeepTime mid hs now
@@ -39,7 +40,8 @@ pub record Served (s : Standing) (hs : List Happening) (to : Colour) (old new : 
   pub wrote : new.written ≡ behind old.written (joined (sent s hs to))
 
 -- the match has come to this by these events
-pub record Runs (setup : Setup) (s : Standing) (w0 w b0 b : Side) (r0 r : Watch) (hs : List Happening) : Type 0 where
+pub record Runs (setup : Setup) (s : Standing) (w0 w b0 b : Side) (r0 r : Watch)
+    (hs : List Happening) : Type 0 where
   pub here : s ≡ match_after setup hs
   pub fits : Answering (start setup) hs
   pub sound : AreSound hs
@@ -60,15 +62,19 @@ Whole setup t w0 w b0 b r0 r = Run setup t w0 w b0 b r0 r × (act_at t.stage ≡
 -- it was ended by a fault of this side
 abbrev pub Cut : Colour → Setup → Standing → Side → Side → Side → Side → Watch → Watch → Type 0
 Cut side setup t w0 w b0 b r0 r =
-    (s : Standing) × (w1 : Side) × (b1 : Side) × Run setup s w0 w1 b0 b1 r0 r × Breaks s t w1 w b1 b × ((act_at s.stage ≡ SendAct side) ⊎ (act_at s.stage ≡ ReadAct side))
+    (s : Standing) × (w1 : Side) × (b1 : Side) × Run setup s w0 w1 b0 b1 r0 r × Breaks s t w1 w b1 b
+    × ((act_at s.stage ≡ SendAct side) ⊎ (act_at s.stage ≡ ReadAct side))
 
 -- where a side breaks, one of its counts rose (or stands at its greatest value)
-pub record Ran (setup : Setup) (t : Standing) (w0 w b0 b : Side) (r0 r : Watch) (white_rose black_rose : Type 0) : Type 0 where
-  pub ended : (Whole setup t w0 w b0 b r0 r) ⊎ ((Cut White setup t w0 w b0 b r0 r × white_rose) ⊎ (Cut Black setup t w0 w b0 b r0 r × black_rose))
+pub record Ran (setup : Setup) (t : Standing) (w0 w b0 b : Side) (r0 r : Watch)
+    (white_rose black_rose : Type 0) : Type 0 where
+  pub ended : (Whole setup t w0 w b0 b r0 r)
+      ⊎ ((Cut White setup t w0 w b0 b r0 r × white_rose)
+      ⊎ (Cut Black setup t w0 w b0 b r0 r × black_rose))
 
--- The run of a match over two links that stood so before it and stand so behind it. The lines to come
--- of each side are those of what its reader holds, the front of one line and at most one piece, and of
--- what the link has left.
+-- The run of a match over two links that stood so before it and stand so behind it. The lines to
+-- come of each side are those of what its reader holds, the front of one line and at most one
+-- piece, and of what the link has left.
 pub record FinalRun
     (setup : Setup) (t : Standing) (w0 w b0 b : Wire) (r0 r : Watch) : Type 0 where
   pub white_reader : Reader
@@ -122,8 +128,8 @@ pub record BrokeOnly (t : Standing) (w0 w b0 b : Wire) : Type 0 where
 abbrev pub IsJudged : Standing → Type 0
 IsJudged t = has_verdict t.verdict ≡ true
 
--- where an answer is late, it was asked for no earlier than the clock's last reading before the run, it was not answered before
--- that, and the clock has not been read since
+-- where an answer is late, it was asked for no earlier than the clock's last reading before the
+-- run, it was not answered before that, and the clock has not been read since
 abbrev pub LateIn : Option Verdict → ℕ → ℕ → Type 0
 LateIn None before now = Unit {0}
 LateIn (Some (Rules state)) before now = Unit {0}
@@ -135,14 +141,16 @@ LateIn (Some (Forfeit side (Flood count))) before now = Unit {0}
 LateIn (Some (Forfeit side LongLine)) before now = Unit {0}
 LateIn (Some (Forfeit side EndedCause)) before now = Unit {0}
 LateIn (Some (Forfeit side BrokeCause)) before now = Unit {0}
-LateIn (Some (Forfeit side (Late asked answered))) before now = (before ≤ asked) × (asked ≤ answered) × (answered ≡ now)
+LateIn (Some (Forfeit side (Late asked answered))) before now =
+    (before ≤ asked) × (asked ≤ answered) × (answered ≡ now)
 
 -- the bytes sent to a side are the first of these
 abbrev pub IsFrontSent : Told → Told → List ℕ → Type 0
 IsFrontSent old new all = (bytes : List ℕ) × (new ≡ behind old bytes) × IsFront bytes all
 
 -- the moves, and the bytes sent to each side, are the first ones of the match of these lines
-pub record IsFrontOf (setup : Setup) (white black : List Mark) (t : Standing) (w0 w b0 b : Told) : Type 0 where
+pub record IsFrontOf (setup : Setup) (white black : List Mark) (t : Standing)
+    (w0 w b0 b : Told) : Type 0 where
   pub moves : IsFront t.moves (match_after setup (match_of setup white black)).moves
   pub to_white : IsFrontSent w0 w (joined (sent (start setup) (match_of setup white black) White))
   pub to_black : IsFrontSent b0 b (joined (sent (start setup) (match_of setup white black) Black))
@@ -166,8 +174,8 @@ IsVerdict full verdict w0 w b0 b =
     (verdict ≡ full)
     ⊎ (IsLate verdict ⊎ (HasBroken verdict White w0 w ⊎ HasBroken verdict Black b0 b))
 
--- where both links tell their bytes, the verdict is that of the match of these lines, or an answer was
--- late, or a side broke
+-- where both links tell their bytes, the verdict is that of the match of these lines, or an answer
+-- was late, or a side broke
 abbrev pub VerdictRun : Setup → Standing → Wire → Wire → Wire → Wire → Type 0
 VerdictRun setup t w0 w b0 b =
     (white black : List ℕ)
@@ -176,8 +184,8 @@ VerdictRun setup t w0 w b0 b =
     → IsVerdict (match_after setup (match_of setup (lines white) (lines black))).verdict t.verdict
     w0 w b0 b
 
--- a match that was run over two links: it is of this setup and has a verdict, and this is known of it
--- by the links
+-- a match that was run over two links: it is of this setup and has a verdict, and this is known of
+-- it by the links
 pub record RanLinks (setup : Setup) (t : Standing) (w0 w b0 b : Wire) : Type 0 where
   pub same : t.setup ≡ setup
   pub judged : IsJudged t
@@ -186,8 +194,8 @@ pub record RanLinks (setup : Setup) (t : Standing) (w0 w b0 b : Wire) : Type 0 w
   pub verdict : VerdictRun setup t w0 w b0 b
   pub told : ToldRun setup t w0 w b0 b
 
--- a match that was run over two links and a clock, which is read at most twice for each move and twice
--- more
+-- a match that was run over two links and a clock, which is read at most twice for each move and
+-- twice more
 pub record RanOver
     (setup : Setup) (t : Standing) (w0 w b0 b : Wire) (r0 r : Watch) : Type 0 where
   pub events : FinalRun setup t w0 w b0 b r0 r

@@ -25,7 +25,8 @@ pub record Side : Type 0 where
 -- a line is sent
 abbrev pub Tells : Turn → Standing → Standing → Told → Told → Type 0
 Tells GoOn s t before after = (t ≡ next s Sent) × (after ≡ behind before (line_at s s.stage))
-Tells (WriteFault at) s t before after = (t ≡ next s Broke) × ((n : ℕ) × (after ≡ behind before (take n (line_at s s.stage))))
+Tells (WriteFault at) s t before after =
+    (t ≡ next s Broke) × ((n : ℕ) × (after ≡ behind before (take n (line_at s s.stage))))
 Tells (ReadFault side) s t before after = ⊥
 Tells Finished s t before after = ⊥
 Tells Memory s t before after = Unit {0}
@@ -94,10 +95,12 @@ pub record OneSide (s : Standing) (h : Happening) (to : Colour) (old new : Side)
 
 -- a side has got a front of the line that was to be sent to it
 abbrev pub CutSide : Standing → Colour → Side → Side → Type 0
-CutSide s to old new = (n : ℕ) × (new.written ≡ behind old.written (take n (joined (sent_at s s.stage Sent to))))
+CutSide s to old new =
+    (n : ℕ) × (new.written ≡ behind old.written (take n (joined (sent_at s s.stage Sent to))))
 
 -- an event that is no fault, and what came of it at both sides
-pub record Goes (s : Standing) (h : Happening) (t : Standing) (w0 w b0 b : Side) (c0 c : ℕ) : Type 0 where
+pub record Goes (s : Standing) (h : Happening) (t : Standing) (w0 w b0 b : Side)
+    (c0 c : ℕ) : Type 0 where
   pub time : KeepsAt h c0 c
   pub next_is : t ≡ next s h
   pub fits : IsTrue (answers (act_at s.stage) h)
@@ -115,7 +118,10 @@ pub record Breaks (s t : Standing) (w0 w b0 b : Side) : Type 0 where
 -- what an act did to the match, to both sides and to the clock
 abbrev pub Turns : Turn → Standing → Standing → Side → Side → Side → Side → ℕ → ℕ → Type 0
 Turns GoOn s t w0 w b0 b c0 c = (h : Happening) × Goes s h t w0 w b0 b c0 c
-Turns (ReadFault side) s t w0 w b0 b c0 c = (act_at s.stage ≡ ReadAct side) × Breaks s t w0 w b0 b × (c ≡ c0)
-Turns (WriteFault side) s t w0 w b0 b c0 c = (act_at s.stage ≡ SendAct side) × Breaks s t w0 w b0 b × (c ≡ c0)
-Turns Finished s t w0 w b0 b c0 c = (t ≡ s) × (act_at s.stage ≡ Finish) × (w ≡ w0) × (b ≡ b0) × (c ≡ c0)
+Turns (ReadFault side) s t w0 w b0 b c0 c =
+    (act_at s.stage ≡ ReadAct side) × Breaks s t w0 w b0 b × (c ≡ c0)
+Turns (WriteFault side) s t w0 w b0 b c0 c =
+    (act_at s.stage ≡ SendAct side) × Breaks s t w0 w b0 b × (c ≡ c0)
+Turns Finished s t w0 w b0 b c0 c =
+    (t ≡ s) × (act_at s.stage ≡ Finish) × (w ≡ w0) × (b ≡ b0) × (c ≡ c0)
 Turns Memory s t w0 w b0 b c0 c = Unit {0}

@@ -43,9 +43,10 @@ pub record IsBesideNone (t : GameType) (b : Stacks) (text : List ℕ) (reference
   pub text_is : text ≡ form_text (Beside piece mark reference)
   pub not_in_play : place_in (without b piece) reference ≡ None
 
--- Each fault, exactly where no earlier one stands: no move text, or a moving piece that is not of the type, or a piece alone on a
--- board that is not empty, or a reference that is not on the board.
+-- Each fault, exactly where no earlier one stands: no move text, or a moving piece that is not of
+-- the type, or a piece alone on a board that is not empty, or a reference that is not on the board.
 abbrev pub Refuses : GameType → Stacks → List ℕ → MoveFault → Type 0
-Refuses t b text (NotAMove offset) = IsNoText text offset ⊎ (IsAloneAmong t b text × (offset ≡ length text))
+Refuses t b text (NotAMove offset) =
+    IsNoText text offset ⊎ (IsAloneAmong t b text × (offset ≡ length text))
 Refuses t b text NoSuchPiece = IsOfNoPiece t text
 Refuses t b text (NotInPlay y) = IsBesideNone t b text y

@@ -28,14 +28,16 @@ abbrev pub moved_beside : ℕ → Mark → ℕ → Option Place → Result Move 
 moved_beside x mark y None = Err (NotInPlay y)
 moved_beside x mark y (Some p) = Ok (To x (place_by p mark))
 
--- The move of a form. First the moving piece is to be of the game type; then a piece alone wants an empty board, and a reference
--- is to be on the board without the moving piece.
+-- The move of a form. First the moving piece is to be of the game type; then a piece alone wants an
+-- empty board, and a reference is to be on the board without the moving piece.
 abbrev pub judge : GameType → Stacks → ℕ → Form → Result Move MoveFault
 judge t b len Passes = Ok Pass
 judge t b len (Alone x) =
-    if has_kind t (kind_of x) then (if is_empty_board b then Ok (To x origin) else Err (NotAMove len)) else Err NoSuchPiece
+    if has_kind t (kind_of x) then (if is_empty_board b then Ok (To x origin)
+    else Err (NotAMove len)) else Err NoSuchPiece
 judge t b len (Beside x mark y) =
-    if has_kind t (kind_of x) then moved_beside x mark y (place_in (without b x) y) else Err NoSuchPiece
+    if has_kind t (kind_of x) then moved_beside x mark y (place_in (without b x) y)
+    else Err NoSuchPiece
 
 -- the same of what was read, the form or the offset where it fails
 abbrev pub judged : GameType → Stacks → ℕ → Result Form ℕ → Result Move MoveFault

@@ -31,10 +31,14 @@ cell_of side p = side * residue side p.q + residue side p.r
 
 -- two occupied places of one hive differ by at most 27 in each coordinate
 abbrev pub SpanLaw : Type 0
-SpanLaw = (b : Stacks) → IsBoard b → OneHive b → (p q : Place) → IsTrue (is_occupied b p) → IsTrue (is_occupied b q)
+SpanLaw =
+    (b : Stacks) → IsBoard b → OneHive b → (p q : Place) → IsTrue (is_occupied b p)
+    → IsTrue (is_occupied b q)
     → (q.q ≤ℤ (p.q +ℤ pos 27)) × (q.r ≤ℤ (p.r +ℤ pos 27))
 
 -- on a grid of side 32 or more the places close to one hive have cells of their own
 abbrev pub ResidueLaw : Type 0
-ResidueLaw = (side : ℕ) → 32 ≤ side → (b : Stacks) → IsBoard b → OneHive b → (p q : Place) → IsClose b p → IsClose b q
+ResidueLaw =
+    (side : ℕ) → 32 ≤ side → (b : Stacks) → IsBoard b → OneHive b → (p q : Place) → IsClose b p
+    → IsClose b q
     → cell_of side p ≡ cell_of side q → p ≡ q

@@ -25,28 +25,38 @@ PlacesOrPasses p (To x q) = Placement p x q
 
 -- while the mover's queen is in hand, no piece is moved or thrown
 abbrev pub QueensComeFirst : Type 0
-QueensComeFirst = (p : Position) → IsBoard p.board → spot_of p.board (queen_of p.side) ≡ None → (m : Move) → IsOn (moves p) m → PlacesOrPasses p m
+QueensComeFirst =
+    (p : Position) → IsBoard p.board → spot_of p.board (queen_of p.side) ≡ None → (m : Move)
+    → IsOn (moves p) m → PlacesOrPasses p m
 
 -- the place is the origin, occupied, or a neighbour of an occupied place
 abbrev pub IsBesideOrOrigin : Stacks → Place → Type 0
-IsBesideOrOrigin b q = (q ≡ origin) ⊎ ((p : Place) × IsTrue (is_occupied b p) × ((q ≡ p) ⊎ AreNeighbours p q))
+IsBesideOrOrigin b q =
+    (q ≡ origin) ⊎ ((p : Place) × IsTrue (is_occupied b p) × ((q ≡ p) ⊎ AreNeighbours p q))
 
 -- the near places are these and no others
 abbrev pub NearPlacesAreBeside : Type 0
-NearPlacesAreBeside = (b : Stacks) → IsBoard b → (q : Place) → IsOn (near b) q ↔ IsBesideOrOrigin b q
+NearPlacesAreBeside =
+    (b : Stacks) → IsBoard b → (q : Place) → IsOn (near b) q ↔ IsBesideOrOrigin b q
 
 -- a game has not started exactly where no ply was played
 abbrev pub NothingPlayedIsNotStarted : Type 0
-NothingPlayedIsNotStarted = (t : GameType) (ms : List Move) → (outcome t ms ≡ NotStarted) ↔ (ms ≡ [])
+NothingPlayedIsNotStarted =
+    (t : GameType) (ms : List Move) → (outcome t ms ≡ NotStarted) ↔ (ms ≡ [])
 
 -- it is in progress exactly where some ply was played and no queen is surrounded
 abbrev pub PlayGoesOn : Type 0
-PlayGoesOn = (t : GameType) (ms : List Move) → (outcome t ms ≡ InProgress) ↔ ((ms ≢ []) × (¬ IsOver (replay (opening t) ms)))
+PlayGoesOn =
+    (t : GameType) (ms : List Move) → (outcome t ms ≡ InProgress)
+    ↔ ((ms ≢ []) × (¬ IsOver (replay (opening t) ms)))
 
 -- the pieces of a game type, in their order
 abbrev pub pieces_of : GameType → List ℕ
 pieces_of t = filter (λ x. has_kind t (kind_of x)) all_pieces
 
--- the weights of a side's free pieces, which the evaluation counts, are those of its free pieces of the game type
+-- the weights of a side's free pieces, which the evaluation counts, are those of its free pieces of
+-- the game type
 abbrev pub TypesAreCounted : Type 0
-TypesAreCounted = (p : Position) (c : Colour) → IsSound p → free_weight p.board p.rest c ≡ sum_by (counted p.board p.rest c) (pieces_of p.game_type)
+TypesAreCounted =
+    (p : Position) (c : Colour) → IsSound p
+    → free_weight p.board p.rest c ≡ sum_by (counted p.board p.rest c) (pieces_of p.game_type)

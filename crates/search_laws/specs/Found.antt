@@ -2,8 +2,8 @@
 use Rattle.std.specs.Prelude.{◌≡◌, ℤ, pos, negsuc, ◌<ℤ◌, ◌≤ℤ◌}
 use Rattle.search_laws.specs.declared.window.Window.{Window}
 
--- the answer to a search for this value in this window: the value itself inside, an upper bound at or below alpha, a lower
--- bound at or above beta
+-- the answer to a search for this value in this window: the value itself inside, an upper bound at
+-- or below alpha, a lower bound at or above beta
 pub record IsFound (value : ℤ) (window : Window) (answer : ℤ) : Type 0 where
   pub exact : window.alpha <ℤ answer → answer <ℤ window.beta → answer ≡ value
   pub upper : answer ≤ℤ window.alpha → value ≤ℤ answer

@@ -16,28 +16,40 @@ pub record IsSmall (n : ℕ) (z : ℤ) : Type 0 where
 
 -- no evaluation is larger in size than 1000, and no value than 1000000 and the depth
 abbrev pub ValuesAreSmall : Type 0
-ValuesAreSmall = (p : Position) → IsSmall 1000 (eval p) × ((d : ℕ) → IsSmall (1000000 + d) (value p d))
+ValuesAreSmall =
+    (p : Position) → IsSmall 1000 (eval p) × ((d : ℕ) → IsSmall (1000000 + d) (value p d))
 
 -- where the game is over, a position is worth what its end is worth
 abbrev pub EndsAreWorth : Type 0
-EndsAreWorth = (p : Position) (d : ℕ) (v : ℤ) → end_value (state p) p.side d ≡ Some v → value p d ≡ v
+EndsAreWorth =
+    (p : Position) (d : ℕ) (v : ℤ) → end_value (state p) p.side d ≡ Some v → value p d ≡ v
 
--- else it is worth its evaluation where no ply is left to search, and the greatest worth of its moves where one is
+-- else it is worth its evaluation where no ply is left to search, and the greatest worth of its
+-- moves where one is
 abbrev pub ValuesGoDeeper : Type 0
-ValuesGoDeeper = (p : Position) → is_over p ≡ false → (value p 0 ≡ eval p) × ((d : ℕ) → value p (suc d) ≡ greatest (replies p d))
+ValuesGoDeeper =
+    (p : Position) → is_over p ≡ false → (value p 0 ≡ eval p)
+    × ((d : ℕ) → value p (suc d) ≡ greatest (replies p d))
 
 -- the lists of n + 1 legal moves are those of n moves after each legal move
 abbrev pub LinesGoDeeper : Type 0
-LinesGoDeeper = (p : Position) → (lines p 0 ≡ 1) × ((n : ℕ) → lines p (suc n) ≡ sum_by (λ m. lines (after p m) n) (moves p))
+LinesGoDeeper =
+    (p : Position) → (lines p 0 ≡ 1) × ((n : ℕ)
+    → lines p (suc n) ≡ sum_by (λ m. lines (after p m) n) (moves p))
 
 -- and those of 1 to n + 1 moves are each legal move alone, and with those of 1 to n moves after it
 abbrev pub NodesGoDeeper : Type 0
-NodesGoDeeper = (p : Position) (n : ℕ) → nodes p (suc n) ≡ sum_by (λ m. 1 + nodes (after p m) n) (moves p)
+NodesGoDeeper =
+    (p : Position) (n : ℕ) → nodes p (suc n) ≡ sum_by (λ m. 1 + nodes (after p m) n) (moves p)
 
 -- a narrower window costs no more
 abbrev pub CostFalls : Type 0
-CostFalls = (p : Position) (d : ℕ) (a a' b b' : ℤ) → a ≤ℤ a' → b' ≤ℤ b → cost p d a' b' ≤ cost p d a b
+CostFalls =
+    (p : Position) (d : ℕ) (a a' b b' : ℤ) → a ≤ℤ a' → b' ≤ℤ b → cost p d a' b' ≤ cost p d a b
 
--- where the game is not over and a ply is left to search, there is a best move, and it is the first of those that are worth most
+-- where the game is not over and a ply is left to search, there is a best move, and it is the first
+-- of those that are worth most
 abbrev pub BestIsFirstGreatest : Type 0
-BestIsFirstGreatest = (p : Position) (d : ℕ) → IsInner p d → ((m : Move) × (best p d ≡ Some m)) × ((m : Move) → (best p d ≡ Some m) ↔ IsBest p d m)
+BestIsFirstGreatest =
+    (p : Position) (d : ℕ) → IsInner p d
+    → ((m : Move) × (best p d ≡ Some m)) × ((m : Move) → (best p d ≡ Some m) ↔ IsBest p d m)

@@ -1,4 +1,5 @@
--- What a walk over the legal moves of a game asks of the game and of its stack of moves, and how it leaves them.
+-- What a walk over the legal moves of a game asks of the game and of its stack of moves, and how it
+-- leaves them.
 use Rattle.std.specs.Prelude.{◌≡◌, ℕ, ◌-◌, ◌<◌, ◌≤◌, length}
 use Rattle.hive_model.specs.declared.places.Move.{Move}
 use Rattle.hive_model.specs.Lists.{IsOn}
@@ -13,7 +14,8 @@ pub record HasRoom (depth : ℕ) (game : Course) (stack : Levels) : Type 0 where
   pub spare : depth ≤ game.spare
   pub free : depth ≤ stack.free
 
--- the game goes on and a ply is left to search; its legal moves stand on this level, and there is room for the plies below it
+-- the game goes on and a ply is left to search; its legal moves stand on this level, and there is
+-- room for the plies below it
 pub record IsNode (depth level : ℕ) (game : Course) (stack : Levels) : Type 0 where
   pub inner : IsInner (position game) depth
   pub deep : depth ≤ 64

@@ -31,7 +31,8 @@ pub record IsTime (rest : List ℕ) (budget : ℕ) : Type 0 where
 abbrev pub IsPlies : List ℕ → ℕ → Type 0
 IsPlies rest plies = ((rest ≡ []) × (plies ≡ 1)) ⊎ IsNumberText rest 1 999999999 plies
 
--- `get`, spaces, and a name: one word, of which `name` is the part of the line; the rest stands behind so many bytes of the line
+-- `get`, spaces, and a name: one word, of which `name` is the part of the line; the rest stands
+-- behind so many bytes of the line
 pub record IsGet (line : List ℕ) (at : ℕ) (rest : List ℕ) (name : Span) : Type 0 where
   pub split : Split rest
   pub word : split.word ≡ codes "get"
@@ -53,7 +54,8 @@ pub record IsSet (line : List ℕ) (at : ℕ) (rest : List ℕ) (name value : Sp
 abbrev pub Means : (line : List ℕ) → Split line → Command → Type 0
 Means line s Info = IsAlone s (codes "info")
 Means line s (NewGame text) = (s.word ≡ codes "newgame") × IsPart line text (rest_at s) s.rest
-Means line s (Play text) = (s.word ≡ codes "play") × (s.rest ≢ []) × IsPart line text (rest_at s) s.rest
+Means line s (Play text) =
+    (s.word ≡ codes "play") × (s.rest ≢ []) × IsPart line text (rest_at s) s.rest
 Means line s Pass = IsAlone s (codes "pass")
 Means line s ValidMoves = IsAlone s (codes "validmoves")
 Means line s (BestDepth depth) = (s.word ≡ codes "bestmove") × IsDepth s.rest depth
@@ -61,7 +63,8 @@ Means line s (BestTime budget) = (s.word ≡ codes "bestmove") × IsTime s.rest 
 Means line s (Undo plies) = (s.word ≡ codes "undo") × IsPlies s.rest plies
 Means line s Options = IsAlone s (codes "options")
 Means line s (OptionGet name) = (s.word ≡ codes "options") × IsGet line (rest_at s) s.rest name
-Means line s (OptionSet name value) = (s.word ≡ codes "options") × IsSet line (rest_at s) s.rest name value
+Means line s (OptionSet name value) =
+    (s.word ≡ codes "options") × IsSet line (rest_at s) s.rest name value
 Means line s Exit = IsAlone s (codes "exit")
 
 -- the line is this command

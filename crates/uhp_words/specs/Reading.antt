@@ -51,7 +51,8 @@ get_of text name = if is_word name then Some (OptionGet (span_of text name name)
 abbrev pub set_of : List ℕ → List ℕ → Option Command
 set_of text both =
     if is_word (rest_of both)
-    then Some (OptionSet (span_of text both (first_word both)) (span_of text (rest_of both) (rest_of both))) else None
+    then Some (OptionSet (span_of text both (first_word both))
+    (span_of text (rest_of both) (rest_of both))) else None
 
 abbrev pub option_of : List ℕ → List ℕ → List ℕ → Option Command
 option_of text word more =

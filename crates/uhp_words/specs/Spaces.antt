@@ -16,7 +16,8 @@ pub record IsBare (text : List ℕ) : Type 0 where
   pub begins : (back : List ℕ) → text ≢ 32 ∷ back
   pub ends : (front : List ℕ) → text ≢ front ++ 32 ∷ []
 
--- A rest stands behind a word and at least one space. Where there is no rest, the spaces behind the word are those at the end.
+-- A rest stands behind a word and at least one space. Where there is no rest, the spaces behind the
+-- word are those at the end.
 abbrev pub IsApart : List ℕ → ℕ → List ℕ → Type 0
 IsApart word between [] = between ≡ 0
 IsApart word between (b ∷ bs) = (word ≢ []) × (0 < between)

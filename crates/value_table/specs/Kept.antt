@@ -22,11 +22,12 @@ of_depth depth (Some e) = if nat_eq e.depth depth then Some e else None
 abbrev pub KeepSame : TableParts → TableParts → Type 0
 KeepSame old new = (k : KeyParts) → kept new k ≡ kept old k
 
--- The entry is kept for its key, in place of another one. Of the other keys at most one lost its entry, and this only where the
--- key is new and the table was full.
+-- The entry is kept for its key, in place of another one. Of the other keys at most one lost its
+-- entry, and this only where the key is new and the table was full.
 pub record HasPut (old new : TableParts) (e : EntryParts) : Type 0 where
   pub here : kept new e.key ≡ Some e
   pub lost : Option KeyParts
-  pub others : (k : KeyParts) → k ≢ e.key → (kept new k ≡ kept old k) ⊎ ((kept new k ≡ None) × (lost ≡ Some k))
+  pub others : (k : KeyParts) → k ≢ e.key
+      → (kept new k ≡ kept old k) ⊎ ((kept new k ≡ None) × (lost ≡ Some k))
   pub full : IsSome lost → (kept old e.key ≡ None) × (length old.entries ≡ old.room)
   pub room : new.room ≡ old.room
