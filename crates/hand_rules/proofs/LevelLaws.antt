@@ -7,7 +7,7 @@ use Rattle.hive_model.specs.declared.places.Move.{Move}
 use Rattle.hive_model.specs.declared.places.Move.TheVariants.{To}
 use Rattle.hive_model.specs.Places.{origin}
 use Rattle.hive_model.specs.Stack.{Levels, with_level, without_level, with_move_on_top}
-use Rattle.hand_rules.specs.Bringing.{last_level}
+use Rattle.hand_rules.specs.Listing.{last_level}
 
 last-with : (s : Levels) (ms : List Move) → last_level (with_level s ms) ≡ ms
 last-with s ms = let e : length s.lists ≡ length (s.lists ++ ms ∷ []) - 1 = (let n = length-append s.lists (ms ∷ []) in omega (arith, n)) in get_or_push s.lists ms [] (length (s.lists ++ ms ∷ []) - 1) e

@@ -1,4 +1,5 @@
 pub mod KindLaws
 pub mod OpenLaws
 pub mod LevelLaws
+pub mod PairLaws
 pub mod BringLaws

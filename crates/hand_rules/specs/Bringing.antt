@@ -1,5 +1,5 @@
 -- Which pieces a side may bring into play, and the placements as moves.
-use Rattle.std.specs.Prelude.{◌≡◌, ◌≢◌, ℕ, ◌-◌, ◌≤◌, List, length, None, IsTrue}
+use Rattle.std.specs.Prelude.{◌≡◌, ◌≢◌, ℕ, ◌≤◌, None, IsTrue}
 use Rattle.hive_model.specs.declared.pieces.Colour.{Colour}
 use Rattle.hive_model.specs.declared.pieces.GameType.{GameType}
 use Rattle.hive_model.specs.declared.pieces.Kind.TheVariants.{Queen}
@@ -9,7 +9,6 @@ use Rattle.hive_model.specs.Pieces.{kind_of, colour_of, is_in_set, queen_of}
 use Rattle.hive_model.specs.Boards.{Stacks, spot_of}
 use Rattle.hive_model.specs.Positions.{Position}
 use Rattle.hive_model.specs.Placement.{IsLeastInHand, Placement}
-use Rattle.hive_model.specs.Stack.{Levels, level_of}
 
 -- The piece is the side's, and the least of its kind in hand. On its first turn a side brings no queen; on its fourth or a
 -- later turn, while its queen is in hand, nothing else.
@@ -32,7 +31,3 @@ position_of t b c turn = record { game_type = t; board = b; side = c; turn = tur
 abbrev pub IsPlacementMove : Position → Move → Type 0
 IsPlacementMove p Pass = ⊥
 IsPlacementMove p (To x q) = Placement p x q
-
--- the moves of the last level
-abbrev pub last_level : Levels → List Move
-last_level s = level_of s (length s.lists - 1)

@@ -1,3 +1,4 @@
 pub mod Hands
 pub mod Open
+pub mod Listing
 pub mod Bringing

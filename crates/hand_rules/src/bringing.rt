@@ -2,19 +2,11 @@
 
 ghost use Rattle.std.specs.Prelude.{◌≡◌, ◌↔◌, ◌+◌, ◌≤◌, [], ◌++◌, map, length, IsTrue};
 ghost use Rattle.hive_model.specs.declared.places.Place.{Place};
-ghost use Rattle.hive_model.specs.declared.places.Move.{Move};
 ghost use Rattle.hive_model.specs.declared.places.Move.TheVariants.{To};
-ghost use Rattle.hive_model.specs.Lists.{IsOn, Rises};
 ghost use Rattle.hive_model.specs.Placement.{IsLeastInHand};
-ghost use Rattle.hive_model.specs.Legal.{move_cmp};
 ghost use Rattle.hive_model.specs.Stack.{without_level};
-ghost use Rattle.hand_rules.specs.Bringing.{
-  MayBring,
-  CanBring,
-  IsPlacementMove,
-  last_level,
-  position_of,
-};
+ghost use Rattle.hand_rules.specs.Listing.{last_level, ListsAll};
+ghost use Rattle.hand_rules.specs.Bringing.{MayBring, CanBring, IsPlacementMove, position_of};
 
 use crate::hands::next_of;
 use crate::open_places::placement_places;
@@ -91,11 +83,8 @@ pub fn placements<B: Board>(
 )
     requires level { 1 ≤ length out.old.lists }
     requires empty { last_level out.old ≡ [] }
-    ensures listed { (m : Move) → IsOn (last_level out.new) m
-        ↔ IsPlacementMove (position_of game_type (B.stacks board.now) colour turn) m }
-    ensures order { Rises move_cmp (last_level out.new) }
-    ensures levels { length out.new.lists ≡ length out.old.lists }
-    ensures others { without_level out.new ≡ without_level out.old }
+    ensures { ListsAll (IsPlacementMove (position_of game_type (B.stacks board.now) colour turn))
+        out.old out.new }
 {
     if !can_bring(game_type, board, colour, turn) {
         return;

@@ -10,11 +10,12 @@ use Rattle.hive_model.specs.Lists.{IsOn}
 use Rattle.hive_model.specs.PlaceLists.{AreAll}
 use Rattle.hive_model.specs.Boards.{Stacks, spot_of, IsBoard}
 use Rattle.hive_model.specs.Positions.{Position}
-use Rattle.hive_model.specs.Placement.{MayPlace, Placement}
+use Rattle.hive_model.specs.Placement.{MayPlace}
 use Rattle.hive_model.specs.Legal.{IsOver, LegalPair, is_over, moves}
 use Rattle.hive_model.proofs.OverLaws.{from_over}
 use Rattle.hive_model.proofs.MoveLaws.{moves_legal, legal_moves}
 use Rattle.hand_rules.specs.Bringing.{MayBring}
+use Rattle.hand_rules.proofs.BringLaws.{bring_from, from_bring}
 use Rattle.legal_moves.specs.Going.{position_at, IsMoved}
 use Rattle.legal_moves.specs.Listing.{HasPair}
 use Rattle.legal_moves.proofs.Walking.{no_spot}
@@ -22,12 +23,6 @@ use Rattle.legal_moves.proofs.Walking.{no_spot}
 module _ (t : GameType) (b : Stacks) (c : Colour) (turn : ℕ) (rest : Option ℕ) (x : ℕ) (q : Place) where
   abbrev here : Position
   here = position_at t b c turn rest
-
-  bring_of : Placement here x q → MayBring t b c turn x
-  bring_of h = record { is_piece = h.is_piece; own = h.own; next = h.next; no_first_queen = h.no_first_queen; queen_by_fourth = h.queen_by_fourth }
-
-  placement_of : MayBring t b c turn x → MayPlace b c q → Placement here x q
-  placement_of h place = record { is_piece = h.is_piece; own = h.own; next = h.next; place = place; no_first_queen = h.no_first_queen; queen_by_fourth = h.queen_by_fourth }
 
   not_moved : MayBring t b c turn x → ¬ IsMoved here x q
   not_moved may (queen, moved) = elim moved [
@@ -38,7 +33,7 @@ module _ (t : GameType) (b : Stacks) (c : Colour) (turn : ℕ) (rest : Option �
   -- a piece that may be brought goes where its side may place, and nowhere else
   pub brought_pair : MayBring t b c turn x → MayPlace b c q ↔ LegalPair here x q
   brought_pair may = (
-    λ place. inl (placement_of may place),
+    λ place. inl (from_bring here x q may place),
     λ h. elim h [ inl placed ↦ placed.place | inr moved ↦ absurd (not_moved may moved) ],
   )
 
@@ -46,7 +41,7 @@ module _ (t : GameType) (b : Stacks) (c : Colour) (turn : ℕ) (rest : Option �
   pub moved_pair : ¬ MayBring t b c turn x → IsMoved here x q ↔ LegalPair here x q
   moved_pair none = (
     λ moved. inr moved,
-    λ h. elim h [ inl placed ↦ absurd (none (bring_of placed)) | inr moved ↦ moved ],
+    λ h. elim h [ inl placed ↦ absurd (none (bring_from here x q placed).0) | inr moved ↦ moved ],
   )
 
 -- The list of legal moves, while the game is not over

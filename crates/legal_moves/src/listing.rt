@@ -1,16 +1,13 @@
 //! The list of legal moves.
 
-ghost use Rattle.std.specs.Prelude.{◌≡◌, ◌↔◌, ◌+◌, ◌≤◌, [], length};
-ghost use Rattle.hive_model.specs.declared.places.Move.{Move};
-ghost use Rattle.hive_model.specs.Lists.{IsOn, Rises};
+ghost use Rattle.std.specs.Prelude.{◌≡◌, ◌+◌, ◌≤◌, [], length};
 ghost use Rattle.hive_model.specs.PlaceLists.{AreAll};
 ghost use Rattle.hive_model.specs.Boards.{IsBoard};
 ghost use Rattle.hive_model.specs.Placement.{MayPlace};
-ghost use Rattle.hive_model.specs.Legal.{is_over, moves, move_cmp};
-ghost use Rattle.hive_model.specs.Stack.{with_level, without_level};
-ghost use Rattle.hand_rules.specs.Bringing.{last_level};
+ghost use Rattle.hive_model.specs.Legal.{is_over, moves, LegalPair};
+ghost use Rattle.hive_model.specs.Stack.{with_level};
+ghost use Rattle.hand_rules.specs.Listing.{last_level, IsPairBelow, ListsAll, GainsPlaces};
 ghost use Rattle.legal_moves.specs.Going.{position_at, position_of};
-ghost use Rattle.legal_moves.specs.Listing.{IsPairBelow, GainsPairs};
 
 use crate::throws::moved_places;
 use crate::turns::Turn;
@@ -33,7 +30,8 @@ fn push_piece<B: Board, C: Cuts>(
     requires places { AreAll (MayPlace (B.stacks board.now) turn.now.side) open_places.now.items }
     requires level { 1 ≤ length out.old.lists }
     requires room { length (last_level out.old) + 196 ≤ 5488 }
-    ensures { GainsPairs (position_of (B.stacks board.now) turn.now) piece out.old out.new }
+    ensures { GainsPlaces (LegalPair (position_of (B.stacks board.now) turn.now) piece) piece
+        out.old out.new }
 {
     if may_bring(turn.game_type, board, turn.side, turn.number, piece) {
         push_each(piece, open_places.as_slice(), out);
@@ -51,11 +49,8 @@ fn push_pairs<B: Board, C: Cuts>(board: &B, cuts: &C, turn: &Turn, out: &mut Mov
     requires cuts { C.board cuts.now ≡ B.stacks board.now }
     requires level { 1 ≤ length out.old.lists }
     requires empty { last_level out.old ≡ [] }
-    ensures listed { (m : Move) → IsOn (last_level out.new) m
-        ↔ IsPairBelow (position_of (B.stacks board.now) turn.now) 28 m }
-    ensures order { Rises move_cmp (last_level out.new) }
-    ensures levels { length out.new.lists ≡ length out.old.lists }
-    ensures others { without_level out.new ≡ without_level out.old }
+    ensures { ListsAll (IsPairBelow (LegalPair (position_of (B.stacks board.now) turn.now)) 28)
+        out.old out.new }
 {
     let mut open_places = PlaceList::new();
     placement_places(board, turn.side, &mut open_places);

@@ -1,18 +1,9 @@
-use Rattle.std.proofs.Common.{◌≡◌, ◌*◌, ◌≤◌, length}
-use Rattle.hive_model.specs.declared.places.Move.{Move}
-use Rattle.hive_model.specs.Lists.{IsOn, Rises}
-use Rattle.hive_model.specs.Legal.{move_cmp}
-use Rattle.hive_model.specs.Stack.{without_level}
-use Rattle.hand_rules.specs.Bringing.{last_level}
-use Rattle.hand_rules.proofs.BringLaws.{IsBrought}
+use Rattle.hive_model.specs.Placement.{Placement}
+use Rattle.hand_rules.specs.Listing.{ListsBelow}
+use Rattle.hand_rules.specs.Bringing.{position_of}
 use Rattle.hand_rules.proofs.bringing.placements.Given as goal
 
 abbrev pub invariant-loop-x : goal.invariant-loop-x
 invariant-loop-x g l = record {
-  levels : length l.out.lists ≡ length l.fn.out.lists;
-  others : without_level l.out ≡ without_level l.fn.out;
-  room : length (last_level l.out) ≤ 196 * l.x;
-  order : Rises move_cmp (last_level l.out);
-  brought : (m : Move) → IsOn (last_level l.out) m → IsBrought l.game_type (g.B.Board.stacks l.board) l.colour l.turn l.x m;
-  listed : (m : Move) → IsBrought l.game_type (g.B.Board.stacks l.board) l.colour l.turn l.x m → IsOn (last_level l.out) m;
+  below : ListsBelow (Placement (position_of l.game_type (g.B.Board.stacks l.board) l.colour l.turn)) l.x l.fn.out l.out;
 }

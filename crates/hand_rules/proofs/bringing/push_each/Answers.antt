@@ -1,5 +1,5 @@
 use Rattle.std.proofs.Common.{◌≤◌, length, arith}
-use Rattle.hand_rules.specs.Bringing.{last_level}
+use Rattle.hand_rules.specs.Listing.{last_level}
 use Rattle.hand_rules.proofs.LevelLaws.{moves_length, one_more_move, same_levels, same_others}
 use Rattle.hand_rules.proofs.bringing.push_each.Goals as goal
 

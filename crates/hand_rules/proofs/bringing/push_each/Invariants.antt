@@ -1,7 +1,7 @@
 use Rattle.std.proofs.Common.{◌≡◌, ◌++◌, map, take, length}
 use Rattle.hive_model.specs.declared.places.Move.TheVariants.{To}
 use Rattle.hive_model.specs.Stack.{without_level}
-use Rattle.hand_rules.specs.Bringing.{last_level}
+use Rattle.hand_rules.specs.Listing.{last_level}
 use Rattle.hand_rules.proofs.bringing.push_each.Given as goal
 
 abbrev pub invariant-loop-place : goal.invariant-loop-place

@@ -16,7 +16,7 @@ returns-then-may_bring g c =
     let same = c.as_slice.ensures.value in
     record {
       places = c.as_slice.result.now;
-      legal = subst (AreAll (LegalPair (position_of b t) c.args.piece)) (sym same)
+      all = subst (AreAll (LegalPair (position_of b t) c.args.piece)) (sym same)
           (all_same (MayPlace b t.side) (LegalPair (position_of b t) c.args.piece) c.args.open_places.now.items
           (λ q. brought_pair t.game_type b t.side t.number t.rest c.args.piece q may) c.requires.places);
       few = c.as_slice.ensures.fits;
@@ -33,7 +33,7 @@ returns g c =
     let same = c.as_slice-2.ensures.value in
     record {
       places = c.as_slice-2.result.now;
-      legal = subst (AreAll (LegalPair (position_of b t) c.args.piece)) (sym same)
+      all = subst (AreAll (LegalPair (position_of b t) c.args.piece)) (sym same)
           (all_same (IsMoved (position_of b t) c.args.piece) (LegalPair (position_of b t) c.args.piece) c.moved_places.new.out.items
           (λ q. moved_pair t.game_type b t.side t.number t.rest c.args.piece q none) c.moved_places.ensures);
       few = c.as_slice-2.ensures.fits;
