@@ -5,3 +5,4 @@ pub mod KeeperLemmas
 pub mod TakenLemmas
 pub mod BoardLaws
 pub mod UpdateLaws
+pub mod LateLaws

@@ -1,10 +1,10 @@
 -- What is kept for each occupied place, what stands for a board, and what a delta holds.
-use Rattle.std.specs.Prelude.{◌≡◌, ◌≢◌, ℕ, Bool, false, not, ◌&&◌, nat_eq, List, [], ◌∷◌, map, Option, Some, None, IsTrue, ◌↔◌}
+use Rattle.std.specs.Prelude.{◌≡◌, ◌≢◌, ℕ, Bool, false, not, ◌&&◌, nat_eq, List, [], ◌∷◌, map, Option, Some, None, is_some, IsTrue, ◌↔◌, ◌⊎◌}
 use Rattle.std.specs.FinMap.Entries.{find, put as put_entry, where_key, is_sorted}
 use Rattle.hive_model.specs.declared.places.Place.{Place}
 use Rattle.hive_model.specs.Lists.{IsOn}
 use Rattle.hive_model.specs.Places.{place_cmp, is_place}
-use Rattle.hive_model.specs.Boards.{Stacks, height_at, put, IsBoard}
+use Rattle.hive_model.specs.Boards.{Stacks, height_at, is_occupied, put, IsBoard}
 use Rattle.hive_model.specs.Hive.{IsCut, is_separating}
 use Rattle.cut_keeper.specs.declared.statuses.Status.{Status}
 use Rattle.cut_keeper.specs.declared.statuses.Change.{Change}
@@ -78,3 +78,11 @@ pub record Shrunk (k : Standings) (b : Stacks) (p : Place) : Type 0 where
   pub stood : k ≡ keeper_of before
   pub piece : ℕ
   pub made : before ≡ put b piece p
+
+-- these stood for a board that is sound, and one piece was put on top of the place since, or taken from it
+abbrev pub Late : Standings → Stacks → Place → Type 0
+Late k b p = Grown k b p ⊎ Shrunk k b p
+
+-- the place has a status, and is occupied on the board
+abbrev pub Stays : Standings → Stacks → Place → Type 0
+Stays k b p = IsTrue (is_some (status_on k p)) × IsTrue (is_occupied b p)

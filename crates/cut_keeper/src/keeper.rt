@@ -17,7 +17,7 @@ ghost use Rattle.cut_keeper.specs.Updating.{Updated, TakesFew};
 
 use crate::statuses::{Delta, Status};
 use crate::store::Store;
-use crate::{adding, removing};
+use crate::updating::update;
 use hive_model::{Board, Place};
 use one_hive::Steps;
 use std::alloc::{AllocError, Global};
@@ -89,7 +89,7 @@ impl CutKeeper {
         ensures steps { TakesFew (B.stacks board.now) place (1 < height_at (B.stacks board.now) place)
             steps.old steps.new }
     {
-        adding::added(&mut self.store, board, place, steps)
+        update(&mut self.store, board, place, steps)
     }
 
     /// After a piece was taken from the place, makes a keeper that stood for the board before stand
@@ -108,7 +108,7 @@ impl CutKeeper {
         ensures steps { TakesFew (B.stacks board.now) place (0 < height_at (B.stacks board.now) place)
             steps.old steps.new }
     {
-        removing::removed(&mut self.store, board, place, steps)
+        update(&mut self.store, board, place, steps)
     }
 
     /// Takes the changes of a call back: each place of the delta has its status of before. At most

@@ -8,14 +8,13 @@
 //! without a walk.
 #![tactic(auto)]
 
-mod adding;
 mod examining;
 mod keeper;
 mod kept_board;
-mod removing;
 mod rings;
 mod statuses;
 mod store;
+mod updating;
 
 pub use keeper::CutKeeper;
 pub use kept_board::KeptBoard;
