@@ -1,9 +1,8 @@
 -- What stands behind a word, and what the reading of one line answers.
-use Rattle.std.proofs.Common.{◌≡◌, ◌≢◌, ℕ, ◌+◌, Bool, true, false, List, [], ◌∷◌, ◌++◌, drop, length, refl, sym, ap, subst, arith, ◌∙◌, Option, Some, None, Bor}
-use Rattle.std.specs.Prelude.{codes, decimal, map, nat_eq, if◌then◌else◌, MatchOption, Result, Ok, Err, ℤ}
+use Rattle.std.proofs.Common.{◌≡◌, ◌≢◌, ℕ, ◌+◌, List, [], ◌∷◌, ◌++◌, drop, length, refl, sym, ap, subst, arith, ◌∙◌, Option, Some, None, Bor}
+use Rattle.std.specs.Prelude.{codes, decimal, map, MatchOption, Result, Ok, Err, ℤ}
 use Rattle.std.specs.Option.{option_map}
 use Rattle.std.specs.Fmt.{signed_decimal}
-use Rattle.std.proofs.lemmas.Bool.{eq-eqb, eqb-true}
 use Rattle.hive_model.specs.declared.pieces.GameType.{GameType}
 use Rattle.hive_model.specs.declared.places.Move.{Move}
 use Rattle.hive_model.specs.Positions.{opening}
@@ -17,6 +16,7 @@ use Rattle.std.proofs.lemmas.List.{append_assoc, drop-drop, length-append}
 use Rattle.line_feed.specs.Ahead.{ahead_of, lines_left}
 use Rattle.claim_walks.specs.Items.{IsAtEnd}
 use Rattle.game_text.specs.Turns.{behind_word}
+use Rattle.game_text.proofs.TurnLaws.{behind_is, is_behind}
 use Rattle.game_text.specs.declared.parsed.Parsed.{Parsed}
 use Rattle.certificate_text.specs.declared.head.Head.{Head}
 use Rattle.certificate_text.specs.declared.head.HeadFault.{HeadFault}
@@ -25,19 +25,6 @@ use Rattle.certificate_text.specs.Text.{HeadRead, and_then, field_in, game_in, h
 use Rattle.certificate_text.specs.Heads.{Reads, in_all}
 
 -- ---- words
-
-behind_is : (p xs : List ℕ) → behind_word p (p ++ xs) ≡ Some xs
-behind_is [] xs = refl
-behind_is (b ∷ bs) xs = ap (λ t. if t then behind_word bs (bs ++ xs) else None) (eq-eqb b b refl) ∙ behind_is bs xs
-
-is_behind : (p text xs : List ℕ) → behind_word p text ≡ Some xs → text ≡ p ++ xs
-is_behind [] text xs h = let same : text ≡ xs = cc in same
-is_behind (b ∷ bs) [] xs h = absurd (cc)
-is_behind (b ∷ bs) (x ∷ text) xs h = go (nat_eq x b) refl h (λ k. is_behind bs text xs k)
-  where
-    go : (t : Bool) → nat_eq x b ≡ t → (if t then behind_word bs text else None) ≡ Some xs → (behind_word bs text ≡ Some xs → text ≡ bs ++ xs) → x ∷ text ≡ b ∷ (bs ++ xs)
-    go true e k more = let one = eqb-true x b e in let rest = more k in λ i. one i ∷ rest i
-    go false e k more = absurd (cc)
 
 pub none-behind : (p s : List ℕ) → ((rest : List ℕ) → s ≢ p ++ rest) → behind_word p s ≡ None
 none-behind p s not = go (behind_word p s) refl
