@@ -17,7 +17,7 @@ use Rattle.claim_walks.specs.Walks.{Outcome, Step, Below, Ends}
 use Rattle.claim_walks.specs.Follows.{held, Ending, Refused as RefusedFor, BadItem, Meets, Follows}
 use Rattle.claim_walks.specs.Parts.{IsPart, IsFoundBy, EndsHere, Finds, ending_of}
 use Rattle.claim_walks.specs.Answers.{ending}
-use Rattle.claim_walks.specs.Taking.{Moment, Taking, GoesOn}
+use Rattle.claim_walks.specs.Taking.{Moment, Taking, taking_parts}
 use Rattle.claim_walks.proofs.NodeLaws.{ends-here}
 use Rattle.claim_walks.proofs.ItemLaws.{refuses}
 use Rattle.strategy_check.specs.declared.answers.Why.{Why}
@@ -36,7 +36,7 @@ use Rattle.citing_text.specs.declared.shortening.ShortWalk.{ShortWalk}
 use Rattle.citing_text.specs.TokenText.{cite_line, token_lines}
 use Rattle.citing_text.specs.Drafts.{with_index, with_cite}
 use Rattle.citing_text.specs.Shortening.{ShortSeen, short_seen, draft_of, short_sight, short_ending}
-use Rattle.citing_text.specs.ShortTaking.{ShortStopsAt, of_short_walk, short_stop_ending, of_passed}
+use Rattle.citing_text.specs.ShortTaking.{of_passed, of_short_stop, of_short_walk, short_stop_ending}
 use Rattle.citing_text.proofs.TokenTextLaws.{lines-more}
 
 -- ---- endings
@@ -52,7 +52,7 @@ meets-is o w walked n is h = subst (λ (e : Ending Why). Meets short_sight o e n
 
 module _ {I : Type 0} (at : ShortWalk I → Moment ℕ) where
   abbrev pub IsTold : Walked (Option (Stop Why)) → ShortWalk I → ShortWalk I → Type 0
-  IsTold = IsPart (λ a b. GoesOn index_faults (at a) (at b)) (λ stop a b. ShortStopsAt stop (at a) (at b))
+  IsTold = IsPart (taking_parts index_faults of_short_stop at)
 
   part-is : (w : Walked (Option (Stop Why))) (a b : ShortWalk I) → IsTold w a b → Taking index_faults (of_short_walk w) (at a) (at b)
   part-is AllDone a b h = h
@@ -193,7 +193,7 @@ found-is p d x w r a b is h = subst (λ (u : Took (Option (Stop Why))). Finds sh
 
 module _ {I : Type 0} (at : ShortWalk I → Moment ℕ) where
   abbrev IsFound : Took (Option (Stop Why)) → ShortWalk I → ShortWalk I → Type 0
-  IsFound = IsFoundBy (λ a b. GoesOn index_faults (at a) (at b)) (λ stop a b. ShortStopsAt stop (at a) (at b))
+  IsFound = IsFoundBy (taking_parts index_faults of_short_stop at)
 
   passed : (w : Option (WalkAnswer Why)) (a b : ShortWalk I) → Taking index_faults w (at a) (at b) → IsFound (of_passed w) a b
   passed None a b h = h

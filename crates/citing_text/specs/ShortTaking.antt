@@ -2,7 +2,7 @@
 use Rattle.std.specs.Prelude.{◌≡◌, ℕ, Bool, List, [], ◌∷◌, Option, None, Some}
 use Rattle.claim_walks.specs.Follows.{Ending, Shown}
 use Rattle.claim_walks.specs.Items.{Lent}
-use Rattle.claim_walks.specs.Taking.{Moment, Taking, moment_of, of_stop}
+use Rattle.claim_walks.specs.Taking.{Moment, moment_of, of_stop}
 use Rattle.claim_walks.specs.declared.items.ItemAnswer.{ItemAnswer}
 use Rattle.claim_walks.specs.declared.answers.Halt.TheVariants.{Bad, Failed, Full}
 use Rattle.claim_walks.specs.declared.answers.Stop.{Stop}
@@ -15,7 +15,6 @@ use Rattle.claim_walks.specs.declared.walker.Walked.{Walked}
 use Rattle.claim_walks.specs.declared.walker.Walked.TheVariants.{Done as AllDone, LeafFails as ALeafFails, BadIndex as ABadIndex, Stops}
 use Rattle.strategy_check.specs.declared.answers.Why.{Why}
 use Rattle.strategy_check.specs.declared.answers.Why.TheVariants.{BadIndex, LeafFails}
-use Rattle.strategy_check.specs.Checks.{index_faults}
 use Rattle.citing_text.specs.declared.shortening.ShortWalk.{ShortWalk}
 use Rattle.citing_text.specs.Shortening.{short_ending}
 
@@ -45,10 +44,6 @@ of_passed None = TookStops None
 of_passed (Some Done) = TookShown
 of_passed (Some (Refuses why)) = TookStops (Some (StopRefuses why))
 of_passed (Some (Halts halt)) = TookStops (Some (StopHalts halt))
-
--- what is so where it is ended
-abbrev pub ShortStopsAt : Option (Stop Why) → Moment ℕ → Moment ℕ → Type 0
-ShortStopsAt stop = Taking index_faults (of_short_stop stop)
 
 pub stops-short : (stop : Option (Stop Why)) → short_stop_ending stop ≡ Shown → ⊥
 stops-short None e = cc

@@ -12,12 +12,10 @@ ghost use Rattle.strategy_check.specs.declared.answers.Why.{Why as AnyWhy};
 ghost use Rattle.lemma_list.specs.Lemmas.{server};
 ghost use Rattle.strategy_lemmas.specs.Short.{ShortSteps, short_rules};
 ghost use Rattle.claim_walks.specs.Answers.{CountsOn, EndsAs, IsOfWalk};
-ghost use Rattle.claim_walks.specs.Taking.{GoesOn, PartCauses, goes-none, goes-then};
-ghost use Rattle.claim_walks.specs.declared.answers.WalkAnswer.TheVariants.{Done};
+ghost use Rattle.claim_walks.specs.Taking.{PartCauses, taking_parts};
 ghost use Rattle.strategy_check.specs.Checks.{index_faults};
 ghost use Rattle.citing_text.specs.Shortening.{ShortSeen, short_ending, short_seen, short_sight};
 ghost use Rattle.citing_text.specs.ShortTaking.{
-  ShortStopsAt,
   of_passed,
   of_short_stop,
   of_short_walk,
@@ -123,23 +121,12 @@ impl<I: Items<Item = u32>> Walker for ShortWalk<'_, '_, I> {
 
     ghost ending = { short_stop_ending };
 
-    ghost goes = { λ a b. GoesOn index_faults
-        (short_moment I.faults I.full I.count I.lenders I.known I.met a)
-        (short_moment I.faults I.full I.count I.lenders I.known I.met b) };
-
-    ghost stops = { λ stop a b. ShortStopsAt stop
-        (short_moment I.faults I.full I.count I.lenders I.known I.met a)
-        (short_moment I.faults I.full I.count I.lenders I.known I.met b) };
+    ghost parts = { taking_parts index_faults of_short_stop
+        (short_moment I.faults I.full I.count I.lenders I.known I.met) };
 
     ghost counts = { λ s. refl };
 
     ghost ends_short = { stops-short };
-
-    ghost goes_none = { λ w. goes-none index_faults _ };
-
-    ghost goes_both = { λ a b c. goes-then index_faults (Some Done) _ _ _ };
-
-    ghost goes_then = { λ stop a b c. goes-then index_faults (of_short_stop stop) _ _ _ };
 
     fn take<G: Game>(
         &mut self,

@@ -5,7 +5,7 @@ use Rattle.claim_walks.specs.Follows.{Sight, Ending, Meets}
 use Rattle.claim_walks.specs.Parts.{IsPart, ending_of}
 use Rattle.claim_walks.specs.Items.{Told, in_front}
 use Rattle.claim_walks.specs.Answers.{Faults, ending, Answers, CountsBad}
-use Rattle.claim_walks.specs.Taking.{Moment, Taking, GoesOn, StopsAt, stop_ending, of_walk}
+use Rattle.claim_walks.specs.Taking.{Moment, Taking, GoesOn, stop_ending, of_walk, stop_parts}
 use Rattle.claim_walks.specs.declared.items.ItemAnswer.TheVariants.{End}
 use Rattle.claim_walks.specs.declared.answers.Stop.{Stop}
 use Rattle.claim_walks.specs.declared.answers.Checked.{Checked}
@@ -46,7 +46,7 @@ pub record IsInner {W : Type 0} (kinds : Faults W) (why : W) : Type 1 where
 
 module _ {A T W : Type 0} (kinds : Faults W) (leaf_fails bad_index : W) (leaf : IsInner kinds leaf_fails) (bad : IsInner kinds bad_index) (at : A → Moment T) where
   abbrev pub IsTold : Walked (Stop W) → A → A → Type 0
-  IsTold = IsPart (λ a b. GoesOn kinds (at a) (at b)) (λ stop a b. StopsAt kinds stop (at a) (at b))
+  IsTold = IsPart (stop_parts kinds at)
 
   part-is : (w : Walked (Stop W)) (a b : A) → IsTold w a b → Taking kinds (Some (of_walk leaf_fails bad_index w)) (at a) (at b)
   part-is Done a b h = h

@@ -15,7 +15,7 @@ use Rattle.claim_walks.specs.declared.walker.Walked.TheVariants.{Done, LeafFails
 use Rattle.claim_walks.specs.Limits.{Keeps, EachKeeps}
 use Rattle.claim_walks.specs.Walks.{Outcome, Left, Step, Below, Ends, Rules, go_on, walk_at, walk_step, walk, goes_below}
 use Rattle.claim_walks.specs.Follows.{held, range_of, Ending, Shown, Refused, Sight, Meets, Follows}
-use Rattle.claim_walks.specs.Parts.{EndsHere, ending_of, leaf_walked}
+use Rattle.claim_walks.specs.Parts.{EndsHere, IsPart, Parts, ending_of, leaf_walked}
 use Rattle.claim_walks.proofs.WalkLaws.{walk-inner}
 use Rattle.claim_walks.proofs.FollowLaws.{Walks, WalksAll, follows-stop, node-every, shown-every, shown-index}
 
@@ -40,6 +40,18 @@ module _ {S W T : Type 0} (R : Rules S W) (ends : T → Ending W) where
 
 pub is-done : {T : Type 0} (b : Bool) (w : Walked T) → (IsTrue b ↔ (w ≡ Done)) → b ≡ true → w ≡ Done
 is-done b w iff yes_ = iff.0 yes_
+
+-- ---- what else is so
+
+part-behind : {A T : Type 0} (parts : Parts A T) (w : Walked T) (a b c : A) → parts.goes a b → IsPart parts w b c → IsPart parts w a c
+part-behind parts Done a b c first later = parts.both a b c first later
+part-behind parts LeafFails a b c first later = parts.both a b c first later
+part-behind parts BadIndex a b c first later = parts.both a b c first later
+part-behind parts (Stops stop) a b c first later = parts.behind stop a b c first later
+
+-- a part behind one that came to its end, by the test of the code
+pub part-goes-on : {A T : Type 0} (parts : Parts A T) (test : Bool) (w x : Walked T) (a b c : A) → (IsTrue test ↔ (w ≡ Done)) → test ≡ true → IsPart parts w a b → IsPart parts x b c → IsPart parts x a c
+part-goes-on {A} {T} parts test w x a b c iff yes_ first later = part-behind parts x a b c (subst (λ (u : Walked T). IsPart parts u a b) (iff.0 yes_) first) later
 
 -- ---- what is shown
 

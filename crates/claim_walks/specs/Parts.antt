@@ -27,18 +27,31 @@ Finds {S} rules V ending p e x (Below i) before after = (s : S) → before ≡ V
 Finds rules V ending p e x Shown before after = EndsHere rules V p e x before IsShown after
 Finds rules V ending p e x (Stops stop) before after = EndsHere rules V p e x before (ending stop) after
 
+-- What else is so from before a part of a walk until after it, of the walkers A that end it for the reasons T, and how parts join.
+pub record Parts (A T : Type 0) : Type 1 where
+  -- where the walker does not end it
+  pub goes : A → A → Type 0
+  -- where it ends it for this
+  pub stops : T → A → A → Type 0
+  -- from a moment until the same
+  pub none : (w : A) → goes w w
+  -- one part behind another
+  pub both : (a b c : A) → goes a b → goes b c → goes a c
+  -- a part that it ends behind one that it does not
+  pub behind : (stop : T) (a b c : A) → goes a b → stops stop b c → stops stop a c
+
 -- what else is so of a part of a walk, by the code's answer
-abbrev pub IsPart : {A T : Type 0} → (A → A → Type 0) → (T → A → A → Type 0) → Walked T → A → A → Type 0
-IsPart goes stops Done a b = goes a b
-IsPart goes stops LeafFails a b = goes a b
-IsPart goes stops BadIndex a b = goes a b
-IsPart goes stops (WalkStops stop) a b = stops stop a b
+abbrev pub IsPart : {A T : Type 0} → Parts A T → Walked T → A → A → Type 0
+IsPart parts Done a b = parts.goes a b
+IsPart parts LeafFails a b = parts.goes a b
+IsPart parts BadIndex a b = parts.goes a b
+IsPart parts (WalkStops stop) a b = parts.stops stop a b
 
 -- the same where a token was taken
-abbrev pub IsFoundBy : {A T : Type 0} → (A → A → Type 0) → (T → A → A → Type 0) → Took T → A → A → Type 0
-IsFoundBy goes stops (Below i) a b = goes a b
-IsFoundBy goes stops Shown a b = goes a b
-IsFoundBy goes stops (Stops stop) a b = stops stop a b
+abbrev pub IsFoundBy : {A T : Type 0} → Parts A T → Took T → A → A → Type 0
+IsFoundBy parts (Below i) a b = parts.goes a b
+IsFoundBy parts Shown a b = parts.goes a b
+IsFoundBy parts (Stops stop) a b = parts.stops stop a b
 
 -- what a leaf answers
 abbrev pub leaf_walked : {T : Type 0} → Bool → Walked T
@@ -46,9 +59,9 @@ leaf_walked true = Done
 leaf_walked false = LeafFails
 
 -- the same of a whole certificate: where its move is not legal, nothing changes
-abbrev pub IsPartIf : {A T : Type 0} → (A → A → Type 0) → (T → A → A → Type 0) → Option (Walked T) → A → A → Type 0
-IsPartIf goes stops None a b = b ≡ a
-IsPartIf goes stops (Some walked) a b = IsPart goes stops walked a b
+abbrev pub IsPartIf : {A T : Type 0} → Parts A T → Option (Walked T) → A → A → Type 0
+IsPartIf parts None a b = b ≡ a
+IsPartIf parts (Some walked) a b = IsPart parts walked a b
 
 -- How the walk of a whole certificate ends, all but the test that nothing is left over: its move is not legal, or its parts end so, where
 -- what is left to it is told.

@@ -3,6 +3,7 @@ use Rattle.std.proofs.Common.{◌≡◌, ℕ, Bool, List, Option, None, Some, re
 use Rattle.std.specs.Prelude.{IfSome}
 use Rattle.claim_walks.specs.Follows.{Ending, Shown}
 use Rattle.claim_walks.specs.Items.{Lent}
+use Rattle.claim_walks.specs.Parts.{Parts}
 use Rattle.claim_walks.specs.Answers.{Faults, ReadCauses, ending, IsOfWalk, CountsOn, Causes, EndsAs}
 use Rattle.claim_walks.specs.declared.items.ItemAnswer.{ItemAnswer}
 use Rattle.claim_walks.specs.declared.answers.Halt.TheVariants.{Bad, Failed, Full}
@@ -68,12 +69,9 @@ of_walk leaf_fails bad_index LeafFails = Refuses leaf_fails
 of_walk leaf_fails bad_index BadIndex = Refuses bad_index
 of_walk leaf_fails bad_index (Stops stop) = of_stop stop
 
--- what is so where it is not ended, and where it is
+-- what is so where it is not ended
 abbrev pub GoesOn : {T W : Type 0} → Faults W → Moment T → Moment T → Type 0
 GoesOn kinds = Taking kinds (Some Done)
-
-abbrev pub StopsAt : {T W : Type 0} → Faults W → Stop W → Moment T → Moment T → Type 0
-StopsAt kinds stop = Taking kinds (Some (of_stop stop))
 
 -- ---- its laws
 
@@ -108,3 +106,17 @@ goes-then kinds answer a b c first later = record {
   met = later.met;
   legal = later.legal;
 }
+
+-- what is so of the parts of a walk, of which the functions behind the faults tell why it was ended, and the moment at which it stands
+abbrev pub taking_parts : {A T W K : Type 0} → Faults W → (K → Option (WalkAnswer W)) → (A → Moment T) → Parts A K
+taking_parts kinds answer at = record {
+  goes = λ a b. GoesOn kinds (at a) (at b);
+  stops = λ stop a b. Taking kinds (answer stop) (at a) (at b);
+  none = λ w. goes-none kinds (at w);
+  both = λ a b c. goes-then kinds (Some Done) (at a) (at b) (at c);
+  behind = λ stop a b c. goes-then kinds (answer stop) (at a) (at b) (at c);
+}
+
+-- the same of a walk that the items or a fault ends
+abbrev pub stop_parts : {A T W : Type 0} → Faults W → (A → Moment T) → Parts A (Stop W)
+stop_parts kinds = taking_parts kinds (λ stop. Some (of_stop stop))

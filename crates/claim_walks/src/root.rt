@@ -58,7 +58,7 @@ fn walk_root<G: Game, W: Walker>(
         (λ m. walk W.rules (after (position (G.course game.old)) m) (claim.now.depth - 1))
         (moves (position (G.course game.old))) place claim.now.best claim.now.value)
         (W.seen walker.old) (ending_of W.rules W.ending result) (W.seen walker.new) }
-    ensures part { IsPart W.goes W.stops result walker.old walker.new }
+    ensures part { IsPart W.parts result walker.old walker.new }
     ensures game { G.course game.new ≡ G.course game.old }
     ensures stack { stack.new ≡ stack.old }
 {
@@ -107,7 +107,7 @@ pub fn walk_certificate<G: Game, W: Walker>(
         → result ≡ None }
     ensures legal { result ≡ None
         → place_of claim.now.best (moves (position (G.course game.old))) ≡ None }
-    ensures part { IsPartIf W.goes W.stops result walker.old walker.new }
+    ensures part { IsPartIf W.parts result walker.old walker.new }
     ensures game { G.course game.new ≡ G.course game.old }
     ensures stack { stack.new ≡ stack.old }
 {

@@ -7,7 +7,7 @@ ghost use Rattle.search_laws.specs.Laws.{IsSmall};
 ghost use Rattle.claim_walks.specs.Limits.{Keeps};
 ghost use Rattle.claim_walks.specs.Walks.{Rules};
 ghost use Rattle.claim_walks.specs.Follows.{Ending, Shown, Sight, held};
-ghost use Rattle.claim_walks.specs.Parts.{Finds, IsFoundBy};
+ghost use Rattle.claim_walks.specs.Parts.{Finds, IsFoundBy, Parts};
 ghost use Rattle.claim_walks.specs.declared.limit.Limit.TheVariants.{AtLeast};
 
 use hive_model::{Game, MoveStack};
@@ -78,11 +78,8 @@ pub trait Walker {
     /// What it holds for shown is so.
     ghost is_true: { Self → Type 0 } = { λ _. ⊤ };
 
-    /// What else is so from before a part of a walk that it does not end until after it.
-    ghost goes: { Self → Self → Type 0 };
-
-    /// What else is so where it ends a part of a walk.
-    ghost stops: { Self.Stop → Self → Self → Type 0 };
+    /// What else is so from before a part of a walk until after it.
+    ghost parts: { Parts Self Self.Stop };
 
     /// Takes a token at a node whose value is to be at least `least`, with `depth` plies left. Game
     /// and stack are as before.
@@ -103,7 +100,7 @@ pub trait Walker {
         ensures true_ { is_true self.old → is_true self.new }
         ensures told { Finds rules sight ending (position (G.course game.old)) depth least result
             (seen self.old) (seen self.new) }
-        ensures part { IsFoundBy goes stops result self.old self.new }
+        ensures part { IsFoundBy parts result self.old self.new }
         ensures game { G.course game.new ≡ G.course game.old }
         ensures stack { stack.new ≡ stack.old };
 
@@ -115,21 +112,11 @@ pub trait Walker {
             → is_true self.new }
         ensures told { (s : Steps) → seen self.old ≡ sight.view s
             → seen self.new ≡ sight.view (rules.keep (position (G.course game.now)) depth least s) }
-        ensures part { goes self.old self.new };
+        ensures part { parts.goes self.old self.new };
 
     /// What is seen of a walk has the count of what was taken.
     ghost counts: { (s : Steps) → sight.place (sight.view s) ≡ held (rules.taken s) };
 
     /// A walk that it ends is not shown.
     ghost ends_short: { (stop : Self.Stop) → ending stop ≡ Shown → ⊥ };
-
-    /// From a moment until the same.
-    ghost goes_none: { (w : Self) → goes w w };
-
-    /// One part behind another.
-    ghost goes_both: { (a b c : Self) → goes a b → goes b c → goes a c };
-
-    /// A part that it ends behind one that it does not.
-    ghost goes_then: { (stop : Self.Stop) (a b c : Self) → goes a b → stops stop b c
-        → stops stop a c };
 }

@@ -72,7 +72,7 @@ pub fn walk_claim<G: Game, W: Walker>(
     ensures true_ { W.is_true walker.old → W.is_true walker.new }
     ensures told { Follows W.sight (walk W.rules (position (G.course game.old)) depth limit)
         (W.seen walker.old) (ending_of W.rules W.ending result) (W.seen walker.new) }
-    ensures part { IsPart W.goes W.stops result walker.old walker.new }
+    ensures part { IsPart W.parts result walker.old walker.new }
     ensures game { G.course game.new ≡ G.course game.old }
     ensures stack { stack.new ≡ stack.old }
 {
@@ -110,7 +110,7 @@ fn walk_every<G: Game, W: Walker>(
     ensures told { Follows W.sight
         (walk W.rules (position (G.course game.old)) depth (AtMost most))
         (W.seen walker.old) (ending_of W.rules W.ending result) (W.seen walker.new) }
-    ensures part { IsPart W.goes W.stops result walker.old walker.new }
+    ensures part { IsPart W.parts result walker.old walker.new }
     ensures game { G.course game.new ≡ G.course game.old }
     ensures stack { stack.new ≡ stack.old }
 {
@@ -145,7 +145,7 @@ fn walk_below<G: Game, W: Walker>(
     ensures told { Follows W.sight
         (goes_below W.rules (position (G.course game.old)) depth least place)
         (W.seen walker.old) (ending_of W.rules W.ending result) (W.seen walker.new) }
-    ensures part { IsPart W.goes W.stops result walker.old walker.new }
+    ensures part { IsPart W.parts result walker.old walker.new }
     ensures game { G.course game.new ≡ G.course game.old }
     ensures stack { stack.new ≡ stack.old }
 {
@@ -188,7 +188,7 @@ pub(crate) fn walk_moves<G: Game, W: Walker>(
         (walk_all (λ m. walk W.rules (after (position (G.course game.old)) m) depth limit)
         (range_of (moves (position (G.course game.old))) from to))
         (W.seen walker.old) (ending_of W.rules W.ending result) (W.seen walker.new) }
-    ensures part { IsPart W.goes W.stops result walker.old walker.new }
+    ensures part { IsPart W.parts result walker.old walker.new }
     ensures game { G.course game.new ≡ G.course game.old }
     ensures stack { stack.new ≡ stack.old }
 {
@@ -223,7 +223,7 @@ pub(crate) fn walk_child<G: Game, W: Walker>(
     ensures told { Follows W.sight
         (walk W.rules (after (position (G.course game.old)) m) depth limit)
         (W.seen walker.old) (ending_of W.rules W.ending result) (W.seen walker.new) }
-    ensures part { IsPart W.goes W.stops result walker.old walker.new }
+    ensures part { IsPart W.parts result walker.old walker.new }
     ensures game { G.course game.new ≡ G.course game.old }
     ensures stack { stack.new ≡ stack.old }
 {

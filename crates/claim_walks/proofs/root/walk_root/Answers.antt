@@ -8,7 +8,7 @@ use Rattle.search_laws.proofs.MinimaxLaws.{wider}
 use Rattle.search_laws.proofs.LoopLaws.{on-at}
 use Rattle.claim_walks.proofs.FollowLaws.{before-stops, high-stops, low-stops, all-goes, before-is, high-is, low-is, behind-is, root-shown, one-less, place-low}
 use Rattle.claim_walks.specs.Parts.{ending_of}
-use Rattle.claim_walks.proofs.NodeLaws.{not-shown, is-done, is-shown}
+use Rattle.claim_walks.proofs.NodeLaws.{not-shown, is-done, is-shown, part-goes-on}
 use Rattle.claim_walks.proofs.root.walk_root.Goals as goal
 
 pub returns-then-not-is_done-clause-told : goal.returns-then-not-is_done-clause-told
@@ -134,3 +134,17 @@ returns-clause-told g c =
     (is-shown R g.W.Walker.ending _ _ c.is_done-3.ensures c.if-not-is_done-3.false)
     (low-is R V start _ e m v _ s2 s3 y e2 (neg-is v small) c.walk_child-low.ensures.told)
     (behind-is R V start _ e k c.level_len-count.result v _ s3 s4 z (c.walk_child-low.ensures.game ∙ e2) (neg-is v small) all c.walk_moves.ensures.told)
+
+pub returns-then-not-is_done-2-clause-part : goal.returns-then-not-is_done-2-clause-part
+returns-then-not-is_done-2-clause-part g c = part-goes-on g.W.Walker.parts _ _ _ _ _ _ c.is_done.ensures c.if-not-is_done.false c.walk_moves-before.ensures.part c.walk_child-high.ensures.part
+
+pub returns-then-not-is_done-3-clause-part : goal.returns-then-not-is_done-3-clause-part
+returns-then-not-is_done-3-clause-part g c =
+    part-goes-on g.W.Walker.parts _ _ _ _ _ _ c.is_done.ensures c.if-not-is_done.false c.walk_moves-before.ensures.part
+    (part-goes-on g.W.Walker.parts _ _ _ _ _ _ c.is_done-2.ensures c.if-not-is_done-2.false c.walk_child-high.ensures.part c.walk_child-low.ensures.part)
+
+pub returns-clause-part : goal.returns-clause-part
+returns-clause-part g c =
+    part-goes-on g.W.Walker.parts _ _ _ _ _ _ c.is_done.ensures c.if-not-is_done.false c.walk_moves-before.ensures.part
+    (part-goes-on g.W.Walker.parts _ _ _ _ _ _ c.is_done-2.ensures c.if-not-is_done-2.false c.walk_child-high.ensures.part
+    (part-goes-on g.W.Walker.parts _ _ _ _ _ _ c.is_done-3.ensures c.if-not-is_done-3.false c.walk_child-low.ensures.part c.walk_moves.ensures.part))

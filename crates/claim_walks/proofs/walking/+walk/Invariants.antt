@@ -35,5 +35,5 @@ invariant-walk_moves-loop-i g l =
       shown : g.W.Walker.is_true l.fn.walker → EachKeeps p l.fn.depth l.fn.limit (range_of (moves p) l.i l.fn.to) → EachKeeps p l.fn.depth l.fn.limit (range_of (moves p) l.fn.from l.fn.to);
       told : (w : Ending g.W.Walker.Why) (n : g.W.Walker.Seen) → Follows g.W.Walker.sight (walk_all f (range_of (moves p) l.i l.fn.to)) (g.W.Walker.seen l.walker) w n
           → Follows g.W.Walker.sight (walk_all f (range_of (moves p) l.fn.from l.fn.to)) (g.W.Walker.seen l.fn.walker) w n;
-      goes : g.W.Walker.goes l.fn.walker l.walker;
+      goes : g.W.Walker.parts.goes l.fn.walker l.walker;
     }
