@@ -23,11 +23,10 @@ ghost use Rattle.book_command.specs.Reading.{
   played_by,
 };
 
-use command_runs::{NoGame, line_for};
+use command_runs::{NoGame, line_for, numbered};
 use game_text::{GameFault, played, read_game};
 use hive_model::{Game, ReplyText};
 use io_edge::Source;
-use itoa::Buffer;
 use line_feed::{LineAnswer, LineReader};
 use opening_book::Tally;
 use std::alloc::{AllocError, Global};
@@ -36,10 +35,7 @@ use std::alloc::{AllocError, Global};
 fn refusal_line(alloc: Global, number: u64) -> Result<ReplyText, AllocError>
     ensures { IfOk result (λ t. t ≡ bad_line (refusal number)) }
 {
-    let mut why = ReplyText::new(alloc);
-    let mut buffer = Buffer::new();
-    why.push_all(b"line ")?;
-    why.push_all(buffer.format(number).as_bytes())?;
+    let why = numbered(alloc, b"line ", number)?;
     line_for(alloc, b"bad ", why.items())
 }
 

@@ -29,12 +29,14 @@ use Rattle.certificate_text.specs.Text.{HeadRead, head_of, head_text, index_in}
 use Rattle.citing_text.specs.Migrating.{Shortens}
 use Rattle.text_verdicts.specs.declared.verdict.Verdict.{Verdict}
 use Rattle.text_verdicts.specs.declared.verdict.Verdict.TheVariants.{BadLine, Refused as VerdictRefused}
+use Rattle.text_verdicts.specs.declared.verdict.Unread.{Unread}
 use Rattle.text_verdicts.specs.Verdicts.{of_walk}
-use Rattle.text_verdicts.proofs.TextLaws.{if-open, verdict-is}
+use Rattle.text_verdicts.specs.Reading.{Judges, of_fault}
+use Rattle.text_verdicts.proofs.TextLaws.{fault-judges, if-open, verdict-is}
 use Rattle.certificate_commands.specs.declared.migrating.Taken.{Taken}
 use Rattle.certificate_commands.specs.declared.migrating.Taken.TheVariants.{Written, Cut, Judged, Missed}
 use Rattle.certificate_commands.specs.Verdicts.{claimed_move, end_of, of_claim, of_items, of_lines, of_move}
-use Rattle.certificate_commands.specs.Migrating.{MigratesHead, MigratesTo, Missing, OfItems, Writes, first_verdict}
+use Rattle.certificate_commands.specs.Migrating.{MigratesHead, MigratesTo, OfItems, Writes, WritesLate, first_verdict, taken_as}
 
 pub writes-as : (v w : Verdict) (Is Also : List ℕ → Type 0) (r : Taken) (a b : AnyTold) → v ≡ w → ((text : List ℕ) → Is text → Also text) → Writes v Is r a b → Writes w Also r a b
 writes-as v w Is Also Written a b e f h = (h.0, f h.0 h.1, h.2)
@@ -109,13 +111,23 @@ illegal-judged p d m v items b legal no_ =
     let none : None ≡ place_of m (moves p) = no-place m (moves p) b legal no_ (place_of m (moves p)) refl in
     ap (of_walk 5) (certificate-none index_rules index_sight p d m v (steps items 0) none)
 
--- where there is no head
-pub fault-writes : (ls : List Line) (fault : HeadFault) (r : Taken) (a b : AnyTold) (later : ToldLines) → Missing fault r → (let h : HeadRead = Err fault in ReadsHead h (head_of 1 ls) ls later) → Writes (first_verdict ls) (MigratesTo ls) r a b
-fault-writes ls (LineFault n) r a b later e h = subst (λ (t : Taken). Writes (first_verdict ls) (MigratesTo ls) t a b) (sym e) (verdict-is 5 (head_of 1) of_claim ls (Err (LineFault n)) h)
-fault-writes ls (NoGame fault) r a b later e h = subst (λ (t : Taken). Writes (first_verdict ls) (MigratesTo ls) t a b) (sym e) (verdict-is 5 (head_of 1) of_claim ls (Err (NoGame fault)) h)
-fault-writes ls NoRead r a b later e h = subst (λ (t : Taken). Writes (first_verdict ls) (MigratesTo ls) t a b) (sym e) tt
-fault-writes ls IsFull r a b later e h = subst (λ (t : Taken). Writes (first_verdict ls) (MigratesTo ls) t a b) (sym e) tt
-fault-writes ls NoMemory r a b later e h = subst (λ (t : Taken). Writes (first_verdict ls) (MigratesTo ls) t a b) (sym e) tt
+-- where the text has no head
+judged-writes : (v : Verdict) (Is : List ℕ → Type 0) (judged : Result Verdict Unread) (a b : AnyTold) → Judges judged v → Writes v Is (taken_as judged) a b
+judged-writes v Is (Ok w) a b h = h
+judged-writes v Is (Err unread) a b h = tt
+
+pub fault-writes : (ls : List Line) (fault : HeadFault) (judged : Result Verdict Unread) (r : Taken) (a b : AnyTold) (later : ToldLines) → judged ≡ of_fault fault → r ≡ taken_as judged →
+    (let h : HeadRead = Err fault in ReadsHead h (head_of 1 ls) ls later) → Writes (first_verdict ls) (MigratesTo ls) r a b
+fault-writes ls fault judged r a b later is taken h =
+    subst (λ (t : Taken). Writes (first_verdict ls) (MigratesTo ls) t a b) (sym taken)
+    (judged-writes (first_verdict ls) (MigratesTo ls) judged a b (fault-judges 5 (head_of 1) of_claim ls fault judged later is h))
+
+pub fault-late : (fault : HeadFault) (judged : Result Verdict Unread) (r : Taken) (a b : AnyTold) → judged ≡ of_fault fault → r ≡ taken_as judged → b ≡ a → WritesLate r a b
+fault-late (LineFault n) judged r a b is taken same = subst (λ (t : Taken). WritesLate t a b) (sym (taken ∙ ap taken_as is)) same
+fault-late (NoGame fault) judged r a b is taken same = subst (λ (t : Taken). WritesLate t a b) (sym (taken ∙ ap taken_as is)) same
+fault-late NoRead judged r a b is taken same = subst (λ (t : Taken). WritesLate t a b) (sym (taken ∙ ap taken_as is)) same
+fault-late IsFull judged r a b is taken same = subst (λ (t : Taken). WritesLate t a b) (sym (taken ∙ ap taken_as is)) same
+fault-late NoMemory judged r a b is taken same = subst (λ (t : Taken). WritesLate t a b) (sym (taken ∙ ap taken_as is)) same
 
 -- the value as the code hands it on
 pub value-writes : (p : Position) (c : Course) (d : ℕ) (m : Move) (x v : ℤ) (items : List (Option ℕ)) (r : Taken) (a b : AnyTold) → x ≡ v →

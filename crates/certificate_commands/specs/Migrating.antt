@@ -10,8 +10,6 @@ use Rattle.line_feed.specs.Feed.{Reading}
 use Rattle.strategy_check.specs.Trace.{Holds}
 use Rattle.strategy_lemmas.specs.Short.{short}
 use Rattle.certificate_text.specs.declared.head.Head.{Head}
-use Rattle.certificate_text.specs.declared.head.HeadFault.{HeadFault}
-use Rattle.certificate_text.specs.declared.head.HeadFault.TheVariants.{BadLine as LineFault, BadGame as NoGame, ReadFault as NoRead, InputFull as IsFull, Memory as NoMemory}
 use Rattle.certificate_text.specs.Taken.{HasRead}
 use Rattle.certificate_text.specs.Text.{head_of, head_text, index_in}
 use Rattle.citing_text.specs.TokenText.{token_lines}
@@ -22,7 +20,7 @@ use Rattle.command_runs.specs.declared.status.Status.TheVariants.{Done, Refused,
 use Rattle.text_verdicts.specs.declared.verdict.Verdict.{Verdict}
 use Rattle.text_verdicts.specs.declared.verdict.Verdict.TheVariants.{Accepted, Refused as VerdictRefused, BadCite, BadLine, BadGame, GameOver}
 use Rattle.text_verdicts.specs.declared.verdict.Unread.{Unread}
-use Rattle.text_verdicts.specs.declared.verdict.Unread.TheVariants.{ReadFault as UnreadFault, InputFull as UnreadFull, Memory as UnreadMemory}
+use Rattle.text_verdicts.specs.declared.verdict.Unread.TheVariants.{ReadFault as UnreadFault}
 use Rattle.text_verdicts.specs.Judging.{text_verdict}
 use Rattle.text_verdicts.specs.Reading.{WasReadAs}
 use Rattle.text_verdicts.specs.Runs.{CutVerdict, Judgement, VerdictRun}
@@ -77,13 +75,10 @@ WritesLate (Judged (BadGame fault)) before after = after ≡ before
 WritesLate (Judged GameOver) before after = after ≡ before
 WritesLate (Missed unread) before after = after ≡ before
 
--- how a text is taken that has no head
-abbrev pub Missing : HeadFault → Taken → Type 0
-Missing (LineFault n) taken = taken ≡ Judged (BadLine n)
-Missing (NoGame fault) taken = taken ≡ Judged (BadGame fault)
-Missing NoRead taken = taken ≡ Missed UnreadFault
-Missing IsFull taken = taken ≡ Missed UnreadFull
-Missing NoMemory taken = taken ≡ Missed UnreadMemory
+-- how a text is taken of which this is judged before anything is written
+abbrev pub taken_as : Result Verdict Unread → Taken
+taken_as (Ok v) = Judged v
+taken_as (Err unread) = Missed unread
 
 -- the text of a head and of the tokens of these items
 abbrev pub OfItems : Position → ℕ → Move → ℤ → List (Option ℕ) → List ℕ → List ℕ → Type 0

@@ -1,8 +1,8 @@
 //! Certificates become certificates that cite.
 
-ghost use Rattle.std.specs.Prelude.{◌≡◌, ◌≢◌, ◌+◌, ◌<◌, ◌≤◌, ◌↔◌, ℕ, ℤ, List, map, Option, Some};
+ghost use Rattle.std.specs.Prelude.{◌≡◌, ◌≢◌, ◌+◌, ◌≤◌, ◌↔◌, ℕ, ℤ, List, map, Option, Some, Err};
 ghost use Rattle.io_edge.specs.Outside.{HasCause, Told as AnyTold};
-ghost use Rattle.line_feed.specs.Feed.{Reading, input_limit};
+ghost use Rattle.line_feed.specs.Feed.{Reading};
 ghost use Rattle.hive_model.specs.Lines.{lines};
 ghost use Rattle.hive_model.specs.Minimax.{IsInner};
 ghost use Rattle.hive_model.specs.Courses.{position};
@@ -10,7 +10,7 @@ ghost use Rattle.hive_model.specs.declared.places.Move.{Move as AnyMove};
 ghost use Rattle.hive_model.specs.Positions.{Position};
 ghost use Rattle.strategy_check.specs.Trace.{checked};
 ghost use Rattle.certificate_text.specs.Text.{head_text, index_in};
-ghost use Rattle.certificate_text.specs.Heads.{IsHead, fault_line};
+ghost use Rattle.certificate_text.specs.Heads.{IsHead};
 ghost use Rattle.certificate_text.specs.Taken.{HasRead, StopsAt};
 ghost use Rattle.citing_text.specs.Migrating.{
   MigrateAnswers,
@@ -27,17 +27,17 @@ ghost use Rattle.certificate_commands.specs.Migrating.{
   MigratesAhead,
   MigratesHead,
   MigratesTo,
-  Missing,
   OfItems,
   Writes,
   WritesLate,
   first_verdict,
   judged_of,
+  taken_as,
 };
 
 use crate::checking::HEAD_LINES;
 use crate::heads::citing_head;
-use certificate_text::{Head, HeadFault, LineIndices, read_head};
+use certificate_text::{Head, LineIndices, read_head};
 use citing_text::{Migrated, migrate as migrate_indices};
 use command_runs::{Status, is_over};
 use game_text::played;
@@ -47,7 +47,7 @@ use line_feed::LineReader;
 use move_text::read_move;
 use std::alloc::Global;
 use strategy_check::{Claim, Halt, Why};
-use text_verdicts::{Unread, Verdict, tell_judged};
+use text_verdicts::{Unread, Verdict, fault_verdict, tell_judged};
 
 /// How a text was taken that was to be made into one that cites.
 #[derive(Clone, Copy, Debug, PartialEq, Eq)]
@@ -226,24 +226,16 @@ fn migrate_claim<S: Source, G: Game + Drop, K: Sink>(
     migrate_text(alloc, head, reader, input, &mut game, output)
 }
 
-/// How a text was taken that has no head.
-fn taken_of_fault(fault: HeadFault) -> Taken
-    ensures told { Missing fault result }
-    ensures late { (told : AnyTold) → WritesLate result told told }
-    ensures failed { (result ≡ Taken.Missed Unread.ReadFault) ↔ (fault ≡ HeadFault.ReadFault) }
-    ensures read { (text : List ℕ) (rest : AnyTold) (reader : Reading)
-        → HasRead text rest reader (fault_line 5 fault)
-        → (fault ≡ HeadFault.ReadFault → reader.taken < input_limit)
-        → (fault ≡ HeadFault.InputFull → reader.taken ≡ input_limit)
-        → WasReadAs 5 (judged_of result) text rest }
+/// How a text was taken of which this was judged before anything was written.
+fn taken_as(judged: Result<Verdict, Unread>) -> Taken
+    ensures is { result ≡ taken_as judged }
+    ensures judged { judged_of result ≡ judged }
+    ensures missed { (result ≡ Taken.Missed Unread.ReadFault) ↔ (judged ≡ Err Unread.ReadFault) }
     ensures uncut { result ≢ Taken.Cut }
 {
-    match fault {
-        HeadFault::BadLine { line } => Taken::Judged(Verdict::BadLine { line: line as u64 }),
-        HeadFault::BadGame { fault } => Taken::Judged(Verdict::BadGame { fault }),
-        HeadFault::ReadFault => Taken::Missed(Unread::ReadFault),
-        HeadFault::InputFull => Taken::Missed(Unread::InputFull),
-        HeadFault::Memory => Taken::Missed(Unread::Memory),
+    match judged {
+        Ok(verdict) => Taken::Judged(verdict),
+        Err(unread) => Taken::Missed(unread),
     }
 }
 
@@ -260,7 +252,7 @@ fn migrate_all<S: Source, G: Game + Drop, K: Sink>(
 {
     match read_head::<G, S>(alloc, reader, input, FIRST) {
         Ok(head) => migrate_claim::<S, G, K>(alloc, &head, reader, input, output),
-        Err(fault) => taken_of_fault(fault),
+        Err(fault) => taken_as(fault_verdict(fault)),
     }
 }
 

@@ -11,5 +11,5 @@ mod status;
 pub use asking::{first_game, is_over, read_one_game};
 pub use bad::{tell_bad, tell_none};
 pub use no_game::NoGame;
-pub use reasons::{line_for, reason_of};
+pub use reasons::{line_for, numbered, reason_of};
 pub use status::Status;

@@ -17,7 +17,7 @@ fn reason_text(alloc: Global, bytes: &[u8]) -> Result<ReplyText, AllocError>
 }
 
 /// These bytes, and behind them a number.
-fn numbered(alloc: Global, bytes: &[u8], number: u32) -> Result<ReplyText, AllocError>
+pub fn numbered(alloc: Global, bytes: &[u8], number: u64) -> Result<ReplyText, AllocError>
     ensures { IfOk result (λ t. t ≡ bytes.now ++ decimal number) }
 {
     let mut text = reason_text(alloc, bytes)?;
@@ -32,10 +32,10 @@ pub fn reason_of(alloc: Global, fault: GameFault) -> Result<ReplyText, AllocErro
     ensures memory { OnOk result (fault ≢ GameFault.Memory) }
 {
     match fault {
-        GameFault::Malformed { part } => numbered(alloc, b"malformed part ", part),
+        GameFault::Malformed { part } => numbered(alloc, b"malformed part ", u64::from(part)),
         GameFault::TooLong => reason_text(alloc, b"too many plies"),
         GameFault::BadMove { number, .. } | GameFault::IllegalMove { number } => {
-            numbered(alloc, b"illegal move ", number)
+            numbered(alloc, b"illegal move ", u64::from(number))
         }
         GameFault::OtherState => reason_text(alloc, b"other state"),
         GameFault::OtherTurn => reason_text(alloc, b"other turn"),

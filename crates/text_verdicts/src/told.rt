@@ -1,15 +1,14 @@
 //! The line that tells a verdict.
 
-ghost use Rattle.std.specs.Prelude.{◌≡◌, ◌++◌, decimal, Err, IfOk};
+ghost use Rattle.std.specs.Prelude.{◌≡◌, Err, IfOk};
 ghost use Rattle.io_edge.specs.Outside.{HasCause};
 ghost use Rattle.text_verdicts.specs.Verdicts.{status_of, verdict_line, why_word};
 ghost use Rattle.text_verdicts.specs.Reading.{TellsJudged, TellsVerdict};
 
 use crate::verdict::{Unread, Verdict};
-use command_runs::{Status, line_for, reason_of};
+use command_runs::{Status, line_for, numbered, reason_of};
 use hive_model::ReplyText;
 use io_edge::{Sink, write_all};
-use itoa::Buffer;
 use std::alloc::{AllocError, Global};
 use strategy_check::Why;
 
@@ -24,17 +23,6 @@ fn why_word(why: Why) -> &'static str
         Why::TooShort => "short ",
         Why::Rest => "rest ",
     }
-}
-
-/// A word, and behind it a number.
-fn numbered(alloc: Global, word: &[u8], number: u64) -> Result<ReplyText, AllocError>
-    ensures { IfOk result (λ t. t ≡ word.now ++ decimal number) }
-{
-    let mut text = ReplyText::new(alloc);
-    let mut buffer = Buffer::new();
-    text.push_all(word)?;
-    text.push_all(buffer.format(number).as_bytes())?;
-    Ok(text)
 }
 
 /// The line that tells a verdict, its LF included.
