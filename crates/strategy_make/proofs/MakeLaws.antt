@@ -137,14 +137,14 @@ whole-is : (c : Course) (d : ℕ) (m : Move) (v : ℤ) → head c d m v ++ index
 unfolding certificate
 whole-is c d m v = refl
 
-pub head-written : (start now : Course) (d : ℕ) (m : Move) (v : ℤ) (r : Bool) (bytes : List ℕ) (a b : Told) → now ≡ start → bytes ≡ head now d m v → OnTrue r (b ≡ written_behind a bytes) →
+head-written : (start now : Course) (d : ℕ) (m : Move) (v : ℤ) (r : Bool) (bytes : List ℕ) (a b : Told) → now ≡ start → bytes ≡ head now d m v → OnTrue r (b ≡ written_behind a bytes) →
     OnFalse r ((n : ℕ) × (n < length bytes) × (b ≡ written_behind a (take n bytes))) → Wrote r (head start d m v) a b
 head-written start now d m v r bytes a b same is all part = index-written r bytes (head start d m v) a b (is ∙ ap (λ (c : Course). head c d m v) same) all part
 
-pub head-cut : (c : Course) (d : ℕ) (m : Move) (v : ℤ) (r : Bool) (a b : Told) → r ≡ false → Wrote r (head c d m v) a b → Wrote false (whole c d m v) a b
+head-cut : (c : Course) (d : ℕ) (m : Move) (v : ℤ) (r : Bool) (a b : Told) → r ≡ false → Wrote r (head c d m v) a b → Wrote false (whole c d m v) a b
 head-cut c d m v r a b cut h = wrote-as false _ _ a b (whole-is c d m v) (wrote-stop (head c d m v) _ a b (wrote-is r false _ a b cut h))
 
-pub whole-written : (start now : Course) (d : ℕ) (m : Move) (v : ℤ) (r s : Bool) (a b e : Told) → now ≡ start → r ≡ true → Wrote r (head start d m v) a b →
+whole-written : (start now : Course) (d : ℕ) (m : Move) (v : ℤ) (r s : Bool) (a b e : Told) → now ≡ start → r ≡ true → Wrote r (head start d m v) a b →
     Wrote s (index_lines (least_indices (position now) d m v)) b e → Wrote s (whole start d m v) a e
 whole-written start now d m v r s a b e same all first later =
     wrote-as s _ _ a e (whole-is start d m v) (wrote-then s (head start d m v) (index_lines (least_indices (position start) d m v)) a b e (wrote-is r true _ a b all first)
@@ -154,3 +154,15 @@ whole-written start now d m v r s a b e same all first later =
 pub part-of : (c : Course) (d : ℕ) (m : Move) (v : ℤ) (a b : Told) → best (position c) d ≡ Some m → v ≡ value (position c) d → Wrote false (whole c d m v) a b →
     Wrote false (certificate_of c d (best (position c) d)) a b
 part-of c d m v a b is worth h = wrote-as false _ _ a b (ap (whole c d m) worth ∙ ap (certificate_of c d) (sym is)) h
+
+-- where the head was cut off
+pub head-part : (start now : Course) (d : ℕ) (m : Move) (v : ℤ) (r : Bool) (bytes : List ℕ) (a b : Told) → now ≡ start → bytes ≡ head now d m v → OnTrue r (b ≡ written_behind a bytes) →
+    OnFalse r ((n : ℕ) × (n < length bytes) × (b ≡ written_behind a (take n bytes))) → best (position start) d ≡ Some m → v ≡ value (position start) d → r ≡ false → Wrote false (certificate_of start d (best (position start) d)) a b
+head-part start now d m v r bytes a b same is all part first worth cut =
+    part-of start d m v a b first worth (head-cut start d m v r a b cut (head-written start now d m v r bytes a b same is all part))
+
+-- where the head was written, and then so much of the indices
+pub both-written : (start now : Course) (d : ℕ) (m : Move) (v : ℤ) (r s : Bool) (bytes : List ℕ) (a b e : Told) → now ≡ start → bytes ≡ head now d m v → OnTrue r (b ≡ written_behind a bytes) →
+    OnFalse r ((n : ℕ) × (n < length bytes) × (b ≡ written_behind a (take n bytes))) → r ≡ true → Wrote s (index_lines (least_indices (position now) d m v)) b e → Wrote s (whole start d m v) a e
+both-written start now d m v r s bytes a b e same is all part done later =
+    whole-written start now d m v r s a b e same done (head-written start now d m v r bytes a b same is all part) later

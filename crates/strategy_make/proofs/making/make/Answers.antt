@@ -5,7 +5,7 @@ use Rattle.hive_model.specs.Games.{IsGame}
 use Rattle.hive_model.specs.Courses.{position, Course}
 use Rattle.search_laws.proofs.MinimaxLaws.{value-fits}
 use Rattle.index_writing.specs.Writing.{Wrote}
-use Rattle.strategy_make.proofs.MakeLaws.{best-on, head, head-written, head-cut, whole, whole-written, part-of}
+use Rattle.strategy_make.proofs.MakeLaws.{best-on, both-written, head-part, part-of, whole}
 use Rattle.strategy_make.proofs.making.make.Goals as goal
 
 pub head_of-requires : goal.head_of-requires
@@ -15,12 +15,8 @@ head_of-requires g c =
 
 pub returns-then-not-write_all-clause-written : goal.returns-then-not-write_all-clause-written
 returns-then-not-write_all-clause-written g c =
-    let start = g.G.Game.course c.args.game.now in
-    let m = c.best_at-best.result.best in
-    let v = c.best_at-best.result.value in
-    let first : Wrote c.write_all.result (head start c.args.depth m v) (g.K.Sink.written c.args.sink.now) (g.K.Sink.written c.write_all.new.sink) =
-    head-written start _ c.args.depth m v c.write_all.result c.items.result.now _ _ c.best_at-best.ensures.game (search rules) c.write_all.ensures.all c.write_all.ensures.part in
-    part-of start c.args.depth m v _ _ c.best_at-best.ensures.first c.best_at-best.ensures.worth (head-cut start c.args.depth m v c.write_all.result _ _ (search rules) first)
+    head-part (g.G.Game.course c.args.game.now) _ c.args.depth c.best_at-best.result.best c.best_at-best.result.value c.write_all.result c.items.result.now _ _ c.best_at-best.ensures.game (search rules)
+    c.write_all.ensures.all c.write_all.ensures.part c.best_at-best.ensures.first c.best_at-best.ensures.worth (search rules)
 
 pub write_least-requires-clause-small : goal.write_least-requires-clause-small
 write_least-requires-clause-small g c = value-fits (position (g.G.Game.course c.args.game.now)) c.args.depth c.best_at-best.result.value c.requires.deep c.best_at-best.ensures.worth
@@ -35,10 +31,8 @@ returns-then-not-write_least-clause-written g c =
     let start = g.G.Game.course c.args.game.now in
     let m = c.best_at-best.result.best in
     let v = c.best_at-best.result.value in
-    let first : Wrote c.write_all.result (head start c.args.depth m v) (g.K.Sink.written c.args.sink.now) (g.K.Sink.written c.write_all.new.sink) =
-    head-written start _ c.args.depth m v c.write_all.result c.items.result.now _ _ c.best_at-best.ensures.game (search rules) c.write_all.ensures.all c.write_all.ensures.part in
     let all : Wrote c.write_least.result (whole start c.args.depth m v) (g.K.Sink.written c.args.sink.now) (g.K.Sink.written c.write_least.new.sink) =
-    whole-written start _ c.args.depth m v c.write_all.result c.write_least.result _ _ _ c.best_at-best.ensures.game (search rules) first c.write_least.ensures.wrote in
+    both-written start _ c.args.depth m v c.write_all.result c.write_least.result c.items.result.now _ _ _ c.best_at-best.ensures.game (search rules) c.write_all.ensures.all c.write_all.ensures.part (search rules) c.write_least.ensures.wrote in
     let cut : c.write_least.result ≡ false = search rules in
     part-of start c.args.depth m v _ _ c.best_at-best.ensures.first c.best_at-best.ensures.worth (subst (λ r. Wrote r (whole start c.args.depth m v) (g.K.Sink.written c.args.sink.now) (g.K.Sink.written c.write_least.new.sink)) cut all)
 
@@ -47,10 +41,8 @@ returns-clause-written g c =
     let start = g.G.Game.course c.args.game.now in
     let m = c.best_at-best.result.best in
     let v = c.best_at-best.result.value in
-    let first : Wrote c.write_all.result (head start c.args.depth m v) (g.K.Sink.written c.args.sink.now) (g.K.Sink.written c.write_all.new.sink) =
-    head-written start _ c.args.depth m v c.write_all.result c.items.result.now _ _ c.best_at-best.ensures.game (search rules) c.write_all.ensures.all c.write_all.ensures.part in
     let all : Wrote c.write_least.result (whole start c.args.depth m v) (g.K.Sink.written c.args.sink.now) (g.K.Sink.written c.write_least.new.sink) =
-    whole-written start _ c.args.depth m v c.write_all.result c.write_least.result _ _ _ c.best_at-best.ensures.game (search rules) first c.write_least.ensures.wrote in
+    both-written start _ c.args.depth m v c.write_all.result c.write_least.result c.items.result.now _ _ _ c.best_at-best.ensures.game (search rules) c.write_all.ensures.all c.write_all.ensures.part (search rules) c.write_least.ensures.wrote in
     let done : c.write_least.result ≡ true = search rules in
     subst (λ r. Wrote r (whole start c.args.depth m v) (g.K.Sink.written c.args.sink.now) (g.K.Sink.written c.write_least.new.sink)) done all
 
