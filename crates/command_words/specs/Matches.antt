@@ -1,5 +1,5 @@
 -- The words that ask for a match of two programs.
-use Rattle.std.specs.Prelude.{◌≡◌, ℕ, Bool, false, List, [], ◌∷◌, nat_eq, codes, map, string_bytes, Option, None, Some, if◌then◌else◌}
+use Rattle.std.specs.Prelude.{◌≡◌, ℕ, Bool, false, List, [], ◌∷◌, nat_eq, codes, map, string_bytes, Option, None, Some, option_map, if◌then◌else◌}
 use Rattle.std.specs.declared.string.String.{String}
 use Rattle.std.specs.declared.alloc.Global.{Global}
 use Rattle.hive_model.specs.declared.pieces.GameType.{GameType}
@@ -8,6 +8,7 @@ use Rattle.match_core.specs.declared.answers.Level.{Level}
 use Rattle.match_core.specs.declared.answers.Level.TheVariants.{Depth, Time}
 use Rattle.match_core.specs.declared.answers.Setup.{Setup}
 use Rattle.option_words.specs.Options.{Gives}
+use Rattle.command_words.specs.declared.setup.ChoiceTexts.{ChoiceTexts}
 
 -- A program and its words
 
@@ -63,6 +64,17 @@ pub record Choices : Type 0 where
   pub margin : Option (List ℕ)
   pub plies : Option (List ℕ)
   pub repetition : Option (List ℕ)
+
+-- what a program's texts of these options choose
+abbrev pub choices_of : ChoiceTexts → Choices
+choices_of texts = record {
+  game_type = option_map (λ t. t.now) texts.game_type;
+  depth = option_map (λ t. t.now) texts.depth;
+  time = option_map (λ t. t.now) texts.time;
+  margin = option_map (λ t. t.now) texts.margin;
+  plies = option_map (λ t. t.now) texts.plies;
+  repetition = option_map (λ t. t.now) texts.repetition;
+}
 
 -- A match is played by this setup. The margin, a second where none is given, has its range where no time is given, too.
 pub record IsSetupOf (choices : Choices) (setup : Setup) : Type 0 where

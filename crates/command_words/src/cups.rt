@@ -24,7 +24,7 @@ ghost use Rattle.command_words.specs.Matches.{IsProgram};
 
 use crate::matched::is_program;
 use crate::program::words_of;
-use crate::setup::setup_of;
+use crate::setup::{ChoiceTexts, setup_of};
 use cup_core::Program;
 use indexmap::IndexSet;
 use match_core::Setup;
@@ -88,14 +88,14 @@ pub(crate) fn cup_of(alloc: Global, words: &[String]) -> Result<Option<Setup>, A
     if !are_programs(alloc, engines)? {
         return Ok(None);
     }
-    Ok(setup_of(
-        given.value(1),
-        given.value(2),
-        None,
-        None,
-        given.value(3),
-        None,
-    ))
+    Ok(setup_of(ChoiceTexts {
+        game_type: given.value(1),
+        depth: given.value(2),
+        time: None,
+        margin: None,
+        plies: given.value(3),
+        repetition: None,
+    }))
 }
 
 /// The program that a text names.

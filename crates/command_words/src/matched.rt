@@ -20,7 +20,7 @@ ghost use Rattle.command_words.specs.Matches.{
 };
 
 use crate::program::{begins_words, words_of};
-use crate::setup::setup_of;
+use crate::setup::{ChoiceTexts, setup_of};
 use match_core::Setup;
 use option_words::options_of;
 use std::alloc::{AllocError, Global};
@@ -66,14 +66,14 @@ pub(crate) fn match_of(alloc: Global, words: &[String]) -> Result<Option<Setup>,
     if !is_program(black) {
         return Ok(None);
     }
-    Ok(setup_of(
-        given.value(2),
-        given.value(3),
-        given.value(4),
-        given.value(5),
-        given.value(6),
-        given.value(7),
-    ))
+    Ok(setup_of(ChoiceTexts {
+        game_type: given.value(2),
+        depth: given.value(3),
+        time: given.value(4),
+        margin: given.value(5),
+        plies: given.value(6),
+        repetition: given.value(7),
+    }))
 }
 
 /// A program with its words for each side, each of one word at least.

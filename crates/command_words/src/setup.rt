@@ -3,7 +3,14 @@ ghost use Rattle.std.specs.Prelude.{◌≡◌, ℕ, Bool, None, Some, IfSome, op
 ghost use Rattle.hive_model.specs.declared.pieces.GameType.{GameType as AnyType};
 ghost use Rattle.match_core.specs.declared.answers.Level.{Level as AnyLevel};
 ghost use Rattle.match_core.specs.declared.answers.Setup.{Setup as AnySetup};
-ghost use Rattle.command_words.specs.Matches.{IsLevelOf, IsNumberOr, IsRuleOf, IsSetupOf, IsTypeOr};
+ghost use Rattle.command_words.specs.Matches.{
+  IsLevelOf,
+  IsNumberOr,
+  IsRuleOf,
+  IsSetupOf,
+  IsTypeOr,
+  choices_of,
+};
 
 use hive_model::GameType;
 use match_core::{Level, Setup};
@@ -76,37 +83,27 @@ fn level_of(depth: Option<&str>, time: Option<&str>, margin: u64) -> Option<Leve
     }
 }
 
-/// The setup of a match, of the values of the options that have a default.
-pub(crate) fn setup_of(
-    game_type: Option<&str>,
-    depth: Option<&str>,
-    time: Option<&str>,
-    margin: Option<&str>,
-    plies: Option<&str>,
-    repetition: Option<&str>,
-) -> Option<Setup>
-    ensures found { IfSome result (λ s. IsSetupOf (record {
-      game_type = option_map (λ t. t.now) game_type.entry;
-      depth = option_map (λ t. t.now) depth.entry;
-      time = option_map (λ t. t.now) time.entry;
-      margin = option_map (λ t. t.now) margin.entry;
-      plies = option_map (λ t. t.now) plies.entry;
-      repetition = option_map (λ t. t.now) repetition.entry;
-    }) s) }
-    ensures only { (s : AnySetup) → IsSetupOf (record {
-      game_type = option_map (λ t. t.now) game_type.entry;
-      depth = option_map (λ t. t.now) depth.entry;
-      time = option_map (λ t. t.now) time.entry;
-      margin = option_map (λ t. t.now) margin.entry;
-      plies = option_map (λ t. t.now) plies.entry;
-      repetition = option_map (λ t. t.now) repetition.entry;
-    }) s → result ≡ Some s }
+/// The texts of the options that have a default, where they are given.
+#[derive(Clone, Copy)]
+pub(crate) struct ChoiceTexts<'a> {
+    pub(crate) game_type: Option<&'a str>,
+    pub(crate) depth: Option<&'a str>,
+    pub(crate) time: Option<&'a str>,
+    pub(crate) margin: Option<&'a str>,
+    pub(crate) plies: Option<&'a str>,
+    pub(crate) repetition: Option<&'a str>,
+}
+
+/// The setup of a match, of the texts of the options that have a default.
+pub(crate) fn setup_of(texts: ChoiceTexts<'_>) -> Option<Setup>
+    ensures found { IfSome result (λ s. IsSetupOf (choices_of texts.entry) s) }
+    ensures only { (s : AnySetup) → IsSetupOf (choices_of texts.entry) s → result ≡ Some s }
 {
-    let game_type = type_or(game_type)?;
-    let margin = number_or(margin, 0, 3_600_000, 1000)?;
-    let level = level_of(depth, time, margin)?;
-    let limit = number_or(plies, 1, 1000, 400)?;
-    let repetition = rule_of(repetition)?;
+    let game_type = type_or(texts.game_type)?;
+    let margin = number_or(texts.margin, 0, 3_600_000, 1000)?;
+    let level = level_of(texts.depth, texts.time, margin)?;
+    let limit = number_or(texts.plies, 1, 1000, 400)?;
+    let repetition = rule_of(texts.repetition)?;
     Some(Setup {
         game_type,
         level,

@@ -1,21 +1,16 @@
-use Rattle.std.proofs.Common.{◌≡◌, ◌∙◌, ap, sym, subst, map, codes, MatchOption, refl, true, false, option_map, Option, Bor, List, ℕ}
+use Rattle.std.proofs.Common.{◌≡◌, ◌∙◌, ap, sym, subst, map, codes, MatchOption, refl, true, false, Option, Bor, List, ℕ}
 use Rattle.std.specs.Prelude.{string_bytes}
 use Rattle.option_words.specs.Options.{Gives, value_at}
-use Rattle.command_words.specs.Matches.{AreMatchWords, Choices, IsProgram, IsSetupOf, match_options, match_values}
+use Rattle.command_words.specs.Matches.{AreMatchWords, IsProgram, IsSetupOf, choices_of, match_options, match_values}
+use Rattle.command_words.specs.declared.setup.ChoiceTexts.{ChoiceTexts}
 use Rattle.command_words.proofs.GivenLemmas.{none_given, some_given}
 use Rattle.command_words.proofs.MatchLemmas.{value_read, values_read, weaker}
 use Rattle.command_words.proofs.matched.match_of.Goals as goal
 
--- what the values of the options choose
-abbrev chosen : (kind depth time margin plies repetition : Option (Bor (List ℕ))) → Choices
-chosen kind depth time margin plies repetition = record {
-  game_type = option_map (λ t. t.now) kind;
-  depth = option_map (λ t. t.now) depth;
-  time = option_map (λ t. t.now) time;
-  margin = option_map (λ t. t.now) margin;
-  plies = option_map (λ t. t.now) plies;
-  repetition = option_map (λ t. t.now) repetition;
-}
+-- the texts that stand at the places of the options
+abbrev texts : (kind depth time margin plies repetition : Option (Bor (List ℕ))) → ChoiceTexts
+texts kind depth time margin plies repetition =
+    record { game_type = kind; depth = depth; time = time; margin = margin; plies = plies; repetition = repetition }
 
 false_true : false ≡ true → ⊥
 false_true e = cc
@@ -48,7 +43,7 @@ returns-then-not-is_program-2-clause-only c = λ s w.
 
 pub returns-clause-found : goal.returns-clause-found
 returns-clause-found c =
-    let choices = chosen c.value-3.result c.value-4.result c.value-5.result c.value-6.result c.value-7.result c.value-8.result in
+    let choices = choices_of (texts c.value-3.result c.value-4.result c.value-5.result c.value-6.result c.value-7.result c.value-8.result) in
     let gives = rw c.in-Some.is at c.in_ok-given.ensures.values in
     let white = value_read c.value.result c.in-Some-value.white _ c.in-Some-value.is c.value.ensures in
     let black = value_read c.value-2.result c.in-Some-value-2.black _ c.in-Some-value-2.is c.value-2.ensures in
@@ -66,7 +61,7 @@ returns-clause-found c =
 pub returns-clause-only : goal.returns-clause-only
 returns-clause-only c = λ s w.
     let values = subst (λ o. MatchOption o ⊥ (λ given. given ≡ match_values w.white w.black w.choices)) c.in-Some.is (c.in_ok-given.ensures.only (match_values w.white w.black w.choices) w.give) in
-    let choices = chosen c.value-3.result c.value-4.result c.value-5.result c.value-6.result c.value-7.result c.value-8.result in
+    let choices = choices_of (texts c.value-3.result c.value-4.result c.value-5.result c.value-6.result c.value-7.result c.value-8.result) in
     let at2 = c.value-3.ensures ∙ ap (λ given. value_at given 2) values in
     let at3 = c.value-4.ensures ∙ ap (λ given. value_at given 3) values in
     let at4 = c.value-5.ensures ∙ ap (λ given. value_at given 4) values in

@@ -15,7 +15,7 @@ pub returns-clause-only : goal.returns-clause-only
 returns-clause-only c = λ s w.
     let kind = some_same (c.in_ok-game_type.ensures.only s.game_type w.kind) in
     let margin = some_same (c.in_ok-margin.ensures.only w.margin w.margin_is) in
-    let timed = subst (λ m. IsLevelOf (option_map (λ t. t.now) c.args.depth) (option_map (λ t. t.now) c.args.time) m s.level) (sym margin) w.level in
+    let timed = subst (λ m. IsLevelOf (option_map (λ t. t.now) c.args.texts.depth) (option_map (λ t. t.now) c.args.texts.time) m s.level) (sym margin) w.level in
     let level = some_same (c.in_ok-level.ensures.only s.level timed) in
     let limit = some_same (c.in_ok-limit.ensures.only s.limit w.limit) in
     let rule = some_same (c.in_ok-repetition.ensures.only s.repetition w.rule) in
