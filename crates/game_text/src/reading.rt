@@ -5,7 +5,6 @@ ghost use Rattle.std.specs.Prelude.{
   ◌<◌,
   ◌≤◌,
   ◌+◌,
-  ◌∷◌,
   [],
   ◌⊎◌,
   List,
@@ -20,7 +19,6 @@ ghost use Rattle.std.specs.Prelude.{
 ghost use Rattle.hive_model.specs.Boards.{IsBoard};
 ghost use Rattle.hive_model.specs.Positions.{opening};
 ghost use Rattle.hive_model.specs.Courses.{position};
-ghost use Rattle.hive_model.specs.Games.{IsGame};
 ghost use Rattle.hive_model.specs.Repetition.{keys};
 ghost use Rattle.game_text.specs.Seen.{Sees};
 ghost use Rattle.hive_model.specs.Strings.{parts, IsGameLine, IsGameLineUnder};
