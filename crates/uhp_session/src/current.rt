@@ -1,6 +1,24 @@
 //! A game that was begun, with the written texts of its moves and the keys of its positions.
 
-ghost use Rattle.std.specs.Prelude.{◌≡◌, ◌<◌, ◌≤◌, ◌-◌, false, [], ◌∷◌, ◌++◌, length, take, map, codes, Some, IfOk, OnOk, OnErr, IsTrue};
+ghost use Rattle.std.specs.Prelude.{
+  ◌≡◌,
+  ◌<◌,
+  ◌≤◌,
+  ◌-◌,
+  false,
+  [],
+  ◌∷◌,
+  ◌++◌,
+  length,
+  take,
+  map,
+  codes,
+  Some,
+  IfOk,
+  OnOk,
+  OnErr,
+  IsTrue,
+};
 ghost use Rattle.hive_model.specs.Lists.{IsOn};
 ghost use Rattle.hive_model.specs.Legal.{moves, is_over};
 ghost use Rattle.hive_model.specs.Games.{IsGame};
@@ -10,7 +28,17 @@ ghost use Rattle.hive_model.specs.Repetition.{outcome_under};
 ghost use Rattle.hive_model.specs.Denotes.{text};
 ghost use Rattle.hive_model.specs.Stack.{with_level};
 ghost use Rattle.move_text.specs.Moves.{move_of};
-ghost use Rattle.uhp_session.specs.Answers.{Begun, reached, is_ended, written, with_moves, text_of, ended, joined, best_text};
+ghost use Rattle.uhp_session.specs.Answers.{
+  Begun,
+  reached,
+  is_ended,
+  written,
+  with_moves,
+  text_of,
+  ended,
+  joined,
+  best_text,
+};
 ghost use Rattle.uhp_session.specs.Searches.{HasTold, times};
 ghost use Rattle.uhp_session.specs.Teams.{IsTeam};
 

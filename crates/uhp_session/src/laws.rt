@@ -1,7 +1,13 @@
 //! The laws of sessions. They have no code: a function here has its law as its contract, and an
 //! empty body.
 
-ghost use Rattle.uhp_session.specs.Laws.{RefusalsChangeNothing, SessionsHoldGames, BestMovesAreNamed, OptionsChangeNoAnswer, DepthsServeSearches};
+ghost use Rattle.uhp_session.specs.Laws.{
+  RefusalsChangeNothing,
+  SessionsHoldGames,
+  BestMovesAreNamed,
+  OptionsChangeNoAnswer,
+  DepthsServeSearches,
+};
 
 /// Where the first line of the answer begins with `err ` or `invalidmove `, the session is
 /// afterwards as it was before.

@@ -1,7 +1,14 @@
 //! The lines of options.
 
 ghost use Rattle.std.specs.Prelude.{◌≡◌, [], ◌∷◌, ◌++◌, Some, codes, decimal, IfOk, OnOk};
-ghost use Rattle.uhp_session.specs.Answers.{text_of, ended, table_line, workers_line, switch, repetition_line};
+ghost use Rattle.uhp_session.specs.Answers.{
+  text_of,
+  ended,
+  table_line,
+  workers_line,
+  switch,
+  repetition_line,
+};
 
 use crate::lines::Reply;
 use crate::says::close;

@@ -8,7 +8,8 @@ ghost use Rattle.uhp_session.specs.Answers.{Gave, IsShort, after_of, begin, best
 ghost use Rattle.uhp_session.specs.Answers.{command_answer, fresh, get, go_on, in_game, line_in};
 ghost use Rattle.uhp_session.specs.Answers.{list, next, or_base, play, reply, reply_of, set};
 ghost use Rattle.uhp_session.specs.Answers.{text_of, undo, while_on, words_answer};
-ghost use Rattle.uhp_session.specs.Searches.{Answered, IsUntimed, asks, command_search, search_in, times};
+ghost use Rattle.uhp_session.specs.Searches.{Answered, IsUntimed, asks, command_search};
+ghost use Rattle.uhp_session.specs.Searches.{search_in, times};
 
 use crate::current::Current;
 use crate::lines::{LineIn, Reply, or_base};
@@ -98,7 +99,8 @@ impl<G: Game + Send + Drop> Session<G> {
         gate: &T,
     ) -> Result<Reply, AllocError>
         requires { IsShort (line_in line) }
-        ensures { Answered (asks self.old (line_in line.entry)) (reply self.old (line_in line.entry))
+        ensures { Answered (asks self.old (line_in line.entry))
+            (reply self.old (line_in line.entry))
             (next self.old (line_in line.entry)) result self.old self.new
             (times (C.last clock.old) (C.readings clock.old) timed.old)
             (times (C.last clock.new) (C.readings clock.new) timed.new) }
@@ -150,7 +152,8 @@ impl<G: Game + Send + Drop> Session<G> {
         requires reads { IsCommand line.now command }
         ensures { Answered (command_search self.old (Ok command))
             (λ depth. reply_of (command_answer self.old line.now depth command))
-            (after_of self.old (command_answer self.old line.now 1 command)) result self.old self.new
+            (after_of self.old (command_answer self.old line.now 1 command))
+            result self.old self.new
             (times (C.last clock.old) (C.readings clock.old) timed.old)
             (times (C.last clock.new) (C.readings clock.new) timed.new) }
     {
@@ -277,7 +280,8 @@ impl<G: Game + Send + Drop> Session<G> {
     /// Plays the move of a text.
     fn play(&mut self, alloc: Global, words: &[u8]) -> Result<Reply, AllocError>
         requires { length words.now ≤ 65536 }
-        ensures { Gave (in_game self.old self.old.game (play self.old words.now)) result self.old self.new }
+        ensures { Gave (in_game self.old self.old.game (play self.old words.now))
+            result self.old self.new }
     {
         let Some(game) = &mut self.game else {
             return say(alloc, b"err 3 no game");
@@ -378,7 +382,8 @@ impl<G: Game + Send + Drop> Session<G> {
 
     /// Takes the last plies back, so many.
     fn undo(&mut self, alloc: Global, plies: u32) -> Result<Reply, AllocError>
-        ensures { Gave (in_game self.old self.old.game (undo self.old plies)) result self.old self.new }
+        ensures { Gave (in_game self.old self.old.game (undo self.old plies))
+            result self.old self.new }
     {
         let Some(game) = &self.game else {
             return say(alloc, b"err 3 no game");
