@@ -36,13 +36,13 @@ pub record Tells {S W N T : Type 0} (R : Rules S W) (V : Sight S N) (told : Told
   pub ends : (s : S) → R.at_end s ≡ is_none_left (items s)
 
 module _ {S W N T : Type 0} (R : Rules S W) (V : Sight S N) (told : Told T) (taken : ℕ) (n : N) (tells : Tells R V told taken n) where
-  finishes : (s : S) (b : Bool) → R.at_end s ≡ b → finish R s ≡ cond b (Left s) (Fault R.rest (R.taken s))
-  finishes s b e = ap (λ (x : Bool). cond x (Left s) (Fault R.rest (R.taken s))) e
+  finishes : (s : S) (b : Bool) → R.at_end s ≡ b → finish R s ≡ cond b (Left s) (Fault R.reasons.rest (R.taken s))
+  finishes s b e = ap (λ (x : Bool). cond x (Left s) (Fault R.reasons.rest (R.taken s))) e
 
   pub ends-left : (o : Outcome S W) (s : S) → o ≡ Left s → n ≡ V.view s → IsAtEnd told → go_on o (finish R) ≡ Left s
   ends-left o s left seen at_end = ap (λ (x : Outcome S W). go_on x (finish R)) left ∙ finishes s true (tells.ends s ∙ none-is told (tells.items s) (tells.left s seen) at_end)
 
-  last-look : (rest : W) (answer : Checked W) (o : Outcome S W) (s : S) → R.rest ≡ rest → o ≡ Left s → n ≡ V.view s → IsLastLook rest taken told answer → Answers (go_on o (finish R)) answer
+  last-look : (rest : W) (answer : Checked W) (o : Outcome S W) (s : S) → R.reasons.rest ≡ rest → o ≡ Left s → n ≡ V.view s → IsLastLook rest taken told answer → Answers (go_on o (finish R)) answer
   last-look rest Accepted o s is left seen look = (s, ends-left o s left seen look)
   last-look rest (Refused place why) o s is left seen look = (
     R.taken s,
@@ -53,7 +53,7 @@ module _ {S W N T : Type 0} (R : Rules S W) (V : Sight S N) (told : Told T) (tak
   last-look rest (Halted Failed) o s is left seen look = tt
   last-look rest (Halted Full) o s is left seen look = tt
 
-  pub whole-answers : (rest : W) (walked : WalkAnswer W) (answer : Checked W) (o : Outcome S W) → R.rest ≡ rest → Meets V o (ending walked) n → IsWhole rest walked taken told answer → Answers (go_on o (finish R)) answer
+  pub whole-answers : (rest : W) (walked : WalkAnswer W) (answer : Checked W) (o : Outcome S W) → R.reasons.rest ≡ rest → Meets V o (ending walked) n → IsWhole rest walked taken told answer → Answers (go_on o (finish R)) answer
   whole-answers rest Done answer o is m whole = last-look rest answer o m.0 is m.1 m.2 whole
   whole-answers rest (Refuses why) answer o is m whole =
       subst (λ (x : Checked W). Answers (go_on o (finish R)) x) (sym whole) (m.0, ap (λ (x : Outcome S W). go_on x (finish R)) m.1, sym tells.place ∙ m.2)
@@ -81,14 +81,14 @@ module _ {S W N T : Type 0} (R : Rules S W) (V : Sight S N) (told : Told T) (tak
   whole-counts rest (Halts Full) answer o before after m whole count same = subst (λ (x : Checked W). CountsBad (go_on o (finish R)) x after) (sym whole) tt
 
   -- the same of the walk of a whole certificate, as the code ends it
-  pub certificate-answers : (rest : W) (whole_walk o : Outcome S W) (w : Walked (Stop W)) (walked : WalkAnswer W) (seen : N) (answer : Checked W) → R.rest ≡ rest → whole_walk ≡ go_on o (finish R) → Meets V o (ending_of R stop_ending w) seen → seen ≡ n →
-      walked ≡ of_walk R.leaf_fails R.bad_index w → IsWhole rest walked taken told answer → Answers whole_walk answer
+  pub certificate-answers : (rest : W) (whole_walk o : Outcome S W) (w : Walked (Stop W)) (walked : WalkAnswer W) (seen : N) (answer : Checked W) → R.reasons.rest ≡ rest → whole_walk ≡ go_on o (finish R) → Meets V o (ending_of R stop_ending w) seen → seen ≡ n →
+      walked ≡ of_walk R.reasons.leaf_fails R.reasons.bad_index w → IsWhole rest walked taken told answer → Answers whole_walk answer
   certificate-answers rest whole_walk o w walked seen answer is e m same ends whole =
       answers-as whole_walk (go_on o (finish R)) answer e
       (whole-answers rest walked answer o is (subst (λ (x : N). Meets V o (ending walked) x) same (meets-is R V o w walked seen ends m)) whole)
 
   pub certificate-counts : (rest : W) (whole_walk o : Outcome S W) (w : Walked (Stop W)) (walked : WalkAnswer W) (seen : N) (answer : Checked W) (before after : ℕ) → whole_walk ≡ go_on o (finish R) → Meets V o (ending_of R stop_ending w) seen → seen ≡ n →
-      walked ≡ of_walk R.leaf_fails R.bad_index w → IsWhole rest walked taken told answer → before ≡ ended walked taken → (answer ≡ Halted Bad → after ≡ before) → CountsBad whole_walk answer after
+      walked ≡ of_walk R.reasons.leaf_fails R.reasons.bad_index w → IsWhole rest walked taken told answer → before ≡ ended walked taken → (answer ≡ Halted Bad → after ≡ before) → CountsBad whole_walk answer after
   certificate-counts rest whole_walk o w walked seen answer before after e m same ends whole count stands =
       bad-as whole_walk (go_on o (finish R)) answer after e
       (whole-counts rest walked answer o before after (subst (λ (x : N). Meets V o (ending walked) x) same (meets-is R V o w walked seen ends m)) whole count stands)

@@ -17,13 +17,13 @@ use Rattle.claim_walks.specs.declared.walker.Walked.TheVariants.{Done, LeafFails
 -- ---- endings
 
 module _ {S W : Type 0} (R : Rules S W) where
-  ending-is : (w : Walked (Stop W)) → ending_of R stop_ending w ≡ ending (of_walk R.leaf_fails R.bad_index w)
+  ending-is : (w : Walked (Stop W)) → ending_of R stop_ending w ≡ ending (of_walk R.reasons.leaf_fails R.reasons.bad_index w)
   ending-is Done = refl
   ending-is LeafFails = refl
   ending-is BadIndex = refl
   ending-is (Stops stop) = refl
 
-  pub meets-is : {N : Type 0} (V : Sight S N) (o : Outcome S W) (w : Walked (Stop W)) (walked : WalkAnswer W) (n : N) → walked ≡ of_walk R.leaf_fails R.bad_index w →
+  pub meets-is : {N : Type 0} (V : Sight S N) (o : Outcome S W) (w : Walked (Stop W)) (walked : WalkAnswer W) (n : N) → walked ≡ of_walk R.reasons.leaf_fails R.reasons.bad_index w →
       Meets V o (ending_of R stop_ending w) n → Meets V o (ending walked) n
   meets-is V o w walked n is h = subst (λ (e : Ending W). Meets V o e n) (ending-is w ∙ ap ending (sym is)) h
 

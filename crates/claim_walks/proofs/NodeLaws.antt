@@ -22,7 +22,7 @@ use Rattle.claim_walks.proofs.FollowLaws.{Walks, WalksAll, follows-stop, node-ev
 -- ---- endings
 
 module _ {S W T : Type 0} (R : Rules S W) (ends : T → Ending W) where
-  pub leaf-ending : (b : Bool) (w : Walked T) → w ≡ leaf_walked b → ending_of R ends w ≡ cond b Shown (Refused R.leaf_fails)
+  pub leaf-ending : (b : Bool) (w : Walked T) → w ≡ leaf_walked b → ending_of R ends w ≡ cond b Shown (Refused R.reasons.leaf_fails)
   leaf-ending true w e = ap (ending_of R ends) e
   leaf-ending false w e = ap (ending_of R ends) e
 
@@ -110,11 +110,11 @@ module _ {S W N : Type 0} (R : Rules S W) (V : Sight S N) where
       subst (λ (o : Outcome S W). Meets V o w e)
       (sym (walk-inner R p d (AtLeast x) s inner ∙ ap (λ (step : Step S W). walk_step R (below p d x) (moves p) step) t.1)) (goes t.0 t.2))
 
-  pub below-none : ((s : S) → V.place (V.view s) ≡ held (R.taken s)) → (p : Position) (d : ℕ) (x : ℤ) (i : ℕ) (a : N) → None ≡ slice_get (moves p) i → Follows V (goes_below R p d x i) a (Refused R.bad_index) a
-  below-none counts p d x i a none s seen = (R.taken s, ap (λ o. walk_at R.bad_index (R.taken s) (below p d x) o s) (sym none), ap V.place seen ∙ counts s)
+  pub below-none : ((s : S) → V.place (V.view s) ≡ held (R.taken s)) → (p : Position) (d : ℕ) (x : ℤ) (i : ℕ) (a : N) → None ≡ slice_get (moves p) i → Follows V (goes_below R p d x i) a (Refused R.reasons.bad_index) a
+  below-none counts p d x i a none s seen = (R.taken s, ap (λ o. walk_at R.reasons.bad_index (R.taken s) (below p d x) o s) (sym none), ap V.place seen ∙ counts s)
 
   below-at : (p : Position) (d : ℕ) (x : ℤ) (i : ℕ) (m : Move) (a b : N) (w : Ending W) → Some m ≡ slice_get (moves p) i → Follows V (below p d x m) a w b → Follows V (goes_below R p d x i) a w b
-  below-at p d x i m a b w here h s seen = subst (λ (o : Outcome S W). Meets V o w b) (ap (λ o. walk_at R.bad_index (R.taken s) (below p d x) o s) here) (h s seen)
+  below-at p d x i m a b w here h s seen = subst (λ (o : Outcome S W). Meets V o w b) (ap (λ o. walk_at R.reasons.bad_index (R.taken s) (below p d x) o s) here) (h s seen)
 
   turned : (start now : Course) (d : ℕ) (x y : ℤ) (m : Move) (a b : N) (w : Ending W) → now ≡ start → y ≡ neg_ℤ x → Walks R V (after (position now) m) (d - 1) (AtMost y) a w b →
       Walks R V (after (position start) m) (d - 1) (AtMost (neg_ℤ x)) a w b

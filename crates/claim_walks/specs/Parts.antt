@@ -12,8 +12,8 @@ use Rattle.claim_walks.specs.declared.walker.Took.TheVariants.{Below, Shown, Sto
 -- how a part of a walk ends, by the code's answer
 abbrev pub ending_of : {S W T : Type 0} → Rules S W → (T → Ending W) → Walked T → Ending W
 ending_of rules ending Done = IsShown
-ending_of rules ending LeafFails = Refused rules.leaf_fails
-ending_of rules ending BadIndex = Refused rules.bad_index
+ending_of rules ending LeafFails = Refused rules.reasons.leaf_fails
+ending_of rules ending BadIndex = Refused rules.reasons.bad_index
 ending_of rules ending (WalkStops stop) = ending stop
 
 -- the walk ends so where this is taken, whatever moves there are and however they would be walked
@@ -66,6 +66,6 @@ IsPartIf parts (Some walked) a b = IsPart parts walked a b
 -- How the walk of a whole certificate ends, all but the test that nothing is left over: its move is not legal, or its parts end so, where
 -- what is left to it is told.
 abbrev pub LeadsToEnd : {S W N T : Type 0} → Rules S W → Sight S N → (T → Ending W) → Position → ℕ → Move → ℤ → Option (Walked T) → N → N → Type 0
-LeadsToEnd {S} rules V ending p d m v None before after = (s : S) → certificate rules p d m v s ≡ Fault rules.no_such_move 0
+LeadsToEnd {S} rules V ending p d m v None before after = (s : S) → certificate rules p d m v s ≡ Fault rules.reasons.no_such_move 0
 LeadsToEnd {S} {W} rules V ending p d m v (Some walked) before after =
     (s : S) → before ≡ V.view s → (o : Outcome S W) × (certificate rules p d m v s ≡ go_on o (finish rules)) × Meets V o (ending_of rules ending walked) after
