@@ -14,11 +14,11 @@ use Rattle.text_verdicts.proofs.JudgeLaws.{most-read, refused-read}
 use Rattle.certificate_commands.specs.Verdicts.{of_why}
 
 -- what was read where this is the first fault of the tokens
-pub fault-read-as : (place lines : ℕ) (why : WhyCited) (text : List ℕ) (rest : Told) (reader : Reading) → lines ≤ place + cited_looked_at why → HasRead text rest reader (5 + lines) → OnShortCited why (reader.finished ≡ true)
-    → WasReadAs 5 (Ok (of_why place why)) text rest
-fault-read-as place lines CitedNoMove text rest reader few r stops = refused-read 5 place lines NoSuchMove text rest reader few r stops
-fault-read-as place lines CitedBadIndex text rest reader few r stops = refused-read 5 place lines BadIndex text rest reader few r stops
-fault-read-as place lines CitedBadCite text rest reader few r stops = most-read (5 + place) text rest reader (read-more text rest reader (5 + lines) (5 + place) (omega (arith, few)) r)
-fault-read-as place lines CitedLeafFails text rest reader few r stops = refused-read 5 place lines LeafFails text rest reader few r stops
-fault-read-as place lines CitedTooShort text rest reader few r stops = refused-read 5 place lines TooShort text rest reader few r stops
-fault-read-as place lines CitedRest text rest reader few r stops = refused-read 5 place lines Rest text rest reader few r stops
+pub fault-read-as : (head place lines : ℕ) (why : WhyCited) (text : List ℕ) (rest : Told) (reader : Reading) → lines ≤ place + cited_looked_at why → HasRead text rest reader (head + lines) → OnShortCited why (reader.finished ≡ true)
+    → WasReadAs head (Ok (of_why place why)) text rest
+fault-read-as head place lines CitedNoMove text rest reader few r stops = refused-read head place lines NoSuchMove text rest reader few r stops
+fault-read-as head place lines CitedBadIndex text rest reader few r stops = refused-read head place lines BadIndex text rest reader few r stops
+fault-read-as head place lines CitedBadCite text rest reader few r stops = most-read (head + place) text rest reader (read-more text rest reader (head + lines) (head + place) (omega (arith, few)) r)
+fault-read-as head place lines CitedLeafFails text rest reader few r stops = refused-read head place lines LeafFails text rest reader few r stops
+fault-read-as head place lines CitedTooShort text rest reader few r stops = refused-read head place lines TooShort text rest reader few r stops
+fault-read-as head place lines CitedRest text rest reader few r stops = refused-read head place lines Rest text rest reader few r stops

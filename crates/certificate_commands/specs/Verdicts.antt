@@ -1,5 +1,5 @@
 -- What the lines of a text are worth as a certificate.
-use Rattle.std.specs.Prelude.{ℕ, ◌+◌, ◌≤◌, nat_eq, List, map, ℤ, Option, Result, Ok, Err, if◌then◌else◌}
+use Rattle.std.specs.Prelude.{ℕ, ◌≤◌, nat_eq, List, map, ℤ, Option, Result, Ok, Err, if◌then◌else◌}
 use Rattle.hive_model.specs.declared.places.Move.{Move}
 use Rattle.hive_model.specs.Positions.{Position, opening}
 use Rattle.hive_model.specs.Legal.{is_over}
@@ -10,8 +10,7 @@ use Rattle.hive_model.specs.Minimax.{IsInner}
 use Rattle.search_laws.specs.Laws.{IsSmall}
 use Rattle.move_text.specs.declared.faults.MoveFault.{MoveFault}
 use Rattle.move_text.specs.Moves.{move_of}
-use Rattle.claim_walks.specs.Walks.{Outcome, Left, Fault, Halt}
-use Rattle.claim_walks.specs.Follows.{held}
+use Rattle.claim_walks.specs.Walks.{Outcome}
 use Rattle.strategy_check.specs.declared.answers.Why.TheVariants.{NoSuchMove, BadIndex, LeafFails, TooShort, Rest}
 use Rattle.strategy_check.specs.Trace.{checked}
 use Rattle.strategy_lemmas.specs.declared.tokens.Token.{Token}
@@ -24,8 +23,8 @@ use Rattle.certificate_text.specs.Text.{head_of, index_in}
 use Rattle.command_runs.specs.Input.{Sides}
 use Rattle.command_runs.specs.declared.status.Status.{Status}
 use Rattle.text_verdicts.specs.declared.verdict.Verdict.{Verdict}
-use Rattle.text_verdicts.specs.declared.verdict.Verdict.TheVariants.{Accepted, Refused, BadCite, BadLine, GameOver}
-use Rattle.text_verdicts.specs.Verdicts.{of_walk}
+use Rattle.text_verdicts.specs.declared.verdict.Verdict.TheVariants.{Refused, BadCite, GameOver}
+use Rattle.text_verdicts.specs.Verdicts.{of_walk, walk_verdict}
 use Rattle.text_verdicts.specs.Judging.{text_verdict}
 use Rattle.text_verdicts.specs.Runs.{VerdictRun}
 
@@ -58,12 +57,9 @@ of_why place CitedLeafFails = Refused place LeafFails
 of_why place CitedTooShort = Refused place TooShort
 of_why place CitedRest = Refused place Rest
 
--- The walk of the tokens behind a head of so many lines. The token before which n were taken stands
--- on the line n + 1 behind the head, and no count goes beyond the greatest u64.
+-- the walk of tokens
 abbrev pub of_cited : ℕ → Outcome CitedSteps WhyCited → Verdict
-of_cited head (Left s) = Accepted
-of_cited head (Fault why n) = of_why (held n) why
-of_cited head (Halt n) = BadLine (held (n + 1 + head))
+of_cited = walk_verdict of_why
 
 -- what tokens behind the head make of such a claim
 abbrev pub of_tokens : Position → ℕ → Move → ℤ → List (Option Token) → Verdict

@@ -27,7 +27,7 @@ use move_text::read_move;
 use std::alloc::Global;
 use strategy_check::{Claim, Why, check as check_indices};
 use strategy_lemmas::Lemmas;
-use text_verdicts::{TextForm, Unread, Verdict, check_text, verdict_of};
+use text_verdicts::{IndexReasons, TextForm, Unread, Verdict, check_text, verdict_of};
 
 /// The greatest version of a certificate that is known.
 const NEWEST: u32 = 2;
@@ -52,7 +52,7 @@ fn judge_indices<S: Source, G: Game>(
     let mut indices = LineIndices::new(reader, input);
     let checked = check_indices(game, claim, &mut indices, stack);
     let lines = indices.lines();
-    verdict_of(checked, HEAD_LINES, lines)
+    verdict_of::<IndexReasons>(checked, HEAD_LINES, lines)
 }
 
 /// The verdict on the lines to come, behind a head of this version, as those of the claim that this

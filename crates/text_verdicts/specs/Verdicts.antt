@@ -1,4 +1,4 @@
--- What is made of the walk of a text's indices, and how a verdict is told.
+-- What is made of the walk of a text's items, and how a verdict is told.
 use Rattle.std.specs.Prelude.{ℕ, ◌+◌, List, [], ◌∷◌, ◌++◌, codes, decimal}
 use Rattle.claim_walks.specs.Walks.{Outcome, Left, Fault, Halt}
 use Rattle.claim_walks.specs.Follows.{held}
@@ -12,12 +12,21 @@ use Rattle.command_runs.specs.declared.status.Status.TheVariants.{Done, Refused 
 use Rattle.text_verdicts.specs.declared.verdict.Verdict.{Verdict}
 use Rattle.text_verdicts.specs.declared.verdict.Verdict.TheVariants.{Accepted, Refused, BadCite, BadLine, BadGame, GameOver}
 
--- The walk of the indices behind a head of so many lines. The index before which n were taken
--- stands on the line n + 1 behind the head, and no count goes beyond the greatest u64.
+-- The walk of the items behind a head of so many lines, where a fault before which so many items
+-- were taken is such a verdict. The item before which n were taken stands on the line n + 1 behind
+-- the head, and no count goes beyond the greatest u64.
+abbrev pub walk_verdict : {S W : Type 0} → (ℕ → W → Verdict) → ℕ → Outcome S W → Verdict
+walk_verdict refusal head (Left s) = Accepted
+walk_verdict refusal head (Fault why n) = refusal (held n) why
+walk_verdict refusal head (Halt n) = BadLine (held (n + 1 + head))
+
+-- the verdict that a fault of indices is
+abbrev pub index_refusal : ℕ → Why → Verdict
+index_refusal place why = Refused place why
+
+-- the walk of indices
 abbrev pub of_walk : ℕ → Outcome Steps Why → Verdict
-of_walk head (Left s) = Accepted
-of_walk head (Fault why n) = Refused (held n) why
-of_walk head (Halt n) = BadLine (held (n + 1 + head))
+of_walk = walk_verdict index_refusal
 
 -- What is written
 

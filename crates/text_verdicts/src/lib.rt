@@ -4,11 +4,13 @@
 
 mod judging;
 mod laws;
+mod reasons;
 mod told;
 mod verdict;
 
 pub use judging::{TextForm, check_text};
 pub use laws::accepted_texts_are_done;
+pub use reasons::{IndexReasons, Reasons};
 pub use told::tell_judged;
 pub use verdict::{Unread, Verdict, fault_verdict, verdict_of};
 

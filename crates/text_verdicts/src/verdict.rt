@@ -4,15 +4,13 @@ ghost use Rattle.std.specs.Prelude.{◌≡◌, ◌↔◌, ◌+◌, ◌<◌, ℕ,
 ghost use Rattle.io_edge.specs.Outside.{Told as AnyTold};
 ghost use Rattle.line_feed.specs.Feed.{Reading, input_limit};
 ghost use Rattle.claim_walks.specs.Walks.{Outcome};
-ghost use Rattle.strategy_check.specs.Trace.{Steps};
-ghost use Rattle.strategy_check.specs.declared.answers.Why.{Why as AnyWhy};
 ghost use Rattle.claim_walks.specs.Answers.{Answers, CountsBad, CountsRefused, Ended};
-ghost use Rattle.strategy_check.specs.Checks.{index_faults};
 ghost use Rattle.certificate_text.specs.Heads.{fault_line};
 ghost use Rattle.certificate_text.specs.Taken.{HasRead, StopsAt};
-ghost use Rattle.text_verdicts.specs.Verdicts.{of_walk};
+ghost use Rattle.text_verdicts.specs.Verdicts.{walk_verdict};
 ghost use Rattle.text_verdicts.specs.Reading.{Judges, WasReadAs, of_fault};
 
+use crate::reasons::Reasons;
 use certificate_text::HeadFault;
 use game_text::GameFault;
 use strategy_check::{Checked, Halt, Why};
@@ -69,19 +67,23 @@ pub fn fault_verdict(fault: HeadFault) -> Result<Verdict, Unread>
 }
 
 /// What the answer of a check means, where so many lines were taken behind a head of so many.
-pub fn verdict_of(checked: Checked<Why>, head: u32, lines: u64) -> Result<Verdict, Unread>
-    ensures judges { (o : Outcome Steps AnyWhy) → Answers o checked → CountsBad o checked lines
-        → Judges result (of_walk head o) }
+pub fn verdict_of<R: Reasons>(
+    checked: Checked<R::Why>,
+    head: u32,
+    lines: u64,
+) -> Result<Verdict, Unread>
+    ensures judges { (o : Outcome R.Steps R.Why) → Answers o checked → CountsBad o checked lines
+        → Judges result (walk_verdict R.refusal head o) }
     ensures failed { (result ≡ Err Unread.ReadFault) ↔ (checked ≡ Checked.Halted Halt.Failed) }
     ensures full { result ≡ Err Unread.InputFull → checked ≡ Checked.Halted Halt.Full }
     ensures read { (text : List ℕ) (rest : AnyTold) (reader : Reading)
-        → HasRead text rest reader (head + lines) → CountsRefused index_faults checked lines
-        → Ended {T = ℕ} index_faults (λ answer. StopsAt answer reader) checked
+        → HasRead text rest reader (head + lines) → CountsRefused R.faults checked lines
+        → Ended {T = R.Item} R.faults (λ answer. StopsAt answer reader) checked
         → WasReadAs head result text rest }
 {
     match checked {
         Checked::Accepted => Ok(Verdict::Accepted),
-        Checked::Refused { place, why } => Ok(Verdict::Refused { place, why }),
+        Checked::Refused { place, why } => Ok(R::refused(why, place)),
         Checked::Halted { answer: Halt::Bad } => Ok(Verdict::BadLine {
             line: lines.saturating_add(head as u64),
         }),

@@ -17,7 +17,7 @@ use hive_model::{Game, MoveStack};
 use io_edge::{Sink, Source};
 use line_feed::LineReader;
 use std::alloc::Global;
-use text_verdicts::{TextForm, Unread, Verdict, check_text, verdict_of};
+use text_verdicts::{IndexReasons, TextForm, Unread, Verdict, check_text, verdict_of};
 use win_solver::check_solution;
 
 /// How many lines a head has.
@@ -43,7 +43,7 @@ fn judge_indices<S: Source, G: Game>(
 {
     let mut indices = LineIndices::new(reader, input);
     let checked = check_solution(game, plies, answer, &mut indices, stack);
-    verdict_of(checked, HEAD_LINES, indices.lines())
+    verdict_of::<IndexReasons>(checked, HEAD_LINES, indices.lines())
 }
 
 /// The verdict on the lines to come behind a head.

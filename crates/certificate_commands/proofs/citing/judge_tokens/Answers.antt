@@ -18,6 +18,6 @@ returns g c = record {
       subst (λ (n : ℕ). HasRead text (g.S.Source.rest after.source.now) after.reader.now (5 + n)) (sym c.lines.ensures) (c.check_cited-checked.ensures.known text 5 from) in
       let few : CountsRefused cited_faults c.check_cited-checked.result c.lines.result =
       subst (λ (n : ℕ). CountsRefused cited_faults c.check_cited-checked.result n) (sym c.lines.ensures) (c.check_cited-checked.ensures.refused c.new-tokens.ensures.none) in
-      let read : WasReadAs 5 c.verdict_of_cited.result text (g.S.Source.rest after.source.now) = c.verdict_of_cited.ensures.read text _ after.reader.now known few c.check_cited-checked.ensures.met in
-      subst (λ (t : Told). WasReadAs 5 c.verdict_of_cited.result text t) (search rules) read;
+      let read : WasReadAs 5 c.verdict_of.result text (g.S.Source.rest after.source.now) = c.verdict_of.ensures.read text _ after.reader.now known few c.check_cited-checked.ensures.met in
+      subst (λ (t : Told). WasReadAs 5 c.verdict_of.result text t) (search rules) read;
 }

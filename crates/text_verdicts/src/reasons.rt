@@ -1,0 +1,60 @@
+//! The reasons for which texts are refused.
+
+ghost use Rattle.std.specs.Prelude.{◌≡◌, ◌+◌, ◌≤◌, ℕ, List, true, Ok};
+ghost use Rattle.io_edge.specs.Outside.{Told as AnyTold};
+ghost use Rattle.line_feed.specs.Feed.{Reading};
+ghost use Rattle.claim_walks.specs.Answers.{Faults};
+ghost use Rattle.strategy_check.specs.Trace.{Steps as AnySteps};
+ghost use Rattle.strategy_check.specs.Checks.{index_faults};
+ghost use Rattle.certificate_text.specs.Taken.{HasRead};
+ghost use Rattle.text_verdicts.specs.declared.verdict.Verdict.{Verdict as AnyVerdict};
+ghost use Rattle.text_verdicts.specs.Reading.{WasReadAs};
+ghost use Rattle.text_verdicts.specs.Verdicts.{index_refusal};
+
+use crate::verdict::Verdict;
+use strategy_check::Why;
+
+/// The reasons for which texts are refused whose items are checked in one way.
+pub trait Reasons {
+    /// Such a reason.
+    type Why: Copy;
+
+    /// What is left where a walk of the items ends well.
+    ghost Steps: { Type 0 };
+
+    /// What stands on a line.
+    ghost Item: { Type 0 };
+
+    /// What is asked of the reasons as faults of walks.
+    ghost faults: { Faults Self.Why };
+
+    /// The verdict that a reason is, where so many items were taken before it.
+    ghost refusal: { ℕ → Self.Why → AnyVerdict };
+
+    /// The verdict that the reason is, where so many items were taken before it. Where no more
+    /// lines were taken than the walk looked at, it tells what was read of the text.
+    fn refused(why: Self::Why, place: u64) -> Verdict
+        ensures is { result ≡ refusal place why }
+        ensures read { (head lines : ℕ) (text : List ℕ) (rest : AnyTold) (reader : Reading)
+            → lines ≤ place + faults.looked_at why → HasRead text rest reader (head + lines)
+            → faults.on_short why (reader.finished ≡ true) → WasReadAs head (Ok result) text rest };
+}
+
+/// The reasons for which texts of indices are refused.
+pub struct IndexReasons;
+
+impl Reasons for IndexReasons {
+    type Why = Why;
+
+    ghost Steps = { AnySteps };
+
+    ghost Item = { ℕ };
+
+    ghost faults = { index_faults };
+
+    ghost refusal = { index_refusal };
+
+    fn refused(why: Why, place: u64) -> Verdict {
+        Verdict::Refused { place, why }
+    }
+}
