@@ -1,4 +1,5 @@
--- The separating places that a game keeps, for the position that it stands at and for those before it.
+-- The separating places that a game keeps, for the position that it stands at and for those before
+-- it.
 use Rattle.std.specs.Prelude.{List, [], ◌∷◌, Option, IfSome, IsTrue, ◌↔◌, ⊤}
 use Rattle.hive_model.specs.declared.places.Place.{Place}
 use Rattle.hive_model.specs.declared.places.Move.{Move}
@@ -11,7 +12,8 @@ use Rattle.hive_model.specs.Games.{after}
 abbrev pub AreSeparating : Stacks → List Place → Type 0
 AreSeparating b places = (p : Place) → IsTrue (on_list places p) ↔ IsSeparating b p
 
--- what is known before each of the moves, from this position on: nothing, or the separating places of the board that stood there
+-- what is known before each of the moves, from this position on: nothing, or the separating places
+-- of the board that stood there
 abbrev pub AreKept : Position → List Move → List (Option (List Place)) → Type 0
 AreKept p [] known = ⊤
 AreKept p (m ∷ ms) [] = ⊤

@@ -29,13 +29,17 @@ origins p (m ∷ ms) = origin_of p.board m ∷ origins (after p m) ms
 
 -- the piece is in hand, or on top of its place
 abbrev pub IsLoose : Stacks → ℕ → Type 0
-IsLoose b x = (spot_of b x ≡ None) ⊎ ((s : Spot) × (spot_of b x ≡ Some s) × (s.level + 1 ≡ height_at b s.place))
+IsLoose b x =
+    (spot_of b x ≡ None) ⊎ ((s : Spot) × (spot_of b x ≡ Some s)
+    × (s.level + 1 ≡ height_at b s.place))
 
--- the move takes a piece from the hand or from the top of a place, and puts it on a place of the plane;
--- no two occupied places are 32 or more apart before or after
+-- the move takes a piece from the hand or from the top of a place, and puts it on a place of the
+-- plane; no two occupied places are 32 or more apart before or after
 abbrev pub CanMake : Stacks → Move → Type 0
 CanMake b Pass = IsBoard b
-CanMake b (To x q) = IsBoard b × (x < 28) × IsLoose b x × IsWithin 9000 q × IsSpread 32 b × IsSpread 32 (put (without b x) x q)
+CanMake b (To x q) =
+    IsBoard b × (x < 28) × IsLoose b x × IsWithin 9000 q × IsSpread 32 b
+    × IsSpread 32 (put (without b x) x q)
 
 -- the move was made on the board b, its piece came from there, and c is what it left
 pub record WasMade (b : Stacks) (m : Move) (from : Option Place) (c : Stacks) : Type 0 where
@@ -43,8 +47,10 @@ pub record WasMade (b : Stacks) (m : Move) (from : Option Place) (c : Stacks) : 
   pub board_is : c ≡ after_board b m
   pub from_is : from ≡ origin_of b m
 
--- the moves are a game, the board is the one that they lead to, and the pieces came from these places
-pub record IsReplayed (t : GameType) (b : Stacks) (made : List Move) (from : List (Option Place)) : Type 0 where
+-- the moves are a game, the board is the one that they lead to, and the pieces came from these
+-- places
+pub record IsReplayed (t : GameType) (b : Stacks) (made : List Move)
+    (from : List (Option Place)) : Type 0 where
   pub game : IsGame t made
   pub board_is : b ≡ (replay (opening t) made).board
   pub from_are : from ≡ origins (opening t) made

@@ -29,9 +29,11 @@ pub record IsWorklist (found work : List Place) : Type 0 where
 abbrev pub Begins : List Place → List Place → Type 0
 Begins old new = (k : ℕ) (q : Place) → slice_get old k ≡ Some q → slice_get new k ≡ Some q
 
--- each step from one of the first n places of the worklist, or from s, leads to s or to a place that was found
+-- each step from one of the first n places of the worklist, or from s, leads to s or to a place
+-- that was found
 pub record IsExpanded (b : Stacks) (s : Place) (found work : List Place) (n : ℕ) : Type 0 where
   pub list : IsAround b found
   pub ways : (q : Place) → IsOn found q → AntWay b s q
   pub start : (q : Place) → StepAway b s s q → IsOn found q
-  pub others : (k : ℕ) → k < n → (p q : Place) → slice_get work k ≡ Some p → StepAway b s p q → IsOn found q
+  pub others : (k : ℕ) → k < n → (p q : Place) → slice_get work k ≡ Some p → StepAway b s p q
+      → IsOn found q

@@ -23,7 +23,8 @@ pub record HopAlong (b : Stacks) (p : Place) (d : Dir) (q : Place) : Type 0 wher
   pub empty : height_at b q ≡ 0
   pub over : (k : ℕ) → 0 < k → k < far → IsTrue (is_occupied b (steps k p d))
 
--- The last step of a spider that began at s and made its first step to x: it does not go back to either.
+-- The last step of a spider that began at s and made its first step to x: it does not go back to
+-- either.
 abbrev pub ThirdStep : Stacks → Place → Place → Place → Place → Type 0
 ThirdStep b s x y q = GroundStep b y q × (s ≢ q) × (x ≢ q)
 

@@ -93,8 +93,9 @@ judged_of (Judged v) = Ok v
 judged_of (Missed unread) = Err unread
 
 -- How the lines to come were taken where so many lines were read at most: what was written of them,
--- where they are told, by their worth and the texts that they make; and that nothing was written else.
--- Why the input could not be read or the text not be written, and what was then read of the input.
+-- where they are told, by their worth and the texts that they make; and that nothing was written
+-- else. Why the input could not be read or the text not be written, and what was then read of the
+-- input.
 pub record MigratesAhead (worth : Judgement) (texts : List Line → List ℕ → Type 0) (most : ℕ)
     (taken : Taken) (reader : Reading) (source sink source' sink' : Aside) : Type 0 where
   pub told : (left : List Line) → ahead_of reader source.bytes ≡ Some left

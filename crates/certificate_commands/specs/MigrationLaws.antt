@@ -16,7 +16,8 @@ use Rattle.certificate_commands.specs.Migrating.{MigrateRun}
 abbrev pub MigrationsAreDone : Type 0
 MigrationsAreDone =
     RunsAreDone MigrateRun
-    (λ input. (head : Head) × (m : Move) × (indices : List ℕ) × HoldsOf (lines input) head m indices)
+    (λ input. (head : Head) × (m : Move) × (indices : List ℕ)
+    × HoldsOf (lines input) head m indices)
 
 -- what is written where a run is done is accepted
 abbrev pub MigratedIsAccepted : Type 0

@@ -18,7 +18,8 @@ use Rattle.certificate_text.specs.Text.{HeadRead}
 abbrev pub in_all : Reading → Told → Option ℕ
 in_all reader rest = option_map (λ left. reader.taken + length left) rest
 
--- the next line was taken; or it is missing or too long, which is the fault of the line of this number
+-- the next line was taken; or it is missing or too long, which is the fault of the line of this
+-- number
 abbrev pub TakesLine : Result ⊤ HeadFault → ℕ → List ℕ → ToldLines → ToldLines → Type 0
 TakesLine (Ok done) n last old new = old ≡ option_map (λ left. Text last ∷ left) new
 TakesLine (Err (BadLine k)) n last old new = (k ≡ n) × (NoneAhead old ⊎ LongAhead old)
@@ -27,8 +28,8 @@ TakesLine (Err ReadFault) n last old new = ⊤
 TakesLine (Err InputFull) n last old new = ⊤
 TakesLine (Err Memory) n last old new = ⊥
 
--- the number of the last line that was taken at most where the reading of lines up to the n-th meets this fault: that of the bad
--- line, or the second, which is the game
+-- the number of the last line that was taken at most where the reading of lines up to the n-th
+-- meets this fault: that of the bad line, or the second, which is the game
 abbrev pub fault_line : ℕ → HeadFault → ℕ
 fault_line n (BadLine k) = k
 fault_line n (BadGame fault) = 2
@@ -50,9 +51,11 @@ ReadsGame (Err ReadFault) read = ⊥
 ReadsGame (Err InputFull) read = ⊥
 ReadsGame (Err Memory) read = ⊤
 
--- What the reading of a part of a head answers where just these lines were to come: what the definition gives, and then all but their
--- first k are to come; or the fault that the definition gives.
-abbrev pub Reads : {A : Type 0} → ℕ → Result A HeadFault → Result A HeadFault → List Line → ToldLines → Type 0
+-- What the reading of a part of a head answers where just these lines were to come: what the
+-- definition gives, and then all but their first k are to come; or the fault that the definition
+-- gives.
+abbrev pub Reads : {A : Type 0} → ℕ → Result A HeadFault → Result A HeadFault → List Line
+    → ToldLines → Type 0
 Reads k (Ok a) read lines later = (read ≡ Ok a) × (later ≡ Some (drop k lines))
 Reads k (Err (BadLine n)) read lines later = read ≡ Err (BadLine n)
 Reads k (Err (BadGame fault)) read lines later = read ≡ Err (BadGame fault)

@@ -7,8 +7,9 @@ use Rattle.line_feed.specs.SoFar.{Fed}
 use Rattle.claim_walks.specs.declared.items.ItemAnswer.{ItemAnswer}
 use Rattle.claim_walks.specs.declared.items.ItemAnswer.TheVariants.{Item, End, Bad, Failed, Full}
 
--- Of the input these first bytes were read, by a reader that was new, and it gave these lines of them, at most so many. The bytes are
--- within the limit, and the reader holds the front of one line and at most one piece beyond it.
+-- Of the input these first bytes were read, by a reader that was new, and it gave these lines of
+-- them, at most so many. The bytes are within the limit, and the reader holds the front of one line
+-- and at most one piece beyond it.
 pub record HasRead (input : List ℕ) (rest : Told) (reader : Reading) (most : ℕ) : Type 0 where
   pub bytes : List ℕ
   pub given : List Line
@@ -17,8 +18,8 @@ pub record HasRead (input : List ℕ) (rest : Told) (reader : Reading) (most : �
   pub within : reader.taken ≤ input_limit
   pub little : HoldsLittle reader
 
--- How far a reader has come that was asked for an item, by the answer: it has met the end; a read has failed below the limit; or the
--- limit is reached.
+-- How far a reader has come that was asked for an item, by the answer: it has met the end; a read
+-- has failed below the limit; or the limit is reached.
 abbrev pub StopsAt : {T : Type 0} → ItemAnswer T → Reading → Type 0
 StopsAt (Item item) reader = ⊤
 StopsAt End reader = reader.finished ≡ true

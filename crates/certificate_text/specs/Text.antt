@@ -1,5 +1,6 @@
--- Certificates as texts. Five lines are the head: `hive-certificate ` and the version; a game; `depth ` and a number from 1 to 64;
--- `move ` and a move text; `value ` and a whole number. On each line behind them stands an index.
+-- Certificates as texts. Five lines are the head: `hive-certificate ` and the version; a game;
+-- `depth ` and a number from 1 to 64; `move ` and a move text; `value ` and a whole number. On each
+-- line behind them stands an index.
 use Rattle.std.specs.Prelude.{ℕ, List, [], ◌∷◌, ◌++◌, codes, decimal, drop, ℤ, pos, neg_ℤ, Option, Some, None, Result, Ok, Err, option_map}
 use Rattle.std.specs.Fmt.{signed_decimal}
 use Rattle.hive_model.specs.declared.pieces.GameType.{GameType}
@@ -25,7 +26,8 @@ then_at None next = None
 then_at (Some a) next = next a
 
 abbrev pub version_at : ℕ → List ℕ → Option ℕ
-version_at newest line = then_at (behind_word (codes "hive-certificate ") line) (λ t. number_at t 1 newest)
+version_at newest line =
+    then_at (behind_word (codes "hive-certificate ") line) (λ t. number_at t 1 newest)
 
 abbrev pub depth_at : List ℕ → Option ℕ
 depth_at line = then_at (behind_word (codes "depth ") line) (λ t. number_at t 1 64)
@@ -57,7 +59,8 @@ abbrev pub index_in : Line → Option ℕ
 index_in (Text line) = index_at line
 index_in TooLong = None
 
--- The head, line by line. The first line that is missing, too long or not of its form is its fault; or what is wrong with the game.
+-- The head, line by line. The first line that is missing, too long or not of its form is its fault;
+-- or what is wrong with the game.
 
 abbrev pub or_bad : {A : Type 0} → ℕ → Option A → Result A HeadFault
 or_bad n None = Err (BadLine n)
@@ -80,7 +83,8 @@ game_in (TooLong ∷ rest) = Err (BadLine 2)
 game_in (Text line ∷ rest) = or_bad_game (game_of line)
 
 -- what is made of a part of a head, or its fault
-abbrev pub and_then : {A B : Type 0} → Result A HeadFault → (A → Result B HeadFault) → Result B HeadFault
+abbrev pub and_then : {A B : Type 0} → Result A HeadFault → (A → Result B HeadFault)
+    → Result B HeadFault
 and_then (Ok a) next = next a
 and_then (Err fault) next = Err fault
 
@@ -95,7 +99,14 @@ head_of newest lines =
     and_then (field_in 3 depth_at (drop 2 lines)) (λ depth.
     and_then (field_in 4 move_at (drop 3 lines)) (λ claim_text.
     and_then (field_in 5 value_at (drop 4 lines)) (λ value.
-    Ok (record { version = version; game_type = game.game_type; moves = game.moves; claim_text = claim_text; depth = depth; value = value }))))))
+    Ok (record {
+      version = version;
+      game_type = game.game_type;
+      moves = game.moves;
+      claim_text = claim_text;
+      depth = depth;
+      value = value;
+    }))))))
 
 -- The written form
 

@@ -46,7 +46,8 @@ pub fn push_number(text: &mut ReplyText, word: &[u8], number: u32) -> Result<(),
 fn push_move<G: Game>(text: &mut ReplyText, game: &G, m: Move) -> Result<(), AllocError>
     requires { IsOn (moves (position (G.course game.now))) m }
     ensures line { OnOk result (text.new
-        ≡ text.old ++ written_line (codes "move " ++ text_of (position (G.course game.now)).board m)) }
+        ≡ text.old ++ written_line (codes "move "
+        ++ text_of (position (G.course game.now)).board m)) }
     ensures game { IsGame (G.course game.now).game_type (G.course game.now).made }
 {
     let _state = game.state();
@@ -79,7 +80,8 @@ pub fn write_head<G: Game + Drop>(
     ensures head { IfOk result (λ t. t ≡ head_text version
         (G.course game.now).game_type (G.course game.now).made
         claim.now.depth claim.now.best claim.now.value) }
-    ensures game { IfOk result (λ t. IsGame (G.course game.now).game_type (G.course game.now).made) }
+    ensures game { IfOk result (λ t. IsGame (G.course game.now).game_type
+        (G.course game.now).made) }
 {
     let mut text = ReplyText::new(alloc);
     push_number(&mut text, b"hive-certificate ", version)?;

@@ -7,8 +7,8 @@ use Rattle.strategy_check.specs.Checks.{OnShort}
 use Rattle.citing_text.specs.declared.migrating.Migrated.{Migrated}
 use Rattle.citing_text.specs.declared.migrating.Migrated.TheVariants.{Done as IsDone, Refused, Halted, WriteFault, Memory}
 
--- Where the call ended at an answer of the indices that gave no item, what is so after such an answer
--- is so; and all was read where anything was written.
+-- Where the call ended at an answer of the indices that gave no item, what is so after such an
+-- answer is so; and all was read where anything was written.
 abbrev pub MigrateEnded : (ItemAnswer ℕ → Type 0) → Migrated → Type 0
 MigrateEnded met IsDone = met End
 MigrateEnded met WriteFault = met End

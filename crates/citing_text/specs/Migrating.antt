@@ -33,10 +33,11 @@ ShortAnswers o (Some (CheckHalted Full)) d = ⊤
 abbrev pub ShortCountsBad : Outcome ShortSteps Why → Option (Checked Why) → ℕ → Type 0
 ShortCountsBad o answer count = IfSome answer (λ checked. CountsBad o checked count)
 
--- where a fault ends it, at most so many items were taken away: those before it, and what was looked
--- at
+-- where a fault ends it, at most so many items were taken away: those before it, and what was
+-- looked at
 abbrev pub ShortCountsRefused : Option (Checked Why) → ℕ → Type 0
-ShortCountsRefused answer count = IfSome answer (λ checked. CountsRefused index_faults checked count)
+ShortCountsRefused answer count =
+    IfSome answer (λ checked. CountsRefused index_faults checked count)
 
 -- why the indices ended it, or none where there was no memory for a token
 abbrev pub ShortEndCauses : Option (Checked Why) → ℕ → ℕ → Bool → Type 0
@@ -44,7 +45,8 @@ ShortEndCauses None = ReadCauses ⊥ ⊥
 ShortEndCauses (Some checked) = EndCauses checked
 
 -- the items are indices that hold, and the lines are those of the tokens that are written of them
-pub record Shortens (p : Position) (d : ℕ) (m : Move) (v : ℤ) (items : List (Option ℕ)) (lines : List ℕ) : Type 0 where
+pub record Shortens (p : Position) (d : ℕ) (m : Move) (v : ℤ) (items : List (Option ℕ))
+    (lines : List ℕ) : Type 0 where
   pub indices : List ℕ
   pub are : items ≡ map (λ i. Some i) indices
   pub hold : Holds p d m v indices
@@ -52,7 +54,8 @@ pub record Shortens (p : Position) (d : ℕ) (m : Move) (v : ℤ) (items : List 
 
 -- What is answered and written where just these items were to come: a head and the lines of the
 -- tokens, or a part of them where a write failed; or what a check answers of the indices.
-abbrev pub MigrateAnswers : Position → ℕ → Move → ℤ → List (Option ℕ) → List ℕ → Migrated → Told → Told → Type 0
+abbrev pub MigrateAnswers : Position → ℕ → Move → ℤ → List (Option ℕ) → List ℕ → Migrated → Told
+    → Told → Type 0
 MigrateAnswers p d m v items head Done before after =
     (lines : List ℕ) × Shortens p d m v items lines × (after ≡ behind before (head ++ lines))
 MigrateAnswers p d m v items head WriteFault before after =

@@ -18,10 +18,13 @@ use Rattle.strategy_check.specs.declared.answers.Why.TheVariants.{BadIndex, Leaf
 use Rattle.citing_text.specs.declared.shortening.ShortWalk.{ShortWalk}
 use Rattle.citing_text.specs.Shortening.{short_ending}
 
--- The moment of a walk over indices, of which these tell the count of faults, whether no more may be read, and so on.
-abbrev pub short_moment : {I : Type 0} → (I → ℕ) → (I → Bool) → (I → ℕ) → (I → Lent) → (I → List ℕ → ℕ → Type 0) → (I → ItemAnswer ℕ → Type 0) → ShortWalk I → Moment ℕ
+-- The moment of a walk over indices, of which these tell the count of faults, whether no more may
+-- be read, and so on.
+abbrev pub short_moment : {I : Type 0} → (I → ℕ) → (I → Bool) → (I → ℕ) → (I → Lent)
+    → (I → List ℕ → ℕ → Type 0) → (I → ItemAnswer ℕ → Type 0) → ShortWalk I → Moment ℕ
 short_moment faults full count lenders known met walk =
-    moment_of faults full count lenders known met (walk.indices.ghost_name ∷ walk.draft.ghost_name ∷ []) walk.draft.now.taken walk.indices.now
+    moment_of faults full count lenders known met
+    (walk.indices.ghost_name ∷ walk.draft.ghost_name ∷ []) walk.draft.now.taken walk.indices.now
 
 -- why it was ended, or none where there was no memory for a token
 abbrev pub of_short_stop : Option (Stop Why) → Option (WalkAnswer Why)

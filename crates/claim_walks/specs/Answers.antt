@@ -42,7 +42,8 @@ Answers o (Halted Bad) = (n : ℕ) × (o ≡ Halt n)
 Answers o (Halted Failed) = ⊤
 Answers o (Halted Full) = ⊤
 
--- how many items were taken away where a part of a walk ends: those that it took, and a bad item that ends it
+-- how many items were taken away where a part of a walk ends: those that it took, and a bad item
+-- that ends it
 abbrev pub ended : {W : Type 0} → WalkAnswer W → ℕ → ℕ
 ended Done n = n
 ended (Refuses why) n = n
@@ -62,13 +63,15 @@ CountsBad o (Halted Bad) count = (n : ℕ) × (o ≡ Halt n) × (count ≡ held 
 CountsBad o (Halted Failed) count = ⊤
 CountsBad o (Halted Full) count = ⊤
 
--- Where a fault ends a whole check, at most so many items were taken away: those before it, and what was looked at.
+-- Where a fault ends a whole check, at most so many items were taken away: those before it, and
+-- what was looked at.
 abbrev pub CountsRefused : {W : Type 0} → Faults W → Checked W → ℕ → Type 0
 CountsRefused faults Accepted count = ⊤
 CountsRefused faults (Refused place why) count = count ≤ place + faults.looked_at why
 CountsRefused faults (Halted answer) count = ⊤
 
--- The count of faults rose where a read failed, and else stands; no more may be read where that was the answer.
+-- The count of faults rose where a read failed, and else stands; no more may be read where that was
+-- the answer.
 pub record ReadCauses (failed stopped : Type 0) (before now : ℕ) (full : Bool) : Type 0 where
   pub later : before ≤ now
   pub rose : failed → Rose before now
@@ -83,7 +86,8 @@ Causes answer = ReadCauses (answer ≡ Halts Failed) (answer ≡ Halts Full)
 abbrev pub EndCauses : {W : Type 0} → Checked W → ℕ → ℕ → Bool → Type 0
 EndCauses answer = ReadCauses (answer ≡ Halted Failed) (answer ≡ Halted Full)
 
--- Where the walk ended at an answer of the items that gave none, what is so after such an answer is so.
+-- Where the walk ended at an answer of the items that gave none, what is so after such an answer is
+-- so.
 abbrev pub EndsAs : {T W : Type 0} → Faults W → (ItemAnswer T → Type 0) → WalkAnswer W → Type 0
 EndsAs faults met Done = ⊤
 EndsAs faults met (Refuses why) = faults.on_short why (met End)

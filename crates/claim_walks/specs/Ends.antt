@@ -7,8 +7,8 @@ use Rattle.claim_walks.specs.declared.answers.WalkAnswer.TheVariants.{Done, Refu
 use Rattle.claim_walks.specs.declared.answers.Checked.{Checked}
 use Rattle.claim_walks.specs.declared.answers.Checked.TheVariants.{Accepted, Refused, Halted}
 
--- Where all is shown, the items that are left decide: it is accepted if they are at their end, and refused with the fault `rest` if one is
--- left. No bad item ends it then, since that is left over.
+-- Where all is shown, the items that are left decide: it is accepted if they are at their end, and
+-- refused with the fault `rest` if one is left. No bad item ends it then, since that is left over.
 abbrev pub IsLastLook : {T W : Type 0} → W → ℕ → Told T → Checked W → Type 0
 IsLastLook rest taken told Accepted = IsAtEnd told
 IsLastLook rest taken told (Refused place why) = (place ≡ taken) × (why ≡ rest) × (told ≢ Some [])

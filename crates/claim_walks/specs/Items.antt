@@ -22,7 +22,8 @@ abbrev pub is_none_left : {T : Type 0} → List T → Bool
 is_none_left [] = true
 is_none_left (x ∷ xs) = false
 
--- what a call gave, and what it took away; items are told after it exactly where they were told before
+-- what a call gave, and what it took away; items are told after it exactly where they were told
+-- before
 abbrev pub Takes : {T : Type 0} → ItemAnswer T → Told T → Told T → Type 0
 Takes (Item item) old new = old ≡ in_front (Some item) new
 Takes End old new = (new ≡ old) × IsAtEnd old
@@ -38,7 +39,8 @@ counted Bad n = min (n + 1) (2 ^ 64 - 1)
 counted Failed n = n
 counted Full n = n
 
--- what no call changes: the references that items are read through, and how many bytes were taken or are to come, where that is told
+-- what no call changes: the references that items are read through, and how many bytes were taken
+-- or are to come, where that is told
 pub record Lent : Type 0 where
   pub references : List ℕ
   pub bytes : Option ℕ

@@ -17,17 +17,24 @@ ending_of rules ending BadIndex = Refused rules.reasons.bad_index
 ending_of rules ending (WalkStops stop) = ending stop
 
 -- the walk ends so where this is taken, whatever moves there are and however they would be walked
-abbrev pub EndsHere : {S W N : Type 0} → Rules S W → Sight S N → Position → ℕ → ℤ → N → Ending W → N → Type 0
+abbrev pub EndsHere : {S W N : Type 0} → Rules S W → Sight S N → Position → ℕ → ℤ → N → Ending W → N
+    → Type 0
 EndsHere {S} {W} rules V p e x before ending after =
-    (walk : Move → S → Outcome S W) (ms : List Move) → Follows V (λ s. walk_step rules walk ms (rules.take p e x s)) before ending after
+    (walk : Move → S → Outcome S W) (ms : List Move)
+    → Follows V (λ s. walk_step rules walk ms (rules.take p e x s)) before ending after
 
 -- what the code finds where a node takes a token, and what is then seen
-abbrev pub Finds : {S W N T : Type 0} → Rules S W → Sight S N → (T → Ending W) → Position → ℕ → ℤ → Took T → N → N → Type 0
-Finds {S} rules V ending p e x (Below i) before after = (s : S) → before ≡ V.view s → (s1 : S) × (rules.take p e x s ≡ GoesBelow i s1) × (after ≡ V.view s1)
+abbrev pub Finds : {S W N T : Type 0} → Rules S W → Sight S N → (T → Ending W) → Position → ℕ → ℤ
+    → Took T → N → N → Type 0
+Finds {S} rules V ending p e x (Below i) before after =
+    (s : S) → before ≡ V.view s → (s1 : S) × (rules.take p e x s ≡ GoesBelow i s1)
+    × (after ≡ V.view s1)
 Finds rules V ending p e x Shown before after = EndsHere rules V p e x before IsShown after
-Finds rules V ending p e x (Stops stop) before after = EndsHere rules V p e x before (ending stop) after
+Finds rules V ending p e x (Stops stop) before after =
+    EndsHere rules V p e x before (ending stop) after
 
--- What else is so from before a part of a walk until after it, of the walkers A that end it for the reasons T, and how parts join.
+-- What else is so from before a part of a walk until after it, of the walkers A that end it for the
+-- reasons T, and how parts join.
 pub record Parts (A T : Type 0) : Type 1 where
   -- where the walker does not end it
   pub goes : A → A → Type 0
@@ -63,9 +70,13 @@ abbrev pub IsPartIf : {A T : Type 0} → Parts A T → Option (Walked T) → A �
 IsPartIf parts None a b = b ≡ a
 IsPartIf parts (Some walked) a b = IsPart parts walked a b
 
--- How the walk of a whole certificate ends, all but the test that nothing is left over: its move is not legal, or its parts end so, where
--- what is left to it is told.
-abbrev pub LeadsToEnd : {S W N T : Type 0} → Rules S W → Sight S N → (T → Ending W) → Position → ℕ → Move → ℤ → Option (Walked T) → N → N → Type 0
-LeadsToEnd {S} rules V ending p d m v None before after = (s : S) → certificate rules p d m v s ≡ Fault rules.reasons.no_such_move 0
+-- How the walk of a whole certificate ends, all but the test that nothing is left over: its move is
+-- not legal, or its parts end so, where what is left to it is told.
+abbrev pub LeadsToEnd : {S W N T : Type 0} → Rules S W → Sight S N → (T → Ending W) → Position → ℕ
+    → Move → ℤ → Option (Walked T) → N → N → Type 0
+LeadsToEnd {S} rules V ending p d m v None before after =
+    (s : S) → certificate rules p d m v s ≡ Fault rules.reasons.no_such_move 0
 LeadsToEnd {S} {W} rules V ending p d m v (Some walked) before after =
-    (s : S) → before ≡ V.view s → (o : Outcome S W) × (certificate rules p d m v s ≡ go_on o (finish rules)) × Meets V o (ending_of rules ending walked) after
+    (s : S) → before ≡ V.view s → (o : Outcome S W)
+    × (certificate rules p d m v s ≡ go_on o (finish rules))
+    × Meets V o (ending_of rules ending walked) after

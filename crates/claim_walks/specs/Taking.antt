@@ -14,7 +14,8 @@ use Rattle.claim_walks.specs.declared.answers.WalkAnswer.TheVariants.{Done, Refu
 use Rattle.claim_walks.specs.declared.walker.Walked.{Walked}
 use Rattle.claim_walks.specs.declared.walker.Walked.TheVariants.{Done as AllDone, LeafFails, BadIndex, Stops}
 
--- what is told of items at one moment of a walk: the names of the references that it goes through are told too
+-- what is told of items at one moment of a walk: the names of the references that it goes through
+-- are told too
 pub record Moment (T : Type 0) : Type 1 where
   pub names : List ℕ
   pub taken : ℕ
@@ -25,9 +26,10 @@ pub record Moment (T : Type 0) : Type 1 where
   pub known : List ℕ → ℕ → Type 0
   pub met : ItemAnswer T → Type 0
 
--- The moment of a walk that goes through references of these names and took so many of these items, of which the functions in front tell
--- the count of faults, whether no more may be read, and so on.
-abbrev pub moment_of : {I T : Type 0} → (I → ℕ) → (I → Bool) → (I → ℕ) → (I → Lent) → (I → List ℕ → ℕ → Type 0) → (I → ItemAnswer T → Type 0) → List ℕ → ℕ → I → Moment T
+-- The moment of a walk that goes through references of these names and took so many of these items,
+-- of which the functions in front tell the count of faults, whether no more may be read, and so on.
+abbrev pub moment_of : {I T : Type 0} → (I → ℕ) → (I → Bool) → (I → ℕ) → (I → Lent)
+    → (I → List ℕ → ℕ → Type 0) → (I → ItemAnswer T → Type 0) → List ℕ → ℕ → I → Moment T
 moment_of faults full count lenders known met names taken items = record {
   names = names;
   taken = taken;
@@ -44,8 +46,10 @@ abbrev pub PartCauses : {W : Type 0} → Option (WalkAnswer W) → ℕ → ℕ �
 PartCauses None = ReadCauses ⊥ ⊥
 PartCauses (Some walked) = Causes walked
 
--- what is so of a part of a walk; of its answer there is none where neither a fault nor the items ended it
-pub record Taking {T W : Type 0} (kinds : Faults W) (answer : Option (WalkAnswer W)) (a b : Moment T) : Type 0 where
+-- what is so of a part of a walk; of its answer there is none where neither a fault nor the items
+-- ended it
+pub record Taking {T W : Type 0} (kinds : Faults W) (answer : Option (WalkAnswer W))
+    (a b : Moment T) : Type 0 where
   pub names : b.names ≡ a.names
   pub cause : PartCauses answer a.faults b.faults b.full
   pub counted : IfSome answer (λ walked. CountsOn walked a.count b.count a.taken b.taken)
@@ -92,23 +96,29 @@ goes-none kinds a = record {
   legal = tt;
 }
 
-counts-then : {W : Type 0} (answer : Option (WalkAnswer W)) (i j k n m l : ℕ) → (i ≡ n → j ≡ m) → IfSome answer (λ walked. CountsOn walked j k m l) → IfSome answer (λ walked. CountsOn walked i k n l)
+counts-then : {W : Type 0} (answer : Option (WalkAnswer W)) (i j k n m l : ℕ) → (i ≡ n → j ≡ m)
+    → IfSome answer (λ walked. CountsOn walked j k m l)
+    → IfSome answer (λ walked. CountsOn walked i k n l)
 counts-then None i j k n m l first later = later
 counts-then (Some walked) i j k n m l first later = λ e. later (first e)
 
-pub goes-then : {T W : Type 0} (kinds : Faults W) (answer : Option (WalkAnswer W)) (a b c : Moment T) → GoesOn kinds a b → Taking kinds answer b c → Taking kinds answer a c
+pub goes-then : {T W : Type 0} (kinds : Faults W) (answer : Option (WalkAnswer W))
+    (a b c : Moment T) → GoesOn kinds a b → Taking kinds answer b c → Taking kinds answer a c
 goes-then kinds answer a b c first later = record {
   names = later.names ∙ first.names;
   cause = subst (λ n. PartCauses answer n c.faults c.full) (first.cause.same (λ e. cc)) later.cause;
-  counted = counts-then answer a.count b.count c.count a.taken b.taken c.taken first.counted later.counted;
+  counted =
+      counts-then answer a.count b.count c.count a.taken b.taken c.taken first.counted later.counted;
   lenders = later.lenders ∙ first.lenders;
   known = λ input before k. later.known input before (first.known input before k);
   met = later.met;
   legal = later.legal;
 }
 
--- what is so of the parts of a walk, of which the functions behind the faults tell why it was ended, and the moment at which it stands
-abbrev pub taking_parts : {A T W K : Type 0} → Faults W → (K → Option (WalkAnswer W)) → (A → Moment T) → Parts A K
+-- what is so of the parts of a walk, of which the functions behind the faults tell why it was
+-- ended, and the moment at which it stands
+abbrev pub taking_parts : {A T W K : Type 0} → Faults W → (K → Option (WalkAnswer W))
+    → (A → Moment T) → Parts A K
 taking_parts kinds answer at = record {
   goes = λ a b. GoesOn kinds (at a) (at b);
   stops = λ stop a b. Taking kinds (answer stop) (at a) (at b);

@@ -60,23 +60,29 @@ GivesLine bytes old new rest = (line : Line) × Gives old bytes line new rest
 
 -- the line that was given is a game, and the game under way is at its end
 abbrev pub GivesGame : Course → List ℕ → Reading → Reading → Told → Type 0
-GivesGame course bytes old new rest = (line : Line) × Gives old bytes line new rest × Resumes course (game_in line)
+GivesGame course bytes old new rest =
+    (line : Line) × Gives old bytes line new rest × Resumes course (game_in line)
 
 -- the line that was given is no game, for this reason
 abbrev pub GivesOther : List ℕ → List ℕ → Reading → Reading → Told → Type 0
-GivesOther why bytes old new rest = (line : Line) × Gives old bytes line new rest × (game_in line ≡ Err why)
+GivesOther why bytes old new rest =
+    (line : Line) × Gives old bytes line new rest × (game_in line ≡ Err why)
 
--- No game was read: the line is none, there is no line, a read has failed, the limit is reached, or memory is wanting.
+-- No game was read: the line is none, there is no line, a read has failed, the limit is reached, or
+-- memory is wanting.
 abbrev pub GivesNone : NoGame → List ℕ → Reading → Reading → Told → Type 0
 GivesNone (Bad text) bytes old new rest =
-    ((why : List ℕ) × GivesOther why bytes old new rest × (text ≡ bad_line why)) ⊎ (Ends old bytes new rest × (text ≡ bad_line (codes "no line")))
+    ((why : List ℕ) × GivesOther why bytes old new rest × (text ≡ bad_line why))
+    ⊎ (Ends old bytes new rest × (text ≡ bad_line (codes "no line")))
 GivesNone ReadFault bytes old new rest = Holds old bytes new × (new.taken < input_limit)
 GivesNone InputFull bytes old new rest = Holds old bytes new × (new.taken ≡ input_limit)
 GivesNone Memory bytes old new rest = GivesLine bytes old new rest ⊎ Ends old bytes new rest
 
--- The input did not end: a line was given, a read has failed, the limit is reached, or memory is wanting for the line that says so.
+-- The input did not end: a line was given, a read has failed, the limit is reached, or memory is
+-- wanting for the line that says so.
 abbrev pub GoesOn : NoGame → List ℕ → Reading → Reading → Told → Type 0
-GoesOn (Bad text) bytes old new rest = GivesLine bytes old new rest × (text ≡ bad_line (codes "more lines"))
+GoesOn (Bad text) bytes old new rest =
+    GivesLine bytes old new rest × (text ≡ bad_line (codes "more lines"))
 GoesOn ReadFault bytes old new rest = Holds old bytes new × (new.taken < input_limit)
 GoesOn InputFull bytes old new rest = Holds old bytes new × (new.taken ≡ input_limit)
 GoesOn Memory bytes old new rest = GivesLine bytes old new rest
@@ -84,6 +90,10 @@ GoesOn Memory bytes old new rest = GivesLine bytes old new rest
 -- why the input is not one game, and what was read to know it
 abbrev pub IsNoGame : NoGame → List ℕ → Told → Type 0
 IsNoGame (Bad text) input rest = (why : List ℕ) × IsBad input rest why × (text ≡ bad_line why)
-IsNoGame ReadFault input rest = (bytes : List ℕ) × (left : List ℕ) × (length bytes < input_limit) × IsUndecided input rest bytes left
-IsNoGame InputFull input rest = (bytes : List ℕ) × (left : List ℕ) × (length bytes ≡ input_limit) × IsUndecided input rest bytes left
+IsNoGame ReadFault input rest =
+    (bytes : List ℕ) × (left : List ℕ) × (length bytes < input_limit)
+    × IsUndecided input rest bytes left
+IsNoGame InputFull input rest =
+    (bytes : List ℕ) × (left : List ℕ) × (length bytes ≡ input_limit)
+    × IsUndecided input rest bytes left
 IsNoGame Memory input rest = FewWereRead input rest

@@ -5,7 +5,8 @@ use Rattle.hive_model.specs.Lines.{Line, lines}
 use Rattle.line_feed.specs.Feed.{HoldsLittle, Reading, input_limit, pending}
 use Rattle.line_feed.specs.SoFar.{WasRead}
 
--- what is told of both sides of a run: the bytes that the source has left, and those that the sink took
+-- what is told of both sides of a run: the bytes that the source has left, and those that the sink
+-- took
 pub record Sides : Type 0 where
   pub rest : Told
   pub written : Told
@@ -14,9 +15,11 @@ pub record Sides : Type 0 where
 abbrev pub WhereTold : Told → (List ℕ → Type 0) → Type 0
 WhereTold told claim = (input : List ℕ) → told ≡ Some input → claim input
 
--- These are first lines of the input. The bytes that have left the source are within the limit: they are those lines, and what a
--- reader still holds, the front of one line and at most one piece beyond it.
-pub record AreRead (input : List ℕ) (rest : Told) (read : List Line) (bytes left : List ℕ) (reader : Reading) (others : List Line) : Type 0 where
+-- These are first lines of the input. The bytes that have left the source are within the limit:
+-- they are those lines, and what a reader still holds, the front of one line and at most one piece
+-- beyond it.
+pub record AreRead (input : List ℕ) (rest : Told) (read : List Line) (bytes left : List ℕ)
+    (reader : Reading) (others : List Line) : Type 0 where
   pub was_read : WasRead input rest bytes left
   pub within : length bytes ≤ input_limit
   pub of_bytes : lines bytes ≡ read ++ lines (pending reader)
@@ -25,7 +28,8 @@ pub record AreRead (input : List ℕ) (rest : Told) (read : List Line) (bytes le
 
 abbrev pub WereRead : List ℕ → Told → List Line → Type 0
 WereRead input rest read =
-    (bytes : List ℕ) × (left : List ℕ) × (reader : Reading) × (others : List Line) × AreRead input rest read bytes left reader others
+    (bytes : List ℕ) × (left : List ℕ) × (reader : Reading) × (others : List Line)
+    × AreRead input rest read bytes left reader others
 
 -- the input, which is below the limit, was read to its end
 pub record IsAllRead (input : List ℕ) (rest : Told) : Type 0 where

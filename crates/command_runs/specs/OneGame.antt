@@ -1,4 +1,5 @@
--- Input that is to be one line, a game that is not over: the game, or why there is none; and what was read to know it.
+-- Input that is to be one line, a game that is not over: the game, or why there is none; and what
+-- was read to know it.
 use Rattle.std.specs.Prelude.{◌≡◌, ℕ, ◌≤◌, List, [], ◌∷◌, ◌++◌, length, codes, Result, Ok, Err, if◌then◌else◌}
 use Rattle.io_edge.specs.Outside.{Told}
 use Rattle.hive_model.specs.Positions.{Position, opening}
@@ -53,7 +54,8 @@ pub record IsAsked (input : List ℕ) (rest : Told) (game : Parsed) : Type 0 whe
   pub asks : asked (lines input) ≡ Ok game
   pub over : IsAllRead input rest
 
--- The input asks about no game, for this reason. The lines that were read show it, and are two at most.
+-- The input asks about no game, for this reason. The lines that were read show it, and are two at
+-- most.
 pub record IsBad (input : List ℕ) (rest : Told) (why : List ℕ) : Type 0 where
   pub asks : asked (lines input) ≡ Err why
   pub read : List Line
@@ -67,7 +69,8 @@ AreUndecided [] = Unit {0}
 AreUndecided (line ∷ []) = (game : Parsed) × (game_in line ≡ Ok game)
 AreUndecided (line ∷ (other ∷ others)) = ⊥
 
--- the bytes that have left the source are these, and their lines that end in LF do not show yet what is to be answered
+-- the bytes that have left the source are these, and their lines that end in LF do not show yet
+-- what is to be answered
 pub record IsUndecided (input : List ℕ) (rest : Told) (bytes left : List ℕ) : Type 0 where
   pub was_read : WasRead input rest bytes left
   pub undecided : AreUndecided (whole_lines bytes)

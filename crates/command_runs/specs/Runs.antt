@@ -9,9 +9,12 @@ use Rattle.command_runs.specs.declared.status.Status.TheVariants.{ReadFault, Wri
 abbrev pub side_of : {A : Type 0} → (A → Told) → (A → ℕ) → A → Aside
 side_of bytes faults side = record { bytes = bytes side; faults = faults side }
 
--- A command ran from one state of a source and a sink to another, and ended with this status: what it read and wrote is what its run
--- says by the status, and where the status is that a read or a write has failed, a call of that side has.
-pub record RunsAs (Run : Status → Sides → Sides → Type 0) (status : Status) (source sink source' sink' : Aside) : Type 0 where
-  pub run : Run status (record { rest = source.bytes; written = sink.bytes }) (record { rest = source'.bytes; written = sink'.bytes })
+-- A command ran from one state of a source and a sink to another, and ended with this status: what
+-- it read and wrote is what its run says by the status, and where the status is that a read or a
+-- write has failed, a call of that side has.
+pub record RunsAs (Run : Status → Sides → Sides → Type 0) (status : Status)
+    (source sink source' sink' : Aside) : Type 0 where
+  pub run : Run status (record { rest = source.bytes; written = sink.bytes })
+      (record { rest = source'.bytes; written = sink'.bytes })
   pub reads : HasCause (status ≡ ReadFault) source.faults source'.faults
   pub writes : HasCause (status ≡ WriteFault) sink.faults sink'.faults

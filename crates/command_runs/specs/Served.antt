@@ -21,8 +21,8 @@ pub record Served (status : Status) (before : Sides) (input : List ℕ) : Type 0
   pub told : before.rest ≡ Some input
   pub below : length input < input_limit
 
--- Where the streams served a run of this kind, and it has such an input, it is done, unless memory is
--- wanting.
+-- Where the streams served a run of this kind, and it has such an input, it is done, unless memory
+-- is wanting.
 abbrev pub RunsAreDone : (Status → Sides → Sides → Type 0) → (List ℕ → Type 0) → Type 0
 RunsAreDone Run Asks =
     (status : Status) → (before : Sides) → (after : Sides) → Run status before after

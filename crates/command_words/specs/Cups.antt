@@ -16,8 +16,8 @@ program_texts text = slice_split (λ b. nat_eq b 59) text
 abbrev pub AreDistinct : List (List ℕ) → Type 0
 AreDistinct texts = AllPairs (λ a b. a ≢ b) texts
 
--- 2 to 8 programs with semicolons between them, each with its words separated by single spaces, none empty, and no two programs
--- equal
+-- 2 to 8 programs with semicolons between them, each with its words separated by single spaces,
+-- none empty, and no two programs equal
 pub record ArePrograms (text : List ℕ) : Type 0 where
   pub some : 2 ≤ length (program_texts text)
   pub few : length (program_texts text) ≤ 8
@@ -27,10 +27,12 @@ pub record ArePrograms (text : List ℕ) : Type 0 where
 abbrev pub cup_options : List (List ℕ)
 cup_options = codes "engines" ∷ (codes "type" ∷ (codes "depth" ∷ (codes "plies" ∷ [])))
 
-abbrev pub cup_values : List ℕ → Option (List ℕ) → Option (List ℕ) → Option (List ℕ) → List (Option (List ℕ))
+abbrev pub cup_values : List ℕ → Option (List ℕ) → Option (List ℕ) → Option (List ℕ)
+    → List (Option (List ℕ))
 cup_values engines game_type depth plies = Some engines ∷ (game_type ∷ (depth ∷ (plies ∷ [])))
 
--- the options of a match that a cup has, too: it is played to a depth, and without the rule of third repetition
+-- the options of a match that a cup has, too: it is played to a depth, and without the rule of
+-- third repetition
 abbrev pub cup_choices : Option (List ℕ) → Option (List ℕ) → Option (List ℕ) → Choices
 cup_choices game_type depth plies =
     record {
@@ -42,14 +44,15 @@ cup_choices game_type depth plies =
       repetition = None;
     }
 
--- `cup` and its options, of which the programs are required. Each game is played by the setup of a match to a depth,
--- without the rule of third repetition.
+-- `cup` and its options, of which the programs are required. Each game is played by the setup of a
+-- match to a depth, without the rule of third repetition.
 pub record AreCupWords (words : List (String Global)) (setup : Setup) : Type 0 where
   pub engines : List ℕ
   pub game_type : Option (List ℕ)
   pub depth : Option (List ℕ)
   pub plies : Option (List ℕ)
-  pub give : Gives (map string_bytes words) (codes "cup") cup_options (cup_values engines game_type depth plies)
+  pub give : Gives (map string_bytes words) (codes "cup") cup_options
+      (cup_values engines game_type depth plies)
   pub programs : ArePrograms engines
   pub setup_is : IsSetupOf (cup_choices game_type depth plies) setup
 
@@ -57,11 +60,13 @@ pub record AreCupWords (words : List (String Global)) (setup : Setup) : Type 0 w
 abbrev pub engine_of : List ℕ → Engine
 engine_of text = record { text = text; words = between_spaces text }
 
--- The words ask for a cup of these programs, in this order: of the texts between the semicolons of the value of the option `engines`.
+-- The words ask for a cup of these programs, in this order: of the texts between the semicolons of
+-- the value of the option `engines`.
 pub record AskForEngines (words : List (String Global)) (engines : List Engine) : Type 0 where
   pub text : List ℕ
   pub game_type : Option (List ℕ)
   pub depth : Option (List ℕ)
   pub plies : Option (List ℕ)
-  pub give : Gives (map string_bytes words) (codes "cup") cup_options (cup_values text game_type depth plies)
+  pub give : Gives (map string_bytes words) (codes "cup") cup_options
+      (cup_values text game_type depth plies)
   pub engines_are : engines ≡ map engine_of (program_texts text)

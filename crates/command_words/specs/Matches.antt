@@ -20,7 +20,8 @@ in_first b (word ∷ words) = (b ∷ word) ∷ words
 -- what stands between the spaces (32) of a text
 abbrev pub between_spaces : List ℕ → List (List ℕ)
 between_spaces [] = [] ∷ []
-between_spaces (b ∷ bs) = if nat_eq b 32 then [] ∷ between_spaces bs else in_first b (between_spaces bs)
+between_spaces (b ∷ bs) =
+    if nat_eq b 32 then [] ∷ between_spaces bs else in_first b (between_spaces bs)
 
 abbrev pub AreSomeBytes : List ℕ → Type 0
 AreSomeBytes [] = ⊥
@@ -50,10 +51,12 @@ IsTypeOr (Some text) t = text ≡ type_bytes t
 abbrev pub IsRuleOf : Option (List ℕ) → Bool → Type 0
 IsRuleOf text r = (n : ℕ) × IsNumberOr text 0 1 0 n × (r ≡ nat_eq n 1)
 
--- The engines are asked to a depth, to 2 where none is given; or in a time, with this margin; and never in both ways.
+-- The engines are asked to a depth, to 2 where none is given; or in a time, with this margin; and
+-- never in both ways.
 abbrev pub IsLevelOf : Option (List ℕ) → Option (List ℕ) → ℕ → Level → Type 0
 IsLevelOf depth None margin level = (n : ℕ) × IsNumberOr depth 1 64 2 n × (level ≡ Depth n)
-IsLevelOf None (Some time) margin level = (budget : ℕ) × IsTimeText time budget × (level ≡ Time budget margin)
+IsLevelOf None (Some time) margin level =
+    (budget : ℕ) × IsTimeText time budget × (level ≡ Time budget margin)
 IsLevelOf (Some depth) (Some time) margin level = ⊥
 
 -- the values of the options that have a default
@@ -76,7 +79,8 @@ choices_of texts = record {
   repetition = option_map (λ t. t.now) texts.repetition;
 }
 
--- A match is played by this setup. The margin, a second where none is given, has its range where no time is given, too.
+-- A match is played by this setup. The margin, a second where none is given, has its range where no
+-- time is given, too.
 pub record IsSetupOf (choices : Choices) (setup : Setup) : Type 0 where
   pub kind : IsTypeOr choices.game_type setup.game_type
   pub margin : ℕ
@@ -102,17 +106,21 @@ pub record AreMatchWords (words : List (String Global)) (setup : Setup) : Type 0
   pub white : List ℕ
   pub black : List ℕ
   pub choices : Choices
-  pub give : Gives (map string_bytes words) (codes "match") match_options (match_values white black choices)
+  pub give : Gives (map string_bytes words) (codes "match") match_options
+      (match_values white black choices)
   pub white_is : IsProgram white
   pub black_is : IsProgram black
   pub setup_is : IsSetupOf choices setup
 
--- The words ask for a match of these two programs: the words of white's program and of black's, the program's name first, are what
--- stands between the spaces of the values of the options `white` and `black`.
-pub record AskForPrograms (words : List (String Global)) (white black : List (List ℕ)) : Type 0 where
+-- The words ask for a match of these two programs: the words of white's program and of black's, the
+-- program's name first, are what stands between the spaces of the values of the options `white` and
+-- `black`.
+pub record AskForPrograms (words : List (String Global))
+    (white black : List (List ℕ)) : Type 0 where
   pub white_text : List ℕ
   pub black_text : List ℕ
   pub choices : Choices
-  pub give : Gives (map string_bytes words) (codes "match") match_options (match_values white_text black_text choices)
+  pub give : Gives (map string_bytes words) (codes "match") match_options
+      (match_values white_text black_text choices)
   pub white_is : white ≡ between_spaces white_text
   pub black_is : black ≡ between_spaces black_text

@@ -20,7 +20,8 @@ name_text Book = codes "book"
 name_text Migrate = codes "migrate"
 
 abbrev pub names : List Name
-names = Uhp ∷ Replay ∷ Count ∷ Grow ∷ Certify ∷ Check ∷ Solve ∷ Verify ∷ Match ∷ Cup ∷ Book ∷ Migrate ∷ []
+names = Uhp ∷ Replay ∷ Count ∷ Grow ∷ Certify ∷ Check ∷ Solve ∷ Verify ∷ Match ∷ Cup ∷ Book
+    ∷ Migrate ∷ []
 
 -- the command that a word names
 abbrev pub name_at : List ℕ → Option Name

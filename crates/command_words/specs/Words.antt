@@ -22,7 +22,8 @@ abbrev pub AreUhpWords : List (String Global) → Type 0
 AreUhpWords words = (map string_bytes words ≡ []) ⊎ AreAlone words Uhp
 
 -- a command and its one option, a number from `least` to `most`
-pub record AreNumbered (words : List (String Global)) (command option : List ℕ) (least most n : ℕ) : Type 0 where
+pub record AreNumbered (words : List (String Global)) (command option : List ℕ)
+    (least most n : ℕ) : Type 0 where
   pub value : List ℕ
   pub give : GiveOne (map string_bytes words) command option value
   pub number : IsNumberText value least most n
@@ -36,7 +37,8 @@ pub record AreGrowth (seed_text plies_text : List ℕ) (seed plies : ℕ) : Type
 pub record AreGrowWords (words : List (String Global)) (seed plies : ℕ) : Type 0 where
   pub seed_text : List ℕ
   pub plies_text : List ℕ
-  pub give : Gives (map string_bytes words) (codes "grow") (codes "seed" ∷ (codes "plies" ∷ [])) (Some seed_text ∷ (Some plies_text ∷ []))
+  pub give : Gives (map string_bytes words) (codes "grow") (codes "seed" ∷ (codes "plies" ∷ []))
+      (Some seed_text ∷ (Some plies_text ∷ []))
   pub growth : AreGrowth seed_text plies_text seed plies
 
 -- `replay`, alone or with the option `repetition`

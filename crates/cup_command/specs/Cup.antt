@@ -82,8 +82,8 @@ pub record IsTheirs (setup : Setup) (t : Standing) (game : Heard) : Type 0 where
   pub sent : AreSent setup game.white_says game.black_says game.white_got game.black_got
 
 -- a game was played: its moves and the bytes sent are the first ones of the match of its two
--- programs, and its verdict is that of the match, or a side broke; in a game that is not excepted all
--- are those of the match
+-- programs, and its verdict is that of the match, or a side broke; in a game that is not excepted
+-- all are those of the match
 pub record IsGame (setup : Setup) (t : Standing) (game : Heard) : Type 0 where
   pub moves : IsFront t.moves (end_of setup game.white_says game.black_says).moves
   pub verdict :
@@ -173,8 +173,8 @@ pub record StartsFirst
       → before.to_come ≡ Some all
       → (count ≤ length all) × (after.to_come ≡ Some (drop count all))
 
--- the first programs were started, and not all; where it is told what was to come, none of them got a
--- byte
+-- the first programs were started, and not all; where it is told what was to come, none of them got
+-- a byte
 pub record BreaksOff (engines : List Engine) (before after : Engines) : Type 0 where
   pub count : ℕ
   pub few : count < length (cup_words engines)

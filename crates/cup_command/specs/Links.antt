@@ -82,8 +82,8 @@ counted (link ∷ links) count =
 abbrev pub failures : List Wire → ℕ
 failures links = sum_by (λ link. if has_failed link then 1 else 0) links
 
--- of the programs with these words the first ones were started, and all of them where none failed to
--- start; and then all links were closed, those that were there before first
+-- of the programs with these words the first ones were started, and all of them where none failed
+-- to start; and then all links were closed, those that were there before first
 pub record GivesUp
     (failed : Type 0) (words : List (List (List ℕ))) (there : List Wire) (before after : Engines)
     : Type 0 where

@@ -23,10 +23,12 @@ text_of engines number = text_in (slice_get engines (number - 1))
 abbrev pub numbers_text : Pairing → List ℕ
 numbers_text game = decimal game.white ++ 32 ∷ (decimal game.black ++ 32 ∷ [])
 
--- the line of a game: its numbers and its game string, with the outcome under the setup's rule for its state, with an LF (10)
+-- the line of a game: its numbers and its game string, with the outcome under the setup's rule for
+-- its state, with an LF (10)
 abbrev pub moves_line : Setup → Pairing → Standing → List ℕ
 moves_line setup game t =
-    codes "game " ++ (numbers_text game ++ (string_under setup.repetition setup.game_type t.moves ++ 10 ∷ []))
+    codes "game " ++ (numbers_text game
+    ++ (string_under setup.repetition setup.game_type t.moves ++ 10 ∷ []))
 
 -- the line of a verdict: the game's numbers and the verdict, with an LF (10)
 abbrev pub verdict_line : Setup → Pairing → Standing → List ℕ
@@ -46,7 +48,8 @@ games_text setup games ends = flat_map (λ g. game_text setup g.0 g.1) (zip game
 abbrev pub standing_text : List Engine → Place → List ℕ
 standing_text engines place =
     map shown (text_of engines place.engine)
-    ++ (codes " points " ++ (decimal place.points ++ (codes " games " ++ (decimal place.games ++ 10 ∷ []))))
+    ++ (codes " points " ++ (decimal place.points
+    ++ (codes " games " ++ (decimal place.games ++ 10 ∷ []))))
 
 -- the whole text of a cup: of all games in their order, and then of the standings
 abbrev pub cup_text : Setup → List Engine → List Standing → List Place → List ℕ

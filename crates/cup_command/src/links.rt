@@ -1,5 +1,19 @@
 //! The starts of the programs of a cup, game by game.
-ghost use Rattle.std.specs.Prelude.{◌≡◌, ◌≤◌, ◌<◌, ◌++◌, [], ◌∷◌, length, map, string_bytes, IfOk, OnOk, OnErr, IsErrOf};
+ghost use Rattle.std.specs.Prelude.{
+  ◌≡◌,
+  ◌≤◌,
+  ◌<◌,
+  ◌++◌,
+  [],
+  ◌∷◌,
+  length,
+  map,
+  string_bytes,
+  IfOk,
+  OnOk,
+  OnErr,
+  IsErrOf,
+};
 ghost use Rattle.std.specs.List.{All};
 ghost use Rattle.io_edge.specs.Outside.{HasCause, Starts};
 ghost use Rattle.match_core.specs.Keeps.{IsSetup};
@@ -7,7 +21,17 @@ ghost use Rattle.cup_core.specs.Cup.{pairings};
 ghost use Rattle.match_runner.specs.Wires.{IsFresh, Wire, wire};
 ghost use Rattle.cup_games.specs.Played.{IsDepth, pairing};
 ghost use Rattle.cup_command.specs.Cup.{cup_words, game_words, words_of};
-ghost use Rattle.cup_command.specs.Links.{ClosesLinks, GivesUp, IsPaired, IsReady, StartsAll, StartsBy, all_links, links_of, ready};
+ghost use Rattle.cup_command.specs.Links.{
+  ClosesLinks,
+  GivesUp,
+  IsPaired,
+  IsReady,
+  StartsAll,
+  StartsBy,
+  all_links,
+  links_of,
+  ready,
+};
 
 use crate::closing::{close_game, close_links};
 use cup_core::{Pairing, Program};

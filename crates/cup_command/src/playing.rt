@@ -9,7 +9,14 @@ ghost use Rattle.match_command.specs.Match.{NoneIsOpen};
 ghost use Rattle.cup_core.specs.Cup.{pairings};
 ghost use Rattle.cup_core.specs.declared.standing.Standing.{Standing as AnyPlace};
 ghost use Rattle.cup_games.specs.Played.{AreStandingsOf, IsDepth, IsPlayed, pairing};
-ghost use Rattle.cup_command.specs.Cup.{AreCupStandings, BreaksOff, CupRun, EndsEarly, Played, scene};
+ghost use Rattle.cup_command.specs.Cup.{
+  AreCupStandings,
+  BreaksOff,
+  CupRun,
+  EndsEarly,
+  Played,
+  scene,
+};
 ghost use Rattle.cup_command.specs.Links.{IsReady, jobs_text};
 ghost use Rattle.cup_command.specs.Texts.{cup_text, standing_text};
 

@@ -6,7 +6,13 @@ ghost use Rattle.cup_core.specs.declared.standing.Standing.{Standing as AnyPlace
 ghost use Rattle.cup_games.specs.Played.{AreStandingsOf, HasVerdict, pairing};
 ghost use Rattle.match_command.specs.Texts.{shown};
 ghost use Rattle.cup_command.specs.Links.{IsOf, ended_text, jobs_text};
-ghost use Rattle.cup_command.specs.Texts.{moves_line, numbers_text, standing_text, text_of, verdict_line};
+ghost use Rattle.cup_command.specs.Texts.{
+  moves_line,
+  numbers_text,
+  standing_text,
+  text_of,
+  verdict_line,
+};
 
 use cup_core::{Pairing, Program, Standing as Place};
 use cup_games::{CupJob, standings};

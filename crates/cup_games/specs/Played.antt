@@ -12,7 +12,8 @@ use Rattle.cup_core.specs.declared.pairing.Pairing.{Pairing}
 use Rattle.cup_core.specs.declared.standing.Standing.{Standing as Place}
 use Rattle.cup_core.specs.Cup.{AreStandings}
 
--- a game of a cup: two engines, a link to each, what is played by, and the referee once it was played
+-- a game of a cup: two engines, a link to each, what is played by, and the referee once it was
+-- played
 pub record Job : Type 0 where
   pub white : ℕ
   pub black : ℕ
@@ -33,7 +34,8 @@ pub record IsJob (white black : ℕ) (setup : Setup) : Type 0 where
   pub depth : IsDepth setup.level
 
 -- the match of these two links was run by the referee, and its verdict is never a late answer
-pub record IsRefereed (setup : Setup) (r : Standing) (white0 white black0 black : Wire) : Type 0 where
+pub record IsRefereed (setup : Setup) (r : Standing)
+    (white0 white black0 black : Wire) : Type 0 where
   pub links : RanLinks setup r white0 white black0 black
   pub in_time : ¬ IsLate r.verdict
 
@@ -45,7 +47,9 @@ pub record IsSameGame (old new : Job) : Type 0 where
 
 -- the game was played over the links as they stood before
 abbrev pub IsPlayed : Job → Job → Type 0
-IsPlayed old new = IsSomeAnd new.referee (λ r. IsRefereed old.setup r old.white_link new.white_link old.black_link new.black_link)
+IsPlayed old new =
+    IsSomeAnd new.referee
+    (λ r. IsRefereed old.setup r old.white_link new.white_link old.black_link new.black_link)
 
 -- the game was played, or it has no referee
 abbrev pub IsPlayedOrNot : Job → Job → Type 0
@@ -73,4 +77,6 @@ verdict_of (Some r) = r.verdict
 
 -- the standings of the engines by the verdicts of the games
 abbrev pub AreStandingsOf : ℕ → List Job → List Place → Type 0
-AreStandingsOf engines jobs list = (verdicts : List Verdict) × (map (λ j. verdict_of j.referee) jobs ≡ map Some verdicts) × AreStandings engines verdicts list
+AreStandingsOf engines jobs list =
+    (verdicts : List Verdict) × (map (λ j. verdict_of j.referee) jobs ≡ map Some verdicts)
+    × AreStandings engines verdicts list

@@ -37,9 +37,12 @@ suspects b p ds = how_many (is_suspect (ring (is_occupied b) p)) ds
 
 -- each place is right, or is a suspect in one of these directions
 abbrev pub Pending : Standings → Stacks → Place → List Dir → Type 0
-Pending k b p ds = (q : Place) → Right k b q ⊎ ((d : Dir) × IsOn ds d × (step p d ≡ q) × (is_suspect (ring (is_occupied b) p) d ≡ true))
+Pending k b p ds =
+    (q : Place) → Right k b q ⊎ ((d : Dir) × IsOn ds d × (step p d ≡ q)
+    × (is_suspect (ring (is_occupied b) p) d ≡ true))
 
--- so many changes, once the pieces below x are looked at: one more than these, if one of all the pieces is not there
+-- so many changes, once the pieces below x are looked at: one more than these, if one of all the
+-- pieces is not there
 abbrev pub Room : Stacks → ℕ → ℕ → Type 0
 Room b n x = (n ≤ x) ⊎ ((n ≤ 1 + x) × ((y : ℕ) × (y < 28) × (spot_of b y ≡ None) × (y < x → n ≤ x)))
 

@@ -55,8 +55,8 @@ abbrev pub IsOnce : List Place → Type 0
 IsOnce [] = Unit {0}
 IsOnce (p ∷ ps) = (¬ IsOn ps p) × IsOnce ps
 
--- the changes are those from the old statuses to the new ones: each place whose status changed, once, with its status of before,
--- and no other place
+-- the changes are those from the old statuses to the new ones: each place whose status changed,
+-- once, with its status of before, and no other place
 pub record AreChanges (old new : Standings) (cs : List Change) : Type 0 where
   pub once : IsOnce (changed cs)
   pub before : (c : Change) → IsOn cs c → c.before ≡ status_on old c.place
@@ -79,7 +79,8 @@ pub record Shrunk (k : Standings) (b : Stacks) (p : Place) : Type 0 where
   pub piece : ℕ
   pub made : before ≡ put b piece p
 
--- these stood for a board that is sound, and one piece was put on top of the place since, or taken from it
+-- these stood for a board that is sound, and one piece was put on top of the place since, or taken
+-- from it
 abbrev pub Late : Standings → Stacks → Place → Type 0
 Late k b p = Grown k b p ⊎ Shrunk k b p
 

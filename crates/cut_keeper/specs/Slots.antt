@@ -45,7 +45,8 @@ standings (o ∷ s) = with_entry o (standings s)
 
 pub record IsStore (s : List (Option Entry)) : Type 0 where
   pub many : length s ≡ 56
-  pub apart : (i j : ℕ) (e f : Entry) → slice_get s i ≡ Some (Some e) → slice_get s j ≡ Some (Some f) → e.place ≡ f.place → i ≡ j
+  pub apart : (i j : ℕ) (e f : Entry) → slice_get s i ≡ Some (Some e)
+      → slice_get s j ≡ Some (Some f) → e.place ≡ f.place → i ≡ j
 
 -- the slot is the place's own, or free where the place has none
 pub record IsSlotFor (s : List (Option Entry)) (p : Place) (i : ℕ) : Type 0 where

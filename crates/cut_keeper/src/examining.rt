@@ -8,7 +8,16 @@ ghost use Rattle.hive_model.specs.Boards.{StandsAt, IsBoard, is_occupied, spot_o
 ghost use Rattle.cut_keeper.specs.Rings.{ring, ring_mask, later};
 ghost use Rattle.cut_keeper.specs.Keeping.{status_on, with_status, undone, changed, status_of};
 ghost use Rattle.cut_keeper.specs.Slots.{Few};
-ghost use Rattle.cut_keeper.specs.Examining.{Room, Known, Right, RightButHeight, Pending, suspects, IsTold, Told};
+ghost use Rattle.cut_keeper.specs.Examining.{
+  Room,
+  Known,
+  Right,
+  RightButHeight,
+  Pending,
+  suspects,
+  IsTold,
+  Told,
+};
 ghost use Rattle.cut_keeper.specs.Updating.{MadeRight};
 
 use crate::rings::is_suspect;

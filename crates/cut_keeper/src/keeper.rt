@@ -86,7 +86,8 @@ impl CutKeeper {
         requires grown { Grown self.old (B.stacks board.now) place }
         requires within { IsWithin 9500 place }
         ensures updated { Updated (B.stacks board.now) self.old self.new result }
-        ensures steps { TakesFew (B.stacks board.now) place (1 < height_at (B.stacks board.now) place)
+        ensures steps { TakesFew (B.stacks board.now) place
+            (1 < height_at (B.stacks board.now) place)
             steps.old steps.new }
     {
         update(&mut self.store, board, place, steps)
@@ -105,7 +106,8 @@ impl CutKeeper {
         requires shrunk { Shrunk self.old (B.stacks board.now) place }
         requires within { IsWithin 9500 place }
         ensures updated { Updated (B.stacks board.now) self.old self.new result }
-        ensures steps { TakesFew (B.stacks board.now) place (0 < height_at (B.stacks board.now) place)
+        ensures steps { TakesFew (B.stacks board.now) place
+            (0 < height_at (B.stacks board.now) place)
             steps.old steps.new }
     {
         update(&mut self.store, board, place, steps)

@@ -1,6 +1,21 @@
 //! The best move of a position at one depth.
 
-ghost use Rattle.std.specs.Prelude.{◌≡◌, ◌+◌, ◌-◌, ◌≤◌, None, Some, IfSome, false, ◌≤ℤ◌, neg_ℤ, negsuc, slice_get, nat_eq, if◌then◌else◌};
+ghost use Rattle.std.specs.Prelude.{
+  ◌≡◌,
+  ◌+◌,
+  ◌-◌,
+  ◌≤◌,
+  None,
+  Some,
+  IfSome,
+  false,
+  ◌≤ℤ◌,
+  neg_ℤ,
+  negsuc,
+  slice_get,
+  nat_eq,
+  if◌then◌else◌,
+};
 ghost use Rattle.std.specs.Option.{option_eq};
 ghost use Rattle.hive_model.specs.declared.places.Move.{Move as AnyMove};
 ghost use Rattle.hive_model.specs.Legal.{is_over, moves};
@@ -142,7 +157,8 @@ fn try_in_turn<G: Game, C: Clock>(
     requires node { IsNode depth level (G.course game.old) stack.old }
     requires low { negsuc 1000088 ≤ℤ begun.worth }
     requires high { begun.worth ≤ℤ value (position (G.course game.old)) depth }
-    requires known { IfSome begun.hint (λ i. (m : AnyMove) → slice_get (moves (position (G.course game.old))) i ≡ Some m
+    requires known { IfSome begun.hint (λ i. (m : AnyMove)
+        → slice_get (moves (position (G.course game.old))) i ≡ Some m
         → reply_value (position (G.course game.old)) (depth - 1) m ≡ begun.worth) }
     ensures top { IfSome result (λ t. IsTop (position (G.course game.old)) depth t.best) }
     ensures before { AreAsBefore (G.course game.old) (G.course game.new) stack.old stack.new }
@@ -211,8 +227,10 @@ fn worth_of<G: Game, C: Clock>(
         window v) }
     ensures before { AreAsBefore (G.course game.old) (G.course game.new) stack.old stack.new }
     ensures stopped { result ≡ None → HasStopped ticker.old ticker.new (C.last clock.new) }
-    ensures time { KeepsTime ticker.old ticker.new (C.readings clock.old) (C.readings clock.new) (C.last clock.old) (C.last clock.new)
-        (if option_eq nat_eq begun.hint (Some i) then 0 else behind (position (G.course game.old)) depth m) }
+    ensures time { KeepsTime ticker.old ticker.new (C.readings clock.old) (C.readings clock.new)
+        (C.last clock.old) (C.last clock.new)
+        (if option_eq nat_eq begun.hint (Some i) then 0
+        else behind (position (G.course game.old)) depth m) }
     ensures played { G.played game.new ≤ G.played game.old +
         (1 + cost (after (position (G.course game.old)) m) depth (neg_ℤ window.beta)
         (neg_ℤ window.alpha)) }

@@ -12,35 +12,50 @@ use Rattle.game_text.specs.Refusals.{IsRefused, IsRefusedUnder}
 
 -- the string of a game of at most 5,000 moves is a line that is this game
 abbrev pub StringsAreGames : Type 0
-StringsAreGames = (t : GameType) (ms : List Move) → IsGame t ms → length ms ≤ 5000 → IsGameLine (string t ms) t ms
+StringsAreGames =
+    (t : GameType) (ms : List Move) → IsGame t ms → length ms ≤ 5000 → IsGameLine (string t ms) t ms
 
 -- a line is at most one game
 abbrev pub IsOneGame : Type 0
-IsOneGame = (line : List ℕ) (t u : GameType) (ms ns : List Move) → IsGameLine line t ms → IsGameLine line u ns → (t ≡ u) × (ms ≡ ns)
+IsOneGame =
+    (line : List ℕ) (t u : GameType) (ms ns : List Move) → IsGameLine line t ms
+    → IsGameLine line u ns → (t ≡ u) × (ms ≡ ns)
 
 -- the function that reads a line answers a game exactly where the line is that game
 abbrev pub GamesAreRead : Type 0
-GamesAreRead = (line : List ℕ) (g : Parsed) → (game_of line ≡ Ok g) ↔ IsGameLine line g.game_type g.moves
+GamesAreRead =
+    (line : List ℕ) (g : Parsed) → (game_of line ≡ Ok g) ↔ IsGameLine line g.game_type g.moves
 
 -- and a fault exactly where the line is refused with that fault
 abbrev pub FaultsAreRead : Type 0
-FaultsAreRead = (line : List ℕ) (fault : GameFault) → (game_of line ≡ Err fault) ↔ IsRefused line fault
+FaultsAreRead =
+    (line : List ℕ) (fault : GameFault) → (game_of line ≡ Err fault) ↔ IsRefused line fault
 
 -- The same under the rule of third repetition, switched on or off
 
 -- the string of a game that stands is a line that is this game
 abbrev pub StringsAreGamesUnder : Type 0
-StringsAreGamesUnder = (r : Bool) (t : GameType) (ms : List Move) → IsGame t ms → StandsUnder r t ms → length ms ≤ 5000 → IsGameLineUnder r (string_under r t ms) t ms
+StringsAreGamesUnder =
+    (r : Bool) (t : GameType) (ms : List Move) → IsGame t ms → StandsUnder r t ms → length ms ≤ 5000
+    → IsGameLineUnder r (string_under r t ms) t ms
 
 abbrev pub IsOneGameUnder : Type 0
-IsOneGameUnder = (r : Bool) (line : List ℕ) (t u : GameType) (ms ns : List Move) → IsGameLineUnder r line t ms → IsGameLineUnder r line u ns → (t ≡ u) × (ms ≡ ns)
+IsOneGameUnder =
+    (r : Bool) (line : List ℕ) (t u : GameType) (ms ns : List Move) → IsGameLineUnder r line t ms
+    → IsGameLineUnder r line u ns → (t ≡ u) × (ms ≡ ns)
 
 abbrev pub GamesAreReadUnder : Type 0
-GamesAreReadUnder = (r : Bool) (line : List ℕ) (g : Parsed) → (game_under r line ≡ Ok g) ↔ IsGameLineUnder r line g.game_type g.moves
+GamesAreReadUnder =
+    (r : Bool) (line : List ℕ) (g : Parsed)
+    → (game_under r line ≡ Ok g) ↔ IsGameLineUnder r line g.game_type g.moves
 
 abbrev pub FaultsAreReadUnder : Type 0
-FaultsAreReadUnder = (r : Bool) (line : List ℕ) (fault : GameFault) → (game_under r line ≡ Err fault) ↔ IsRefusedUnder r line fault
+FaultsAreReadUnder =
+    (r : Bool) (line : List ℕ) (fault : GameFault)
+    → (game_under r line ≡ Err fault) ↔ IsRefusedUnder r line fault
 
 -- where the rule is switched off a line is a game under it exactly where it is a game
 abbrev pub OffIsPlain : Type 0
-OffIsPlain = (line : List ℕ) (t : GameType) (ms : List Move) → IsGameLineUnder false line t ms ↔ IsGameLine line t ms
+OffIsPlain =
+    (line : List ℕ) (t : GameType) (ms : List Move)
+    → IsGameLineUnder false line t ms ↔ IsGameLine line t ms

@@ -34,11 +34,13 @@ abbrev pub if_legal : Bool → ℕ → Result (List Move) GameFault → Result (
 if_legal true n rest = rest
 if_legal false n rest = Err (IllegalMove n)
 
-abbrev pub on_move : Result Move MoveFault → ℕ → (Move → Result (List Move) GameFault) → Result (List Move) GameFault
+abbrev pub on_move : Result Move MoveFault → ℕ → (Move → Result (List Move) GameFault)
+    → Result (List Move) GameFault
 on_move (Err fault) n f = Err (BadMove n fault)
 on_move (Ok m) n f = f m
 
--- the rule of third repetition is switched on, and the last of these positions stands for the third time
+-- the rule of third repetition is switched on, and the last of these positions stands for the third
+-- time
 abbrev pub is_third : Bool → List KeyParts → Bool
 is_third r seen = r && nat_le 3 (count_last seen)
 
@@ -46,11 +48,15 @@ is_third r seen = r && nat_le 3 (count_last seen)
 abbrev pub may_follow : Bool → List KeyParts → Position → Move → Bool
 may_follow r seen p m = not (is_third r seen) && is_listed p m
 
--- the moves that the texts denote, each on the board before it, or the fault of the first that is refused; the keys are those of
--- the positions up to this one
-unfoldable pub moves_of : Bool → List KeyParts → Position → List (List ℕ) → ℕ → Result (List Move) GameFault
+-- the moves that the texts denote, each on the board before it, or the fault of the first that is
+-- refused; the keys are those of the positions up to this one
+unfoldable pub moves_of : Bool → List KeyParts → Position → List (List ℕ) → ℕ
+    → Result (List Move) GameFault
 moves_of r seen p [] n = Ok []
-moves_of r seen p (x ∷ xs) n = on_move (move_of p.game_type p.board x) n (λ m. if_legal (may_follow r seen p m) n (prefixed (m ∷ []) (moves_of r (seen ++ key (after p m) ∷ []) (after p m) xs (n + 1))))
+moves_of r seen p (x ∷ xs) n =
+    on_move (move_of p.game_type p.board x) n
+    (λ m. if_legal (may_follow r seen p m) n
+    (prefixed (m ∷ []) (moves_of r (seen ++ key (after p m) ∷ []) (after p m) xs (n + 1))))
 
 -- the moves from the opening on
 abbrev pub moves_from : Bool → GameType → List (List ℕ) → Result (List Move) GameFault
@@ -72,16 +78,20 @@ abbrev pub is_turn_of : Turn → Position → Bool
 is_turn_of u end = is_colour u.side end.side && nat_eq u.number end.turn
 
 -- the declared state is the outcome of the game, and the declared turn is that of its position
-abbrev pub confirmed : Bool → GameType → State → Turn → Result (List Move) GameFault → Result Parsed GameFault
+abbrev pub confirmed : Bool → GameType → State → Turn → Result (List Move) GameFault
+    → Result Parsed GameFault
 confirmed r t s u (Err fault) = Err fault
 confirmed r t s u (Ok ms) =
     if is_state s (outcome_under r t ms) then
-    (if is_turn_of u (replay (opening t) ms) then Ok (record { game_type = t; moves = ms }) else Err OtherTurn)
+    (if is_turn_of u (replay (opening t) ms) then Ok (record { game_type = t; moves = ms })
+    else Err OtherTurn)
     else Err OtherState
 
-abbrev pub at_moves : Bool → GameType → State → Turn → List (List ℕ) → Option ℕ → Result Parsed GameFault
+abbrev pub at_moves : Bool → GameType → State → Turn → List (List ℕ) → Option ℕ
+    → Result Parsed GameFault
 at_moves r t s u rest (Some k) = Err (Malformed k)
-at_moves r t s u rest None = if nat_lt 5000 (length rest) then Err TooLong else confirmed r t s u (moves_from r t rest)
+at_moves r t s u rest None =
+    if nat_lt 5000 (length rest) then Err TooLong else confirmed r t s u (moves_from r t rest)
 
 abbrev pub at_turn : Bool → GameType → State → Option Turn → List (List ℕ) → Result Parsed GameFault
 at_turn r t s None rest = Err (Malformed 3)
@@ -134,7 +144,8 @@ Agrees (Ok g) read = read ≡ Ok g
 Agrees (Err fault) read = Fails fault read
 
 -- the text denotes the move, and it is legal in a game that is not drawn by the rule
-pub record Plays (r : Bool) (seen : List KeyParts) (p : Position) (x : List ℕ) (m : Move) : Type 0 where
+pub record Plays (r : Bool) (seen : List KeyParts) (p : Position) (x : List ℕ)
+    (m : Move) : Type 0 where
   pub denoted : move_of p.game_type p.board x ≡ Ok m
   pub undrawn : is_third r seen ≡ false
   pub legal : IsOn (moves p) m
@@ -142,7 +153,9 @@ pub record Plays (r : Bool) (seen : List KeyParts) (p : Position) (x : List ℕ)
 -- the text is refused on the board of the position, or the move that it denotes does not follow
 abbrev pub IsMoveFault : Bool → List KeyParts → Position → List ℕ → ℕ → GameFault → Type 0
 IsMoveFault r seen p x n (BadMove k fault) = (k ≡ n) × (move_of p.game_type p.board x ≡ Err fault)
-IsMoveFault r seen p x n (IllegalMove k) = (k ≡ n) × ((m : Move) × (move_of p.game_type p.board x ≡ Ok m) × (may_follow r seen p m ≡ false))
+IsMoveFault r seen p x n (IllegalMove k) =
+    (k ≡ n) × ((m : Move) × (move_of p.game_type p.board x ≡ Ok m)
+    × (may_follow r seen p m ≡ false))
 IsMoveFault r seen p x n Memory = ⊥
 IsMoveFault r seen p x n (Malformed k) = ⊥
 IsMoveFault r seen p x n TooLong = ⊥

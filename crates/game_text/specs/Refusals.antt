@@ -39,10 +39,12 @@ pub record IsNoTurn (line : List ℕ) : Type 0 where
   pub declared : State
   pub rest : List (List ℕ)
   pub parts_are : parts line ≡ type_bytes game_type ∷ (state_bytes declared ∷ rest)
-  pub none : (part : List ℕ) (texts : List (List ℕ)) → rest ≡ part ∷ texts → (u : Turn) → ¬ IsTurn part u
+  pub none : (part : List ℕ) (texts : List (List ℕ)) → rest ≡ part ∷ texts → (u : Turn)
+      → ¬ IsTurn part u
 
 -- the parts are a type, a state, a turn, and further texts
-pub record HasParts (line : List ℕ) (t : GameType) (s : State) (u : Turn) (texts : List (List ℕ)) : Type 0 where
+pub record HasParts (line : List ℕ) (t : GameType) (s : State) (u : Turn)
+    (texts : List (List ℕ)) : Type 0 where
   pub parts_are : parts line ≡ type_bytes t ∷ (state_bytes s ∷ (turn_bytes u.side u.number ∷ texts))
   pub low : 1 ≤ u.number
   pub high : u.number ≤ 999999999
@@ -51,7 +53,8 @@ pub record HasParts (line : List ℕ) (t : GameType) (s : State) (u : Turn) (tex
 abbrev pub AreNotEmpty : List (List ℕ) → Type 0
 AreNotEmpty texts = (text : List ℕ) → IsOn texts text → text ≢ []
 
--- the first parts are a type, a state and a turn, and from the fourth on this is the first that is empty
+-- the first parts are a type, a state and a turn, and from the fourth on this is the first that is
+-- empty
 pub record IsEmptyMove (line : List ℕ) (number : ℕ) : Type 0 where
   pub game_type : GameType
   pub declared : State
@@ -64,10 +67,13 @@ pub record IsEmptyMove (line : List ℕ) (number : ℕ) : Type 0 where
 
 -- this is the first part that is absent or not of its form
 abbrev pub IsMalformed : List ℕ → ℕ → Type 0
-IsMalformed line number = ((number ≡ 1) × IsNoType line) ⊎ (((number ≡ 2) × IsNoState line) ⊎ (((number ≡ 3) × IsNoTurn line) ⊎ IsEmptyMove line number))
+IsMalformed line number =
+    ((number ≡ 1) × IsNoType line) ⊎ (((number ≡ 2) × IsNoState line)
+    ⊎ (((number ≡ 3) × IsNoTurn line) ⊎ IsEmptyMove line number))
 
 -- the parts are a type, a state, a turn, and texts of which none is empty
-pub record HasForm (line : List ℕ) (t : GameType) (s : State) (u : Turn) (texts : List (List ℕ)) : Type 0 where
+pub record HasForm (line : List ℕ) (t : GameType) (s : State) (u : Turn)
+    (texts : List (List ℕ)) : Type 0 where
   pub parts_are : HasParts line t s u texts
   pub none_empty : AreNotEmpty texts
 
@@ -80,9 +86,10 @@ pub record IsTooLong (line : List ℕ) : Type 0 where
   pub form : HasForm line game_type declared turn texts
   pub long : 5000 < length texts
 
--- the line has its form and at most 5,000 moves, of which those before this one are a game, none of them after its end, and this
--- is the text of the next
-pub record IsReadUpTo (r : Bool) (line : List ℕ) (number : ℕ) (t : GameType) (ms : List Move) (text : List ℕ) : Type 0 where
+-- the line has its form and at most 5,000 moves, of which those before this one are a game, none of
+-- them after its end, and this is the text of the next
+pub record IsReadUpTo (r : Bool) (line : List ℕ) (number : ℕ) (t : GameType) (ms : List Move)
+    (text : List ℕ) : Type 0 where
   pub declared : State
   pub turn : Turn
   pub front : List (List ℕ)
@@ -100,7 +107,8 @@ pub record IsBadMove (r : Bool) (line : List ℕ) (number : ℕ) (fault : MoveFa
   pub made : List Move
   pub text : List ℕ
   pub read : IsReadUpTo r line number game_type made text
-  pub refuses : Refuses (replay (opening game_type) made).game_type (replay (opening game_type) made).board text fault
+  pub refuses : Refuses (replay (opening game_type) made).game_type
+      (replay (opening game_type) made).board text fault
 
 -- the first move that is refused is not legal, or follows the end of the game
 pub record IsIllegalMove (r : Bool) (line : List ℕ) (number : ℕ) : Type 0 where
@@ -109,11 +117,14 @@ pub record IsIllegalMove (r : Bool) (line : List ℕ) (number : ℕ) : Type 0 wh
   pub text : List ℕ
   pub move : Move
   pub read : IsReadUpTo r line number game_type made text
-  pub denotes : Denotes (replay (opening game_type) made).game_type (replay (opening game_type) made).board text move
-  pub illegal : (¬ IsOn (moves (replay (opening game_type) made)) move) ⊎ IsTrue (is_over_state (outcome_under r game_type made))
+  pub denotes : Denotes (replay (opening game_type) made).game_type
+      (replay (opening game_type) made).board text move
+  pub illegal : (¬ IsOn (moves (replay (opening game_type) made)) move)
+      ⊎ IsTrue (is_over_state (outcome_under r game_type made))
 
 -- the line has its form and at most 5,000 moves, which are a game, none of them after its end
-pub record IsReadWhole (r : Bool) (line : List ℕ) (t : GameType) (s : State) (u : Turn) (ms : List Move) : Type 0 where
+pub record IsReadWhole (r : Bool) (line : List ℕ) (t : GameType) (s : State) (u : Turn)
+    (ms : List Move) : Type 0 where
   pub texts : List (List ℕ)
   pub form : HasForm line t s u texts
   pub few : length texts ≤ 5000
@@ -138,9 +149,11 @@ pub record IsOtherTurn (r : Bool) (line : List ℕ) : Type 0 where
   pub made : List Move
   pub read : IsReadWhole r line game_type declared turn made
   pub same : declared ≡ outcome_under r game_type made
-  pub other : ¬ ((turn.side ≡ (replay (opening game_type) made).side) × (turn.number ≡ (replay (opening game_type) made).turn))
+  pub other : ¬ ((turn.side ≡ (replay (opening game_type) made).side)
+      × (turn.number ≡ (replay (opening game_type) made).turn))
 
--- The line is refused with this fault, where the rule of third repetition is switched on or off. Want of memory is none of the line.
+-- The line is refused with this fault, where the rule of third repetition is switched on or off.
+-- Want of memory is none of the line.
 abbrev pub IsRefusedUnder : Bool → List ℕ → GameFault → Type 0
 IsRefusedUnder r line (Malformed k) = IsMalformed line k
 IsRefusedUnder r line TooLong = IsTooLong line

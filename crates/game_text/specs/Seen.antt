@@ -5,7 +5,8 @@ use Rattle.hive_model.specs.Courses.{Course}
 use Rattle.hive_model.specs.Repetition.{keys}
 use Rattle.game_text.specs.declared.seen.Seen.{Seen}
 
--- where the rule of third repetition is switched on, those of all positions of the game, and none where it is switched off
+-- where the rule of third repetition is switched on, those of all positions of the game, and none
+-- where it is switched off
 abbrev pub keys_kept : Bool → Course → List KeyParts
 keys_kept r c = if r then keys c.game_type c.made else []
 

@@ -6,7 +6,8 @@ use Rattle.hive_model.specs.Strings.{turn_bytes}
 use Rattle.move_text.specs.Readers.{number_at}
 use Rattle.game_text.specs.declared.turns.Turn.{Turn}
 
--- the part declares this turn: `White[n]` or `Black[n]`, with a number of 1 to 9 digits that is not 0
+-- the part declares this turn: `White[n]` or `Black[n]`, with a number of 1 to 9 digits that is not
+-- 0
 pub record IsTurn (text : List ℕ) (u : Turn) : Type 0 where
   pub text_is : text ≡ turn_bytes u.side u.number
   pub low : 1 ≤ u.number
@@ -42,4 +43,6 @@ or_turn (Some t) other = Some t
 
 -- the turn that the part declares, if it declares one
 unfoldable pub turn_at : List ℕ → Option Turn
-turn_at text = or_turn (turn_of White (behind_word (codes "White[") text)) (turn_of Black (behind_word (codes "Black[") text))
+turn_at text =
+    or_turn (turn_of White (behind_word (codes "White[") text))
+    (turn_of Black (behind_word (codes "Black[") text))

@@ -7,4 +7,6 @@ use Rattle.hive_model.specs.Boards.{Stacks, is_occupied}
 
 -- exactly one of them is occupied
 abbrev pub is_beside_one : Stacks → Place → Dir → Bool
-is_beside_one b p d = is_occupied b (step p (dir_before d)) && not (is_occupied b (step p (dir_after d))) || not (is_occupied b (step p (dir_before d))) && is_occupied b (step p (dir_after d))
+is_beside_one b p d =
+    is_occupied b (step p (dir_before d)) && not (is_occupied b (step p (dir_after d)))
+    || not (is_occupied b (step p (dir_before d))) && is_occupied b (step p (dir_after d))

@@ -18,8 +18,8 @@ full_type = record { mosquito = true; ladybug = true; pillbug = true }
 abbrev pub start : Position
 start = opening full_type
 
--- SplitMix64 as a seed starts it: its state is the number that the seed's eight bytes are, the least
--- byte first
+-- SplitMix64 as a seed starts it: its state is the number that the seed's eight bytes are, the
+-- least byte first
 abbrev pub seeded : ℕ → ℕ
 seeded seed = from_le_bytes w64 (to_le_bytes w64 seed)
 
@@ -53,8 +53,8 @@ grown state (suc n) p =
 abbrev pub grown_moves : ℕ → ℕ → List Move
 grown_moves seed plies = grown (seeded seed) plies start
 
--- among how many moves the moves were chosen, in all: the lengths of the lists of legal moves before
--- each of them, added up
+-- among how many moves the moves were chosen, in all: the lengths of the lists of legal moves
+-- before each of them, added up
 unfoldable pub choices : Position → List Move → ℕ
 choices p [] = 0
 choices p (m ∷ ms) = length (moves p) + choices (after p m) ms

@@ -10,8 +10,8 @@ use Rattle.hive_model.specs.Boards.{Stacks, spot_of}
 use Rattle.hive_model.specs.Positions.{Position}
 use Rattle.hive_model.specs.Placement.{IsLeastInHand, Placement}
 
--- The piece is the side's, and the least of its kind in hand. On its first turn a side brings no queen; on its fourth or a
--- later turn, while its queen is in hand, nothing else.
+-- The piece is the side's, and the least of its kind in hand. On its first turn a side brings no
+-- queen; on its fourth or a later turn, while its queen is in hand, nothing else.
 pub record MayBring (t : GameType) (b : Stacks) (c : Colour) (turn : ℕ) (x : ℕ) : Type 0 where
   pub is_piece : IsTrue (is_in_set x)
   pub own : colour_of x ≡ c

@@ -11,7 +11,8 @@ use Rattle.hive_model.specs.Placement.{IsInHand}
 abbrev pub HasNoneInHand : GameType → Stacks → Colour → Kind → Type 0
 HasNoneInHand t b c k = (x : ℕ) → x < 28 → kind_of x ≡ k → colour_of x ≡ c → ¬ IsInHand t b x
 
--- how many pieces of a kind a side has: as many as its greatest number, or the one that has the number 0
+-- how many pieces of a kind a side has: as many as its greatest number, or the one that has the
+-- number 0
 abbrev pub count_of : Kind → ℕ
 count_of k = if nat_eq (most_of k) 0 then 1 else most_of k
 

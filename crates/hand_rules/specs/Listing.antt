@@ -17,7 +17,8 @@ abbrev pub IsPairBelow : (ℕ → Place → Type 0) → ℕ → Move → Type 0
 IsPairBelow May n Pass = ⊥
 IsPairBelow May n (To x q) = (x < n) × May x q
 
--- the last level holds the moves of which this holds and no others, in order, each once, and nothing else changed
+-- the last level holds the moves of which this holds and no others, in order, each once, and
+-- nothing else changed
 pub record ListsAll (Holds : Move → Type 0) (old new : Levels) : Type 0 where
   pub listed : (m : Move) → IsOn (last_level new) m ↔ Holds m
   pub order : Rises move_cmp (last_level new)
@@ -29,7 +30,8 @@ pub record ListsBelow (May : ℕ → Place → Type 0) (n : ℕ) (old new : Leve
   pub all : ListsAll (IsPairBelow May n) old new
   pub room : length (last_level new) ≤ 196 * n
 
--- the last level gains the moves of the piece to all places where it may go, in their order, and nothing else changes
+-- the last level gains the moves of the piece to all places where it may go, in their order, and
+-- nothing else changes
 pub record GainsPlaces (May : Place → Type 0) (x : ℕ) (old new : Levels) : Type 0 where
   pub places : List Place
   pub all : AreAll May places

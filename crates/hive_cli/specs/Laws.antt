@@ -22,7 +22,8 @@ SessionsAreDone =
 -- unless memory is wanting. The lines are games under the rule of the replay.
 abbrev pub ReplaysAreDone : Type 0
 ReplaysAreDone =
-    (r : Bool) → (status : Status) → (before : Scene) → (after : Scene) → ReplayRun r status before after
+    (r : Bool) → (status : Status) → (before : Scene) → (after : Scene)
+    → ReplayRun r status before after
     → (input : List ℕ) → Served status before.sides input → some_refused r (lines input) ≡ false
     → (status ≡ Done) ⊎ (status ≡ Memory)
 
@@ -30,8 +31,9 @@ ReplaysAreDone =
 abbrev pub CountsAreDone : Type 0
 CountsAreDone = (plies : ℕ) → RunsAreDone (CountRun plies) AsksOne
 
--- what a replay makes of lines: it answers each of them, one after another, it has refused a line just where one of them is
--- refused, none of them ends it, and none asks for a search, so that it has no use for depths
+-- what a replay makes of lines: it answers each of them, one after another, it has refused a line
+-- just where one of them is refused, none of them ends it, and none asks for a search, so that it
+-- has no use for depths
 pub record Replays (r : Bool) (left : List ℕ) (ls : List Line) : Type 0 where
   pub writes : output (replays r) left ls ≡ answers r ls
   pub refuses : last_of (replays r) false left ls ≡ some_refused r ls

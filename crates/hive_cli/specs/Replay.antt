@@ -1,5 +1,5 @@
--- A replay as a service: each line, a game string, is answered by the written form of its game, or refused, where the rule of
--- third repetition is switched on or off. And its run.
+-- A replay as a service: each line, a game string, is answered by the written form of its game, or
+-- refused, where the rule of third repetition is switched on or off. And its run.
 use Rattle.std.specs.Prelude.{ℕ, Bool, true, false, ◌||◌, List, [], ◌∷◌, ◌++◌, map, codes, Result, Ok, Err, Some, None}
 use Rattle.std.specs.List.{list_any}
 use Rattle.hive_model.specs.Lines.{Line, Text, TooLong as LongLine}
@@ -18,7 +18,8 @@ use Rattle.command_runs.specs.declared.status.Status.{Status}
 abbrev pub refusal : List ℕ → List ℕ
 refusal why = codes "refused " ++ (why ++ 10 ∷ [])
 
--- a game is answered by its written form, whether it is over or not, and any other text by the reason of its refusal
+-- a game is answered by its written form, whether it is over or not, and any other text by the
+-- reason of its refusal
 abbrev pub game_answer : Bool → Result Parsed GameFault → List ℕ
 game_answer r (Ok game) = string_under r game.game_type game.moves ++ 10 ∷ []
 game_answer r (Err fault) = refusal (reason fault)
@@ -47,8 +48,8 @@ some_refused r ls = list_any (refuses r) ls
 
 -- The run
 
--- Nothing before the first line, and the answer to each; it counts whether a line was refused. No line
--- ends the run, and none asks for a search.
+-- Nothing before the first line, and the answer to each; it counts whether a line was refused. No
+-- line ends the run, and none asks for a search.
 abbrev pub replays : Bool → Service Bool
 replays r = record {
   begins = false;

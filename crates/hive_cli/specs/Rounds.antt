@@ -31,23 +31,26 @@ standing state reader scene = record { state = state; reader = reader; scene = s
 
 -- so is the line answered by a service that stands so
 abbrev pub IsReply : {S : Type 0} → Service S → S → Line → Option (List ℕ) → Times → Times → Type 0
-IsReply v s line answer before after = IsAnswered (v.asks s line) (v.reply s line) answer before after
+IsReply v s line answer before after =
+    IsAnswered (v.asks s line) (v.reply s line) answer before after
 
 -- the service has answered a line so, and goes on from here
-pub record Replies {S : Type 0} (v : Service S) (line : Line) (answer : Option (List ℕ)) (old new : S)
+pub record Replies {S : Type 0} (v : Service S) (line : Line) (answer : Option (List ℕ))
+    (old new : S)
     (before after : Times) : Type 0 where
   pub answered : IsReply v old line answer before after
   pub next : new ≡ v.next old line
 
--- there was not enough memory for the answer to a line: the clock may have been read, and no entry was
--- appended
+-- there was not enough memory for the answer to a line: the clock may have been read, and no entry
+-- was appended
 pub record IsUnanswered (before after : Times) : Type 0 where
   pub later : before.last ≤ after.last
   pub timed : after.timed ≡ before.timed
 
--- The line was answered, and the reply written; or the run stops so. This is what the sink has taken
--- before and after, and these are the times.
-abbrev pub Answers : {S : Type 0} → Service S → Option Stop → Line → S → S → Told → Told → Times → Times → Type 0
+-- The line was answered, and the reply written; or the run stops so. This is what the sink has
+-- taken before and after, and these are the times.
+abbrev pub Answers : {S : Type 0} → Service S → Option Stop → Line → S → S → Told → Told → Times
+    → Times → Type 0
 Answers v None line old new before after from to =
     (text : List ℕ) × Replies v line (Some text) old new from to × (after ≡ behind before text)
 Answers v (Some Over) line old new before after from to =
@@ -55,12 +58,14 @@ Answers v (Some Over) line old new before after from to =
 Answers v (Some WriteFailed) line old new before after from to =
     (text : List ℕ) × (n : ℕ) × Replies v line (Some text) old new from to
     × (n < length text) × (after ≡ behind before (take n text))
-Answers v (Some NoMemory) line old new before after from to = IsUnanswered from to × (after ≡ before)
+Answers v (Some NoMemory) line old new before after from to =
+    IsUnanswered from to × (after ≡ before)
 Answers v (Some ReadFailed) line old new before after from to = ⊥
 Answers v (Some Full) line old new before after from to = ⊥
 
 -- a line was given, and answered
-abbrev pub Serves : {S : Type 0} → Service S → Option Stop → List ℕ → Standing S → Standing S → Type 0
+abbrev pub Serves : {S : Type 0} → Service S → Option Stop → List ℕ → Standing S → Standing S
+    → Type 0
 Serves v stop bytes old new =
     (line : Line) × Gives old.reader bytes line new.reader new.scene.sides.rest
     × Answers v stop line old.state new.state old.scene.sides.written new.scene.sides.written
@@ -76,14 +81,16 @@ Stops (Some WriteFailed) bytes old new rest = ⊥
 Stops (Some NoMemory) bytes old new rest = ⊥
 
 -- and nothing was answered
-pub record Rests {S : Type 0} (stop : Option Stop) (bytes : List ℕ) (old new : Standing S) : Type 0 where
+pub record Rests {S : Type 0} (stop : Option Stop) (bytes : List ℕ)
+    (old new : Standing S) : Type 0 where
   pub stops : Stops stop bytes old.reader new.reader new.scene.sides.rest
   pub same : new.scene.sides.written ≡ old.scene.sides.written
   pub stands : new.state ≡ old.state
   pub time : TakesNoTime old.scene.times new.scene.times
 
 -- a round, in which these bytes were read
-pub record Round {S : Type 0} (v : Service S) (stop : Option Stop) (bytes : List ℕ) (old new : Standing S) : Type 0 where
+pub record Round {S : Type 0} (v : Service S) (stop : Option Stop) (bytes : List ℕ)
+    (old new : Standing S) : Type 0 where
   pub takes :
       Takes old.scene.sides.rest new.scene.sides.rest old.reader.taken new.reader.taken bytes
   pub within : new.reader.taken ≤ input_limit

@@ -1,4 +1,5 @@
--- What a run does, by what its words ask for and by the status with which it ends. A new command has a case here and in `Words`.
+-- What a run does, by what its words ask for and by the status with which it ends. A new command
+-- has a case here and in `Words`.
 use Rattle.std.specs.Prelude.{◌≡◌, ℕ, List}
 use Rattle.std.specs.declared.string.String.{String}
 use Rattle.std.specs.declared.alloc.Global.{Global}
@@ -43,14 +44,17 @@ pub record MadeGame (seed plies : ℕ) (status : Status) (before after : Sides) 
 abbrev pub means_in : World → Means
 means_in w = means w.scene.times.last w.scene.times.readings w.engines
 
--- the programs of the match that the words ask for were started, white's and then black's, each by its words
+-- the programs of the match that the words ask for were started, white's and then black's, each by
+-- its words
 abbrev pub StartsPrograms : List (String Global) → Status → World → World → Type 0
 StartsPrograms words status before after =
     (white : List (List ℕ)) × (black : List (List ℕ)) × AskForPrograms words white black
     × MatchStarts status white black before.engines after.engines
 
--- A match was played, told and ended with this status. The input was left alone, and no search was answered.
-pub record PlayedMatch (words : List (String Global)) (setup : Setup) (status : Status) (before after : World) : Type 0 where
+-- A match was played, told and ended with this status. The input was left alone, and no search was
+-- answered.
+pub record PlayedMatch (words : List (String Global)) (setup : Setup) (status : Status)
+    (before after : World) : Type 0 where
   pub played :
       MatchRun setup status
       (match_scene before.scene.sides.written (means_in before))
@@ -64,8 +68,10 @@ pub record PlayedMatch (words : List (String Global)) (setup : Setup) (status : 
 abbrev pub Untimed : World → World → Type 0
 Untimed before after = TakesNoTime before.scene.times after.scene.times
 
--- A cup of the engines that the words ask for was played, told and ended with this status. The input was left alone.
-pub record PlayedCup (words : List (String Global)) (setup : Setup) (status : Status) (before after : World) : Type 0 where
+-- A cup of the engines that the words ask for was played, told and ended with this status. The
+-- input was left alone.
+pub record PlayedCup (words : List (String Global)) (setup : Setup) (status : Status)
+    (before after : World) : Type 0 where
   pub engines : List Engine
   pub asked : AskForEngines words engines
   pub played :
@@ -79,17 +85,26 @@ pub record PlayedCup (words : List (String Global)) (setup : Setup) (status : St
 -- what a run whose words ask for this does where it ends with this status
 abbrev pub RunOf : List (String Global) → Asked → Status → World → World → Type 0
 RunOf words Session status before after = SessionRun status before.scene after.scene
-RunOf words (Replay repetition) status before after = ReplayRun repetition status before.scene after.scene × Untimed before after
-RunOf words (Count plies) status before after = CountRun plies status before.scene.sides after.scene.sides × Untimed before after
-RunOf words (Grow seed plies) status before after = MadeGame seed plies status before.scene.sides after.scene.sides × Untimed before after
-RunOf words (Certify depth) status before after = CertifyRun depth status before.scene.sides after.scene.sides × Untimed before after
-RunOf words Check status before after = CheckRun status before.scene.sides after.scene.sides × Untimed before after
-RunOf words (Solve plies) status before after = SolveRun plies status before.scene.sides after.scene.sides × Untimed before after
-RunOf words Verify status before after = VerifyRun status before.scene.sides after.scene.sides × Untimed before after
+RunOf words (Replay repetition) status before after =
+    ReplayRun repetition status before.scene after.scene × Untimed before after
+RunOf words (Count plies) status before after =
+    CountRun plies status before.scene.sides after.scene.sides × Untimed before after
+RunOf words (Grow seed plies) status before after =
+    MadeGame seed plies status before.scene.sides after.scene.sides × Untimed before after
+RunOf words (Certify depth) status before after =
+    CertifyRun depth status before.scene.sides after.scene.sides × Untimed before after
+RunOf words Check status before after =
+    CheckRun status before.scene.sides after.scene.sides × Untimed before after
+RunOf words (Solve plies) status before after =
+    SolveRun plies status before.scene.sides after.scene.sides × Untimed before after
+RunOf words Verify status before after =
+    VerifyRun status before.scene.sides after.scene.sides × Untimed before after
 RunOf words (Match setup) status before after = PlayedMatch words setup status before after
 RunOf words (Cup setup) status before after = PlayedCup words setup status before after
-RunOf words Book status before after = BookRun status before.scene.sides after.scene.sides × Untimed before after
-RunOf words Migrate status before after = MigrateRun status before.scene.sides after.scene.sides × Untimed before after
+RunOf words Book status before after =
+    BookRun status before.scene.sides after.scene.sides × Untimed before after
+RunOf words Migrate status before after =
+    MigrateRun status before.scene.sides after.scene.sides × Untimed before after
 
 -- a run that is asked for this may read the clock: that of a session, for its searches, and a match
 abbrev pub UsesClock : Asked → Type 0

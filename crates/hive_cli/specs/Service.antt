@@ -1,12 +1,13 @@
--- A service: a command that answers the lines of its input, one after another. What it writes for them.
+-- A service: a command that answers the lines of its input, one after another. What it writes for
+-- them.
 use Rattle.std.specs.Prelude.{ℕ, Bool, List, [], ◌∷◌, ◌++◌, Option, None, Some}
 use Rattle.hive_model.specs.Lines.{Line}
 use Rattle.uhp_session.specs.Searches.{Search}
 
 -- How a service begins, what it writes before the first line is read, the search for a time that a
--- line asks for, if it asks for one, its reply to a line at the depth which that search has completed
--- (none where the run ends there), how it stands after a line, and whether it has refused a line
--- until then. A line that asks for no search has no use for the depth.
+-- line asks for, if it asks for one, its reply to a line at the depth which that search has
+-- completed (none where the run ends there), how it stands after a line, and whether it has refused
+-- a line until then. A line that asks for no search has no use for the depth.
 pub record Service (S : Type 0) : Type 0 where
   pub begins : S
   pub preface : List ℕ

@@ -1,5 +1,5 @@
--- What the run of a service writes and reads, and the time that it takes, by the status with which it
--- ends.
+-- What the run of a service writes and reads, and the time that it takes, by the status with which
+-- it ends.
 use Rattle.std.specs.Prelude.{◌≡◌, ◌⊎◌, ℕ, ◌<◌, ◌≤◌, Bool, true, false, List, [], ◌∷◌, ◌++◌, length, take}
 use Rattle.io_edge.specs.Outside.{Told, behind}
 use Rattle.hive_model.specs.declared.answers.Timed.{Timed}
@@ -39,26 +39,31 @@ ExitWasRead v left input rest =
 -- run. The service stands so then.
 pub record WroteAll {S : Type 0} (v : Service S) (input : List ℕ) (entries : List Timed)
     (before after : Scene) (last : S) : Type 0 where
-  pub wrote : after.sides.written ≡ behind before.sides.written (output v (depths entries) (lines input))
+  pub wrote : after.sides.written ≡ behind before.sides.written
+      (output v (depths entries) (lines input))
   pub tells : TellsOfLines v (lines input) entries before after
   pub stands : last_of v v.begins (depths entries) (lines input) ≡ last
-  pub over : IsAllRead input after.sides.rest ⊎ ExitWasRead v (depths entries) input after.sides.rest
+  pub over : IsAllRead input after.sides.rest
+      ⊎ ExitWasRead v (depths entries) input after.sides.rest
 
--- The bytes that have left the source are these. None of their lines that end in LF ends the run, the
--- output for these lines was written, and the entries tell of their searches.
+-- The bytes that have left the source are these. None of their lines that end in LF ends the run,
+-- the output for these lines was written, and the entries tell of their searches.
 pub record WroteWhole {S : Type 0} (v : Service S) (input : List ℕ) (entries : List Timed)
     (before after : Scene) (bytes left : List ℕ) : Type 0 where
   pub was_read : WasRead input after.sides.rest bytes left
   pub goes_on : ¬ HasExit v v.begins (depths entries) (whole_lines bytes)
   pub wrote :
-      after.sides.written ≡ behind before.sides.written (output v (depths entries) (whole_lines bytes))
+      after.sides.written ≡ behind before.sides.written
+      (output v (depths entries) (whole_lines bytes))
   pub tells : TellsOfLines v (whole_lines bytes) entries before after
 
--- The output for lines that were read, none of which ends the run, is what comes before the first of
--- them and a reply to each. Of these texts all but the last were written whole, and of the last its
--- first n bytes, and not all. All these lines were answered, and the entries tell of their searches.
+-- The output for lines that were read, none of which ends the run, is what comes before the first
+-- of them and a reply to each. Of these texts all but the last were written whole, and of the last
+-- its first n bytes, and not all. All these lines were answered, and the entries tell of their
+-- searches.
 pub record WroteFront {S : Type 0} (v : Service S) (input : List ℕ) (entries : List Timed)
-    (before after : Scene) (read : List Line) (whole : List (List ℕ)) (last : List ℕ) (n : ℕ) : Type 0 where
+    (before after : Scene) (read : List Line) (whole : List (List ℕ)) (last : List ℕ)
+    (n : ℕ) : Type 0 where
   pub were_read : WereRead input after.sides.rest read
   pub goes_on : ¬ HasExit v v.begins (depths entries) read
   pub are_texts : texts v (depths entries) read ≡ whole ++ last ∷ []
@@ -66,9 +71,9 @@ pub record WroteFront {S : Type 0} (v : Service S) (input : List ℕ) (entries :
   pub wrote : after.sides.written ≡ behind before.sides.written (joined whole ++ take n last)
   pub tells : TellsOfLines v read entries before after
 
--- Of the lines that were read the first were answered. Whole texts were written, the first n of those
--- for these lines, and the entries tell of their searches. The clock may have been read for a search
--- that has no entry.
+-- Of the lines that were read the first were answered. Whole texts were written, the first n of
+-- those for these lines, and the entries tell of their searches. The clock may have been read for a
+-- search that has no entry.
 pub record WroteTexts {S : Type 0} (v : Service S) (input : List ℕ) (entries : List Timed)
     (before after : Scene) (answered others : List Line) (n : ℕ) : Type 0 where
   pub were_read : WereRead input after.sides.rest (answered ++ others)
@@ -77,7 +82,8 @@ pub record WroteTexts {S : Type 0} (v : Service S) (input : List ℕ) (entries :
       ≡ behind before.sides.written (joined (take n (texts v (depths entries) answered)))
   pub appended : after.times.timed ≡ before.times.timed ++ entries
   pub told :
-      AreTold (searches v v.begins (depths entries) answered) before.times.last entries after.times.last
+      AreTold (searches v v.begins
+      (depths entries) answered) before.times.last entries after.times.last
 
 -- The ends of a run
 
@@ -99,7 +105,8 @@ RunsWhile v many before after =
 abbrev pub RunsToCut : {S : Type 0} → Service S → Scene → Scene → Type 0
 RunsToCut v before after =
     WhereTold before.sides.rest (λ input.
-    (entries : List Timed) × (read : List Line) × (whole : List (List ℕ)) × (last : List ℕ) × (n : ℕ)
+    (entries : List Timed) × (read : List Line) × (whole : List (List ℕ)) × (last : List ℕ)
+    × (n : ℕ)
     × WroteFront v input entries before after read whole last n)
 
 -- memory was wanting
@@ -123,6 +130,7 @@ EndsAs v SpawnFault before after = ⊥
 EndsAs v BadInput before after = ⊥
 
 -- The run of a service that ends with this status. The clock's last reading never falls.
-pub record ServiceRun {S : Type 0} (v : Service S) (status : Status) (before after : Scene) : Type 0 where
+pub record ServiceRun {S : Type 0} (v : Service S) (status : Status)
+    (before after : Scene) : Type 0 where
   pub ends : EndsAs v status before after
   pub later : before.times.last ≤ after.times.last

@@ -10,7 +10,8 @@ use Rattle.command_runs.specs.declared.status.Status.{Status}
 abbrev pub greeting : List ℕ
 greeting = codes "id HiveReferee 1.0\nMosquito;Ladybug;Pillbug\nok\n"
 
--- The greeting, and the reply to each line, until `exit`. A session goes on after a refusal, and is done whatever it has refused.
+-- The greeting, and the reply to each line, until `exit`. A session goes on after a refusal, and is
+-- done whatever it has refused.
 abbrev pub session : Service State
 session = record {
   begins = fresh;

@@ -26,7 +26,8 @@ reads_of (asked ∷ others) (entry ∷ entries) =
     reads asked.position entry.depth + reads_of others entries
 
 -- these searches were answered, and nothing else was done that takes time
-pub record TellsOf (searches : List Search) (entries : List Timed) (before after : Times) : Type 0 where
+pub record TellsOf (searches : List Search) (entries : List Timed)
+    (before after : Times) : Type 0 where
   pub appended : after.timed ≡ before.timed ++ entries
   pub told : AreTold searches before.last entries after.last
   pub few : after.readings ≤ before.readings + reads_of searches entries

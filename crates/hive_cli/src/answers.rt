@@ -62,7 +62,8 @@ fn answer_text<G: Game + Drop>(
     line: &[u8],
 ) -> Result<Answer, AllocError>
     requires { length line.now ≤ 65536 }
-    ensures text { IfOk result (λ a. a.text ≡ game_answer repetition (game_under repetition line.now)) }
+    ensures text { IfOk result (λ a. a.text
+        ≡ game_answer repetition (game_under repetition line.now)) }
     ensures refused { IfOk result (λ a. a.refused ≡ is_fault (game_under repetition line.now)) }
 {
     match read_game_under::<G>(alloc, line, repetition) {

@@ -42,8 +42,10 @@ fn write_counts<K: Sink, G: Game>(
     requires room { plies ≤ stack.old.free }
     ensures all { OnTrue result (K.written output.new
         ≡ behind (K.written output.old) (count_text (position (G.course game.old)) plies)) }
-    ensures part { OnFalse result ((n : ℕ) × (n < length (count_text (position (G.course game.old)) plies))
-        × (K.written output.new ≡ behind (K.written output.old) (take n (count_text (position (G.course game.old)) plies)))) }
+    ensures part { OnFalse result ((n : ℕ)
+        × (n < length (count_text (position (G.course game.old)) plies))
+        × (K.written output.new ≡ behind (K.written output.old)
+        (take n (count_text (position (G.course game.old)) plies)))) }
     ensures cause { HasCause (result ≡ false) (K.write_faults output.old)
         (K.write_faults output.new) }
 {

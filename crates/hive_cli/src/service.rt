@@ -104,7 +104,8 @@ fn answer<R: Threads + Sync, K: Sink, C: Clock, V: LineService>(
     timed: &mut TimedList,
 ) -> Option<Stop>
     requires { IsShort (line_in line) }
-    ensures answers { Answers V.service result (line_in line.entry) service.old service.new (K.written output.old) (K.written output.new)
+    ensures answers { Answers V.service result (line_in line.entry) service.old service.new
+        (K.written output.old) (K.written output.new)
         (times (C.last clock.old) (C.readings clock.old) timed.old)
         (times (C.last clock.new) (C.readings clock.new) timed.new) }
     ensures cause { HasCause (result ≡ Some Stop.WriteFailed) (K.write_faults output.old)

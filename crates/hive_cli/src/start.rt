@@ -7,7 +7,13 @@ ghost use Rattle.command_words.specs.Cups.{AreCupWords, AskForEngines};
 ghost use Rattle.command_words.specs.Matches.{AreMatchWords, AskForPrograms};
 ghost use Rattle.cup_command.specs.Cup.{CupRun, scene as cup_scene};
 ghost use Rattle.cup_core.specs.Engines.{Engine};
-ghost use Rattle.match_command.specs.Match.{MatchRun, MatchStarts, NoneIsOpen, means, scene as match_scene};
+ghost use Rattle.match_command.specs.Match.{
+  MatchRun,
+  MatchStarts,
+  NoneIsOpen,
+  means,
+  scene as match_scene,
+};
 ghost use Rattle.match_core.specs.Keeps.{IsSetup};
 ghost use Rattle.hive_cli.specs.Run.{IsAlone, Never, RunOf, UsesClock, UsesSpawner, world};
 ghost use Rattle.hive_cli.specs.ServiceRun.{scene};

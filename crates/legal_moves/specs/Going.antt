@@ -15,9 +15,11 @@ use Rattle.hive_model.specs.Throws.{IsThrower, ThrowOver, Throw}
 use Rattle.hive_model.specs.Legal.{Walk}
 use Rattle.legal_moves.specs.declared.turns.Turn.{Turn}
 
--- a game of this type in which this side is to move on this board, in its turn of this number, and this piece rests, if any
+-- a game of this type in which this side is to move on this board, in its turn of this number, and
+-- this piece rests, if any
 abbrev pub position_at : GameType → Stacks → Colour → ℕ → Option ℕ → Position
-position_at t b side number rest = record { game_type = t; board = b; side = side; turn = number; rest = rest }
+position_at t b side number rest =
+    record { game_type = t; board = b; side = side; turn = number; rest = rest }
 
 abbrev pub position_of : Stacks → Turn → Position
 position_of b t = position_at t.game_type b t.side t.number t.rest
@@ -28,7 +30,8 @@ Goes b x q = (from : Spot) × (spot_of b x ≡ Some from) × MovesAs (kind_of x)
 
 -- this piece throws that one
 abbrev pub ThrownBy : Stacks → Option ℕ → ℕ → ℕ → Place → Type 0
-ThrownBy b rest y x q = (t : Spot) × IsThrower b rest y t × ((a : Spot) × ThrowOver b rest t.place x a q)
+ThrownBy b rest y x q =
+    (t : Spot) × IsThrower b rest y t × ((a : Spot) × ThrowOver b rest t.place x a q)
 
 -- a piece of the board is moved or thrown, which takes the side's queen in play
 abbrev pub IsMoved : Position → ℕ → Place → Type 0
@@ -45,4 +48,6 @@ pub record AreGoals (b : Stacks) (x : ℕ) (places : List Place) : Type 0 where
 
 -- no list in order of places from these two is longer than a list of places can be
 abbrev pub HaveRoom : List Place → List Place → Type 0
-HaveRoom xs ys = (zs : List Place) → Rises place_cmp zs → ((q : Place) → IsOn zs q → IsOn xs q ⊎ IsOn ys q) → length zs ≤ 196
+HaveRoom xs ys =
+    (zs : List Place) → Rises place_cmp zs → ((q : Place) → IsOn zs q → IsOn xs q ⊎ IsOn ys q)
+    → length zs ≤ 196

@@ -51,8 +51,9 @@ abbrev pub ending_text : Setup → Option Verdict → List ℕ
 ending_text setup None = []
 ending_text setup (Some verdict) = verdict_text setup verdict
 
--- the game string of the moves that were played, with the outcome under the setup's rule for its state, and the verdict, each
--- with its LF (10)
+-- the game string of the moves that were played, with the outcome under the setup's rule for its
+-- state, and the verdict, each with its LF (10)
 abbrev pub match_text : Setup → Standing → List ℕ
 match_text setup t =
-    string_under setup.repetition setup.game_type t.moves ++ 10 ∷ (ending_text setup t.verdict ++ 10 ∷ [])
+    string_under setup.repetition setup.game_type t.moves ++ 10
+    ∷ (ending_text setup t.verdict ++ 10 ∷ [])

@@ -1,6 +1,15 @@
 //! The two lines that tell a match.
 ghost use Rattle.std.specs.Prelude.{◌≡◌, ◌++◌, decimal, map, OnOk, IfOk};
-ghost use Rattle.match_command.specs.Texts.{shown, kept_text, late_text, cause_text, side_text, verdict_text, ending_text, match_text};
+ghost use Rattle.match_command.specs.Texts.{
+  shown,
+  kept_text,
+  late_text,
+  cause_text,
+  side_text,
+  verdict_text,
+  ending_text,
+  match_text,
+};
 
 use game_text::write_game_under;
 use hive_model::{Colour, Game, ReplyText};

@@ -1,5 +1,5 @@
--- The book of a position: how often each of its legal moves was made in played games, where positions that are one another
--- turned, mirrored and shifted count as one.
+-- The book of a position: how often each of its legal moves was made in played games, where
+-- positions that are one another turned, mirrored and shifted count as one.
 use Rattle.std.specs.Prelude.{◌≡◌, ℕ, ◌+◌, ◌<◌, ◌≤◌, List, [], ◌∷◌, length, slice_get, if◌then◌else◌}
 use Rattle.std.specs.List.{sum_by}
 use Rattle.std.specs.declared.option.Option.{Option}
@@ -19,7 +19,8 @@ pub record Played : Type 0 where
   pub game_type : GameType
   pub made : List Move
 
--- 1 where the position r is alike to p by a symmetry and a shift that take its move n to m, and else 0
+-- 1 where the position r is alike to p by a symmetry and a shift that take its move n to m, and
+-- else 0
 abbrev pub ply_count : Position → Move → Position → Move → ℕ
 ply_count p m r n = if takes_move (key r) n (key p) m then 1 else 0
 
@@ -41,14 +42,16 @@ pub record IsBookMove (p : Position) (games : List Played) (m : Move) (n : ℕ) 
   pub most : (j : ℕ) (k : Move) → slice_get (moves p) j ≡ Some k → count p k games ≤ n
   pub first : (j : ℕ) (k : Move) → j < place → slice_get (moves p) j ≡ Some k → count p k games < n
 
--- what the book answers: its move and how often it was made, or none where no legal move was ever made
+-- what the book answers: its move and how often it was made, or none where no legal move was ever
+-- made
 abbrev pub IsBook : Position → List Played → Option (Move × ℕ) → Type 0
 IsBook p games None = (m : Move) → IsOn (moves p) m → count p m games ≡ 0
 IsBook p games (Some b) = IsBookMove p games b.0 b.1
 
 -- What a tally holds
 
--- the key and the legal moves of a position, a count for each of them, and the plies that were looked at
+-- the key and the legal moves of a position, a count for each of them, and the plies that were
+-- looked at
 pub record Counts : Type 0 where
   pub key : KeyParts
   pub moves : List Move
@@ -60,10 +63,12 @@ pub record IsTally (p : Position) (games : List Played) (t : Counts) : Type 0 wh
   pub board : IsBoard p.board
   pub key_is : t.key ≡ key p
   pub moves_are : t.moves ≡ moves p
-  pub counts_are : (j : ℕ) (m : Move) → slice_get (moves p) j ≡ Some m → slice_get t.counts j ≡ Some (count p m games)
+  pub counts_are : (j : ℕ) (m : Move) → slice_get (moves p) j ≡ Some m
+      → slice_get t.counts j ≡ Some (count p m games)
   pub plies_are : t.plies ≡ sum_by (λ g. length g.made) games
 
--- a count for each move, and none of them above the number of plies, which are fewer than 2 to the power 40
+-- a count for each move, and none of them above the number of plies, which are fewer than 2 to the
+-- power 40
 pub record IsKept (moves : List Move) (counts : List ℕ) (plies : ℕ) : Type 0 where
   pub long : length counts ≡ length moves
   pub low : (j n : ℕ) → slice_get counts j ≡ Some n → n ≤ plies

@@ -24,12 +24,14 @@ pub record AreShifts (shifts : List (Option Place)) (a b : KeyParts) : Type 0 wh
 
 -- one of the symmetries takes the move to the other, with its shift
 unfoldable pub is_taken_to : List (Option Place) → Move → Move → Bool
-is_taken_to shifts n m = list_any (λ s. takes_by s (slice_index_or shifts s None) n m) (count_from 0 12)
+is_taken_to shifts n m =
+    list_any (λ s. takes_by s (slice_index_or shifts s None) n m) (count_from 0 12)
 
 abbrev pub one_if : Bool → ℕ
 one_if b = if b then 1 else 0
 
--- of the counts before an end this is the greatest, and where it is not 0 it is first found at this place
+-- of the counts before an end this is the greatest, and where it is not 0 it is first found at this
+-- place
 pub record IsMost (counts : List ℕ) (end place most : ℕ) : Type 0 where
   pub here : 0 < most → (place < end) × (slice_index counts place ≡ most)
   pub greatest : (j : ℕ) → j < end → slice_index counts j ≤ most

@@ -1,6 +1,18 @@
 //! Counts over the plies of a played game.
 
-ghost use Rattle.std.specs.Prelude.{◌≡◌, ℕ, ◌+◌, ◌^◌, ◌<◌, ◌≤◌, [], length, slice_get, IsTrue, Some};
+ghost use Rattle.std.specs.Prelude.{
+  ◌≡◌,
+  ℕ,
+  ◌+◌,
+  ◌^◌,
+  ◌<◌,
+  ◌≤◌,
+  [],
+  length,
+  slice_get,
+  IsTrue,
+  Some,
+};
 ghost use Rattle.std.specs.Prelude.{slice_index, slice_index_or, None};
 ghost use Rattle.std.specs.List.{All};
 ghost use Rattle.hive_model.specs.declared.places.Move.{Move};

@@ -6,4 +6,5 @@ use Rattle.hive_model.specs.Spots.{Spots, HasSpot}
 -- of the first n pieces this one is the highest on the place, or none of them stands there
 abbrev pub IsHighest : Spots → Place → ℕ → Option ℕ → Type 0
 IsHighest s p n None = (y level : ℕ) → y < n → HasSpot s y p level → ⊥
-IsHighest s p n (Some x) = (top : ℕ) × HasSpot s x p top × ((y level : ℕ) → y < n → HasSpot s y p level → level ≤ top)
+IsHighest s p n (Some x) =
+    (top : ℕ) × HasSpot s x p top × ((y level : ℕ) → y < n → HasSpot s y p level → level ≤ top)

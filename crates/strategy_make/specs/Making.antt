@@ -37,9 +37,9 @@ abbrev pub certificate_of : Course → ℕ → Option Move → List ℕ
 certificate_of c d None = []
 certificate_of c d (Some m) = certificate c.game_type c.made d m (value (position c) d)
 
--- What was written, by the answer: the certificate of the move and the worth that are answered; where
--- a write failed the first n bytes of that of the best move, and not all; where memory was wanting
--- nothing.
+-- What was written, by the answer: the certificate of the move and the worth that are answered;
+-- where a write failed the first n bytes of that of the best move, and not all; where memory was
+-- wanting nothing.
 abbrev pub Makes : Result Best MakeFault → Course → ℕ → Told → Told → Type 0
 Makes (Ok b) c d old new = new ≡ behind old (certificate c.game_type c.made d b.best b.value)
 Makes (Err WriteFault) c d old new =

@@ -26,7 +26,8 @@ pub(crate) fn head_of<G: Game + Drop>(
     requires { IsOn (moves (position (G.course game.now))) best.now.best }
     ensures head { IfOk result (λ t. t ≡ head_text 1
         (G.course game.now).game_type (G.course game.now).made depth best.now.best best.now.value) }
-    ensures game { IfOk result (λ t. IsGame (G.course game.now).game_type (G.course game.now).made) }
+    ensures game { IfOk result (λ t. IsGame (G.course game.now).game_type
+        (G.course game.now).made) }
 {
     let claim = Claim {
         depth,

@@ -39,7 +39,8 @@ fn write_root<G: Game, J: Judge, K: Sink>(
     requires listed { level_of stack.old level ≡ moves (position (G.course game.old)) }
     requires place { slice_get (moves (position (G.course game.old))) place ≡ Some best.now.best }
     ensures wrote { Wrote result
-        (index_lines (least_moves (position (G.course game.old)) depth place best.now.best best.now.value))
+        (index_lines (least_moves (position
+        (G.course game.old)) depth place best.now.best best.now.value))
         (K.written sink.old) (K.written sink.new) }
     ensures cause { HasCause (result ≡ false) (K.write_faults sink.old) (K.write_faults sink.new) }
     ensures game { G.course game.new ≡ G.course game.old }
@@ -82,7 +83,8 @@ pub(crate) fn write_least<G: Game, J: Judge, K: Sink>(
     requires spare { depth ≤ (G.course game.old).spare }
     requires room { depth ≤ stack.old.free }
     ensures wrote { Wrote result
-        (index_lines (least_indices (position (G.course game.old)) depth best.now.best best.now.value))
+        (index_lines (least_indices (position
+        (G.course game.old)) depth best.now.best best.now.value))
         (K.written sink.old) (K.written sink.new) }
     ensures cause { HasCause (result ≡ false) (K.write_faults sink.old) (K.write_faults sink.new) }
     ensures game { G.course game.new ≡ G.course game.old }

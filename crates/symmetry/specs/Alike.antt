@@ -11,7 +11,8 @@ use Rattle.hive_model.specs.Boards.{Stacks, stack_at}
 use Rattle.hive_model.specs.Positions.{Position}
 use Rattle.symmetry.specs.Images.{moved_by}
 
--- the second board is the first with each place taken by the map: on the image of a place stands what stood on the place
+-- the second board is the first with each place taken by the map: on the image of a place stands
+-- what stood on the place
 abbrev pub IsImage : (Place → Place) → Stacks → Stacks → Type 0
 IsImage f b c = (q : Place) → stack_at c (f q) ≡ stack_at b q
 
@@ -20,8 +21,9 @@ abbrev pub board_by : (Place → Place) → Stacks → Stacks
 board_by f [] = []
 board_by f (e ∷ b) = put_entry place_cmp (f e.0) e.1 (board_by f b)
 
--- Type, side, resting piece and the turn, capped at 5, are equal, and the board of the second is the board of the first with each
--- place taken by the symmetry and then shifted. Where the board is empty the shift is none.
+-- Type, side, resting piece and the turn, capped at 5, are equal, and the board of the second is
+-- the board of the first with each place taken by the symmetry and then shifted. Where the board is
+-- empty the shift is none.
 pub record Alike (p r : Position) (s : ℕ) (t : Place) : Type 0 where
   pub game_type : r.game_type ≡ p.game_type
   pub side : r.side ≡ p.side

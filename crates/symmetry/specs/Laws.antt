@@ -17,30 +17,42 @@ use Rattle.symmetry.specs.Alike.{IsImage, board_by, Alike, move_by, started_stat
 abbrev pub SymmetriesAreIsometries : Type 0
 SymmetriesAreIsometries = (s : ℕ) (t : Place) → IsIsometry (moved_by s t)
 
--- what stands on the images of places settles the board: it is the one whose entries are those of the first, each taken to the
--- image of its place
+-- what stands on the images of places settles the board: it is the one whose entries are those of
+-- the first, each taken to the image of its place
 abbrev pub ImagesAreBoards : Type 0
-ImagesAreBoards = (f : Place → Place) → IsIsometry f → (b c : Stacks) → IsBoard b → IsBoard c → IsImage f b c ↔ (c ≡ board_by f b)
+ImagesAreBoards =
+    (f : Place → Place) → IsIsometry f → (b c : Stacks) → IsBoard b → IsBoard c
+    → IsImage f b c ↔ (c ≡ board_by f b)
 
 -- a move is legal exactly where its image is legal in the position that is alike
 abbrev pub LegalMovesAreAlike : Type 0
-LegalMovesAreAlike = (p r : Position) (s : ℕ) (t : Place) → IsBoard p.board → IsBoard r.board → Alike p r s t → (m : Move) → IsLegal p m ↔ IsLegal r (move_by s t m)
+LegalMovesAreAlike =
+    (p r : Position) (s : ℕ) (t : Place) → IsBoard p.board → IsBoard r.board → Alike p r s t
+    → (m : Move) → IsLegal p m ↔ IsLegal r (move_by s t m)
 
 -- it is on the list of legal moves exactly where its image is on the other list
 abbrev pub ListedMovesAreAlike : Type 0
-ListedMovesAreAlike = (p r : Position) (s : ℕ) (t : Place) → IsBoard p.board → IsBoard r.board → Alike p r s t → (m : Move) → IsOn (moves p) m ↔ IsOn (moves r) (move_by s t m)
+ListedMovesAreAlike =
+    (p r : Position) (s : ℕ) (t : Place) → IsBoard p.board → IsBoard r.board → Alike p r s t
+    → (m : Move) → IsOn (moves p) m ↔ IsOn (moves r) (move_by s t m)
 
 -- the positions after a move and its image are alike
 abbrev pub AfterIsAlike : Type 0
-AfterIsAlike = (p r : Position) (s : ℕ) (t : Place) → IsBoard p.board → IsBoard r.board → Alike p r s t → (m : Move) → Alike (after p m) (after r (move_by s t m)) s t
+AfterIsAlike =
+    (p r : Position) (s : ℕ) (t : Place) → IsBoard p.board → IsBoard r.board → Alike p r s t
+    → (m : Move) → Alike (after p m) (after r (move_by s t m)) s t
 
 -- the states of positions that are alike are equal, but for whether the game has started
 abbrev pub StatesAreAlike : Type 0
-StatesAreAlike = (p r : Position) (s : ℕ) (t : Place) → IsBoard p.board → IsBoard r.board → Alike p r s t → started_state (state p) ≡ started_state (state r)
+StatesAreAlike =
+    (p r : Position) (s : ℕ) (t : Place) → IsBoard p.board → IsBoard r.board → Alike p r s t
+    → started_state (state p) ≡ started_state (state r)
 
 -- at most one shift makes two positions alike by a symmetry
 abbrev pub ShiftIsOnly : Type 0
-ShiftIsOnly = (p r : Position) (s : ℕ) (t u : Place) → IsBoard p.board → IsBoard r.board → Alike p r s t → Alike p r s u → t ≡ u
+ShiftIsOnly =
+    (p r : Position) (s : ℕ) (t u : Place) → IsBoard p.board → IsBoard r.board → Alike p r s t
+    → Alike p r s u → t ≡ u
 
 -- no two moves have one image
 abbrev pub MovesStayApart : Type 0
@@ -54,6 +66,9 @@ MovesAreImages = (s : ℕ) (t : Place) (n : Move) → (m : Move) × (move_by s t
 abbrev pub ShiftIsTested : Type 0
 ShiftIsTested = (a b : KeyParts) (s : ℕ) → IsShift (shift_between a b s) a b s
 
--- a move is tested to be taken to another exactly where some symmetry and shift, by which the positions are alike, take it there
+-- a move is tested to be taken to another exactly where some symmetry and shift, by which the
+-- positions are alike, take it there
 abbrev pub TakesAreTested : Type 0
-TakesAreTested = (p : Position) (m : Move) (r : Position) (n : Move) → IsBoard p.board → IsBoard r.board → IsTrue (takes_move (key p) m (key r) n) ↔ TakesMove p m r n
+TakesAreTested =
+    (p : Position) (m : Move) (r : Position) (n : Move) → IsBoard p.board → IsBoard r.board
+    → IsTrue (takes_move (key p) m (key r) n) ↔ TakesMove p m r n

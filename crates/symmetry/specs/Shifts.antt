@@ -12,13 +12,17 @@ use Rattle.hive_model.specs.Keys.{KeyParts, key, spot_in}
 use Rattle.symmetry.specs.Images.{image, moved_by}
 use Rattle.symmetry.specs.Alike.{Alike}
 
--- each piece stands in the plane, no coordinate larger in size than 9,000; in the key of a position each does
+-- each piece stands in the plane, no coordinate larger in size than 9,000; in the key of a position
+-- each does
 abbrev pub AreInPlane : KeyParts → Type 0
 AreInPlane k = (x : ℕ) (s : Spot) → x < 28 → spot_in k x ≡ Some s → IsWithin 9000 s.place
 
--- this is the shift by which the positions of two keys are alike, and there is none exactly where they are not alike
+-- this is the shift by which the positions of two keys are alike, and there is none exactly where
+-- they are not alike
 abbrev pub IsShift : Option Place → KeyParts → KeyParts → ℕ → Type 0
-IsShift o a b s = (p r : Position) → IsBoard p.board → IsBoard r.board → a ≡ key p → b ≡ key r → (t : Place) → (o ≡ Some t) ↔ Alike p r s t
+IsShift o a b s =
+    (p r : Position) → IsBoard p.board → IsBoard r.board → a ≡ key p → b ≡ key r → (t : Place)
+    → (o ≡ Some t) ↔ Alike p r s t
 
 -- How it is found
 
@@ -68,7 +72,9 @@ same_bool true b = b
 same_bool false b = not b
 
 abbrev pub is_type : GameType → GameType → Bool
-is_type a b = same_bool a.mosquito b.mosquito && (same_bool a.ladybug b.ladybug && same_bool a.pillbug b.pillbug)
+is_type a b =
+    same_bool a.mosquito b.mosquito && (same_bool a.ladybug b.ladybug
+    && same_bool a.pillbug b.pillbug)
 
 abbrev pub is_rest : Option ℕ → Option ℕ → Bool
 is_rest None None = true
@@ -77,7 +83,9 @@ is_rest (Some x) None = false
 is_rest (Some x) (Some y) = nat_eq x y
 
 abbrev pub has_same_turn : KeyParts → KeyParts → Bool
-has_same_turn a b = is_type b.game_type a.game_type && (is_colour b.side a.side && (is_rest b.rest a.rest && nat_eq b.turn a.turn))
+has_same_turn a b =
+    is_type b.game_type a.game_type && (is_colour b.side a.side
+    && (is_rest b.rest a.rest && nat_eq b.turn a.turn))
 
 abbrev pub asked_by : ℕ → Option Spot → Option Spot → Option Place → Option Place
 asked_by s None o later = later
@@ -97,4 +105,5 @@ if_taken s a b (Some t) = if are_taken s t a b then Some t else None
 
 -- the shift between two keys by a symmetry, if there is one
 unfoldable pub shift_between : KeyParts → KeyParts → ℕ → Option Place
-shift_between a b s = if has_same_turn a b then if_taken s a b (asked_among s a b all_pieces) else None
+shift_between a b s =
+    if has_same_turn a b then if_taken s a b (asked_among s a b all_pieces) else None

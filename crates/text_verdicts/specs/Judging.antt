@@ -31,8 +31,8 @@ unfoldable pub text_verdict : {H : Type 0} → ℕ → (List Line → Result H H
     → Judgement
 text_verdict n head_of worth ls = of_head worth (head_of ls) (drop n ls)
 
--- What the reading of a head of so many lines answers: the head of the lines to come, where they are
--- told, or the first fault. Why the input could not be read, and which lines were read at most.
+-- What the reading of a head of so many lines answers: the head of the lines to come, where they
+-- are told, or the first fault. Why the input could not be read, and which lines were read at most.
 pub record TakesHead {H : Type 0} (n : ℕ) (head_of : List Line → Result H HeadFault)
     (result : Result H HeadFault) (reader reader' : Reading) (source source' : Aside) : Type 0 where
   pub told : (ls : List Line) → ahead_of reader source.bytes ≡ Some ls

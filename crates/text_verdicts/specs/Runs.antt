@@ -35,9 +35,9 @@ WasReadToRefuse most TooShort input rest = IsAllRead input rest
 WasReadToRefuse most Rest input rest = AtMostWereRead (most + 1) input rest
 
 -- What was read where the lines of the input are worth this, and a head has so many lines. What is
--- accepted was read to its end, since nothing may be left over. Else no line was read behind the one
--- that decides: the last that was taken before a fault, the bad line, the line of the game, or the
--- head where its game is over.
+-- accepted was read to its end, since nothing may be left over. Else no line was read behind the
+-- one that decides: the last that was taken before a fault, the bad line, the line of the game, or
+-- the head where its game is over.
 abbrev pub WasReadToJudge : ℕ → Verdict → List ℕ → Told → Type 0
 WasReadToJudge head Accepted input rest = IsAllRead input rest
 WasReadToJudge head (Refused place why) input rest = WasReadToRefuse (head + place) why input rest

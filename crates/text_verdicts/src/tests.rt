@@ -96,10 +96,22 @@ fn answers_of_checks_are_verdicts(rt: HostRuntime) -> Result<(), Fail> {
     let failed = Checked::Halted {
         answer: Halt::Failed,
     };
-    assert_eq!(rt; verdict_of::<IndexReasons>(Checked::Accepted, 5, 4), Ok(Verdict::Accepted));
-    assert_eq!(rt; verdict_of::<IndexReasons>(bad, 5, 1), Ok(Verdict::BadLine { line: 6 }));
-    assert_eq!(rt; verdict_of::<IndexReasons>(bad, 4, 3), Ok(Verdict::BadLine { line: 7 }));
-    assert_eq!(rt; verdict_of::<IndexReasons>(failed, 5, 0), Err(Unread::ReadFault));
+    assert_eq!(rt;
+        verdict_of::<IndexReasons>(Checked::Accepted, 5, 4),
+        Ok(Verdict::Accepted)
+    );
+    assert_eq!(rt;
+        verdict_of::<IndexReasons>(bad, 5, 1),
+        Ok(Verdict::BadLine { line: 6 })
+    );
+    assert_eq!(rt;
+        verdict_of::<IndexReasons>(bad, 4, 3),
+        Ok(Verdict::BadLine { line: 7 })
+    );
+    assert_eq!(rt;
+        verdict_of::<IndexReasons>(failed, 5, 0),
+        Err(Unread::ReadFault)
+    );
     assert_eq!(rt;
         fault_verdict(HeadFault::BadLine { line: 2 }),
         Ok(Verdict::BadLine { line: 2 })

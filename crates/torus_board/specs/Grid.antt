@@ -11,8 +11,10 @@ IsSide n = (n ≡ 32) ⊎ ((n ≡ 64) ⊎ (n ≡ 128))
 -- the cell of each occupied place has its top piece, and each other cell has none
 pub record IsGrid (n : ℕ) (b : Stacks) (cells : List (Option ℕ)) : Type 0 where
   pub many : length cells ≡ n * n
-  pub tops : (p : Place) (x : ℕ) → top_at b p ≡ Some x → slice_get cells (cell_of n p) ≡ Some (Some x)
-  pub own : (i x : ℕ) → slice_get cells i ≡ Some (Some x) → (p : Place) × (top_at b p ≡ Some x) × (cell_of n p ≡ i)
+  pub tops : (p : Place) (x : ℕ) → top_at b p ≡ Some x
+      → slice_get cells (cell_of n p) ≡ Some (Some x)
+  pub own : (i x : ℕ) → slice_get cells i ≡ Some (Some x)
+      → (p : Place) × (top_at b p ≡ Some x) × (cell_of n p ≡ i)
 
 -- each piece has the piece directly below it, if there is one
 pub record IsLinked (b : Stacks) (below : List (Option ℕ)) : Type 0 where

@@ -36,13 +36,15 @@ use Rattle.uhp_session.specs.declared.lines.Reply.TheVariants.{Text as ReplyText
 
 -- Sessions
 
--- a game that was begun: its type, its moves, and whether the rule of third repetition is switched on in it
+-- a game that was begun: its type, its moves, and whether the rule of third repetition is switched
+-- on in it
 pub record Begun : Type 0 where
   pub game_type : GameType
   pub made : List Move
   pub repetition : Bool
 
--- a session: no game or a game, and the values of the options Table, Workers and Repetition, of which the last is 1 where it is true
+-- a session: no game or a game, and the values of the options Table, Workers and Repetition, of
+-- which the last is 1 where it is true
 pub record State : Type 0 where
   pub game : Option Begun
   pub table : ℕ
@@ -57,7 +59,8 @@ fresh = record { game = None; table = 65536; workers = 1; repetition = false }
 abbrev pub reached : Begun → Position
 reached g = replay (opening g.game_type) g.made
 
--- the game is won or drawn: by its position, or where the rule is switched on because that stands for the third time
+-- the game is won or drawn: by its position, or where the rule is switched on because that stands
+-- for the third time
 abbrev pub is_ended : Begun → Bool
 is_ended g = is_over_state (outcome_under g.repetition g.game_type g.made)
 
@@ -71,18 +74,23 @@ with_moves g ms = record { game_type = g.game_type; made = ms; repetition = g.re
 
 -- the session with this game, or with this value of an option, in place of its own
 abbrev pub with_game : State → Begun → State
-with_game s g = record { game = Some g; table = s.table; workers = s.workers; repetition = s.repetition }
+with_game s g =
+    record { game = Some g; table = s.table; workers = s.workers; repetition = s.repetition }
 
 abbrev pub with_table : State → ℕ → State
-with_table s value = record { game = s.game; table = value; workers = s.workers; repetition = s.repetition }
+with_table s value =
+    record { game = s.game; table = value; workers = s.workers; repetition = s.repetition }
 
 abbrev pub with_workers : State → ℕ → State
-with_workers s value = record { game = s.game; table = s.table; workers = value; repetition = s.repetition }
+with_workers s value =
+    record { game = s.game; table = s.table; workers = value; repetition = s.repetition }
 
 abbrev pub with_repetition : State → Bool → State
-with_repetition s value = record { game = s.game; table = s.table; workers = s.workers; repetition = value }
+with_repetition s value =
+    record { game = s.game; table = s.table; workers = s.workers; repetition = value }
 
--- the lines of a reply but for the last, which is `ok`, and the session afterwards; or the session is left, with no reply
+-- the lines of a reply but for the last, which is `ok`, and the session afterwards; or the session
+-- is left, with no reply
 pub data Answer : Type 0 where
   Says : (lines : List (List ℕ)) → (after : State) → Answer
   Leaves : Answer
@@ -102,7 +110,8 @@ in_game s (Some g) f = f g
 
 -- in a session with a game that is not over
 abbrev pub while_on : State → (Begun → Answer) → Answer
-while_on s f = in_game s s.game (λ g. if is_ended g then refuse s (codes "err 8 game over") else f g)
+while_on s f =
+    in_game s s.game (λ g. if is_ended g then refuse s (codes "err 8 game over") else f g)
 
 -- A new game
 
@@ -123,7 +132,8 @@ game_fault Memory = []
 
 -- the value that the option Repetition has now is the game's rule from now on
 abbrev pub begin : State → Result Parsed GameFault → Answer
-begin s (Ok g) = go_on s (record { game_type = g.game_type; made = g.moves; repetition = s.repetition })
+begin s (Ok g) =
+    go_on s (record { game_type = g.game_type; made = g.moves; repetition = s.repetition })
 begin s (Err fault) = refuse s (game_fault fault)
 
 -- A move
@@ -162,13 +172,14 @@ list s g = Says (joined (map (text (reached g).board) (moves (reached g))) ∷ [
 
 -- The best move
 
--- A move, written on a board. (None, here an empty text, does not come: in a game that is not over there is a best move at every
--- depth from 1 on.)
+-- A move, written on a board. (None, here an empty text, does not come: in a game that is not over
+-- there is a best move at every depth from 1 on.)
 abbrev pub text_of_best : Stacks → Option Move → List ℕ
 text_of_best b None = []
 text_of_best b (Some m) = text b m
 
--- the first legal move of the greatest minimax value, so many plies deep, written; the options play no part in it
+-- the first legal move of the greatest minimax value, so many plies deep, written; the options play
+-- no part in it
 abbrev pub best_text : Begun → ℕ → List ℕ
 best_text g depth = text_of_best (reached g).board (best (reached g) depth)
 
@@ -218,7 +229,8 @@ set_workers s (Some value) = Says (workers_line value ∷ []) (with_workers s va
 
 abbrev pub set_repetition : State → Option ℕ → Answer
 set_repetition s None = refuse s (codes "err 9 value out of range")
-set_repetition s (Some value) = Says (repetition_line (nat_eq value 1) ∷ []) (with_repetition s (nat_eq value 1))
+set_repetition s (Some value) =
+    Says (repetition_line (nat_eq value 1) ∷ []) (with_repetition s (nat_eq value 1))
 
 abbrev pub set : State → List ℕ → List ℕ → Answer
 set s name value =
@@ -229,20 +241,24 @@ set s name value =
 
 -- The table
 
--- The answer to a command; the parts that it names are those of the line. The depth is that which a search for a time has completed,
--- and serves `bestmove time` alone.
+-- The answer to a command; the parts that it names are those of the line. The depth is that which a
+-- search for a time has completed, and serves `bestmove time` alone.
 abbrev pub command_answer : State → List ℕ → ℕ → Command → Answer
-command_answer s line depth Info = Says (codes "id HiveReferee 1.0" ∷ (codes "Mosquito;Ladybug;Pillbug" ∷ [])) s
-command_answer s line depth (NewGame part) = begin s (game_under s.repetition (or_base (bytes_at line part)))
+command_answer s line depth Info =
+    Says (codes "id HiveReferee 1.0" ∷ (codes "Mosquito;Ladybug;Pillbug" ∷ [])) s
+command_answer s line depth (NewGame part) =
+    begin s (game_under s.repetition (or_base (bytes_at line part)))
 command_answer s line depth (Play part) = in_game s s.game (play s (bytes_at line part))
 command_answer s line depth Pass = in_game s s.game (play s (codes "pass"))
 command_answer s line depth ValidMoves = while_on s (list s)
 command_answer s line depth (BestDepth plies) = while_on s (best_line s plies)
 command_answer s line depth (BestTime budget) = while_on s (best_line s depth)
 command_answer s line depth (Undo plies) = in_game s s.game (undo s plies)
-command_answer s line depth Options = Says (table_line s.table ∷ (workers_line s.workers ∷ (repetition_line s.repetition ∷ []))) s
+command_answer s line depth Options =
+    Says (table_line s.table ∷ (workers_line s.workers ∷ (repetition_line s.repetition ∷ []))) s
 command_answer s line depth (OptionGet name) = get s (bytes_at line name)
-command_answer s line depth (OptionSet name value) = set s (bytes_at line name) (bytes_at line value)
+command_answer s line depth (OptionSet name value) =
+    set s (bytes_at line name) (bytes_at line value)
 command_answer s line depth Exit = Leaves
 
 abbrev pub words_answer : State → List ℕ → ℕ → Result Command CommandFault → Answer
@@ -250,7 +266,8 @@ words_answer s line depth (Ok command) = command_answer s line depth command
 words_answer s line depth (Err Unknown) = refuse s (codes "err 1 unknown command")
 words_answer s line depth (Err Arguments) = refuse s (codes "err 2 wrong arguments")
 
--- the answer of a session to a line, at the depth that its search for a time, if it asks for one, has completed
+-- the answer of a session to a line, at the depth that its search for a time, if it asks for one,
+-- has completed
 abbrev pub answer : State → Line → ℕ → Answer
 answer s (TextLine bytes) depth = words_answer s bytes depth (command_of bytes)
 answer s LongLine depth = refuse s (codes "err 10 line too long")
@@ -291,7 +308,8 @@ abbrev pub text_of : Reply → Option (List ℕ)
 text_of (ReplyText text) = Some text
 text_of ReplyExit = None
 
--- A session in a state gave this answer: what the reply tells, and the state after it. After want of memory the state is as before.
+-- A session in a state gave this answer: what the reply tells, and the state after it. After want
+-- of memory the state is as before.
 pub record Gave (told : Answer) (result : Result Reply AllocError) (old new : State) : Type 0 where
   pub reply : IfOk result (λ r. text_of r ≡ reply_of told)
   pub next : OnOk result (new ≡ after_of old told)

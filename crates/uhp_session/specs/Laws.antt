@@ -17,14 +17,17 @@ use Rattle.uhp_session.specs.Searches.{asks}
 -- the first line of the answer begins with `err ` or with `invalidmove `
 abbrev pub IsRefusal : Answer → Type 0
 IsRefusal (Says [] after) = ⊥
-IsRefusal (Says (line ∷ lines) after) = (rest : List ℕ) × ((line ≡ codes "err " ++ rest) ⊎ (line ≡ codes "invalidmove " ++ rest))
+IsRefusal (Says (line ∷ lines) after) =
+    (rest : List ℕ) × ((line ≡ codes "err " ++ rest) ⊎ (line ≡ codes "invalidmove " ++ rest))
 IsRefusal Leaves = ⊥
 
 -- a refusal leaves the session as it was
 abbrev pub RefusalsChangeNothing : Type 0
-RefusalsChangeNothing = (s : State) (line : Line) (depth : ℕ) → IsRefusal (answer s line depth) → next s line ≡ s
+RefusalsChangeNothing =
+    (s : State) (line : Line) (depth : ℕ) → IsRefusal (answer s line depth) → next s line ≡ s
 
--- the game has at most 5,000 moves, each legal in the position before it, and none of them follows its end under its own rule
+-- the game has at most 5,000 moves, each legal in the position before it, and none of them follows
+-- its end under its own rule
 pub record IsHeld (g : Begun) : Type 0 where
   pub legal : IsGame g.game_type g.made
   pub few : length g.made ≤ 5000
@@ -39,8 +42,9 @@ HoldsGame (Some g) = IsHeld g
 abbrev pub SessionsHoldGames : Type 0
 SessionsHoldGames = (s : State) (line : Line) → HoldsGame s.game → HoldsGame (next s line).game
 
--- In a position that is not over the text that `bestmove` answers is that of a legal move, at every depth from 1 on: of the first of
--- those that are worth most at that depth. A search is of the position alone, whatever the rule of the game.
+-- In a position that is not over the text that `bestmove` answers is that of a legal move, at every
+-- depth from 1 on: of the first of those that are worth most at that depth. A search is of the
+-- position alone, whatever the rule of the game.
 abbrev pub BestMovesAreNamed : Type 0
 BestMovesAreNamed =
     (g : Begun) (depth : ℕ) → is_over (reached g) ≡ false → 1 ≤ depth
@@ -68,18 +72,22 @@ abbrev pub AsksGame : Line → Type 0
 AsksGame (TextLine bytes) = IsNewGame (command_of bytes)
 AsksGame LongLine = ⊥
 
--- The values of the options show in no reply but those to `options`, except that of Repetition in what `newgame` begins: to every
--- other line two sessions of the same game give the same reply, and they are of the same game afterwards; to `newgame` they do where
--- their values of Repetition are the same.
+-- The values of the options show in no reply but those to `options`, except that of Repetition in
+-- what `newgame` begins: to every other line two sessions of the same game give the same reply, and
+-- they are of the same game afterwards; to `newgame` they do where their values of Repetition are
+-- the same.
 abbrev pub OptionsChangeNoAnswer : Type 0
 OptionsChangeNoAnswer =
-    (s t : State) (line : Line) (depth : ℕ) → s.game ≡ t.game → ¬ AsksOptions line → (AsksGame line → s.repetition ≡ t.repetition)
+    (s t : State) (line : Line) (depth : ℕ) → s.game ≡ t.game → ¬ AsksOptions line
+    → (AsksGame line → s.repetition ≡ t.repetition)
     → (reply s line depth ≡ reply t line depth) × ((next s line).game ≡ (next t line).game)
 
--- The depth of a search shows in the reply to the line that asks for it and in no other, and in no session after a line.
+-- The depth of a search shows in the reply to the line that asks for it and in no other, and in no
+-- session after a line.
 pub record ServesSearches (s : State) (line : Line) (depth other : ℕ) : Type 0 where
   pub reply_same : asks s line ≡ None → reply s line depth ≡ reply s line other
   pub after_same : after_of s (answer s line depth) ≡ next s line
 
 abbrev pub DepthsServeSearches : Type 0
-DepthsServeSearches = (s : State) (line : Line) (depth other : ℕ) → ServesSearches s line depth other
+DepthsServeSearches =
+    (s : State) (line : Line) (depth other : ℕ) → ServesSearches s line depth other

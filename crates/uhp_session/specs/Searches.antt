@@ -1,4 +1,5 @@
--- Searches for a time: what a line asks for, what an entry tells of the search that answered it, and what the answer took.
+-- Searches for a time: what a line asks for, what an entry tells of the search that answered it,
+-- and what the answer took.
 use Rattle.std.specs.Prelude.{◌≡◌, ℕ, ◌+◌, ◌<◌, ◌≤◌, List, [], ◌∷◌, ◌++◌, Option, Some, None, Result, Ok, IfOk, OnOk, OnErr, codes, if◌then◌else◌}
 use Rattle.std.specs.declared.alloc.AllocError.{AllocError}
 use Rattle.hive_model.specs.declared.answers.Timed.{Timed}
@@ -22,7 +23,8 @@ pub record Search : Type 0 where
 -- a search with this budget, where a game was begun that is not over
 abbrev pub search_in : Option Begun → ℕ → Option Search
 search_in None budget = None
-search_in (Some g) budget = if is_ended g then None else Some (record { budget = budget; position = reached g })
+search_in (Some g) budget =
+    if is_ended g then None else Some (record { budget = budget; position = reached g })
 
 abbrev pub command_search : State → Result Command CommandFault → Option Search
 command_search s (Ok (BestTime budget)) = search_in s.game budget
@@ -40,7 +42,8 @@ asks s LongLine = None
 
 -- What its answer tells
 
--- The entry tells of this search: it has its budget, and a depth from 1 to 64, which is below 64 only where the time was over.
+-- The entry tells of this search: it has its budget, and a depth from 1 to 64, which is below 64
+-- only where the time was over.
 pub record IsToldOf (asked : Search) (entry : Timed) : Type 0 where
   pub budget : entry.budget ≡ asked.budget
   pub low : 1 ≤ entry.depth
@@ -48,7 +51,8 @@ pub record IsToldOf (asked : Search) (entry : Timed) : Type 0 where
   pub late : entry.depth < 64 → entry.started + entry.budget ≤ entry.stopped
   pub order : entry.started ≤ entry.stopped
 
--- the clock's last reading, how often it was read, and an entry for each search for a time that was answered
+-- the clock's last reading, how often it was read, and an entry for each search for a time that was
+-- answered
 pub record Times : Type 0 where
   pub last : ℕ
   pub readings : ℕ
@@ -71,15 +75,19 @@ pub record Searched (asked : Search) (entry : Timed) (before after : Times) : Ty
   pub stopped : entry.stopped ≡ after.last
   pub few : after.readings ≤ before.readings + reads asked.position entry.depth
 
--- A line that asks for this search, or for none, was answered so: at the depth of the search's entry, or without taking time.
-abbrev pub IsAnswered : Option Search → (ℕ → Option (List ℕ)) → Option (List ℕ) → Times → Times → Type 0
+-- A line that asks for this search, or for none, was answered so: at the depth of the search's
+-- entry, or without taking time.
+abbrev pub IsAnswered : Option Search → (ℕ → Option (List ℕ)) → Option (List ℕ) → Times → Times
+    → Type 0
 IsAnswered None reply answer before after = (answer ≡ reply 0) × TakesNoTime before after
 IsAnswered (Some asked) reply answer before after =
     (entry : Timed) × (answer ≡ reply entry.depth) × Searched asked entry before after
 
--- A line that asks for this search, or for none, was answered so by what was in one state before, and is to be in this state next.
--- After want of memory the state is as before, and no entry was appended. The clock's last reading never falls.
-pub record Answered {S : Type 0} (asked : Option Search) (told : ℕ → Option (List ℕ)) (follow : S) (result : Result Reply AllocError)
+-- A line that asks for this search, or for none, was answered so by what was in one state before,
+-- and is to be in this state next. After want of memory the state is as before, and no entry was
+-- appended. The clock's last reading never falls.
+pub record Answered {S : Type 0} (asked : Option Search) (told : ℕ → Option (List ℕ)) (follow : S)
+    (result : Result Reply AllocError)
     (old new : S) (before after : Times) : Type 0 where
   pub reply : IfOk result (λ r. IsAnswered asked told (text_of r) before after)
   pub next : OnOk result (new ≡ follow)
@@ -90,4 +98,5 @@ pub record Answered {S : Type 0} (asked : Option Search) (told : ℕ → Option 
 -- the best move of this game at the depth of an entry was told, and the entry tells of this search
 abbrev pub HasTold : Search → Begun → Option (List ℕ) → Times → Times → Type 0
 HasTold asked g answer before after =
-    (entry : Timed) × (answer ≡ Some (ended (best_text g entry.depth ∷ (codes "ok" ∷ [])))) × Searched asked entry before after
+    (entry : Timed) × (answer ≡ Some (ended (best_text g entry.depth ∷ (codes "ok" ∷ []))))
+    × Searched asked entry before after

@@ -1,8 +1,10 @@
--- Where the side to move cannot win or lose with its next move: what stands round the other side's queen, or round its own, tells it.
+-- Where the side to move cannot win or lose with its next move: what stands round the other side's
+-- queen, or round its own, tells it.
 --
--- A win surrounds her: all six places around her are occupied. A move puts one piece on one place, so unless it moves the queen
--- herself it fills at most one of the six more. It is not her own side's move, so she moves only where a pillbug or a mosquito of
--- the side to move, which stands beside her, throws her to an empty place beside itself; and there she is surrounded only where
+-- A win surrounds her: all six places around her are occupied. A move puts one piece on one place,
+-- so unless it moves the queen herself it fills at most one of the six more. It is not her own
+-- side's move, so she moves only where a pillbug or a mosquito of the side to move, which stands
+-- beside her, throws her to an empty place beside itself; and there she is surrounded only where
 -- that place was a hole in the hive, with all six places around it occupied.
 use Rattle.std.specs.Prelude.{◌≡◌, ℕ, ◌≤◌, Bool, true, false, not, ◌&&◌, ◌||◌, nat_eq, nat_lt, length, Option, Some, None, IsTrue, ◌⊎◌}
 use Rattle.std.specs.List.{list_any, filter}
@@ -32,18 +34,20 @@ pub record IsBesideThrower (b : Stacks) (c : Colour) (q : Place) : Type 0 where
   pub way : Dir
   pub hole : IsHole b (step (step q dir) way)
 
--- A side's queen is out of reach of a mover where she is in hand, or where at most four of the six places around her are occupied
--- and no pillbug or mosquito of the mover stands beside her that has a hole beside it. (Around a queen in hand nothing is counted.)
+-- A side's queen is out of reach of a mover where she is in hand, or where at most four of the six
+-- places around her are occupied and no pillbug or mosquito of the mover stands beside her that has
+-- a hole beside it. (Around a queen in hand nothing is counted.)
 pub record IsOutOfReach (b : Stacks) (mover c : Colour) : Type 0 where
   pub few : round_queen b c ≤ 4
-  pub unthrown : (queen : Spot) → spot_of b (queen_of c) ≡ Some queen → ¬ IsBesideThrower b mover queen.place
+  pub unthrown : (queen : Spot) → spot_of b (queen_of c) ≡ Some queen
+      → ¬ IsBesideThrower b mover queen.place
 
 -- the side to move is far from a win where the other side's queen is out of its reach
 abbrev pub IsFarFromWin : Position → Type 0
 IsFarFromWin p = IsOutOfReach p.board p.side (other_side p.side)
 
--- The side to move is far from a loss where its own queen is on the ground, in play, and out of its own reach. (Where she walks, she
--- leaves an empty place beside her.)
+-- The side to move is far from a loss where its own queen is on the ground, in play, and out of its
+-- own reach. (Where she walks, she leaves an empty place beside her.)
 pub record IsFarFromLoss (p : Position) : Type 0 where
   pub queen : Spot
   pub stands : spot_of p.board (queen_of p.side) ≡ Some queen
@@ -62,7 +66,8 @@ has_hole b q = list_any (λ d. is_hole b (step q d)) dirs
 -- the piece is a pillbug or a mosquito of this side
 abbrev pub is_own_thrower : Colour → Option ℕ → Bool
 is_own_thrower c None = false
-is_own_thrower c (Some x) = is_colour (colour_of x) c && (is_kind (kind_of x) Pillbug || is_kind (kind_of x) Mosquito)
+is_own_thrower c (Some x) =
+    is_colour (colour_of x) c && (is_kind (kind_of x) Pillbug || is_kind (kind_of x) Mosquito)
 
 -- the top piece of the place is one, and has a hole beside it
 abbrev pub throws_in : Stacks → Colour → Place → Bool
@@ -71,9 +76,11 @@ throws_in b c q = is_own_thrower c (top_at b q) && has_hole b q
 abbrev pub is_beside_thrower : Stacks → Colour → Place → Bool
 is_beside_thrower b c q = list_any (λ d. throws_in b c (step q d)) dirs
 
--- at most four neighbours of the place are occupied, and on none stands a pillbug or a mosquito of this side with a hole beside it
+-- at most four neighbours of the place are occupied, and on none stands a pillbug or a mosquito of
+-- this side with a hole beside it
 abbrev pub is_far_place : Stacks → Colour → Place → Bool
-is_far_place b c q = nat_lt (length (filter (is_occupied b) (neighbours q))) 5 && not (is_beside_thrower b c q)
+is_far_place b c q =
+    nat_lt (length (filter (is_occupied b) (neighbours q))) 5 && not (is_beside_thrower b c q)
 
 -- the same of a queen's place; a queen in hand is far
 abbrev pub is_far_spot : Stacks → Colour → Option Spot → Bool

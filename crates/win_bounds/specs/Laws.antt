@@ -16,18 +16,24 @@ FarIsTested = (p : Position) → IsTrue (is_far_from_win p) ↔ IsFarFromWin p
 
 -- far from a win no legal move surrounds the other side's queen
 abbrev pub FarMovesDoNotSurround : Type 0
-FarMovesDoNotSurround = (p : Position) → IsBoard p.board → IsFarFromWin p → (m : Move) → IsOn (moves p) m → is_surrounded (after p m).board (other_side p.side) ≡ false
+FarMovesDoNotSurround =
+    (p : Position) → IsBoard p.board → IsFarFromWin p → (m : Move) → IsOn (moves p) m
+    → is_surrounded (after p m).board (other_side p.side) ≡ false
 
--- and so a position that is far from a win is worth at most 1000 with one ply to search: an evaluation, a draw or a loss
+-- and so a position that is far from a win is worth at most 1000 with one ply to search: an
+-- evaluation, a draw or a loss
 abbrev pub FarIsNotWon : Type 0
 FarIsNotWon = (p : Position) → IsBoard p.board → IsFarFromWin p → value p 1 ≤ℤ pos 1000
 
--- The same of a loss: the test says it, no legal move surrounds the own queen, and the position is worth at least -1000.
+-- The same of a loss: the test says it, no legal move surrounds the own queen, and the position is
+-- worth at least -1000.
 abbrev pub SafetyIsTested : Type 0
 SafetyIsTested = (p : Position) → IsTrue (is_far_from_loss p) ↔ IsFarFromLoss p
 
 abbrev pub SafeMovesDoNotSurround : Type 0
-SafeMovesDoNotSurround = (p : Position) → IsBoard p.board → IsFarFromLoss p → (m : Move) → IsOn (moves p) m → is_surrounded (after p m).board p.side ≡ false
+SafeMovesDoNotSurround =
+    (p : Position) → IsBoard p.board → IsFarFromLoss p → (m : Move) → IsOn (moves p) m
+    → is_surrounded (after p m).board p.side ≡ false
 
 abbrev pub SafeIsNotLost : Type 0
 SafeIsNotLost = (p : Position) → IsBoard p.board → IsFarFromLoss p → neg_ℤ (pos 1000) ≤ℤ value p 1

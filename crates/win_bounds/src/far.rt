@@ -6,7 +6,17 @@ ghost use Rattle.hive_model.specs.Places.{IsWithin};
 ghost use Rattle.hive_model.specs.Boards.{IsBoard, spot_of, top_at};
 ghost use Rattle.hive_model.specs.Minimax.{value};
 ghost use Rattle.hive_model.specs.Courses.{position};
-ghost use Rattle.win_bounds.specs.FarFromWin.{is_hole, has_hole, is_own_thrower, throws_in, is_far_place, is_far_spot, is_far_from_win, is_home_spot, is_far_from_loss};
+ghost use Rattle.win_bounds.specs.FarFromWin.{
+  is_hole,
+  has_hole,
+  is_own_thrower,
+  throws_in,
+  is_far_place,
+  is_far_spot,
+  is_far_from_win,
+  is_home_spot,
+  is_far_from_loss,
+};
 
 use hive_model::{Board, Colour, Dir, Game, Kind, Piece, Place, is_walled};
 

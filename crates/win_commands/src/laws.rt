@@ -1,6 +1,13 @@
 //! Laws of forced wins that are told and checked, as contracts of functions that do nothing.
 
-ghost use Rattle.win_commands.specs.Laws.{AcceptedIsTrue, SolutionsAreAccepted, SolvedIsAccepted, SolvesAreDone, VerifiedIsTrue, VerifiesAreDone};
+ghost use Rattle.win_commands.specs.Laws.{
+  AcceptedIsTrue,
+  SolutionsAreAccepted,
+  SolvedIsAccepted,
+  SolvesAreDone,
+  VerifiedIsTrue,
+  VerifiesAreDone,
+};
 
 /// The answer of a text that is accepted is the true one.
 pub fn accepted_answers_are_true()
