@@ -58,25 +58,23 @@ pub record HoldsAs {T : Type 0} (version : ℕ) (item_in : Line → Option T)
   pub are_items : map item_in (drop 5 ls) ≡ map (λ item. Some item) items
   pub hold : Of (end_of head) head.depth m head.value items
 
+-- lines that are a head with its claim, and items of which this holds, are accepted
+abbrev pub AreAccepted : {T : Type 0} → (List Line → Head → Move → List T → Type 0) → Type 0
+AreAccepted {T} Of =
+    (ls : List Line) → (head : Head) → (m : Move) → (items : List T)
+    → Of ls head m items → verdict ls ≡ Accepted
+
 -- the lines are a head of the first version with its claim, and indices that hold of it
 abbrev pub HoldsOf : List Line → Head → Move → List ℕ → Type 0
 HoldsOf = HoldsAs 1 index_in Holds
 
 -- such lines are accepted
 abbrev pub HeldIsAccepted : Type 0
-HeldIsAccepted =
-    (ls : List Line) → (head : Head) → (m : Move) → (indices : List ℕ)
-    → HoldsOf ls head m indices → verdict ls ≡ Accepted
+HeldIsAccepted = AreAccepted HoldsOf
 
--- the same of a head of the second version, and tokens
-abbrev pub HoldsCitedOf : List Line → Head → Move → List Token → Type 0
-HoldsCitedOf = HoldsAs 2 token_in HoldsCited
-
--- such lines are accepted too
+-- so are those of a head of the second version, and tokens
 abbrev pub HeldCitedIsAccepted : Type 0
-HeldCitedIsAccepted =
-    (ls : List Line) → (head : Head) → (m : Move) → (tokens : List Token)
-    → HoldsCitedOf ls head m tokens → verdict ls ≡ Accepted
+HeldCitedIsAccepted = AreAccepted (HoldsAs 2 token_in HoldsCited)
 
 -- a game of at most 5,000 moves that is not over, and its best move at a depth from 1 to 64
 pub record MayCertify (t : GameType) (ms : List Move) (depth : ℕ) (m : Move) : Type 0 where
