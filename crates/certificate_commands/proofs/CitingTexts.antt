@@ -1,5 +1,5 @@
 -- A text that is made of a certificate is read as it was written, and is accepted.
-use Rattle.std.proofs.Common.{◌≡◌, ℕ, ◌+◌, ◌^◌, ◌≤◌, ◌<◌, List, [], ◌∷◌, ◌++◌, drop, map, refl, sym, ◌∙◌, ap, arith, lit<, Some}
+use Rattle.std.proofs.Common.{◌≡◌, ℕ, ◌^◌, ◌≤◌, ◌<◌, List, [], ◌∷◌, ◌++◌, drop, map, refl, sym, ◌∙◌, ap, arith, lit<, Some}
 use Rattle.std.specs.Prelude.{codes, decimal, option_map}
 use Rattle.hive_model.specs.Positions.{Position}
 use Rattle.hive_model.specs.Lines.{Line, Text, lines, line_of}

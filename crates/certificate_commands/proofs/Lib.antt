@@ -1,6 +1,7 @@
 pub mod CertifyLaws
 pub mod HeadLaws
 pub mod CheckLaws
+pub mod ClaimLaws
 pub mod MigrateLaws
 pub mod MigrateRuns
 pub mod MigrationLaws

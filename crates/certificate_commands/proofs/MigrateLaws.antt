@@ -1,18 +1,17 @@
 -- What the parts of a migration write.
 use Rattle.std.proofs.Common.{◌≡◌, ℕ, ◌+◌, Bool, true, false, List, map, drop, ◌++◌, refl, sym, ap, subst, arith, ◌∙◌, ℤ, Option, Some, None}
-use Rattle.std.specs.Prelude.{Result, Ok, Err, IsTrue, ◌↔◌}
+use Rattle.std.specs.Prelude.{◌≢◌, Result, Ok, Err, IsTrue, ◌↔◌}
 use Rattle.io_edge.specs.Outside.{Told as AnyTold}
+use Rattle.hive_model.specs.declared.pieces.GameType.{GameType}
 use Rattle.hive_model.specs.declared.places.Move.{Move}
-use Rattle.hive_model.specs.Boards.{Stacks}
 use Rattle.hive_model.specs.Positions.{Position, opening}
-use Rattle.hive_model.specs.Courses.{Course, position}
+use Rattle.hive_model.specs.Courses.{Course}
 use Rattle.hive_model.specs.Legal.{is_over, moves}
 use Rattle.hive_model.specs.Lists.{IsOn}
 use Rattle.hive_model.specs.Games.{replay}
-use Rattle.hive_model.specs.Lines.{Line, ToldLines}
+use Rattle.hive_model.specs.Lines.{Line}
 use Rattle.search_laws.proofs.LoopLaws.{on-at}
-use Rattle.move_text.specs.declared.faults.MoveFault.{MoveFault}
-use Rattle.move_text.specs.Moves.{move_of}
+use Rattle.claim_walks.specs.declared.claim.Claim.{Claim}
 use Rattle.claim_walks.specs.Walks.{Fault, Halt, place_of}
 use Rattle.claim_walks.proofs.PlaceLaws.{place-here}
 use Rattle.claim_walks.proofs.FollowLaws.{certificate-none}
@@ -24,19 +23,19 @@ use Rattle.strategy_check.specs.Checks.{index_sight}
 use Rattle.certificate_text.specs.declared.head.Head.{Head}
 use Rattle.certificate_text.specs.declared.head.HeadFault.{HeadFault}
 use Rattle.certificate_text.specs.declared.head.HeadFault.TheVariants.{BadLine as LineFault, BadGame as NoGame, ReadFault as NoRead, InputFull as IsFull, Memory as NoMemory}
-use Rattle.certificate_text.specs.Heads.{ReadsHead}
-use Rattle.certificate_text.specs.Text.{HeadRead, head_of, head_text, index_in}
-use Rattle.citing_text.specs.Migrating.{Shortens}
+use Rattle.certificate_text.specs.Text.{head_of, head_text, index_in}
 use Rattle.text_verdicts.specs.declared.verdict.Verdict.{Verdict}
-use Rattle.text_verdicts.specs.declared.verdict.Verdict.TheVariants.{BadLine, Refused as VerdictRefused}
+use Rattle.text_verdicts.specs.declared.verdict.Verdict.TheVariants.{Accepted, BadCite, BadGame, BadLine, GameOver, Refused as VerdictRefused}
 use Rattle.text_verdicts.specs.declared.verdict.Unread.{Unread}
 use Rattle.text_verdicts.specs.Verdicts.{of_walk}
 use Rattle.text_verdicts.specs.Reading.{Judges, of_fault}
-use Rattle.text_verdicts.proofs.TextLaws.{fault-judges, if-open, verdict-is}
+use Rattle.text_verdicts.proofs.TextLaws.{if-open, verdict-is}
 use Rattle.certificate_commands.specs.declared.migrating.Taken.{Taken}
 use Rattle.certificate_commands.specs.declared.migrating.Taken.TheVariants.{Written, Cut, Judged, Missed}
+use Rattle.certificate_commands.specs.Claims.{Claims}
 use Rattle.certificate_commands.specs.Verdicts.{claimed_move, end_of, of_claim, of_items, of_lines, of_move}
 use Rattle.certificate_commands.specs.Migrating.{MigratesHead, MigratesTo, OfItems, Writes, WritesLate, first_verdict, taken_as}
+use Rattle.certificate_commands.proofs.ClaimLaws.{ends-there}
 
 pub writes-as : (v w : Verdict) (Is Also : List ℕ → Type 0) (r : Taken) (a b : AnyTold) → v ≡ w → ((text : List ℕ) → Is text → Also text) → Writes v Is r a b → Writes w Also r a b
 writes-as v w Is Also Written a b e f h = (h.0, f h.0 h.1, h.2)
@@ -60,9 +59,13 @@ claim-items head rest m first goes denotes =
     ∙ ap (λ r. of_move head.version (end_of head) head.depth r head.value rest) denotes
     ∙ ap (λ n. of_lines n (end_of head) head.depth m head.value rest) first
 
+-- what is made of a claim of a game of this type and these moves
+abbrev MigratesFrom : List Line → Move → Taken → AnyTold → AnyTold → GameType → List Move → ℕ → ℤ → Type 0
+MigratesFrom rest m r a b t ms d v =
+    Writes (of_items (replay (opening t) ms) d m v (map index_in rest)) (OfItems (replay (opening t) ms) d m v (map index_in rest) (head_text 2 t ms d m v)) r a b
+
 head-writes : (head : Head) (rest : List Line) (m : Move) (r : Taken) (a b : AnyTold) → head.version ≡ 1 → is_over (end_of head) ≡ false → claimed_move head ≡ Ok m →
-    Writes (of_items (end_of head) head.depth m head.value (map index_in rest)) (OfItems (end_of head) head.depth m head.value (map index_in rest) (head_text 2 head.game_type head.moves head.depth m head.value)) r a b →
-    Writes (of_claim head rest) (MigratesHead head rest) r a b
+    MigratesFrom rest m r a b head.game_type head.moves head.depth head.value → Writes (of_claim head rest) (MigratesHead head rest) r a b
 head-writes head rest m r a b first goes denotes h =
     writes-as _ _ (OfItems (end_of head) head.depth m head.value (map index_in rest) (head_text 2 head.game_type head.moves head.depth m head.value)) (MigratesHead head rest) r a b (sym (claim-items head rest m first goes denotes))
     (λ text is. record {
@@ -75,27 +78,16 @@ head-writes head rest m r a b first goes denotes h =
       text_is = is.2 ∙ ap (λ (s : List ℕ). head_text 2 head.game_type head.moves head.depth m head.value ++ s) is.1.lines_are;
     }) h
 
--- of a game under way that is the head's
-pub course-writes : (head : Head) (rest : List Line) (m : Move) (c : Course) (r : Taken) (a b : AnyTold) → c.game_type ≡ head.game_type → c.made ≡ head.moves → head.version ≡ 1 → is_over (position c) ≡ false →
-    Ok m ≡ move_of head.game_type (position c).board head.claim_text →
-    Writes (of_items (position c) head.depth m head.value (map index_in rest)) (OfItems (position c) head.depth m head.value (map index_in rest) (head_text 2 c.game_type c.made head.depth m head.value)) r a b →
+-- of a game under way that is the head's, and its claim
+pub course-writes : (head : Head) (rest : List Line) (c : Course) (claim : Claim) (r : Taken) (a b : AnyTold) → head.version ≡ 1 → Claims head c claim → MigratesFrom rest claim.best r a b c.game_type c.made claim.depth claim.value →
     Writes (of_claim head rest) (MigratesHead head rest) r a b
-course-writes head rest m c r a b kind made first goes read h =
-    let same : position c ≡ end_of head = λ i. replay (opening (kind i)) (made i) in
-    let all : Writes (of_items (end_of head) head.depth m head.value (map index_in rest)) (OfItems (end_of head) head.depth m head.value (map index_in rest) (head_text 2 head.game_type head.moves head.depth m head.value)) r a b =
-    writes-as _ _ (OfItems (position c) head.depth m head.value (map index_in rest) (head_text 2 c.game_type c.made head.depth m head.value))
-    (OfItems (end_of head) head.depth m head.value (map index_in rest) (head_text 2 head.game_type head.moves head.depth m head.value)) r a b (ap (λ (p : Position). of_items p head.depth m head.value (map index_in rest)) same)
-    (λ text is. (is.0, subst (λ (p : Position). Shortens p head.depth m head.value (map index_in rest) is.0) same is.1, is.2 ∙ (λ i. head_text 2 (kind i) (made i) head.depth m head.value ++ is.0))) h in
-    head-writes head rest m r a b first (sym (ap is_over same) ∙ goes) (ap (λ (p : Position). move_of head.game_type p.board head.claim_text) (sym same) ∙ sym read) all
-
--- where the text of the move denotes none
-pub no-move : (head : Head) (rest : List Line) (c : Course) (text : List ℕ) (board : Stacks) (read : Result Move MoveFault) → c.game_type ≡ head.game_type → c.made ≡ head.moves → is_over (position c) ≡ false →
-    board ≡ (position c).board → text ≡ head.claim_text → read ≡ move_of head.game_type board text → of_claim head rest ≡ of_move head.version (end_of head) head.depth read head.value rest
-no-move head rest c text board read kind made goes there same_text is =
-    let same : position c ≡ end_of head = λ i. replay (opening (kind i)) (made i) in
-    let denotes : claimed_move head ≡ read = ap (λ (p : Position). move_of head.game_type p.board head.claim_text) (sym same) ∙ sym (is ∙ (λ i. move_of head.game_type (there i) (same_text i))) in
-    if-open (is_over (end_of head)) (of_move head.version (end_of head) head.depth (claimed_move head) head.value rest) (sym (ap is_over same) ∙ goes)
-    ∙ ap (λ r. of_move head.version (end_of head) head.depth r head.value rest) denotes
+course-writes head rest c claim r a b first is h =
+    let goes : is_over (end_of head) ≡ false = sym (ap is_over (ends-there head c is.kind is.made)) ∙ is.may_be.inner.open_ in
+    head-writes head rest claim.best r a b first goes is.denotes
+    (subst (λ (v : ℤ). MigratesFrom rest claim.best r a b head.game_type head.moves head.depth v) is.value
+    (subst (λ (d : ℕ). MigratesFrom rest claim.best r a b head.game_type head.moves d claim.value) is.depth
+    (subst (λ (ms : List Move). MigratesFrom rest claim.best r a b head.game_type ms claim.depth claim.value) is.made
+    (subst (λ (t : GameType). MigratesFrom rest claim.best r a b t c.made claim.depth claim.value) is.kind h))))
 
 pub all-writes : (ls : List Line) (head : Head) (r : Taken) (a b : AnyTold) → head_of 1 ls ≡ Ok head → Writes (of_claim head (drop 5 ls)) (MigratesHead head (drop 5 ls)) r a b → Writes (first_verdict ls) (MigratesTo ls) r a b
 all-writes ls head r a b e h =
@@ -111,25 +103,30 @@ illegal-judged p d m v items b legal no_ =
     let none : None ≡ place_of m (moves p) = no-place m (moves p) b legal no_ (place_of m (moves p)) refl in
     ap (of_walk 5) (certificate-none index_rules index_sight p d m v (steps items 0) none)
 
--- where the text has no head
-judged-writes : (v : Verdict) (Is : List ℕ → Type 0) (judged : Result Verdict Unread) (a b : AnyTold) → Judges judged v → Writes v Is (taken_as judged) a b
-judged-writes v Is (Ok w) a b h = h
-judged-writes v Is (Err unread) a b h = tt
+-- where the text was judged before anything was written
+pub judged-writes : (v : Verdict) (Is : List ℕ → Type 0) (judged : Result Verdict Unread) (r : Taken) (a b : AnyTold) → r ≡ taken_as judged → Judges judged v → Writes v Is r a b
+judged-writes v Is judged r a b taken h = subst (λ (t : Taken). Writes v Is t a b) (sym taken) (by judged h)
+  where
+    by : (j : Result Verdict Unread) → Judges j v → Writes v Is (taken_as j) a b
+    by (Ok w) h = h
+    by (Err unread) h = tt
 
-pub fault-writes : (ls : List Line) (fault : HeadFault) (judged : Result Verdict Unread) (r : Taken) (a b : AnyTold) (later : ToldLines) → judged ≡ of_fault fault → r ≡ taken_as judged →
-    (let h : HeadRead = Err fault in ReadsHead h (head_of 1 ls) ls later) → Writes (first_verdict ls) (MigratesTo ls) r a b
-fault-writes ls fault judged r a b later is taken h =
-    subst (λ (t : Taken). Writes (first_verdict ls) (MigratesTo ls) t a b) (sym taken)
-    (judged-writes (first_verdict ls) (MigratesTo ls) judged a b (fault-judges 5 (head_of 1) of_claim ls fault judged later is h))
+pub judged-late : (judged : Result Verdict Unread) (r : Taken) (a b : AnyTold) → judged ≢ Ok Accepted → r ≡ taken_as judged → b ≡ a → WritesLate r a b
+judged-late judged r a b refuses taken same = subst (λ (t : Taken). WritesLate t a b) (sym taken) (by judged refuses)
+  where
+    by : (j : Result Verdict Unread) → j ≢ Ok Accepted → WritesLate (taken_as j) a b
+    by (Ok Accepted) refuses = absurd (refuses refl)
+    by (Ok (VerdictRefused place why)) refuses = same
+    by (Ok (BadCite place)) refuses = same
+    by (Ok (BadLine n)) refuses = same
+    by (Ok (BadGame fault)) refuses = same
+    by (Ok GameOver) refuses = same
+    by (Err unread) refuses = same
 
-pub fault-late : (fault : HeadFault) (judged : Result Verdict Unread) (r : Taken) (a b : AnyTold) → judged ≡ of_fault fault → r ≡ taken_as judged → b ≡ a → WritesLate r a b
-fault-late (LineFault n) judged r a b is taken same = subst (λ (t : Taken). WritesLate t a b) (sym (taken ∙ ap taken_as is)) same
-fault-late (NoGame fault) judged r a b is taken same = subst (λ (t : Taken). WritesLate t a b) (sym (taken ∙ ap taken_as is)) same
-fault-late NoRead judged r a b is taken same = subst (λ (t : Taken). WritesLate t a b) (sym (taken ∙ ap taken_as is)) same
-fault-late IsFull judged r a b is taken same = subst (λ (t : Taken). WritesLate t a b) (sym (taken ∙ ap taken_as is)) same
-fault-late NoMemory judged r a b is taken same = subst (λ (t : Taken). WritesLate t a b) (sym (taken ∙ ap taken_as is)) same
-
--- the value as the code hands it on
-pub value-writes : (p : Position) (c : Course) (d : ℕ) (m : Move) (x v : ℤ) (items : List (Option ℕ)) (r : Taken) (a b : AnyTold) → x ≡ v →
-    Writes (of_items p d m x items) (OfItems p d m x items (head_text 2 c.game_type c.made d m x)) r a b → Writes (of_items p d m v items) (OfItems p d m v items (head_text 2 c.game_type c.made d m v)) r a b
-value-writes p c d m x v items r a b e h = subst (λ (y : ℤ). Writes (of_items p d m y items) (OfItems p d m y items (head_text 2 c.game_type c.made d m y)) r a b) e h
+-- no fault of a head is accepted
+pub fault-refuses : (fault : HeadFault) (judged : Result Verdict Unread) → judged ≡ of_fault fault → judged ≢ Ok Accepted
+fault-refuses (LineFault n) judged is = λ e. cc
+fault-refuses (NoGame fault) judged is = λ e. cc
+fault-refuses NoRead judged is = λ e. cc
+fault-refuses IsFull judged is = λ e. cc
+fault-refuses NoMemory judged is = λ e. cc

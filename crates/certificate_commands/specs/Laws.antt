@@ -8,7 +8,6 @@ use Rattle.hive_model.specs.Games.{IsGame, replay}
 use Rattle.hive_model.specs.Lines.{Line, lines}
 use Rattle.hive_model.specs.Minimax.{best, value}
 use Rattle.strategy_check.specs.Trace.{Holds}
-use Rattle.strategy_lemmas.specs.declared.tokens.Token.{Token}
 use Rattle.strategy_lemmas.specs.Cited.{HoldsCited}
 use Rattle.citing_text.specs.TokenText.{token_in}
 use Rattle.certificate_text.specs.declared.head.Head.{Head}

@@ -1,8 +1,7 @@
 //! Checks of certificates.
 
-ghost use Rattle.std.specs.Prelude.{◌≤◌, length, map};
+ghost use Rattle.std.specs.Prelude.{◌≤◌, map};
 ghost use Rattle.hive_model.specs.Courses.{position};
-ghost use Rattle.move_text.specs.Moves.{move_of};
 ghost use Rattle.certificate_text.specs.Text.{head_of, index_in};
 ghost use Rattle.certificate_text.specs.Heads.{IsHead};
 ghost use Rattle.command_runs.specs.Runs.{RunsAs, side_of};
@@ -13,19 +12,17 @@ ghost use Rattle.certificate_commands.specs.Verdicts.{
   of_claim,
   of_items,
   of_lines,
-  of_move,
 };
 
 use crate::citing::judge_tokens;
+use crate::claims::{ClaimedGame, claimed};
 use certificate_text::{Head, HeadFault, LineIndices, read_head};
-use command_runs::{Status, is_over};
-use game_text::played;
+use command_runs::Status;
 use hive_model::{Game, MoveStack};
 use io_edge::{Sink, Source};
 use line_feed::LineReader;
-use move_text::read_move;
 use std::alloc::Global;
-use strategy_check::{Claim, Why, check as check_indices};
+use strategy_check::{Claim, check as check_indices};
 use strategy_lemmas::Lemmas;
 use text_verdicts::{IndexReasons, TextForm, Unread, Verdict, check_text, verdict_of};
 
@@ -82,39 +79,6 @@ fn judge_move<S: Source, G: Game>(
     judge_tokens(reader, input, game, claim, &mut lemmas, &mut stack)
 }
 
-/// The verdict on the lines to come as those of a claim about the game's position, whose move is
-/// not read yet.
-fn judge_text<S: Source, G: Game>(
-    alloc: Global,
-    head: &Head,
-    reader: &mut LineReader,
-    input: &mut S,
-    game: &mut G,
-) -> Result<Verdict, Unread>
-    requires claim { IsClaimOf (G.course game.old) head.now.depth head.now.value }
-    requires short { length head.now.claim_text ≤ 65536 }
-    ensures { JudgesAhead 5 (of_move head.now.version (position (G.course game.old)) head.now.depth
-        (move_of head.now.game_type (position (G.course game.old)).board head.now.claim_text)
-        head.now.value) 5 result reader.old
-        (side_of S.rest S.read_faults input.old) (side_of S.rest S.read_faults input.new) }
-{
-    let _state = game.state();
-    match read_move(head.game_type, game, head.claim_text.items()) {
-        Ok(best) => {
-            let claim = Claim {
-                depth: head.depth,
-                best,
-                value: head.value,
-            };
-            judge_move(alloc, head.version, &claim, reader, input, game)
-        }
-        Err(_) => Ok(Verdict::Refused {
-            place: 0,
-            why: Why::NoSuchMove,
-        }),
-    }
-}
-
 /// The verdict on the lines to come behind a head.
 fn judge_claim<S: Source, G: Game + Drop>(
     alloc: Global,
@@ -126,13 +90,17 @@ fn judge_claim<S: Source, G: Game + Drop>(
     ensures { JudgesAhead 5 (of_claim head.now) 5 result reader.old
         (side_of S.rest S.read_faults input.old) (side_of S.rest S.read_faults input.new) }
 {
-    let Ok(mut game) = played::<G>(alloc, head.game_type, head.moves.items(), head.depth) else {
-        return Err(Unread::Memory);
-    };
-    if is_over(&game) {
-        return Ok(Verdict::GameOver);
+    match claimed::<G>(alloc, head) {
+        Ok(ClaimedGame { mut game, claim }) => judge_move(
+            alloc,
+            head.version,
+            &claim,
+            reader,
+            input,
+            &mut game,
+        ),
+        Err(judged) => judged,
     }
-    judge_text(alloc, head, reader, input, &mut game)
 }
 
 /// The form of certificates of both versions.

@@ -5,6 +5,7 @@
 mod certifying;
 mod checking;
 mod citing;
+mod claims;
 mod heads;
 mod laws;
 mod migrating;

@@ -4,7 +4,6 @@ ghost use Rattle.std.specs.Prelude.{◌≡◌, ◌≢◌, ◌+◌, ◌≤◌, �
 ghost use Rattle.io_edge.specs.Outside.{HasCause, Told as AnyTold};
 ghost use Rattle.line_feed.specs.Feed.{Reading};
 ghost use Rattle.hive_model.specs.Lines.{lines};
-ghost use Rattle.hive_model.specs.Minimax.{IsInner};
 ghost use Rattle.hive_model.specs.Courses.{position};
 ghost use Rattle.hive_model.specs.declared.places.Move.{Move as AnyMove};
 ghost use Rattle.hive_model.specs.Positions.{Position};
@@ -36,15 +35,14 @@ ghost use Rattle.certificate_commands.specs.Migrating.{
 };
 
 use crate::checking::HEAD_LINES;
+use crate::claims::{ClaimedGame, claimed};
 use crate::heads::citing_head;
 use certificate_text::{Head, LineIndices, read_head};
 use citing_text::{Migrated, migrate as migrate_indices};
-use command_runs::{Status, is_over};
-use game_text::played;
+use command_runs::Status;
 use hive_model::{Game, MoveStack};
 use io_edge::{Sink, Source};
 use line_feed::LineReader;
-use move_text::read_move;
 use std::alloc::Global;
 use strategy_check::{Claim, Halt, Why};
 use text_verdicts::{Unread, Verdict, fault_verdict, tell_judged};
@@ -94,6 +92,19 @@ fn taken_of(migrated: Migrated, lines: u64) -> Taken
         } => Taken::Missed(Unread::ReadFault),
         Migrated::Halted { answer: Halt::Full } => Taken::Missed(Unread::InputFull),
         Migrated::Memory => Taken::Missed(Unread::Memory),
+    }
+}
+
+/// How a text was taken of which this was judged before anything was written.
+fn taken_as(judged: Result<Verdict, Unread>) -> Taken
+    ensures is { result ≡ taken_as judged }
+    ensures judged { judged_of result ≡ judged }
+    ensures missed { (result ≡ Taken.Missed Unread.ReadFault) ↔ (judged ≡ Err Unread.ReadFault) }
+    ensures uncut { result ≢ Taken.Cut }
+{
+    match judged {
+        Ok(verdict) => Taken::Judged(verdict),
+        Err(unread) => Taken::Missed(unread),
     }
 }
 
@@ -169,41 +180,6 @@ fn migrate_move<S: Source, G: Game + Drop, K: Sink>(
     )
 }
 
-/// The same where the game of the head goes on, and its move is not read yet.
-fn migrate_text<S: Source, G: Game + Drop, K: Sink>(
-    alloc: Global,
-    head: &Head,
-    reader: &mut LineReader,
-    input: &mut S,
-    game: &mut G,
-    output: &mut K,
-) -> Taken
-    requires is_head { IsHead 1 head.now }
-    requires kind { (G.course game.old).game_type ≡ head.now.game_type }
-    requires made { (G.course game.old).made ≡ head.now.moves }
-    requires inner { IsInner (position (G.course game.old)) head.now.depth }
-    requires spare { head.now.depth ≤ (G.course game.old).spare }
-    ensures { MigratesAhead (of_claim head.now) (MigratesHead head.now) 5 result reader.old
-        (side_of S.rest S.read_faults input.old) (side_of K.written K.write_faults output.old)
-        (side_of S.rest S.read_faults input.new) (side_of K.written K.write_faults output.new) }
-{
-    let _state = game.state();
-    match read_move(head.game_type, game, head.claim_text.items()) {
-        Ok(best) => {
-            let claim = Claim {
-                depth: head.depth,
-                best,
-                value: head.value,
-            };
-            migrate_move(alloc, &claim, reader, input, game, output)
-        }
-        Err(_) => Taken::Judged(Verdict::Refused {
-            place: 0,
-            why: Why::NoSuchMove,
-        }),
-    }
-}
-
 /// The same behind a head.
 fn migrate_claim<S: Source, G: Game + Drop, K: Sink>(
     alloc: Global,
@@ -217,25 +193,11 @@ fn migrate_claim<S: Source, G: Game + Drop, K: Sink>(
         (side_of S.rest S.read_faults input.old) (side_of K.written K.write_faults output.old)
         (side_of S.rest S.read_faults input.new) (side_of K.written K.write_faults output.new) }
 {
-    let Ok(mut game) = played::<G>(alloc, head.game_type, head.moves.items(), head.depth) else {
-        return Taken::Missed(Unread::Memory);
-    };
-    if is_over(&game) {
-        return Taken::Judged(Verdict::GameOver);
-    }
-    migrate_text(alloc, head, reader, input, &mut game, output)
-}
-
-/// How a text was taken of which this was judged before anything was written.
-fn taken_as(judged: Result<Verdict, Unread>) -> Taken
-    ensures is { result ≡ taken_as judged }
-    ensures judged { judged_of result ≡ judged }
-    ensures missed { (result ≡ Taken.Missed Unread.ReadFault) ↔ (judged ≡ Err Unread.ReadFault) }
-    ensures uncut { result ≢ Taken.Cut }
-{
-    match judged {
-        Ok(verdict) => Taken::Judged(verdict),
-        Err(unread) => Taken::Missed(unread),
+    match claimed::<G>(alloc, head) {
+        Ok(ClaimedGame { mut game, claim }) => migrate_move(
+            alloc, &claim, reader, input, &mut game, output,
+        ),
+        Err(judged) => taken_as(judged),
     }
 }
 

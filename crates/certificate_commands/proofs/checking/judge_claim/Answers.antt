@@ -1,10 +1,10 @@
-use Rattle.std.proofs.Common.{rules}
-use Rattle.text_verdicts.proofs.JudgeLaws.{most-read}
+use Rattle.certificate_commands.proofs.ClaimLaws.{no-cause}
 use Rattle.certificate_commands.proofs.checking.judge_claim.Goals as goal
 
-pub returns-then-is_over : goal.returns-then-is_over
-returns-then-is_over g c = record {
-  judged = search rules;
-  cause = search rules;
-  read = λ text r. most-read 5 text _ _ r;
-}
+pub returns-in-Err : goal.returns-in-Err
+returns-in-Err g c =
+    let none = c.in-Err.ensures.none in record {
+      judged = λ left told. none.judges left;
+      cause = no-cause _ none.has_read;
+      read = λ text r. none.read text _ _ r;
+    }

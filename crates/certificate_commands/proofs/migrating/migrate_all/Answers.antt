@@ -3,7 +3,11 @@ use Rattle.std.specs.Prelude.{Result, Err}
 use Rattle.text_verdicts.specs.declared.verdict.Verdict.{Verdict}
 use Rattle.text_verdicts.specs.declared.verdict.Unread.{Unread}
 use Rattle.text_verdicts.specs.Reading.{WasReadAs}
-use Rattle.certificate_commands.proofs.MigrateLaws.{all-writes, fault-late, fault-writes}
+use Rattle.text_verdicts.proofs.TextLaws.{fault-judges}
+use Rattle.certificate_text.specs.Text.{head_of}
+use Rattle.certificate_commands.specs.Verdicts.{of_claim}
+use Rattle.certificate_commands.specs.Migrating.{MigratesTo, first_verdict}
+use Rattle.certificate_commands.proofs.MigrateLaws.{all-writes, fault-refuses, judged-late, judged-writes}
 use Rattle.certificate_commands.proofs.migrating.migrate_all.Goals as goal
 
 pub returns-in-Ok : goal.returns-in-Ok
@@ -20,8 +24,10 @@ returns-in-Ok g c = record {
 pub returns-in-Err : goal.returns-in-Err
 returns-in-Err g c =
     let fault = c.in-Err.fault in let judged = c.fault_verdict.result in let taken = c.taken_as.result in record {
-      told = λ left told. fault-writes left fault judged taken _ _ _ c.fault_verdict.ensures.is c.taken_as.ensures.is (c.in-Err.ensures.told left told);
-      late = fault-late fault judged taken _ _ c.fault_verdict.ensures.is c.taken_as.ensures.is (search rules);
+      told = λ left told.
+          judged-writes (first_verdict left) (MigratesTo left) judged taken _ _ c.taken_as.ensures.is
+          (fault-judges 5 (head_of 1) of_claim left fault judged _ c.fault_verdict.ensures.is (c.in-Err.ensures.told left told));
+      late = judged-late judged taken _ _ (fault-refuses fault judged c.fault_verdict.ensures.is) c.taken_as.ensures.is (search rules);
       reads = search rules;
       writes = search rules;
       read = λ text r.
