@@ -14,9 +14,10 @@ use Rattle.hive_model.specs.Strings.{string}
 use Rattle.hive_model.specs.Minimax.{IsInner, best}
 use Rattle.search_laws.proofs.BestLaws.{best-exists, best-is}
 use Rattle.search_laws.proofs.LoopLaws.{on-at}
+use Rattle.certificate_text.specs.Text.{written_line}
 use Rattle.grow_game.specs.Growing.{full_type, start, grown_moves, choices, IsBestHere, TellsBest}
 use Rattle.grow_command.specs.Laws.{BestMovesAreTold}
-use Rattle.grow_command.specs.Text.{best_field, move_field, ended, grow_text, lines_about, lines_text}
+use Rattle.grow_command.specs.Text.{best_field, move_field, grow_text, lines_about, lines_text}
 
 -- the best move that is told is legal
 pub told-legal : (p : Position) (told : Option Best) (b : Best) → TellsBest p told → told ≡ Some b → IsOn (moves p) b.best
@@ -36,21 +37,21 @@ best-told p goes_on =
     )
 
 -- one line more
-lines-more : (done : List (List ℕ)) (line : List ℕ) → lines_text done ++ ended line ≡ lines_text (done ++ line ∷ [])
+lines-more : (done : List (List ℕ)) (line : List ℕ) → lines_text done ++ written_line line ≡ lines_text (done ++ line ∷ [])
 unfolding lines_text
-lines-more [] line = sym (append-nil (ended line))
-lines-more (l ∷ ls) line = append_assoc (ended l) (lines_text ls) (ended line) ∙ ap (λ t. ended l ++ t) (lines-more ls line)
+lines-more [] line = sym (append-nil (written_line line))
+lines-more (l ∷ ls) line = append_assoc (written_line l) (lines_text ls) (written_line line) ∙ ap (λ t. written_line l ++ t) (lines-more ls line)
 
-line-behind : (done : List (List ℕ)) (line a b : List ℕ) → a ≡ lines_text done → b ≡ a ++ ended line → b ≡ lines_text (done ++ line ∷ [])
-line-behind done line a b before wrote = wrote ∙ (ap (λ t. t ++ ended line) before ∙ lines-more done line)
+line-behind : (done : List (List ℕ)) (line a b : List ℕ) → a ≡ lines_text done → b ≡ a ++ written_line line → b ≡ lines_text (done ++ line ∷ [])
+line-behind done line a b before wrote = wrote ∙ (ap (λ t. t ++ written_line line) before ∙ lines-more done line)
 
 none-yet : (a : List ℕ) → a ≡ [] → a ≡ lines_text []
 unfolding lines_text
 none-yet a e = e
 
 -- eight lines, as the code puts them together
-eight-behind : (l1 l2 l3 l4 l5 l6 l7 l8 none a b c d e f h i : List ℕ) → none ≡ [] → a ≡ none ++ ended l1 → b ≡ a ++ ended l2 → c ≡ b ++ ended l3 → d ≡ c ++ ended l4 → e ≡ d ++ ended l5 → f ≡ e ++ ended l6
-    → h ≡ f ++ ended l7 → i ≡ h ++ ended l8 → i ≡ lines_text (l1 ∷ (l2 ∷ (l3 ∷ (l4 ∷ (l5 ∷ (l6 ∷ (l7 ∷ (l8 ∷ []))))))))
+eight-behind : (l1 l2 l3 l4 l5 l6 l7 l8 none a b c d e f h i : List ℕ) → none ≡ [] → a ≡ none ++ written_line l1 → b ≡ a ++ written_line l2 → c ≡ b ++ written_line l3 → d ≡ c ++ written_line l4 → e ≡ d ++ written_line l5 → f ≡ e ++ written_line l6
+    → h ≡ f ++ written_line l7 → i ≡ h ++ written_line l8 → i ≡ lines_text (l1 ∷ (l2 ∷ (l3 ∷ (l4 ∷ (l5 ∷ (l6 ∷ (l7 ∷ (l8 ∷ []))))))))
 eight-behind l1 l2 l3 l4 l5 l6 l7 l8 none a b c d e f h i zero_lines one two three four five six seven eight =
     let done1 = line-behind [] l1 none a (none-yet none zero_lines) one in
     let done2 = line-behind (l1 ∷ []) l2 a b done1 two in
@@ -61,10 +62,10 @@ eight-behind l1 l2 l3 l4 l5 l6 l7 l8 none a b c d e f h i zero_lines one two thr
     let done7 = line-behind (l1 ∷ (l2 ∷ (l3 ∷ (l4 ∷ (l5 ∷ (l6 ∷ [])))))) l7 f h done6 seven in
     line-behind (l1 ∷ (l2 ∷ (l3 ∷ (l4 ∷ (l5 ∷ (l6 ∷ (l7 ∷ []))))))) l8 h i done7 eight
 
-pub lines-pushed : (seed : ℕ) (t : GameType) (ms : List Move) (chosen undone : ℕ) (none a b c d e f h i : List ℕ) → none ≡ [] → a ≡ none ++ ended (codes "seed " ++ decimal seed)
-    → b ≡ a ++ ended (codes "type " ++ type_bytes t) → c ≡ b ++ ended (codes "plies " ++ decimal (length ms)) → d ≡ c ++ ended (codes "state " ++ state_bytes (state (replay (opening t) ms)))
-    → e ≡ d ++ ended (codes "moves " ++ decimal chosen) → f ≡ e ++ ended (codes "undone " ++ decimal undone) → h ≡ f ++ ended (codes "best " ++ best_field (replay (opening t) ms))
-    → i ≡ h ++ ended (codes "game " ++ string t ms) → i ≡ lines_text (lines_about seed t ms chosen undone)
+pub lines-pushed : (seed : ℕ) (t : GameType) (ms : List Move) (chosen undone : ℕ) (none a b c d e f h i : List ℕ) → none ≡ [] → a ≡ none ++ written_line (codes "seed " ++ decimal seed)
+    → b ≡ a ++ written_line (codes "type " ++ type_bytes t) → c ≡ b ++ written_line (codes "plies " ++ decimal (length ms)) → d ≡ c ++ written_line (codes "state " ++ state_bytes (state (replay (opening t) ms)))
+    → e ≡ d ++ written_line (codes "moves " ++ decimal chosen) → f ≡ e ++ written_line (codes "undone " ++ decimal undone) → h ≡ f ++ written_line (codes "best " ++ best_field (replay (opening t) ms))
+    → i ≡ h ++ written_line (codes "game " ++ string t ms) → i ≡ lines_text (lines_about seed t ms chosen undone)
 lines-pushed seed t ms chosen undone none a b c d e f h i zero_lines one two three four five six seven eight =
     eight-behind (codes "seed " ++ decimal seed) (codes "type " ++ type_bytes t) (codes "plies " ++ decimal (length ms)) (codes "state " ++ state_bytes (state (replay (opening t) ms)))
     (codes "moves " ++ decimal chosen) (codes "undone " ++ decimal undone) (codes "best " ++ best_field (replay (opening t) ms)) (codes "game " ++ string t ms)

@@ -10,16 +10,13 @@ use Rattle.hive_model.specs.Minimax.{best}
 use Rattle.hive_model.specs.Denotes.{text}
 use Rattle.hive_model.specs.Fields.{state_bytes, type_bytes}
 use Rattle.hive_model.specs.Strings.{string}
+use Rattle.certificate_text.specs.Text.{written_line}
 use Rattle.grow_game.specs.Growing.{full_type, start, grown_moves, choices}
-
--- a line, ended by LF (10)
-abbrev pub ended : List ℕ → List ℕ
-ended line = line ++ 10 ∷ []
 
 -- lines, each ended by LF
 unfoldable pub lines_text : List (List ℕ) → List ℕ
 lines_text [] = []
-lines_text (line ∷ others) = ended line ++ lines_text others
+lines_text (line ∷ others) = written_line line ++ lines_text others
 
 -- the best move of depth 1, and none where the game is over
 abbrev pub best_here : Position → Option Move

@@ -7,8 +7,10 @@ ghost use Rattle.hive_model.specs.Legal.{moves};
 ghost use Rattle.hive_model.specs.Lists.{IsOn};
 ghost use Rattle.hive_model.specs.Strings.{string};
 ghost use Rattle.grow_game.specs.Growing.{TellsBest};
-ghost use Rattle.grow_command.specs.Text.{ended, best_field, lines_text, lines_about};
+ghost use Rattle.certificate_text.specs.Text.{written_line};
+ghost use Rattle.grow_command.specs.Text.{best_field, lines_text, lines_about};
 
+use certificate_text::push_line;
 use game_text::write_game;
 use grow_game::Grown;
 use hive_model::{Best, Game, Move, ReplyText};
@@ -16,18 +18,9 @@ use itoa::Buffer;
 use move_text::{state_text, type_text, write_move};
 use std::alloc::{AllocError, Global};
 
-/// Appends a line: a word and what follows it.
-fn push_line(text: &mut ReplyText, word: &[u8], field: &[u8]) -> Result<(), AllocError>
-    ensures { OnOk result (text.new ≡ text.old ++ ended (word.now ++ field.now)) }
-{
-    text.push_all(word)?;
-    text.push_all(field)?;
-    text.push(b'\n')
-}
-
 /// Appends a line: a word and a number.
 fn push_number(text: &mut ReplyText, word: &[u8], number: u64) -> Result<(), AllocError>
-    ensures { OnOk result (text.new ≡ text.old ++ ended (word.now ++ decimal number)) }
+    ensures { OnOk result (text.new ≡ text.old ++ written_line (word.now ++ decimal number)) }
 {
     let mut buffer = Buffer::new();
     push_line(text, word, buffer.format(number).as_bytes())
@@ -36,8 +29,8 @@ fn push_number(text: &mut ReplyText, word: &[u8], number: u64) -> Result<(), All
 /// Appends the line of a best move, which is legal.
 fn push_move<G: Game>(text: &mut ReplyText, game: &G, m: Move) -> Result<(), AllocError>
     requires { IsOn (moves (position (G.course game.now))) m }
-    ensures { OnOk result (text.new
-        ≡ text.old ++ ended (codes "best " ++ text_of (position (G.course game.now)).board m)) }
+    ensures { OnOk result (text.new ≡ text.old
+        ++ written_line (codes "best " ++ text_of (position (G.course game.now)).board m)) }
 {
     let _state = game.state();
     let written = write_move(game, m);
@@ -48,7 +41,7 @@ fn push_move<G: Game>(text: &mut ReplyText, game: &G, m: Move) -> Result<(), All
 fn push_best<G: Game>(text: &mut ReplyText, game: &G, best: Option<Best>) -> Result<(), AllocError>
     requires { TellsBest (position (G.course game.now)) best }
     ensures { OnOk result (text.new
-        ≡ text.old ++ ended (codes "best " ++ best_field (position (G.course game.now)))) }
+        ≡ text.old ++ written_line (codes "best " ++ best_field (position (G.course game.now)))) }
 {
     match best {
         Some(found) => push_move(text, game, found.best),
@@ -58,7 +51,7 @@ fn push_best<G: Game>(text: &mut ReplyText, game: &G, best: Option<Best>) -> Res
 
 /// Appends the line of the game in its written form.
 fn push_game<G: Game + Drop>(alloc: Global, out: &mut ReplyText, game: &G) -> Result<(), AllocError>
-    ensures { OnOk result (out.new ≡ out.old ++ ended
+    ensures { OnOk result (out.new ≡ out.old ++ written_line
         (codes "game " ++ string (G.course game.now).game_type (G.course game.now).made)) }
 {
     out.push_all(b"game ")?;
