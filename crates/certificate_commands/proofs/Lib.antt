@@ -8,3 +8,4 @@ pub mod MigrationLaws
 pub mod LowTokens
 pub mod CitingTexts
 pub mod CitedReads
+pub mod LineReads
