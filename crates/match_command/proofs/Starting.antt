@@ -91,9 +91,9 @@ abbrev pub IsTold : Setup → List ℕ → Means → Means → Type 0
 IsTold setup text before after = (t : Standing) × (text ≡ match_text setup t) × Played setup t before after
 
 -- the same from before the two programs were started
-pub told_from : (setup : Setup) (text : List ℕ) (w b : Wire) (last readings : ℕ) (before between : Engines) (after : Means) → StartsTwo before.to_come between.to_come w.rest w.written b.rest b.written → after.engines.to_come ≡ between.to_come
-    → between.sent ≡ before.sent → between.engine_faults ≡ before.engine_faults → ((t : Standing) × (text ≡ match_text setup t) × PlayedOver setup t w b (means last readings between) after) → IsTold setup text (means last readings before) after
-told_from setup text w b last readings before between after starts_two stays sent faults (t, told, played) = (t, told, played_from setup t w b last readings before between after starts_two stays sent faults played)
+pub told_from : (setup : Setup) (text : List ℕ) (w b : Wire) (last readings : ℕ) (before between : Engines) (after : Means) → ((t : Standing) × (text ≡ match_text setup t) × PlayedOver setup t w b (means last readings between) after) → StartsTwo before.to_come between.to_come w.rest w.written b.rest b.written → after.engines.to_come ≡ between.to_come
+    → between.sent ≡ before.sent → between.engine_faults ≡ before.engine_faults → IsTold setup text (means last readings before) after
+told_from setup text w b last readings before between after (t, told, played) starts_two stays sent faults = (t, told, played_from setup t w b last readings before between after starts_two stays sent faults played)
 
 -- all of it was written
 pub told_whole : (setup : Setup) (text : List ℕ) (before after : Scene) → IsTold setup text before.means after.means → after.written ≡ behind before.written text → MatchRun setup Done before after

@@ -1,4 +1,5 @@
 pub mod Texts
 pub mod Match
+pub mod Ends
 pub mod Wires
 pub mod Laws

@@ -1,11 +1,12 @@
 //! The command: both programs are started, the match is played, and its two lines are written.
 ghost use Rattle.std.specs.Prelude.{◌≡◌, ◌<◌, ◌≤◌, length, map, string_bytes, IfOk};
-ghost use Rattle.io_edge.specs.Outside.{HasCause, Told};
+ghost use Rattle.io_edge.specs.Outside.{Told};
 ghost use Rattle.match_core.specs.Keeps.{IsSetup};
 ghost use Rattle.match_core.specs.Standing.{Standing};
 ghost use Rattle.match_runner.specs.Wires.{wire, IsFresh};
 ghost use Rattle.match_command.specs.Texts.{match_text};
-ghost use Rattle.match_command.specs.Match.{MatchRun, MatchStarts, NoneIsOpen, means, scene};
+ghost use Rattle.match_command.specs.Match.{MatchRun, MatchStarts, means, scene};
+ghost use Rattle.match_command.specs.Ends.{EndsRun};
 ghost use Rattle.match_command.specs.Wires.{ClosesTwo, PlayedOver};
 
 use crate::engines::{close_both, start_both};
@@ -90,14 +91,11 @@ pub fn play_match<P: Spawner, K: Sink, C: Clock, G: Game + Drop>(
         (means (C.last clock.old) (C.readings clock.old) (P.engines spawner.old)))
         (scene (K.written output.new)
         (means (C.last clock.new) (C.readings clock.new) (P.engines spawner.new))) }
-    ensures closed { NoneIsOpen (P.engines spawner.old) (P.engines spawner.new) }
+    ensures ends { EndsRun result (K.write_faults output.old) (K.write_faults output.new)
+        (P.engines spawner.old) (P.engines spawner.new) }
     ensures started { MatchStarts result
         (map string_bytes white.now) (map string_bytes black.now)
         (P.engines spawner.old) (P.engines spawner.new) }
-    ensures writes { HasCause (result ≡ Status.WriteFault)
-        (K.write_faults output.old) (K.write_faults output.new) }
-    ensures starts { HasCause (result ≡ Status.SpawnFault)
-        (P.engines spawner.old).start_faults (P.engines spawner.new).start_faults }
     ensures later { C.last clock.old ≤ C.last clock.new }
 {
     match start_both(white, black, spawner) {
