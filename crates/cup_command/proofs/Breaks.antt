@@ -58,6 +58,10 @@ gives-one failed words there first link before after none starts closes named = 
   named = named;
 }
 
+-- the same of equal words
+pub gives-same : {failed : Type 0} {one other : List (List ℕ)} {there : List Wire} {before after : Engines} → one ≡ other → GivesUp failed (one ∷ []) there before after → GivesUp failed (other ∷ []) there before after
+gives-same {failed} {one} {other} {there} {before} {after} same gives = subst (λ words. GivesUp failed (words ∷ []) there before after) same gives
+
 -- one more program was started before
 pub one-before : (failed : Type 0) (words : List (List (List ℕ))) (first : List (List ℕ)) (there : List Wire) (link : Wire) (before between after : Engines)
     → Starts before.to_come between.to_come link.rest link.written → between.sent ≡ before.sent → between.started ≡ started_after before.started (first ∷ []) → GivesUp failed words (there ++ link ∷ []) between after → GivesUp failed (first ∷ words) there before after

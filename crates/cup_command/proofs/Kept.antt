@@ -1,11 +1,6 @@
--- What is known of a result, and of the game that was put behind others.
-use Rattle.std.proofs.Common.{◌≡◌, ℕ, subst, Result, Ok, Err, None, IfOk, IsErrOf, OnOk, OnErr, ap, sym, ◌∙◌, arith}
+-- What is known of a result.
+use Rattle.std.proofs.Common.{◌≡◌, ℕ, subst, Result, Ok, Err, IfOk, IsErrOf, OnOk, OnErr, ap, sym, ◌∙◌, arith}
 use Rattle.io_edge.specs.Outside.{HasCause}
-use Rattle.match_core.specs.declared.answers.Setup.{Setup}
-use Rattle.cup_core.specs.declared.pairing.Pairing.{Pairing}
-use Rattle.match_runner.specs.Wires.{Wire}
-use Rattle.cup_games.specs.Played.{Job}
-use Rattle.cup_command.specs.Links.{ready}
 
 pub if-ok : {A E : Type 0} (P Q : A → Type 0) → ((a : A) → P a → Q a) → (r : Result A E) → IfOk r P → IfOk r Q
 if-ok P Q f (Ok a) p = f a p
@@ -18,17 +13,6 @@ on-ok P Q f (Err e) p = tt
 pub on-err : {A E : Type 0} (P Q : Type 0) → (P → Q) → (r : Result A E) → OnErr r P → OnErr r Q
 on-err P Q f (Ok a) p = tt
 on-err P Q f (Err e) p = f p
-
--- the game that was made of two links
-pub is-ready : (setup : Setup) (game : Pairing) (white black : Wire) (job : Job) → job.white ≡ game.white → job.black ≡ game.black → job.white_link ≡ white → job.black_link ≡ black → job.setup ≡ setup → job.referee ≡ None → job ≡ ready setup game white black
-is-ready setup game white black job a b c d e f i = record {
-  white = a i;
-  black = b i;
-  white_link = c i;
-  black_link = d i;
-  setup = e i;
-  referee = f i;
-}
 
 -- Causes
 

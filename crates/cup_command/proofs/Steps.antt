@@ -10,13 +10,14 @@ use Rattle.io_edge.specs.Outside.{ToldLists, ToldPrograms}
 use Rattle.io_edge.specs.Starts.{Engines}
 use Rattle.match_core.specs.declared.answers.Setup.{Setup}
 use Rattle.cup_core.specs.declared.pairing.Pairing.{Pairing}
+use Rattle.match_command.specs.Match.{NoneIsOpen}
 use Rattle.match_runner.specs.Wires.{IsFresh, Wire}
-use Rattle.cup_games.specs.Played.{Job, pairing}
+use Rattle.cup_games.specs.Played.{Job, pairing, ready}
 use Rattle.cup_core.specs.Engines.{Engine}
 use Rattle.cup_core.specs.Cup.{pairings}
 use Rattle.cup_command.specs.Cup.{cup_words, game_words, started_after}
-use Rattle.cup_command.specs.Links.{GivesUp, IsReady, StartsAll, all_links, ended_text, jobs_text, ready}
-use Rattle.cup_command.proofs.Chains.{starts-append, two-each}
+use Rattle.cup_command.specs.Links.{ClosesLinks, GivesUp, IsReady, StartsAll, all_links, ended_text, jobs_text}
+use Rattle.cup_command.proofs.Chains.{none-kept, starts-append, two-each}
 use Rattle.cup_command.proofs.Breaks.{all-before, append-none, started-more, two-words}
 
 -- Texts
@@ -102,6 +103,12 @@ take-front (suc n) (x ∷ xs) ys e = ap (λ zs. x ∷ zs) (take-front n xs ys (o
 -- as many games stand there after they were played as were started
 pub as-many-after : (n : ℕ) (olds lent news behind : List Job) → length news ≡ length lent → length lent ≡ n → lent ≡ olds → length (take n (news ++ behind)) ≡ length olds
 as-many-after n olds lent news behind long many same = ap (λ (js : List Job). length js) (take-front n news behind (long ∙ many)) ∙ (long ∙ ap (λ (js : List Job). length js) same)
+
+-- none of their links is left open, once these were closed
+pub none-kept-after : (n : ℕ) (olds lent news behind : List Job) (before between after : Engines) → StartsAll before.to_come between.to_come (all_links olds) → between.sent ≡ before.sent
+    → ClosesLinks between.sent after.sent (all_links (take n (news ++ behind))) → after.to_come ≡ between.to_come → length news ≡ length lent → length lent ≡ n → lent ≡ olds → NoneIsOpen before after
+none-kept-after n olds lent news behind before between after starts sent closes come long many same =
+    none-kept before between after olds (take n (news ++ behind)) starts sent closes come (as-many-after n olds lent news behind long many same)
 
 pub named-end : (engines : List Engine) (games : List Pairing) (i : ℕ) (before now : ToldPrograms) → games ≡ pairings (length engines) → length games ≤ i → now ≡ started_after before (flat_map (game_words engines) (take i games)) → now ≡ started_after before (cup_words engines)
 named-end engines games i before now whole past named =

@@ -43,17 +43,6 @@ pub record IsPaired (engines : ℕ) (game : Pairing) : Type 0 where
   pub black_high : game.black ≤ engines
   pub other : game.white ≢ game.black
 
--- a game that was not played, by this setup and over these links
-abbrev pub ready : Setup → Pairing → Wire → Wire → Job
-ready setup game white black = record {
-  white = game.white;
-  black = game.black;
-  white_link = white;
-  black_link = black;
-  setup = setup;
-  referee = None;
-}
-
 -- the game was not played, and its links are fresh
 pub record IsReady (setup : Setup) (job : Job) : Type 0 where
   pub same : job.setup ≡ setup

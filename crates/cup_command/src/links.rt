@@ -19,7 +19,7 @@ ghost use Rattle.io_edge.specs.Outside.{HasCause, Starts};
 ghost use Rattle.match_core.specs.Keeps.{IsSetup};
 ghost use Rattle.cup_core.specs.Cup.{pairings};
 ghost use Rattle.match_runner.specs.Wires.{IsFresh, Wire, wire};
-ghost use Rattle.cup_games.specs.Played.{IsDepth, pairing};
+ghost use Rattle.cup_games.specs.Played.{IsDepth, IsJob, pairing, ready};
 ghost use Rattle.cup_command.specs.Cup.{cup_words, game_words, words_of};
 ghost use Rattle.cup_command.specs.Links.{
   ClosesLinks,
@@ -30,7 +30,6 @@ ghost use Rattle.cup_command.specs.Links.{
   StartsBy,
   all_links,
   links_of,
-  ready,
 };
 
 use crate::closing::{close_game, close_links};
@@ -76,38 +75,37 @@ fn keep_game<P: Spawner, G: Game + Drop>(
     }
 }
 
-/// Starts black's program of a game, and keeps the game behind the others. Where it does not start,
-/// all links are closed, white's of this game last.
+/// Starts black's program of a game, by its words, and keeps the game behind the others. Where it
+/// does not start, all links are closed, white's of this game last.
 fn start_black<P: Spawner, G: Game + Drop>(
     white: P::Engine,
-    programs: &[Program],
+    words: &[String],
     game: Pairing,
     setup: Setup,
     jobs: Vec<CupJob<P::Engine, G>>,
     spawner: &mut P,
 ) -> Result<Vec<CupJob<P::Engine, G>>, StartFault>
-    requires setup { IsSetup setup }
-    requires depth { IsDepth setup.level }
-    requires paired { IsPaired (length programs.now) game }
+    requires words { 0 < length words.now }
+    requires game { IsJob game.white game.black setup }
     ensures kept { IfOk result (λ games. (black : Wire) × IsFresh black.reads black.writes
         × Starts (P.engines spawner.old).to_come (P.engines spawner.new).to_come
         black.rest black.written
         × (games.items ≡ jobs.items ++ ready setup game
         (wire (P.Engine.rest white) (P.Engine.written white)
         (P.Engine.read_faults white) (P.Engine.write_faults white)) black ∷ [])) }
-    ensures starts { OnOk result (StartsBy (words_of programs.now game.black ∷ [])
+    ensures starts { OnOk result (StartsBy (map string_bytes words.now ∷ [])
         (P.engines spawner.old) (P.engines spawner.new)) }
     ensures closed { OnErr result (GivesUp (IsErrOf result StartFault.Failed)
-        (words_of programs.now game.black ∷ [])
+        (map string_bytes words.now ∷ [])
         (all_links jobs.items ++ wire (P.Engine.rest white) (P.Engine.written white)
         (P.Engine.read_faults white) (P.Engine.write_faults white) ∷ [])
         (P.engines spawner.old) (P.engines spawner.new)) }
     ensures cause { HasCause (IsErrOf result StartFault.Failed)
         (P.engines spawner.old).start_faults (P.engines spawner.new).start_faults }
 {
-    match spawner.start(words_of(programs, game.black)) {
+    match spawner.start(words) {
         Ok(black) => {
-            let job = CupJob::new(game.white, game.black, white, black, setup);
+            let job = CupJob::new(game, white, black, setup);
             keep_game(job, jobs, spawner)
         }
         Err(fault) => {
@@ -143,8 +141,9 @@ fn start_game<P: Spawner, G: Game + Drop>(
     ensures cause { HasCause (IsErrOf result StartFault.Failed)
         (P.engines spawner.old).start_faults (P.engines spawner.new).start_faults }
 {
+    let black = words_of(programs, game.black);
     match spawner.start(words_of(programs, game.white)) {
-        Ok(white) => start_black(white, programs, game, setup, jobs, spawner),
+        Ok(white) => start_black(white, black, game, setup, jobs, spawner),
         Err(fault) => {
             close_links(jobs, spawner);
             Err(fault)

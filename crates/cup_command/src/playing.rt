@@ -6,6 +6,7 @@ ghost use Rattle.io_edge.specs.Outside.{HasCause};
 ghost use Rattle.match_core.specs.Keeps.{IsSetup};
 ghost use Rattle.match_core.specs.Standing.{Standing};
 ghost use Rattle.match_command.specs.Match.{NoneIsOpen};
+ghost use Rattle.match_command.specs.Ends.{EndsRun};
 ghost use Rattle.cup_core.specs.Cup.{pairings};
 ghost use Rattle.cup_core.specs.declared.standing.Standing.{Standing as AnyPlace};
 ghost use Rattle.cup_games.specs.Played.{AreStandingsOf, IsDepth, IsPlayed, pairing};
@@ -135,11 +136,8 @@ pub fn play_cup<R: Threads + Sync, P: Spawner, K: Sink, G: Game + Send + Drop, T
     ensures run { CupRun programs.now setup result
         (scene (K.written output.old) (P.engines spawner.old))
         (scene (K.written output.new) (P.engines spawner.new)) }
-    ensures closed { NoneIsOpen (P.engines spawner.old) (P.engines spawner.new) }
-    ensures writes { HasCause (result ≡ Status.WriteFault)
-        (K.write_faults output.old) (K.write_faults output.new) }
-    ensures starts { HasCause (result ≡ Status.SpawnFault)
-        (P.engines spawner.old).start_faults (P.engines spawner.new).start_faults }
+    ensures ends { EndsRun result (K.write_faults output.old) (K.write_faults output.new)
+        (P.engines spawner.old) (P.engines spawner.new) }
 {
     match play::<R, P, G, T>(rt, alloc, programs, setup, spawner, gate) {
         Ok(text) => {

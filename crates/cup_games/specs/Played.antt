@@ -22,6 +22,17 @@ pub record Job : Type 0 where
   pub setup : Setup
   pub referee : Option Standing
 
+-- a game that was not played, by this setup and over these links
+abbrev pub ready : Setup → Pairing → Wire → Wire → Job
+ready setup game white black = record {
+  white = game.white;
+  black = game.black;
+  white_link = white;
+  black_link = black;
+  setup = setup;
+  referee = None;
+}
+
 -- engines are asked to a depth
 abbrev pub IsDepth : Level → Type 0
 IsDepth (Depth depth) = ⊤

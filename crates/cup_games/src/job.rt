@@ -1,10 +1,10 @@
 //! A game of a cup.
 
-ghost use Rattle.std.specs.Prelude.{◌≡◌, ◌≢◌, Some, None, OnOk, OnErr, MatchOption};
-ghost use Rattle.match_core.specs.Keeps.{IsSetup};
+ghost use Rattle.std.specs.Prelude.{◌≡◌, Some, None, OnOk, OnErr, MatchOption};
 ghost use Rattle.match_runner.specs.Wires.{wire};
-ghost use Rattle.cup_games.specs.Played.{IsDepth, IsSameGame, IsPlayed};
+ghost use Rattle.cup_games.specs.Played.{IsJob, IsSameGame, IsPlayed, ready};
 
+use cup_core::Pairing;
 use hive_model::Game;
 use io_edge::{Link, StepClock};
 use match_core::{Referee, Setup};
@@ -47,22 +47,17 @@ impl<L: Link, G: Game> Model for CupJob<L, G> {
 
 impl<L: Link, G: Game + Drop> CupJob<L, G> {
     /// A game of two different engines that was not played. Engines are asked to a depth.
-    pub fn new(white: u32, black: u32, white_link: L, black_link: L, setup: Setup) -> CupJob<L, G>
-        requires setup { IsSetup setup }
-        requires depth { IsDepth setup.level }
-        requires other { white ≢ black }
-        ensures white { result.white ≡ white }
-        ensures black { result.black ≡ black }
-        ensures white_link { result.white_link ≡ wire (L.rest white_link) (L.written white_link)
-            (L.read_faults white_link) (L.write_faults white_link) }
-        ensures black_link { result.black_link ≡ wire (L.rest black_link) (L.written black_link)
-            (L.read_faults black_link) (L.write_faults black_link) }
-        ensures setup { result.setup ≡ setup }
-        ensures referee { result.referee ≡ None }
+    pub fn new(game: Pairing, white_link: L, black_link: L, setup: Setup) -> CupJob<L, G>
+        requires game { IsJob game.white game.black setup }
+        ensures { result ≡ ready setup game
+            (wire (L.rest white_link) (L.written white_link)
+            (L.read_faults white_link) (L.write_faults white_link))
+            (wire (L.rest black_link) (L.written black_link)
+            (L.read_faults black_link) (L.write_faults black_link)) }
     {
         CupJob {
-            white,
-            black,
+            white: game.white,
+            black: game.black,
             white_link,
             black_link,
             setup,

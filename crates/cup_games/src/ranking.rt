@@ -1,8 +1,7 @@
 //! The standings of a cup whose games were all played.
 
-ghost use Rattle.std.specs.Prelude.{◌≡◌, ◌≤◌, length, map, Some, IfOk, IsSomeAnd};
+ghost use Rattle.std.specs.Prelude.{◌≡◌, ◌≤◌, map, Some, IfOk};
 ghost use Rattle.std.specs.List.{All};
-ghost use Rattle.match_runner.specs.Runs.{IsJudged};
 ghost use Rattle.cup_core.specs.Cup.{pairings};
 ghost use Rattle.cup_games.specs.Played.{AreStandingsOf, HasVerdict, pairing, verdict_of};
 

@@ -5,7 +5,7 @@ ghost use Rattle.cup_core.specs.Cup.{pairings};
 ghost use Rattle.cup_games.specs.Played.{pairing};
 
 use crate::{CupGate, CupJob, FreeCupGate, run_cup, standings};
-use cup_core::Standing;
+use cup_core::{Pairing, Standing};
 use hive_model::{Colour, GameType};
 use io_edge::{MemLink, MemSink, MemSource};
 use match_core::{Cause, Level, Setup, Verdict};
@@ -71,10 +71,10 @@ fn cup_of_two(alloc: Global) -> Result<Vec<CupJob<MemLink, PlainGame>>, AllocErr
     let mut jobs = Vec::new(alloc);
     let a = link_of(alloc, b"id A\nok\nok\nwS1\nok\nok\n")?;
     let b = link_of(alloc, b"id B\nok\nok\nok\n")?;
-    jobs.push(CupJob::new(1, 2, a, b, ONE_PLY))?;
+    jobs.push(CupJob::new(Pairing { white: 1, black: 2 }, a, b, ONE_PLY))?;
     let b = link_of(alloc, b"")?;
     let a = link_of(alloc, b"id A\nok\n")?;
-    jobs.push(CupJob::new(2, 1, b, a, ONE_PLY))?;
+    jobs.push(CupJob::new(Pairing { white: 2, black: 1 }, b, a, ONE_PLY))?;
     Ok(jobs)
 }
 

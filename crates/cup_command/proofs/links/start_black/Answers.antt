@@ -1,30 +1,24 @@
-use Rattle.std.proofs.Common.{rules, ◌≡◌, ℕ, ◌∷◌, ◌++◌, List, [], arith, ap, ◌∙◌, refl, subst}
-use Rattle.io_edge.specs.Outside.{with_last}
+use Rattle.std.proofs.Common.{rules, ◌≡◌, ◌∷◌, ◌++◌, [], arith, ap, ◌∙◌, refl, subst}
 use Rattle.io_edge.specs.Starts.{Engines}
 use Rattle.match_runner.specs.Wires.{Wire, wire}
 use Rattle.cup_games.specs.Played.{Job}
-use Rattle.cup_command.specs.Cup.{words_of}
-use Rattle.cup_command.specs.Links.{ClosesLinks, all_links, links_of, ready}
+use Rattle.cup_command.specs.Links.{ClosesLinks, all_links, links_of}
 use Rattle.cup_command.proofs.Chains.{closes-append}
 use Rattle.cup_command.proofs.Breaks.{gives-none, gives-one}
-use Rattle.cup_command.proofs.Kept.{cause-moved, cause-none, cause-same, if-ok, is-ready, on-err, on-ok}
+use Rattle.cup_command.proofs.Kept.{cause-moved, cause-none, cause-same, if-ok, on-err, on-ok}
 use Rattle.cup_command.proofs.links.start_black.Goals as goal
 
 pub returns-in-Ok-clause-kept : goal.returns-in-Ok-clause-kept
 returns-in-Ok-clause-kept g c =
-    let w : Wire = wire (g.P.Engine.Source.rest c.args.white) (g.P.Engine.Sink.written c.args.white) (g.P.Engine.Source.read_faults c.args.white) (g.P.Engine.Sink.write_faults c.args.white) in
     let b : Wire = wire (g.P.Engine.Source.rest c.in-Ok.black) (g.P.Engine.Sink.written c.in-Ok.black) (g.P.Engine.Source.read_faults c.in-Ok.black) (g.P.Engine.Sink.write_faults c.in-Ok.black) in
-    let made = c.new-job.ensures in
-    let is : c.new-job.result ≡ ready c.args.setup c.args.game w b = is-ready c.args.setup c.args.game w b c.new-job.result made.white made.black made.white_link made.black_link made.setup made.referee in
-    if-ok _ _ (λ games kept. (b, record { reads = c.in-Ok.ensures.fresh.0; writes = c.in-Ok.ensures.fresh.1 }, search rules, kept ∙ ap (λ (j : Job). c.args.jobs.items ++ j ∷ []) is)) c.keep_game.result c.keep_game.ensures.kept
+    if-ok _ _ (λ games kept. (b, record { reads = c.in-Ok.ensures.fresh.0; writes = c.in-Ok.ensures.fresh.1 }, search rules, kept ∙ ap (λ (j : Job). c.args.jobs.items ++ j ∷ []) c.new-job.ensures)) c.keep_game.result c.keep_game.ensures.kept
 
 pub returns-in-Ok-clause-starts : goal.returns-in-Ok-clause-starts
 returns-in-Ok-clause-starts g c =
     let then = g.P.Spawner.engines c.start.new.self in
     let now = g.P.Spawner.engines c.keep_game.new.spawner in
-    let named = c.in-Ok.ensures.named ∙ ap (λ (ws : List (List ℕ)). with_last (g.P.Spawner.engines c.args.spawner.now).started ws) c.words_of.ensures.words in
     on-ok _ _ (λ same. let kept : now ≡ then = ap g.P.Spawner.engines same in record {
-      named = c.keep_game.ensures.started ∙ named;
+      named = c.keep_game.ensures.started ∙ c.in-Ok.ensures.named;
       sent = ap (λ (e : Engines). e.sent) kept ∙ c.in-Ok.ensures.others.1;
       failed = ap (λ (e : Engines). e.engine_faults) kept ∙ c.in-Ok.ensures.others.0;
     }) c.keep_game.result c.keep_game.ensures.untouched
@@ -33,12 +27,10 @@ pub returns-in-Ok-clause-closed : goal.returns-in-Ok-clause-closed
 returns-in-Ok-clause-closed g c =
     let w : Wire = wire (g.P.Engine.Source.rest c.args.white) (g.P.Engine.Sink.written c.args.white) (g.P.Engine.Source.read_faults c.args.white) (g.P.Engine.Sink.write_faults c.args.white) in
     let b : Wire = wire (g.P.Engine.Source.rest c.in-Ok.black) (g.P.Engine.Sink.written c.in-Ok.black) (g.P.Engine.Source.read_faults c.in-Ok.black) (g.P.Engine.Sink.write_faults c.in-Ok.black) in
-    let made = c.new-job.ensures in
-    let is : c.new-job.result ≡ ready c.args.setup c.args.game w b = is-ready c.args.setup c.args.game w b c.new-job.result made.white made.black made.white_link made.black_link made.setup made.referee in
     let sent = (g.P.Spawner.engines c.keep_game.new.spawner).sent in
-    on-err _ _ (λ closes. gives-one _ (words_of c.args.programs.now c.args.game.black) (all_links c.args.jobs.items) w b _ _ c.keep_game.ensures.memory (search rules)
-    (subst (λ told. ClosesLinks told sent (all_links c.args.jobs.items ++ (w ∷ (b ∷ [])))) (search rules) (subst (λ (j : Job). ClosesLinks (g.P.Spawner.engines c.start.new.self).sent sent (all_links c.args.jobs.items ++ links_of j)) is closes))
-    (c.keep_game.ensures.started ∙ (c.in-Ok.ensures.named ∙ ap (λ (ws : List (List ℕ)). with_last (g.P.Spawner.engines c.args.spawner.now).started ws) c.words_of.ensures.words)))
+    on-err _ _ (λ closes. gives-one _ _ (all_links c.args.jobs.items) w b _ _ c.keep_game.ensures.memory (search rules)
+    (subst (λ told. ClosesLinks told sent (all_links c.args.jobs.items ++ (w ∷ (b ∷ [])))) (search rules) (subst (λ (j : Job). ClosesLinks (g.P.Spawner.engines c.start.new.self).sent sent (all_links c.args.jobs.items ++ links_of j)) c.new-job.ensures closes))
+    (c.keep_game.ensures.started ∙ c.in-Ok.ensures.named))
     c.keep_game.result c.keep_game.ensures.closed
 
 pub returns-in-Err-clause-closed : goal.returns-in-Err-clause-closed

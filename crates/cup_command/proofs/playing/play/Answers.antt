@@ -1,12 +1,11 @@
 -- The text of a cup tells what was played, and wherever the cup ends all engines are closed.
 use Rattle.std.proofs.Common.{◌≡◌, ◌∙◌, List, length, drop}
 use Rattle.cup_games.specs.Played.{Job}
-use Rattle.cup_command.proofs.Chains.{none-kept}
 use Rattle.cup_command.proofs.Ends.{told-from}
 use Rattle.cup_command.proofs.Breaks.{breaks, gives-all}
 use Rattle.cup_command.proofs.Early.{early, early-all}
 use Rattle.cup_command.proofs.Kept.{same-fault}
-use Rattle.cup_command.proofs.Steps.{as-many-after, take-front}
+use Rattle.cup_command.proofs.Steps.{as-many-after, none-kept-after, take-front}
 use Rattle.cup_command.proofs.playing.play.Goals as goal
 
 pub returns-in-Ok-text-clause-told : goal.returns-in-Ok-text-clause-told
@@ -25,15 +24,13 @@ returns-in-Ok-text-clause-told g c =
 
 pub returns-in-Ok-text-clause-closed : goal.returns-in-Ok-text-clause-closed
 returns-in-Ok-text-clause-closed g c =
-    let news : List Job = c.run_and_tell-text.new.jobs in
-    none-kept (g.P.Spawner.engines c.args.spawner.now) (g.P.Spawner.engines c.start_links.new.spawner) (g.P.Spawner.engines c.close_links.new.spawner) c.in-Ok-start_links.jobs.items _ c.in-Ok-start_links.ensures.next c.in-Ok-start_links.ensures.starts.sent c.close_links.ensures.sent c.close_links.ensures.to_come
-    (as-many-after c.in-Ok-start_links.jobs.len c.in-Ok-start_links.jobs.items c.deref_mut.result.now news (drop (length news) c.in-Ok-start_links.jobs.items) c.run_and_tell-text.ensures.long c.deref_mut.ensures.len c.deref_mut.ensures.value)
+    none-kept-after _ _ _ _ _ (g.P.Spawner.engines c.args.spawner.now) (g.P.Spawner.engines c.start_links.new.spawner) (g.P.Spawner.engines c.close_links.new.spawner) c.in-Ok-start_links.ensures.next c.in-Ok-start_links.ensures.starts.sent
+    c.close_links.ensures.sent c.close_links.ensures.to_come c.run_and_tell-text.ensures.long c.deref_mut.ensures.len c.deref_mut.ensures.value
 
 pub returns-in-Ok-start_links-clause-closed : goal.returns-in-Ok-start_links-clause-closed
 returns-in-Ok-start_links-clause-closed g c =
-    let news : List Job = c.run_and_tell-text.new.jobs in
-    none-kept (g.P.Spawner.engines c.args.spawner.now) (g.P.Spawner.engines c.start_links.new.spawner) (g.P.Spawner.engines c.close_links.new.spawner) c.in-Ok-start_links.jobs.items _ c.in-Ok-start_links.ensures.next c.in-Ok-start_links.ensures.starts.sent c.close_links.ensures.sent c.close_links.ensures.to_come
-    (as-many-after c.in-Ok-start_links.jobs.len c.in-Ok-start_links.jobs.items c.deref_mut.result.now news (drop (length news) c.in-Ok-start_links.jobs.items) c.run_and_tell-text.ensures.long c.deref_mut.ensures.len c.deref_mut.ensures.value)
+    none-kept-after _ _ _ _ _ (g.P.Spawner.engines c.args.spawner.now) (g.P.Spawner.engines c.start_links.new.spawner) (g.P.Spawner.engines c.close_links.new.spawner) c.in-Ok-start_links.ensures.next c.in-Ok-start_links.ensures.starts.sent
+    c.close_links.ensures.sent c.close_links.ensures.to_come c.run_and_tell-text.ensures.long c.deref_mut.ensures.len c.deref_mut.ensures.value
 
 pub returns-clause-broken : goal.returns-clause-broken
 returns-clause-broken g c =
@@ -56,15 +53,12 @@ returns-clause-early g c =
 
 pub returns-in-Ok-start_links-clause-early : goal.returns-in-Ok-start_links-clause-early
 returns-in-Ok-start_links-clause-early g c =
-    let old = g.P.Spawner.engines c.args.spawner.now in
-    let between = g.P.Spawner.engines c.start_links.new.spawner in
-    let new = g.P.Spawner.engines c.close_links.new.spawner in
     let news : List Job = c.run_and_tell-text.new.jobs in
     let started = c.in-Ok-start_links.ensures in
     let shut = c.close_links.ensures in
     λ e.
     early-all c.args.programs.now c.as_slice-games.result.now c.in-Ok-start_links.jobs.items _
-    old between new
+    (g.P.Spawner.engines c.args.spawner.now) (g.P.Spawner.engines c.start_links.new.spawner) (g.P.Spawner.engines c.close_links.new.spawner)
     (c.as_slice-games.ensures.value ∙ c.in-Ok.ensures) started.kept
     (as-many-after c.in-Ok-start_links.jobs.len c.in-Ok-start_links.jobs.items c.deref_mut.result.now news (drop (length news) c.in-Ok-start_links.jobs.items) c.run_and_tell-text.ensures.long c.deref_mut.ensures.len c.deref_mut.ensures.value)
     started.next started.starts.sent started.starts.named shut.sent shut.to_come shut.started
