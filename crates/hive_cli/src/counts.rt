@@ -3,8 +3,8 @@ ghost use Rattle.std.specs.Prelude.{◌≡◌, ℕ, ◌<◌, ◌≤◌, false, l
 ghost use Rattle.std.specs.Bool.{OnTrue, OnFalse};
 ghost use Rattle.io_edge.specs.Outside.{HasCause, behind};
 ghost use Rattle.hive_model.specs.Courses.{position};
-ghost use Rattle.hive_model.specs.Minimax.{lines};
 ghost use Rattle.command_runs.specs.GameRun.{WritesAnswer};
+ghost use Rattle.command_runs.specs.Runs.{RunsAs, side_of};
 ghost use Rattle.hive_cli.specs.Count.{CountRun, count_line_of, count_text};
 
 use arrayvec::ArrayString;
@@ -93,13 +93,9 @@ pub(crate) fn count<S: Source, K: Sink, G: Game + Drop>(
 ) -> Status
     requires some { 1 ≤ plies }
     requires few { plies ≤ 8 }
-    ensures count { CountRun plies result
-        (record { rest = S.rest input.old; written = K.written output.old })
-        (record { rest = S.rest input.new; written = K.written output.new }) }
-    ensures reads { HasCause (result ≡ Status.ReadFault) (S.read_faults input.old)
-        (S.read_faults input.new) }
-    ensures writes { HasCause (result ≡ Status.WriteFault) (K.write_faults output.old)
-        (K.write_faults output.new) }
+    ensures { RunsAs (CountRun plies) result
+        (side_of S.rest S.read_faults input.old) (side_of K.written K.write_faults output.old)
+        (side_of S.rest S.read_faults input.new) (side_of K.written K.write_faults output.new) }
 {
     match read_one_game::<S, G>(alloc, input, plies) {
         Ok(game) => tell_counts(alloc, game, plies, output),
