@@ -8,7 +8,7 @@ use Rattle.hive_cli.specs.ServiceRun.{EndsAs}
 use Rattle.hive_cli.specs.Session.{session}
 use Rattle.hive_cli.specs.Replay.{replays}
 use Rattle.hive_cli.specs.Count.{CountRun}
-use Rattle.hive_cli.specs.Run.{IsAlone, RunOf, World, means_in}
+use Rattle.hive_cli.specs.Run.{RunOf, UsesSpawner, World, means_in}
 use Rattle.command_words.specs.Cups.{AreCupWords, AskForEngines, engine_of, program_texts}
 use Rattle.command_words.specs.Matches.{AreMatchWords, AskForPrograms, IsLevelOf, between_spaces}
 use Rattle.cup_core.specs.Engines.{Engine}
@@ -48,11 +48,11 @@ never_usage words Book status before after (run, time) e = subst (λ s. BookRun 
 never_usage words Migrate status before after (run, time) e = subst (λ s. MigrateRun s before.scene.sides after.scene.sides) e run
 never_usage words (Match setup) status before after run e =
     subst (λ s. MatchRun setup s (match_scene before.scene.sides.written (means_in before)) (match_scene after.scene.sides.written (means_in after))) e run.played
-never_usage words (Cup setup) status before after run e =
-    subst (λ s. CupRun run.engines setup s (cup_scene before.scene.sides.written before.engines) (cup_scene after.scene.sides.written after.engines)) e run.played
+never_usage words (Cup setup) status before after run e = let (engines, asked, played) = run.played in
+    subst (λ s. CupRun engines setup s (cup_scene before.scene.sides.written before.engines) (cup_scene after.scene.sides.written after.engines)) e played
 
 -- no run but a match and a cup starts a program
-pub never_spawns : (words : List (String Global)) (asked : Asked) (status : Status) (before after : World) → IsAlone asked → RunOf words asked status before after → status ≡ SpawnFault → ⊥
+pub never_spawns : (words : List (String Global)) (asked : Asked) (status : Status) (before after : World) → ¬ UsesSpawner asked → RunOf words asked status before after → status ≡ SpawnFault → ⊥
 never_spawns words Session status before after alone run e = subst (λ s. EndsAs session s before.scene after.scene) e run.ends
 never_spawns words (Replay r) status before after alone (run, time) e = subst (λ s. EndsAs (replays r) s before.scene after.scene) e run.ends
 never_spawns words (Count plies) status before after alone (run, time) e = subst (λ s. CountRun plies s before.scene.sides after.scene.sides) e run
@@ -63,8 +63,8 @@ never_spawns words (Solve plies) status before after alone (run, time) e = subst
 never_spawns words Verify status before after alone (run, time) e = subst (λ s. VerifyRun s before.scene.sides after.scene.sides) e run
 never_spawns words Book status before after alone (run, time) e = subst (λ s. BookRun s before.scene.sides after.scene.sides) e run
 never_spawns words Migrate status before after alone (run, time) e = subst (λ s. MigrateRun s before.scene.sides after.scene.sides) e run
-never_spawns words (Match setup) status before after never run e = never
-never_spawns words (Cup setup) status before after never run e = never
+never_spawns words (Match setup) status before after alone run e = absurd (alone tt)
+never_spawns words (Cup setup) status before after alone run e = absurd (alone tt)
 
 no_time : (t : Times) → TakesNoTime t t
 no_time t = record { last = refl; readings = refl; timed = refl }
@@ -133,9 +133,7 @@ starved_match words setup w asked = record {
 -- a cup that wanted memory before a program was started
 starved_cup : (words : List (String Global)) (setup : Setup) (w : World) → AreCupWords words setup → RunOf words (Cup setup) Memory w w
 starved_cup words setup w asked = let (engines, asks) = asks_engines words setup asked in record {
-  engines = engines;
-  asked = asks;
-  played = record { written = refl; starts = early-none engines w.engines };
+  played = (engines, asks, record { written = refl; starts = early-none engines w.engines });
   closed = none_open w.engines;
   unread = refl;
   untimed = no_time w.scene.times;
@@ -167,17 +165,17 @@ some_same e = cc
 pub run_of : (words : List (String Global)) (did asked : Asked) (status : Status) (before after : World) → RunOf words did status before after → Some did ≡ Some asked → RunOf words asked status before after
 run_of words did asked status before after run e = subst (λ a. RunOf words a status before after) (some_same e) run
 
--- what is neither a match nor a cup
-pub is_alone : (asked : Asked) → ((setup : Setup) → asked ≡ Match setup → ⊥) → ((setup : Setup) → asked ≡ Cup setup → ⊥) → IsAlone asked
-is_alone Session no_match no_cup = tt
-is_alone (Replay r) no_match no_cup = tt
-is_alone (Count plies) no_match no_cup = tt
-is_alone (Grow seed plies) no_match no_cup = tt
-is_alone (Certify depth) no_match no_cup = tt
-is_alone Check no_match no_cup = tt
-is_alone (Solve plies) no_match no_cup = tt
-is_alone Verify no_match no_cup = tt
-is_alone Book no_match no_cup = tt
-is_alone Migrate no_match no_cup = tt
-is_alone (Match setup) no_match no_cup = no_match setup refl
-is_alone (Cup setup) no_match no_cup = no_cup setup refl
+-- what is neither a match nor a cup starts no program
+pub is_alone : (asked : Asked) → ((setup : Setup) → asked ≡ Match setup → ⊥) → ((setup : Setup) → asked ≡ Cup setup → ⊥) → ¬ UsesSpawner asked
+is_alone (Match setup) no_match no_cup uses = no_match setup refl
+is_alone (Cup setup) no_match no_cup uses = no_cup setup refl
+is_alone Session no_match no_cup uses = uses
+is_alone (Replay r) no_match no_cup uses = uses
+is_alone (Count plies) no_match no_cup uses = uses
+is_alone (Grow seed plies) no_match no_cup uses = uses
+is_alone (Certify depth) no_match no_cup uses = uses
+is_alone Check no_match no_cup uses = uses
+is_alone (Solve plies) no_match no_cup uses = uses
+is_alone Verify no_match no_cup uses = uses
+is_alone Book no_match no_cup uses = uses
+is_alone Migrate no_match no_cup uses = uses

@@ -14,7 +14,7 @@ use Rattle.command_words.specs.Cups.{AskForEngines}
 use Rattle.command_words.specs.Matches.{AskForPrograms}
 use Rattle.command_words.specs.declared.asked.Asked.{Asked}
 use Rattle.command_words.specs.declared.asked.Asked.TheVariants.{Session, Replay, Count, Grow, Certify, Check, Solve, Verify, Match, Cup, Book, Migrate}
-use Rattle.cup_command.specs.Cup.{CupRun, scene as cup_scene}
+use Rattle.cup_command.specs.Cup.{CupRun, Scene as CupScene, scene as cup_scene}
 use Rattle.cup_core.specs.Engines.{Engine}
 use Rattle.grow_command.specs.Runs.{GrowRun}
 use Rattle.uhp_session.specs.Searches.{TakesNoTime}
@@ -35,6 +35,11 @@ pub record World : Type 0 where
 abbrev pub world : Scene → Engines → World
 world scene engines = record { scene = scene; engines = engines }
 
+-- what a run says of its scene, where these are the engines before it, and those after it
+abbrev pub WithEngines : (Status → World → World → Type 0) → Engines → Engines → Status → Scene
+    → Scene → Type 0
+WithEngines Run from to status before after = Run status (world before from) (world after to)
+
 -- a game was made, and the input left alone
 pub record MadeGame (seed plies : ℕ) (status : Status) (before after : Sides) : Type 0 where
   pub made : GrowRun seed plies status before.written after.written
@@ -46,10 +51,10 @@ means_in w = means w.scene.times.last w.scene.times.readings w.engines
 
 -- the programs of the match that the words ask for were started, white's and then black's, each by
 -- its words
-abbrev pub StartsPrograms : List (String Global) → Status → World → World → Type 0
+abbrev pub StartsPrograms : List (String Global) → Status → Engines → Engines → Type 0
 StartsPrograms words status before after =
     (white : List (List ℕ)) × (black : List (List ℕ)) × AskForPrograms words white black
-    × MatchStarts status white black before.engines after.engines
+    × MatchStarts status white black before after
 
 -- A match was played, told and ended with this status. The input was left alone, and no search was
 -- answered.
@@ -59,7 +64,7 @@ pub record PlayedMatch (words : List (String Global)) (setup : Setup) (status : 
       MatchRun setup status
       (match_scene before.scene.sides.written (means_in before))
       (match_scene after.scene.sides.written (means_in after))
-  pub programs : StartsPrograms words status before after
+  pub programs : StartsPrograms words status before.engines after.engines
   pub closed : NoneIsOpen before.engines after.engines
   pub unread : after.scene.sides.rest ≡ before.scene.sides.rest
   pub timed : after.scene.times.timed ≡ before.scene.times.timed
@@ -68,14 +73,17 @@ pub record PlayedMatch (words : List (String Global)) (setup : Setup) (status : 
 abbrev pub Untimed : World → World → Type 0
 Untimed before after = TakesNoTime before.scene.times after.scene.times
 
--- A cup of the engines that the words ask for was played, told and ended with this status. The
--- input was left alone.
+-- a cup of the engines that the words ask for was played, told and ended with this status
+abbrev pub PlaysEngines : List (String Global) → Setup → Status → CupScene → CupScene → Type 0
+PlaysEngines words setup status before after =
+    (engines : List Engine) × AskForEngines words engines
+    × CupRun engines setup status before after
+
+-- The cup that the words ask for was played. The input was left alone, and no search was answered.
 pub record PlayedCup (words : List (String Global)) (setup : Setup) (status : Status)
     (before after : World) : Type 0 where
-  pub engines : List Engine
-  pub asked : AskForEngines words engines
   pub played :
-      CupRun engines setup status
+      PlaysEngines words setup status
       (cup_scene before.scene.sides.written before.engines)
       (cup_scene after.scene.sides.written after.engines)
   pub closed : NoneIsOpen before.engines after.engines
@@ -109,38 +117,14 @@ RunOf words Migrate status before after =
 -- a run that is asked for this may read the clock: that of a session, for its searches, and a match
 abbrev pub UsesClock : Asked → Type 0
 UsesClock Session = Unit {0}
-UsesClock (Replay repetition) = ⊥
-UsesClock (Count plies) = ⊥
-UsesClock (Grow seed plies) = ⊥
-UsesClock (Certify depth) = ⊥
-UsesClock Check = ⊥
-UsesClock (Solve plies) = ⊥
-UsesClock Verify = ⊥
 UsesClock (Match setup) = Unit {0}
-UsesClock (Cup setup) = ⊥
-UsesClock Book = ⊥
-UsesClock Migrate = ⊥
+UsesClock _ = ⊥
 
 -- a run that is asked for this may start programs: a match does, and a cup
 abbrev pub UsesSpawner : Asked → Type 0
-UsesSpawner Session = ⊥
-UsesSpawner (Replay repetition) = ⊥
-UsesSpawner (Count plies) = ⊥
-UsesSpawner (Grow seed plies) = ⊥
-UsesSpawner (Certify depth) = ⊥
-UsesSpawner Check = ⊥
-UsesSpawner (Solve plies) = ⊥
-UsesSpawner Verify = ⊥
 UsesSpawner (Match setup) = Unit {0}
 UsesSpawner (Cup setup) = Unit {0}
-UsesSpawner Book = ⊥
-UsesSpawner Migrate = ⊥
-
--- neither a match nor a cup is asked for
-abbrev pub IsAlone : Asked → Type 0
-IsAlone (Match setup) = ⊥
-IsAlone (Cup setup) = ⊥
-IsAlone _ = Unit {0}
+UsesSpawner _ = ⊥
 
 -- whatever the words ask for, this is not so
 abbrev pub Never : List (String Global) → (Asked → Type 0) → Type 0

@@ -24,6 +24,12 @@ scene rest written last readings timed = record {
   times = times last readings timed;
 }
 
+-- what a run says of both sides, where its times are these before it, and those after it
+abbrev pub OverTime : (Status → Scene → Scene → Type 0) → Times → Times → Status → Sides → Sides
+    → Type 0
+OverTime Run from to status before after =
+    Run status (record { sides = before; times = from }) (record { sides = after; times = to })
+
 -- The searches that these lines ask for were answered, and these entries tell of them.
 abbrev pub TellsOfLines : {S : Type 0} → Service S → List Line → List Timed → Scene → Scene → Type 0
 TellsOfLines v ls entries before after =

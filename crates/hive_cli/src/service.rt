@@ -3,11 +3,12 @@
 ghost use Rattle.std.specs.Prelude.{◌≡◌, Bool, false, Some};
 ghost use Rattle.std.specs.Thread.{IsSync};
 ghost use Rattle.io_edge.specs.Outside.{HasCause};
+ghost use Rattle.command_runs.specs.Runs.{RunsAs, side_of};
 ghost use Rattle.uhp_session.specs.Answers.{line_in, IsShort};
 ghost use Rattle.uhp_session.specs.Searches.{Answered, times};
 ghost use Rattle.hive_cli.specs.Rounds.{Answers, Rounds, standing, status_of};
 ghost use Rattle.hive_cli.specs.Service.{Service};
-ghost use Rattle.hive_cli.specs.ServiceRun.{ServiceRun, scene};
+ghost use Rattle.hive_cli.specs.ServiceRun.{OverTime, ServiceRun, scene};
 
 use command_runs::Status;
 use hive_model::TimedList;
@@ -171,15 +172,11 @@ pub(crate) fn serve<R: Threads + Sync, S: Source, K: Sink, C: Clock, V: LineServ
     timed: &mut TimedList,
 ) -> Status
     requires { service.old ≡ V.service.begins }
-    ensures run { ServiceRun V.service result
-        (scene (S.rest input.old) (K.written output.old)
-        (C.last clock.old) (C.readings clock.old) timed.old)
-        (scene (S.rest input.new) (K.written output.new)
-        (C.last clock.new) (C.readings clock.new) timed.new) }
-    ensures reads { HasCause (result ≡ Status.ReadFault) (S.read_faults input.old)
-        (S.read_faults input.new) }
-    ensures writes { HasCause (result ≡ Status.WriteFault) (K.write_faults output.old)
-        (K.write_faults output.new) }
+    ensures run { RunsAs (OverTime (ServiceRun V.service)
+        (times (C.last clock.old) (C.readings clock.old) timed.old)
+        (times (C.last clock.new) (C.readings clock.new) timed.new)) result
+        (side_of S.rest S.read_faults input.old) (side_of K.written K.write_faults output.old)
+        (side_of S.rest S.read_faults input.new) (side_of K.written K.write_faults output.new) }
     ensures clock { V.takes_time ≡ false → clock.new ≡ clock.old }
     ensures timed { V.takes_time ≡ false → timed.new ≡ timed.old }
 {

@@ -1,22 +1,31 @@
 //! The run: what the words of the command line ask for.
-ghost use Rattle.std.specs.Prelude.{◌≡◌, ◌⊎◌, ℕ, List, [], map, string_bytes};
+ghost use Rattle.std.specs.Prelude.{◌≡◌, ◌⊎◌, [], map, string_bytes};
 ghost use Rattle.io_edge.specs.Outside.{HasCause};
 ghost use Rattle.io_edge.specs.Starts.{Engines};
 ghost use Rattle.command_words.specs.Words.{AreOfNoCommand, IsInRange, TakeOption, Words};
-ghost use Rattle.command_words.specs.Cups.{AreCupWords, AskForEngines};
-ghost use Rattle.command_words.specs.Matches.{AreMatchWords, AskForPrograms};
-ghost use Rattle.cup_command.specs.Cup.{CupRun, scene as cup_scene};
-ghost use Rattle.cup_core.specs.Engines.{Engine};
+ghost use Rattle.command_words.specs.Cups.{AreCupWords};
+ghost use Rattle.command_words.specs.Matches.{AreMatchWords};
+ghost use Rattle.cup_command.specs.Cup.{scene as cup_scene};
 ghost use Rattle.match_command.specs.Match.{
   MatchRun,
-  MatchStarts,
   NoneIsOpen,
   means,
   scene as match_scene,
 };
 ghost use Rattle.match_core.specs.Keeps.{IsSetup};
-ghost use Rattle.hive_cli.specs.Run.{IsAlone, Never, RunOf, UsesClock, UsesSpawner, world};
-ghost use Rattle.hive_cli.specs.ServiceRun.{scene};
+ghost use Rattle.command_runs.specs.Runs.{RunsAs, side_of};
+ghost use Rattle.uhp_session.specs.Searches.{times};
+ghost use Rattle.hive_cli.specs.Run.{
+  Never,
+  PlaysEngines,
+  RunOf,
+  StartsPrograms,
+  UsesClock,
+  UsesSpawner,
+  WithEngines,
+  world,
+};
+ghost use Rattle.hive_cli.specs.ServiceRun.{OverTime, scene};
 ghost use Rattle.command_words.specs.declared.asked.Asked.{Asked};
 
 use crate::counts::count;
@@ -145,9 +154,8 @@ fn matched<K: Sink, C: Clock, P: Spawner, G: Game + Drop>(
         (means (C.last clock.old) (C.readings clock.old) (P.engines spawner.old)))
         (match_scene (K.written output.new)
         (means (C.last clock.new) (C.readings clock.new) (P.engines spawner.new))) }
-    ensures programs { (white : List (List ℕ)) × (black : List (List ℕ))
-        × AskForPrograms words.now white black
-        × MatchStarts result white black (P.engines spawner.old) (P.engines spawner.new) }
+    ensures programs { StartsPrograms words.now result (P.engines spawner.old)
+        (P.engines spawner.new) }
     ensures closed { NoneIsOpen (P.engines spawner.old) (P.engines spawner.new) }
     ensures writes { HasCause (result ≡ Status.WriteFault) (K.write_faults output.old)
         (K.write_faults output.new) }
@@ -179,9 +187,7 @@ fn cupped<R: Threads + Sync, K: Sink, P: Spawner, G: Game + Send + Drop>(
 ) -> Status
     requires words { AreCupWords words.now setup }
     requires setup { IsSetup setup }
-    ensures run { (engines : List Engine)
-        × AskForEngines words.now engines
-        × CupRun engines setup result
+    ensures run { PlaysEngines words.now setup result
         (cup_scene (K.written output.old) (P.engines spawner.old))
         (cup_scene (K.written output.new) (P.engines spawner.new)) }
     ensures closed { NoneIsOpen (P.engines spawner.old) (P.engines spawner.new) }
@@ -219,15 +225,12 @@ fn perform<R: Threads + Sync, S: Source, K: Sink, C: Clock, P: Spawner, G: Game 
     requires asked { Words words.now asked }
     requires range { IsInRange asked }
     requires none { timed ≡ [] }
-    ensures does { RunOf words.now asked result.status
-        (world (scene (S.rest input.old) (K.written output.old)
-        (C.last clock.old) (C.readings clock.old) []) (P.engines spawner.old))
-        (world (scene (S.rest input.new) (K.written output.new)
-        (C.last clock.new) (C.readings clock.new) result.timed) (P.engines spawner.new)) }
-    ensures reads { HasCause (result.status ≡ Status.ReadFault) (S.read_faults input.old)
-        (S.read_faults input.new) }
-    ensures writes { HasCause (result.status ≡ Status.WriteFault) (K.write_faults output.old)
-        (K.write_faults output.new) }
+    ensures does { RunsAs (OverTime
+        (WithEngines (RunOf words.now asked) (P.engines spawner.old) (P.engines spawner.new))
+        (times (C.last clock.old) (C.readings clock.old) [])
+        (times (C.last clock.new) (C.readings clock.new) result.timed)) result.status
+        (side_of S.rest S.read_faults input.old) (side_of K.written K.write_faults output.old)
+        (side_of S.rest S.read_faults input.new) (side_of K.written K.write_faults output.new) }
     ensures starts { HasCause (result.status ≡ Status.SpawnFault)
         (P.engines spawner.old).start_faults (P.engines spawner.new).start_faults }
     ensures clock { ¬ UsesClock asked → clock.new ≡ clock.old }
@@ -259,18 +262,15 @@ fn perform_alone<R: Threads + Sync, S: Source, K: Sink, C: Clock, G: Game + Send
     clock: &mut C,
     mut timed: TimedList,
 ) -> Outcome
-    requires alone { IsAlone asked }
+    requires alone { ¬ UsesSpawner asked }
     requires range { IsInRange asked }
     requires none { timed ≡ [] }
-    ensures does { (engines : Engines) → RunOf words.now asked result.status
-        (world (scene (S.rest input.old) (K.written output.old)
-        (C.last clock.old) (C.readings clock.old) []) engines)
-        (world (scene (S.rest input.new) (K.written output.new)
-        (C.last clock.new) (C.readings clock.new) result.timed) engines) }
-    ensures reads { HasCause (result.status ≡ Status.ReadFault) (S.read_faults input.old)
-        (S.read_faults input.new) }
-    ensures writes { HasCause (result.status ≡ Status.WriteFault) (K.write_faults output.old)
-        (K.write_faults output.new) }
+    ensures does { (engines : Engines) → RunsAs (OverTime
+        (WithEngines (RunOf words.now asked) engines engines)
+        (times (C.last clock.old) (C.readings clock.old) [])
+        (times (C.last clock.new) (C.readings clock.new) result.timed)) result.status
+        (side_of S.rest S.read_faults input.old) (side_of K.written K.write_faults output.old)
+        (side_of S.rest S.read_faults input.new) (side_of K.written K.write_faults output.new) }
     ensures clock { ¬ UsesClock asked → clock.new ≡ clock.old }
 {
     let status = match asked {

@@ -1,13 +1,21 @@
 -- The last round ends the run.
-use Rattle.std.proofs.Common.{refl, ◌∙◌}
+use Rattle.std.proofs.Common.{refl, ◌∙◌, rules}
 use Rattle.hive_cli.proofs.Progress.{no_memory, preface_cut, run_begin, run_ends, run_on}
 use Rattle.hive_cli.proofs.service.serve.Goals as goal
 
 pub returns-in_default-clause-run : goal.returns-in_default-clause-run
-returns-in_default-clause-run g c = no_memory _ _ _ refl (record { last = refl; readings = refl; timed = refl })
+returns-in_default-clause-run g c = record {
+  run = no_memory _ _ _ refl (record { last = refl; readings = refl; timed = refl });
+  reads = search rules;
+  writes = search rules;
+}
 
 pub returns-then-not-write_all-clause-run : goal.returns-then-not-write_all-clause-run
-returns-then-not-write_all-clause-run g c = preface_cut g.V.LineService.service _ _ _ refl c.preface.ensures c.if-not-write_all.ensures.part (record { last = refl; readings = refl; timed = refl })
+returns-then-not-write_all-clause-run g c = record {
+  run = preface_cut g.V.LineService.service _ _ _ refl c.preface.ensures c.if-not-write_all.ensures.part (record { last = refl; readings = refl; timed = refl });
+  reads = search rules;
+  writes = search rules;
+}
 
 pub lines-init : goal.lines-init
 lines-init g c = record {
@@ -28,4 +36,8 @@ lines-preserved g c = record {
 }
 
 pub returns-in-Some-clause-run : goal.returns-in-Some-clause-run
-returns-in-Some-clause-run g c = run_ends c.in-Some.stop c.has_refused.result c.status.result c.lines.invariant.run c.in-Some.ensures.round c.has_refused.ensures c.status.ensures
+returns-in-Some-clause-run g c = record {
+  run = run_ends c.in-Some.stop c.has_refused.result c.status.result c.lines.invariant.run c.in-Some.ensures.round c.has_refused.ensures c.status.ensures;
+  reads = search rules;
+  writes = search rules;
+}

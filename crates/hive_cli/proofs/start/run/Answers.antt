@@ -11,11 +11,11 @@ pub perform-requires-clause-range : goal.perform-requires-clause-range
 perform-requires-clause-range g c κs within = rw c.in-Ok-Some.field-0-is at c.in-Ok-Some.ensures.range
 
 pub returns-in-Ok-Some-clause-usage : goal.returns-in-Ok-Some-clause-usage
-returns-in-Ok-Some-clause-usage g c = λ usage. absurd (never_usage c.args.words.now c.in-Ok-Some.asked c.perform.result.status _ _ c.perform.ensures.does usage)
+returns-in-Ok-Some-clause-usage g c = λ usage. absurd (never_usage c.args.words.now c.in-Ok-Some.asked c.perform.result.status _ _ c.perform.ensures.does.run usage)
 
 pub returns-in-Ok-Some-clause-does : goal.returns-in-Ok-Some-clause-does
 returns-in-Ok-Some-clause-does g c = λ asked words.
-    run_of c.args.words.now c.in-Ok-Some.asked asked c.perform.result.status _ _ c.perform.ensures.does (sym c.in-Ok-Some.field-0-is ∙ c.in-Ok-Some.ensures.only asked words)
+    run_of c.args.words.now c.in-Ok-Some.asked asked c.perform.result.status _ _ c.perform.ensures.does.run (sym c.in-Ok-Some.field-0-is ∙ c.in-Ok-Some.ensures.only asked words)
 
 pub returns-in-Ok-None-clause-usage : goal.returns-in-Ok-None-clause-usage
 returns-in-Ok-None-clause-usage g c = λ usage asked words. none_some (sym c.in-Ok-None.field-0-is ∙ c.in-Ok-None.ensures.only asked words)
