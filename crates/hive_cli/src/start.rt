@@ -8,7 +8,6 @@ ghost use Rattle.command_words.specs.Matches.{AreMatchWords};
 ghost use Rattle.cup_command.specs.Cup.{scene as cup_scene};
 ghost use Rattle.match_command.specs.Match.{
   MatchRun,
-  NoneIsOpen,
   means,
   scene as match_scene,
 };
@@ -16,6 +15,7 @@ ghost use Rattle.match_core.specs.Keeps.{IsSetup};
 ghost use Rattle.command_runs.specs.Runs.{RunsAs, side_of};
 ghost use Rattle.uhp_session.specs.Searches.{times};
 ghost use Rattle.hive_cli.specs.Run.{
+  Leaves,
   Never,
   PlaysEngines,
   RunOf,
@@ -156,11 +156,8 @@ fn matched<K: Sink, C: Clock, P: Spawner, G: Game + Drop>(
         (means (C.last clock.new) (C.readings clock.new) (P.engines spawner.new))) }
     ensures programs { StartsPrograms words.now result (P.engines spawner.old)
         (P.engines spawner.new) }
-    ensures closed { NoneIsOpen (P.engines spawner.old) (P.engines spawner.new) }
-    ensures writes { HasCause (result ≡ Status.WriteFault) (K.write_faults output.old)
-        (K.write_faults output.new) }
-    ensures starts { HasCause (result ≡ Status.SpawnFault)
-        (P.engines spawner.old).start_faults (P.engines spawner.new).start_faults }
+    ensures leaves { Leaves result (K.write_faults output.old) (K.write_faults output.new)
+        (P.engines spawner.old) (P.engines spawner.new) }
 {
     let Ok(programs) = programs_of(alloc, words) else {
         return Status::Memory;
@@ -190,11 +187,8 @@ fn cupped<R: Threads + Sync, K: Sink, P: Spawner, G: Game + Send + Drop>(
     ensures run { PlaysEngines words.now setup result
         (cup_scene (K.written output.old) (P.engines spawner.old))
         (cup_scene (K.written output.new) (P.engines spawner.new)) }
-    ensures closed { NoneIsOpen (P.engines spawner.old) (P.engines spawner.new) }
-    ensures writes { HasCause (result ≡ Status.WriteFault) (K.write_faults output.old)
-        (K.write_faults output.new) }
-    ensures starts { HasCause (result ≡ Status.SpawnFault)
-        (P.engines spawner.old).start_faults (P.engines spawner.new).start_faults }
+    ensures leaves { Leaves result (K.write_faults output.old) (K.write_faults output.new)
+        (P.engines spawner.old) (P.engines spawner.new) }
 {
     let Ok(engines) = engines_of(alloc, words) else {
         return Status::Memory;
