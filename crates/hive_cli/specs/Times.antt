@@ -25,6 +25,12 @@ reads_of (asked ∷ others) [] = 0
 reads_of (asked ∷ others) (entry ∷ entries) =
     reads asked.position entry.depth + reads_of others entries
 
+-- where this holds, the clock was left as it was, and no entry was appended
+pub record IsStill {C : Type 0} (holds : Type 0) (was is : C)
+    (before after : List Timed) : Type 0 where
+  pub clock : holds → is ≡ was
+  pub timed : holds → after ≡ before
+
 -- these searches were answered, and nothing else was done that takes time
 pub record TellsOf (searches : List Search) (entries : List Timed)
     (before after : Times) : Type 0 where

@@ -9,6 +9,7 @@ ghost use Rattle.uhp_session.specs.Searches.{Answered, times};
 ghost use Rattle.hive_cli.specs.Rounds.{Answers, Rounds, standing, status_of};
 ghost use Rattle.hive_cli.specs.Service.{Service};
 ghost use Rattle.hive_cli.specs.ServiceRun.{OverTime, ServiceRun, scene};
+ghost use Rattle.hive_cli.specs.Times.{IsStill};
 
 use command_runs::Status;
 use hive_model::TimedList;
@@ -50,8 +51,7 @@ pub(crate) trait LineService {
             (service.next self.old (line_in line.entry)) result self.old self.new
             (times (C.last clock.old) (C.readings clock.old) timed.old)
             (times (C.last clock.new) (C.readings clock.new) timed.new) }
-        ensures clock { takes_time ≡ false → clock.new ≡ clock.old }
-        ensures timed { takes_time ≡ false → timed.new ≡ timed.old };
+        ensures still { IsStill (takes_time ≡ false) clock.old clock.new timed.old timed.new };
 
     /// Whether a line was refused until now, so that the run ends as `Refused`.
     fn has_refused(&self) -> bool
@@ -111,8 +111,7 @@ fn answer<R: Threads + Sync, K: Sink, C: Clock, V: LineService>(
         (times (C.last clock.new) (C.readings clock.new) timed.new) }
     ensures cause { HasCause (result ≡ Some Stop.WriteFailed) (K.write_faults output.old)
         (K.write_faults output.new) }
-    ensures clock { V.takes_time ≡ false → clock.new ≡ clock.old }
-    ensures timed { V.takes_time ≡ false → timed.new ≡ timed.old }
+    ensures still { IsStill (V.takes_time ≡ false) clock.old clock.new timed.old timed.new }
 {
     match service.answer(rt, alloc, line, clock, timed) {
         Ok(Reply::Text(text)) => {
@@ -147,8 +146,7 @@ fn serve_line<R: Threads + Sync, S: Source, K: Sink, C: Clock, V: LineService>(
         (S.read_faults input.new) }
     ensures writes { HasCause (result ≡ Some Stop.WriteFailed) (K.write_faults output.old)
         (K.write_faults output.new) }
-    ensures clock { V.takes_time ≡ false → clock.new ≡ clock.old }
-    ensures timed { V.takes_time ≡ false → timed.new ≡ timed.old }
+    ensures still { IsStill (V.takes_time ≡ false) clock.old clock.new timed.old timed.new }
 {
     let line = match reader.next_line(input) {
         LineAnswer::Line => LineIn::Text(reader.line()),
@@ -177,8 +175,7 @@ pub(crate) fn serve<R: Threads + Sync, S: Source, K: Sink, C: Clock, V: LineServ
         (times (C.last clock.new) (C.readings clock.new) timed.new)) result
         (side_of S.rest S.read_faults input.old) (side_of K.written K.write_faults output.old)
         (side_of S.rest S.read_faults input.new) (side_of K.written K.write_faults output.new) }
-    ensures clock { V.takes_time ≡ false → clock.new ≡ clock.old }
-    ensures timed { V.takes_time ≡ false → timed.new ≡ timed.old }
+    ensures still { IsStill (V.takes_time ≡ false) clock.old clock.new timed.old timed.new }
 {
     let Ok(mut reader) = LineReader::new(alloc) else {
         return Status::Memory;

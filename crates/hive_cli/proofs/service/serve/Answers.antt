@@ -31,8 +31,8 @@ lines-preserved g c = record {
   run = run_on c.lines.invariant.run c.in_default-serve_line.ensures.round;
   reads = c.in_default-serve_line.ensures.reads.same (λ e. cc) ∙ c.lines.invariant.reads;
   writes = c.in_default-serve_line.ensures.writes.same (λ e. cc) ∙ c.lines.invariant.writes;
-  clock = λ still. c.in_default-serve_line.ensures.clock still ∙ c.lines.invariant.clock still;
-  timed = λ still. c.in_default-serve_line.ensures.timed still ∙ c.lines.invariant.timed still;
+  clock = λ still. c.in_default-serve_line.ensures.still.clock still ∙ c.lines.invariant.clock still;
+  timed = λ still. c.in_default-serve_line.ensures.still.timed still ∙ c.lines.invariant.timed still;
 }
 
 pub returns-in-Some-clause-run : goal.returns-in-Some-clause-run
