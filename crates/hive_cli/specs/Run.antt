@@ -9,7 +9,6 @@ use Rattle.certificate_commands.specs.Verdicts.{CheckRun}
 use Rattle.certificate_commands.specs.Migrating.{MigrateRun}
 use Rattle.command_runs.specs.Input.{Sides}
 use Rattle.command_runs.specs.declared.status.Status.{Status}
-use Rattle.command_runs.specs.declared.status.Status.TheVariants.{WriteFault, SpawnFault}
 use Rattle.command_words.specs.Words.{Words}
 use Rattle.command_words.specs.Cups.{AskForEngines}
 use Rattle.command_words.specs.Matches.{AskForPrograms}
@@ -20,7 +19,6 @@ use Rattle.cup_core.specs.Engines.{Engine}
 use Rattle.grow_command.specs.Runs.{GrowRun}
 use Rattle.uhp_session.specs.Searches.{TakesNoTime}
 use Rattle.win_commands.specs.Runs.{SolveRun, VerifyRun}
-use Rattle.io_edge.specs.Outside.{HasCause}
 use Rattle.io_edge.specs.Starts.{Engines}
 use Rattle.match_command.specs.Match.{MatchRun, MatchStarts, Means, NoneIsOpen, means, scene as match_scene}
 use Rattle.match_core.specs.declared.answers.Setup.{Setup}
@@ -57,13 +55,6 @@ abbrev pub StartsPrograms : List (String Global) → Status → Engines → Engi
 StartsPrograms words status before after =
     (white : List (List ℕ)) × (black : List (List ℕ)) × AskForPrograms words white black
     × MatchStarts status white black before after
-
--- A command that starts programs ended with this status. No program is open that was not before,
--- and where a write or a start has failed by the status, one has.
-pub record Leaves (status : Status) (faults faults' : ℕ) (before after : Engines) : Type 0 where
-  pub closed : NoneIsOpen before after
-  pub writes : HasCause (status ≡ WriteFault) faults faults'
-  pub starts : HasCause (status ≡ SpawnFault) before.start_faults after.start_faults
 
 -- A match was played, told and ended with this status. The input was left alone, and no search was
 -- answered.

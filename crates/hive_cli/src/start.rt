@@ -6,6 +6,7 @@ ghost use Rattle.command_words.specs.Words.{AreOfNoCommand, IsInRange, TakeOptio
 ghost use Rattle.command_words.specs.Cups.{AreCupWords};
 ghost use Rattle.command_words.specs.Matches.{AreMatchWords};
 ghost use Rattle.cup_command.specs.Cup.{scene as cup_scene};
+ghost use Rattle.match_command.specs.Ends.{EndsRun};
 ghost use Rattle.match_command.specs.Match.{
   MatchRun,
   means,
@@ -15,7 +16,6 @@ ghost use Rattle.match_core.specs.Keeps.{IsSetup};
 ghost use Rattle.command_runs.specs.Runs.{RunsAs, side_of};
 ghost use Rattle.uhp_session.specs.Searches.{times};
 ghost use Rattle.hive_cli.specs.Run.{
-  Leaves,
   Never,
   PlaysEngines,
   RunOf,
@@ -156,7 +156,7 @@ fn matched<K: Sink, C: Clock, P: Spawner, G: Game + Drop>(
         (means (C.last clock.new) (C.readings clock.new) (P.engines spawner.new))) }
     ensures programs { StartsPrograms words.now result (P.engines spawner.old)
         (P.engines spawner.new) }
-    ensures leaves { Leaves result (K.write_faults output.old) (K.write_faults output.new)
+    ensures ends { EndsRun result (K.write_faults output.old) (K.write_faults output.new)
         (P.engines spawner.old) (P.engines spawner.new) }
 {
     let Ok(programs) = programs_of(alloc, words) else {
@@ -187,7 +187,7 @@ fn cupped<R: Threads + Sync, K: Sink, P: Spawner, G: Game + Send + Drop>(
     ensures run { PlaysEngines words.now setup result
         (cup_scene (K.written output.old) (P.engines spawner.old))
         (cup_scene (K.written output.new) (P.engines spawner.new)) }
-    ensures leaves { Leaves result (K.write_faults output.old) (K.write_faults output.new)
+    ensures ends { EndsRun result (K.write_faults output.old) (K.write_faults output.new)
         (P.engines spawner.old) (P.engines spawner.new) }
 {
     let Ok(engines) = engines_of(alloc, words) else {
