@@ -22,6 +22,7 @@ use Rattle.game_text.specs.declared.faults.GameFault.{GameFault}
 use Rattle.game_text.specs.declared.faults.GameFault.TheVariants.{Malformed, TooLong as TooManyPlies, BadMove, IllegalMove, OtherState, OtherTurn, Memory}
 use Rattle.game_text.specs.declared.parsed.Parsed.{Parsed}
 use Rattle.game_text.specs.Reading.{game_under}
+use Rattle.command_runs.specs.Reasons.{reason}
 use Rattle.uhp_words.specs.declared.command.Command.{Command}
 use Rattle.uhp_words.specs.declared.command.Command.TheVariants.{Info, NewGame, Play, Pass, ValidMoves, BestDepth, BestTime, Undo, Options, OptionGet, OptionSet, Exit}
 use Rattle.uhp_words.specs.declared.command.CommandFault.{CommandFault}
@@ -120,15 +121,20 @@ abbrev pub or_base : List ℕ → List ℕ
 or_base [] = codes "Base"
 or_base (b ∷ bs) = b ∷ bs
 
--- why a text is no game. (Want of memory is no fault of the text.)
+-- what stands before the reason why a text is no game: `err` and the number of the refusal. (Want of
+-- memory is no fault of the text.)
+abbrev pub before_reason : GameFault → List ℕ
+before_reason (Malformed part) = codes "err 4 "
+before_reason TooManyPlies = codes "err 11 "
+before_reason (BadMove number fault) = codes "err 6 "
+before_reason (IllegalMove number) = codes "err 6 "
+before_reason OtherState = codes "err 5 "
+before_reason OtherTurn = codes "err 5 "
+before_reason Memory = []
+
+-- the refusal of a text that is no game
 abbrev pub game_fault : GameFault → List ℕ
-game_fault (Malformed part) = codes "err 4 malformed part " ++ decimal part
-game_fault TooManyPlies = codes "err 11 too many plies"
-game_fault (BadMove number fault) = codes "err 6 illegal move " ++ decimal number
-game_fault (IllegalMove number) = codes "err 6 illegal move " ++ decimal number
-game_fault OtherState = codes "err 5 other state"
-game_fault OtherTurn = codes "err 5 other turn"
-game_fault Memory = []
+game_fault fault = before_reason fault ++ reason fault
 
 -- the value that the option Repetition has now is the game's rule from now on
 abbrev pub begin : State → Result Parsed GameFault → Answer

@@ -1,31 +1,40 @@
 //! Why a game string or a move is refused.
 
 ghost use Rattle.std.specs.Prelude.{◌≡◌, ◌≢◌, [], ◌∷◌, Some, codes, IfOk, OnOk};
-ghost use Rattle.uhp_session.specs.Answers.{text_of, ended, game_fault, move_fault};
+ghost use Rattle.uhp_session.specs.Answers.{text_of, ended, before_reason, game_fault, move_fault};
 
 use crate::lines::Reply;
-use crate::says::{close, say, say_number};
+use crate::says::{close, say};
+use command_runs::reason_of;
 use game_text::GameFault;
 use hive_model::ReplyText;
 use move_text::{MoveFault, piece_name};
 use std::alloc::{AllocError, Global};
 
-/// The fault of a text that is no game. Want of memory is no fault of the text, and is passed on.
+/// What stands before the reason why a text is no game: `err` and the number of the refusal.
+fn before_reason(fault: GameFault) -> &'static [u8]
+    ensures { result.now ≡ before_reason fault }
+{
+    match fault {
+        GameFault::Malformed { .. } => b"err 4 ",
+        GameFault::TooLong => b"err 11 ",
+        GameFault::BadMove { .. } | GameFault::IllegalMove { .. } => b"err 6 ",
+        GameFault::OtherState | GameFault::OtherTurn => b"err 5 ",
+        GameFault::Memory => b"",
+    }
+}
+
+/// The refusal of a text that is no game. Want of memory is no fault of the text, and is passed on.
 pub(crate) fn refuse_game(alloc: Global, fault: GameFault) -> Result<Reply, AllocError>
     ensures reply { IfOk result (λ r. text_of r
         ≡ Some (ended (game_fault fault ∷ (codes "ok" ∷ [])))) }
     ensures memory { OnOk result (fault ≢ GameFault.Memory) }
 {
-    match fault {
-        GameFault::Malformed { part } => say_number(alloc, b"err 4 malformed part ", part),
-        GameFault::TooLong => say(alloc, b"err 11 too many plies"),
-        GameFault::BadMove { number, .. } | GameFault::IllegalMove { number } => {
-            say_number(alloc, b"err 6 illegal move ", number)
-        }
-        GameFault::OtherState => say(alloc, b"err 5 other state"),
-        GameFault::OtherTurn => say(alloc, b"err 5 other turn"),
-        GameFault::Memory => Err(AllocError),
-    }
+    let why = reason_of(alloc, fault)?;
+    let mut text = ReplyText::new(alloc);
+    text.push_all(before_reason(fault))?;
+    text.push_all(why.items())?;
+    close(text)
 }
 
 /// The fault of a text that is no move on the board.

@@ -1,11 +1,10 @@
 //! Replies of a line and the line `ok`.
 
-ghost use Rattle.std.specs.Prelude.{◌≡◌, [], ◌∷◌, ◌++◌, Some, codes, decimal, IfOk};
+ghost use Rattle.std.specs.Prelude.{◌≡◌, [], ◌∷◌, ◌++◌, Some, codes, IfOk};
 ghost use Rattle.uhp_session.specs.Answers.{text_of, ended};
 
 use crate::lines::Reply;
 use hive_model::ReplyText;
-use itoa::Buffer;
 use std::alloc::{AllocError, Global};
 
 /// Ends the last line of the text, and adds the line `ok`.
@@ -23,17 +22,5 @@ pub(crate) fn say(alloc: Global, line: &[u8]) -> Result<Reply, AllocError>
 {
     let mut text = ReplyText::new(alloc);
     text.push_all(line)?;
-    close(text)
-}
-
-/// The line that begins so and ends with the number, and `ok`.
-pub(crate) fn say_number(alloc: Global, start: &[u8], number: u32) -> Result<Reply, AllocError>
-    ensures { IfOk result (λ r. text_of r ≡ Some
-        (ended ((start.now ++ decimal number) ∷ (codes "ok" ∷ [])))) }
-{
-    let mut text = ReplyText::new(alloc);
-    text.push_all(start)?;
-    let mut buffer = Buffer::new();
-    text.push_all(buffer.format(number).as_bytes())?;
     close(text)
 }
