@@ -15,7 +15,8 @@ use Rattle.hive_model.proofs.NearLaws.{with_place_on, on_with_place}
 use Rattle.hive_model.proofs.GetLemmas.{get_within, get_exists, get_in_front, on-at}
 use Rattle.bug_moves.specs.Adding.{Gains}
 use Rattle.bug_moves.proofs.AtHive.{at_hive_within}
-use Rattle.bug_moves.specs.Walks.{StepAway, AntWay, IsWorklist, Begins, IsExpanded}
+use Rattle.bug_moves.specs.Walks.{AntWay, IsWorklist, Begins, IsExpanded}
+use Rattle.bug_moves.specs.Ways.{StepAway}
 
 -- A new place
 

@@ -12,7 +12,7 @@ use Rattle.hive_model.specs.Near.{with_place}
 use Rattle.hive_model.proofs.NearLaws.{rises_with, with_place_on, on_with_place}
 use Rattle.hive_model.proofs.CountLaws.{touched_few}
 use Rattle.bug_moves.specs.Adding.{IsAtHive, IsAround, Gains, dir_at, InFirst}
-use Rattle.bug_moves.specs.Ways.{Toward}
+use Rattle.bug_moves.specs.Ways.{Toward, InSome, Onward}
 
 -- One place
 
@@ -56,6 +56,15 @@ gains_no_step b S p d to xs h leads there = gains_nothing b (Toward S p d) xs h 
     let e : to ≡ q = leads ∙ same in
     subst (IsOn xs) e (there (subst (S p) (sym e) is)))
 
+-- a step in one direction, and then the way on from where it leads
+pub onward_at : (S : Place → Type 0) (T : Place → Dir → Place → Type 0) (p : Place) (d : Dir) (to q : Place) → to ≡ step p d → S to → InSome (T to) q → Onward S T p d q
+onward_at S T p d to q leads here on = subst (λ (x : Place). S x × InSome (T x) q) leads (here, on)
+
+pub gains_onward : (b : Stacks) (S : Place → Type 0) (T : Place → Dir → Place → Type 0) (p : Place) (d : Dir) (to : Place) (xs ys : List Place) → to ≡ step p d → S to → Gains b (InSome (T to)) xs ys → Gains b (Onward S T p d) xs ys
+gains_onward b S T p d to xs ys leads here = gains_same b (Onward S T p d) (InSome (T to)) xs ys
+    (λ q (_, on). subst (λ (x : Place). InSome (T x) q) (sym leads) on)
+    (λ q on. onward_at S T p d to q leads here on)
+
 -- One thing of a row after another
 
 pub gains_turn : (b : Stacks) (P : ℕ → Place → Type 0) (n : ℕ) (xs ys zs : List Place)
@@ -89,20 +98,17 @@ index_of W = let low : 3 < 6 = omega arith in (3, low, refl)
 index_of SW = let low : 4 < 6 = omega arith in (4, low, refl)
 index_of SE = let low : 5 < 6 = omega arith in (5, low, refl)
 
-pub gains_all : (b : Stacks) (P : Dir → Place → Type 0) (S : Place → Type 0) (n : ℕ) (xs ys : List Place) → 6 ≤ n → ((d : Dir) (q : Place) → P d q → S q) → ((q : Place) → S q → (d : Dir) × P d q) → Gains b (InFirst n P) xs ys → Gains b S xs ys
-gains_all b P S n xs ys all there back h = record {
-  list = h.list;
-  kept = h.kept;
-  gained = λ q is.
-      let (d, toward) = back q is in
-      let (k, low, same) = index_of d in
-      let within : k < n = omega (arith, low, all) in
-      h.gained q (k, within, subst (λ (e : Dir). P e q) (sym same) toward);
-  only = λ q on. elim (h.only q on) [ inl old ↦ inl old | inr (k, low, is) ↦ inr (there (dir_at k) q is) ];
-}
+pub gains_all : (b : Stacks) (P : Dir → Place → Type 0) (n : ℕ) (xs ys : List Place) → 6 ≤ n → Gains b (InFirst n P) xs ys → Gains b (InSome P) xs ys
+gains_all b P n xs ys all = gains_same b (InSome P) (InFirst n P) xs ys
+    (λ q (d, is).
+    let (k, low, same) = index_of d in
+    let within : k < n = omega (arith, low, all) in
+    (k, within, subst (λ (e : Dir). P e q) (sym same) is))
+    (λ q (k, _, is). (dir_at k, is))
 
 pub gains_ways : (b : Stacks) (S : Place → Place → Type 0) (p : Place) (n : ℕ) (xs ys : List Place) → 6 ≤ n → ((q : Place) → S p q → (d : Dir) × (step p d ≡ q)) → Gains b (InFirst n (Toward S p)) xs ys → Gains b (S p) xs ys
-gains_ways b S p n xs ys all leads h = gains_all b (Toward S p) (S p) n xs ys all (λ d q (_, is). is) (λ q is. let (d, same) = leads q is in (d, (same, is))) h
+gains_ways b S p n xs ys all leads h = gains_same b (S p) (InSome (Toward S p)) xs ys
+    (λ q is. let (d, same) = leads q is in (d, (same, is))) (λ q (_, (_, is)). is) (gains_all b (Toward S p) n xs ys all h)
 
 -- a list that was empty has what it gained
 pub gained_all : (b : Stacks) (S : Place → Type 0) (xs ys : List Place) → xs ≡ [] → Gains b S xs ys → AreAll S ys

@@ -1,19 +1,20 @@
 -- A list that gained what a kind's ways lead to is its reach.
-use Rattle.std.proofs.Common.{◌≡◌, List, [], ◌⊎◌, inl, inr, sym, subst}
+use Rattle.std.proofs.Common.{◌≡◌, ◌≢◌, List, [], ◌⊎◌, inl, inr, sym, subst}
 use Rattle.hive_model.specs.declared.pieces.Kind.{Kind}
 use Rattle.hive_model.specs.declared.pieces.Kind.TheVariants.{Queen, Beetle, Grasshopper, Pillbug, Spider, Ant, Ladybug}
 use Rattle.hive_model.specs.declared.places.Place.{Place}
 use Rattle.hive_model.specs.PlaceLists.{AreAll}
 use Rattle.hive_model.specs.Boards.{Stacks}
-use Rattle.hive_model.specs.Reach.{Reach, Hop, ThreeSteps}
+use Rattle.hive_model.specs.Reach.{Reach}
 use Rattle.hive_model.specs.Steps.{GroundStep}
 use Rattle.bug_moves.specs.Adding.{Gains}
-use Rattle.bug_moves.specs.Ways.{BeetleStep, OverTwoAway}
+use Rattle.bug_moves.specs.Ways.{Toward, BeetleStep, HopAlong, InSome, FirstToward, UpToward}
 use Rattle.bug_moves.specs.Walks.{AntWay}
 use Rattle.hive_model.proofs.PlaceListLaws.{all_same}
 use Rattle.hive_model.proofs.ReachLaws.{ground_moves}
 use Rattle.bug_moves.proofs.AtHive.{climb_moves}
-use Rattle.bug_moves.proofs.HopLaws.{hop_moves}
+use Rattle.bug_moves.proofs.HopLaws.{hop_moves, hop_along, along_hop}
+use Rattle.bug_moves.proofs.WayLaws.{three_from_first, first_from_three, over_from_up, up_from_over}
 use Rattle.bug_moves.proofs.Gaining.{gained_all}
 
 -- a list that was empty has what a kind reaches where it gained what its ways lead to, and they lead where it reaches
@@ -22,24 +23,33 @@ reach_listed : (k j : Kind) (b : Stacks) (p : Place) (S : Place → Type 0) (xs 
 reach_listed k j b p S xs ys is none h there back =
     subst (λ i. AreAll (Reach i b p) ys) (sym is) (all_same S (Reach j b p) ys (λ q. (there q, back q)) (gained_all b S xs ys none h))
 
-pub queens : (k : Kind) (b : Stacks) (p : Place) (xs ys : List Place) → (k ≡ Queen) ⊎ (k ≡ Pillbug) → xs ≡ [] → Gains b (GroundStep b p) xs ys → AreAll (Reach k b p) ys
+slides : (b : Stacks) (p q : Place) → InSome (Toward (GroundStep b) p) q → (p ≢ q) × GroundStep b p q
+slides b p q (_, (_, s)) = (ground_moves b p q s, s)
+
+slid : (b : Stacks) (p q : Place) → (p ≢ q) × GroundStep b p q → InSome (Toward (GroundStep b) p) q
+slid b p q (_, s) = (s.dir, (s.leads, s))
+
+pub queens : (k : Kind) (b : Stacks) (p : Place) (xs ys : List Place) → (k ≡ Queen) ⊎ (k ≡ Pillbug) → xs ≡ [] → Gains b (InSome (Toward (GroundStep b) p)) xs ys → AreAll (Reach k b p) ys
 queens k b p xs ys is none h = elim is [
-  | inl e ↦ reach_listed k Queen b p (GroundStep b p) xs ys e none h (λ q s. (ground_moves b p q s, s)) (λ q r. r.1)
-  | inr e ↦ reach_listed k Pillbug b p (GroundStep b p) xs ys e none h (λ q s. (ground_moves b p q s, s)) (λ q r. r.1)
+  | inl e ↦ reach_listed k Queen b p (InSome (Toward (GroundStep b) p)) xs ys e none h (slides b p) (slid b p)
+  | inr e ↦ reach_listed k Pillbug b p (InSome (Toward (GroundStep b) p)) xs ys e none h (slides b p) (slid b p)
 ]
 
-pub beetles : (k : Kind) (b : Stacks) (p : Place) (xs ys : List Place) → k ≡ Beetle → xs ≡ [] → Gains b (BeetleStep b p) xs ys → AreAll (Reach k b p) ys
-beetles k b p xs ys e none h = reach_listed k Beetle b p (BeetleStep b p) xs ys e none h
-    (λ q s. ((λ same. elim s [ inl g ↦ ground_moves b p q g same | inr c ↦ climb_moves b p q c same ]), s)) (λ q r. r.1)
+pub beetles : (k : Kind) (b : Stacks) (p : Place) (xs ys : List Place) → k ≡ Beetle → xs ≡ [] → Gains b (InSome (Toward (BeetleStep b) p)) xs ys → AreAll (Reach k b p) ys
+beetles k b p xs ys e none h = reach_listed k Beetle b p (InSome (Toward (BeetleStep b) p)) xs ys e none h
+    (λ q (_, (_, s)). ((λ same. elim s [ inl g ↦ ground_moves b p q g same | inr c ↦ climb_moves b p q c same ]), s))
+    (λ q (_, s). elim s [ inl g ↦ (g.dir, (g.leads, inl g)) | inr c ↦ (c.dir, (c.leads, inr c)) ])
 
-pub hoppers : (k : Kind) (b : Stacks) (p : Place) (xs ys : List Place) → k ≡ Grasshopper → xs ≡ [] → Gains b (Hop b p) xs ys → AreAll (Reach k b p) ys
-hoppers k b p xs ys e none h = reach_listed k Grasshopper b p (Hop b p) xs ys e none h (λ q s. (hop_moves b p q s, s)) (λ q r. r.1)
+pub hoppers : (k : Kind) (b : Stacks) (p : Place) (xs ys : List Place) → k ≡ Grasshopper → xs ≡ [] → Gains b (InSome (HopAlong b p)) xs ys → AreAll (Reach k b p) ys
+hoppers k b p xs ys e none h = reach_listed k Grasshopper b p (InSome (HopAlong b p)) xs ys e none h
+    (λ q (d, s). let hop = hop_along b p d q s in (hop_moves b p q hop, hop)) (λ q (_, r). along_hop b p q r)
 
-pub spiders : (k : Kind) (b : Stacks) (p : Place) (xs ys : List Place) → k ≡ Spider → xs ≡ [] → Gains b (ThreeSteps b p) xs ys → AreAll (Reach k b p) ys
-spiders k b p xs ys e none h = reach_listed k Spider b p (ThreeSteps b p) xs ys e none h (λ q s. (s.apart.2, s)) (λ q r. r.1)
+pub spiders : (k : Kind) (b : Stacks) (p : Place) (xs ys : List Place) → k ≡ Spider → xs ≡ [] → Gains b (InSome (FirstToward b p)) xs ys → AreAll (Reach k b p) ys
+spiders k b p xs ys e none h = reach_listed k Spider b p (InSome (FirstToward b p)) xs ys e none h
+    (λ q s. let three = three_from_first b p q s in (three.apart.2, three)) (λ q (_, r). first_from_three b p q r)
 
 pub ants : (k : Kind) (b : Stacks) (p : Place) (xs ys : List Place) → k ≡ Ant → xs ≡ [] → Gains b (AntWay b p) xs ys → AreAll (Reach k b p) ys
 ants k b p xs ys e none h = reach_listed k Ant b p (AntWay b p) xs ys e none h (λ q s. s) (λ q r. r)
 
-pub ladybugs : (k : Kind) (b : Stacks) (p : Place) (xs ys : List Place) → k ≡ Ladybug → xs ≡ [] → Gains b (OverTwoAway b p) xs ys → AreAll (Reach k b p) ys
-ladybugs k b p xs ys e none h = reach_listed k Ladybug b p (OverTwoAway b p) xs ys e none h (λ q s. s) (λ q r. r)
+pub ladybugs : (k : Kind) (b : Stacks) (p : Place) (xs ys : List Place) → k ≡ Ladybug → xs ≡ [] → Gains b (InSome (UpToward b p)) xs ys → AreAll (Reach k b p) ys
+ladybugs k b p xs ys e none h = reach_listed k Ladybug b p (InSome (UpToward b p)) xs ys e none h (over_from_up b p) (up_from_over b p)

@@ -6,11 +6,7 @@ use Rattle.hive_model.specs.Lists.{IsOn, IsPath}
 use Rattle.hive_model.specs.Boards.{Stacks}
 use Rattle.hive_model.specs.Steps.{GroundStep}
 use Rattle.bug_moves.specs.Adding.{IsAround}
-use Rattle.bug_moves.specs.Ways.{Toward}
-
--- a step on the ground that does not lead back to s
-abbrev pub StepAway : Stacks → Place → Place → Place → Type 0
-StepAway b s p q = (s ≢ q) × GroundStep b p q
+use Rattle.bug_moves.specs.Ways.{Toward, StepAway}
 
 abbrev pub StepAwayToward : Stacks → Place → Place → Dir → Place → Type 0
 StepAwayToward b s = Toward (StepAway b s)

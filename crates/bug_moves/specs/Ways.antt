@@ -11,6 +11,10 @@ use Rattle.hive_model.specs.Reach.{OverTwo}
 abbrev pub Toward : (Place → Place → Type 0) → Place → Dir → Place → Type 0
 Toward S p d q = (step p d ≡ q) × S p q
 
+-- a step on the ground that does not lead back to s
+abbrev pub StepAway : Stacks → Place → Place → Place → Type 0
+StepAway b s p q = (s ≢ q) × GroundStep b p q
+
 -- a step of a beetle
 abbrev pub BeetleStep : Stacks → Place → Place → Type 0
 BeetleStep b p q = GroundStep b p q ⊎ ClimbingStep b p q
@@ -23,6 +27,14 @@ pub record HopAlong (b : Stacks) (p : Place) (d : Dir) (q : Place) : Type 0 wher
   pub empty : height_at b q ≡ 0
   pub over : (k : ℕ) → 0 < k → k < far → IsTrue (is_occupied b (steps k p d))
 
+-- a way that may begin in any direction
+abbrev pub InSome : (Dir → Place → Type 0) → Place → Type 0
+InSome P q = (d : Dir) × P d q
+
+-- a step in one direction to a place that meets S, and the way on from there
+abbrev pub Onward : (Place → Type 0) → (Place → Dir → Place → Type 0) → Place → Dir → Place → Type 0
+Onward S T p d q = S (step p d) × InSome (T (step p d)) q
+
 -- The last step of a spider that began at s and made its first step to x: it does not go back to
 -- either.
 abbrev pub ThirdStep : Stacks → Place → Place → Place → Place → Type 0
@@ -33,14 +45,11 @@ ThirdToward b s x = Toward (ThirdStep b s x)
 
 -- a spider's second step in one direction, and the third
 abbrev pub SecondToward : Stacks → Place → Place → Dir → Place → Type 0
-SecondToward b s x d q = GroundStep b x (step x d) × (s ≢ step x d) × ThirdStep b s x (step x d) q
-
-abbrev pub SecondStep : Stacks → Place → Place → Place → Type 0
-SecondStep b s x q = (d : Dir) × SecondToward b s x d q
+SecondToward b s x = Onward (StepAway b s x) (ThirdToward b s x) x
 
 -- a spider's first step in one direction, and the others
 abbrev pub FirstToward : Stacks → Place → Dir → Place → Type 0
-FirstToward b s d q = GroundStep b s (step s d) × SecondStep b s (step s d) q
+FirstToward b s = Onward (GroundStep b s) (SecondToward b s) s
 
 -- a step of a ladybug up or along
 abbrev pub OnTop : Stacks → Place → Place → Type 0
@@ -55,14 +64,11 @@ DownToward b s = Toward (StepDown b s)
 
 -- a ladybug's second step in one direction, and the third
 abbrev pub AlongToward : Stacks → Place → Place → Dir → Place → Type 0
-AlongToward b s x d q = OnTop b x (step x d) × StepDown b s (step x d) q
-
-abbrev pub StepAlong : Stacks → Place → Place → Place → Type 0
-StepAlong b s x q = (d : Dir) × AlongToward b s x d q
+AlongToward b s x = Onward (OnTop b x) (DownToward b s) x
 
 -- a ladybug's first step in one direction, and the others
 abbrev pub UpToward : Stacks → Place → Dir → Place → Type 0
-UpToward b s d q = OnTop b s (step s d) × StepAlong b s (step s d) q
+UpToward b s = Onward (OnTop b s) (AlongToward b s) s
 
 -- a ladybug's way to another place
 abbrev pub OverTwoAway : Stacks → Place → Place → Type 0

@@ -1,39 +1,27 @@
 //! The hops of a grasshopper.
 
-ghost use Rattle.hive_model.specs.Places.{IsWithin};
-ghost use Rattle.hive_model.specs.Reach.{Hop};
-ghost use Rattle.bug_moves.specs.Adding.{IsAround, Gains};
 ghost use Rattle.bug_moves.specs.Ways.{HopAlong};
 
+use crate::ways::Way;
 use hive_model::{Board, Dir, Place, PlaceList, add_place, is_occupied};
 
-/// Adds the empty place behind a row of pieces that begins at the neighbour in a direction, if a
-/// piece stands there.
-fn add_hop<B: Board>(board: &B, from: Place, dir: Dir, out: &mut PlaceList)
-    requires within { IsWithin 9500 from }
-    requires list { IsAround (B.stacks board.now) out.old.items }
-    ensures { Gains (B.stacks board.now) (HopAlong (B.stacks board.now) from dir) out.old.items
-        out.new.items }
-{
-    let mut place = from.step(dir);
-    let mut over = 0u16;
-    'row: while is_occupied(board, place) {
-        place = place.step(dir);
-        over += 1;
-    }
-    if over > 0 {
-        add_place(out, place);
-    }
-}
+/// A hop to the empty place behind a row of pieces that begins at the neighbour, if a piece stands
+/// there.
+#[derive(Clone, Copy)]
+pub struct OverRow;
 
-/// Adds where a grasshopper comes down.
-pub fn hops<B: Board>(board: &B, from: Place, out: &mut PlaceList)
-    requires within { IsWithin 9500 from }
-    requires list { IsAround (B.stacks board.now) out.old.items }
-    ensures { Gains (B.stacks board.now) (Hop (B.stacks board.now) from) out.old.items
-        out.new.items }
-{
-    for dir in Dir::ALL {
-        add_hop(board, from, dir, out);
+impl Way for OverRow {
+    ghost toward = { λ _ b p. HopAlong b p };
+
+    fn add<B: Board>(&self, board: &B, from: Place, dir: Dir, out: &mut PlaceList) {
+        let mut place = from.step(dir);
+        let mut over = 0u16;
+        'row: while is_occupied(board, place) {
+            place = place.step(dir);
+            over += 1;
+        }
+        if over > 0 {
+            add_place(out, place);
+        }
     }
 }

@@ -9,6 +9,7 @@ mod hops;
 mod ladybugs;
 mod spiders;
 mod steps;
+mod ways;
 
 ghost use Rattle.std.specs.Prelude.{◌≡◌, ◌≢◌, ◌<◌, []};
 ghost use Rattle.hive_model.specs.declared.pieces.Kind.{Kind};
@@ -17,6 +18,12 @@ ghost use Rattle.hive_model.specs.PlaceLists.{AreAll};
 ghost use Rattle.hive_model.specs.Places.{IsWithin};
 ghost use Rattle.hive_model.specs.Reach.{Reach};
 
+use crate::ants::ant_ways;
+use crate::hops::OverRow;
+use crate::ladybugs::{Climb, Down};
+use crate::spiders::First;
+use crate::steps::{Creep, Slide};
+use crate::ways::add_ways;
 use hive_model::{Board, Kind, Piece, Place, PlaceList};
 
 /// The places that a bug of this kind reaches from a place, by q and then by r.
@@ -34,12 +41,16 @@ pub fn reach<B: Board>(kind: Kind, board: &B, from: Place, out: &mut PlaceList)
     // each board that answers where a piece stands is sound
     let _spot = board.spot(Piece::at(0));
     match kind {
-        Kind::Queen | Kind::Pillbug => steps::ground_steps(board, from, out),
-        Kind::Beetle => steps::beetle_steps(board, from, out),
-        Kind::Grasshopper => hops::hops(board, from, out),
-        Kind::Ant => ants::ant_ways(board, from, out),
-        Kind::Spider => spiders::spider_ways(board, from, out),
-        Kind::Ladybug => ladybugs::ladybug_ways(board, from, out),
+        Kind::Queen | Kind::Pillbug => add_ways(&Slide, board, from, out),
+        Kind::Beetle => add_ways(&Creep, board, from, out),
+        Kind::Grasshopper => add_ways(&OverRow, board, from, out),
+        Kind::Ant => ant_ways(board, from, out),
+        Kind::Spider => add_ways(&First, board, from, out),
+        Kind::Ladybug => {
+            let down = Down { start: from };
+            let along = Climb { then: down };
+            add_ways(&Climb { then: along }, board, from, out);
+        }
         Kind::Mosquito => {}
     }
 }

@@ -4,9 +4,9 @@ ghost use Rattle.std.specs.Prelude.{◌≡◌, ◌↔◌, IsTrue};
 ghost use Rattle.hive_model.specs.Boards.{is_occupied};
 ghost use Rattle.hive_model.specs.Places.{AreNeighbours, IsWithin};
 ghost use Rattle.hive_model.specs.Steps.{GroundStep, ClimbingStep};
-ghost use Rattle.bug_moves.specs.Adding.{IsAround, Gains};
 ghost use Rattle.bug_moves.specs.Ways.{Toward, BeetleStep};
 
+use crate::ways::Way;
 use gates::{climb_ok, slide_ok, slide_toward};
 use hive_model::{Board, Dir, Place, PlaceList, add_place, is_occupied};
 
@@ -29,50 +29,32 @@ fn may_creep<B: Board>(board: &B, from: Place, to: Place) -> bool
     slide_ok(board, from, to) || may_climb(board, from, to)
 }
 
-fn add_ground_step<B: Board>(board: &B, from: Place, dir: Dir, out: &mut PlaceList)
-    requires within { IsWithin 9500 from }
-    requires list { IsAround (B.stacks board.now) out.old.items }
-    ensures { Gains (B.stacks board.now) (Toward (GroundStep (B.stacks board.now)) from dir)
-        out.old.items out.new.items }
-{
-    let to = from.step(dir);
-    if slide_toward(board, from, dir, to) {
-        add_place(out, to);
+/// One step on the ground.
+#[derive(Clone, Copy)]
+pub struct Slide;
+
+impl Way for Slide {
+    ghost toward = { λ _ b. Toward (GroundStep b) };
+
+    fn add<B: Board>(&self, board: &B, from: Place, dir: Dir, out: &mut PlaceList) {
+        let to = from.step(dir);
+        if slide_toward(board, from, dir, to) {
+            add_place(out, to);
+        }
     }
 }
 
-/// Adds where one step on the ground leads.
-pub fn ground_steps<B: Board>(board: &B, from: Place, out: &mut PlaceList)
-    requires within { IsWithin 9500 from }
-    requires list { IsAround (B.stacks board.now) out.old.items }
-    ensures { Gains (B.stacks board.now) (GroundStep (B.stacks board.now) from) out.old.items
-        out.new.items }
-{
-    for dir in Dir::ALL {
-        add_ground_step(board, from, dir, out);
-    }
-}
+/// One step of a beetle.
+#[derive(Clone, Copy)]
+pub struct Creep;
 
-fn add_beetle_step<B: Board>(board: &B, from: Place, dir: Dir, out: &mut PlaceList)
-    requires within { IsWithin 9500 from }
-    requires list { IsAround (B.stacks board.now) out.old.items }
-    ensures { Gains (B.stacks board.now) (Toward (BeetleStep (B.stacks board.now)) from dir)
-        out.old.items out.new.items }
-{
-    let place = from.step(dir);
-    if may_creep(board, from, place) {
-        add_place(out, place);
-    }
-}
+impl Way for Creep {
+    ghost toward = { λ _ b. Toward (BeetleStep b) };
 
-/// Adds where one step of a beetle leads.
-pub fn beetle_steps<B: Board>(board: &B, from: Place, out: &mut PlaceList)
-    requires within { IsWithin 9500 from }
-    requires list { IsAround (B.stacks board.now) out.old.items }
-    ensures { Gains (B.stacks board.now) (BeetleStep (B.stacks board.now) from) out.old.items
-        out.new.items }
-{
-    for dir in Dir::ALL {
-        add_beetle_step(board, from, dir, out);
+    fn add<B: Board>(&self, board: &B, from: Place, dir: Dir, out: &mut PlaceList) {
+        let place = from.step(dir);
+        if may_creep(board, from, place) {
+            add_place(out, place);
+        }
     }
 }

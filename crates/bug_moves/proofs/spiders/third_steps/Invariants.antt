@@ -1,6 +1,0 @@
-use Rattle.bug_moves.specs.Ways.{ThirdToward}
-use Rattle.bug_moves.specs.Adding.{Gains, InFirst}
-use Rattle.bug_moves.proofs.spiders.third_steps.Given as goal
-
-abbrev pub invariant-loop-dir : goal.invariant-loop-dir
-invariant-loop-dir g l = Gains (g.B.Board.stacks l.board) (InFirst l.dir-index (ThirdToward (g.B.Board.stacks l.board) l.start l.first l.second)) l.initial.out.items l.out.items

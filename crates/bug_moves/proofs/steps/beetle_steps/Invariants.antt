@@ -1,6 +1,0 @@
-use Rattle.bug_moves.specs.Ways.{Toward, BeetleStep}
-use Rattle.bug_moves.specs.Adding.{Gains, InFirst}
-use Rattle.bug_moves.proofs.steps.beetle_steps.Given as goal
-
-abbrev pub invariant-loop-dir : goal.invariant-loop-dir
-invariant-loop-dir g l = Gains (g.B.Board.stacks l.board) (InFirst l.dir-index (Toward (BeetleStep (g.B.Board.stacks l.board)) l.from)) l.initial.out.items l.out.items

@@ -1,0 +1,35 @@
+//! Ways that may begin in any of the six directions.
+
+ghost use Rattle.hive_model.specs.declared.places.Dir.{Dir};
+ghost use Rattle.hive_model.specs.declared.places.Place.{Place};
+ghost use Rattle.hive_model.specs.Boards.{Stacks};
+ghost use Rattle.hive_model.specs.Places.{IsWithin};
+ghost use Rattle.bug_moves.specs.Adding.{IsAround, Gains};
+ghost use Rattle.bug_moves.specs.Ways.{InSome};
+
+use hive_model::{Board, Dir, Place, PlaceList};
+
+/// A way of a bug, or the rest of one.
+pub trait Way {
+    /// Where it leads from a place if it begins in this direction.
+    ghost toward: { Self → Stacks → Place → Dir → Place → Type 0 };
+
+    /// Adds where it leads if it begins in this direction.
+    fn add<B: Board>(&self, board: &B, from: Place, dir: Dir, out: &mut PlaceList)
+        requires within { IsWithin 9500 from }
+        requires list { IsAround (B.stacks board.now) out.old.items }
+        ensures { Gains (B.stacks board.now) (toward self.now (B.stacks board.now) from dir)
+            out.old.items out.new.items };
+}
+
+/// Adds where a way leads, in whatever direction it begins.
+pub fn add_ways<W: Way, B: Board>(way: &W, board: &B, from: Place, out: &mut PlaceList)
+    requires within { IsWithin 9500 from }
+    requires list { IsAround (B.stacks board.now) out.old.items }
+    ensures { Gains (B.stacks board.now)
+        (InSome (W.toward way.now (B.stacks board.now) from)) out.old.items out.new.items }
+{
+    for dir in Dir::ALL {
+        way.add(board, from, dir, out);
+    }
+}
