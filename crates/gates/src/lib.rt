@@ -40,19 +40,9 @@ fn is_beside_one<B: Board>(board: &B, from: Place, dir: Dir) -> bool
     before != after
 }
 
-/// Whether the step is a ground step.
+/// Whether the step is a ground step. The place that it leads to is asked first: it is often taken.
 #[tactic(auto, using(hive_model::proofs::PlaceLemmas::wider))]
-fn is_ground<B: Board>(board: &B, from: Place, dir: Dir) -> bool
-    requires { IsWithin 9500 from }
-    ensures { result ≡ ground_at (B.stacks board.now) from dir }
-{
-    board.height(from) == 0 && board.height(from.step(dir)) == 0 && is_beside_one(board, from, dir)
-}
-
-/// The same, where the place that the step leads to is at hand. It is asked first: it is often
-/// taken.
-#[tactic(auto, using(hive_model::proofs::PlaceLemmas::wider))]
-fn is_ground_toward<B: Board>(board: &B, from: Place, dir: Dir, to: Place) -> bool
+fn is_ground<B: Board>(board: &B, from: Place, dir: Dir, to: Place) -> bool
     requires leads { to ≡ step from dir }
     requires within { IsWithin 9500 from }
     ensures { result ≡ ground_at (B.stacks board.now) from dir }
@@ -77,7 +67,7 @@ pub fn slide_toward<B: Board>(board: &B, from: Place, dir: Dir, to: Place) -> bo
     requires within { IsWithin 9500 from }
     ensures { IsTrue result ↔ GroundStep (B.stacks board.now) from to }
 {
-    is_ground_toward(board, from, dir, to)
+    is_ground(board, from, dir, to)
 }
 
 #[tactic(auto, using(hive_model::proofs::PlaceLemmas::wider))]
@@ -88,7 +78,7 @@ fn ground_to<B: Board>(board: &B, from: Place, to: Place) -> bool
     Dir::ALL.iter().any(
         |d| -> bool
             requires { IsWithin 9500 from }
-        { from.step(*d).is(to) && is_ground(board, from, *d) },
+        { from.step(*d).is(to) && is_ground(board, from, *d, from.step(*d)) },
     )
 }
 
