@@ -4,8 +4,9 @@ use Rattle.std.specs.Prelude.{Some, slice_get}
 use Rattle.std.proofs.lemmas.Bool.{cases_eq}
 use Rattle.std.specs.declared.cmp.Ordering.TheVariants.{Less, Equal, Greater}
 use Rattle.hive_model.specs.declared.places.Place.{Place}
+use Rattle.hive_model.specs.declared.places.Dir.{Dir}
 use Rattle.hive_model.specs.Lists.{IsOn, IsPath}
-use Rattle.hive_model.specs.Places.{place_cmp, IsWithin}
+use Rattle.hive_model.specs.Places.{place_cmp, step, IsWithin}
 use Rattle.hive_model.specs.Boards.{Stacks}
 use Rattle.hive_model.specs.Near.{placed_by, with_place}
 use Rattle.hive_model.specs.Steps.{GroundStep}
@@ -13,9 +14,10 @@ use Rattle.hive_model.proofs.PlaceLemmas.{exact_places, cases_place}
 use Rattle.hive_model.proofs.Floods.{on_append, append_left, append_right}
 use Rattle.hive_model.proofs.NearLaws.{with_place_on, on_with_place}
 use Rattle.hive_model.proofs.GetLemmas.{get_within, get_exists, get_in_front, on-at}
-use Rattle.bug_moves.specs.Adding.{Gains}
-use Rattle.bug_moves.proofs.AtHive.{at_hive_within}
-use Rattle.bug_moves.specs.Walks.{AntWay, IsWorklist, Begins, IsExpanded}
+use Rattle.bug_moves.specs.Adding.{IsAround, Gains}
+use Rattle.bug_moves.proofs.Gaining.{gains_toward}
+use Rattle.bug_moves.proofs.AtHive.{ground_at_hive, at_hive_within}
+use Rattle.bug_moves.specs.Walks.{StepAwayToward, AntWay, IsWorklist, Begins, IsExpanded}
 use Rattle.bug_moves.specs.Ways.{StepAway}
 
 -- A new place
@@ -53,6 +55,10 @@ room_to_push p found work n h new room = let one = length_with p found new in le
 
 pub begins_with : (p : Place) (work new_work : List Place) → new_work ≡ work ++ p ∷ [] → Begins work new_work
 begins_with p work new_work w k q at = subst (λ xs. slice_get xs k ≡ Some q) (sym w) (get_in_front work (p ∷ []) k q at)
+
+-- a list gains the place of a step that leads away from s
+pub gains_away : (b : Stacks) (s p : Place) (d : Dir) (to : Place) (xs ys : List Place) → IsAround b xs → to ≡ step p d → ys ≡ with_place to xs → StepAway b s p to → Gains b (StepAwayToward b s p d) xs ys
+gains_away b s p d to xs ys h leads made is = gains_toward b (StepAway b s) p d to xs ys h (ground_at_hive b p to is.1) leads made is
 
 -- Steps from one place after another
 

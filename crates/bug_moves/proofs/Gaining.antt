@@ -6,11 +6,13 @@ use Rattle.hive_model.specs.declared.places.Dir.{Dir}
 use Rattle.hive_model.specs.declared.places.Dir.TheVariants.{E, NE, NW, W, SW, SE}
 use Rattle.hive_model.specs.Lists.{IsOn}
 use Rattle.hive_model.specs.PlaceLists.{AreAll}
-use Rattle.hive_model.specs.Places.{step}
+use Rattle.hive_model.specs.Places.{step, IsWithin}
 use Rattle.hive_model.specs.Boards.{Stacks}
+use Rattle.hive_model.specs.Steps.{GroundStep, ClimbingStep}
 use Rattle.hive_model.specs.Near.{with_place}
 use Rattle.hive_model.proofs.NearLaws.{rises_with, with_place_on, on_with_place}
 use Rattle.hive_model.proofs.CountLaws.{touched_few}
+use Rattle.bug_moves.proofs.AtHive.{ground_at_hive, climb_at_hive, at_hive_within}
 use Rattle.bug_moves.specs.Adding.{IsAtHive, IsAround, Gains, dir_at, InFirst}
 use Rattle.bug_moves.specs.Ways.{Toward, InSome, Onward}
 
@@ -26,6 +28,19 @@ around_with b p xs h near = record {
 -- there is room for one more place at the hive
 pub room_for : (b : Stacks) (p : Place) (xs : List Place) → IsAround b xs → IsAtHive b p → length (with_place p xs) ≤ 196
 room_for b p xs h near = let all = around_with b p xs h near in touched_few b h.sound (with_place p xs) all.in_order all.near
+
+-- where a step leads there is room for one more place, and a step on from there is within bounds
+pub ground_room : (b : Stacks) (p q : Place) (xs : List Place) → IsAround b xs → GroundStep b p q → length (with_place q xs) ≤ 196
+ground_room b p q xs h ground = room_for b q xs h (ground_at_hive b p q ground)
+
+pub climb_room : (b : Stacks) (p q : Place) (xs : List Place) → IsAround b xs → ClimbingStep b p q → length (with_place q xs) ≤ 196
+climb_room b p q xs h climb = room_for b q xs h (climb_at_hive b p q climb)
+
+pub ground_within : (b : Stacks) (p q : Place) (xs : List Place) → IsAround b xs → GroundStep b p q → IsWithin 9500 q
+ground_within b p q xs h ground = at_hive_within b h.sound q (ground_at_hive b p q ground)
+
+pub climb_within : (b : Stacks) (p q : Place) (xs : List Place) → IsAround b xs → ClimbingStep b p q → IsWithin 9500 q
+climb_within b p q xs h climb = at_hive_within b h.sound q (climb_at_hive b p q climb)
 
 pub gains_nothing : (b : Stacks) (P : Place → Type 0) (xs : List Place) → IsAround b xs → ((q : Place) → P q → IsOn xs q) → Gains b P xs xs
 gains_nothing b P xs h there = record { list = h; kept = λ q on. on; gained = there; only = λ q on. inl on }

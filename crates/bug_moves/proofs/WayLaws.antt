@@ -1,7 +1,6 @@
 -- The ways of spiders and ladybugs, step by step, are their ways as a whole.
-use Rattle.std.proofs.Common.{◌≡◌, ◌≢◌, sym}
+use Rattle.std.proofs.Common.{sym}
 use Rattle.hive_model.specs.declared.places.Place.{Place}
-use Rattle.hive_model.specs.declared.places.Dir.{Dir}
 use Rattle.hive_model.specs.Places.{step}
 use Rattle.hive_model.specs.Boards.{Stacks}
 use Rattle.hive_model.specs.Steps.{GroundStep}

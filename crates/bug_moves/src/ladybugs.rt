@@ -15,6 +15,7 @@ pub struct Down {
 impl Way for Down {
     ghost toward = { λ way b. DownToward b way.start };
 
+    #[tactic(auto, using(crate::proofs::Gaining::climb_room))]
     fn add<B: Board>(&self, board: &B, from: Place, dir: Dir, out: &mut PlaceList) {
         let to = from.step(dir);
         if to.is(self.start) || is_occupied(board, to) || !may_climb(board, from, to) {
@@ -33,6 +34,7 @@ pub struct Climb<W> {
 impl<W: Way> Way for Climb<W> {
     ghost toward = { λ way b p. Onward (OnTop b p) (W.toward way.then b) p };
 
+    #[tactic(auto, using(crate::proofs::Gaining::climb_within))]
     fn add<B: Board>(&self, board: &B, from: Place, dir: Dir, out: &mut PlaceList) {
         let to = from.step(dir);
         if is_occupied(board, to) && may_climb(board, from, to) {

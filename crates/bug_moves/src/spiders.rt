@@ -16,6 +16,7 @@ struct Third {
 impl Way for Third {
     ghost toward = { λ way b. ThirdToward b way.start way.first };
 
+    #[tactic(auto, using(crate::proofs::Gaining::ground_room))]
     fn add<B: Board>(&self, board: &B, from: Place, dir: Dir, out: &mut PlaceList) {
         let to = from.step(dir);
         if to.is(self.start) || to.is(self.first) || !slide_toward(board, from, dir, to) {

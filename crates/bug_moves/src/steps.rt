@@ -36,6 +36,7 @@ pub struct Slide;
 impl Way for Slide {
     ghost toward = { λ _ b. Toward (GroundStep b) };
 
+    #[tactic(auto, using(crate::proofs::Gaining::ground_room))]
     fn add<B: Board>(&self, board: &B, from: Place, dir: Dir, out: &mut PlaceList) {
         let to = from.step(dir);
         if slide_toward(board, from, dir, to) {

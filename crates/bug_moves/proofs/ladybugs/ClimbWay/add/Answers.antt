@@ -1,13 +1,7 @@
 use Rattle.std.proofs.Common.{sym, ◌∙◌}
 use Rattle.bug_moves.specs.Ways.{OnTop}
-use Rattle.bug_moves.proofs.AtHive.{climb_at_hive, at_hive_within}
 use Rattle.bug_moves.proofs.Gaining.{gains_onward}
 use Rattle.bug_moves.proofs.ladybugs.ClimbWay.add.Goals as goal
-
-pub add_ways-requires-clause-within : goal.add_ways-requires-clause-within
-add_ways-requires-clause-within g c =
-    let b = g.B.Board.stacks c.args.board.now in
-    at_hive_within b c.requires.list.sound c.step-to.result (climb_at_hive b c.args.from c.step-to.result (c.may_climb.ensures.0 c.if-may_climb.true))
 
 pub returns-then-may_climb : goal.returns-then-may_climb
 returns-then-may_climb g c =

@@ -1,13 +1,10 @@
 use Rattle.hive_model.specs.Steps.{GroundStep}
 use Rattle.bug_moves.specs.Ways.{SecondToward}
-use Rattle.bug_moves.proofs.AtHive.{ground_at_hive, at_hive_within}
-use Rattle.bug_moves.proofs.Gaining.{gains_onward}
+use Rattle.bug_moves.proofs.Gaining.{ground_within, gains_onward}
 use Rattle.bug_moves.proofs.spiders.FirstWay.add.Goals as goal
 
 pub add_ways-requires-clause-within : goal.add_ways-requires-clause-within
-add_ways-requires-clause-within g c =
-    let b = g.B.Board.stacks c.args.board.now in
-    at_hive_within b c.requires.list.sound c.step-to.result (ground_at_hive b c.args.from c.step-to.result (c.slide_toward.ensures.0 c.if-slide_toward.true))
+add_ways-requires-clause-within g c = ground_within (g.B.Board.stacks c.args.board.now) c.args.from c.step-to.result c.args.out.now.items c.requires.list (c.slide_toward.ensures.0 c.if-slide_toward.true)
 
 pub returns-then-slide_toward : goal.returns-then-slide_toward
 returns-then-slide_toward g c =
