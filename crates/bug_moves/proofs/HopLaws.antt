@@ -29,21 +29,27 @@ moved_down a x y n e f = omega (arith, ints, e, f)
 nothing : (x : ℤ) → x ≡ x +ℤ pos 0
 nothing x = omega (arith, ints)
 
+-- a coordinate to which each step adds the direction's part
+module _ (at : Place → ℤ) (part : Dir → ℤ) (adds : (p : Place) (d : Dir) → at (step p d) ≡ at p +ℤ part d) where
+  goes_up : (n : ℕ) (p : Place) (d : Dir) → part d ≡ pos 1 → at (steps n p d) ≡ at p +ℤ pos n
+  goes_up zero p d e = nothing (at p)
+  goes_up (suc n) p d e = adds (steps n p d) d ∙ moved_up (at (steps n p d)) (at p) (part d) n (goes_up n p d e) e
+
+  goes_down : (n : ℕ) (p : Place) (d : Dir) → part d ≡ negsuc 0 → at (steps n p d) +ℤ pos n ≡ at p
+  goes_down zero p d e = sym (nothing (at p))
+  goes_down (suc n) p d e = ap (λ (a : ℤ). a +ℤ pos (suc n)) (adds (steps n p d) d) ∙ moved_down (at (steps n p d)) (at p) (part d) n (goes_down n p d e) e
+
 q_up : (n : ℕ) (p : Place) (d : Dir) → east d ≡ pos 1 → (steps n p d).q ≡ p.q +ℤ pos n
-q_up zero p d e = nothing p.q
-q_up (suc n) p d e = moved_up (steps n p d).q p.q (east d) n (q_up n p d e) e
+q_up = goes_up (λ p. p.q) east (λ p d. refl)
 
 q_down : (n : ℕ) (p : Place) (d : Dir) → east d ≡ negsuc 0 → (steps n p d).q +ℤ pos n ≡ p.q
-q_down zero p d e = sym (nothing p.q)
-q_down (suc n) p d e = moved_down (steps n p d).q p.q (east d) n (q_down n p d e) e
+q_down = goes_down (λ p. p.q) east (λ p d. refl)
 
 r_up : (n : ℕ) (p : Place) (d : Dir) → south d ≡ pos 1 → (steps n p d).r ≡ p.r +ℤ pos n
-r_up zero p d e = nothing p.r
-r_up (suc n) p d e = moved_up (steps n p d).r p.r (south d) n (r_up n p d e) e
+r_up = goes_up (λ p. p.r) south (λ p d. refl)
 
 r_down : (n : ℕ) (p : Place) (d : Dir) → south d ≡ negsuc 0 → (steps n p d).r +ℤ pos n ≡ p.r
-r_down zero p d e = sym (nothing p.r)
-r_down (suc n) p d e = moved_down (steps n p d).r p.r (south d) n (r_down n p d e) e
+r_down = goes_down (λ p. p.r) south (λ p d. refl)
 
 few_up : (a x : ℤ) (n : ℕ) → a ≡ x +ℤ pos n → pos 0 ≤ℤ (x +ℤ pos 9500) → a ≤ℤ pos 9000 → n ≤ 18500
 few_up a x n e low high = omega (arith, ints, e, low, high)
