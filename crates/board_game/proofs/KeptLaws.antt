@@ -1,31 +1,14 @@
 -- The separating places that are kept, ply after ply.
-use Rattle.std.proofs.Common.{◌≡◌, ◌↔◌, true, false, List, [], ◌∷◌, ◌++◌, length, sym, ◌∙◌, ap, subst, arith}
-use Rattle.std.specs.Prelude.{Option, Some, None, is_some, IfSome, ◌≤◌, Result, Ok, Err, IsOk, OnOk}
+use Rattle.std.proofs.Common.{◌≡◌, true, false, List, [], ◌∷◌, ◌++◌, length, sym, ◌∙◌, ap, subst, arith}
+use Rattle.std.specs.Prelude.{Option, Some, None, is_some, IfSome}
 use Rattle.std.specs.Option.{option_to_list, option_flatten}
 use Rattle.hive_model.specs.declared.places.Place.{Place}
 use Rattle.hive_model.specs.declared.places.Move.{Move}
-use Rattle.hive_model.specs.Lists.{IsOn, Rises}
-use Rattle.hive_model.specs.Places.{place_cmp}
-use Rattle.hive_model.specs.Boards.{Stacks, IsBoard, places_of}
-use Rattle.hive_model.specs.Hive.{IsSeparating}
+use Rattle.hive_model.specs.Boards.{Stacks}
 use Rattle.hive_model.specs.Positions.{Position}
 use Rattle.hive_model.specs.Games.{after, replay}
-use Rattle.hive_model.proofs.CountLaws.{rising_short, places_few}
-use Rattle.hive_model.proofs.PlaceLemmas.{places_total}
-use Rattle.hive_model.proofs.NearLaws.{occupied_on}
-use Rattle.board_game.specs.Kept.{AreSeparating, AreKept}
-
--- No more than the pieces
-
-pub separating_few : (b : Stacks) → IsBoard b → (ps : List Place) → Rises place_cmp ps → ((p : Place) → IsOn ps p ↔ IsSeparating b p) → length ps ≤ 28
-separating_few b is ps rises all =
-    let short = rising_short places_total ps (places_of b) rises (λ p on. occupied_on b p ((all p).0 on).0) in
-    let few = places_few b is in
-    omega (arith, short, few)
-
-pub on_ok : {X Y : Type 0} (P : Type 0) (r : Result X Y) → IsOk r → OnOk r P → P
-on_ok P (Ok x) is h = h
-on_ok P (Err y) is h = let wrong : false ≡ true = is in absurd (cc)
+use Rattle.one_hive.specs.Separating.{AreSeparating}
+use Rattle.board_game.specs.Kept.{AreKept}
 
 -- One ply more
 

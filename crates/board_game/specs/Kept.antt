@@ -1,16 +1,11 @@
 -- The separating places that a game keeps, for the position that it stands at and for those before
 -- it.
-use Rattle.std.specs.Prelude.{List, [], ◌∷◌, Option, IfSome, IsTrue, ◌↔◌, ⊤}
+use Rattle.std.specs.Prelude.{List, [], ◌∷◌, Option, IfSome, ⊤}
 use Rattle.hive_model.specs.declared.places.Place.{Place}
 use Rattle.hive_model.specs.declared.places.Move.{Move}
-use Rattle.hive_model.specs.Boards.{Stacks}
-use Rattle.hive_model.specs.Hive.{IsSeparating, on_list}
 use Rattle.hive_model.specs.Positions.{Position}
 use Rattle.hive_model.specs.Games.{after}
-
--- the list has the separating places of the board, and no others
-abbrev pub AreSeparating : Stacks → List Place → Type 0
-AreSeparating b places = (p : Place) → IsTrue (on_list places p) ↔ IsSeparating b p
+use Rattle.one_hive.specs.Separating.{AreSeparating}
 
 -- what is known before each of the moves, from this position on: nothing, or the separating places
 -- of the board that stood there

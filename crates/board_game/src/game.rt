@@ -4,13 +4,13 @@ ghost use Rattle.std.specs.Prelude.{◌≡◌, refl};
 ghost use Rattle.hive_model.specs.Courses.{position};
 
 use crate::judging::{key_after, worth_after};
-use crate::known_cuts::{Separating, known_or_found};
 use crate::listing::{is_legal_after, list_moves, state_of};
 use crate::making::{make, unmake};
 use crate::turns::{side_after, turn_after};
 use hive_model::{
     Board, Colour, Game, GameBoard, GameType, Key, Move, MoveStack, Piece, Place, Spot, State,
 };
+use one_hive::{Separating, known_or_found};
 use std::alloc::{AllocError, Global};
 use std::marker::Model;
 
@@ -34,7 +34,8 @@ impl<B: GameBoard> Model for BoardGame<B> {
     ghost use Rattle.std.specs.Prelude.{◌≡◌, ◌≤◌, ◌+◌, vec_capacity, vec_len, IfSome};
     ghost use Rattle.hive_model.specs.Positions.{opening};
     ghost use Rattle.board_game.specs.Replayed.{Played, IsReplayed};
-    ghost use Rattle.board_game.specs.Kept.{AreSeparating, AreKept};
+    ghost use Rattle.one_hive.specs.Separating.{AreSeparating};
+    ghost use Rattle.board_game.specs.Kept.{AreKept};
 
     ghost Value = { Played };
 

@@ -7,13 +7,13 @@ ghost use Rattle.hive_model.specs.Legal as rules;
 ghost use Rattle.hive_model.specs.Legal.{moves};
 ghost use Rattle.hive_model.specs.Games.{replay};
 ghost use Rattle.hive_model.specs.Stack.{with_level};
-ghost use Rattle.board_game.specs.Kept.{AreSeparating};
+ghost use Rattle.one_hive.specs.Separating.{AreSeparating};
 
-use crate::known_cuts::{KnownCuts, Separating};
 use crate::results::state_on;
-use crate::turns::{rest_after, side_after, turn_after};
+use crate::turns::turn_of;
 use hive_model::{Board, GameType, Move, MoveStack, State};
 use legal_moves::{is_legal_move, list};
+use one_hive::{KnownCuts, Separating};
 
 /// The state that these moves lead to, on this board.
 pub fn state_of<B: Board>(board: &B, game_type: GameType, made: &[Move]) -> State
@@ -38,13 +38,10 @@ pub fn list_moves<B: Board>(
     requires level { 1 ≤ out.old.free }
     ensures { out.new ≡ with_level out.old (moves (replay (opening game_type) made.now)) }
 {
-    let cuts = KnownCuts::new(board, separating);
-    let plies = made.len() as u32;
-    let side = side_after(plies);
-    let turn = turn_after(plies);
-    let rest = rest_after(made);
+    let known = KnownCuts::new(board, separating);
+    let turn = turn_of(game_type, made);
     let over = state_of(board, game_type, made).is_over();
-    list(board, &cuts, game_type, side, turn, rest, over, out);
+    list(&known, &turn, over, out);
 }
 
 /// Whether the move is legal in the position that these moves lead to, on this board with these
@@ -61,11 +58,8 @@ pub fn is_legal_after<B: Board>(
     requires few { length made.now ≤ 5064 }
     ensures { IsTrue result ↔ IsOn (moves (replay (opening game_type) made.now)) m }
 {
-    let cuts = KnownCuts::new(board, separating);
-    let plies = made.len() as u32;
-    let side = side_after(plies);
-    let turn = turn_after(plies);
-    let rest = rest_after(made);
+    let known = KnownCuts::new(board, separating);
+    let turn = turn_of(game_type, made);
     let over = state_of(board, game_type, made).is_over();
-    is_legal_move(board, &cuts, game_type, side, turn, rest, over, m)
+    is_legal_move(&known, &turn, over, m)
 }

@@ -109,8 +109,6 @@ impl<B: GameBoard> Board for KeptBoard<B> {
 }
 
 impl<B: GameBoard> Cuts for KeptBoard<B> {
-    ghost board = { λ k. k };
-
     fn is_cut(&self, place: Place) -> bool {
         self.keeper.is_cut(place)
     }

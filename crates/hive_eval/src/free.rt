@@ -28,8 +28,7 @@ fn is_top<B: Board>(board: &B, spot: &Spot) -> bool
 }
 
 /// Whether the piece is free: it is on top, does not rest and stands on no cut place.
-fn is_free<B: Board, C: Cuts>(board: &B, cuts: &C, piece: Piece, rest: &Option<Piece>) -> bool
-    requires { C.board cuts.now ≡ B.stacks board.now }
+fn is_free<B: Cuts>(board: &B, piece: Piece, rest: &Option<Piece>) -> bool
     ensures { result ≡ is_free_piece (B.stacks board.now) rest.now piece }
 {
     if piece.rests(rest) {
@@ -41,23 +40,16 @@ fn is_free<B: Board, C: Cuts>(board: &B, cuts: &C, piece: Piece, rest: &Option<P
     if !is_top(board, &spot) {
         return false;
     }
-    !cuts.is_cut(spot.place)
+    !board.is_cut(spot.place)
 }
 
 /// What the piece adds to the side's worth: its weight where it is a free piece of that side, its
 /// weight taken away where it is one of the other side's, and else 0.
-fn worth_of<B: Board, C: Cuts>(
-    board: &B,
-    cuts: &C,
-    piece: Piece,
-    side: Colour,
-    rest: &Option<Piece>,
-) -> i32
-    requires { C.board cuts.now ≡ B.stacks board.now }
+fn worth_of<B: Cuts>(board: &B, piece: Piece, side: Colour, rest: &Option<Piece>) -> i32
     ensures worth { result ≡ pos (counted (B.stacks board.now) rest.now side piece) -ℤ pos
         (counted (B.stacks board.now) rest.now (other_side side) piece) }
 {
-    if !is_free(board, cuts, piece, rest) {
+    if !is_free(board, piece, rest) {
         return 0;
     }
     let weight = weight_of(piece.kind());
@@ -69,13 +61,7 @@ fn worth_of<B: Board, C: Cuts>(
 }
 
 /// The weights of the side's free pieces, less those of the other side's.
-pub(crate) fn free_balance<B: Board, C: Cuts>(
-    board: &B,
-    cuts: &C,
-    side: Colour,
-    rest: &Option<Piece>,
-) -> i32
-    requires { C.board cuts.now ≡ B.stacks board.now }
+pub(crate) fn free_balance<B: Cuts>(board: &B, side: Colour, rest: &Option<Piece>) -> i32
     ensures balance { result ≡ pos (free_weight (B.stacks board.now) rest.now side) -ℤ pos
         (free_weight (B.stacks board.now) rest.now (other_side side)) }
     ensures low { negsuc 279 ≤ℤ result }
@@ -83,7 +69,7 @@ pub(crate) fn free_balance<B: Board, C: Cuts>(
 {
     let mut balance = 0i32;
     for x in 0..28u8 {
-        balance += worth_of(board, cuts, Piece::at(x), side, rest);
+        balance += worth_of(board, Piece::at(x), side, rest);
     }
     balance
 }

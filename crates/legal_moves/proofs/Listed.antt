@@ -9,7 +9,7 @@ use Rattle.hive_model.specs.Lists.{IsOn, Rises}
 use Rattle.hive_model.specs.Boards.{IsBoard}
 use Rattle.hive_model.specs.Positions.{Position}
 use Rattle.hive_model.specs.Legal.{LegalPair, is_over, moves, move_cmp}
-use Rattle.hive_model.specs.Stack.{Levels, with_level, without_level, with_move_on_top}
+use Rattle.hive_model.specs.Stack.{Levels, level_of, with_level, without_level, with_move_on_top}
 use Rattle.hive_model.proofs.Orders.{same_rising}
 use Rattle.hive_model.proofs.LegalLaws.{legal_is_piece}
 use Rattle.hive_model.proofs.MoveLaws.{moves_total, exact_moves, moves_rise, pass_alone}
@@ -65,6 +65,9 @@ module _ (p : Position) (is : IsBoard p.board) (on : is_over p ≡ false) (xs : 
       back (To x q) h = to_on x q ((pair_is_listed p is on x q).1 h)
 
 -- In the terms of the code
+
+pub last_long : (s : Levels) (n k : ℕ) → n ≡ length s.lists → k ≡ length (level_of s (n - 1)) → length (last_level s) ≡ k
+last_long s n k levels long = ap (λ m. length (level_of s (m - 1))) (sym levels) ∙ sym long
 
 none_long : (xs : List Move) → length xs ≡ 0 → xs ≡ []
 none_long [] e = refl

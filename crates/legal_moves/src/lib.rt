@@ -10,3 +10,4 @@ mod walks;
 
 pub use listing::list;
 pub use pairs::is_legal_move;
+pub use turns::Turn;

@@ -7,18 +7,17 @@ ghost use Rattle.hive_model.specs.Placement.{MayPlace};
 ghost use Rattle.hive_model.specs.Legal.{is_over, moves, LegalPair};
 ghost use Rattle.hive_model.specs.Stack.{with_level};
 ghost use Rattle.hand_rules.specs.Listing.{last_level, IsPairBelow, ListsAll, GainsPlaces};
-ghost use Rattle.legal_moves.specs.Going.{position_at, position_of};
+ghost use Rattle.legal_moves.specs.Going.{position_of};
 
 use crate::throws::moved_places;
 use crate::turns::Turn;
 use hand_rules::{may_bring, placement_places, push_each};
-use hive_model::{Board, Colour, Cuts, GameType, Move, MoveStack, Piece, PlaceList};
+use hive_model::{Board, Cuts, Move, MoveStack, Piece, PlaceList};
 
 /// Puts the legal moves of the piece at the end of the last level. `open_places` are the places
 /// where the side may place, and `places` is a list to write on.
-fn push_piece<B: Board, C: Cuts>(
+fn push_piece<B: Cuts>(
     board: &B,
-    cuts: &C,
     turn: &Turn,
     open_places: &PlaceList,
     piece: Piece,
@@ -26,7 +25,6 @@ fn push_piece<B: Board, C: Cuts>(
     out: &mut MoveStack,
 )
     requires board { IsBoard (B.stacks board.now) }
-    requires cuts { C.board cuts.now ≡ B.stacks board.now }
     requires places { AreAll (MayPlace (B.stacks board.now) turn.now.side) open_places.now.items }
     requires level { 1 ≤ length out.old.lists }
     requires room { length (last_level out.old) + 196 ≤ 5488 }
@@ -38,15 +36,14 @@ fn push_piece<B: Board, C: Cuts>(
         return;
     }
     places.clear();
-    moved_places(board, cuts, turn, piece, places);
+    moved_places(board, turn, piece, places);
     push_each(piece, places.as_slice(), out);
 }
 
 /// Puts all legal moves of pieces on the last level, which holds none yet: by piece, then by q and
 /// r of the place, each once.
-fn push_pairs<B: Board, C: Cuts>(board: &B, cuts: &C, turn: &Turn, out: &mut MoveStack)
+fn push_pairs<B: Cuts>(board: &B, turn: &Turn, out: &mut MoveStack)
     requires board { IsBoard (B.stacks board.now) }
-    requires cuts { C.board cuts.now ≡ B.stacks board.now }
     requires level { 1 ≤ length out.old.lists }
     requires empty { last_level out.old ≡ [] }
     ensures { ListsAll (IsPairBelow (LegalPair (position_of (B.stacks board.now) turn.now)) 28)
@@ -56,36 +53,17 @@ fn push_pairs<B: Board, C: Cuts>(board: &B, cuts: &C, turn: &Turn, out: &mut Mov
     placement_places(board, turn.side, &mut open_places);
     let mut places = PlaceList::new();
     for x in 0..28u8 {
-        push_piece(
-            board,
-            cuts,
-            turn,
-            &open_places,
-            Piece::at(x),
-            &mut places,
-            out,
-        );
+        push_piece(board, turn, &open_places, Piece::at(x), &mut places, out);
     }
 }
 
-/// Begins a level and fills it with the legal moves of the side to move in its turn of this number,
-/// where this piece rests, if any: by piece, then by q and r of the place, each once; the pass
-/// alone where no piece can move; none where the game is over, as `over` says.
-pub fn list<B: Board, C: Cuts>(
-    board: &B,
-    cuts: &C,
-    game_type: GameType,
-    side: Colour,
-    turn: u32,
-    rest: Option<Piece>,
-    over: bool,
-    out: &mut MoveStack,
-)
+/// Begins a level and fills it with the legal moves in this turn: by piece, then by q and r of the
+/// place, each once; the pass alone where no piece can move; none where the game is over, as `over`
+/// says.
+pub fn list<B: Cuts>(board: &B, turn: &Turn, over: bool, out: &mut MoveStack)
     requires level { 1 ≤ out.old.free }
-    requires cuts { C.board cuts.now ≡ B.stacks board.now }
-    requires over { over ≡ is_over (position_at game_type (B.stacks board.now) side turn rest) }
-    ensures { out.new ≡ with_level out.old (moves
-        (position_at game_type (B.stacks board.now) side turn rest)) }
+    requires over { over ≡ is_over (position_of (B.stacks board.now) turn.now) }
+    ensures { out.new ≡ with_level out.old (moves (position_of (B.stacks board.now) turn.now)) }
 {
     out.begin_level();
     if over {
@@ -93,13 +71,7 @@ pub fn list<B: Board, C: Cuts>(
     }
     // each board that answers where a piece stands is sound
     let _spot = board.spot(Piece::at(0));
-    let turn = Turn {
-        game_type,
-        side,
-        number: turn,
-        rest,
-    };
-    push_pairs(board, cuts, &turn, out);
+    push_pairs(board, turn, out);
     if out.level_len(out.levels() - 1) == 0 {
         out.push(Move::Pass);
     }

@@ -14,9 +14,8 @@ use mosquito_moves::mosquito_reach;
 
 /// Whether the piece may leave its place: it is on top, it does not rest, and its place is no cut
 /// place.
-fn may_walk<B: Board, C: Cuts>(board: &B, cuts: &C, piece: Piece, rest: &Option<Piece>) -> bool
-    requires board { IsBoard (B.stacks board.now) }
-    requires cuts { C.board cuts.now ≡ B.stacks board.now }
+fn may_walk<B: Cuts>(board: &B, piece: Piece, rest: &Option<Piece>) -> bool
+    requires { IsBoard (B.stacks board.now) }
     ensures { IsTrue result ↔ IsFreePiece (B.stacks board.now) rest.now piece }
 {
     let Some(spot) = board.spot(piece) else {
@@ -26,7 +25,7 @@ fn may_walk<B: Board, C: Cuts>(board: &B, cuts: &C, piece: Piece, rest: &Option<
     if piece.rests(rest) || height - spot.level != 1 {
         return false;
     }
-    !cuts.is_cut(spot.place)
+    !board.is_cut(spot.place)
 }
 
 /// Lists where the piece, which is on top, moves to by its kind's rule.
@@ -48,13 +47,12 @@ fn go<B: Board>(board: &B, piece: Piece, out: &mut PlaceList)
 
 /// Lists where the piece moves to by its kind's rule, if it is one of the side to move that may
 /// leave its place.
-pub fn walks<B: Board, C: Cuts>(board: &B, cuts: &C, turn: &Turn, piece: Piece, out: &mut PlaceList)
+pub fn walks<B: Cuts>(board: &B, turn: &Turn, piece: Piece, out: &mut PlaceList)
     requires board { IsBoard (B.stacks board.now) }
-    requires cuts { C.board cuts.now ≡ B.stacks board.now }
     requires empty { out.old.items ≡ [] }
     ensures { AreAll (Walk (position_of (B.stacks board.now) turn.now) piece) out.new.items }
 {
-    if piece.colour().is(turn.side) && may_walk(board, cuts, piece, &turn.rest) {
+    if piece.colour().is(turn.side) && may_walk(board, piece, &turn.rest) {
         go(board, piece, out);
     }
 }

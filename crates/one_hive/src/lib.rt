@@ -3,6 +3,7 @@
 
 mod beyond;
 mod hives;
+mod known_cuts;
 mod marks;
 mod met;
 mod separating;
@@ -10,6 +11,7 @@ mod steps;
 mod visits;
 
 pub use hives::{is_one, walk_is_cut};
+pub use known_cuts::{KnownCuts, Separating, known_or_found};
 pub use separating::separating_places;
 pub use steps::Steps;
 

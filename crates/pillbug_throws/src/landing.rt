@@ -54,23 +54,15 @@ fn is_at_hand<B: Board>(
 
 /// Whether the piece can be lifted from its place over the thrower's: it is alone there, does not
 /// rest, stands beside the thrower, and on no cut place.
-fn is_loose<B: Board, C: Cuts>(
-    board: &B,
-    cuts: &C,
-    over: Place,
-    piece: Piece,
-    from: Place,
-    rest: Option<Piece>,
-) -> bool
+fn is_loose<B: Cuts>(board: &B, over: Place, piece: Piece, from: Place, rest: Option<Piece>) -> bool
     requires occupied { IsTrue (is_occupied (B.stacks board.now) from) }
     requires within { IsWithin 9500 over }
-    requires cuts { C.board cuts.now ≡ B.stacks board.now }
     ensures { IsTrue result ↔ IsLoose (B.stacks board.now) rest over piece from }
 {
     if !is_at_hand(board, over, piece, from, rest) {
         return false;
     }
-    !cuts.is_cut(from)
+    !board.is_cut(from)
 }
 
 /// Whether the place is empty, and not the one that the piece was lifted from.
@@ -124,16 +116,14 @@ fn add_places<B: Board, L: Board>(
 /// piece is alone on a neighbour of the thrower's place that is no cut place, and does not rest. It
 /// comes down on another neighbour, which is empty. On the board without it, neither its step up
 /// onto the thrower nor its step down is blocked by two higher common neighbours.
-pub fn throws<B: Board, C: Cuts>(
+pub fn throws<B: Cuts>(
     board: &B,
-    cuts: &C,
     thrower: Piece,
     thrown: Piece,
     rest: Option<Piece>,
     out: &mut PlaceList,
 )
     requires may { (t : Spot) × IsThrower (B.stacks board.now) rest thrower t }
-    requires cuts { C.board cuts.now ≡ B.stacks board.now }
     requires empty { out.old.items ≡ [] }
     ensures { AreAll (ThrowsTo (B.stacks board.now) rest thrower thrown) out.new.items }
 {
@@ -143,7 +133,7 @@ pub fn throws<B: Board, C: Cuts>(
     let Some(from) = board.spot(thrown) else {
         return;
     };
-    if !is_loose(board, cuts, over.place, thrown, from.place, rest) {
+    if !is_loose(board, over.place, thrown, from.place, rest) {
         return;
     }
     let lifted = Lifted::new(board, thrown);

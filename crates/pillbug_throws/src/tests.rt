@@ -1,45 +1,13 @@
-//! Throws over a board by spots, whose cut places are found by walks.
+//! Throws over a board by spots, whose cut places are found by one walk.
 
-ghost use Rattle.std.specs.Prelude.{◌≡◌, ◌↔◌, ◌<◌, IsTrue};
-ghost use Rattle.hive_model.specs.Boards.{Stacks, is_occupied};
-ghost use Rattle.hive_model.specs.Hive.{IsCut};
+ghost use Rattle.std.specs.Prelude.{◌≡◌};
 
 use crate::{may_throw, throws};
-use hive_model::{Board, Colour, Cuts, Kind, Piece, Place, PlaceList};
-use one_hive::{Steps, walk_is_cut};
+use hive_model::{Board, Colour, Kind, Piece, Place, PlaceList};
+use one_hive::{KnownCuts, Separating};
 use stack_board::PlainBoard;
 use std::alloc::{AllocError, Global};
-use std::marker::Brand;
-use std::sync::ledger::{Blank, Ledger};
 use std::test::Fail;
-
-/// The cut places of a board, each by a walk.
-#[derive(Drop)]
-struct Walks<'a> {
-    plain: &'a PlainBoard,
-}
-
-fn is_cut_by<L: Ledger>(board: &PlainBoard, place: Place, blank: Blank) -> bool
-    requires name { blank.name ≡ L.name }
-    requires parts { blank.parts ≡ L.parts }
-    requires some { 0 < L.parts }
-    requires occupied { IsTrue (is_occupied board.now place) }
-    ensures { IsTrue result ↔ IsCut board.now place }
-{
-    if board.height(place) != 1 {
-        return false;
-    }
-    let mut steps = Steps::<L>::new(blank);
-    walk_is_cut(board, place, &mut steps)
-}
-
-impl Cuts for Walks<'_> {
-    ghost board = { λ w. w.plain.now };
-
-    fn is_cut(&self, place: Place) -> bool {
-        is_cut_by::<Brand>(self.plain, place, Blank::new(1))
-    }
-}
 
 /// A board with these pieces, each at a place near the origin.
 fn board_of(
@@ -71,9 +39,10 @@ fn again(rest: &Option<Piece>) -> Option<Piece>
 /// Where one piece throws the other, if it may throw.
 fn thrown(board: &PlainBoard, thrower: Piece, piece: Piece, rest: Option<Piece>) -> PlaceList {
     let mut places = PlaceList::new();
-    let cuts = Walks { plain: board };
-    if may_throw(board, thrower, again(&rest)) {
-        throws(board, &cuts, thrower, piece, rest, &mut places);
+    let separating = Separating::found(board);
+    let board = KnownCuts::new(board, &separating);
+    if may_throw(&board, thrower, again(&rest)) {
+        throws(&board, thrower, piece, rest, &mut places);
     }
     places
 }

@@ -18,7 +18,7 @@ returns g c =
     let p = position_of (g.B.Board.stacks c.args.board.now) c.args.turn.now in (
       λ e. let wrong : false ≡ true = e in absurd (cc),
       λ (x, q, h).
-          let small = legal_is_piece p c.requires.board x q h in
+          let small = legal_is_piece p c.requires x q h in
           let low : x < c.loop-x.x = omega (arith, small, c.loop-x-test.false) in
           absurd (c.loop-x.invariant x q low h),
     )
