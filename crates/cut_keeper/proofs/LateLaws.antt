@@ -9,7 +9,6 @@ use Rattle.arc_law.specs.Arcs.{OneArc}
 use Rattle.arc_law.proofs.ArcBoards.{raised_put}
 use Rattle.cut_keeper.specs.Keeping.{Standings, status_on, with_status, status_of, keeper_of, Grown, Shrunk, Late, Stays}
 use Rattle.cut_keeper.specs.Examining.{look, Known, RightButHeight, Pending, Room}
-use Rattle.cut_keeper.specs.Updating.{TakesFew}
 use Rattle.cut_keeper.proofs.KeeperLemmas.{status_on-keeper_of, right_known, look_occupied, grown_known, grown_occupied, grown_high, pending_arc}
 use Rattle.cut_keeper.proofs.TakenLemmas.{shrunk_known, shrunk_high, taken_small, taken_gone, pending_less}
 
@@ -25,7 +24,7 @@ pub look_empty : (b : Stacks) (p : Place) → height_at b p ≡ 0 → look b p �
 look_empty b p empty = ap (λ n. cond (nat_lt 0 n) (Some (status_of b p)) None) empty
 
 module _ (k : Standings) (b : Stacks) (p : Place) (is : IsBoard b) where
-  pub grown_stays : Grown k b p → (1 < height_at b p) ↔ Stays k b p
+  grown_stays : Grown k b p → (1 < height_at b p) ↔ Stays k b p
   grown_stays g = (
     λ high. but_stays k b p (grown_high k b p is g high),
     λ stays.
@@ -34,7 +33,7 @@ module _ (k : Standings) (b : Stacks) (p : Place) (is : IsBoard b) where
         omega (arith, was, raised),
   )
 
-  pub shrunk_stays : Shrunk k b p → (0 < height_at b p) ↔ Stays k b p
+  shrunk_stays : Shrunk k b p → (0 < height_at b p) ↔ Stays k b p
   shrunk_stays s = (
     λ high. but_stays k b p (shrunk_high k b p is s high),
     λ stays. ltb-true 0 _ stays.1,
@@ -84,7 +83,3 @@ module _ (k : Standings) (b : Stacks) (p : Place) (is : IsBoard b) where
           let empty : height_at b p ≡ 0 = omega (arith, low) in
           subst (λ o. Pending (with_status k p o) b p dirs) (sym (look_empty b p empty)) (pending_less k b p is (late_gone late empty) empty arc)
     ]
-
--- the same steps under another name for what stays
-pub takes_few : (b : Stacks) (p : Place) (S T : Type 0) (old new : ℕ) → S ↔ T → TakesFew b p T old new → TakesFew b p S old new
-takes_few b p S T old new same h = record { none = λ s. h.none (same.0 s); few = h.few; most = h.most }

@@ -3,13 +3,13 @@ use Rattle.std.specs.Prelude.{◌≡◌, ◌≢◌, ℕ, ◌+◌, ◌<◌, ◌�
 use Rattle.hive_model.specs.declared.places.Place.{Place}
 use Rattle.hive_model.specs.declared.places.Dir.{Dir}
 use Rattle.hive_model.specs.Lists.{IsOn}
-use Rattle.hive_model.specs.Places.{step}
-use Rattle.hive_model.specs.Boards.{Stacks, is_occupied, spot_of}
+use Rattle.hive_model.specs.Places.{IsWithin, step}
+use Rattle.hive_model.specs.Boards.{Stacks, IsBoard, is_occupied, spot_of}
 use Rattle.hive_model.specs.Hive.{is_separating}
 use Rattle.arc_table.specs.Masks.{how_many}
 use Rattle.cut_keeper.specs.declared.statuses.Status.{Status}
 use Rattle.cut_keeper.specs.declared.statuses.Change.{Change}
-use Rattle.cut_keeper.specs.Rings.{ring, is_suspect}
+use Rattle.cut_keeper.specs.Rings.{ring, ring_mask, is_suspect}
 use Rattle.cut_keeper.specs.Keeping.{Standings, status_on, status_of, changed, IsOnce}
 
 -- the status that a place has to have
@@ -30,6 +30,12 @@ pub record RightButHeight (k : Standings) (b : Stacks) (p : Place) : Type 0 wher
 -- what has a status is occupied
 abbrev pub Known : Standings → Stacks → Type 0
 Known k b = (p : Place) → is_some (status_on k p) ≡ true → IsTrue (is_occupied b p)
+
+-- the board is sound, the place lies within it, and this is the mask of its occupied neighbours
+pub record HasMask (b : Stacks) (p : Place) (m : ℕ) : Type 0 where
+  pub sound : IsBoard b
+  pub within : IsWithin 9500 p
+  pub mask : m ≡ ring_mask (ring (is_occupied b) p)
 
 -- how many suspects there are in these directions
 abbrev pub suspects : Stacks → Place → List Dir → ℕ

@@ -87,3 +87,10 @@ Late k b p = Grown k b p ⊎ Shrunk k b p
 -- the place has a status, and is occupied on the board
 abbrev pub Stays : Standings → Stacks → Place → Type 0
 Stays k b p = IsTrue (is_some (status_on k p)) × IsTrue (is_occupied b p)
+
+-- these stood for a board that is sound, as this one is, and by one piece the place became occupied
+-- since, or empty
+pub record IsTurned (k : Standings) (b : Stacks) (p : Place) : Type 0 where
+  pub sound : IsBoard b
+  pub late : Late k b p
+  pub changed : ¬ Stays k b p

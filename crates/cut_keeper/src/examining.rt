@@ -3,9 +3,9 @@
 ghost use Rattle.std.specs.Prelude.{◌≡◌, ◌<◌, ◌+◌, ◌≤◌, length, None, Some, ◌⊎◌, [], ◌∷◌, IsTrue};
 ghost use Rattle.hive_model.specs.declared.places.Place.{Place};
 ghost use Rattle.hive_model.specs.Lists.{IsOn};
-ghost use Rattle.hive_model.specs.Places.{IsWithin, dirs};
+ghost use Rattle.hive_model.specs.Places.{dirs};
 ghost use Rattle.hive_model.specs.Boards.{StandsAt, IsBoard, is_occupied, spot_of};
-ghost use Rattle.cut_keeper.specs.Rings.{ring, ring_mask, later};
+ghost use Rattle.cut_keeper.specs.Rings.{ring, later};
 ghost use Rattle.cut_keeper.specs.Keeping.{status_on, with_status, undone, changed, status_of};
 ghost use Rattle.cut_keeper.specs.Slots.{Few};
 ghost use Rattle.cut_keeper.specs.Examining.{
@@ -13,6 +13,7 @@ ghost use Rattle.cut_keeper.specs.Examining.{
   Known,
   Right,
   RightButHeight,
+  HasMask,
   Pending,
   suspects,
   IsTold,
@@ -107,9 +108,7 @@ fn beside_one<B: Board, L: Ledger>(
     steps: &mut Steps<L>,
     delta: &mut Delta,
 )
-    requires sound { IsBoard (B.stacks board.now) }
-    requires within { IsWithin 9500 place }
-    requires mask { mask ≡ ring_mask (ring (is_occupied (B.stacks board.now)) place) }
+    requires ring { HasMask (B.stacks board.now) place mask }
     requires pending { Pending keeper.old (B.stacks board.now) place (dir ∷ later dir) }
     requires room { length delta.old + suspects (B.stacks board.now) place (dir ∷ later dir) ≤ 28 }
     requires told { Told (B.stacks board.now) keeper.old delta.old }
@@ -135,9 +134,7 @@ pub(crate) fn beside<B: Board, L: Ledger>(
     steps: &mut Steps<L>,
     delta: &mut Delta,
 )
-    requires sound { IsBoard (B.stacks board.now) }
-    requires within { IsWithin 9500 place }
-    requires mask { mask ≡ ring_mask (ring (is_occupied (B.stacks board.now)) place) }
+    requires ring { HasMask (B.stacks board.now) place mask }
     requires pending { Pending keeper.old (B.stacks board.now) place dirs }
     requires room { length delta.old + suspects (B.stacks board.now) place dirs ≤ 28 }
     requires told { Told (B.stacks board.now) keeper.old delta.old }

@@ -1,12 +1,12 @@
 //! The keeper.
 
-ghost use Rattle.std.specs.Prelude.{◌≡◌, ◌↔◌, ◌<◌, ◌≤◌, [], length, IfOk, IsTrue, Some};
+ghost use Rattle.std.specs.Prelude.{◌≡◌, ◌↔◌, ◌≤◌, [], length, IfOk, IsTrue, Some};
 ghost use Rattle.hive_model.specs.Places.{IsWithin};
-ghost use Rattle.hive_model.specs.Boards.{Stacks, IsBoard, height_at};
+ghost use Rattle.hive_model.specs.Boards.{Stacks, IsBoard};
 ghost use Rattle.hive_model.specs.Hive.{IsCut};
 ghost use Rattle.cut_keeper.specs.Keeping.{
-  Grown,
-  Shrunk,
+  Late,
+  Stays,
   keeper_of,
   is_cut_status,
   status_on,
@@ -73,42 +73,21 @@ impl CutKeeper {
         })
     }
 
-    /// After a piece was put on the place, makes a keeper that stood for the board before stand for
-    /// the board, and answers what it changed. It takes no step where the place was occupied
-    /// before, at most 5 where the occupied neighbours of the place form one arc, and else at most
-    /// 28.
-    pub fn added<B: Board, L: Ledger>(
+    /// After a piece was put on the place or taken from it, makes a keeper that stood for the board
+    /// before stand for the board, and answers what it changed. It takes no step where the place
+    /// was occupied before and is so still, at most 5 where the occupied neighbours of the place
+    /// form one arc, and else at most 28.
+    pub fn update<B: Board, L: Ledger>(
         &mut self,
         board: &B,
         place: Place,
         steps: &mut Steps<L>,
     ) -> Delta
-        requires grown { Grown self.old (B.stacks board.now) place }
+        requires late { Late self.old (B.stacks board.now) place }
         requires within { IsWithin 9500 place }
         ensures updated { Updated (B.stacks board.now) self.old self.new result }
         ensures steps { TakesFew (B.stacks board.now) place
-            (1 < height_at (B.stacks board.now) place)
-            steps.old steps.new }
-    {
-        update(&mut self.store, board, place, steps)
-    }
-
-    /// After a piece was taken from the place, makes a keeper that stood for the board before stand
-    /// for the board, and answers what it changed. It takes no step where the place is still
-    /// occupied, at most 5 where the occupied neighbours of the place form one arc, and else at
-    /// most 28.
-    pub fn removed<B: Board, L: Ledger>(
-        &mut self,
-        board: &B,
-        place: Place,
-        steps: &mut Steps<L>,
-    ) -> Delta
-        requires shrunk { Shrunk self.old (B.stacks board.now) place }
-        requires within { IsWithin 9500 place }
-        ensures updated { Updated (B.stacks board.now) self.old self.new result }
-        ensures steps { TakesFew (B.stacks board.now) place
-            (0 < height_at (B.stacks board.now) place)
-            steps.old steps.new }
+            (Stays self.old (B.stacks board.now) place) steps.old steps.new }
     {
         update(&mut self.store, board, place, steps)
     }

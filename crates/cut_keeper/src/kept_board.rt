@@ -4,7 +4,7 @@ ghost use Rattle.std.specs.Prelude.{◌≡◌, ◌<◌, [], IfOk, IfSome, IsNone
 ghost use Rattle.hive_model.specs.Places.{IsWithin};
 ghost use Rattle.hive_model.specs.Boards.{Stacks, spot_of, is_on_top, put, lift};
 ghost use Rattle.hive_model.specs.Spread.{IsNearAll};
-ghost use Rattle.cut_keeper.specs.Keeping.{Grown, Shrunk, keeper_of, undone};
+ghost use Rattle.cut_keeper.specs.Keeping.{Late, keeper_of, undone};
 ghost use Rattle.cut_keeper.specs.Updating.{Updated};
 
 use crate::keeper::CutKeeper;
@@ -36,7 +36,7 @@ impl<B: GameBoard> Model for KeptBoard<B> {
         × (k.keeper ≡ keeper_of (B.stacks k.board)) };
 }
 
-fn added_in<B: Board, L: Ledger>(
+fn update_in<B: Board, L: Ledger>(
     keeper: &mut CutKeeper,
     board: &B,
     place: Place,
@@ -45,47 +45,21 @@ fn added_in<B: Board, L: Ledger>(
     requires name { blank.name ≡ L.name }
     requires parts { blank.parts ≡ L.parts }
     requires some { 0 < L.parts }
-    requires grown { Grown keeper.old (B.stacks board.now) place }
+    requires late { Late keeper.old (B.stacks board.now) place }
     requires within { IsWithin 9500 place }
     ensures { Updated (B.stacks board.now) keeper.old keeper.new result }
 {
     let mut steps = Steps::<L>::new(blank);
-    keeper.added(board, place, &mut steps)
+    keeper.update(board, place, &mut steps)
 }
 
-fn removed_in<B: Board, L: Ledger>(
-    keeper: &mut CutKeeper,
-    board: &B,
-    place: Place,
-    blank: Blank,
-) -> Delta
-    requires name { blank.name ≡ L.name }
-    requires parts { blank.parts ≡ L.parts }
-    requires some { 0 < L.parts }
-    requires shrunk { Shrunk keeper.old (B.stacks board.now) place }
+/// `CutKeeper::update` for a caller that counts no steps.
+pub(crate) fn update_uncounted<B: Board>(keeper: &mut CutKeeper, board: &B, place: Place) -> Delta
+    requires late { Late keeper.old (B.stacks board.now) place }
     requires within { IsWithin 9500 place }
     ensures { Updated (B.stacks board.now) keeper.old keeper.new result }
 {
-    let mut steps = Steps::<L>::new(blank);
-    keeper.removed(board, place, &mut steps)
-}
-
-/// `CutKeeper::added` for a caller that counts no steps.
-pub(crate) fn added_uncounted<B: Board>(keeper: &mut CutKeeper, board: &B, place: Place) -> Delta
-    requires grown { Grown keeper.old (B.stacks board.now) place }
-    requires within { IsWithin 9500 place }
-    ensures { Updated (B.stacks board.now) keeper.old keeper.new result }
-{
-    added_in::<B, Brand>(keeper, board, place, Blank::new(1))
-}
-
-/// `CutKeeper::removed` for a caller that counts no steps.
-pub(crate) fn removed_uncounted<B: Board>(keeper: &mut CutKeeper, board: &B, place: Place) -> Delta
-    requires shrunk { Shrunk keeper.old (B.stacks board.now) place }
-    requires within { IsWithin 9500 place }
-    ensures { Updated (B.stacks board.now) keeper.old keeper.new result }
-{
-    removed_in::<B, Brand>(keeper, board, place, Blank::new(1))
+    update_in::<B, Brand>(keeper, board, place, Blank::new(1))
 }
 
 impl<B: GameBoard> Board for KeptBoard<B> {
@@ -137,7 +111,7 @@ impl<B: GameBoard> KeptBoard<B> {
     {
         self.board.put(piece, place);
         let _spot = self.board.spot(piece);
-        added_uncounted(&mut self.keeper, &self.board, place)
+        update_uncounted(&mut self.keeper, &self.board, place)
     }
 
     /// Takes away a piece that is on top of its place, and answers that place, with what takes it
@@ -150,7 +124,7 @@ impl<B: GameBoard> KeptBoard<B> {
     {
         let place = self.board.lift(piece);
         let _spot = self.board.spot(piece);
-        let delta = removed_uncounted(&mut self.keeper, &self.board, place);
+        let delta = update_uncounted(&mut self.keeper, &self.board, place);
         (place, delta)
     }
 

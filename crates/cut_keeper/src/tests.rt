@@ -4,7 +4,7 @@ ghost use Rattle.std.specs.Prelude.{◌≡◌, ◌<◌, IsTrue};
 ghost use Rattle.hive_model.specs.Boards.{is_on_top};
 ghost use Rattle.hive_model.specs.Places.{IsWithin};
 
-use crate::kept_board::{added_uncounted, removed_uncounted};
+use crate::kept_board::update_uncounted;
 use crate::{CutKeeper, KeptBoard};
 use hive_model::{Board, Cuts, Piece, Place, Spot};
 use stack_board::PlainBoard;
@@ -95,7 +95,7 @@ impl Tried {
             board: &self.board,
             calls: Cell::new(0),
         };
-        let _delta = added_uncounted(&mut self.keeper, &counted, place);
+        let _delta = update_uncounted(&mut self.keeper, &counted, place);
         counted.calls.get()
     }
 
@@ -104,7 +104,7 @@ impl Tried {
         if is_on_top(&self.board, piece) {
             let place = self.board.lift(piece);
             let _spot = self.board.spot(piece);
-            let _delta = removed_uncounted(&mut self.keeper, &self.board, place);
+            let _delta = update_uncounted(&mut self.keeper, &self.board, place);
         }
     }
 
@@ -120,7 +120,7 @@ impl Tried {
         }
         self.board.put(piece, place);
         let _spot = self.board.spot(piece);
-        let delta = added_uncounted(&mut self.keeper, &self.board, place);
+        let delta = update_uncounted(&mut self.keeper, &self.board, place);
         let is_cut = self.keeper.is_cut(place);
         let _place = self.board.lift(piece);
         self.keeper.back(delta);

@@ -6,7 +6,7 @@ ghost use Rattle.hive_model.specs.Places.{IsWithin};
 ghost use Rattle.hive_model.specs.Boards.{IsBoard, is_occupied};
 ghost use Rattle.arc_law.specs.Arcs.{OneArc};
 ghost use Rattle.cut_keeper.specs.Rings.{ring, ring_mask};
-ghost use Rattle.cut_keeper.specs.Keeping.{Late, Stays, with_status, undone};
+ghost use Rattle.cut_keeper.specs.Keeping.{IsTurned, Late, Stays, with_status, undone};
 ghost use Rattle.cut_keeper.specs.Slots.{AtMost};
 ghost use Rattle.cut_keeper.specs.Examining.{look, Known, Room, Told};
 ghost use Rattle.cut_keeper.specs.Updating.{MadeRight, Updated, TakesFew};
@@ -28,9 +28,7 @@ fn settle<B: Board, L: Ledger>(
     steps: &mut Steps<L>,
     delta: &mut Delta,
 )
-    requires sound { IsBoard (B.stacks board.now) }
-    requires late { Late keeper.old (B.stacks board.now) place }
-    requires changed { ¬ Stays keeper.old (B.stacks board.now) place }
+    requires turned { IsTurned keeper.old (B.stacks board.now) place }
     requires first { delta.old ≡ [] }
     ensures status { keeper.new
         ≡ with_status keeper.old place (look (B.stacks board.now) place) }
@@ -54,9 +52,7 @@ fn update_beside<B: Board, L: Ledger>(
     mask: u8,
     steps: &mut Steps<L>,
 ) -> Delta
-    requires sound { IsBoard (B.stacks board.now) }
-    requires late { Late keeper.old (B.stacks board.now) place }
-    requires changed { ¬ Stays keeper.old (B.stacks board.now) place }
+    requires turned { IsTurned keeper.old (B.stacks board.now) place }
     requires within { IsWithin 9500 place }
     requires mask { mask ≡ ring_mask (ring (is_occupied (B.stacks board.now)) place) }
     requires arc { OneArc (is_occupied (B.stacks board.now)) place }
@@ -71,9 +67,7 @@ fn update_beside<B: Board, L: Ledger>(
 
 /// Takes the status of the place away if it is empty now. What has a status is occupied then.
 fn clear_if_empty<B: Board>(keeper: &mut Store, board: &B, place: Place, delta: &mut Delta)
-    requires sound { IsBoard (B.stacks board.now) }
-    requires late { Late keeper.old (B.stacks board.now) place }
-    requires changed { ¬ Stays keeper.old (B.stacks board.now) place }
+    requires turned { IsTurned keeper.old (B.stacks board.now) place }
     requires first { delta.old ≡ [] }
     ensures known { Known keeper.new (B.stacks board.now) }
     ensures undone { undone delta.new keeper.new ≡ undone delta.old keeper.old }
@@ -92,9 +86,7 @@ fn update_elsewhere<B: Board, L: Ledger>(
     place: Place,
     steps: &mut Steps<L>,
 ) -> Delta
-    requires sound { IsBoard (B.stacks board.now) }
-    requires late { Late keeper.old (B.stacks board.now) place }
-    requires changed { ¬ Stays keeper.old (B.stacks board.now) place }
+    requires { IsTurned keeper.old (B.stacks board.now) place }
     ensures made { MadeRight (B.stacks board.now) keeper.old keeper.new result }
     ensures steps { steps.new ≤ steps.old + 28 }
 {

@@ -7,7 +7,7 @@ use Rattle.cut_keeper.proofs.KeeperLemmas.{pending_then, pending_else}
 use Rattle.cut_keeper.proofs.examining.beside_one.Goals as goal
 
 pub step-requires : goal.step-requires
-step-requires g c = wider c.args.place c.requires.within
+step-requires g c = wider c.args.place c.requires.ring.within
 
 pub returns-then-is_suspect-clause-pending : goal.returns-then-is_suspect-clause-pending
 returns-then-is_suspect-clause-pending g c =

@@ -34,9 +34,7 @@ pub returns-clause-told : goal.returns-clause-told
 returns-clause-told g c =
     let b = g.B.Board.stacks c.args.board.now in
     let p = c.args.place in
-    let height = c.height-height.ensures in
-    let one = walked b c.requires.sound p c.walk_is_cut-separating.result c.walk_is_cut-separating.ensures.cut in
-    let made = c.change.ensures.status ∙ (λ i. with_status c.args.keeper.now p (Some (record { height = height i; separating = one i }))) in
+    let made = returns-clause-status g c in
     record {
       told = c.change.ensures.told;
       right = λ q on. subst (λ j. Right j b q) (sym made) (right_with c.args.keeper.now b p c.requires.occupied q (elim (c.change.ensures.places q on) [

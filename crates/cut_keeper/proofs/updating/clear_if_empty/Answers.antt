@@ -10,13 +10,13 @@ pub change-requires-clause-few : goal.change-requires-clause-few
 change-requires-clause-few g c =
     let b = g.B.Board.stacks c.args.board.now in
     let empty : height_at b c.args.place ≡ 0 = omega (arith, c.height.ensures, c.if-height-eq0.true) in
-    few_known _ b c.requires.sound (cleared_known c.args.keeper.now b c.args.place c.requires.sound c.requires.late empty)
+    few_known _ b c.requires.turned.sound (cleared_known c.args.keeper.now b c.args.place c.requires.turned.sound c.requires.turned.late empty)
 
 pub returns-then-height-eq0-clause-known : goal.returns-then-height-eq0-clause-known
 returns-then-height-eq0-clause-known g c =
     let b = g.B.Board.stacks c.args.board.now in
     let empty : height_at b c.args.place ≡ 0 = omega (arith, c.height.ensures, c.if-height-eq0.true) in
-    subst (λ k. Known k b) (sym c.change.ensures.status) (cleared_known c.args.keeper.now b c.args.place c.requires.sound c.requires.late empty)
+    subst (λ k. Known k b) (sym c.change.ensures.status) (cleared_known c.args.keeper.now b c.args.place c.requires.turned.sound c.requires.turned.late empty)
 
 pub returns-then-height-eq0-clause-room : goal.returns-then-height-eq0-clause-room
 returns-then-height-eq0-clause-room g c =
@@ -24,7 +24,7 @@ returns-then-height-eq0-clause-room g c =
     let empty : height_at b c.args.place ≡ 0 = omega (arith, c.height.ensures, c.if-height-eq0.true) in
     let none : length c.args.delta.now ≡ 0 = ap length c.requires.first in
     let few : length c.change.new.delta ≤ 1 = omega (arith, none, c.change.ensures.room) in
-    cleared_room c.args.keeper.now b c.args.place c.requires.sound c.requires.late empty (length c.change.new.delta) few
+    cleared_room c.args.keeper.now b c.args.place c.requires.turned.sound c.requires.turned.late empty (length c.change.new.delta) few
 
 pub returns-then-height-eq0-clause-told : goal.returns-then-height-eq0-clause-told
 returns-then-height-eq0-clause-told g c =
@@ -36,4 +36,4 @@ pub returns-else-height-eq0-clause-known : goal.returns-else-height-eq0-clause-k
 returns-else-height-eq0-clause-known g c =
     let b = g.B.Board.stacks c.args.board.now in
     let some : 0 < height_at b c.args.place = omega (arith, c.height.ensures, c.if-height-eq0.false) in
-    late_known c.args.keeper.now b c.args.place c.requires.sound c.requires.late c.requires.changed some
+    late_known c.args.keeper.now b c.args.place c.requires.turned.sound c.requires.turned.late c.requires.turned.changed some

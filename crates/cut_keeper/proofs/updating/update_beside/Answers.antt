@@ -6,10 +6,13 @@ use Rattle.cut_keeper.proofs.UpdateLaws.{made_right, none_pending}
 use Rattle.cut_keeper.proofs.LateLaws.{late_pending}
 use Rattle.cut_keeper.proofs.updating.update_beside.Goals as goal
 
+pub beside-requires-clause-ring : goal.beside-requires-clause-ring
+beside-requires-clause-ring g c = record { sound = c.requires.turned.sound; within = c.requires.within; mask = c.requires.mask }
+
 pub beside-requires-clause-pending : goal.beside-requires-clause-pending
 beside-requires-clause-pending g c =
     let b = g.B.Board.stacks c.args.board.now in
-    subst (λ k. Pending k b c.args.place dirs) (sym c.settle.ensures.status) (late_pending c.args.keeper.now b c.args.place c.requires.sound c.requires.late c.requires.changed c.requires.arc)
+    subst (λ k. Pending k b c.args.place dirs) (sym c.settle.ensures.status) (late_pending c.args.keeper.now b c.args.place c.requires.turned.sound c.requires.turned.late c.requires.turned.changed c.requires.arc)
 
 pub beside-requires-clause-room : goal.beside-requires-clause-room
 beside-requires-clause-room g c =

@@ -16,7 +16,7 @@ lift-place-requires c =
 
 pub back-requires : goal.back-requires
 back-requires c =
-    board_short _ c.self.inside.board (c.added_uncounted-delta.ensures.undone ∙ c.self.invariant.1) c.self.invariant.0
+    board_short _ c.self.inside.board (c.update_uncounted-delta.ensures.undone ∙ c.self.invariant.1) c.self.invariant.0
 
 pub invariant_of-self : goal.invariant_of-self
 invariant_of-self c =
@@ -25,5 +25,5 @@ invariant_of-self c =
     let small : x < 28 = subst (λ (n : ℕ). n < 28) (sym c.at-piece.ensures) c.requires.small in
     let none = nowhere b c.self.invariant.0 x c.spot.result c.spot.ensures.spot (sym c.is_some.ensures ∙ c.if-is_some.false) in
     let same = c.lift-place.ensures.lifted ∙ ap (λ d. lift d x) c.put.ensures ∙ lift_put b x c.args.place c.self.invariant.0 small c.requires.within none in
-    let stood = c.back.ensures ∙ c.added_uncounted-delta.ensures.undone ∙ c.self.invariant.1 ∙ ap keeper_of (sym same) in
+    let stood = c.back.ensures ∙ c.update_uncounted-delta.ensures.undone ∙ c.self.invariant.1 ∙ ap keeper_of (sym same) in
     (subst IsBoard (sym same) c.self.invariant.0, stood)
