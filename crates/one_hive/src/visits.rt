@@ -2,12 +2,12 @@
 
 ghost use Rattle.std.specs.Prelude.{◌≡◌, ◌↔◌, ◌⊎◌, ◌++◌, ◌∷◌, [], Some, IsTrue, slice_get, false};
 ghost use Rattle.hive_model.specs.declared.places.Place.{Place};
-ghost use Rattle.hive_model.specs.Boards.{Stacks, IsBoard, top_at, is_occupied};
-ghost use Rattle.hive_model.specs.Hive.{OneHive, OneHiveOn, IsSeparating, on_list};
+ghost use Rattle.hive_model.specs.Boards.{Stacks, IsBoard, is_occupied};
+ghost use Rattle.hive_model.specs.Hive.{OneHive, IsSeparating};
 ghost use Rattle.hive_model.specs.Lists.{IsOn, Rises};
 ghost use Rattle.hive_model.specs.Places.{place_cmp, dirs};
 ghost use Rattle.one_hive.specs.Walks.{AreMarked};
-ghost use Rattle.one_hive.specs.Visits.{Visited, Found};
+ghost use Rattle.one_hive.specs.Visits.{IsVisiting, Visited, Found};
 
 use crate::beyond::{Beyond, behind, join, nothing, one};
 use crate::met::{Met, add, is_marked};
@@ -40,13 +40,8 @@ pub(crate) fn visit<B: Board>(
     met: &mut Met,
     out: &mut PlaceList,
 ) -> Beyond
-    requires board { IsBoard (B.stacks board.now) }
-    requires marked { AreMarked (B.stacks board.now) met.old.places.items met.old.tops }
-    requires linked { OneHiveOn (on_list met.old.places.items) }
-    requires here { IsOn met.old.places.items from }
-    requires top { top_at (B.stacks board.now) from ≡ Some top }
-    requires rises { Rises place_cmp out.old.items }
-    requires sound { (p : Place) → IsOn out.old.items p → IsSeparating (B.stacks board.now) p }
+    requires { IsVisiting (B.stacks board.now) from top met.old.places.items met.old.tops
+        out.old.items }
     ensures marked { AreMarked (B.stacks board.now) met.new.places.items met.new.tops }
     ensures visited { Visited (B.stacks board.now) from dirs met.old.places.items
         met.new.places.items result.near result.cut }
@@ -71,13 +66,8 @@ pub(crate) fn visit_beside<B: Board>(
     met: &mut Met,
     out: &mut PlaceList,
 ) -> Beyond
-    requires board { IsBoard (B.stacks board.now) }
-    requires marked { AreMarked (B.stacks board.now) met.old.places.items met.old.tops }
-    requires linked { OneHiveOn (on_list met.old.places.items) }
-    requires here { IsOn met.old.places.items from }
-    requires top { top_at (B.stacks board.now) from ≡ Some top }
-    requires rises { Rises place_cmp out.old.items }
-    requires sound { (p : Place) → IsOn out.old.items p → IsSeparating (B.stacks board.now) p }
+    requires { IsVisiting (B.stacks board.now) from top met.old.places.items met.old.tops
+        out.old.items }
     ensures marked { AreMarked (B.stacks board.now) met.new.places.items met.new.tops }
     ensures visited { Visited (B.stacks board.now) from (dir ∷ []) met.old.places.items
         met.new.places.items result.near result.cut }
