@@ -1,6 +1,7 @@
--- What the search of a root answers.
-use Rattle.std.specs.Prelude.{◌≡◌, ℕ, Some}
+-- What the search of a root answers, and what one for a time tells of itself.
+use Rattle.std.specs.Prelude.{◌≡◌, ℕ, ◌+◌, ◌<◌, ◌≤◌, Some}
 use Rattle.hive_model.specs.declared.answers.Best.{Best}
+use Rattle.hive_model.specs.declared.answers.Timed.{Timed}
 use Rattle.hive_model.specs.Positions.{Position}
 use Rattle.hive_model.specs.Minimax.{value, best}
 
@@ -8,3 +9,15 @@ use Rattle.hive_model.specs.Minimax.{value, best}
 pub record IsTop (p : Position) (depth : ℕ) (top : Best) : Type 0 where
   pub first : best p depth ≡ Some top.best
   pub worth : top.value ≡ value p depth
+
+-- what a search tells that was given so many milliseconds, between the readings of the clock that
+-- were the last before and after it: a depth below 64 only where the time was over, and depth 1
+-- where there was none
+pub record IsTimed (given before after : ℕ) (told : Timed) : Type 0 where
+  pub depth : (1 ≤ told.depth) × (told.depth ≤ 64)
+  pub late : told.depth < 64 → told.started + given ≤ told.stopped
+  pub none : given ≡ 0 → told.depth ≡ 1
+  pub budget : told.budget ≡ given
+  pub started : before ≤ told.started
+  pub order : told.started ≤ told.stopped
+  pub stopped : told.stopped ≡ after

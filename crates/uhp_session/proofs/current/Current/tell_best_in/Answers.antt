@@ -8,4 +8,4 @@ tell_move-requires g c =
     let before : Course = g.G.Game.course c.reserve.new.self in
     let now : Course = g.G.Game.course c.best_in-found.new.game in
     let same : now ≡ before = c.best_in-found.ensures.game in
-    best_on_course before (record { game_type = now.game_type; made = now.made; repetition = c.args.self.now.repetition }) c.best_in-found.result.1.depth c.best_in-found.result.0.best (sym (ap position same)) c.best_in-found.ensures.first
+    best_on_course before (record { game_type = now.game_type; made = now.made; repetition = c.args.self.now.repetition }) c.best_in-found.result.1.depth c.best_in-found.result.0.best (sym (ap position same)) c.best_in-found.ensures.top.first
