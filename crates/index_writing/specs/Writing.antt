@@ -1,15 +1,33 @@
--- What is written of indices, and which move of a list comes first.
-use Rattle.std.specs.Prelude.{◌≡◌, ◌<◌, ℕ, Bool, true, false, List, length, take, Option}
+-- What is asked of a writer of indices, what it writes, and which move of a list comes first.
+use Rattle.std.specs.Prelude.{◌≡◌, ◌<◌, ◌≤◌, ℕ, Bool, true, false, List, length, take, Option}
 use Rattle.std.specs.List.{flat_map, position_from}
 use Rattle.io_edge.specs.Outside.{Told, behind}
 use Rattle.hive_model.specs.declared.places.Move.{Move}
 use Rattle.hive_model.specs.Positions.{Position}
 use Rattle.hive_model.specs.Games.{after}
+use Rattle.hive_model.specs.Legal.{moves}
+use Rattle.hive_model.specs.Courses.{Course, position}
+use Rattle.hive_model.specs.Stack.{Levels, level_of}
 use Rattle.hive_model.specs.Minimax.{value}
+use Rattle.search_laws.specs.Laws.{IsSmall}
 use Rattle.claim_walks.specs.declared.limit.Limit.{Limit}
-use Rattle.claim_walks.specs.Limits.{is_kept}
+use Rattle.claim_walks.specs.Limits.{is_kept, number}
 use Rattle.strategy_check.specs.Least.{least}
 use Rattle.certificate_text.specs.Text.{index_line}
+
+-- the legal moves stand on this level, and there is room for each of them and for so many plies
+-- behind it
+pub record HasReplies (depth level : ℕ) (game : Course) (stack : Levels) : Type 0 where
+  pub deep : depth < 64
+  pub spare : depth < game.spare
+  pub free : depth ≤ stack.free
+  pub stands : level < length stack.lists
+  pub listed : level_of stack level ≡ moves (position game)
+
+-- a judge that is prepared for so many plies can tell whether the limit is kept with so many left
+pub record CanTell (depth : ℕ) (limit : Limit) (prepared : ℕ) : Type 0 where
+  pub ready : depth ≤ prepared
+  pub small : IsSmall 1000090 (number limit)
 
 -- the indices, one a line
 abbrev pub index_lines : List ℕ → List ℕ

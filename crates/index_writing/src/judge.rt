@@ -6,6 +6,7 @@ ghost use Rattle.hive_model.specs.Courses.{position};
 ghost use Rattle.search_laws.specs.Found.{IsFound};
 ghost use Rattle.search_laws.specs.Laws.{IsSmall};
 ghost use Rattle.claim_walks.specs.Limits.{is_kept, number};
+ghost use Rattle.index_writing.specs.Writing.{CanTell};
 
 use claim_walks::Limit;
 use deepening::Searcher;
@@ -21,8 +22,7 @@ pub trait Judge {
     /// before.
     fn is_kept<G: Game>(&mut self, game: &mut G, depth: u32, limit: Limit) -> bool
         requires deep { depth ≤ 64 }
-        requires ready { depth ≤ prepared self.old }
-        requires small { IsSmall 1000090 (number limit) }
+        requires told { CanTell depth limit (prepared self.old) }
         requires spare { depth ≤ (G.course game.old).spare }
         ensures kept { result ≡ is_kept limit (value (position (G.course game.old)) depth) }
         ensures game { G.course game.new ≡ G.course game.old }

@@ -1,6 +1,6 @@
 //! Writing the least indices that show a limit.
 
-ghost use Rattle.std.specs.Prelude.{◌≡◌, ◌-◌, ◌<◌, ◌≤◌, length, false, IsTrue};
+ghost use Rattle.std.specs.Prelude.{◌≡◌, ◌<◌, ◌≤◌, length, false, IsTrue};
 ghost use Rattle.io_edge.specs.Outside.{HasCause};
 ghost use Rattle.hive_model.specs.Lists.{IsOn};
 ghost use Rattle.hive_model.specs.Legal.{moves};
@@ -8,13 +8,14 @@ ghost use Rattle.hive_model.specs.Games.{after};
 ghost use Rattle.hive_model.specs.Minimax.{IsInner};
 ghost use Rattle.hive_model.specs.Courses.{position};
 ghost use Rattle.hive_model.specs.Stack.{level_of};
-ghost use Rattle.search_laws.specs.Laws.{IsSmall};
 ghost use Rattle.search_laws.specs.Leaves.{IsLeaf};
-ghost use Rattle.claim_walks.specs.Limits.{number};
+ghost use Rattle.search_laws.specs.Nodes.{HasRoom, IsNode, CanReply, AreAsBefore};
 ghost use Rattle.claim_walks.specs.Follows.{range_of};
 ghost use Rattle.strategy_check.specs.Least.{least};
 ghost use Rattle.certificate_text.specs.Text.{index_line};
 ghost use Rattle.index_writing.specs.Writing.{
+  CanTell,
+  HasReplies,
   Wrote,
   first_kept,
   index_lines,
@@ -46,8 +47,7 @@ fn is_kept_below<G: Game, J: Judge>(
     limit: Limit,
 ) -> bool
     requires deep { depth < 64 }
-    requires ready { depth ≤ J.prepared judge.old }
-    requires small { IsSmall 1000090 (number limit) }
+    requires told { CanTell depth limit (J.prepared judge.old) }
     requires legal { IsOn (moves (position (G.course game.old))) m }
     requires spare { depth < (G.course game.old).spare }
     ensures kept { result ≡ keeps_below (position (G.course game.old)) depth limit m }
@@ -71,8 +71,7 @@ fn find_kept<G: Game, J: Judge>(
     stack: &MoveStack,
 ) -> Option<u32>
     requires deep { depth < 64 }
-    requires ready { depth ≤ J.prepared judge.old }
-    requires small { IsSmall 1000090 (number limit) }
+    requires told { CanTell depth limit (J.prepared judge.old) }
     requires spare { depth < (G.course game.old).spare }
     requires level { level < length stack.now.lists }
     requires listed { level_of stack.now level ≡ moves (position (G.course game.old)) }
@@ -111,17 +110,13 @@ pub fn write_indices<G: Game, J: Judge, K: Sink>(
     stack: &mut MoveStack,
     sink: &mut K,
 ) -> bool
-    requires deep { depth ≤ 64 }
-    requires ready { depth ≤ J.prepared judge.old }
-    requires small { IsSmall 1000090 (number limit) }
-    requires spare { depth ≤ (G.course game.old).spare }
-    requires room { depth ≤ stack.old.free }
+    requires room { HasRoom depth (G.course game.old) stack.old }
+    requires told { CanTell depth limit (J.prepared judge.old) }
     ensures wrote { Wrote result (index_lines (least (position (G.course game.old)) depth limit))
         (K.written sink.old) (K.written sink.new) }
     ensures cause { HasCause (result ≡ false) (K.write_faults sink.old) (K.write_faults sink.new) }
-    ensures game { G.course game.new ≡ G.course game.old }
+    ensures before { AreAsBefore (G.course game.old) (G.course game.new) stack.old stack.new }
     ensures same { J.prepared judge.new ≡ J.prepared judge.old }
-    ensures stack { stack.new ≡ stack.old }
 {
     if is_leaf(game, depth) {
         return true;
@@ -144,20 +139,13 @@ fn write_node<G: Game, J: Judge, K: Sink>(
     stack: &mut MoveStack,
     sink: &mut K,
 ) -> bool
-    requires deep { depth ≤ 64 }
-    requires inner { IsInner (position (G.course game.old)) depth }
-    requires ready { depth ≤ J.prepared judge.old }
-    requires small { IsSmall 1000090 (number limit) }
-    requires spare { depth ≤ (G.course game.old).spare }
-    requires room { depth - 1 ≤ stack.old.free }
-    requires level { level < length stack.old.lists }
-    requires listed { level_of stack.old level ≡ moves (position (G.course game.old)) }
+    requires node { IsNode depth level (G.course game.old) stack.old }
+    requires told { CanTell depth limit (J.prepared judge.old) }
     ensures wrote { Wrote result (index_lines (least (position (G.course game.old)) depth limit))
         (K.written sink.old) (K.written sink.new) }
     ensures cause { HasCause (result ≡ false) (K.write_faults sink.old) (K.write_faults sink.new) }
-    ensures game { G.course game.new ≡ G.course game.old }
+    ensures before { AreAsBefore (G.course game.old) (G.course game.new) stack.old stack.new }
     ensures same { J.prepared judge.new ≡ J.prepared judge.old }
-    ensures stack { stack.new ≡ stack.old }
 {
     match limit {
         Limit::AtMost(most) => {
@@ -193,21 +181,15 @@ pub fn write_moves<G: Game, J: Judge, K: Sink>(
     stack: &mut MoveStack,
     sink: &mut K,
 ) -> bool
-    requires deep { depth < 64 }
-    requires ready { depth ≤ J.prepared judge.old }
-    requires small { IsSmall 1000090 (number limit) }
-    requires spare { depth < (G.course game.old).spare }
-    requires room { depth ≤ stack.old.free }
-    requires level { level < length stack.old.lists }
-    requires listed { level_of stack.old level ≡ moves (position (G.course game.old)) }
+    requires replies { HasReplies depth level (G.course game.old) stack.old }
+    requires told { CanTell depth limit (J.prepared judge.old) }
     requires before { to ≤ length (moves (position (G.course game.old))) }
     ensures wrote { Wrote result (lines_below (position (G.course game.old)) depth limit
         (range_of (moves (position (G.course game.old))) from to)) (K.written sink.old)
         (K.written sink.new) }
     ensures cause { HasCause (result ≡ false) (K.write_faults sink.old) (K.write_faults sink.new) }
-    ensures game { G.course game.new ≡ G.course game.old }
+    ensures before { AreAsBefore (G.course game.old) (G.course game.new) stack.old stack.new }
     ensures same { J.prepared judge.new ≡ J.prepared judge.old }
-    ensures stack { stack.new ≡ stack.old }
 {
     for i in from..to {
         let m = stack.get(level, i);
@@ -229,19 +211,14 @@ pub fn write_child<G: Game, J: Judge, K: Sink>(
     stack: &mut MoveStack,
     sink: &mut K,
 ) -> bool
-    requires deep { depth < 64 }
-    requires ready { depth ≤ J.prepared judge.old }
-    requires small { IsSmall 1000090 (number limit) }
-    requires legal { IsOn (moves (position (G.course game.old))) m }
-    requires spare { depth < (G.course game.old).spare }
-    requires room { depth ≤ stack.old.free }
+    requires can { CanReply m depth (G.course game.old) stack.old }
+    requires told { CanTell depth limit (J.prepared judge.old) }
     ensures wrote { Wrote result (index_lines
         (least (after (position (G.course game.old)) m) depth limit)) (K.written sink.old)
         (K.written sink.new) }
     ensures cause { HasCause (result ≡ false) (K.write_faults sink.old) (K.write_faults sink.new) }
-    ensures game { G.course game.new ≡ G.course game.old }
+    ensures before { AreAsBefore (G.course game.old) (G.course game.new) stack.old stack.new }
     ensures same { J.prepared judge.new ≡ J.prepared judge.old }
-    ensures stack { stack.new ≡ stack.old }
 {
     game.play(m);
     let written = write_indices(judge, game, depth, limit, stack, sink);

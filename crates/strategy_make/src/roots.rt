@@ -1,15 +1,15 @@
 //! Writing the least indices that show which move is best.
 
-ghost use Rattle.std.specs.Prelude.{◌≡◌, ◌-◌, ◌<◌, ◌≤◌, length, slice_get, Some, false};
+ghost use Rattle.std.specs.Prelude.{◌≡◌, ◌≤◌, slice_get, Some, false};
 ghost use Rattle.io_edge.specs.Outside.{HasCause};
 ghost use Rattle.hive_model.specs.Lists.{IsOn};
 ghost use Rattle.hive_model.specs.Legal.{moves};
 ghost use Rattle.hive_model.specs.Minimax.{IsInner};
 ghost use Rattle.hive_model.specs.Courses.{position};
-ghost use Rattle.hive_model.specs.Stack.{level_of};
 ghost use Rattle.search_laws.specs.Laws.{IsSmall};
+ghost use Rattle.search_laws.specs.Nodes.{HasRoom, AreAsBefore};
 ghost use Rattle.strategy_check.specs.Least.{least_moves};
-ghost use Rattle.index_writing.specs.Writing.{Wrote, index_lines};
+ghost use Rattle.index_writing.specs.Writing.{HasReplies, Wrote, index_lines};
 ghost use Rattle.strategy_make.specs.Making.{least_indices};
 
 use claim_walks::Limit;
@@ -30,22 +30,17 @@ fn write_root<G: Game, J: Judge, K: Sink>(
     stack: &mut MoveStack,
     sink: &mut K,
 ) -> bool
-    requires deep { depth < 64 }
+    requires replies { HasReplies depth level (G.course game.old) stack.old }
     requires ready { depth ≤ J.prepared judge.old }
     requires small { IsSmall 1000064 best.now.value }
-    requires spare { depth < (G.course game.old).spare }
-    requires room { depth ≤ stack.old.free }
-    requires level { level < length stack.old.lists }
-    requires listed { level_of stack.old level ≡ moves (position (G.course game.old)) }
     requires place { slice_get (moves (position (G.course game.old))) place ≡ Some best.now.best }
     ensures wrote { Wrote result
         (index_lines (least_moves (position
         (G.course game.old)) depth place best.now.best best.now.value))
         (K.written sink.old) (K.written sink.new) }
     ensures cause { HasCause (result ≡ false) (K.write_faults sink.old) (K.write_faults sink.new) }
-    ensures game { G.course game.new ≡ G.course game.old }
+    ensures before { AreAsBefore (G.course game.old) (G.course game.new) stack.old stack.new }
     ensures same { J.prepared judge.new ≡ J.prepared judge.old }
-    ensures stack { stack.new ≡ stack.old }
 {
     let count = stack.level_len(level);
     let less = Limit::AtLeast(1 - best.value);
@@ -75,21 +70,18 @@ pub(crate) fn write_least<G: Game, J: Judge, K: Sink>(
     stack: &mut MoveStack,
     sink: &mut K,
 ) -> bool
-    requires deep { depth ≤ 64 }
     requires inner { IsInner (position (G.course game.old)) depth }
+    requires room { HasRoom depth (G.course game.old) stack.old }
     requires ready { depth ≤ J.prepared judge.old }
     requires small { IsSmall 1000064 best.now.value }
     requires legal { IsOn (moves (position (G.course game.old))) best.now.best }
-    requires spare { depth ≤ (G.course game.old).spare }
-    requires room { depth ≤ stack.old.free }
     ensures wrote { Wrote result
         (index_lines (least_indices (position
         (G.course game.old)) depth best.now.best best.now.value))
         (K.written sink.old) (K.written sink.new) }
     ensures cause { HasCause (result ≡ false) (K.write_faults sink.old) (K.write_faults sink.new) }
-    ensures game { G.course game.new ≡ G.course game.old }
+    ensures before { AreAsBefore (G.course game.old) (G.course game.new) stack.old stack.new }
     ensures same { J.prepared judge.new ≡ J.prepared judge.old }
-    ensures stack { stack.new ≡ stack.old }
 {
     let level = stack.levels();
     game.list(stack);

@@ -4,13 +4,13 @@ use Rattle.std.proofs.Common.{rules, ◌≡◌, ◌<◌, ◌-◌, length, List, 
 use Rattle.std.specs.List.{slice_get}
 use Rattle.hive_model.specs.declared.places.Move.{Move}
 use Rattle.hive_model.specs.Legal.{moves}
-use Rattle.hive_model.specs.Courses.{position, Course}
-use Rattle.hive_model.specs.Stack.{Levels}
+use Rattle.hive_model.specs.Courses.{position}
 use Rattle.search_laws.specs.Laws.{IsSmall}
 use Rattle.search_laws.proofs.Signs.{neg-is}
-use Rattle.search_laws.proofs.LoopLaws.{on-at}
+use Rattle.search_laws.proofs.NodeLaws.{node-reply, before-then}
 use Rattle.search_laws.proofs.HintLaws.{here-in}
 use Rattle.claim_walks.specs.declared.limit.Limit.TheVariants.{AtMost, AtLeast}
+use Rattle.index_writing.proofs.LevelLaws.{level-reply}
 use Rattle.index_writing.proofs.WriteLaws.{child-written, leaf-written, turn-written, turn-cut, turn-over, node-written, node-cut, node-none, node-every, place-under, wider, small-of, small-turned}
 use Rattle.index_writing.proofs.writing.+write.Goals as goal
 
@@ -24,7 +24,8 @@ write_indices-returns-then-is_leaf-clause-wrote g t c =
 
 pub write_moves-write_child-requires : goal.write_moves-write_child-requires
 write_moves-write_child-requires g t c κs within =
-    let turn = c.loop-i.invariant in (
+    let turn = c.loop-i.invariant in
+    let start = g.G.Game.course c.args.game.now in (
       search rules,
       (
         within.0,
@@ -33,20 +34,8 @@ write_moves-write_child-requires g t c κs within =
           (
             within.1.1,
             (
-              c.requires.deep,
-              (
-                omega (arith, turn.same, c.requires.ready),
-                (
-                  c.requires.small,
-                  (
-                    on-at _ _ _ (here-in _ _ _ _ _ _ turn.stack (c.requires.listed ∙ ap (λ (h : Course). moves (position h)) (sym turn.game)) c.get-m.ensures),
-                    (
-                      omega (arith, ap (λ (h : Course). h.spare) turn.game, c.requires.spare),
-                      omega (arith, ap (λ (s : Levels). s.free) turn.stack, c.requires.room),
-                    ),
-                  ),
-                ),
-              ),
+              level-reply start _ _ _ c.args.depth c.args.level c.loop-i.i c.get-m.result c.requires.replies turn.before c.get-m.ensures,
+              record { ready = omega (arith, turn.same, c.requires.told.ready); small = c.requires.told.small },
             ),
           ),
         ),
@@ -57,22 +46,21 @@ pub write_moves-returns-then-not-write_child-clause-wrote : goal.write_moves-ret
 write_moves-returns-then-not-write_child-clause-wrote g t c =
     let turn = c.loop-i.invariant in
     let start = g.G.Game.course c.args.game.now in
-    let here : slice_get (moves (position start)) c.loop-i.i ≡ Some c.get-m.result = here-in _ _ _ _ _ _ turn.stack c.requires.listed c.get-m.ensures in
-    turn.wrote false _ (turn-cut start _ c.args.depth c.args.limit c.loop-i.i c.args.to c.get-m.result c.write_child.result _ _ turn.game here c.loop-i-test.true (search rules) c.write_child.ensures.wrote)
+    let here : slice_get (moves (position start)) c.loop-i.i ≡ Some c.get-m.result = here-in _ _ _ _ _ _ turn.before.stack c.requires.replies.listed c.get-m.ensures in
+    turn.wrote false _ (turn-cut start _ c.args.depth c.args.limit c.loop-i.i c.args.to c.get-m.result c.write_child.result _ _ turn.before.game here c.loop-i-test.true (search rules) c.write_child.ensures.wrote)
 
 pub write_moves-loop-i-preserved : goal.write_moves-loop-i-preserved
 write_moves-loop-i-preserved g t c =
     let turn = c.loop-i.invariant in
     let start = g.G.Game.course c.args.game.now in
-    let here : slice_get (moves (position start)) c.loop-i.i ≡ Some c.get-m.result = here-in _ _ _ _ _ _ turn.stack c.requires.listed c.get-m.ensures in
+    let here : slice_get (moves (position start)) c.loop-i.i ≡ Some c.get-m.result = here-in _ _ _ _ _ _ turn.before.stack c.requires.replies.listed c.get-m.ensures in
     let whole : c.write_child.result ≡ true = search rules in
     record {
-      game = c.write_child.ensures.game ∙ turn.game;
+      before = before-then _ _ _ _ _ _ turn.before c.write_child.ensures.before;
       same = c.write_child.ensures.same ∙ turn.same;
-      stack = c.write_child.ensures.stack ∙ turn.stack;
       faults = c.write_child.ensures.cause.same (λ e. cc) ∙ turn.faults;
       wrote = λ r b later. turn.wrote r b
-          (turn-written start _ c.args.depth c.args.limit c.loop-i.i c.args.to c.get-m.result c.write_child.result r _ _ b turn.game here c.loop-i-test.true whole c.write_child.ensures.wrote later);
+          (turn-written start _ c.args.depth c.args.limit c.loop-i.i c.args.to c.get-m.result c.write_child.result r _ _ b turn.before.game here c.loop-i-test.true whole c.write_child.ensures.wrote later);
     }
 
 pub write_moves-returns-clause-wrote : goal.write_moves-returns-clause-wrote
@@ -81,28 +69,25 @@ write_moves-returns-clause-wrote g t c =
 
 pub write_node-returns-in_default-clause-wrote : goal.write_node-returns-in_default-clause-wrote
 write_node-returns-in_default-clause-wrote g t c =
-    let small : IsSmall 1000090 c.in-AtLeast.least = small-of c.args.limit (AtLeast c.in-AtLeast.least) c.in-AtLeast.least c.in-AtLeast.is refl c.requires.small in
-    node-none (position (g.G.Game.course c.args.game.now)) c.args.depth c.args.limit c.in-AtLeast.least _ (g.K.Sink.written c.args.sink.now) c.requires.inner c.in-AtLeast.is (neg-is _ (wider _ small)) c.in_default.ensures.found
+    let small : IsSmall 1000090 c.in-AtLeast.least = small-of c.args.limit (AtLeast c.in-AtLeast.least) c.in-AtLeast.least c.in-AtLeast.is refl c.requires.told.small in
+    node-none (position (g.G.Game.course c.args.game.now)) c.args.depth c.args.limit c.in-AtLeast.least _ (g.K.Sink.written c.args.sink.now) c.requires.node.inner c.in-AtLeast.is (neg-is _ (wider _ small)) c.in_default.ensures.found
 
 pub write_node-get-m-requires-clause-place : goal.write_node-get-m-requires-clause-place
 write_node-get-m-requires-clause-place g t c =
     let p = position (g.G.Game.course c.args.game.now) in
     let low : c.in-Some.place < length (moves p) = place-under p (c.args.depth - 1) (AtMost (to_z w32 (of_z w32 (pos 0 -ℤ to_z w32 (of_z w32 c.in-AtLeast.least))))) c.in-Some.place c.in-Some.ensures.found in
-    omega (arith, low, ap length c.requires.listed)
+    omega (arith, low, ap length c.requires.node.listed)
 
 pub write_node-returns-then-not-write_index-clause-wrote : goal.write_node-returns-then-not-write_index-clause-wrote
 write_node-returns-then-not-write_index-clause-wrote g t c =
     let p = position (g.G.Game.course c.args.game.now) in
-    let small : IsSmall 1000090 c.in-AtLeast.least = small-of c.args.limit (AtLeast c.in-AtLeast.least) c.in-AtLeast.least c.in-AtLeast.is refl c.requires.small in
-    node-cut p c.args.depth c.args.limit c.in-AtLeast.least _ c.in-Some.place c.write_index.result _ _ c.requires.inner c.in-AtLeast.is (neg-is _ (wider _ small)) c.in-Some.ensures.found (search rules) c.write_index.ensures.wrote
+    let small : IsSmall 1000090 c.in-AtLeast.least = small-of c.args.limit (AtLeast c.in-AtLeast.least) c.in-AtLeast.least c.in-AtLeast.is refl c.requires.told.small in
+    node-cut p c.args.depth c.args.limit c.in-AtLeast.least _ c.in-Some.place c.write_index.result _ _ c.requires.node.inner c.in-AtLeast.is (neg-is _ (wider _ small)) c.in-Some.ensures.found (search rules) c.write_index.ensures.wrote
 
 pub write_node-write_child-requires : goal.write_node-write_child-requires
 write_node-write_child-requires g t c κs within =
-    let p = position (g.G.Game.course c.args.game.now) in
-    let same = c.find_kept.ensures.game in
-    let here : slice_get (moves p) c.in-Some.place ≡ Some c.get-m.result = sym (ap (λ (ms : List Move). slice_get ms c.in-Some.place) c.requires.listed) ∙ c.get-m.ensures in
-    let now : slice_get (moves (position (g.G.Game.course c.find_kept.new.game))) c.in-Some.place ≡ Some c.get-m.result = ap (λ (h : Course). slice_get (moves (position h)) c.in-Some.place) same ∙ here in
-    let small : IsSmall 1000090 c.in-AtLeast.least = small-of c.args.limit (AtLeast c.in-AtLeast.least) c.in-AtLeast.least c.in-AtLeast.is refl c.requires.small in (
+    let start = g.G.Game.course c.args.game.now in
+    let small : IsSmall 1000090 c.in-AtLeast.least = small-of c.args.limit (AtLeast c.in-AtLeast.least) c.in-AtLeast.least c.in-AtLeast.is refl c.requires.told.small in (
       search rules,
       (
         within.0,
@@ -111,20 +96,8 @@ write_node-write_child-requires g t c κs within =
           (
             within.1.1,
             (
-              omega (arith, c.requires.deep, c.requires.inner.deep),
-              (
-                omega (arith, c.find_kept.ensures.same, c.requires.ready),
-                (
-                  small-turned _ small,
-                  (
-                    on-at _ _ _ now,
-                    (
-                      omega (arith, ap (λ (h : Course). h.spare) same, c.requires.spare, c.requires.inner.deep),
-                      c.requires.room,
-                    ),
-                  ),
-                ),
-              ),
+              node-reply start _ _ _ c.args.depth c.args.level c.in-Some.place c.get-m.result c.requires.node (record { game = c.find_kept.ensures.game; stack = refl }) c.get-m.ensures,
+              record { ready = omega (arith, c.find_kept.ensures.same, c.requires.told.ready); small = small-turned _ small },
             ),
           ),
         ),
@@ -134,14 +107,14 @@ write_node-write_child-requires g t c κs within =
 pub write_node-returns-in-AtMost-clause-wrote : goal.write_node-returns-in-AtMost-clause-wrote
 write_node-returns-in-AtMost-clause-wrote g t c =
     let p = position (g.G.Game.course c.args.game.now) in
-    let all : c.level_len-count.result ≡ length (moves p) = c.level_len-count.ensures ∙ ap length c.requires.listed in
-    let small : IsSmall 1000090 c.in-AtMost.most = small-of c.args.limit (AtMost c.in-AtMost.most) c.in-AtMost.most c.in-AtMost.is refl c.requires.small in
-    node-every p c.args.depth c.args.limit c.in-AtMost.most _ c.level_len-count.result c.write_moves.result _ _ c.requires.inner c.in-AtMost.is (neg-is _ (wider _ small)) all c.write_moves.ensures.wrote
+    let all : c.level_len-count.result ≡ length (moves p) = c.level_len-count.ensures ∙ ap length c.requires.node.listed in
+    let small : IsSmall 1000090 c.in-AtMost.most = small-of c.args.limit (AtMost c.in-AtMost.most) c.in-AtMost.most c.in-AtMost.is refl c.requires.told.small in
+    node-every p c.args.depth c.args.limit c.in-AtMost.most _ c.level_len-count.result c.write_moves.result _ _ c.requires.node.inner c.in-AtMost.is (neg-is _ (wider _ small)) all c.write_moves.ensures.wrote
 
 pub write_node-returns-else-not-write_index-clause-wrote : goal.write_node-returns-else-not-write_index-clause-wrote
 write_node-returns-else-not-write_index-clause-wrote g t c =
     let p = position (g.G.Game.course c.args.game.now) in
-    let here : slice_get (moves p) c.in-Some.place ≡ Some c.get-m.result = sym (ap (λ (ms : List Move). slice_get ms c.in-Some.place) c.requires.listed) ∙ c.get-m.ensures in
-    let small : IsSmall 1000090 c.in-AtLeast.least = small-of c.args.limit (AtLeast c.in-AtLeast.least) c.in-AtLeast.least c.in-AtLeast.is refl c.requires.small in
-    node-written (g.G.Game.course c.args.game.now) _ c.args.depth c.args.limit c.in-AtLeast.least _ c.in-Some.place c.get-m.result c.write_index.result c.write_child.result _ _ _ c.requires.inner c.in-AtLeast.is (neg-is _ (wider _ small)) c.find_kept.ensures.game
+    let here : slice_get (moves p) c.in-Some.place ≡ Some c.get-m.result = sym (ap (λ (ms : List Move). slice_get ms c.in-Some.place) c.requires.node.listed) ∙ c.get-m.ensures in
+    let small : IsSmall 1000090 c.in-AtLeast.least = small-of c.args.limit (AtLeast c.in-AtLeast.least) c.in-AtLeast.least c.in-AtLeast.is refl c.requires.told.small in
+    node-written (g.G.Game.course c.args.game.now) _ c.args.depth c.args.limit c.in-AtLeast.least _ c.in-Some.place c.get-m.result c.write_index.result c.write_child.result _ _ _ c.requires.node.inner c.in-AtLeast.is (neg-is _ (wider _ small)) c.find_kept.ensures.game
     c.in-Some.ensures.found here (search rules) c.write_index.ensures.wrote c.write_child.ensures.wrote

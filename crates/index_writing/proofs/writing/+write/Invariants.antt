@@ -1,6 +1,7 @@
 use Rattle.std.proofs.Common.{◌≡◌, ◌+◌, ◌*◌, Bool}
 use Rattle.hive_model.specs.Legal.{moves}
 use Rattle.hive_model.specs.Courses.{position}
+use Rattle.search_laws.specs.Nodes.{AreAsBefore}
 use Rattle.io_edge.specs.Outside.{Told}
 use Rattle.claim_walks.specs.Follows.{range_of}
 use Rattle.index_writing.specs.Writing.{Wrote, lines_below}
@@ -23,9 +24,8 @@ abbrev pub invariant-write_moves-loop-i : goal.invariant-write_moves-loop-i
 invariant-write_moves-loop-i g l =
     let p = position (g.G.Game.course l.fn.game) in
     record {
-      game : g.G.Game.course l.game ≡ g.G.Game.course l.fn.game;
+      before : AreAsBefore (g.G.Game.course l.fn.game) (g.G.Game.course l.game) l.fn.stack l.stack;
       same : g.J.Judge.prepared l.judge ≡ g.J.Judge.prepared l.fn.judge;
-      stack : l.stack ≡ l.fn.stack;
       faults : g.K.Sink.write_faults l.sink ≡ g.K.Sink.write_faults l.fn.sink;
       wrote : (r : Bool) (b : Told) → Wrote r (lines_below p l.fn.depth l.fn.limit (range_of (moves p) l.i l.fn.to)) (g.K.Sink.written l.sink) b
           → Wrote r (lines_below p l.fn.depth l.fn.limit (range_of (moves p) l.fn.from l.fn.to)) (g.K.Sink.written l.fn.sink) b;

@@ -1,7 +1,9 @@
-use Rattle.std.proofs.Common.{◌≡◌, ◌∙◌, ap}
+use Rattle.std.proofs.Common.{◌≡◌, ◌∙◌, ap, refl}
 use Rattle.std.specs.Prelude.{Some, slice_get}
 use Rattle.hive_model.specs.Legal.{moves}
 use Rattle.hive_model.specs.Courses.{position, Course}
+use Rattle.search_laws.proofs.NodeLaws.{node-listed}
+use Rattle.index_writing.proofs.LevelLaws.{node-replies}
 use Rattle.claim_walks.specs.Walks.{place_of}
 use Rattle.strategy_make.proofs.MakeLaws.{level-place, place-some, place-at}
 use Rattle.strategy_make.proofs.roots.write_least.Goals as goal
@@ -20,3 +22,9 @@ write_root-written-requires-clause-place g c =
     let is : c.find_move.result ≡ place_of m (moves p) = level-place _ c.list.new.out (moves p) c.levels-level.result m c.find_move.result c.list.ensures.listed c.levels-level.ensures c.find_move.ensures in
     let here : slice_get (moves p) c.unwrap-place.result ≡ Some m = place-at m (moves p) c.find_move.result c.unwrap-place.result is c.unwrap-place.ensures in
     ap (λ (h : Course). slice_get (moves (position h)) c.unwrap-place.result) c.list.ensures.same ∙ here
+
+pub write_root-written-requires-clause-replies : goal.write_root-written-requires-clause-replies
+write_root-written-requires-clause-replies g c =
+    let start = g.G.Game.course c.args.game.now in
+    node-replies _ _ c.args.depth c.levels-level.result
+    (node-listed start start _ _ _ c.args.depth c.levels-level.result c.requires.room c.requires.inner refl c.list.ensures.same c.list.ensures.listed c.levels-level.ensures)
