@@ -12,53 +12,52 @@ use search_core::{first_choice, kept_hint};
 use value_table::ValueTable;
 use win_bounds::{is_far_from_loss, is_far_from_win};
 
+/// What a search for wins needs beside the game: room for the lists of moves by level, and a table
+/// of what was found.
+#[derive(Drop)]
+pub(crate) struct Workspace {
+    pub(crate) stack: MoveStack,
+    pub(crate) table: ValueTable,
+}
+
 /// Whether a position is worth so much to its side to move, with `depth` plies left to search,
 /// from 0 to 64. A node is left at the first move that decides it, and what was found of a
 /// position with two plies or more to search is kept in the table. Game and stack are as before.
 #[cycle(reaches)]
-pub(crate) fn reaches<G: Game>(
-    game: &mut G,
-    depth: u32,
-    least: i32,
-    stack: &mut MoveStack,
-    table: &mut ValueTable,
-) -> bool
+pub(crate) fn reaches<G: Game>(game: &mut G, depth: u32, least: i32, space: &mut Workspace) -> bool
     requires asked { CanBeAsked least }
-    requires room { HasRoom depth (G.course game.old) stack.old }
+    requires room { HasRoom depth (G.course game.old) space.old.stack }
     ensures reached { result ≡ int_le least (value (position (G.course game.old)) depth) }
-    ensures before { AreAsBefore (G.course game.old) (G.course game.new) stack.old stack.new }
+    ensures before { AreAsBefore (G.course game.old) (G.course game.new)
+        space.old.stack space.new.stack }
 {
     if let Some(known) = leaf_reaches(game, depth, least) {
         return known;
     }
     if depth == 1 {
-        return reaches_at_once(game, least, stack, table);
+        return reaches_at_once(game, least, space);
     }
     let key = game.key();
-    let entry = table.look(&key, depth);
+    let entry = space.table.look(&key, depth);
     if let Some(known) = told_by(&entry, least) {
         return known;
     }
-    let hint = kept_hint(table, &key);
-    let reply = find_reply(game, depth, least, hint, stack, table);
-    keep_answer(table, &key, depth, least, reply);
+    let hint = kept_hint(&space.table, &key);
+    let reply = find_reply(game, depth, least, hint, space);
+    keep_answer(&mut space.table, &key, depth, least, reply);
     reply.is_some()
 }
 
 /// The same where the game goes on and one ply is left. No move is listed where the board tells
 /// that none wins, or that none loses, and that decides it.
 #[cycle(reaches)]
-fn reaches_at_once<G: Game>(
-    game: &mut G,
-    least: i32,
-    stack: &mut MoveStack,
-    table: &mut ValueTable,
-) -> bool
+fn reaches_at_once<G: Game>(game: &mut G, least: i32, space: &mut Workspace) -> bool
     requires asked { CanBeAsked least }
     requires inner { IsInner (position (G.course game.old)) 1 }
-    requires room { HasRoom 1 (G.course game.old) stack.old }
+    requires room { HasRoom 1 (G.course game.old) space.old.stack }
     ensures reached { result ≡ int_le least (value (position (G.course game.old)) 1) }
-    ensures before { AreAsBefore (G.course game.old) (G.course game.new) stack.old stack.new }
+    ensures before { AreAsBefore (G.course game.old) (G.course game.new)
+        space.old.stack space.new.stack }
 {
     if least > GREATEST_EVALUATION && is_far_from_win(game) {
         return false;
@@ -66,7 +65,7 @@ fn reaches_at_once<G: Game>(
     if least <= -GREATEST_EVALUATION && is_far_from_loss(game) {
         return true;
     }
-    find_reply(game, 1, least, None, stack, table).is_some()
+    find_reply(game, 1, least, None, space).is_some()
 }
 
 /// The place of a legal move that is worth so much to the side that makes it, where the game goes
@@ -77,19 +76,19 @@ fn find_reply<G: Game>(
     depth: u32,
     least: i32,
     hint: Option<u32>,
-    stack: &mut MoveStack,
-    table: &mut ValueTable,
+    space: &mut Workspace,
 ) -> Option<u32>
     requires asked { CanBeAsked least }
     requires inner { IsInner (position (G.course game.old)) depth }
-    requires room { HasRoom depth (G.course game.old) stack.old }
+    requires room { HasRoom depth (G.course game.old) space.old.stack }
     ensures found { is_some result ≡ int_le least (value (position (G.course game.old)) depth) }
-    ensures before { AreAsBefore (G.course game.old) (G.course game.new) stack.old stack.new }
+    ensures before { AreAsBefore (G.course game.old) (G.course game.new)
+        space.old.stack space.new.stack }
 {
-    let level = stack.levels();
-    game.list(stack);
-    let reply = first_reply(game, level, depth, least, hint, stack, table);
-    stack.drop_level();
+    let level = space.stack.levels();
+    game.list(&mut space.stack);
+    let reply = first_reply(game, level, depth, least, hint, space);
+    space.stack.drop_level();
     reply
 }
 
@@ -101,23 +100,25 @@ fn first_reply<G: Game>(
     depth: u32,
     least: i32,
     hint: Option<u32>,
-    stack: &mut MoveStack,
-    table: &mut ValueTable,
+    space: &mut Workspace,
 ) -> Option<u32>
     requires asked { CanBeAsked least }
-    requires node { IsNode depth level (G.course game.old) stack.old }
+    requires node { IsNode depth level (G.course game.old) space.old.stack }
     ensures found { is_some result ≡ int_le least (value (position (G.course game.old)) depth) }
-    ensures before { AreAsBefore (G.course game.old) (G.course game.new) stack.old stack.new }
+    ensures before { AreAsBefore (G.course game.old) (G.course game.new)
+        space.old.stack space.new.stack }
 {
-    let hinted = hinted_reply(game, level, depth, least, hint, stack, table);
+    let hinted = hinted_reply(game, level, depth, least, hint, space);
     if hinted.is_some() {
         return hinted;
     }
-    let count = stack.level_len(level);
+    let count = space.stack.level_len(level);
     for i in 0..count {
-        let m = stack.get(level, i);
-        if reply_reaches(game, m, depth - 1, least, stack, table) {
-            table.note_cut(game.plies(), stack.get(level, i));
+        let m = space.stack.get(level, i);
+        if reply_reaches(game, m, depth - 1, least, space) {
+            space
+                .table
+                .note_cut(game.plies(), space.stack.get(level, i));
             return Some(i);
         }
     }
@@ -133,21 +134,21 @@ fn hinted_reply<G: Game>(
     depth: u32,
     least: i32,
     hint: Option<u32>,
-    stack: &mut MoveStack,
-    table: &mut ValueTable,
+    space: &mut Workspace,
 ) -> Option<u32>
     requires asked { CanBeAsked least }
-    requires node { IsNode depth level (G.course game.old) stack.old }
+    requires node { IsNode depth level (G.course game.old) space.old.stack }
     ensures found { IsSome result
         → IsTrue (int_le least (value (position (G.course game.old)) depth)) }
-    ensures before { AreAsBefore (G.course game.old) (G.course game.new) stack.old stack.new }
+    ensures before { AreAsBefore (G.course game.old) (G.course game.new)
+        space.old.stack space.new.stack }
 {
-    let place = first_choice(hint, game, table, stack, level)?;
-    if place >= stack.level_len(level) {
+    let place = first_choice(hint, game, &space.table, &space.stack, level)?;
+    if place >= space.stack.level_len(level) {
         return None;
     }
-    let m = stack.get(level, place);
-    if reply_reaches(game, m, depth - 1, least, stack, table) {
+    let m = space.stack.get(level, place);
+    if reply_reaches(game, m, depth - 1, least, space) {
         return Some(place);
     }
     None
@@ -161,37 +162,32 @@ fn reply_reaches<G: Game>(
     m: Move,
     depth: u32,
     least: i32,
-    stack: &mut MoveStack,
-    table: &mut ValueTable,
+    space: &mut Workspace,
 ) -> bool
     requires asked { CanBeAsked least }
-    requires can { CanReply m depth (G.course game.old) stack.old }
+    requires can { CanReply m depth (G.course game.old) space.old.stack }
     ensures reached { result
         ≡ int_le least (reply_value (position (G.course game.old)) depth m) }
-    ensures before { AreAsBefore (G.course game.old) (G.course game.new) stack.old stack.new }
+    ensures before { AreAsBefore (G.course game.old) (G.course game.new)
+        space.old.stack space.new.stack }
 {
     game.play(m);
-    let answered = reaches(game, depth, 1 - least, stack, table);
+    let answered = reaches(game, depth, 1 - least, space);
     game.undo();
     !answered
 }
 
 /// The same as `reaches`, for 1 ply or more; what is found with fewer plies tells which moves to
 /// try first with more.
-pub(crate) fn deepen<G: Game>(
-    game: &mut G,
-    depth: u32,
-    least: i32,
-    stack: &mut MoveStack,
-    table: &mut ValueTable,
-) -> bool
+pub(crate) fn deepen<G: Game>(game: &mut G, depth: u32, least: i32, space: &mut Workspace) -> bool
     requires asked { CanBeAsked least }
-    requires room { HasRoom depth (G.course game.old) stack.old }
+    requires room { HasRoom depth (G.course game.old) space.old.stack }
     ensures reached { result ≡ int_le least (value (position (G.course game.old)) depth) }
-    ensures before { AreAsBefore (G.course game.old) (G.course game.new) stack.old stack.new }
+    ensures before { AreAsBefore (G.course game.old) (G.course game.new)
+        space.old.stack space.new.stack }
 {
     for shallow in 1..depth {
-        let _ = reaches(game, shallow, least, stack, table);
+        let _ = reaches(game, shallow, least, space);
     }
-    reaches(game, depth, least, stack, table)
+    reaches(game, depth, least, space)
 }

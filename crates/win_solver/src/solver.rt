@@ -7,7 +7,7 @@ ghost use Rattle.index_writing.specs.Writing.{Wrote, index_lines};
 ghost use Rattle.win_solver.specs.Force.{force};
 ghost use Rattle.win_solver.specs.Solution.{least_solution};
 
-use crate::reaching::{deepen, reaches};
+use crate::reaching::{Workspace, deepen, reaches};
 use crate::solutions::answer_limit;
 use claim_walks::Limit;
 use hive_model::{Game, MoveStack};
@@ -17,12 +17,11 @@ use std::alloc::{AllocError, Global};
 use std::marker::Model;
 use value_table::ValueTable;
 
-/// Who tells whether a position keeps to a limit: lists of moves by level, and a table of what was
-/// found. It is seen as the number of plies that it is prepared to search.
+/// Who tells whether a position keeps to a limit. It is seen as the number of plies that it is
+/// prepared to search.
 #[derive(Drop)]
 pub(crate) struct Teller {
-    stack: MoveStack,
-    table: ValueTable,
+    space: Workspace,
 }
 
 impl Model for Teller {
@@ -30,9 +29,9 @@ impl Model for Teller {
 
     ghost Value = { ℕ };
 
-    ghost view = { λ s. s.stack.free };
+    ghost view = { λ s. s.space.stack.free };
 
-    ghost invariant = { λ s. s.stack.free ≤ 16 };
+    ghost invariant = { λ s. s.space.stack.free ≤ 16 };
 }
 
 impl Judge for Teller {
@@ -40,12 +39,8 @@ impl Judge for Teller {
 
     fn is_kept<G: Game>(&mut self, game: &mut G, depth: u32, limit: Limit) -> bool {
         match limit {
-            Limit::AtLeast(least) => {
-                reaches(game, depth, least, &mut self.stack, &mut self.table)
-            }
-            Limit::AtMost(most) => {
-                !reaches(game, depth, most + 1, &mut self.stack, &mut self.table)
-            }
+            Limit::AtLeast(least) => reaches(game, depth, least, &mut self.space),
+            Limit::AtMost(most) => !reaches(game, depth, most + 1, &mut self.space),
         }
     }
 }
@@ -79,12 +74,15 @@ impl Solver {
         requires short { plies ≤ 16 }
         ensures { IfOk result (λ s. s ≡ plies) }
     {
-        let teller = Teller {
+        let space = Workspace {
             stack: MoveStack::new(alloc, plies)?,
             table: ValueTable::new(alloc, entries)?,
         };
         let stack = MoveStack::new(alloc, plies)?;
-        Ok(Solver { teller, stack })
+        Ok(Solver {
+            teller: Teller { space },
+            stack,
+        })
     }
 
     /// Whether the side to move can force a win within so many plies, up to the prepared number.
@@ -97,13 +95,7 @@ impl Solver {
         ensures game { G.course game.new ≡ G.course game.old }
         ensures solver { self.new ≡ self.old }
     {
-        deepen(
-            game,
-            plies,
-            1_000_000,
-            &mut self.teller.stack,
-            &mut self.teller.table,
-        )
+        deepen(game, plies, 1_000_000, &mut self.teller.space)
     }
 
     /// Writes the least indices that show whether the side to move can force a win within so many

@@ -30,6 +30,6 @@ abbrev pub invariant-first_reply-loop-i : goal.invariant-first_reply-loop-i
 invariant-first_reply-loop-i g l =
     let p = position (g.G.Game.course l.fn.game) in
     record {
-      before : AreAsBefore (g.G.Game.course l.fn.game) (g.G.Game.course l.game) l.fn.stack l.stack;
+      before : AreAsBefore (g.G.Game.course l.fn.game) (g.G.Game.course l.game) l.fn.space.stack l.space.stack;
       rest : list_any (reply_reaches p (l.depth - 1) l.least) (drop l.i (moves p)) ≡ int_le l.least (value p l.depth);
     }
