@@ -1,5 +1,16 @@
--- What the clocks in memory hold.
-use Rattle.std.specs.Prelude.{ℕ, ◌-◌, ◌^◌, min, max, List, [], ◌∷◌}
+-- What a reading of a clock is, and what the clocks in memory hold.
+use Rattle.std.specs.Prelude.{◌≡◌, ℕ, ◌+◌, ◌-◌, ◌^◌, ◌<◌, ◌≤◌, min, max, List, [], ◌∷◌}
+use Rattle.io_edge.specs.Outside.{one_more}
+
+-- A clock was read, and told this moment: it is its last reading from then on, and none before was
+-- greater. The reading was counted.
+pub record TellsTime (moment : ℕ) (last_before last_now readings_before readings_now : ℕ)
+    : Type 0 where
+  pub read : last_now ≡ moment
+  pub later : last_before ≤ moment
+  pub bound : moment < 2 ^ 62
+  pub counted : (readings_before ≤ readings_now) × (readings_now ≤ readings_before + 1)
+  pub exact : readings_now ≡ one_more readings_before
 
 -- the greatest reading of a clock, in milliseconds
 abbrev pub last_moment : ℕ

@@ -1,7 +1,6 @@
 //! Clocks in memory, which count their readings.
 ghost use Rattle.std.specs.Prelude.{◌≡◌, ◌<◌, ◌≤◌, ◌+◌, ◌^◌, min, drop, vec_len};
-ghost use Rattle.io_edge.specs.Outside.{one_more};
-ghost use Rattle.io_edge.specs.Clocks.{StepState, ClockState, last_moment, reading_after};
+ghost use Rattle.io_edge.specs.Clocks.{StepState, ClockState, TellsTime, last_moment, reading_after};
 
 use crate::starts::Clock;
 use std::marker::Model;
@@ -60,12 +59,8 @@ impl Clock for StepClock {
 
     /// The reading to come, in milliseconds; the one after it is greater by the step.
     fn now(&mut self) -> u64
-        ensures read { self.new.last ≡ result }
-        ensures later { self.old.last ≤ result }
-        ensures bound { result < 2 ^ 62 }
-        ensures counted { (self.old.readings ≤ self.new.readings)
-            × (self.new.readings ≤ self.old.readings + 1) }
-        ensures exact { self.new.readings ≡ one_more self.old.readings }
+        ensures time { TellsTime result self.old.last self.new.last self.old.readings
+            self.new.readings }
         ensures answer { result ≡ self.old.next }
         ensures next { self.new.next ≡ min (self.old.next + self.old.step) last_moment }
         ensures step { self.new.step ≡ self.old.step }
@@ -126,12 +121,8 @@ impl Clock for MemClock {
 
     /// The next reading of the list, in milliseconds, or the last one again.
     fn now(&mut self) -> u64
-        ensures read { self.new.last ≡ result }
-        ensures later { self.old.last ≤ result }
-        ensures bound { result < 2 ^ 62 }
-        ensures counted { (self.old.readings ≤ self.new.readings)
-            × (self.new.readings ≤ self.old.readings + 1) }
-        ensures exact { self.new.readings ≡ one_more self.old.readings }
+        ensures time { TellsTime result self.old.last self.new.last self.old.readings
+            self.new.readings }
         ensures answer { result ≡ reading_after self.old.last self.old.coming }
         ensures coming { self.new.coming ≡ drop 1 self.old.coming }
     {
