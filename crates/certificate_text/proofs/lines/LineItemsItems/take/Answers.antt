@@ -12,19 +12,19 @@ returns-in-End-clause-item g c =
     (ap (option_map (map g.F.LineForm.item)) (end-told _ _ _ _ bytes takes.left none0 none1), no-items _ _ none0)
 
 pub returns-in-Some-clause-known : goal.returns-in-Some-clause-known
-returns-in-Some-clause-known g c = read-item c.next_line.result _ _ _ _ c.next_line.ensures.fed c.next_line.ensures.bound c.next_line.ensures.little _ _ c.saturating_add-self.ensures
+returns-in-Some-clause-known g c = read-item c.next_line.result _ _ _ _ c.next_line.ensures.fed c.next_line.ensures.counts.bound c.next_line.ensures.little _ _ c.saturating_add-self.ensures
 
 pub returns-in-None-clause-known : goal.returns-in-None-clause-known
-returns-in-None-clause-known g c = read-item c.next_line.result _ _ _ _ c.next_line.ensures.fed c.next_line.ensures.bound c.next_line.ensures.little _ _ c.saturating_add-self.ensures
+returns-in-None-clause-known g c = read-item c.next_line.result _ _ _ _ c.next_line.ensures.fed c.next_line.ensures.counts.bound c.next_line.ensures.little _ _ c.saturating_add-self.ensures
 
 pub returns-in-TooLong-clause-known : goal.returns-in-TooLong-clause-known
-returns-in-TooLong-clause-known g c = read-item c.next_line.result _ _ _ _ c.next_line.ensures.fed c.next_line.ensures.bound c.next_line.ensures.little _ _ c.saturating_add-self-in-TooLong.ensures
+returns-in-TooLong-clause-known g c = read-item c.next_line.result _ _ _ _ c.next_line.ensures.fed c.next_line.ensures.counts.bound c.next_line.ensures.little _ _ c.saturating_add-self-in-TooLong.ensures
 
 pub returns-in-End-clause-known : goal.returns-in-End-clause-known
-returns-in-End-clause-known g c = λ input before. read-none-given c.next_line.result _ _ _ _ c.next_line.ensures.fed c.next_line.ensures.bound c.next_line.ensures.little (ap lines_given c.in-End.is) input _
+returns-in-End-clause-known g c = λ input before. read-none-given c.next_line.result _ _ _ _ c.next_line.ensures.fed c.next_line.ensures.counts.bound c.next_line.ensures.little (ap lines_given c.in-End.is) input _
 
 pub returns-in-Failed-clause-known : goal.returns-in-Failed-clause-known
-returns-in-Failed-clause-known g c = λ input before. read-none-given c.next_line.result _ _ _ _ c.next_line.ensures.fed c.next_line.ensures.bound c.next_line.ensures.little (ap lines_given c.in-Failed.is) input _
+returns-in-Failed-clause-known g c = λ input before. read-none-given c.next_line.result _ _ _ _ c.next_line.ensures.fed c.next_line.ensures.counts.bound c.next_line.ensures.little (ap lines_given c.in-Failed.is) input _
 
 pub returns-in-Full-clause-known : goal.returns-in-Full-clause-known
-returns-in-Full-clause-known g c = λ input before. read-none-given c.next_line.result _ _ _ _ c.next_line.ensures.fed c.next_line.ensures.bound c.next_line.ensures.little (ap lines_given c.in-Full.is) input _
+returns-in-Full-clause-known g c = λ input before. read-none-given c.next_line.result _ _ _ _ c.next_line.ensures.fed c.next_line.ensures.counts.bound c.next_line.ensures.little (ap lines_given c.in-Full.is) input _

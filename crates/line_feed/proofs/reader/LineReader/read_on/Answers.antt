@@ -48,17 +48,26 @@ invariant_of-self-then-is_empty g c =
     let k = keeps_reader _ (begins _ _ _ _ _ _ _ _ c.self.view_is c.self.invariant c.begin.ensures.part c.requires) c.in-End.ensures.read in
     record { has_room = omega arith; short = omega arith; no_lf = k.0; counted = k.1; little = omega arith; behind = omega (arith, k.2); exact = λ h. omega (arith, k.3 h); bounded = omega arith; ended = λ _. (empty_list _ empty, c.in-End.ensures.why.0, c.in-End.ensures.why.1) }
 
-pub returns-in-Failed-clause-within : goal.returns-in-Failed-clause-within
-returns-in-Failed-clause-within g c = kept_within _ c.self.inside.passed (ap (λ (r : Reading). r.passed) c.self.view_is) (begins _ _ _ _ _ _ _ _ c.self.view_is c.self.invariant c.begin.ensures.part c.requires) c.in-Failed.ensures.read
+pub returns-in-Failed-clause-counts : goal.returns-in-Failed-clause-counts
+returns-in-Failed-clause-counts g c =
+    record {
+      bound = omega arith;
+      within = kept_within _ c.self.inside.passed (ap (λ (r : Reading). r.passed) c.self.view_is) (begins _ _ _ _ _ _ _ _ c.self.view_is c.self.invariant c.begin.ensures.part c.requires) c.in-Failed.ensures.read;
+      exact = kept_exact _ c.self.inside.passed (ap (λ (r : Reading). r.passed) c.self.view_is) (begins _ _ _ _ _ _ _ _ c.self.view_is c.self.invariant c.begin.ensures.part c.requires) c.in-Failed.ensures.read;
+    }
 
-pub returns-in-Failed-clause-exact : goal.returns-in-Failed-clause-exact
-returns-in-Failed-clause-exact g c = kept_exact _ c.self.inside.passed (ap (λ (r : Reading). r.passed) c.self.view_is) (begins _ _ _ _ _ _ _ _ c.self.view_is c.self.invariant c.begin.ensures.part c.requires) c.in-Failed.ensures.read
+pub returns-in-Full-clause-counts : goal.returns-in-Full-clause-counts
+returns-in-Full-clause-counts g c =
+    record {
+      bound = omega arith;
+      within = kept_within _ c.self.inside.passed (ap (λ (r : Reading). r.passed) c.self.view_is) (begins _ _ _ _ _ _ _ _ c.self.view_is c.self.invariant c.begin.ensures.part c.requires) c.in-Full.ensures.read;
+      exact = kept_exact _ c.self.inside.passed (ap (λ (r : Reading). r.passed) c.self.view_is) (begins _ _ _ _ _ _ _ _ c.self.view_is c.self.invariant c.begin.ensures.part c.requires) c.in-Full.ensures.read;
+    }
 
-pub returns-in-Full-clause-within : goal.returns-in-Full-clause-within
-returns-in-Full-clause-within g c = kept_within _ c.self.inside.passed (ap (λ (r : Reading). r.passed) c.self.view_is) (begins _ _ _ _ _ _ _ _ c.self.view_is c.self.invariant c.begin.ensures.part c.requires) c.in-Full.ensures.read
-
-pub returns-in-Full-clause-exact : goal.returns-in-Full-clause-exact
-returns-in-Full-clause-exact g c = kept_exact _ c.self.inside.passed (ap (λ (r : Reading). r.passed) c.self.view_is) (begins _ _ _ _ _ _ _ _ c.self.view_is c.self.invariant c.begin.ensures.part c.requires) c.in-Full.ensures.read
-
-pub returns-then-is_empty-clause-exact : goal.returns-then-is_empty-clause-exact
-returns-then-is_empty-clause-exact g c = kept_exact _ c.self.inside.passed (ap (λ (r : Reading). r.passed) c.self.view_is) (begins _ _ _ _ _ _ _ _ c.self.view_is c.self.invariant c.begin.ensures.part c.requires) c.in-End.ensures.read
+pub returns-then-is_empty-clause-counts : goal.returns-then-is_empty-clause-counts
+returns-then-is_empty-clause-counts g c =
+    record {
+      bound = omega arith;
+      within = kept_within _ c.self.inside.passed (ap (λ (r : Reading). r.passed) c.self.view_is) (begins _ _ _ _ _ _ _ _ c.self.view_is c.self.invariant c.begin.ensures.part c.requires) c.in-End.ensures.read;
+      exact = kept_exact _ c.self.inside.passed (ap (λ (r : Reading). r.passed) c.self.view_is) (begins _ _ _ _ _ _ _ _ c.self.view_is c.self.invariant c.begin.ensures.part c.requires) c.in-End.ensures.read;
+    }
