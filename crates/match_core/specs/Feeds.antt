@@ -67,16 +67,7 @@ AreInTime s (h ∷ hs) = IsInTime s.stage s h × AreInTime (next s h) hs
 
 -- the match, but for the moment at which the last question was asked
 abbrev pub with_asked : Standing → ℕ → Standing
-with_asked s asked =
-    record {
-      setup = s.setup;
-      moves = s.moves;
-      stage = s.stage;
-      asked = asked;
-      first = s.first;
-      count = s.count;
-      verdict = s.verdict;
-    }
+with_asked s asked = record s { asked = asked }
 
 -- t and fs are s and hs, but for readings of the clock
 pub record AreSame (s : Standing) (hs : List Happening) (t : Standing)

@@ -57,6 +57,20 @@ pub record Standing : Type 0 where
   pub count : ℕ
   pub verdict : Option Verdict
 
+-- the match of this setup that stands so
+abbrev pub standing :
+    Setup → List Move → Stage → ℕ → Option (List ℕ) → ℕ → Option Verdict → Standing
+standing setup moves stage asked first count verdict =
+    record {
+      setup = setup;
+      moves = moves;
+      stage = stage;
+      asked = asked;
+      first = first;
+      count = count;
+      verdict = verdict;
+    }
+
 -- the position that the moves lead to
 abbrev pub position_of : Standing → Position
 position_of s = replay (opening s.setup.game_type) s.moves
@@ -67,16 +81,7 @@ position_before s = replay (opening s.setup.game_type) (take (length s.moves - 1
 
 -- white's greeting is read first
 abbrev pub start : Setup → Standing
-start setup =
-    record {
-      setup = setup;
-      moves = [];
-      stage = Read Greet White;
-      asked = 0;
-      first = None;
-      count = 0;
-      verdict = None;
-    }
+start setup = standing setup [] (Read Greet White) 0 None 0 None
 
 -- the act to come
 abbrev pub act_at : Stage → Act
@@ -95,29 +100,11 @@ line_for s (Tell told) = tell_line (position_before s) told
 
 -- on to a place, where nothing was read of a reply yet
 abbrev pub go : Standing → Stage → Standing
-go s stage =
-    record {
-      setup = s.setup;
-      moves = s.moves;
-      stage = stage;
-      asked = s.asked;
-      first = None;
-      count = 0;
-      verdict = s.verdict;
-    }
+go s stage = record s { stage = stage; first = None; count = 0 }
 
 -- the match is over
 abbrev pub finish : Standing → Verdict → Standing
-finish s verdict =
-    record {
-      setup = s.setup;
-      moves = s.moves;
-      stage = Finished;
-      asked = s.asked;
-      first = None;
-      count = 0;
-      verdict = Some verdict;
-    }
+finish s verdict = record s { stage = Finished; first = None; count = 0; verdict = Some verdict }
 
 -- a side loses by this cause
 abbrev pub forfeit : Standing → Colour → Cause → Standing
@@ -135,15 +122,7 @@ ask s = go s (question s.setup.level (position_of s).side)
 -- a move is accepted: it is played, and then told to white and to black
 abbrev pub accept : Standing → Move → Standing
 accept s m =
-    record {
-      setup = s.setup;
-      moves = s.moves ++ m ∷ [];
-      stage = Send (Tell m) White;
-      asked = s.asked;
-      first = None;
-      count = 0;
-      verdict = s.verdict;
-    }
+    record s { moves = s.moves ++ m ∷ []; stage = Send (Tell m) White; first = None; count = 0 }
 
 -- the first line of a reply, empty where there is none
 abbrev pub first_line : Standing → List ℕ
@@ -174,16 +153,7 @@ decide s =
 -- a reply to a question has ended: where it has a time, the clock is read before it is judged
 abbrev pub answered : Standing → Level → Standing
 answered s (Depth depth) = judge s
-answered s (Time budget margin) =
-    record {
-      setup = s.setup;
-      moves = s.moves;
-      stage = After;
-      asked = s.asked;
-      first = s.first;
-      count = s.count;
-      verdict = s.verdict;
-    }
+answered s (Time budget margin) = record s { stage = After }
 
 -- a reply has ended
 abbrev pub reply_ends : Standing → Task → Colour → Standing
@@ -198,15 +168,7 @@ reply_ends s (Tell told) Black = decide s
 -- a line of a reply that does not end it
 abbrev pub keep : Standing → Stage → List ℕ → Standing
 keep s stage line =
-    record {
-      setup = s.setup;
-      moves = s.moves;
-      stage = stage;
-      asked = s.asked;
-      first = Some (unwrap_or s.first line);
-      count = s.count + 1;
-      verdict = s.verdict;
-    }
+    record s { stage = stage; first = Some (unwrap_or s.first line); count = s.count + 1 }
 
 -- a line of a reply ends it, tells a fault, is the 1,001st, or is kept
 abbrev pub hear : Standing → Task → Colour → List ℕ → Standing
@@ -244,16 +206,7 @@ at_read s job side (Reading at) = s
 
 -- the clock is read before the question
 abbrev pub at_before : Standing → Happening → Standing
-at_before s (Reading at) =
-    record {
-      setup = s.setup;
-      moves = s.moves;
-      stage = Send Ask (position_of s).side;
-      asked = at;
-      first = s.first;
-      count = s.count;
-      verdict = s.verdict;
-    }
+at_before s (Reading at) = record s { stage = Send Ask (position_of s).side; asked = at }
 at_before s Sent = s
 at_before s (Line bytes) = s
 at_before s TooLong = s

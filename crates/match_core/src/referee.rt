@@ -46,31 +46,17 @@ pub struct Referee<G: Game> {
 
 impl<G: Game> Model for Referee<G> {
     ghost use Rattle.std.specs.Prelude.{vec_capacity};
-    ghost use Rattle.match_core.specs.Standing.{Standing};
+    ghost use Rattle.match_core.specs.Standing.{Standing, standing};
     ghost use Rattle.match_core.specs.Keeps.{IsReferee};
 
     ghost Value = { Standing };
 
-    ghost view = { λ r. record {
-      setup = r.setup;
-      moves = (G.course r.game).made;
-      stage = r.stage;
-      asked = r.asked;
-      first = r.first;
-      count = r.count;
-      verdict = r.verdict;
-    } };
+    ghost view = { λ r. standing r.setup (G.course r.game).made r.stage r.asked r.first r.count
+        r.verdict };
 
-    ghost invariant = { λ r. IsReferee (record {
-      setup = r.setup;
-      moves = (G.course r.game).made;
-      stage = r.stage;
-      asked = r.asked;
-      first = r.first;
-      count = r.count;
-      verdict = r.verdict;
-    }) (G.course r.game) r.seen r.text.items
-        (vec_capacity r.text) };
+    ghost invariant = { λ r. IsReferee (standing r.setup (G.course r.game).made r.stage r.asked
+        r.first r.count r.verdict)
+        (G.course r.game) r.seen r.text.items (vec_capacity r.text) };
 }
 
 impl<G: Game + Drop> Referee<G> {
