@@ -123,6 +123,3 @@ number_small n r t small hr ht =
 
 pub number_below : (n r t : ℕ) → r < n → t < n → n * r + t < n * n
 number_below n r t hr ht = let more = times_apart n r n hr in omega (arith, more, ht)
-
-pub square_small : (n : ℕ) → n ≤ 128 → n * n ≤ 16384
-square_small n small = let square = times_less n n 128 small in omega (arith, square, small)

@@ -25,10 +25,6 @@ one_some a b h = cc
 pub none_some : {X : Type 0} (a : X) → None ≡ Some a → ⊥
 none_some a h = cc
 
--- the top piece stands one below the height
-top_stands : (b : Stacks) (p : Place) (x : ℕ) → top_at b p ≡ Some x → StandsAt b x p (height_at b p - 1)
-top_stands b p x h = h
-
 no_top : (xs : List ℕ) → ((x : ℕ) → top_of xs ≡ Some x → ⊥) → (top_of xs ≡ None) × (length xs ≡ 0)
 no_top [] h = (refl, refl)
 no_top (x ∷ xs) h =
