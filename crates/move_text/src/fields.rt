@@ -135,23 +135,22 @@ pub fn type_text(game_type: GameType) -> ArrayString<16>
     text
 }
 
-#[tactic(auto, unfolding(crate::specs::Readers::state_at))]
+/// The states, in the order of the rules.
+const STATES: [State; 5] = [
+    State::NotStarted,
+    State::InProgress,
+    State::Draw,
+    State::WhiteWins,
+    State::BlackWins,
+];
+
 fn state_at(text: &[u8]) -> Option<State>
     ensures { result ≡ state_at text.now }
 {
-    if text == b"NotStarted".as_slice() {
-        Some(State::NotStarted)
-    } else if text == b"InProgress".as_slice() {
-        Some(State::InProgress)
-    } else if text == b"Draw".as_slice() {
-        Some(State::Draw)
-    } else if text == b"WhiteWins".as_slice() {
-        Some(State::WhiteWins)
-    } else if text == b"BlackWins".as_slice() {
-        Some(State::BlackWins)
-    } else {
-        None
-    }
+    STATES
+        .iter()
+        .copied()
+        .find(|state| text == state_name(*state).as_bytes())
 }
 
 /// The state that the text names: `NotStarted`, `InProgress`, `Draw`, `WhiteWins` or `BlackWins`.
