@@ -9,7 +9,6 @@ use Rattle.hive_model.specs.declared.pieces.Colour.{Colour}
 use Rattle.hive_model.specs.declared.pieces.Colour.TheVariants.{White, Black}
 use Rattle.hive_model.specs.declared.pieces.GameType.{GameType}
 use Rattle.hive_model.specs.declared.places.State.{State}
-use Rattle.hive_model.specs.declared.places.State.TheVariants.{NotStarted, InProgress, Draw, WhiteWins, BlackWins}
 use Rattle.hive_model.specs.Pieces.{all_pieces}
 use Rattle.hive_model.proofs.RuleLaws.{all_at}
 use Rattle.hive_model.proofs.PieceLaws.{on_pieces}
@@ -20,7 +19,8 @@ use Rattle.hive_model.specs.declared.forms.Mark.TheVariants.{On, Before, After}
 use Rattle.hive_model.specs.declared.forms.Form.{Form}
 use Rattle.hive_model.specs.declared.forms.Form.TheVariants.{Passes, Alone, Beside}
 use Rattle.hive_model.specs.Texts.{piece_text, stroke_code, destination, form_text, IsForm}
-use Rattle.hive_model.specs.Fields.{added, type_bytes, state_bytes}
+use Rattle.hive_model.specs.Fields.{type_bytes, state_bytes}
+use Rattle.move_text.proofs.FieldLaws.{on_types, on_states}
 use Rattle.hive_model.specs.Strings.{parts, joined_on, turn_bytes}
 use Rattle.hive_model.specs.Lists.{onto}
 
@@ -66,24 +66,10 @@ none_append [] ys h k = k
 none_append (x ∷ xs) ys h k = let s = none_cons x xs h in ap (λ t. not t && has_none (xs ++ ys)) s.0 ∙ none_append xs ys s.1 k
 
 pub type_part : (t : GameType) → IsPart (type_bytes t)
-type_part t = go t.mosquito t.ladybug t.pillbug
-  where
-    go : (m l p : Bool) → has_none (codes "Base" ++ added m l p) ≡ true
-    go false false false = refl
-    go true false false = refl
-    go false true false = refl
-    go false false true = refl
-    go true true false = refl
-    go true false true = refl
-    go false true true = refl
-    go true true true = refl
+type_part = on_types (λ t. IsPart (type_bytes t)) refl refl refl refl refl refl refl refl
 
 pub state_part : (s : State) → IsPart (state_bytes s)
-state_part NotStarted = refl
-state_part InProgress = refl
-state_part Draw = refl
-state_part WhiteWins = refl
-state_part BlackWins = refl
+state_part = on_states (λ s. IsPart (state_bytes s)) refl refl refl refl refl
 
 digit_part : (b : ℕ) → b < 58 → IsPart (b ∷ [])
 digit_part b h = let apart : b ≢ 59 = (λ e. omega (arith, e, h)) in ap (λ t. not t && true) (ne_eqb b 59 apart)

@@ -43,19 +43,27 @@ pub type_found : (text : List ℕ) (t : GameType) → type_at text ≡ Some t �
 unfolding type_at
 type_found = name_is type_bytes game_types
 
-type_again : (m l p : Bool) → type_at (type_bytes (game_type_of m l p)) ≡ Some (game_type_of m l p)
+-- what holds of each of the game types, in the order of their list, holds of every one
+pub on_types : (P : GameType → Type 0) → P (game_type_of false false false) → P (game_type_of true false false) → P (game_type_of false true false) → P (game_type_of false false true)
+    → P (game_type_of true true false) → P (game_type_of true false true) → P (game_type_of false true true) → P (game_type_of true true true) → (t : GameType) → P t
+on_types P a b c d e f g h t = go t.mosquito t.ladybug t.pillbug
+  where
+    go : (m l p : Bool) → P (game_type_of m l p)
+    go false false false = a
+    go true false false = b
+    go false true false = c
+    go false false true = d
+    go true true false = e
+    go true false true = f
+    go false true true = g
+    go true true true = h
+
+type_again : (t : GameType) → type_at (type_bytes t) ≡ Some t
 unfolding type_at
-type_again false false false = refl
-type_again true false false = refl
-type_again false true false = refl
-type_again false false true = refl
-type_again true true false = refl
-type_again true false true = refl
-type_again false true true = refl
-type_again true true true = refl
+type_again = on_types (λ t. type_at (type_bytes t) ≡ Some t) refl refl refl refl refl refl refl refl
 
 pub type_only : (text : List ℕ) (t : GameType) → text ≡ type_bytes t → type_at text ≡ Some t
-type_only text t e = ap type_at e ∙ type_again t.mosquito t.ladybug t.pillbug
+type_only text t e = ap type_at e ∙ type_again t
 
 pub if_type_found : (text : List ℕ) (o : Option GameType) → o ≡ type_at text → IfSome o (λ t. text ≡ type_bytes t)
 if_type_found text None e = tt
@@ -65,13 +73,17 @@ pub state_found : (text : List ℕ) (s : State) → state_at text ≡ Some s →
 unfolding state_at
 state_found = name_is state_bytes states
 
+-- what holds of each of the states, in the order of their list, holds of every one
+pub on_states : (P : State → Type 0) → P NotStarted → P InProgress → P Draw → P WhiteWins → P BlackWins → (s : State) → P s
+on_states P a b c d e NotStarted = a
+on_states P a b c d e InProgress = b
+on_states P a b c d e Draw = c
+on_states P a b c d e WhiteWins = d
+on_states P a b c d e BlackWins = e
+
 state_again : (s : State) → state_at (state_bytes s) ≡ Some s
 unfolding state_at
-state_again NotStarted = refl
-state_again InProgress = refl
-state_again Draw = refl
-state_again WhiteWins = refl
-state_again BlackWins = refl
+state_again = on_states (λ s. state_at (state_bytes s) ≡ Some s) refl refl refl refl refl
 
 pub state_only : (text : List ℕ) (s : State) → text ≡ state_bytes s → state_at text ≡ Some s
 state_only text s e = ap state_at e ∙ state_again s
