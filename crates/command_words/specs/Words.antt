@@ -1,5 +1,5 @@
 -- The words of the command line, and what they ask for.
-use Rattle.std.specs.Prelude.{◌≡◌, ◌⊎◌, ℕ, ◌-◌, ◌^◌, ◌≤◌, Bool, List, [], ◌∷◌, map, codes, string_bytes, Option, Some, IsTrue}
+use Rattle.std.specs.Prelude.{◌≡◌, ◌⊎◌, ℕ, ◌-◌, ◌^◌, ◌≤◌, Bool, List, [], ◌∷◌, map, codes, string_bytes, Option, Some, IfSome, IsTrue}
 use Rattle.std.specs.declared.string.String.{String}
 use Rattle.std.specs.declared.alloc.Global.{Global}
 use Rattle.hive_model.specs.Fields.{IsNumberText}
@@ -80,6 +80,12 @@ name_of (Match setup) = MatchName
 name_of (Cup setup) = CupName
 name_of Book = BookName
 name_of Migrate = MigrateName
+
+-- the words ask for what was found, if anything, and for nothing else by this name
+pub record Finds (words : List (String Global)) (name : Name) (found : Option Asked)
+    : Type 0 where
+  pub asked : IfSome found (λ a. Words words a)
+  pub only : (a : Asked) → Words words a → name_of a ≡ name → found ≡ Some a
 
 -- the first word names a command that takes an option
 abbrev pub TakeOption : List (List ℕ) → Type 0

@@ -14,7 +14,7 @@ ghost use Rattle.std.specs.Prelude.{
 };
 ghost use Rattle.command_words.specs.declared.asked.Asked.{Asked};
 ghost use Rattle.command_words.specs.Names.{takes_option};
-ghost use Rattle.command_words.specs.Words.{IsInRange, TakeOption, Words, name_of};
+ghost use Rattle.command_words.specs.Words.{Finds, IsInRange, TakeOption, Words, name_of};
 
 use crate::cups::cup_of;
 use crate::grown::growth_of;
@@ -67,8 +67,7 @@ fn are_alone(words: &[String], name: &str) -> bool
 
 /// A session is asked for by no word, or by its name alone.
 fn session(words: &[String]) -> Option<Asked>
-    ensures found { IfSome result (λ a. Words words.now a) }
-    ensures only { (a : Asked) → Words words.now a → name_of a ≡ Name.Uhp → result ≡ Some a }
+    ensures { Finds words.now Name.Uhp result }
 {
     if words.is_empty() || are_alone(words, "uhp") {
         Some(Asked::Session)
@@ -81,8 +80,7 @@ fn session(words: &[String]) -> Option<Asked>
 fn by_name(words: &[String], name: &str, asked: Asked) -> Option<Asked>
     requires means { Words words.now asked ↔ map string_bytes words.now ≡ name.now ∷ [] }
     requires one { (a : Asked) → name_of a ≡ name_of asked → a ≡ asked }
-    ensures found { IfSome result (λ a. Words words.now a) }
-    ensures only { (a : Asked) → Words words.now a → name_of a ≡ name_of asked → result ≡ Some a }
+    ensures { Finds words.now (name_of asked) result }
 {
     if are_alone(words, name) {
         Some(asked)
@@ -93,103 +91,63 @@ fn by_name(words: &[String], name: &str, asked: Asked) -> Option<Asked>
 
 /// A replay is asked for by its name, alone or with the rule of third repetition on or off.
 fn replay(alloc: Global, words: &[String]) -> Result<Option<Asked>, AllocError>
-    ensures found { IfOk result (λ o. IfSome o (λ a. Words words.now a)) }
-    ensures only { IfOk result (λ o. (a : Asked) → Words words.now a → name_of a ≡ Name.Replay → o
-        ≡ Some a) }
+    ensures { IfOk result (Finds words.now Name.Replay) }
 {
-    match replay_of(alloc, words) {
-        Ok(Some(repetition)) => Ok(Some(Asked::Replay { repetition })),
-        Ok(None) => Ok(None),
-        Err(error) => Err(error),
-    }
+    Ok(replay_of(alloc, words)?.map(|repetition| Asked::Replay { repetition }))
 }
 
 /// Counts are asked for with a number of plies.
 fn count(alloc: Global, words: &[String]) -> Result<Option<Asked>, AllocError>
-    ensures found { IfOk result (λ o. IfSome o (λ a. Words words.now a)) }
-    ensures only { IfOk result (λ o. (a : Asked) → Words words.now a → name_of a ≡ Name.Count → o
-        ≡ Some a) }
+    ensures { IfOk result (Finds words.now Name.Count) }
 {
-    match number_of(alloc, words, "count", "plies", 1, 8) {
-        Ok(Some(plies)) => Ok(Some(Asked::Count(plies as u32))),
-        Ok(None) => Ok(None),
-        Err(error) => Err(error),
+    match number_of(alloc, words, "count", "plies", 1, 8)? {
+        Some(plies) => Ok(Some(Asked::Count(plies))),
+        None => Ok(None),
     }
 }
 
 /// A certificate is asked for with a depth.
 fn certify(alloc: Global, words: &[String]) -> Result<Option<Asked>, AllocError>
-    ensures found { IfOk result (λ o. IfSome o (λ a. Words words.now a)) }
-    ensures only { IfOk result (λ o. (a : Asked) → Words words.now a → name_of a ≡ Name.Certify → o
-        ≡ Some a) }
+    ensures { IfOk result (Finds words.now Name.Certify) }
 {
-    match number_of(alloc, words, "certify", "depth", 1, 64) {
-        Ok(Some(depth)) => Ok(Some(Asked::Certify(depth as u32))),
-        Ok(None) => Ok(None),
-        Err(error) => Err(error),
-    }
+    Ok(number_of(alloc, words, "certify", "depth", 1, 64)?.map(Asked::Certify))
 }
 
 /// A forced win is asked for with a number of plies.
 fn solve(alloc: Global, words: &[String]) -> Result<Option<Asked>, AllocError>
-    ensures found { IfOk result (λ o. IfSome o (λ a. Words words.now a)) }
-    ensures only { IfOk result (λ o. (a : Asked) → Words words.now a → name_of a ≡ Name.Solve → o
-        ≡ Some a) }
+    ensures { IfOk result (Finds words.now Name.Solve) }
 {
-    match number_of(alloc, words, "solve", "plies", 1, 16) {
-        Ok(Some(plies)) => Ok(Some(Asked::Solve(plies as u32))),
-        Ok(None) => Ok(None),
-        Err(error) => Err(error),
-    }
+    Ok(number_of(alloc, words, "solve", "plies", 1, 16)?.map(Asked::Solve))
 }
 
 /// A made game is asked for with a seed and a number of plies.
 fn grow(alloc: Global, words: &[String]) -> Result<Option<Asked>, AllocError>
-    ensures found { IfOk result (λ o. IfSome o (λ a. Words words.now a)) }
-    ensures only { IfOk result (λ o. (a : Asked) → Words words.now a → name_of a ≡ Name.Grow → o
-        ≡ Some a) }
+    ensures { IfOk result (Finds words.now Name.Grow) }
 {
-    match growth_of(alloc, words) {
-        Ok(Some(growth)) => Ok(Some(Asked::Grow {
-            seed: growth.seed,
-            plies: growth.plies,
-        })),
-        Ok(None) => Ok(None),
-        Err(error) => Err(error),
-    }
+    let growth = growth_of(alloc, words)?;
+    Ok(growth.map(|one| Asked::Grow {
+        seed: one.seed,
+        plies: one.plies,
+    }))
 }
 
 /// A match is asked for with its two programs.
 fn matched(alloc: Global, words: &[String]) -> Result<Option<Asked>, AllocError>
-    ensures found { IfOk result (λ o. IfSome o (λ a. Words words.now a)) }
-    ensures only { IfOk result (λ o. (a : Asked) → Words words.now a → name_of a ≡ Name.Match → o
-        ≡ Some a) }
+    ensures { IfOk result (Finds words.now Name.Match) }
 {
-    match match_of(alloc, words) {
-        Ok(Some(setup)) => Ok(Some(Asked::Match(setup))),
-        Ok(None) => Ok(None),
-        Err(error) => Err(error),
-    }
+    Ok(match_of(alloc, words)?.map(Asked::Match))
 }
 
 /// A cup is asked for with its programs.
 fn cup(alloc: Global, words: &[String]) -> Result<Option<Asked>, AllocError>
-    ensures found { IfOk result (λ o. IfSome o (λ a. Words words.now a)) }
-    ensures only { IfOk result (λ o. (a : Asked) → Words words.now a → name_of a ≡ Name.Cup → o
-        ≡ Some a) }
+    ensures { IfOk result (Finds words.now Name.Cup) }
 {
-    match cup_of(alloc, words) {
-        Ok(Some(setup)) => Ok(Some(Asked::Cup(setup))),
-        Ok(None) => Ok(None),
-        Err(error) => Err(error),
-    }
+    Ok(cup_of(alloc, words)?.map(Asked::Cup))
 }
 
 /// What the words ask this command for.
 fn asked_by(alloc: Global, words: &[String], name: Name) -> Result<Option<Asked>, AllocError>
-    ensures found { IfOk result (λ o. IfSome o (λ a. Words words.now a)) }
-    ensures only { IfOk result (λ o. (a : Asked) → Words words.now a → name_of a ≡ name → o
-        ≡ Some a) }
+    ensures asked { IfOk result (Finds words.now name) }
     ensures memory { OnErr result (IsTrue (takes_option name)) }
 {
     match name {

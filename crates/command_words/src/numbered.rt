@@ -1,10 +1,19 @@
 //! Commands with one option, a number.
 ghost use Rattle.std.specs.Prelude.{◌≡◌, ◌<◌, ℕ, Some, length, IfOk, IfSome};
+ghost use Rattle.hive_model.specs.Fields.{IsNumberText};
 ghost use Rattle.command_words.specs.Words.{AreNumbered};
 
 use move_text::read_number;
 use option_words::one_option;
 use std::alloc::{AllocError, Global};
+
+/// The number from `least` to `most` that the text spells.
+fn small_number(text: &[u8], least: u32, most: u32) -> Option<u32>
+    ensures found { IfSome result (λ n. IsNumberText text.now least most n) }
+    ensures only { (n : ℕ) → IsNumberText text.now least most n → result ≡ Some n }
+{
+    Some(read_number(text, least as u64, most as u64)? as u32)
+}
 
 /// The number from `least` to `most` that the words give the one option of a command, which is
 /// required. None where they do not; an `AllocError` where memory runs out before that is known.
@@ -13,9 +22,9 @@ pub(crate) fn number_of(
     words: &[String],
     command: &str,
     option: &str,
-    least: u64,
-    most: u64,
-) -> Result<Option<u64>, AllocError>
+    least: u32,
+    most: u32,
+) -> Result<Option<u32>, AllocError>
     requires { 0 < length option.now }
     ensures found { IfOk result (λ o. IfSome o
         (λ n. AreNumbered words.now command.now option.now least most n)) }
@@ -25,5 +34,5 @@ pub(crate) fn number_of(
     let Some(value) = one_option(alloc, words, command, option)? else {
         return Ok(None);
     };
-    Ok(read_number(value.as_bytes(), least, most))
+    Ok(small_number(value.as_bytes(), least, most))
 }

@@ -11,4 +11,4 @@ pub returns-clause-only : goal.returns-clause-only
 returns-clause-only c = λ n words.
     let same : c.in-Some.value.now ≡ words.value =
     subst (λ o. MatchOption o ⊥ (λ r. r.now ≡ words.value)) c.in-Some.is (c.in_ok-value.ensures.only words.value words.give) in
-    c.read_number.ensures.only n (subst (λ v. IsNumberText v c.args.least c.args.most n) (sym (c.as_bytes.ensures.value ∙ same)) words.number)
+    c.small_number.ensures.only n (subst (λ v. IsNumberText v c.args.least c.args.most n) (sym (c.as_bytes.ensures.value ∙ same)) words.number)
