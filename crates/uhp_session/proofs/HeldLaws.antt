@@ -26,7 +26,10 @@ use Rattle.uhp_words.specs.declared.command.CommandFault.TheVariants.{Unknown, A
 use Rattle.move_text.specs.Readers.{number_at}
 use Rattle.uhp_words.specs.Reading.{command_of}
 use Rattle.uhp_words.specs.Spans.{bytes_at}
-use Rattle.uhp_session.specs.Answers.{Begun, State, Answer, reached, is_ended, with_moves, refuse, go_on, in_game, begin, make, play, list, undo, set_table, set_workers, set_repetition, set, get, best_line, while_on, or_base, command_answer, words_answer, after_of, next}
+use Rattle.uhp_session.specs.Answers.{Begun, State, Answer, reached, is_ended, with_moves, refuse, go_on, in_game, begin, make, play, list, undo, change, set, setting_of, get, best_line, while_on, or_base, command_answer, words_answer, after_of, next}
+use Rattle.uhp_session.specs.declared.options.Setting.{Setting}
+use Rattle.uhp_session.specs.declared.options.Setting.TheVariants.{Table, Workers, Repetition}
+use Rattle.uhp_session.specs.declared.options.SettingFault.{SettingFault}
 use Rattle.uhp_session.specs.Laws.{IsHeld, HoldsGame, SessionsHoldGames}
 use Rattle.uhp_session.proofs.ReplyLaws.{get_keeps, list_keeps, best_keeps, line_game, line_few, line_stands}
 use Rattle.uhp_session.proofs.StandLaws.{stands_part}
@@ -98,27 +101,14 @@ undo_holds s plies g h held = go (nat_lt (length g.made) plies)
           stands = stands_part g.repetition g.game_type g.made (length g.made - plies) held.stands;
         }
 
+change_holds : (s : State) (r : Result Setting SettingFault) → HoldsGame s.game → Holds s (change s r)
+change_holds s (Ok (Table n)) h = h
+change_holds s (Ok (Workers n)) h = h
+change_holds s (Ok (Repetition on)) h = h
+change_holds s (Err fault) h = h
+
 set_holds : (s : State) (name value : List ℕ) → HoldsGame s.game → Holds s (set s name value)
-set_holds s name value h = go (bytes_eq name (codes "Table")) (bytes_eq name (codes "Workers")) (bytes_eq name (codes "Repetition"))
-  where
-    table : (o : Option ℕ) → Holds s (set_table s o)
-    table None = h
-    table (Some n) = h
-
-    workers : (o : Option ℕ) → Holds s (set_workers s o)
-    workers None = h
-    workers (Some n) = h
-
-    repetition : (o : Option ℕ) → Holds s (set_repetition s o)
-    repetition None = h
-    repetition (Some n) = h
-
-    go : (a b c : Bool) → Holds s (if a then set_table s (number_at value 1 1048576) else if b then set_workers s (number_at value 1 16) else
-        if c then set_repetition s (number_at value 0 1) else refuse s (codes "err 9 no such option"))
-    go true b c = table (number_at value 1 1048576)
-    go false true c = workers (number_at value 1 16)
-    go false false true = repetition (number_at value 0 1)
-    go false false false = h
+set_holds s name value h = change_holds s (setting_of name value) h
 
 command_holds : (s : State) (line : List ℕ) (d : ℕ) (c : Command) → HoldsGame s.game → Holds s (command_answer s line d c)
 command_holds s line d Info h = h

@@ -18,7 +18,10 @@ use Rattle.uhp_words.specs.declared.command.CommandFault.TheVariants.{Unknown, A
 use Rattle.move_text.specs.Readers.{number_at}
 use Rattle.uhp_words.specs.Reading.{command_of}
 use Rattle.uhp_words.specs.Spans.{bytes_at}
-use Rattle.uhp_session.specs.Answers.{Begun, State, Answer, reached, is_ended, written, with_moves, refuse, go_on, in_game, begin, make, play, undo, set_table, set_workers, set_repetition, set, table_line, workers_line, repetition_line, or_base, command_answer, words_answer, after_of, next}
+use Rattle.uhp_session.specs.Answers.{Begun, State, Answer, reached, is_ended, written, with_moves, refuse, go_on, in_game, begin, make, play, undo, change, set, setting_of, option_line, or_base, command_answer, words_answer, after_of, next}
+use Rattle.uhp_session.specs.declared.options.Setting.{Setting}
+use Rattle.uhp_session.specs.declared.options.Setting.TheVariants.{Table, Workers, Repetition}
+use Rattle.uhp_session.specs.declared.options.SettingFault.{SettingFault}
 use Rattle.uhp_session.specs.Laws.{IsRefusal, RefusalsChangeNothing}
 use Rattle.uhp_session.proofs.DepthLaws.{depth_kept}
 use Rattle.uhp_session.proofs.ReplyLaws.{get_keeps, list_keeps, best_keeps}
@@ -39,17 +42,11 @@ game_begins : (g : Begun) → first (written g) ≡ 66
 unfolding string_under first
 game_begins g = refl
 
-table_begins : (n : ℕ) → first (table_line n) ≡ 84
+option_begins : (x : Setting) → (n : ℕ) × (first (option_line x) ≡ n) × (n ≤ 100)
 unfolding first
-table_begins n = refl
-
-workers_begins : (n : ℕ) → first (workers_line n) ≡ 87
-unfolding first
-workers_begins n = refl
-
-repetition_begins : (value : Bool) → first (repetition_line value) ≡ 82
-unfolding first
-repetition_begins value = refl
+option_begins (Table n) = (84, refl, omega arith)
+option_begins (Workers n) = (87, refl, omega arith)
+option_begins (Repetition on) = (82, refl, omega arith)
 
 no_fault : (line : List ℕ) (n : ℕ) → first line ≡ n → n ≤ 100 → Starts line → ⊥
 unfolding first
@@ -92,27 +89,12 @@ undo_keeps s plies g = go (nat_lt (length g.made) plies)
     go true = λ h. refl
     go false = go_on_keeps s (with_moves g (take (length g.made - plies) g.made))
 
-table_keeps : (s : State) (o : Option ℕ) → Keeps s (set_table s o)
-table_keeps s None = λ h. refl
-table_keeps s (Some n) = λ h. absurd (no_fault (table_line n) 84 (table_begins n) (omega arith) h)
-
-workers_keeps : (s : State) (o : Option ℕ) → Keeps s (set_workers s o)
-workers_keeps s None = λ h. refl
-workers_keeps s (Some n) = λ h. absurd (no_fault (workers_line n) 87 (workers_begins n) (omega arith) h)
-
-repetition_keeps : (s : State) (o : Option ℕ) → Keeps s (set_repetition s o)
-repetition_keeps s None = λ h. refl
-repetition_keeps s (Some n) = λ h. absurd (no_fault (repetition_line (nat_eq n 1)) 82 (repetition_begins (nat_eq n 1)) (omega arith) h)
+change_keeps : (s : State) (r : Result Setting SettingFault) → Keeps s (change s r)
+change_keeps s (Ok x) = let begins = option_begins x in λ h. absurd (no_fault (option_line x) begins.0 begins.1 begins.2 h)
+change_keeps s (Err fault) = λ h. refl
 
 set_keeps : (s : State) (name value : List ℕ) → Keeps s (set s name value)
-set_keeps s name value = go (bytes_eq name (codes "Table")) (bytes_eq name (codes "Workers")) (bytes_eq name (codes "Repetition"))
-  where
-    go : (a b c : Bool) → Keeps s (if a then set_table s (number_at value 1 1048576) else if b then set_workers s (number_at value 1 16) else
-        if c then set_repetition s (number_at value 0 1) else refuse s (codes "err 9 no such option"))
-    go true b c = table_keeps s (number_at value 1 1048576)
-    go false true c = workers_keeps s (number_at value 1 16)
-    go false false true = repetition_keeps s (number_at value 0 1)
-    go false false false = λ h. refl
+set_keeps s name value = change_keeps s (setting_of name value)
 
 command_keeps : (s : State) (line : List ℕ) (d : ℕ) (c : Command) → Keeps s (command_answer s line d c)
 command_keeps s line d Info = λ h. refl

@@ -1,5 +1,5 @@
 -- The games of lines, and the commands that only tell.
-use Rattle.std.proofs.Common.{◌≡◌, ◌≤◌, ℕ, Bool, true, false, List, [], ◌∷◌, length, inl, inr, refl, sym, subst, arith, if◌then◌else◌}
+use Rattle.std.proofs.Common.{◌≡◌, ◌≤◌, ℕ, Bool, true, false, List, [], ◌∷◌, length, Result, Ok, Err, inl, inr, refl, sym, subst, arith, if◌then◌else◌}
 use Rattle.std.specs.Prelude.{Option, Some, None, codes}
 use Rattle.std.specs.Str.{bytes_eq}
 use Rattle.hive_model.specs.declared.pieces.GameType.{GameType}
@@ -8,7 +8,9 @@ use Rattle.hive_model.specs.Games.{IsGame}
 use Rattle.hive_model.specs.Repetition.{StandsUnder}
 use Rattle.hive_model.specs.Strings.{IsGameLineUnder}
 use Rattle.uhp_session.proofs.StandLaws.{stands_none}
-use Rattle.uhp_session.specs.Answers.{Begun, State, Answer, Says, is_ended, after_of, refuse, in_game, while_on, list, best_line, get, table_line, workers_line, repetition_line}
+use Rattle.uhp_session.specs.Answers.{Begun, State, Answer, Says, is_ended, after_of, refuse, in_game, while_on, list, best_line, get, tell, option_of}
+use Rattle.uhp_session.specs.declared.options.Setting.{Setting}
+use Rattle.uhp_session.specs.declared.options.SettingFault.{SettingFault}
 
 pub line_game : (r : Bool) (line : List ℕ) (t : GameType) (ms : List Move) → IsGameLineUnder r line t ms → IsGame t ms
 line_game r line t ms (inl alone) = subst (IsGame t) (sym alone.1) tt
@@ -24,15 +26,12 @@ line_stands r line t ms (inr full) = full.1
 
 -- What only tells leaves the session as it is
 
+tell_keeps : (s : State) (r : Result Setting SettingFault) → s ≡ after_of s (tell s r)
+tell_keeps s (Ok setting) = refl
+tell_keeps s (Err fault) = refl
+
 pub get_keeps : (s : State) (name : List ℕ) → s ≡ after_of s (get s name)
-get_keeps s name = go (bytes_eq name (codes "Table")) (bytes_eq name (codes "Workers")) (bytes_eq name (codes "Repetition"))
-  where
-    go : (a b c : Bool) → s ≡ after_of s (if a then Says (table_line s.table ∷ []) s else if b then Says (workers_line s.workers ∷ []) s else
-        if c then Says (repetition_line s.repetition ∷ []) s else refuse s (codes "err 9 no such option"))
-    go true b c = refl
-    go false true c = refl
-    go false false true = refl
-    go false false false = refl
+get_keeps s name = tell_keeps s (option_of s name)
 
 while_keeps : (s : State) (f : Begun → Answer) → ((g : Begun) → s ≡ after_of s (f g)) → s ≡ after_of s (while_on s f)
 while_keeps s f keeps = go s.game

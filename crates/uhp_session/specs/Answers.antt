@@ -33,6 +33,10 @@ use Rattle.move_text.specs.Readers.{number_at}
 use Rattle.uhp_session.specs.declared.lines.LineIn.{LineIn}
 use Rattle.uhp_session.specs.declared.lines.LineIn.TheVariants.{Text, TooLong}
 use Rattle.uhp_session.specs.declared.lines.Reply.{Reply}
+use Rattle.uhp_session.specs.declared.options.Setting.{Setting}
+use Rattle.uhp_session.specs.declared.options.Setting.TheVariants.{Table, Workers, Repetition}
+use Rattle.uhp_session.specs.declared.options.SettingFault.{SettingFault}
+use Rattle.uhp_session.specs.declared.options.SettingFault.TheVariants.{NoSuchOption, OutOfRange}
 use Rattle.uhp_session.specs.declared.lines.Reply.TheVariants.{Text as ReplyText, Exit as ReplyExit}
 
 -- Sessions
@@ -73,22 +77,19 @@ written g = string_under g.repetition g.game_type g.made
 abbrev pub with_moves : Begun → List Move → Begun
 with_moves g ms = record { game_type = g.game_type; made = ms; repetition = g.repetition }
 
--- the session with this game, or with this value of an option, in place of its own
+-- the session with this game in place of its own
 abbrev pub with_game : State → Begun → State
 with_game s g =
     record { game = Some g; table = s.table; workers = s.workers; repetition = s.repetition }
 
-abbrev pub with_table : State → ℕ → State
-with_table s value =
-    record { game = s.game; table = value; workers = s.workers; repetition = s.repetition }
-
-abbrev pub with_workers : State → ℕ → State
-with_workers s value =
-    record { game = s.game; table = s.table; workers = value; repetition = s.repetition }
-
-abbrev pub with_repetition : State → Bool → State
-with_repetition s value =
-    record { game = s.game; table = s.table; workers = s.workers; repetition = value }
+-- the session with this value of an option in place of its own
+abbrev pub with_setting : State → Setting → State
+with_setting s (Table entries) =
+    record { game = s.game; table = entries; workers = s.workers; repetition = s.repetition }
+with_setting s (Workers workers) =
+    record { game = s.game; table = s.table; workers = workers; repetition = s.repetition }
+with_setting s (Repetition on) =
+    record { game = s.game; table = s.table; workers = s.workers; repetition = on }
 
 -- the lines of a reply but for the last, which is `ok`, and the session afterwards; or the session
 -- is left, with no reply
@@ -203,47 +204,69 @@ undo s plies g =
 
 -- Options
 
--- name, kind, value, default, least and greatest
-abbrev pub table_line : ℕ → List ℕ
-table_line value = codes "Table;int;" ++ (decimal value ++ codes ";65536;1;1048576")
-
-abbrev pub workers_line : ℕ → List ℕ
-workers_line value = codes "Workers;int;" ++ (decimal value ++ codes ";1;1;16")
-
 -- switched on is 1, and off is 0
 abbrev pub switch : Bool → ℕ
 switch true = 1
 switch false = 0
 
-abbrev pub repetition_line : Bool → List ℕ
-repetition_line value = codes "Repetition;int;" ++ (decimal (switch value) ++ codes ";0;0;1")
+-- name, kind, value, default, least and greatest
+abbrev pub option_line : Setting → List ℕ
+option_line (Table entries) = codes "Table;int;" ++ (decimal entries ++ codes ";65536;1;1048576")
+option_line (Workers workers) = codes "Workers;int;" ++ (decimal workers ++ codes ";1;1;16")
+option_line (Repetition on) = codes "Repetition;int;" ++ (decimal (switch on) ++ codes ";0;0;1")
+
+-- the value is one that its option can have
+abbrev pub IsSetting : Setting → Type 0
+IsSetting (Table entries) = (1 ≤ entries) × (entries ≤ 1048576)
+IsSetting (Workers workers) = (1 ≤ workers) × (workers ≤ 16)
+IsSetting (Repetition on) = Unit {0}
+
+abbrev pub setting_fault : SettingFault → List ℕ
+setting_fault NoSuchOption = codes "err 9 no such option"
+setting_fault OutOfRange = codes "err 9 value out of range"
+
+-- the option of a name, with the value that it has
+abbrev pub option_of : State → List ℕ → Result Setting SettingFault
+option_of s name =
+    if bytes_eq name (codes "Table") then Ok (Table s.table) else
+    if bytes_eq name (codes "Workers") then Ok (Workers s.workers) else
+    if bytes_eq name (codes "Repetition") then Ok (Repetition s.repetition) else
+    Err NoSuchOption
+
+-- the number that a text spells, if it is in this range
+abbrev pub or_out_of_range : Option ℕ → Result ℕ SettingFault
+or_out_of_range None = Err OutOfRange
+or_out_of_range (Some value) = Ok value
+
+abbrev pub number_in : List ℕ → ℕ → ℕ → Result ℕ SettingFault
+number_in text least most = or_out_of_range (number_at text least most)
+
+abbrev pub given : (ℕ → Setting) → Result ℕ SettingFault → Result Setting SettingFault
+given setting (Ok value) = Ok (setting value)
+given setting (Err fault) = Err fault
+
+-- the option of a name, with the value that a text gives it
+abbrev pub setting_of : List ℕ → List ℕ → Result Setting SettingFault
+setting_of name value =
+    if bytes_eq name (codes "Table") then given Table (number_in value 1 1048576) else
+    if bytes_eq name (codes "Workers") then given Workers (number_in value 1 16) else
+    if bytes_eq name (codes "Repetition")
+    then given (λ n. Repetition (nat_eq n 1)) (number_in value 0 1) else
+    Err NoSuchOption
+
+abbrev pub tell : State → Result Setting SettingFault → Answer
+tell s (Ok setting) = Says (option_line setting ∷ []) s
+tell s (Err fault) = refuse s (setting_fault fault)
 
 abbrev pub get : State → List ℕ → Answer
-get s name =
-    if bytes_eq name (codes "Table") then Says (table_line s.table ∷ []) s else
-    if bytes_eq name (codes "Workers") then Says (workers_line s.workers ∷ []) s else
-    if bytes_eq name (codes "Repetition") then Says (repetition_line s.repetition ∷ []) s else
-    refuse s (codes "err 9 no such option")
+get s name = tell s (option_of s name)
 
-abbrev pub set_table : State → Option ℕ → Answer
-set_table s None = refuse s (codes "err 9 value out of range")
-set_table s (Some value) = Says (table_line value ∷ []) (with_table s value)
-
-abbrev pub set_workers : State → Option ℕ → Answer
-set_workers s None = refuse s (codes "err 9 value out of range")
-set_workers s (Some value) = Says (workers_line value ∷ []) (with_workers s value)
-
-abbrev pub set_repetition : State → Option ℕ → Answer
-set_repetition s None = refuse s (codes "err 9 value out of range")
-set_repetition s (Some value) =
-    Says (repetition_line (nat_eq value 1) ∷ []) (with_repetition s (nat_eq value 1))
+abbrev pub change : State → Result Setting SettingFault → Answer
+change s (Ok setting) = Says (option_line setting ∷ []) (with_setting s setting)
+change s (Err fault) = refuse s (setting_fault fault)
 
 abbrev pub set : State → List ℕ → List ℕ → Answer
-set s name value =
-    if bytes_eq name (codes "Table") then set_table s (number_at value 1 1048576) else
-    if bytes_eq name (codes "Workers") then set_workers s (number_at value 1 16) else
-    if bytes_eq name (codes "Repetition") then set_repetition s (number_at value 0 1) else
-    refuse s (codes "err 9 no such option")
+set s name value = change s (setting_of name value)
 
 -- The table
 
@@ -261,7 +284,7 @@ command_answer s line depth (BestDepth plies) = while_on s (best_line s plies)
 command_answer s line depth (BestTime budget) = while_on s (best_line s depth)
 command_answer s line depth (Undo plies) = in_game s s.game (undo s plies)
 command_answer s line depth Options =
-    Says (table_line s.table ∷ (workers_line s.workers ∷ (repetition_line s.repetition ∷ []))) s
+    Says (map option_line (Table s.table ∷ (Workers s.workers ∷ (Repetition s.repetition ∷ [])))) s
 command_answer s line depth (OptionGet name) = get s (bytes_at line name)
 command_answer s line depth (OptionSet name value) =
     set s (bytes_at line name) (bytes_at line value)

@@ -1,20 +1,38 @@
-//! The lines of options.
+//! The options of a session: their lines, and the values that they are given.
 
-ghost use Rattle.std.specs.Prelude.{◌≡◌, [], ◌∷◌, ◌++◌, Some, codes, decimal, IfOk, OnOk};
+ghost use Rattle.std.specs.Prelude.{◌≡◌, ◌≤◌, [], ◌∷◌, ◌++◌, Some, codes, decimal, IfOk, OnOk};
 ghost use Rattle.uhp_session.specs.Answers.{
-  text_of,
+  IsSetting,
   ended,
-  table_line,
-  workers_line,
+  number_in,
+  option_line,
+  setting_fault,
+  setting_of,
   switch,
-  repetition_line,
+  text_of,
 };
 
 use crate::lines::Reply;
-use crate::says::close;
+use crate::says::{close, say};
 use hive_model::ReplyText;
 use itoa::Buffer;
+use move_text::read_number;
 use std::alloc::{AllocError, Global};
+
+/// An option, and a value of it.
+#[derive(Clone, Copy, Debug, PartialEq, Eq)]
+pub enum Setting {
+    Table(u32),
+    Workers(u32),
+    Repetition(bool),
+}
+
+/// Why an option is not told or set.
+#[derive(Clone, Copy, Debug, PartialEq, Eq)]
+pub enum SettingFault {
+    NoSuchOption,
+    OutOfRange,
+}
 
 /// Appends the line of an option: what stands before its value, the value, and what stands behind
 /// it. After want of memory a part of these was appended.
@@ -32,20 +50,6 @@ fn push_option(
     text.push_all(rest)
 }
 
-/// Appends the line of the option Table, without its end.
-fn push_table(text: &mut ReplyText, value: u32) -> Result<(), AllocError>
-    ensures { OnOk result (text.new ≡ text.old ++ table_line value) }
-{
-    push_option(text, b"Table;int;", value, b";65536;1;1048576")
-}
-
-/// Appends the line of the option Workers, without its end.
-fn push_workers(text: &mut ReplyText, value: u32) -> Result<(), AllocError>
-    ensures { OnOk result (text.new ≡ text.old ++ workers_line value) }
-{
-    push_option(text, b"Workers;int;", value, b";1;1;16")
-}
-
 /// The number that stands for a switch.
 fn switch(on: bool) -> u32
     ensures { result ≡ switch on }
@@ -53,39 +57,61 @@ fn switch(on: bool) -> u32
     if on { 1 } else { 0 }
 }
 
-/// Appends the line of the option Repetition, without its end.
-fn push_repetition(text: &mut ReplyText, value: bool) -> Result<(), AllocError>
-    ensures { OnOk result (text.new ≡ text.old ++ repetition_line value) }
+/// Appends the line of an option, without its end.
+fn push_setting(text: &mut ReplyText, setting: Setting) -> Result<(), AllocError>
+    ensures { OnOk result (text.new ≡ text.old ++ option_line setting) }
 {
-    push_option(text, b"Repetition;int;", switch(value), b";0;0;1")
+    match setting {
+        Setting::Table(entries) => push_option(text, b"Table;int;", entries, b";65536;1;1048576"),
+        Setting::Workers(workers) => push_option(text, b"Workers;int;", workers, b";1;1;16"),
+        Setting::Repetition(on) => push_option(text, b"Repetition;int;", switch(on), b";0;0;1"),
+    }
 }
 
-/// The line of the option Table, and `ok`.
-pub(crate) fn tell_table(alloc: Global, value: u32) -> Result<Reply, AllocError>
-    ensures { IfOk result (λ r. text_of r ≡ Some (ended (table_line value ∷ (codes "ok" ∷ [])))) }
+/// The line of an option, and `ok`.
+pub(crate) fn tell_setting(alloc: Global, setting: Setting) -> Result<Reply, AllocError>
+    ensures { IfOk result (λ r. text_of r ≡ Some (ended (option_line setting ∷ (codes "ok" ∷ [])))) }
 {
     let mut text = ReplyText::new(alloc);
-    push_table(&mut text, value)?;
+    push_setting(&mut text, setting)?;
     close(text)
 }
 
-/// The line of the option Workers, and `ok`.
-pub(crate) fn tell_workers(alloc: Global, value: u32) -> Result<Reply, AllocError>
-    ensures { IfOk result (λ r. text_of r ≡ Some (ended (workers_line value ∷ (codes "ok" ∷ [])))) }
+/// Why an option is not told or set, and `ok`.
+pub(crate) fn refuse_setting(alloc: Global, fault: SettingFault) -> Result<Reply, AllocError>
+    ensures { IfOk result (λ r. text_of r ≡ Some (ended (setting_fault fault ∷ (codes "ok" ∷ [])))) }
 {
-    let mut text = ReplyText::new(alloc);
-    push_workers(&mut text, value)?;
-    close(text)
+    match fault {
+        SettingFault::NoSuchOption => say(alloc, b"err 9 no such option"),
+        SettingFault::OutOfRange => say(alloc, b"err 9 value out of range"),
+    }
 }
 
-/// The line of the option Repetition, and `ok`.
-pub(crate) fn tell_repetition(alloc: Global, value: bool) -> Result<Reply, AllocError>
-    ensures { IfOk result (λ r. text_of r ≡ Some
-        (ended (repetition_line value ∷ (codes "ok" ∷ [])))) }
+/// The number that the text spells, if it is in this range.
+fn number_in(text: &[u8], least: u32, most: u32) -> Result<u32, SettingFault>
+    ensures value { result ≡ number_in text.now least most }
+    ensures range { IfOk result (λ n. (least ≤ n) × (n ≤ most)) }
 {
-    let mut text = ReplyText::new(alloc);
-    push_repetition(&mut text, value)?;
-    close(text)
+    match read_number(text, least as u64, most as u64) {
+        Some(number) => Ok(number as u32),
+        None => Err(SettingFault::OutOfRange),
+    }
+}
+
+/// The option of this name, with the value that the text gives it.
+pub(crate) fn setting_of(name: &[u8], value: &[u8]) -> Result<Setting, SettingFault>
+    ensures setting { result ≡ setting_of name.now value.now }
+    ensures range { IfOk result IsSetting }
+{
+    if name == b"Table".as_slice() {
+        Ok(Setting::Table(number_in(value, 1, 1_048_576)?))
+    } else if name == b"Workers".as_slice() {
+        Ok(Setting::Workers(number_in(value, 1, 16)?))
+    } else if name == b"Repetition".as_slice() {
+        Ok(Setting::Repetition(number_in(value, 0, 1)? == 1))
+    } else {
+        Err(SettingFault::NoSuchOption)
+    }
 }
 
 /// The lines of all options, and `ok`.
@@ -96,14 +122,14 @@ pub(crate) fn tell_options(
     repetition: bool,
 ) -> Result<Reply, AllocError>
     ensures { IfOk result (λ r. text_of r ≡ Some
-        (ended (table_line table ∷ (workers_line workers
-        ∷ (repetition_line repetition ∷ (codes "ok" ∷ [])))))) }
+        (ended (option_line (Setting.Table table) ∷ (option_line (Setting.Workers workers)
+        ∷ (option_line (Setting.Repetition repetition) ∷ (codes "ok" ∷ [])))))) }
 {
     let mut text = ReplyText::new(alloc);
-    push_table(&mut text, table)?;
+    push_setting(&mut text, Setting::Table(table))?;
     text.push(b'\n')?;
-    push_workers(&mut text, workers)?;
+    push_setting(&mut text, Setting::Workers(workers))?;
     text.push(b'\n')?;
-    push_repetition(&mut text, repetition)?;
+    push_setting(&mut text, Setting::Repetition(repetition))?;
     close(text)
 }

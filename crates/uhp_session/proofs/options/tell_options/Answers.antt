@@ -1,6 +1,7 @@
 use Rattle.std.proofs.Common.{rules, ◌≡◌, List, [], ◌∷◌, ◌++◌, ℕ, ◌∙◌, ap, subst, append_assoc}
 use Rattle.std.specs.Prelude.{Option, Some, codes, IfOk}
-use Rattle.uhp_session.specs.Answers.{text_of, table_line, workers_line, repetition_line}
+use Rattle.uhp_session.specs.Answers.{text_of, option_line}
+use Rattle.uhp_session.specs.declared.options.Setting.TheVariants.{Table, Workers, Repetition}
 use Rattle.uhp_session.proofs.options.tell_options.Goals as goal
 
 three_lines : (t u v w x y a b c rest : List ℕ) → t ≡ [] → u ≡ t ++ a → v ≡ u ++ 10 ∷ [] → w ≡ v ++ b → x ≡ w ++ 10 ∷ [] → y ≡ x ++ c
@@ -16,15 +17,15 @@ three_lines t u v w x y a b c rest none one end two end2 three =
 
 pub returns : goal.returns
 returns c =
-    let table = table_line c.args.table in
-    let workers = workers_line c.args.workers in
-    let repetition = repetition_line c.args.repetition in
+    let table = option_line (Table c.args.table) in
+    let workers = option_line (Workers c.args.workers) in
+    let repetition = option_line (Repetition c.args.repetition) in
     let none : c.new-text.result ≡ [] = search rules in
-    let one : c.push_table.new.text ≡ c.new-text.result ++ table_line c.args.table = search rules in
-    let end : c.push.new.self ≡ c.push_table.new.text ++ 10 ∷ [] = search rules in
-    let two : c.push_workers.new.text ≡ c.push.new.self ++ workers_line c.args.workers = search rules in
-    let end2 : c.push-2.new.self ≡ c.push_workers.new.text ++ 10 ∷ [] = search rules in
-    let three : c.push_repetition.new.text ≡ c.push-2.new.self ++ repetition_line c.args.repetition = search rules in
-    let told = three_lines c.new-text.result c.push_table.new.text c.push.new.self c.push_workers.new.text c.push-2.new.self c.push_repetition.new.text
+    let one : c.push_setting.new.text ≡ c.new-text.result ++ option_line (Table c.args.table) = search rules in
+    let end : c.push.new.self ≡ c.push_setting.new.text ++ 10 ∷ [] = search rules in
+    let two : c.push_setting-2.new.text ≡ c.push.new.self ++ option_line (Workers c.args.workers) = search rules in
+    let end2 : c.push-2.new.self ≡ c.push_setting-2.new.text ++ 10 ∷ [] = search rules in
+    let three : c.push_setting-3.new.text ≡ c.push-2.new.self ++ option_line (Repetition c.args.repetition) = search rules in
+    let told = three_lines c.new-text.result c.push_setting.new.text c.push.new.self c.push_setting-2.new.text c.push-2.new.self c.push_setting-3.new.text
     table workers repetition (codes "ok" ++ 10 ∷ []) none one end two end2 three in
     subst (λ (lines : Option (List ℕ)). IfOk c.close.result (λ r. text_of r ≡ lines)) (ap Some told) c.close.ensures
