@@ -1,9 +1,13 @@
 -- How the games of a cup stand at their ends.
-use Rattle.std.proofs.Common.{◌≡◌, ℕ, ◌≤◌, ◌*◌, ◌-◌, List, [], ◌∷◌, ◌++◌, length, map, Option, Some, None, IsSomeAnd, refl, ap, sym, ◌∙◌, arith, subst}
+use Rattle.std.proofs.Common.{◌≡◌, ℕ, ◌<◌, ◌≤◌, ◌*◌, ◌-◌, List, [], ◌∷◌, ◌++◌, length, map, take, Option, Some, None, IsSomeAnd, refl, ap, sym, ◌∙◌, arith, subst, inl, inr}
 use Rattle.std.specs.List.{All, AllZip, flat_map, zip}
 use Rattle.std.proofs.lemmas.List.{length-map}
 use Rattle.std.proofs.lemmas.List.Elements.{All-nil, All-cons, All-head, All-tail}
+use Rattle.io_edge.specs.Outside.{behind}
 use Rattle.io_edge.specs.Starts.{Engines}
+use Rattle.command_runs.specs.GameRun.{WritesAs}
+use Rattle.command_runs.specs.declared.status.Status.{Status}
+use Rattle.command_runs.specs.declared.status.Status.TheVariants.{Done}
 use Rattle.match_core.specs.declared.answers.Setup.{Setup}
 use Rattle.match_core.specs.Standing.{Standing}
 use Rattle.cup_core.specs.declared.pairing.Pairing.{Pairing}
@@ -13,7 +17,7 @@ use Rattle.cup_core.proofs.Totals.{few-games, length-pairings}
 use Rattle.cup_games.specs.Played.{AreStandingsOf, IsPlayed, IsRefereed, Job, pairing, verdict_of}
 use Rattle.cup_core.specs.Engines.{Engine}
 use Rattle.cup_command.specs.Texts.{cup_text, games_text, standing_text}
-use Rattle.cup_command.specs.Cup.{AreCupStandings, Played, cup_words, started_after}
+use Rattle.cup_command.specs.Cup.{AreCupStandings, CupRun, Played, Scene, cup_words, started_after}
 use Rattle.cup_command.specs.Links.{ClosesLinks, IsOf, IsReady, StartsAll, all_links, counted, ended_text, jobs_text}
 use Rattle.cup_command.proofs.Ended.{broke-rose, ended-all}
 use Rattle.cup_command.proofs.Heard.{Ran, played-by}
@@ -127,3 +131,10 @@ told-from engines setup games olds mid news shut text before between after whole
     (counts ∙ (ap (λ (js : List Job). counted (all_links js) between.engine_faults) shuts ∙ ap (λ n. counted (all_links news) n) faults))
     (began ∙ named)
     told
+
+-- the text of a cup that was played was written, or a front of it and not all
+pub told-as : (engines : List Engine) (setup : Setup) (text : List ℕ) (status : Status) (before after : Scene) → IsToldCup engines setup before.engines after.engines text → WritesAs text Done status before.written after.written → CupRun engines setup status before after
+told-as engines setup text status before after (ends, places, played, standings, told) (inl (e, wrote)) =
+    subst (λ s. CupRun engines setup s before after) (sym e) (ends, places, record { played = played; standings = standings; wrote = wrote ∙ ap (λ x. behind before.written x) told })
+told-as engines setup text status before after (ends, places, played, standings, told) (inr (e, (n, low, wrote))) =
+    subst (λ s. CupRun engines setup s before after) (sym e) (ends, places, n, record { played = played; standings = standings; cut = subst (λ x. n < length x) told low; wrote = wrote ∙ ap (λ x. behind before.written (take n x)) told })

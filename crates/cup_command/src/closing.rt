@@ -1,5 +1,6 @@
 //! The end of the links of a cup.
 ghost use Rattle.std.specs.Prelude.{◌≡◌};
+ghost use Rattle.match_command.specs.Match.{StartsNone};
 ghost use Rattle.cup_command.specs.Links.{ClosesLinks, all_links, counted, links_of};
 
 use cup_games::CupJob;
@@ -12,9 +13,7 @@ pub(crate) fn close_game<P: Spawner, G: Game + Drop>(job: CupJob<P::Engine, G>, 
         (links_of job) }
     ensures failed { (P.engines spawner.new).engine_faults
         ≡ counted (links_of job) (P.engines spawner.old).engine_faults }
-    ensures starts { (P.engines spawner.new).start_faults ≡ (P.engines spawner.old).start_faults }
-    ensures to_come { (P.engines spawner.new).to_come ≡ (P.engines spawner.old).to_come }
-    ensures started { (P.engines spawner.new).started ≡ (P.engines spawner.old).started }
+    ensures none_started { StartsNone (P.engines spawner.old) (P.engines spawner.new) }
 {
     let (white, black) = job.links();
     spawner.close(white);
@@ -30,9 +29,7 @@ pub(crate) fn close_links<P: Spawner, G: Game + Drop>(
         (all_links jobs.items) }
     ensures failed { (P.engines spawner.new).engine_faults
         ≡ counted (all_links jobs.items) (P.engines spawner.old).engine_faults }
-    ensures starts { (P.engines spawner.new).start_faults ≡ (P.engines spawner.old).start_faults }
-    ensures to_come { (P.engines spawner.new).to_come ≡ (P.engines spawner.old).to_come }
-    ensures started { (P.engines spawner.new).started ≡ (P.engines spawner.old).started }
+    ensures none_started { StartsNone (P.engines spawner.old) (P.engines spawner.new) }
 {
     let mut left = jobs.into_iter();
     while let Some(job) = left.next() {

@@ -18,6 +18,7 @@ ghost use Rattle.std.specs.List.{All};
 ghost use Rattle.io_edge.specs.Outside.{HasCause, Starts};
 ghost use Rattle.match_core.specs.Keeps.{IsSetup};
 ghost use Rattle.cup_core.specs.Cup.{pairings};
+ghost use Rattle.match_command.specs.Match.{StartsNone};
 ghost use Rattle.match_runner.specs.Wires.{IsFresh, Wire, wire};
 ghost use Rattle.cup_games.specs.Played.{IsDepth, IsJob, pairing, ready};
 ghost use Rattle.cup_command.specs.Cup.{cup_words, game_words, words_of};
@@ -61,9 +62,7 @@ fn keep_game<P: Spawner, G: Game + Drop>(
     ensures closed { OnErr result (ClosesLinks (P.engines spawner.old).sent
         (P.engines spawner.new).sent (all_links jobs.items ++ links_of job)) }
     ensures memory { IsErrOf result StartFault.Failed → ⊥ }
-    ensures starts { (P.engines spawner.new).start_faults ≡ (P.engines spawner.old).start_faults }
-    ensures to_come { (P.engines spawner.new).to_come ≡ (P.engines spawner.old).to_come }
-    ensures started { (P.engines spawner.new).started ≡ (P.engines spawner.old).started }
+    ensures none_started { StartsNone (P.engines spawner.old) (P.engines spawner.new) }
 {
     match jobs.push(job) {
         Ok(()) => Ok(jobs),

@@ -24,11 +24,11 @@ ghost use Rattle.cup_command.specs.Texts.{cup_text, standing_text};
 use crate::closing::close_links;
 use crate::links::start_links;
 use crate::texts::tell_cup;
-use command_runs::Status;
+use command_runs::{Status, end_with};
 use cup_core::{Pairing, Program, pairings};
 use cup_games::{CupGate, CupJob, run_cup};
 use hive_model::{Game, ReplyText};
-use io_edge::{Link, Sink, Spawner, StartFault, write_all};
+use io_edge::{Link, Sink, Spawner, StartFault};
 use match_core::Setup;
 use std::alloc::{AllocError, Global};
 use std::thread::Threads;
@@ -140,13 +140,7 @@ pub fn play_cup<R: Threads + Sync, P: Spawner, K: Sink, G: Game + Send + Drop, T
         (P.engines spawner.old) (P.engines spawner.new) }
 {
     match play::<R, P, G, T>(rt, alloc, programs, setup, spawner, gate) {
-        Ok(text) => {
-            if write_all(output, text.items()) {
-                Status::Done
-            } else {
-                Status::WriteFault
-            }
-        }
+        Ok(text) => end_with(text.items(), Status::Done, output),
         Err(StartFault::Failed) => Status::SpawnFault,
         Err(StartFault::Memory) => Status::Memory,
     }

@@ -1,13 +1,16 @@
 -- The match of two programs that were started, by what was to come.
-use Rattle.std.proofs.Common.{◌≡◌, ◌⊎◌, ℕ, ◌<◌, List, [], ◌∷◌, length, take, None, Some, refl, ap, sym, ◌∙◌, subst}
-use Rattle.io_edge.specs.Outside.{Rose, ToldLists, behind}
+use Rattle.std.proofs.Common.{◌≡◌, ◌⊎◌, ℕ, ◌<◌, List, [], ◌∷◌, length, take, None, Some, refl, ap, sym, ◌∙◌, subst, inl, inr, arith}
+use Rattle.io_edge.specs.Outside.{HasCause, Rose, Told, ToldLists, behind}
 use Rattle.io_edge.specs.Starts.{Engines}
-use Rattle.command_runs.specs.declared.status.Status.TheVariants.{Done, WriteFault}
+use Rattle.command_runs.specs.GameRun.{WritesAs}
+use Rattle.command_runs.specs.declared.status.Status.{Status}
+use Rattle.command_runs.specs.declared.status.Status.TheVariants.{Done, SpawnFault}
+use Rattle.command_runs.proofs.WrittenLemmas.{ends_so}
 use Rattle.match_core.specs.declared.answers.Setup.{Setup}
 use Rattle.match_core.specs.Standing.{Standing}
 use Rattle.match_runner.specs.Wires.{Wire}
 use Rattle.match_runner.specs.Runs.{IsLate}
-use Rattle.match_command.specs.Match.{AreFronts, AreSent, Gains, IsBroke, IsPlayedBy, MatchRun, Means, Played, Scene, end_of, means}
+use Rattle.match_command.specs.Match.{AreFronts, AreSent, BothStarted, Gains, IsBroke, IsPlayedBy, MatchRun, MatchStarts, Means, Played, Scene, end_of, means}
 use Rattle.match_command.specs.Texts.{match_text}
 use Rattle.match_command.specs.Wires.{PlayedOver, StartsTwo}
 
@@ -95,10 +98,22 @@ pub told_from : (setup : Setup) (text : List ℕ) (w b : Wire) (last readings : 
     → between.sent ≡ before.sent → between.engine_faults ≡ before.engine_faults → IsTold setup text (means last readings before) after
 told_from setup text w b last readings before between after (t, told, played) starts_two stays sent faults = (t, told, played_from setup t w b last readings before between after starts_two stays sent faults played)
 
--- all of it was written
-pub told_whole : (setup : Setup) (text : List ℕ) (before after : Scene) → IsTold setup text before.means after.means → after.written ≡ behind before.written text → MatchRun setup Done before after
-told_whole setup text before after (t, told, played) wrote = (t, record { played = played; wrote = wrote ∙ ap (λ x. behind before.written x) told })
+-- all of it was written, or a front of it and not all
+pub told_as : (setup : Setup) (text : List ℕ) (status : Status) (before after : Scene) → IsTold setup text before.means after.means → WritesAs text Done status before.written after.written → MatchRun setup status before after
+told_as setup text status before after (t, told, played) (inl (e, wrote)) =
+    subst (λ s. MatchRun setup s before after) (sym e) (t, record { played = played; wrote = wrote ∙ ap (λ x. behind before.written x) told })
+told_as setup text status before after (t, told, played) (inr (e, (n, low, wrote))) =
+    subst (λ s. MatchRun setup s before after) (sym e) (t, n, record { played = played; cut = subst (λ x. n < length x) told low; wrote = wrote ∙ ap (λ x. behind before.written (take n x)) told })
 
--- only a front of it was written
-pub told_part : (setup : Setup) (text : List ℕ) (before after : Scene) → IsTold setup text before.means after.means → ((n : ℕ) × (n < length text) × (after.written ≡ behind before.written (take n text))) → MatchRun setup WriteFault before after
-told_part setup text before after (t, told, played) (n, low, wrote) = (t, n, record { played = played; cut = subst (λ x. n < length x) told low; wrote = wrote ∙ ap (λ x. behind before.written (take n x)) told })
+-- both programs were started
+pub both_as : (text : List ℕ) (status : Status) (w0 w : Told) (white black : List (List ℕ)) (before after : Engines) → WritesAs text Done status w0 w → BothStarted white black before after → MatchStarts status white black before after
+both_as text status w0 w white black before after (inl (e, wrote)) both = subst (λ s. MatchStarts s white black before after) (sym e) both
+both_as text status w0 w white black before after (inr (e, wrote)) both = subst (λ s. MatchStarts s white black before after) (sym e) both
+
+-- where a text is written no program has failed to start
+pub none_failed : (text : List ℕ) (status : Status) (w0 w : Told) (before after : ℕ) → WritesAs text Done status w0 w → after ≡ before → HasCause (status ≡ SpawnFault) before after
+none_failed text status w0 w before after told same = record {
+  later = omega (arith, same);
+  rose = λ e. absurd (ends_so text Done SpawnFault status w0 w told (λ d. cc) (λ d. cc) e);
+  same = λ n. same;
+}

@@ -202,6 +202,12 @@ MatchStarts ReadFault white black before after = ⊥
 MatchStarts BadInput white black before after = ⊥
 MatchStarts InputFull white black before after = ⊥
 
+-- no program was started, and no start has failed
+pub record StartsNone (before after : Engines) : Type 0 where
+  pub starts : after.start_faults ≡ before.start_faults
+  pub to_come : after.to_come ≡ before.to_come
+  pub started : after.started ≡ before.started
+
 -- no program that was started is left open: where it is told, as many were closed as were taken
 -- from those to come
 abbrev pub NoneIsOpen : Engines → Engines → Type 0

@@ -2,7 +2,13 @@
 ghost use Rattle.std.specs.Prelude.{◌≡◌, ◌+◌, ◌<◌, length, map, string_bytes, IfOk, OnErr, IsErrOf};
 ghost use Rattle.io_edge.specs.Outside.{Collects, HasCause, Starts, with_last};
 ghost use Rattle.match_runner.specs.Wires.{IsFresh};
-ghost use Rattle.match_command.specs.Match.{BothStarted, FewerStarted, NoneIsOpen, SendsNothing};
+ghost use Rattle.match_command.specs.Match.{
+  BothStarted,
+  FewerStarted,
+  NoneIsOpen,
+  SendsNothing,
+  StartsNone,
+};
 ghost use Rattle.match_command.specs.Wires.{ClosesTwo, CountsEither, StartsTwo};
 
 use io_edge::{Spawner, StartFault};
@@ -84,9 +90,7 @@ pub(crate) fn close_both<P: Spawner>(white: P::Engine, black: P::Engine, spawner
         (P.Engine.read_faults white + P.Engine.write_faults white)
         (P.Engine.read_faults black + P.Engine.write_faults black)
         (P.engines spawner.old).engine_faults (P.engines spawner.new).engine_faults }
-    ensures starts { (P.engines spawner.new).start_faults ≡ (P.engines spawner.old).start_faults }
-    ensures to_come { (P.engines spawner.new).to_come ≡ (P.engines spawner.old).to_come }
-    ensures started { (P.engines spawner.new).started ≡ (P.engines spawner.old).started }
+    ensures none_started { StartsNone (P.engines spawner.old) (P.engines spawner.new) }
 {
     spawner.close(white);
     spawner.close(black);

@@ -5,15 +5,15 @@ ghost use Rattle.match_core.specs.Keeps.{IsSetup};
 ghost use Rattle.match_core.specs.Standing.{Standing};
 ghost use Rattle.match_runner.specs.Wires.{wire, IsFresh};
 ghost use Rattle.match_command.specs.Texts.{match_text};
-ghost use Rattle.match_command.specs.Match.{MatchRun, MatchStarts, means, scene};
+ghost use Rattle.match_command.specs.Match.{MatchRun, MatchStarts, StartsNone, means, scene};
 ghost use Rattle.match_command.specs.Ends.{EndsRun};
 ghost use Rattle.match_command.specs.Wires.{ClosesTwo, PlayedOver};
 
 use crate::engines::{close_both, start_both};
 use crate::texts::tell_match;
-use command_runs::Status;
+use command_runs::{Status, end_with};
 use hive_model::{Game, ReplyText};
-use io_edge::{Clock, Sink, Spawner, StartFault, write_all};
+use io_edge::{Clock, Sink, Spawner, StartFault};
 use match_core::{Referee, Setup};
 use match_runner::run_match;
 use std::alloc::{AllocError, Global};
@@ -42,9 +42,7 @@ fn play_and_close<P: Spawner, C: Clock, G: Game + Drop>(
         (means (C.last clock.new) (C.readings clock.new) (P.engines spawner.new))) }
     ensures closes { (w : Told) × (b : Told)
         × ClosesTwo (P.engines spawner.old).sent (P.engines spawner.new).sent w b }
-    ensures starts { (P.engines spawner.new).start_faults ≡ (P.engines spawner.old).start_faults }
-    ensures to_come { (P.engines spawner.new).to_come ≡ (P.engines spawner.old).to_come }
-    ensures started { (P.engines spawner.new).started ≡ (P.engines spawner.old).started }
+    ensures none_started { StartsNone (P.engines spawner.old) (P.engines spawner.new) }
     ensures later { C.last clock.old ≤ C.last clock.new }
 {
     let referee: Result<Referee<G>, AllocError> = run_match(
@@ -104,11 +102,7 @@ pub fn play_match<P: Spawner, K: Sink, C: Clock, G: Game + Drop>(
             else {
                 return Status::Memory;
             };
-            if write_all(output, text.items()) {
-                Status::Done
-            } else {
-                Status::WriteFault
-            }
+            end_with(text.items(), Status::Done, output)
         }
         Err(StartFault::Failed) => Status::SpawnFault,
         Err(StartFault::Memory) => Status::Memory,

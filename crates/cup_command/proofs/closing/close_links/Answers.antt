@@ -22,9 +22,7 @@ loop-job-preserved g c =
       failed =
           ap (counted (all_links rest)) c.close_game.ensures.failed
           ∙ (sym (counted-append (links_of job) (all_links rest) count) ∙ (ap (λ (js : List Job). counted (all_links js) count) (sym items) ∙ c.loop-job.invariant.failed));
-      starts = search rules;
-      to_come = search rules;
-      started = search rules;
+      none_started = record { starts = search rules; to_come = search rules; started = search rules };
     }
 
 pub returns-clause-sent : goal.returns-clause-sent

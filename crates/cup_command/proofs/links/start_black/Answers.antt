@@ -18,7 +18,7 @@ returns-in-Ok-clause-starts g c =
     let then = g.P.Spawner.engines c.start.new.self in
     let now = g.P.Spawner.engines c.keep_game.new.spawner in
     on-ok _ _ (λ same. let kept : now ≡ then = ap g.P.Spawner.engines same in record {
-      named = c.keep_game.ensures.started ∙ c.in-Ok.ensures.named;
+      named = c.keep_game.ensures.none_started.started ∙ c.in-Ok.ensures.named;
       sent = ap (λ (e : Engines). e.sent) kept ∙ c.in-Ok.ensures.others.1;
       failed = ap (λ (e : Engines). e.engine_faults) kept ∙ c.in-Ok.ensures.others.0;
     }) c.keep_game.result c.keep_game.ensures.untouched
@@ -30,7 +30,7 @@ returns-in-Ok-clause-closed g c =
     let sent = (g.P.Spawner.engines c.keep_game.new.spawner).sent in
     on-err _ _ (λ closes. gives-one _ _ (all_links c.args.jobs.items) w b _ _ c.keep_game.ensures.memory (search rules)
     (subst (λ told. ClosesLinks told sent (all_links c.args.jobs.items ++ (w ∷ (b ∷ [])))) (search rules) (subst (λ (j : Job). ClosesLinks (g.P.Spawner.engines c.start.new.self).sent sent (all_links c.args.jobs.items ++ links_of j)) c.new-job.ensures closes))
-    (c.keep_game.ensures.started ∙ c.in-Ok.ensures.named))
+    (c.keep_game.ensures.none_started.started ∙ c.in-Ok.ensures.named))
     c.keep_game.result c.keep_game.ensures.closed
 
 pub returns-in-Err-clause-closed : goal.returns-in-Err-clause-closed
@@ -45,7 +45,7 @@ returns-in-Err-clause-closed g c =
     (search rules)
 
 pub returns-in-Ok-clause-cause : goal.returns-in-Ok-clause-cause
-returns-in-Ok-clause-cause g c = cause-none _ _ _ _ _ c.in-Ok.ensures.cause (λ x. cc) c.keep_game.ensures.memory c.keep_game.ensures.starts
+returns-in-Ok-clause-cause g c = cause-none _ _ _ _ _ c.in-Ok.ensures.cause (λ x. cc) c.keep_game.ensures.memory c.keep_game.ensures.none_started.starts
 
 pub returns-in-Err-clause-cause : goal.returns-in-Err-clause-cause
-returns-in-Err-clause-cause g c = cause-same _ _ _ _ (cause-moved c.in-Err.fault _ _ _ c.in-Err.ensures.cause) (c.close.ensures.others.0 ∙ c.close_links.ensures.starts)
+returns-in-Err-clause-cause g c = cause-same _ _ _ _ (cause-moved c.in-Err.fault _ _ _ c.in-Err.ensures.cause) (c.close.ensures.others.0 ∙ c.close_links.ensures.none_started.starts)

@@ -37,4 +37,4 @@ pub returns-in-Err-clause-closed : goal.returns-in-Err-clause-closed
 returns-in-Err-clause-closed g c = gives-none _ _ _ _ _ (omega arith) (search rules) (search rules) (search rules)
 
 pub returns-in-Err-clause-cause : goal.returns-in-Err-clause-cause
-returns-in-Err-clause-cause g c = cause-same _ _ _ _ (cause-moved c.in-Err.fault _ _ _ c.in-Err.ensures.cause) c.close_links.ensures.starts
+returns-in-Err-clause-cause g c = cause-same _ _ _ _ (cause-moved c.in-Err.fault _ _ _ c.in-Err.ensures.cause) c.close_links.ensures.none_started.starts

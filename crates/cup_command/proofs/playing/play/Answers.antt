@@ -20,17 +20,17 @@ returns-in-Ok-text-clause-told g c =
     told-from c.args.programs.now c.args.setup c.as_slice-games.result.now c.in-Ok-start_links.jobs.items c.deref_mut.result.now news _ c.in-Ok-text.text
     old between new
     (c.as_slice-games.ensures.value ∙ c.in-Ok.ensures) started.kept started.ready c.deref_mut.ensures.value c.in-Ok-text.ensures.played (take-front c.in-Ok-start_links.jobs.len news _ many)
-    started.next started.starts.sent started.starts.failed started.starts.named shut.sent shut.failed shut.to_come shut.started c.in-Ok-text.ensures.told
+    started.next started.starts.sent started.starts.failed started.starts.named shut.sent shut.failed shut.none_started.to_come shut.none_started.started c.in-Ok-text.ensures.told
 
 pub returns-in-Ok-text-clause-closed : goal.returns-in-Ok-text-clause-closed
 returns-in-Ok-text-clause-closed g c =
     none-kept-after _ _ _ _ _ (g.P.Spawner.engines c.args.spawner.now) (g.P.Spawner.engines c.start_links.new.spawner) (g.P.Spawner.engines c.close_links.new.spawner) c.in-Ok-start_links.ensures.next c.in-Ok-start_links.ensures.starts.sent
-    c.close_links.ensures.sent c.close_links.ensures.to_come c.run_and_tell-text.ensures.long c.deref_mut.ensures.len c.deref_mut.ensures.value
+    c.close_links.ensures.sent c.close_links.ensures.none_started.to_come c.run_and_tell-text.ensures.long c.deref_mut.ensures.len c.deref_mut.ensures.value
 
 pub returns-in-Ok-start_links-clause-closed : goal.returns-in-Ok-start_links-clause-closed
 returns-in-Ok-start_links-clause-closed g c =
     none-kept-after _ _ _ _ _ (g.P.Spawner.engines c.args.spawner.now) (g.P.Spawner.engines c.start_links.new.spawner) (g.P.Spawner.engines c.close_links.new.spawner) c.in-Ok-start_links.ensures.next c.in-Ok-start_links.ensures.starts.sent
-    c.close_links.ensures.sent c.close_links.ensures.to_come c.run_and_tell-text.ensures.long c.deref_mut.ensures.len c.deref_mut.ensures.value
+    c.close_links.ensures.sent c.close_links.ensures.none_started.to_come c.run_and_tell-text.ensures.long c.deref_mut.ensures.len c.deref_mut.ensures.value
 
 pub returns-clause-broken : goal.returns-clause-broken
 returns-clause-broken g c =
@@ -61,4 +61,4 @@ returns-in-Ok-start_links-clause-early g c =
     (g.P.Spawner.engines c.args.spawner.now) (g.P.Spawner.engines c.start_links.new.spawner) (g.P.Spawner.engines c.close_links.new.spawner)
     (c.as_slice-games.ensures.value ∙ c.in-Ok.ensures) started.kept
     (as-many-after c.in-Ok-start_links.jobs.len c.in-Ok-start_links.jobs.items c.deref_mut.result.now news (drop (length news) c.in-Ok-start_links.jobs.items) c.run_and_tell-text.ensures.long c.deref_mut.ensures.len c.deref_mut.ensures.value)
-    started.next started.starts.sent started.starts.named shut.sent shut.to_come shut.started
+    started.next started.starts.sent started.starts.named shut.sent shut.none_started.to_come shut.none_started.started
