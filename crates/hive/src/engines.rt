@@ -2,7 +2,7 @@
 //! tell its bytes.
 ghost use Rattle.std.specs.Prelude.{◌≡◌, ◌<◌, ◌+◌, ◌↔◌, IsTrue, None, refl};
 
-use crate::streams::{InputStream, OutputStream};
+use crate::streams::Counted;
 use io_edge::{Link, ReadAnswer, Sink, Source, WriteAnswer};
 use std::process::{Child, OpenProcess};
 
@@ -17,8 +17,8 @@ const MOST_PASSED: usize = 1_048_576;
 /// one that floods is stopped; then its end is waited for.
 pub struct Engine<P: OpenProcess + Drop> {
     child: Child<P>,
-    input: OutputStream<P::Stdin>,
-    output: InputStream<P::Stdout>,
+    input: Counted<P::Stdin>,
+    output: Counted<P::Stdout>,
 }
 
 impl<P: OpenProcess + Drop> Engine<P> {
@@ -29,8 +29,8 @@ impl<P: OpenProcess + Drop> Engine<P> {
     {
         Engine {
             child,
-            input: OutputStream::new(input),
-            output: InputStream::new(output),
+            input: Counted::new(input),
+            output: Counted::new(output),
         }
     }
 

@@ -26,7 +26,7 @@ use std::io::ErrorKind;
 use std::process::{ExitCode, OpenProcess, Processes};
 use std::thread::Threads;
 use std::{env, io, time};
-use streams::{InputStream, OutputStream};
+use streams::Counted;
 
 /// The status of a run whose words cannot be had: memory is wanting, or a word is not UTF-8.
 fn status_of(kind: ErrorKind) -> Status
@@ -73,8 +73,8 @@ where
     ensures exact { AreOfNoCommand words.now → ¬ TakeOption (map string_bytes words.now) → result
         ≡ Status.Usage }
 {
-    let mut input = InputStream::new(rt.reader());
-    let mut output = OutputStream::new(io::writer(rt));
+    let mut input = Counted::new(rt.reader());
+    let mut output = Counted::new(io::writer(rt));
     let mut clock = MachineClock::new(rt);
     let mut spawner = Programs::new(rt, rt.alloc());
     let outcome = run(

@@ -6,22 +6,22 @@ use io_edge::{ReadAnswer, Sink, Source, WriteAnswer};
 use std::io;
 use std::io::{Read, Write};
 
-/// A reader as a source. Each read that fails is counted.
+/// A reader or a writer, and how many of its calls have failed.
 #[derive(Drop)]
-pub struct InputStream<R> {
-    reader: R,
+pub struct Counted<T> {
+    stream: T,
     faults: u64,
 }
 
-impl<R> InputStream<R> {
-    /// A source of which no read has failed.
-    pub fn new(reader: R) -> Self
+impl<T> Counted<T> {
+    /// A stream of which no call has failed.
+    pub fn new(stream: T) -> Self
         ensures { result.faults ≡ 0 }
     {
-        InputStream { reader, faults: 0 }
+        Counted { stream, faults: 0 }
     }
 
-    /// How often a read has failed.
+    /// How often a call has failed.
     pub fn faults(&self) -> u64
         ensures { result ≡ self.now.faults }
     {
@@ -29,7 +29,8 @@ impl<R> InputStream<R> {
     }
 }
 
-impl<R: Read> Source for InputStream<R> {
+/// A reader as a source. Each read that fails is counted.
+impl<R: Read> Source for Counted<R> {
     ghost rest = { λ _. None };
 
     ghost read_faults = { λ s. s.faults };
@@ -37,7 +38,7 @@ impl<R: Read> Source for InputStream<R> {
     ghost source_aside = { λ _. no_side };
 
     fn read(&mut self, buffer: &mut [u8]) -> ReadAnswer {
-        match self.reader.read(buffer) {
+        match self.stream.read(buffer) {
             Ok(0) => ReadAnswer::End,
             Ok(count) => ReadAnswer::Got(count),
             Err(_) => {
@@ -48,43 +49,21 @@ impl<R: Read> Source for InputStream<R> {
     }
 }
 
-/// A writer as a sink, flushed after each write. Each write or flush that fails is counted, and so
-/// is a write that takes no byte.
-#[derive(Drop)]
-pub struct OutputStream<W> {
-    writer: W,
-    faults: u64,
-}
-
-impl<W> OutputStream<W> {
-    /// A sink of which no write has failed.
-    pub fn new(writer: W) -> Self
-        ensures { result.faults ≡ 0 }
-    {
-        OutputStream { writer, faults: 0 }
-    }
-
-    /// How often a write has failed.
-    pub fn faults(&self) -> u64
-        ensures { result ≡ self.now.faults }
-    {
-        self.faults
-    }
-}
-
-impl<W: Write> OutputStream<W> {
+impl<W: Write> Counted<W> {
     /// Writes the front of the bytes and flushes, and answers how many were written.
     fn write_through(&mut self, bytes: &[u8]) -> io::Result<usize>
         ensures faults { self.new.faults ≡ self.old.faults }
         ensures most { IfOk result (λ n. n ≤ length bytes.now) }
     {
-        let count = self.writer.write(bytes)?;
-        self.writer.flush()?;
+        let count = self.stream.write(bytes)?;
+        self.stream.flush()?;
         Ok(count)
     }
 }
 
-impl<W: Write> Sink for OutputStream<W> {
+/// A writer as a sink, flushed after each write. Each write or flush that fails is counted, and so
+/// is a write that takes no byte.
+impl<W: Write> Sink for Counted<W> {
     ghost written = { λ _. None };
 
     ghost write_faults = { λ s. s.faults };

@@ -1,7 +1,7 @@
 //! The streams over a reader and a writer that answer as they are told.
 ghost use Rattle.std.specs.Prelude.{◌≤◌, IfOk};
 
-use crate::streams::{InputStream, OutputStream};
+use crate::streams::Counted;
 use io_edge::{ReadAnswer, Sink, Source, WriteAnswer};
 use std::io;
 use std::io::{Read, Write};
@@ -51,11 +51,11 @@ fn streams_answer_as_their_ends(rt: HostRuntime) {
         (Some(0), ReadAnswer::End, WriteAnswer::Failed),
         (None, ReadAnswer::Failed, WriteAnswer::Failed),
     ] {
-        let mut input = InputStream::new(Told {
+        let mut input = Counted::new(Told {
             answer,
             flushed: &flushed,
         });
-        let mut output = OutputStream::new(Told {
+        let mut output = Counted::new(Told {
             answer,
             flushed: &flushed,
         });
