@@ -13,6 +13,9 @@ use Rattle.hive_model.specs.Lines.{Line}
 use Rattle.search_laws.proofs.LoopLaws.{on-at}
 use Rattle.claim_walks.specs.declared.claim.Claim.{Claim}
 use Rattle.claim_walks.specs.Walks.{Fault, Halt, place_of}
+use Rattle.claim_walks.specs.Answers.{ReadCauses}
+use Rattle.claim_walks.specs.Ends.{CheckCauses}
+use Rattle.claim_walks.specs.declared.answers.Halt.TheVariants.{Bad, Failed, Full}
 use Rattle.claim_walks.proofs.PlaceLaws.{place-here}
 use Rattle.claim_walks.proofs.FollowLaws.{certificate-none}
 use Rattle.claim_walks.specs.Follows.{held}
@@ -20,6 +23,9 @@ use Rattle.strategy_check.specs.declared.answers.Why.{Why}
 use Rattle.strategy_check.specs.declared.answers.Why.TheVariants.{NoSuchMove}
 use Rattle.strategy_check.specs.Trace.{steps, checked, index_rules}
 use Rattle.strategy_check.specs.Checks.{index_sight}
+use Rattle.citing_text.specs.declared.migrating.Migrated.{Migrated}
+use Rattle.citing_text.specs.declared.migrating.Migrated.TheVariants.{Done, Refused, Halted, WriteFault, Memory}
+use Rattle.citing_text.specs.Migrating.{answered}
 use Rattle.certificate_text.specs.declared.head.Head.{Head}
 use Rattle.certificate_text.specs.declared.head.HeadFault.{HeadFault}
 use Rattle.certificate_text.specs.declared.head.HeadFault.TheVariants.{BadLine as LineFault, BadGame as NoGame, ReadFault as NoRead, InputFull as IsFull, Memory as NoMemory}
@@ -130,3 +136,13 @@ fault-refuses (NoGame fault) judged is = λ e. cc
 fault-refuses NoRead judged is = λ e. cc
 fault-refuses IsFull judged is = λ e. cc
 fault-refuses NoMemory judged is = λ e. cc
+
+-- why the indices ended the call
+pub read-causes : (migrated : Migrated) (before now : ℕ) (full : Bool) → CheckCauses (answered migrated) before now full → ReadCauses (migrated ≡ Halted Failed) (migrated ≡ Halted Full) before now full
+read-causes Done before now full h = record { later = h.later; rose = λ e. cc; same = λ no. h.same (λ f. cc); closed = λ e. cc }
+read-causes WriteFault before now full h = record { later = h.later; rose = λ e. cc; same = λ no. h.same (λ f. cc); closed = λ e. cc }
+read-causes (Refused place why) before now full h = record { later = h.later; rose = λ e. cc; same = λ no. h.same (λ f. cc); closed = λ e. cc }
+read-causes (Halted Bad) before now full h = record { later = h.later; rose = λ e. cc; same = λ no. h.same (λ f. cc); closed = λ e. cc }
+read-causes (Halted Failed) before now full h = record { later = h.later; rose = λ e. h.rose refl; same = λ no. absurd (no refl); closed = λ e. cc }
+read-causes (Halted Full) before now full h = record { later = h.later; rose = λ e. cc; same = λ no. h.same (λ f. cc); closed = λ e. h.closed refl }
+read-causes Memory before now full h = record { later = h.later; rose = λ e. cc; same = λ no. h.same (λ f. f); closed = λ e. cc }

@@ -1,6 +1,6 @@
 //! Certificates become certificates that cite.
 
-ghost use Rattle.std.specs.Prelude.{◌≡◌, ◌≢◌, ◌+◌, ◌≤◌, ◌↔◌, ℕ, ℤ, List, map, Option, Some, Err};
+ghost use Rattle.std.specs.Prelude.{◌≡◌, ◌≢◌, ◌+◌, ◌≤◌, ◌↔◌, ℕ, ℤ, List, map, Option, Some, IfSome, Err};
 ghost use Rattle.io_edge.specs.Outside.{HasCause, Told as AnyTold};
 ghost use Rattle.line_feed.specs.Feed.{Reading};
 ghost use Rattle.hive_model.specs.Lines.{lines};
@@ -11,13 +11,10 @@ ghost use Rattle.strategy_check.specs.Trace.{checked};
 ghost use Rattle.certificate_text.specs.Text.{head_text, index_in};
 ghost use Rattle.certificate_text.specs.Heads.{IsHead};
 ghost use Rattle.certificate_text.specs.Taken.{HasRead, StopsAt};
-ghost use Rattle.citing_text.specs.Migrating.{
-  MigrateAnswers,
-  MigrateCountsBad,
-  MigrateCountsRefused,
-};
+ghost use Rattle.claim_walks.specs.Answers.{CountsBad, CountsRefused, Ended};
+ghost use Rattle.strategy_check.specs.Checks.{index_faults};
+ghost use Rattle.citing_text.specs.Migrating.{MigrateAnswers, answered};
 ghost use Rattle.citing_text.specs.Migrating as calls;
-ghost use Rattle.citing_text.specs.Endings.{MigrateEnded};
 ghost use Rattle.command_runs.specs.Runs.{RunsAs, side_of};
 ghost use Rattle.text_verdicts.specs.Reading.{WasReadAs};
 ghost use Rattle.certificate_commands.specs.Verdicts.{IsClaimOf, of_claim, of_items};
@@ -68,15 +65,17 @@ fn taken_of(migrated: Migrated, lines: u64) -> Taken
     ensures told { (p : Position) (d : ℕ) (m : AnyMove) (v : ℤ) (items : List (Option ℕ))
         (head : List ℕ) (before after : AnyTold)
         → MigrateAnswers p d m v items head migrated before after
-        → MigrateCountsBad (checked p d m v items) migrated lines
+        → IfSome (answered migrated) (λ answer. CountsBad (checked p d m v items) answer lines)
         → Writes (of_items p d m v items) (OfItems p d m v items head) result before after }
     ensures late { (before after : AnyTold) → calls.WritesLate migrated before after
         → WritesLate result before after }
     ensures failed { (result ≡ Taken.Missed Unread.ReadFault)
         ↔ (migrated ≡ Migrated.Halted Halt.Failed) }
     ensures read { (text : List ℕ) (rest : AnyTold) (reader : Reading)
-        → HasRead text rest reader (5 + lines) → MigrateCountsRefused migrated lines
-        → MigrateEnded (λ answer. StopsAt answer reader) migrated
+        → HasRead text rest reader (5 + lines)
+        → IfSome (answered migrated) (λ answer. CountsRefused index_faults answer lines)
+        → IfSome (answered migrated) (λ answer. Ended {T = ℕ} index_faults
+        (λ stop. StopsAt stop reader) answer)
         → WasReadAs 5 (judged_of result) text rest }
     ensures cut { (result ≡ Taken.Cut) ↔ (migrated ≡ Migrated.WriteFault) }
 {

@@ -87,23 +87,18 @@ impl<'a, 'b, S: Source, F: LineForm> LineItems<'a, 'b, S, F> {
 impl<S: Source, F: LineForm> Items for LineItems<'_, '_, S, F> {
     type Item = F::Item;
 
-    ghost left = { λ s. option_map (map F.item) (ahead_of s.reader.now (S.rest s.source.now)) };
-
-    ghost faults = { λ s. S.read_faults s.source.now };
-
-    ghost full = { λ s. nat_eq s.reader.now.taken input_limit };
-
-    ghost count = { λ s. s.lines };
-
-    ghost lenders = { λ s. record {
-      references = s.reader.ghost_name ∷ s.source.ghost_name ∷ [];
-      bytes = in_all s.reader.now (S.rest s.source.now);
+    ghost supply = { λ s. record {
+      left = option_map (map F.item) (ahead_of s.reader.now (S.rest s.source.now));
+      faults = S.read_faults s.source.now;
+      full = nat_eq s.reader.now.taken input_limit;
+      count = s.lines;
+      lenders = record {
+        references = s.reader.ghost_name ∷ s.source.ghost_name ∷ [];
+        bytes = in_all s.reader.now (S.rest s.source.now);
+      };
+      known = λ input before. HasRead input (S.rest s.source.now) s.reader.now (before + s.lines);
+      met = λ answer. StopsAt answer s.reader.now;
     } };
-
-    ghost known = { λ s input before.
-        HasRead input (S.rest s.source.now) s.reader.now (before + s.lines) };
-
-    ghost met = { λ s answer. StopsAt answer s.reader.now };
 
     fn take(&mut self) -> ItemAnswer<F::Item> {
         match self.reader.next_line(self.source) {

@@ -1,5 +1,6 @@
 -- What the walk of a whole certificate that writes tokens says of the indices.
-use Rattle.std.proofs.Common.{◌≡◌, ℕ, List, sym, ap, subst, ◌∙◌, ℤ, Option, Some}
+use Rattle.std.proofs.Common.{◌≡◌, ℕ, List, sym, ap, subst, ◌∙◌, ℤ, Option, None, Some}
+use Rattle.std.specs.Prelude.{IfSome}
 use Rattle.hive_model.specs.declared.places.Move.{Move}
 use Rattle.hive_model.specs.Positions.{Position}
 use Rattle.claim_walks.specs.Walks.{Outcome, Left, Fault, Halt}
@@ -7,7 +8,11 @@ use Rattle.strategy_check.specs.declared.answers.Why.{Why}
 use Rattle.claim_walks.specs.declared.answers.Halt.{Halt as AnyHalt}
 use Rattle.claim_walks.specs.declared.answers.Halt.TheVariants.{Bad, Failed, Full}
 use Rattle.claim_walks.specs.declared.answers.Checked.{Checked}
-use Rattle.claim_walks.specs.declared.answers.Checked.TheVariants.{Halted as CheckHalted}
+use Rattle.claim_walks.specs.declared.answers.Checked.TheVariants.{Accepted, Refused as CheckRefused, Halted as CheckHalted}
+use Rattle.claim_walks.specs.Answers.{CountsBad}
+use Rattle.claim_walks.specs.Ends.{ChecksItems}
+use Rattle.claim_walks.specs.Items.{Supply}
+use Rattle.strategy_check.specs.Checks.{index_faults}
 use Rattle.strategy_check.specs.Trace.{checked}
 use Rattle.strategy_check.proofs.TakenLaws.{accepted-indices}
 use Rattle.strategy_lemmas.specs.Short.{ShortSteps, short, shortened, of_indices, written_by}
@@ -16,7 +21,7 @@ use Rattle.io_edge.specs.Outside.{Told}
 use Rattle.citing_text.specs.declared.draft.Draft.{Draft}
 use Rattle.citing_text.specs.declared.migrating.Migrated.TheVariants.{Halted}
 use Rattle.citing_text.specs.TokenText.{token_lines}
-use Rattle.citing_text.specs.Migrating.{ShortAnswers, ShortCountsBad, Shortens, MigrateAnswers, MigrateCountsBad}
+use Rattle.citing_text.specs.Migrating.{ShortAnswers, Shortens, MigrateAnswers}
 
 pub answers-as : (o q : Outcome ShortSteps Why) (answer : Option (Checked Why)) (d : Draft) → o ≡ q → ShortAnswers q answer d → ShortAnswers o answer d
 answers-as o q answer d e h = subst (λ (x : Outcome ShortSteps Why). ShortAnswers x answer d) (sym e) h
@@ -42,7 +47,24 @@ module _ (p : Position) (d : ℕ) (m : Move) (v : ℤ) (items : List (Option ℕ
   halted-told head a b Failed draft h = tt
   halted-told head a b Full draft h = tt
 
-  pub halted-counts : (why : AnyHalt) (count : ℕ) → ShortCountsBad (shortened p d m v items) (Some (CheckHalted why)) count → MigrateCountsBad (checked p d m v items) (Halted why) count
-  halted-counts Bad count h = (h.0, halted-is h.0 h.1, h.2)
-  halted-counts Failed count h = tt
-  halted-counts Full count h = tt
+module _ (p : Position) (d : ℕ) (m : Move) (v : ℤ) where
+  bad-is : (items : List (Option ℕ)) (answer : Option (Checked Why)) (count : ℕ) → IfSome answer (λ c. CountsBad (shortened p d m v items) c count) → IfSome answer (λ c. CountsBad (checked p d m v items) c count)
+  bad-is items None count h = h
+  bad-is items (Some Accepted) count h = tt
+  bad-is items (Some (CheckRefused place why)) count h = tt
+  bad-is items (Some (CheckHalted Bad)) count h = (h.0, halted-is p d m v items h.0 h.1, h.2)
+  bad-is items (Some (CheckHalted Failed)) count h = tt
+  bad-is items (Some (CheckHalted Full)) count h = tt
+
+  -- what became of the indices is told by the walk of them alone
+  pub items-are : (answer other : Option (Checked Why)) (a b : Supply ℕ) → other ≡ answer → ChecksItems index_faults (shortened p d m v) answer a b → ChecksItems index_faults (checked p d m v) other a b
+  items-are answer other a b is h =
+      subst (λ (x : Option (Checked Why)). ChecksItems index_faults (checked p d m v) x a b) (sym is)
+      (record {
+        bad = λ items e none. bad-is items answer b.count (h.bad items e none);
+        refused = h.refused;
+        cause = h.cause;
+        lenders = h.lenders;
+        known = h.known;
+        met = h.met;
+      })

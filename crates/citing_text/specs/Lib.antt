@@ -2,5 +2,4 @@ pub mod TokenText
 pub mod Drafts
 pub mod Shortening
 pub mod Migrating
-pub mod Endings
 pub mod ShortTaking

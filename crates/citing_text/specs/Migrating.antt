@@ -1,5 +1,5 @@
 -- What is answered of a whole certificate whose tokens are written.
-use Rattle.std.specs.Prelude.{◌≡◌, ℕ, ◌+◌, ◌<◌, ◌≤◌, Bool, ⊤, ℤ, List, map, ◌++◌, length, take, Option, Some, None, IfSome}
+use Rattle.std.specs.Prelude.{◌≡◌, ℕ, ◌<◌, ⊤, ℤ, List, map, ◌++◌, length, take, Option, Some, None}
 use Rattle.io_edge.specs.Outside.{Told, behind}
 use Rattle.hive_model.specs.declared.places.Move.{Move}
 use Rattle.hive_model.specs.Positions.{Position}
@@ -9,8 +9,6 @@ use Rattle.strategy_check.specs.declared.answers.Why.{Why}
 use Rattle.claim_walks.specs.declared.answers.Halt.TheVariants.{Bad, Failed, Full}
 use Rattle.claim_walks.specs.declared.answers.Checked.{Checked}
 use Rattle.claim_walks.specs.declared.answers.Checked.TheVariants.{Accepted, Refused as CheckRefused, Halted as CheckHalted}
-use Rattle.claim_walks.specs.Answers.{CountsBad, CountsRefused, EndCauses, ReadCauses}
-use Rattle.strategy_check.specs.Checks.{index_faults, looked_at}
 use Rattle.strategy_check.specs.Trace.{Steps, Holds, checked}
 use Rattle.strategy_lemmas.specs.Short.{ShortSteps, short}
 use Rattle.citing_text.specs.declared.draft.Draft.{Draft}
@@ -28,21 +26,6 @@ ShortAnswers o (Some (CheckRefused place why)) d = (n : ℕ) × (o ≡ Fault why
 ShortAnswers o (Some (CheckHalted Bad)) d = (n : ℕ) × (o ≡ Halt n)
 ShortAnswers o (Some (CheckHalted Failed)) d = ⊤
 ShortAnswers o (Some (CheckHalted Full)) d = ⊤
-
--- where a bad item ends it, so many items were taken away: those before it, and itself
-abbrev pub ShortCountsBad : Outcome ShortSteps Why → Option (Checked Why) → ℕ → Type 0
-ShortCountsBad o answer count = IfSome answer (λ checked. CountsBad o checked count)
-
--- where a fault ends it, at most so many items were taken away: those before it, and what was
--- looked at
-abbrev pub ShortCountsRefused : Option (Checked Why) → ℕ → Type 0
-ShortCountsRefused answer count =
-    IfSome answer (λ checked. CountsRefused index_faults checked count)
-
--- why the indices ended it, or none where there was no memory for a token
-abbrev pub ShortEndCauses : Option (Checked Why) → ℕ → ℕ → Bool → Type 0
-ShortEndCauses None = ReadCauses ⊥ ⊥
-ShortEndCauses (Some checked) = EndCauses checked
 
 -- the items are indices that hold, and the lines are those of the tokens that are written of them
 pub record Shortens (p : Position) (d : ℕ) (m : Move) (v : ℤ) (items : List (Option ℕ))
@@ -77,25 +60,10 @@ WritesLate (Refused place why) before after = after ≡ before
 WritesLate (Halted why) before after = after ≡ before
 WritesLate Memory before after = after ≡ before
 
--- where a bad item ended it, so many items were taken away: those before it, and itself
-abbrev pub MigrateCountsBad : Outcome Steps Why → Migrated → ℕ → Type 0
-MigrateCountsBad o Done count = ⊤
-MigrateCountsBad o WriteFault count = ⊤
-MigrateCountsBad o (Refused place why) count = ⊤
-MigrateCountsBad o (Halted Bad) count = (n : ℕ) × (o ≡ Halt n) × (count ≡ held (n + 1))
-MigrateCountsBad o (Halted Failed) count = ⊤
-MigrateCountsBad o (Halted Full) count = ⊤
-MigrateCountsBad o Memory count = ⊤
-
--- where a fault ended it, at most so many items were taken away: those before it, and what was
--- looked at
-abbrev pub MigrateCountsRefused : Migrated → ℕ → Type 0
-MigrateCountsRefused Done count = ⊤
-MigrateCountsRefused WriteFault count = ⊤
-MigrateCountsRefused (Refused place why) count = count ≤ place + looked_at why
-MigrateCountsRefused (Halted why) count = ⊤
-MigrateCountsRefused Memory count = ⊤
-
--- why the indices ended it
-abbrev pub MigrateCauses : Migrated → ℕ → ℕ → Bool → Type 0
-MigrateCauses answer = ReadCauses (answer ≡ Halted Failed) (answer ≡ Halted Full)
+-- what a check answered of the indices; none where there was not so much memory
+abbrev pub answered : Migrated → Option (Checked Why)
+answered Done = Some Accepted
+answered WriteFault = Some Accepted
+answered (Refused place why) = Some (CheckRefused place why)
+answered (Halted answer) = Some (CheckHalted answer)
+answered Memory = None

@@ -1,9 +1,8 @@
 -- What is told of indices at one moment of a walk that writes tokens, and how its parts end.
-use Rattle.std.specs.Prelude.{◌≡◌, ℕ, Bool, List, [], ◌∷◌, Option, None, Some}
+use Rattle.std.specs.Prelude.{◌≡◌, ℕ, [], ◌∷◌, Option, None, Some}
 use Rattle.claim_walks.specs.Follows.{Ending, Shown}
-use Rattle.claim_walks.specs.Items.{Lent}
+use Rattle.claim_walks.specs.Items.{Supply}
 use Rattle.claim_walks.specs.Taking.{Moment, moment_of, of_stop}
-use Rattle.claim_walks.specs.declared.items.ItemAnswer.{ItemAnswer}
 use Rattle.claim_walks.specs.declared.answers.Halt.TheVariants.{Bad, Failed, Full}
 use Rattle.claim_walks.specs.declared.answers.Stop.{Stop}
 use Rattle.claim_walks.specs.declared.answers.Stop.TheVariants.{Refuses as StopRefuses, Halts as StopHalts}
@@ -18,13 +17,11 @@ use Rattle.strategy_check.specs.declared.answers.Why.TheVariants.{BadIndex, Leaf
 use Rattle.citing_text.specs.declared.shortening.ShortWalk.{ShortWalk}
 use Rattle.citing_text.specs.Shortening.{short_ending}
 
--- The moment of a walk over indices, of which these tell the count of faults, whether no more may
--- be read, and so on.
-abbrev pub short_moment : {I : Type 0} → (I → ℕ) → (I → Bool) → (I → ℕ) → (I → Lent)
-    → (I → List ℕ → ℕ → Type 0) → (I → ItemAnswer ℕ → Type 0) → ShortWalk I → Moment ℕ
-short_moment faults full count lenders known met walk =
-    moment_of faults full count lenders known met
-    (walk.indices.ghost_name ∷ walk.draft.ghost_name ∷ []) walk.draft.now.taken walk.indices.now
+-- the moment of a walk over indices, of which this tells what is told of them
+abbrev pub short_moment : {I : Type 0} → (I → Supply ℕ) → ShortWalk I → Moment ℕ
+short_moment supply walk =
+    moment_of (walk.indices.ghost_name ∷ walk.draft.ghost_name ∷ []) walk.draft.now.taken
+    (supply walk.indices.now)
 
 -- why it was ended, or none where there was no memory for a token
 abbrev pub of_short_stop : Option (Stop Why) → Option (WalkAnswer Why)

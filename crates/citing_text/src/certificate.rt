@@ -1,20 +1,15 @@
 //! The walk of a whole certificate that writes its tokens.
 
-ghost use Rattle.std.specs.Prelude.{◌≡◌, ◌≤◌, ℕ, List, [], Option, Some, None, IfSome};
+ghost use Rattle.std.specs.Prelude.{◌≡◌, ◌≤◌, ℕ, List, [], Option, Some, None};
 ghost use Rattle.hive_model.specs.Legal.{moves};
 ghost use Rattle.hive_model.specs.Minimax.{IsInner, value, best};
 ghost use Rattle.hive_model.specs.Courses.{position};
 ghost use Rattle.search_laws.specs.Laws.{IsSmall};
 ghost use Rattle.claim_walks.specs.Walks.{place_of};
-ghost use Rattle.claim_walks.specs.Answers.{Ended};
+ghost use Rattle.claim_walks.specs.Ends.{ChecksItems};
 ghost use Rattle.strategy_lemmas.specs.Short.{shortened};
 ghost use Rattle.strategy_check.specs.Checks.{index_faults};
-ghost use Rattle.citing_text.specs.Migrating.{
-  ShortAnswers,
-  ShortCountsBad,
-  ShortCountsRefused,
-  ShortEndCauses,
-};
+ghost use Rattle.citing_text.specs.Migrating.{ShortAnswers};
 
 use crate::draft::Draft;
 use crate::shortening::{ShortWalk, short_of};
@@ -40,25 +35,17 @@ pub fn shorten_certificate<G: Game, I: Items<Item = u32>>(
     ensures accepted { result ≡ Some Checked.Accepted
         → (best (position (G.course game.old)) claim.now.depth ≡ Some claim.now.best)
         × (value (position (G.course game.old)) claim.now.depth ≡ claim.now.value) }
-    ensures told { (items : List (Option ℕ)) → I.left indices.old ≡ Some items
+    ensures told { (items : List (Option ℕ)) → (I.supply indices.old).left ≡ Some items
         → ShortAnswers (shortened (position (G.course game.old))
         claim.now.depth claim.now.best claim.now.value items) result draft.new }
     ensures illegal { place_of claim.now.best (moves (position (G.course game.old))) ≡ None
         → result ≡ Some (Checked.Refused 0 Why.NoSuchMove) }
     ensures legal { (place : ℕ) → result ≡ Some (Checked.Refused place Why.NoSuchMove)
         → place_of claim.now.best (moves (position (G.course game.old))) ≡ None }
-    ensures bad { (items : List (Option ℕ)) → I.left indices.old ≡ Some items
-        → I.count indices.old ≡ 0
-        → ShortCountsBad (shortened (position (G.course game.old))
-        claim.now.depth claim.now.best claim.now.value items) result (I.count indices.new) }
-    ensures refused { I.count indices.old ≡ 0
-        → ShortCountsRefused result (I.count indices.new) }
-    ensures cause { ShortEndCauses result
-        (I.faults indices.old) (I.faults indices.new) (I.full indices.new) }
-    ensures lenders { I.lenders indices.new ≡ I.lenders indices.old }
-    ensures known { (input : List ℕ) (before : ℕ) → I.known indices.old input before
-        → I.known indices.new input before }
-    ensures met { IfSome result (λ checked. Ended index_faults (I.met indices.new) checked) }
+    ensures items { ChecksItems index_faults
+        (shortened (position (G.course game.old))
+        claim.now.depth claim.now.best claim.now.value) result
+        (I.supply indices.old) (I.supply indices.new) }
     ensures game { G.course game.new ≡ G.course game.old }
     ensures stack { stack.new ≡ stack.old }
 {

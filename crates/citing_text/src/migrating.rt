@@ -7,16 +7,11 @@ ghost use Rattle.hive_model.specs.Minimax.{IsInner, value, best};
 ghost use Rattle.hive_model.specs.Courses.{position};
 ghost use Rattle.search_laws.specs.Laws.{IsSmall};
 ghost use Rattle.claim_walks.specs.Walks.{place_of};
+ghost use Rattle.claim_walks.specs.Ends.{ChecksItems};
+ghost use Rattle.strategy_check.specs.Checks.{index_faults};
 ghost use Rattle.strategy_check.specs.Trace.{checked};
 ghost use Rattle.index_writing.specs.Writing.{Wrote};
-ghost use Rattle.citing_text.specs.Endings.{MigrateEnded};
-ghost use Rattle.citing_text.specs.Migrating.{
-  MigrateAnswers,
-  MigrateCauses,
-  MigrateCountsBad,
-  MigrateCountsRefused,
-  WritesLate,
-};
+ghost use Rattle.citing_text.specs.Migrating.{MigrateAnswers, WritesLate, answered};
 
 use crate::certificate::shorten_certificate;
 use crate::draft::Draft;
@@ -77,7 +72,7 @@ pub fn migrate<G: Game, I: Items<Item = u32>, K: Sink>(
     ensures accepted { result ≡ Migrated.Done
         → (best (position (G.course game.old)) claim.now.depth ≡ Some claim.now.best)
         × (value (position (G.course game.old)) claim.now.depth ≡ claim.now.value) }
-    ensures told { (items : List (Option ℕ)) → I.left indices.old ≡ Some items
+    ensures told { (items : List (Option ℕ)) → (I.supply indices.old).left ≡ Some items
         → MigrateAnswers (position (G.course game.old))
         claim.now.depth claim.now.best claim.now.value items head.now result
         (K.written sink.old) (K.written sink.new) }
@@ -86,20 +81,12 @@ pub fn migrate<G: Game, I: Items<Item = u32>, K: Sink>(
         → (result ≡ Migrated.Refused 0 Why.NoSuchMove) ⊎ (result ≡ Migrated.Memory) }
     ensures legal { (place : ℕ) → result ≡ Migrated.Refused place Why.NoSuchMove
         → place_of claim.now.best (moves (position (G.course game.old))) ≡ None }
-    ensures bad { (items : List (Option ℕ)) → I.left indices.old ≡ Some items
-        → I.count indices.old ≡ 0
-        → MigrateCountsBad (checked (position (G.course game.old))
-        claim.now.depth claim.now.best claim.now.value items) result (I.count indices.new) }
-    ensures refused { I.count indices.old ≡ 0
-        → MigrateCountsRefused result (I.count indices.new) }
-    ensures reads { MigrateCauses result
-        (I.faults indices.old) (I.faults indices.new) (I.full indices.new) }
+    ensures items { ChecksItems index_faults
+        (checked (position (G.course game.old))
+        claim.now.depth claim.now.best claim.now.value) (answered result)
+        (I.supply indices.old) (I.supply indices.new) }
     ensures writes { HasCause (result ≡ Migrated.WriteFault)
         (K.write_faults sink.old) (K.write_faults sink.new) }
-    ensures lenders { I.lenders indices.new ≡ I.lenders indices.old }
-    ensures known { (input : List ℕ) (before : ℕ) → I.known indices.old input before
-        → I.known indices.new input before }
-    ensures met { MigrateEnded (I.met indices.new) result }
     ensures game { G.course game.new ≡ G.course game.old }
     ensures stack { stack.new ≡ stack.old }
 {

@@ -1,6 +1,6 @@
 //! How a walk takes indices and writes tokens: it cites wherever something that was shown serves.
 
-ghost use Rattle.std.specs.Prelude.{◌≡◌, ◌≤◌, ℕ, List, Some, IfSome, refl};
+ghost use Rattle.std.specs.Prelude.{◌≡◌, ◌≤◌, [], Some, refl};
 ghost use Rattle.hive_model.specs.Keys.{key};
 ghost use Rattle.hive_model.specs.Minimax.{IsInner, value};
 ghost use Rattle.hive_model.specs.Courses.{position};
@@ -11,8 +11,7 @@ ghost use Rattle.claim_walks.specs.declared.limit.Limit.TheVariants.{AtLeast};
 ghost use Rattle.strategy_check.specs.declared.answers.Why.{Why as AnyWhy};
 ghost use Rattle.lemma_list.specs.Lemmas.{server};
 ghost use Rattle.strategy_lemmas.specs.Short.{ShortSteps, short_rules};
-ghost use Rattle.claim_walks.specs.Answers.{CountsOn, EndsAs, IsOfWalk};
-ghost use Rattle.claim_walks.specs.Taking.{PartCauses, taking_parts};
+ghost use Rattle.claim_walks.specs.Taking.{Taking, moment_of, taking_parts};
 ghost use Rattle.strategy_check.specs.Checks.{index_faults};
 ghost use Rattle.citing_text.specs.Shortening.{ShortSeen, short_ending, short_seen, short_sight};
 ghost use Rattle.citing_text.specs.ShortTaking.{
@@ -50,17 +49,11 @@ fn pass_over<G: Game, I: Items<Item = u32>>(
     ensures shown { result ≡ Some WalkAnswer.Done
         → Keeps (AtLeast least) (value (position (G.course game.old)) depth) }
     ensures told { EndsHere short_rules short_sight (position (G.course game.old)) depth least
-        (short_seen (I.left indices.old) draft.old) (short_ending result)
-        (short_seen (I.left indices.new) draft.new) }
-    ensures legal { IfSome result (λ walked. IsOfWalk index_faults walked) }
-    ensures cause { PartCauses result
-        (I.faults indices.old) (I.faults indices.new) (I.full indices.new) }
-    ensures counted { IfSome result (λ walked. CountsOn walked
-        (I.count indices.old) (I.count indices.new) draft.old.taken draft.new.taken) }
-    ensures lenders { I.lenders indices.new ≡ I.lenders indices.old }
-    ensures known { (input : List ℕ) (before : ℕ) → I.known indices.old input before
-        → I.known indices.new input before }
-    ensures met { IfSome result (λ walked. EndsAs index_faults (I.met indices.new) walked) }
+        (short_seen (I.supply indices.old).left draft.old) (short_ending result)
+        (short_seen (I.supply indices.new).left draft.new) }
+    ensures part { Taking index_faults result
+        (moment_of [] draft.old.taken (I.supply indices.old))
+        (moment_of [] draft.new.taken (I.supply indices.new)) }
     ensures game { G.course game.new ≡ G.course game.old }
     ensures stack { stack.new ≡ stack.old }
 {
@@ -117,12 +110,11 @@ impl<I: Items<Item = u32>> Walker for ShortWalk<'_, '_, I> {
 
     ghost sight = { short_sight };
 
-    ghost seen = { λ w. short_seen (I.left w.indices.now) w.draft.now };
+    ghost seen = { λ w. short_seen (I.supply w.indices.now).left w.draft.now };
 
     ghost ending = { short_stop_ending };
 
-    ghost parts = { taking_parts index_faults of_short_stop
-        (short_moment I.faults I.full I.count I.lenders I.known I.met) };
+    ghost parts = { taking_parts index_faults of_short_stop (short_moment I.supply) };
 
     ghost counts = { λ s. refl };
 

@@ -2,12 +2,12 @@
 use Rattle.std.proofs.Common.{◌≡◌, ℕ, ◌+◌, Bool, true, false, cond, List, [], ◌∷◌, refl, sym, ap, subst, arith, ◌∙◌, Option, Some}
 use Rattle.claim_walks.specs.Walks.{Outcome, Left, Fault, Rules, go_on, finish}
 use Rattle.claim_walks.specs.Follows.{held, Sight, Meets}
-use Rattle.claim_walks.specs.Items.{Told, IsAtEnd, is_none_left}
-use Rattle.claim_walks.specs.Answers.{Answers, CountsBad, ended, ending}
+use Rattle.claim_walks.specs.Items.{Told, IsAtEnd, Supply, is_none_left}
+use Rattle.claim_walks.specs.Answers.{Answers, CountsBad, Faults, ended, ending}
 use Rattle.claim_walks.specs.Parts.{ending_of}
-use Rattle.claim_walks.specs.Taking.{of_walk, stop_ending}
+use Rattle.claim_walks.specs.Taking.{Taking, moment_of, of_walk, stop_ending}
 use Rattle.claim_walks.proofs.ItemLaws.{answers-as, bad-as, meets-is}
-use Rattle.claim_walks.specs.Ends.{IsLastLook, IsWhole}
+use Rattle.claim_walks.specs.Ends.{ChecksItems, EndsItems, IsLastLook, IsWhole}
 use Rattle.claim_walks.specs.declared.answers.Halt.TheVariants.{Bad, Failed, Full}
 use Rattle.claim_walks.specs.declared.answers.Stop.{Stop}
 use Rattle.claim_walks.specs.declared.answers.WalkAnswer.{WalkAnswer}
@@ -92,3 +92,21 @@ module _ {S W N T : Type 0} (R : Rules S W) (V : Sight S N) (told : Told T) (tak
   certificate-counts rest whole_walk o w walked seen answer before after e m same ends whole count stands =
       bad-as whole_walk (go_on o (finish R)) answer after e
       (whole-counts rest walked answer o before after (subst (λ (x : N). Meets V o (ending walked) x) same (meets-is R V o w walked seen ends m)) whole count stands)
+
+-- ---- what became of the items
+
+-- the walk takes from items of which none was taken before, and its end is that of the whole
+pub checks-items : {I S T W : Type 0} (supply : I → Supply T) (kinds : Faults W) (outcome : List (Option T) → Outcome S W) (walked : WalkAnswer W) (answer : Checked W) (first begun middle last : I) (names later : List ℕ) (none taken : ℕ) → begun ≡ first → none ≡ 0 →
+    Taking kinds (Some walked) (moment_of names none (supply begun)) (moment_of later taken (supply middle)) → EndsItems kinds walked taken answer (supply middle) (supply last) →
+    ((items : List (Option T)) → (supply first).left ≡ Some items → (supply middle).count ≡ ended walked taken → CountsBad (outcome items) answer (supply last).count) → ChecksItems kinds outcome (Some answer) (supply first) (supply last)
+checks-items {I} supply kinds outcome walked answer first begun middle last names later none taken same zero part ends bad =
+    let counts : (supply begun).count ≡ 0 → (supply middle).count ≡ ended walked taken = λ z. part.counted (z ∙ sym zero) in
+    subst (λ (i : I). ChecksItems kinds outcome (Some answer) (supply i) (supply last)) same
+    (record {
+      bad = λ items e z. bad items (ap (λ (i : I). (supply i).left) (sym same) ∙ e) (counts z);
+      refused = λ z. ends.refused (counts z);
+      cause = ends.cause _ part.cause;
+      lenders = ends.lenders ∙ part.lenders;
+      known = λ input before k. ends.known input before (part.known input before k);
+      met = ends.met part.met;
+    })

@@ -28,7 +28,7 @@ module _ {S W : Type 0} (R : Rules S W) where
   meets-is V o w walked n is h = subst (λ (e : Ending W). Meets V o e n) (ending-is w ∙ ap ending (sym is)) h
 
 -- what is so of a walk that came to its end is so where it was refused and no item is missing
-pub refuses : {T W : Type 0} (kinds : Faults W) (why : W) (a b : Moment T) → kinds.on_short why (b.met End) → kinds.is_below_root why → GoesOn kinds a b → Taking kinds (Some (Refuses why)) a b
+pub refuses : {T W : Type 0} (kinds : Faults W) (why : W) (a b : Moment T) → kinds.on_short why (b.items.met End) → kinds.is_below_root why → GoesOn kinds a b → Taking kinds (Some (Refuses why)) a b
 refuses kinds why a b met legal h = record {
   names = h.names;
   cause = record { later = h.cause.later; rose = λ e. cc; same = λ e. h.cause.same (λ f. cc); closed = λ e. cc };
@@ -50,8 +50,8 @@ module _ {A T W : Type 0} (kinds : Faults W) (leaf_fails bad_index : W) (leaf : 
 
   part-is : (w : Walked (Stop W)) (a b : A) → IsTold w a b → Taking kinds (Some (of_walk leaf_fails bad_index w)) (at a) (at b)
   part-is Done a b h = h
-  part-is LeafFails a b h = refuses kinds leaf_fails (at a) (at b) (leaf.met ((at b).met End)) leaf.legal h
-  part-is BadIndex a b h = refuses kinds bad_index (at a) (at b) (bad.met ((at b).met End)) bad.legal h
+  part-is LeafFails a b h = refuses kinds leaf_fails (at a) (at b) (leaf.met ((at b).items.met End)) leaf.legal h
+  part-is BadIndex a b h = refuses kinds bad_index (at a) (at b) (bad.met ((at b).items.met End)) bad.legal h
   part-is (Stops stop) a b h = h
 
   pub taking-is : (w : Walked (Stop W)) (walked : WalkAnswer W) (a b : A) → walked ≡ of_walk leaf_fails bad_index w → IsTold w a b → Taking kinds (Some walked) (at a) (at b)

@@ -1,6 +1,8 @@
 -- What the end of a walk over items makes of a whole check, in which nothing may be left over.
-use Rattle.std.specs.Prelude.{◌≡◌, ◌≢◌, ℕ, [], ⊤, Some}
-use Rattle.claim_walks.specs.Items.{Told, IsAtEnd}
+use Rattle.std.specs.Prelude.{◌≡◌, ◌≢◌, ℕ, Bool, List, [], ⊤, Option, None, Some, IfSome}
+use Rattle.claim_walks.specs.Items.{Told, IsAtEnd, Supply}
+use Rattle.claim_walks.specs.Walks.{Outcome}
+use Rattle.claim_walks.specs.Answers.{Faults, ReadCauses, Causes, EndCauses, CountsBad, CountsRefused, EndsAs, Ended, ended}
 use Rattle.claim_walks.specs.declared.answers.Halt.TheVariants.{Bad, Failed, Full}
 use Rattle.claim_walks.specs.declared.answers.WalkAnswer.{WalkAnswer}
 use Rattle.claim_walks.specs.declared.answers.WalkAnswer.TheVariants.{Done, Refuses, Halts}
@@ -21,3 +23,32 @@ abbrev pub IsWhole : {T W : Type 0} → W → WalkAnswer W → ℕ → Told T �
 IsWhole rest Done taken told answer = IsLastLook rest taken told answer
 IsWhole rest (Refuses why) taken told answer = answer ≡ Refused taken why
 IsWhole rest (Halts halt) taken told answer = answer ≡ Halted halt
+
+-- what becomes of the items where a walk that took so many ends, and the whole with it
+pub record EndsItems {T W : Type 0} (kinds : Faults W) (walked : WalkAnswer W) (taken : ℕ)
+    (answer : Checked W) (a b : Supply T) : Type 0 where
+  pub bad : answer ≡ Halted Bad → b.count ≡ a.count
+  pub refused : a.count ≡ ended walked taken → CountsRefused kinds answer b.count
+  pub cause : (first : ℕ) → Causes walked first a.faults a.full
+      → EndCauses answer first b.faults b.full
+  pub lenders : b.lenders ≡ a.lenders
+  pub known : (input : List ℕ) (before : ℕ) → a.known input before → b.known input before
+  pub met : EndsAs kinds a.met walked → Ended kinds b.met answer
+
+-- why the items ended a whole check, or none where neither a fault nor the items ended it
+abbrev pub CheckCauses : {W : Type 0} → Option (Checked W) → ℕ → ℕ → Bool → Type 0
+CheckCauses None = ReadCauses ⊥ ⊥
+CheckCauses (Some checked) = EndCauses checked
+
+-- What became of the items in a whole check, from before it until after it: of its answer there is
+-- none where neither a fault nor the items ended it, and `outcome` tells how the walk of items ends
+-- that are told.
+pub record ChecksItems {S T W : Type 0} (kinds : Faults W) (outcome : List (Option T) → Outcome S W)
+    (answer : Option (Checked W)) (a b : Supply T) : Type 0 where
+  pub bad : (items : List (Option T)) → a.left ≡ Some items → a.count ≡ 0
+      → IfSome answer (λ checked. CountsBad (outcome items) checked b.count)
+  pub refused : a.count ≡ 0 → IfSome answer (λ checked. CountsRefused kinds checked b.count)
+  pub cause : CheckCauses answer a.faults b.faults b.full
+  pub lenders : b.lenders ≡ a.lenders
+  pub known : (input : List ℕ) (before : ℕ) → a.known input before → b.known input before
+  pub met : IfSome answer (λ checked. Ended kinds b.met checked)

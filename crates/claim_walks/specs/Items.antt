@@ -45,6 +45,23 @@ pub record Lent : Type 0 where
   pub references : List ℕ
   pub bytes : Option ℕ
 
+-- what is told of items at one moment
+pub record Supply (T : Type 0) : Type 1 where
+  -- the items to come, where they are told: each as it is, or a bad item
+  pub left : Told T
+  -- how often reading has failed: a u64 that stands still at its greatest value
+  pub faults : ℕ
+  -- whether no more may be read
+  pub full : Bool
+  -- how many items were taken away: a u64 that stands still at its greatest value
+  pub count : ℕ
+  pub lenders : Lent
+  -- what is known of bytes that the items are read from, behind so many other items; it stays
+  -- known, whatever is taken
+  pub known : List ℕ → ℕ → Type 0
+  -- what is so after a call, by its answer
+  pub met : ItemAnswer T → Type 0
+
 -- these items, told
 abbrev pub all_of : {T : Type 0} → List T → Told T
 all_of items = Some (map (λ item. Some item) items)

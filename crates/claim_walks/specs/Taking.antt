@@ -2,7 +2,7 @@
 use Rattle.std.proofs.Common.{◌≡◌, ℕ, Bool, List, Option, None, Some, refl, subst, arith, ◌∙◌}
 use Rattle.std.specs.Prelude.{IfSome}
 use Rattle.claim_walks.specs.Follows.{Ending, Shown}
-use Rattle.claim_walks.specs.Items.{Lent}
+use Rattle.claim_walks.specs.Items.{Supply}
 use Rattle.claim_walks.specs.Parts.{Parts}
 use Rattle.claim_walks.specs.Answers.{Faults, ReadCauses, ending, IsOfWalk, CountsOn, Causes, EndsAs}
 use Rattle.claim_walks.specs.declared.items.ItemAnswer.{ItemAnswer}
@@ -14,32 +14,15 @@ use Rattle.claim_walks.specs.declared.answers.WalkAnswer.TheVariants.{Done, Refu
 use Rattle.claim_walks.specs.declared.walker.Walked.{Walked}
 use Rattle.claim_walks.specs.declared.walker.Walked.TheVariants.{Done as AllDone, LeafFails, BadIndex, Stops}
 
--- what is told of items at one moment of a walk: the names of the references that it goes through
--- are told too
+-- what is told at one moment of a walk: the names of the references that it goes through, how many
+-- items it took, and what is told of the items
 pub record Moment (T : Type 0) : Type 1 where
   pub names : List ℕ
   pub taken : ℕ
-  pub faults : ℕ
-  pub full : Bool
-  pub count : ℕ
-  pub lenders : Lent
-  pub known : List ℕ → ℕ → Type 0
-  pub met : ItemAnswer T → Type 0
+  pub items : Supply T
 
--- The moment of a walk that goes through references of these names and took so many of these items,
--- of which the functions in front tell the count of faults, whether no more may be read, and so on.
-abbrev pub moment_of : {I T : Type 0} → (I → ℕ) → (I → Bool) → (I → ℕ) → (I → Lent)
-    → (I → List ℕ → ℕ → Type 0) → (I → ItemAnswer T → Type 0) → List ℕ → ℕ → I → Moment T
-moment_of faults full count lenders known met names taken items = record {
-  names = names;
-  taken = taken;
-  faults = faults items;
-  full = full items;
-  count = count items;
-  lenders = lenders items;
-  known = known items;
-  met = met items;
-}
+abbrev pub moment_of : {T : Type 0} → List ℕ → ℕ → Supply T → Moment T
+moment_of names taken items = record { names = names; taken = taken; items = items }
 
 -- why a part of a walk ended, or none where neither a fault nor the items ended it
 abbrev pub PartCauses : {W : Type 0} → Option (WalkAnswer W) → ℕ → ℕ → Bool → Type 0
@@ -51,11 +34,12 @@ PartCauses (Some walked) = Causes walked
 pub record Taking {T W : Type 0} (kinds : Faults W) (answer : Option (WalkAnswer W))
     (a b : Moment T) : Type 0 where
   pub names : b.names ≡ a.names
-  pub cause : PartCauses answer a.faults b.faults b.full
-  pub counted : IfSome answer (λ walked. CountsOn walked a.count b.count a.taken b.taken)
-  pub lenders : b.lenders ≡ a.lenders
-  pub known : (input : List ℕ) (before : ℕ) → a.known input before → b.known input before
-  pub met : IfSome answer (λ walked. EndsAs kinds b.met walked)
+  pub cause : PartCauses answer a.items.faults b.items.faults b.items.full
+  pub counted : IfSome answer (λ walked. CountsOn walked a.items.count b.items.count a.taken b.taken)
+  pub lenders : b.items.lenders ≡ a.items.lenders
+  pub known : (input : List ℕ) (before : ℕ) → a.items.known input before
+      → b.items.known input before
+  pub met : IfSome answer (λ walked. EndsAs kinds b.items.met walked)
   pub legal : IfSome answer (λ walked. IsOfWalk kinds walked)
 
 -- why it was ended
@@ -106,9 +90,10 @@ pub goes-then : {T W : Type 0} (kinds : Faults W) (answer : Option (WalkAnswer W
     (a b c : Moment T) → GoesOn kinds a b → Taking kinds answer b c → Taking kinds answer a c
 goes-then kinds answer a b c first later = record {
   names = later.names ∙ first.names;
-  cause = subst (λ n. PartCauses answer n c.faults c.full) (first.cause.same (λ e. cc)) later.cause;
+  cause = subst (λ n. PartCauses answer n c.items.faults c.items.full) (first.cause.same (λ e. cc)) later.cause;
   counted =
-      counts-then answer a.count b.count c.count a.taken b.taken c.taken first.counted later.counted;
+      counts-then answer a.items.count b.items.count c.items.count a.taken b.taken c.taken
+      first.counted later.counted;
   lenders = later.lenders ∙ first.lenders;
   known = λ input before k. later.known input before (first.known input before k);
   met = later.met;

@@ -1,17 +1,8 @@
 //! What the end of a walk over items makes of a whole check.
 
-ghost use Rattle.std.specs.Prelude.{◌≡◌, ℕ, List};
-ghost use Rattle.claim_walks.specs.Ends.{IsWhole};
-ghost use Rattle.claim_walks.specs.Answers.{
-  Causes,
-  CountsRefused,
-  EndCauses,
-  Ended,
-  EndsAs,
-  Faults,
-  IsOfWalk,
-  ended,
-};
+ghost use Rattle.std.specs.Prelude.{◌≡◌, ℕ};
+ghost use Rattle.claim_walks.specs.Ends.{EndsItems, IsWhole};
+ghost use Rattle.claim_walks.specs.Answers.{Faults, IsOfWalk};
 
 use crate::answers::{Checked, Halt, WalkAnswer};
 use crate::items::{ItemAnswer, Items};
@@ -55,19 +46,11 @@ pub fn answer_of<W: WalkFault, I: Items>(
     items: &mut I,
 ) -> Checked<W>
     ensures done { result ≡ Checked.Accepted → walked ≡ WalkAnswer.Done }
-    ensures whole { IsWhole W.rest walked taken (I.left items.old) result }
+    ensures whole { IsWhole W.rest walked taken (I.supply items.old).left result }
     ensures legal { (place : ℕ) (why : W) → IsOfWalk W.kinds walked
         → result ≡ Checked.Refused place why → W.kinds.is_below_root why }
-    ensures bad { result ≡ Checked.Halted Halt.Bad → I.count items.new ≡ I.count items.old }
-    ensures refused { I.count items.old ≡ ended walked taken
-        → CountsRefused W.kinds result (I.count items.new) }
-    ensures cause { (first : ℕ) → Causes walked first (I.faults items.old) (I.full items.old)
-        → EndCauses result first (I.faults items.new) (I.full items.new) }
-    ensures lenders { I.lenders items.new ≡ I.lenders items.old }
-    ensures known { (input : List ℕ) (before : ℕ) → I.known items.old input before
-        → I.known items.new input before }
-    ensures met { EndsAs W.kinds (I.met items.old) walked
-        → Ended W.kinds (I.met items.new) result }
+    ensures items { EndsItems W.kinds walked taken result
+        (I.supply items.old) (I.supply items.new) }
 {
     match walked {
         WalkAnswer::Done => match items.take() {

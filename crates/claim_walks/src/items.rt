@@ -1,9 +1,8 @@
 //! What the items of a walk are taken from.
 
-ghost use Rattle.std.specs.Prelude.{◌≡◌, ℕ, Bool, List, IsTrue, ⊤};
+ghost use Rattle.std.specs.Prelude.{◌≡◌, ℕ, List, IsTrue};
 ghost use Rattle.io_edge.specs.Outside.{HasCause};
-ghost use Rattle.claim_walks.specs.Items.{Lent, Told, Takes, counted};
-ghost use Rattle.claim_walks.specs.declared.items.ItemAnswer.{ItemAnswer as AnyAnswer};
+ghost use Rattle.claim_walks.specs.Items.{Supply, Takes, counted};
 
 /// What a call that takes an item answers.
 #[derive(Clone, Copy, Debug, PartialEq, Eq)]
@@ -25,37 +24,18 @@ pub trait Items {
     /// What an item is that is not bad.
     type Item: Copy;
 
-    /// The items to come, where they are told: each as it is, or a bad item.
-    ghost left: { Self → Told Self.Item };
-
-    /// How often reading has failed: a u64 that stands still at its greatest value.
-    ghost faults: { Self → ℕ };
-
-    /// Whether no more may be read.
-    ghost full: { Self → Bool };
-
-    /// How many items were taken away: a u64 that stands still at its greatest value.
-    ghost count: { Self → ℕ };
-
-    /// What no call changes: the references that the items are read through, and how many bytes
-    /// stand behind them in all.
-    ghost lenders: { Self → Lent };
-
-    /// What is known of bytes that the items are read from, behind so many other items. It stays
-    /// known, whatever is taken.
-    ghost known: { Self → List ℕ → ℕ → Type 0 } = { λ _ _ _. ⊤ };
-
-    /// What is so after a call, by its answer.
-    ghost met: { Self → AnyAnswer Self.Item → Type 0 } = { λ _ _. ⊤ };
+    /// What is told of the items at this moment.
+    ghost supply: { Self → Supply Self.Item };
 
     /// Takes the first item. Where items are told before, they are told after.
     fn take(&mut self) -> ItemAnswer<Self::Item>
-        ensures item { Takes result (left self.old) (left self.new) }
-        ensures cause { HasCause (result ≡ ItemAnswer.Failed) (faults self.old) (faults self.new) }
-        ensures full { result ≡ ItemAnswer.Full → IsTrue (full self.new) }
-        ensures count { count self.new ≡ counted result (count self.old) }
-        ensures lenders { lenders self.new ≡ lenders self.old }
-        ensures known { (input : List ℕ) (before : ℕ) → known self.old input before
-            → known self.new input before }
-        ensures met { met self.new result };
+        ensures item { Takes result (supply self.old).left (supply self.new).left }
+        ensures cause { HasCause (result ≡ ItemAnswer.Failed)
+            (supply self.old).faults (supply self.new).faults }
+        ensures full { result ≡ ItemAnswer.Full → IsTrue (supply self.new).full }
+        ensures count { (supply self.new).count ≡ counted result (supply self.old).count }
+        ensures lenders { (supply self.new).lenders ≡ (supply self.old).lenders }
+        ensures known { (input : List ℕ) (before : ℕ) → (supply self.old).known input before
+            → (supply self.new).known input before }
+        ensures met { (supply self.new).met result };
 }

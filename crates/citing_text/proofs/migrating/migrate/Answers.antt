@@ -1,4 +1,4 @@
-use Rattle.std.proofs.Common.{ℕ, true, false, List, ◌++◌, ap, subst, Some}
+use Rattle.std.proofs.Common.{ℕ, true, false, List, ◌++◌, ap, sym, subst, Some}
 use Rattle.hive_model.specs.Courses.{position}
 use Rattle.claim_walks.specs.declared.answers.Checked.{Checked}
 use Rattle.claim_walks.specs.declared.answers.Checked.TheVariants.{Accepted, Refused, Halted}
@@ -6,8 +6,8 @@ use Rattle.strategy_check.specs.declared.answers.Why.{Why}
 use Rattle.strategy_lemmas.specs.Short.{shortened}
 use Rattle.index_writing.specs.Writing.{Wrote}
 use Rattle.index_writing.proofs.WriteLaws.{wrote-as, wrote-is}
-use Rattle.citing_text.specs.Migrating.{ShortAnswers, ShortCountsBad}
-use Rattle.citing_text.proofs.Migrations.{shortens-is, refused-is, halted-told, halted-counts}
+use Rattle.citing_text.specs.Migrating.{ShortAnswers}
+use Rattle.citing_text.proofs.Migrations.{shortens-is, refused-is, halted-told, items-are}
 use Rattle.citing_text.proofs.migrating.migrate.Goals as goal
 
 pub returns-then-write_both-clause-told : goal.returns-then-write_both-clause-told
@@ -64,14 +64,18 @@ returns-clause-told g c =
     subst (λ (x : Checked Why). ShortAnswers (shortened p d m v items) (Some x) draft) c.in-Halted.is (c.in-Some.ensures.told items e) in
     halted-told p d m v items c.args.head.now (g.K.Sink.written c.args.sink.now) (g.K.Sink.written c.args.sink.now) c.in-Halted.answer draft h
 
-pub returns-clause-bad : goal.returns-clause-bad
-returns-clause-bad g c =
-    let p = position (g.G.Game.course c.args.game.now) in
-    let d = c.args.claim.now.depth in
-    let m = c.args.claim.now.best in
-    let v = c.args.claim.now.value in
-    let count = g.I.Items.count c.shorten_certificate.new.indices in
-    λ items e none.
-    let h : ShortCountsBad (shortened p d m v items) (Some (Halted c.in-Halted.answer)) count =
-    subst (λ (x : Checked Why). ShortCountsBad (shortened p d m v items) (Some x) count) c.in-Halted.is (c.in-Some.ensures.bad items e none) in
-    halted-counts p d m v items c.in-Halted.answer count h
+pub returns-then-write_both-clause-items : goal.returns-then-write_both-clause-items
+returns-then-write_both-clause-items g c =
+    items-are (position (g.G.Game.course c.args.game.now)) c.args.claim.now.depth c.args.claim.now.best c.args.claim.now.value (Some c.in-Some.checked) (Some Accepted) _ _ (ap (λ x. Some x) (sym c.in-Accepted.is)) c.in-Some.ensures.items
+
+pub returns-in-Accepted-clause-items : goal.returns-in-Accepted-clause-items
+returns-in-Accepted-clause-items g c =
+    items-are (position (g.G.Game.course c.args.game.now)) c.args.claim.now.depth c.args.claim.now.best c.args.claim.now.value (Some c.in-Some.checked) (Some Accepted) _ _ (ap (λ x. Some x) (sym c.in-Accepted.is)) c.in-Some.ensures.items
+
+pub returns-in-Refused-clause-items : goal.returns-in-Refused-clause-items
+returns-in-Refused-clause-items g c =
+    items-are (position (g.G.Game.course c.args.game.now)) c.args.claim.now.depth c.args.claim.now.best c.args.claim.now.value (Some c.in-Some.checked) (Some (Refused c.in-Refused.place c.in-Refused.why)) _ _ (ap (λ x. Some x) (sym c.in-Refused.is)) c.in-Some.ensures.items
+
+pub returns-clause-items : goal.returns-clause-items
+returns-clause-items g c =
+    items-are (position (g.G.Game.course c.args.game.now)) c.args.claim.now.depth c.args.claim.now.best c.args.claim.now.value (Some c.in-Some.checked) (Some (Halted c.in-Halted.answer)) _ _ (ap (λ x. Some x) (sym c.in-Halted.is)) c.in-Some.ensures.items

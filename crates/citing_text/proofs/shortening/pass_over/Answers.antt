@@ -12,5 +12,5 @@ returns-clause-told g c =
     let x = c.args.least in
     let same : to_z w32 (of_z w32 x) ≡ x = omega (arith, ints, c.requires.small.low, c.requires.small.high) in
     let cited : c.cite.new.self ≡ with_cite c.args.place c.args.draft.now = on-true c.cite.result c.cite.ensures (search rules) in
-    pass-ends p c.args.depth x _ c.args.place (g.I.Items.left c.args.indices.now) (g.I.Items.left c.walk-walked.new.indices) c.args.draft.now c.cite.new.self c.walk-walked.new.taken
+    pass-ends p c.args.depth x _ c.args.place (g.I.Items.supply c.args.indices.now).left (g.I.Items.supply c.walk-walked.new.indices).left c.args.draft.now c.cite.new.self c.walk-walked.new.taken
     c.walk-walked.result c.requires.served cited same c.walk-walked.ensures.told

@@ -1,9 +1,10 @@
-use Rattle.std.proofs.Common.{rules, refl, subst}
-use Rattle.claim_walks.specs.Answers.{Causes}
+use Rattle.std.proofs.Common.{subst, rules, refl}
+use Rattle.hive_model.specs.Courses.{position}
 use Rattle.claim_walks.proofs.ItemLaws.{taking-is}
-use Rattle.claim_walks.proofs.EndLaws.{certificate-answers, certificate-counts}
+use Rattle.claim_walks.specs.Ends.{EndsItems}
+use Rattle.claim_walks.proofs.EndLaws.{certificate-answers, certificate-counts, checks-items}
 use Rattle.strategy_check.specs.declared.answers.Why.TheVariants.{LeafFails, BadIndex, Rest}
-use Rattle.strategy_check.specs.Trace.{index_rules, steps}
+use Rattle.strategy_check.specs.Trace.{checked, index_rules, steps}
 use Rattle.strategy_check.specs.Checks.{index_faults, index_sight, seen}
 use Rattle.strategy_check.specs.Taking.{moment}
 use Rattle.strategy_check.proofs.IndexWalks.{leaf-inner, place-inner, seen-tells}
@@ -13,24 +14,22 @@ pub returns-in-Some-clause-told : goal.returns-in-Some-clause-told
 returns-in-Some-clause-told g c = λ items e.
     let t = c.in-Some.ensures.told (steps items 0) (search rules) in
     let after = c.walk_certificate-walked.new.walker in
-    let told = g.I.Items.left after.indices.now in
+    let told = (g.I.Items.supply after.indices.now).left in
     certificate-answers index_rules index_sight told after.taken (seen told after.taken) (seen-tells told after.taken) Rest _ t.0 c.in-Some.walked c.walk_answer.result _ c.answer_of.result refl t.1 t.2 refl
     c.walk_answer.ensures (search rules)
 
-pub returns-in-Some-clause-bad : goal.returns-in-Some-clause-bad
-returns-in-Some-clause-bad g c = λ items e none.
+pub returns-in-Some-clause-items : goal.returns-in-Some-clause-items
+returns-in-Some-clause-items g c =
+    let supply = g.I.Items.supply in
+    let claim = c.args.claim.now in
+    let begun = c.new-walker.result in
+    let after = c.walk_certificate-walked.new.walker in
+    let told = (supply after.indices.now).left in
+    let part = taking-is index_faults LeafFails BadIndex leaf-inner place-inner (moment supply) c.in-Some.walked c.walk_answer.result begun after c.walk_answer.ensures c.in-Some.ensures.part in
+    let ends : EndsItems index_faults c.walk_answer.result after.taken c.answer_of.result (supply after.indices.now) (supply c.answer_of.new.items) =
+    subst (λ x. EndsItems index_faults c.walk_answer.result after.taken c.answer_of.result (supply x) (supply c.answer_of.new.items)) (search rules) c.answer_of.ensures.items in
+    checks-items supply index_faults (checked (position (g.G.Game.course c.args.game.now)) claim.depth claim.best claim.value) c.walk_answer.result c.answer_of.result c.args.indices.now begun.indices.now after.indices.now c.answer_of.new.items _ _ begun.taken after.taken
+    c.new-walker.ensures.same c.new-walker.ensures.taken part ends (λ items e counts.
     let t = c.in-Some.ensures.told (steps items 0) (search rules) in
-    let after = c.walk_certificate-walked.new.walker in
-    let told = g.I.Items.left after.indices.now in
-    let at = moment g.I.Items.faults g.I.Items.full g.I.Items.count g.I.Items.lenders g.I.Items.known g.I.Items.met in
-    let part = taking-is index_faults LeafFails BadIndex leaf-inner place-inner at c.in-Some.walked c.walk_answer.result _ after c.walk_answer.ensures c.in-Some.ensures.part in
-    certificate-counts index_rules index_sight told after.taken (seen told after.taken) (seen-tells told after.taken) Rest _ t.0 c.in-Some.walked c.walk_answer.result _ c.answer_of.result (g.I.Items.count after.indices.now) _ t.1 t.2 refl
-    c.walk_answer.ensures (search rules) (part.counted (search rules)) (search rules)
-
-pub returns-in-Some-clause-cause : goal.returns-in-Some-clause-cause
-returns-in-Some-clause-cause g c =
-    let after = c.walk_certificate-walked.new.walker in
-    let at = moment g.I.Items.faults g.I.Items.full g.I.Items.count g.I.Items.lenders g.I.Items.known g.I.Items.met in
-    let part = taking-is index_faults LeafFails BadIndex leaf-inner place-inner at c.in-Some.walked c.walk_answer.result c.new-walker.result after c.walk_answer.ensures c.in-Some.ensures.part in
-    c.answer_of.ensures.cause _ (subst (λ x. Causes c.walk_answer.result (g.I.Items.faults c.args.indices.now) (g.I.Items.faults x) (g.I.Items.full x)) (search rules)
-    (subst (λ x. Causes c.walk_answer.result (g.I.Items.faults x) (g.I.Items.faults after.indices.now) (g.I.Items.full after.indices.now)) (search rules) part.cause))
+    certificate-counts index_rules index_sight told after.taken (seen told after.taken) (seen-tells told after.taken) Rest _ t.0 c.in-Some.walked c.walk_answer.result _ c.answer_of.result _ _ t.1 t.2 refl
+    c.walk_answer.ensures (search rules) counts ends.bad)

@@ -15,11 +15,11 @@ returns g c = record {
       let after = c.check_solution-checked.new.indices in
       let begun : HasRead text (g.S.Source.rest before.source.now) before.reader.now (4 + before.lines) =
       read-begins 4 text _ _ _ _ _ c.new-indices.ensures.same_reader (ap g.S.Source.rest c.new-indices.ensures.same_source) c.new-indices.ensures.none r in
-      let went : HasRead text (g.S.Source.rest after.source.now) after.reader.now (4 + after.lines) = c.check_solution-checked.ensures.known text 4 begun in
+      let went : HasRead text (g.S.Source.rest after.source.now) after.reader.now (4 + after.lines) = c.check_solution-checked.ensures.items.known text 4 begun in
       let taken : HasRead text (g.S.Source.rest after.source.now) after.reader.now (4 + c.lines.result) =
       subst (λ (n : ℕ). HasRead text (g.S.Source.rest after.source.now) after.reader.now (4 + n)) (sym c.lines.ensures) went in
       let few : CountsRefused index_faults c.check_solution-checked.result c.lines.result =
-      subst (λ (n : ℕ). CountsRefused index_faults c.check_solution-checked.result n) (sym c.lines.ensures) (c.check_solution-checked.ensures.refused c.new-indices.ensures.none) in
-      let told : WasReadAs 4 c.verdict_of.result text (g.S.Source.rest after.source.now) = c.verdict_of.ensures.read text _ _ taken few c.check_solution-checked.ensures.met in
+      subst (λ (n : ℕ). CountsRefused index_faults c.check_solution-checked.result n) (sym c.lines.ensures) (c.check_solution-checked.ensures.items.refused c.new-indices.ensures.none) in
+      let told : WasReadAs 4 c.verdict_of.result text (g.S.Source.rest after.source.now) = c.verdict_of.ensures.read text _ _ taken few c.check_solution-checked.ensures.items.met in
       search (rules, told);
 }

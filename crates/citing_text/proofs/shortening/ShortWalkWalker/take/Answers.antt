@@ -17,15 +17,15 @@ returns-in-Some-clause-told g c =
     let p = position (g.G.Game.course c.args.game.now) in
     let x = c.args.least in
     let same : to_z w32 (of_z w32 x) ≡ x = omega (arith, ints, c.requires.small.low, c.requires.small.high) in
-    let before = short_seen (g.I.Items.left c.args.self.now.indices.now) c.args.self.now.draft.now in
-    let after = short_seen (g.I.Items.left c.pass_over-passed.new.indices) c.pass_over-passed.new.draft in
+    let before = short_seen (g.I.Items.supply c.args.self.now.indices.now).left c.args.self.now.draft.now in
+    let after = short_seen (g.I.Items.supply c.pass_over-passed.new.indices).left c.pass_over-passed.new.draft in
     found-is p c.args.depth x c.pass_over-passed.result c.took_of.result before after c.took_of.ensures
     (subst (λ (y : ℤ). EndsHere short_rules short_sight p c.args.depth y before (short_ending c.pass_over-passed.result) after) same c.pass_over-passed.ensures.told)
 
 pub returns-in-Some-clause-part : goal.returns-in-Some-clause-part
 returns-in-Some-clause-part g c =
-    let passed = c.pass_over-passed.ensures in
-    passed-is (short_moment g.I.Items.faults g.I.Items.full g.I.Items.count g.I.Items.lenders g.I.Items.known g.I.Items.met) c.pass_over-passed.result c.took_of.result c.args.self.now _ c.took_of.ensures
+    let passed = c.pass_over-passed.ensures.part in
+    passed-is (short_moment g.I.Items.supply) c.pass_over-passed.result c.took_of.result c.args.self.now _ c.took_of.ensures
     (record {
       names = refl;
       cause = passed.cause;
@@ -46,4 +46,4 @@ returns-else-not-add-clause-told g c =
     let fails : c.first.result ≡ None = search rules in
     let none : server (key p) d x draft.lemmas ≡ None = sym (server-is p c.key.result d x _ draft.lemmas c.first.result c.first.ensures c.key.ensures.key same) ∙ fails in
     let added : c.add.new.self ≡ with_index c.in-Item.place draft = on-true c.add.result c.add.ensures (search rules) in
-    index-added p d x (g.I.Items.left c.args.self.now.indices.now) (g.I.Items.left c.take.new.self) draft c.add.new.self c.in-Item.place c.in-Item.ensures.item none added
+    index-added p d x (g.I.Items.supply c.args.self.now.indices.now).left (g.I.Items.supply c.take.new.self).left draft c.add.new.self c.in-Item.place c.in-Item.ensures.item none added

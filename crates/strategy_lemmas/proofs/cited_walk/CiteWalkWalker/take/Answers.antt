@@ -13,8 +13,8 @@ use Rattle.strategy_lemmas.proofs.cited_walk.CiteWalkWalker.take.Goals as goal
 
 pub returns-in-Index-clause-told : goal.returns-in-Index-clause-told
 returns-in-Index-clause-told g c =
-    let a = g.T.Items.left c.args.self.now.tokens.now in
-    let b = g.T.Items.left c.take.new.self in
+    let a = (g.T.Items.supply c.args.self.now.tokens.now).left in
+    let b = (g.T.Items.supply c.take.new.self).left in
     let item : Takes (Item (Index c.in-Index.place)) a b = subst (λ (k : Token). Takes (Item k) a b) c.in-Index.is c.in-Item.ensures.item in
     index-took (key (position (g.G.Game.course c.args.game.now))) c.args.depth c.args.least a b c.args.self.now.taken c.saturating_add-self.result c.in-Index.place c.args.self.now.lemmas.now item c.saturating_add-self.ensures
 
@@ -29,10 +29,10 @@ returns-then-serves-clause-shown g c =
 
 pub returns-then-serves-clause-told : goal.returns-then-serves-clause-told
 returns-then-serves-clause-told g c =
-    cite-ends (position (g.G.Game.course c.args.game.now)) c.key.result c.args.depth c.args.least _ (g.T.Items.left c.args.self.now.tokens.now) (g.T.Items.left c.take.new.self) c.args.self.now.taken c.saturating_add-self.result c.in-Cite.place
+    cite-ends (position (g.G.Game.course c.args.game.now)) c.key.result c.args.depth c.args.least _ (g.T.Items.supply c.args.self.now.tokens.now).left (g.T.Items.supply c.take.new.self).left c.args.self.now.taken c.saturating_add-self.result c.in-Cite.place
     _ c.args.self.now.lemmas.now true c.serves.result c.in-Cite.is c.in-Item.ensures.item c.saturating_add-self.ensures c.serves.ensures c.key.ensures.key (same-bound c.args.least c.requires.small) c.if-serves.true
 
 pub returns-else-serves-clause-told : goal.returns-else-serves-clause-told
 returns-else-serves-clause-told g c =
-    cite-ends (position (g.G.Game.course c.args.game.now)) c.key.result c.args.depth c.args.least _ (g.T.Items.left c.args.self.now.tokens.now) (g.T.Items.left c.take.new.self) c.args.self.now.taken c.saturating_add-self.result c.in-Cite.place
+    cite-ends (position (g.G.Game.course c.args.game.now)) c.key.result c.args.depth c.args.least _ (g.T.Items.supply c.args.self.now.tokens.now).left (g.T.Items.supply c.take.new.self).left c.args.self.now.taken c.saturating_add-self.result c.in-Cite.place
     _ c.args.self.now.lemmas.now false c.serves.result c.in-Cite.is c.in-Item.ensures.item c.saturating_add-self.ensures c.serves.ensures c.key.ensures.key (same-bound c.args.least c.requires.small) c.if-serves.false
