@@ -12,7 +12,8 @@ use Rattle.text_verdicts.specs.declared.verdict.Verdict.TheVariants.{Accepted}
 use Rattle.text_verdicts.specs.declared.verdict.Unread.{Unread}
 use Rattle.text_verdicts.specs.declared.verdict.Unread.TheVariants.{ReadFault}
 use Rattle.text_verdicts.specs.Reading.{Judges, WasReadAs}
-use Rattle.certificate_commands.specs.Verdicts.{IsClaimOf, claimed_move, of_claim}
+use Rattle.claim_walks.specs.Claims.{IsClaimOf}
+use Rattle.certificate_commands.specs.Verdicts.{claimed_move, of_claim}
 
 -- The game under way is that of the head, and goes on. The claim can be judged of it; it has the
 -- depth and the value of the head, and the move that the text of the head denotes.

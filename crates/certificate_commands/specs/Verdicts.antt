@@ -1,13 +1,11 @@
 -- What the lines of a text are worth as a certificate.
-use Rattle.std.specs.Prelude.{ℕ, ◌≤◌, nat_eq, List, map, ℤ, Option, Result, Ok, Err, if◌then◌else◌}
+use Rattle.std.specs.Prelude.{ℕ, nat_eq, List, map, ℤ, Option, Result, Ok, Err, if◌then◌else◌}
 use Rattle.hive_model.specs.declared.places.Move.{Move}
 use Rattle.hive_model.specs.Positions.{Position, opening}
 use Rattle.hive_model.specs.Legal.{is_over}
 use Rattle.hive_model.specs.Games.{replay}
 use Rattle.hive_model.specs.Lines.{Line}
-use Rattle.hive_model.specs.Courses.{Course, position}
-use Rattle.hive_model.specs.Minimax.{IsInner}
-use Rattle.search_laws.specs.Laws.{IsSmall}
+use Rattle.hive_model.specs.Courses.{position}
 use Rattle.move_text.specs.declared.faults.MoveFault.{MoveFault}
 use Rattle.move_text.specs.Moves.{move_of}
 use Rattle.claim_walks.specs.Walks.{Outcome}
@@ -35,13 +33,6 @@ end_of head = replay (opening head.game_type) head.moves
 -- the move that is claimed there, legal or not, if its text denotes one
 abbrev pub claimed_move : Head → Result Move MoveFault
 claimed_move head = move_of head.game_type (end_of head).board head.claim_text
-
--- a claim of this depth and value can be judged of the game under way, which goes on
-pub record IsClaimOf (course : Course) (depth : ℕ) (value : ℤ) : Type 0 where
-  pub deep : depth ≤ 64
-  pub inner : IsInner (position course) depth
-  pub small : IsSmall 1000064 value
-  pub spare : depth ≤ course.spare
 
 -- what indices behind the head make of the claim that a move of a position is the best one, and is
 -- worth so much

@@ -6,9 +6,9 @@ ghost use Rattle.certificate_text.specs.Text.{head_of, index_in};
 ghost use Rattle.certificate_text.specs.Heads.{IsHead};
 ghost use Rattle.command_runs.specs.Runs.{RunsAs, side_of};
 ghost use Rattle.text_verdicts.specs.Judging.{JudgesAhead};
+ghost use Rattle.claim_walks.specs.Claims.{IsClaimOf};
 ghost use Rattle.certificate_commands.specs.Verdicts.{
   CheckRun,
-  IsClaimOf,
   of_claim,
   of_items,
   of_lines,

@@ -8,7 +8,8 @@ ghost use Rattle.strategy_lemmas.specs.CitedChecks.{cited_faults};
 ghost use Rattle.citing_text.specs.TokenText.{token_in};
 ghost use Rattle.command_runs.specs.Runs.{side_of};
 ghost use Rattle.text_verdicts.specs.Judging.{JudgesAhead};
-ghost use Rattle.certificate_commands.specs.Verdicts.{IsClaimOf, of_tokens, of_why};
+ghost use Rattle.claim_walks.specs.Claims.{IsClaimOf};
+ghost use Rattle.certificate_commands.specs.Verdicts.{of_tokens, of_why};
 
 use crate::checking::HEAD_LINES;
 use citing_text::LineTokens;

@@ -17,7 +17,8 @@ ghost use Rattle.citing_text.specs.Migrating.{MigrateAnswers, answered};
 ghost use Rattle.citing_text.specs.Migrating as calls;
 ghost use Rattle.command_runs.specs.Runs.{RunsAs, side_of};
 ghost use Rattle.text_verdicts.specs.Reading.{WasReadAs};
-ghost use Rattle.certificate_commands.specs.Verdicts.{IsClaimOf, of_claim, of_items};
+ghost use Rattle.claim_walks.specs.Claims.{IsClaimOf};
+ghost use Rattle.certificate_commands.specs.Verdicts.{of_claim, of_items};
 ghost use Rattle.certificate_commands.specs.Migrating.{
   MigrateRun,
   MigratesAhead,

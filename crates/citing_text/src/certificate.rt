@@ -2,9 +2,8 @@
 
 ghost use Rattle.std.specs.Prelude.{◌≡◌, ◌≤◌, ℕ, List, [], Option, Some, None};
 ghost use Rattle.hive_model.specs.Legal.{moves};
-ghost use Rattle.hive_model.specs.Minimax.{IsInner, value, best};
 ghost use Rattle.hive_model.specs.Courses.{position};
-ghost use Rattle.search_laws.specs.Laws.{IsSmall};
+ghost use Rattle.claim_walks.specs.Claims.{IsClaimOf, IsTrueOf};
 ghost use Rattle.claim_walks.specs.Walks.{place_of};
 ghost use Rattle.claim_walks.specs.Ends.{ChecksItems};
 ghost use Rattle.strategy_lemmas.specs.Short.{shortened};
@@ -26,15 +25,11 @@ pub fn shorten_certificate<G: Game, I: Items<Item = u32>>(
     draft: &mut Draft,
     stack: &mut MoveStack,
 ) -> Option<Checked<Why>>
-    requires deep { claim.now.depth ≤ 64 }
-    requires inner { IsInner (position (G.course game.old)) claim.now.depth }
-    requires small { IsSmall 1000064 claim.now.value }
-    requires spare { claim.now.depth ≤ (G.course game.old).spare }
+    requires claim { IsClaimOf (G.course game.old) claim.now.depth claim.now.value }
     requires room { claim.now.depth ≤ stack.old.free }
     requires empty { draft.old ≡ record { taken = 0; lemmas = []; text = [] } }
     ensures accepted { result ≡ Some Checked.Accepted
-        → (best (position (G.course game.old)) claim.now.depth ≡ Some claim.now.best)
-        × (value (position (G.course game.old)) claim.now.depth ≡ claim.now.value) }
+        → IsTrueOf (position (G.course game.old)) claim.now }
     ensures told { (items : List (Option ℕ)) → (I.supply indices.old).left ≡ Some items
         → ShortAnswers (shortened (position (G.course game.old))
         claim.now.depth claim.now.best claim.now.value items) result draft.new }

@@ -3,9 +3,8 @@
 ghost use Rattle.std.specs.Prelude.{◌≡◌, ◌≤◌, ◌⊎◌, ◌++◌, ℕ, List, Option, Some, None, false};
 ghost use Rattle.io_edge.specs.Outside.{HasCause};
 ghost use Rattle.hive_model.specs.Legal.{moves};
-ghost use Rattle.hive_model.specs.Minimax.{IsInner, value, best};
 ghost use Rattle.hive_model.specs.Courses.{position};
-ghost use Rattle.search_laws.specs.Laws.{IsSmall};
+ghost use Rattle.claim_walks.specs.Claims.{IsClaimOf, IsTrueOf};
 ghost use Rattle.claim_walks.specs.Walks.{place_of};
 ghost use Rattle.claim_walks.specs.Ends.{ChecksItems};
 ghost use Rattle.strategy_check.specs.Checks.{index_faults};
@@ -64,14 +63,10 @@ pub fn migrate<G: Game, I: Items<Item = u32>, K: Sink>(
     stack: &mut MoveStack,
     sink: &mut K,
 ) -> Migrated
-    requires deep { claim.now.depth ≤ 64 }
-    requires inner { IsInner (position (G.course game.old)) claim.now.depth }
-    requires small { IsSmall 1000064 claim.now.value }
-    requires spare { claim.now.depth ≤ (G.course game.old).spare }
+    requires claim { IsClaimOf (G.course game.old) claim.now.depth claim.now.value }
     requires room { claim.now.depth ≤ stack.old.free }
     ensures accepted { result ≡ Migrated.Done
-        → (best (position (G.course game.old)) claim.now.depth ≡ Some claim.now.best)
-        × (value (position (G.course game.old)) claim.now.depth ≡ claim.now.value) }
+        → IsTrueOf (position (G.course game.old)) claim.now }
     ensures told { (items : List (Option ℕ)) → (I.supply indices.old).left ≡ Some items
         → MigrateAnswers (position (G.course game.old))
         claim.now.depth claim.now.best claim.now.value items head.now result

@@ -5,6 +5,7 @@ ghost use Rattle.hive_model.specs.Keys.{key};
 ghost use Rattle.hive_model.specs.Minimax.{IsInner, value};
 ghost use Rattle.hive_model.specs.Courses.{position};
 ghost use Rattle.search_laws.specs.Laws.{IsSmall};
+ghost use Rattle.search_laws.specs.Nodes.{HasRoom};
 ghost use Rattle.claim_walks.specs.Limits.{Keeps};
 ghost use Rattle.claim_walks.specs.Parts.{EndsHere};
 ghost use Rattle.claim_walks.specs.declared.limit.Limit.TheVariants.{AtLeast};
@@ -39,11 +40,9 @@ fn pass_over<G: Game, I: Items<Item = u32>>(
     draft: &mut Draft,
     stack: &mut MoveStack,
 ) -> Option<WalkAnswer<Why>>
-    requires deep { depth ≤ 64 }
     requires inner { IsInner (position (G.course game.old)) depth }
     requires small { IsSmall 1000100 least }
-    requires spare { depth ≤ (G.course game.old).spare }
-    requires room { depth ≤ stack.old.free }
+    requires room { HasRoom depth (G.course game.old) stack.old }
     requires served { server (key (position (G.course game.old))) depth least draft.old.lemmas
         ≡ Some place }
     ensures shown { result ≡ Some WalkAnswer.Done

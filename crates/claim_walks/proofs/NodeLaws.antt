@@ -43,7 +43,7 @@ is-done b w iff yes_ = iff.0 yes_
 
 -- ---- what else is so
 
-part-behind : {A T : Type 0} (parts : Parts A T) (w : Walked T) (a b c : A) → parts.goes a b → IsPart parts w b c → IsPart parts w a c
+pub part-behind : {A T : Type 0} (parts : Parts A T) (w : Walked T) (a b c : A) → parts.goes a b → IsPart parts w b c → IsPart parts w a c
 part-behind parts Done a b c first later = parts.both a b c first later
 part-behind parts LeafFails a b c first later = parts.both a b c first later
 part-behind parts BadIndex a b c first later = parts.both a b c first later

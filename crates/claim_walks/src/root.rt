@@ -3,10 +3,9 @@
 ghost use Rattle.std.specs.Prelude.{◌≡◌, ◌-◌, ◌<◌, ◌≤◌, length, slice_get, Some, None};
 ghost use Rattle.hive_model.specs.Legal.{moves};
 ghost use Rattle.hive_model.specs.Games.{after};
-ghost use Rattle.hive_model.specs.Minimax.{IsInner, value, best};
 ghost use Rattle.hive_model.specs.Courses.{position};
 ghost use Rattle.hive_model.specs.Stack.{level_of};
-ghost use Rattle.search_laws.specs.Laws.{IsSmall};
+ghost use Rattle.claim_walks.specs.Claims.{HasReplies, IsClaimOf, IsTrueOf};
 ghost use Rattle.claim_walks.specs.Walks.{place_of, walk};
 ghost use Rattle.claim_walks.specs.Walks as walks;
 ghost use Rattle.claim_walks.specs.Follows.{Follows};
@@ -42,17 +41,11 @@ fn walk_root<G: Game, W: Walker>(
     walker: &mut W,
     stack: &mut MoveStack,
 ) -> Walked<W::Stop>
-    requires deep { claim.now.depth ≤ 64 }
-    requires inner { IsInner (position (G.course game.old)) claim.now.depth }
-    requires small { IsSmall 1000064 claim.now.value }
-    requires spare { claim.now.depth ≤ (G.course game.old).spare }
-    requires room { claim.now.depth - 1 ≤ stack.old.free }
-    requires level { level < length stack.old.lists }
-    requires listed { level_of stack.old level ≡ moves (position (G.course game.old)) }
+    requires claim { IsClaimOf (G.course game.old) claim.now.depth claim.now.value }
+    requires replies { HasReplies (claim.now.depth - 1) level (G.course game.old) stack.old }
     requires place { slice_get (moves (position (G.course game.old))) place ≡ Some claim.now.best }
     ensures shown { W.is_true walker.old → result ≡ Walked.Done
-        → (best (position (G.course game.old)) claim.now.depth ≡ Some claim.now.best)
-        × (value (position (G.course game.old)) claim.now.depth ≡ claim.now.value) }
+        → IsTrueOf (position (G.course game.old)) claim.now }
     ensures told { Follows W.sight
         (walks.walk_moves
         (λ m. walk W.rules (after (position (G.course game.old)) m) (claim.now.depth - 1))
@@ -92,14 +85,10 @@ pub fn walk_certificate<G: Game, W: Walker>(
     walker: &mut W,
     stack: &mut MoveStack,
 ) -> Option<Walked<W::Stop>>
-    requires deep { claim.now.depth ≤ 64 }
-    requires inner { IsInner (position (G.course game.old)) claim.now.depth }
-    requires small { IsSmall 1000064 claim.now.value }
-    requires spare { claim.now.depth ≤ (G.course game.old).spare }
+    requires claim { IsClaimOf (G.course game.old) claim.now.depth claim.now.value }
     requires room { claim.now.depth ≤ stack.old.free }
     ensures shown { W.is_true walker.old → result ≡ Some Walked.Done
-        → (best (position (G.course game.old)) claim.now.depth ≡ Some claim.now.best)
-        × (value (position (G.course game.old)) claim.now.depth ≡ claim.now.value) }
+        → IsTrueOf (position (G.course game.old)) claim.now }
     ensures told { LeadsToEnd W.rules W.sight W.ending (position (G.course game.old))
         claim.now.depth claim.now.best claim.now.value result
         (W.seen walker.old) (W.seen walker.new) }

@@ -4,6 +4,7 @@ ghost use Rattle.std.specs.Prelude.{◌≡◌, ◌≤◌, ◌↔◌, IsTrue, ⊤
 ghost use Rattle.hive_model.specs.Courses.{position};
 ghost use Rattle.hive_model.specs.Minimax.{IsInner, value};
 ghost use Rattle.search_laws.specs.Laws.{IsSmall};
+ghost use Rattle.search_laws.specs.Nodes.{HasRoom};
 ghost use Rattle.claim_walks.specs.Limits.{Keeps};
 ghost use Rattle.claim_walks.specs.Walks.{Rules};
 ghost use Rattle.claim_walks.specs.Follows.{Ending, Shown, Sight, held};
@@ -90,11 +91,9 @@ pub trait Walker {
         least: i32,
         stack: &mut MoveStack,
     ) -> Took<Self::Stop>
-        requires deep { depth ≤ 64 }
         requires inner { IsInner (position (G.course game.old)) depth }
         requires small { IsSmall 1000100 least }
-        requires spare { depth ≤ (G.course game.old).spare }
-        requires room { depth ≤ stack.old.free }
+        requires room { HasRoom depth (G.course game.old) stack.old }
         ensures shown { is_true self.old → result ≡ Took.Shown
             → Keeps (AtLeast least) (value (position (G.course game.old)) depth) }
         ensures true_ { is_true self.old → is_true self.new }

@@ -1,13 +1,13 @@
 //! The walk of a claim over the legal moves.
 
 ghost use Rattle.std.specs.Prelude.{◌≡◌, ◌-◌, ◌<◌, ◌≤◌, length, slice_get};
-ghost use Rattle.hive_model.specs.Lists.{IsOn};
 ghost use Rattle.hive_model.specs.Legal.{moves};
 ghost use Rattle.hive_model.specs.Games.{after};
 ghost use Rattle.hive_model.specs.Minimax.{IsInner, value};
 ghost use Rattle.hive_model.specs.Courses.{position};
-ghost use Rattle.hive_model.specs.Stack.{level_of};
 ghost use Rattle.search_laws.specs.Laws.{IsSmall};
+ghost use Rattle.search_laws.specs.Nodes.{CanReply, HasRoom};
+ghost use Rattle.claim_walks.specs.Claims.{HasReplies};
 ghost use Rattle.claim_walks.specs.Limits.{Keeps, EachKeeps, is_kept, number};
 ghost use Rattle.claim_walks.specs.Walks.{goes_below, walk, walk_all};
 ghost use Rattle.claim_walks.specs.Follows.{Follows, range_of};
@@ -63,10 +63,8 @@ pub fn walk_claim<G: Game, W: Walker>(
     walker: &mut W,
     stack: &mut MoveStack,
 ) -> Walked<W::Stop>
-    requires deep { depth ≤ 64 }
     requires small { IsSmall 1000100 (number limit) }
-    requires spare { depth ≤ (G.course game.old).spare }
-    requires room { depth ≤ stack.old.free }
+    requires room { HasRoom depth (G.course game.old) stack.old }
     ensures shown { W.is_true walker.old → result ≡ Walked.Done
         → Keeps limit (value (position (G.course game.old)) depth) }
     ensures true_ { W.is_true walker.old → W.is_true walker.new }
@@ -99,11 +97,9 @@ fn walk_every<G: Game, W: Walker>(
     walker: &mut W,
     stack: &mut MoveStack,
 ) -> Walked<W::Stop>
-    requires deep { depth ≤ 64 }
     requires inner { IsInner (position (G.course game.old)) depth }
     requires small { IsSmall 1000100 most }
-    requires spare { depth ≤ (G.course game.old).spare }
-    requires room { depth ≤ stack.old.free }
+    requires room { HasRoom depth (G.course game.old) stack.old }
     ensures shown { W.is_true walker.old → result ≡ Walked.Done
         → Keeps (AtMost most) (value (position (G.course game.old)) depth) }
     ensures true_ { W.is_true walker.old → W.is_true walker.new }
@@ -134,11 +130,9 @@ fn walk_below<G: Game, W: Walker>(
     walker: &mut W,
     stack: &mut MoveStack,
 ) -> Walked<W::Stop>
-    requires deep { depth ≤ 64 }
     requires inner { IsInner (position (G.course game.old)) depth }
     requires small { IsSmall 1000100 least }
-    requires spare { depth ≤ (G.course game.old).spare }
-    requires room { depth ≤ stack.old.free }
+    requires room { HasRoom depth (G.course game.old) stack.old }
     ensures shown { W.is_true walker.old → result ≡ Walked.Done
         → Keeps (AtLeast least) (value (position (G.course game.old)) depth) }
     ensures true_ { W.is_true walker.old → W.is_true walker.new }
@@ -173,12 +167,8 @@ pub(crate) fn walk_moves<G: Game, W: Walker>(
     walker: &mut W,
     stack: &mut MoveStack,
 ) -> Walked<W::Stop>
-    requires deep { depth < 64 }
+    requires replies { HasReplies depth level (G.course game.old) stack.old }
     requires small { IsSmall 1000100 (number limit) }
-    requires spare { depth < (G.course game.old).spare }
-    requires room { depth ≤ stack.old.free }
-    requires level { level < length stack.old.lists }
-    requires listed { level_of stack.old level ≡ moves (position (G.course game.old)) }
     requires before { to ≤ length (moves (position (G.course game.old))) }
     ensures shown { W.is_true walker.old → result ≡ Walked.Done
         → EachKeeps (position (G.course game.old)) depth limit
@@ -212,11 +202,8 @@ pub(crate) fn walk_child<G: Game, W: Walker>(
     walker: &mut W,
     stack: &mut MoveStack,
 ) -> Walked<W::Stop>
-    requires deep { depth < 64 }
+    requires can { CanReply m depth (G.course game.old) stack.old }
     requires small { IsSmall 1000100 (number limit) }
-    requires legal { IsOn (moves (position (G.course game.old))) m }
-    requires spare { depth < (G.course game.old).spare }
-    requires room { depth ≤ stack.old.free }
     ensures shown { W.is_true walker.old → result ≡ Walked.Done
         → Keeps limit (value (after (position (G.course game.old)) m) depth) }
     ensures true_ { W.is_true walker.old → W.is_true walker.new }

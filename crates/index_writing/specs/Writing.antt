@@ -15,15 +15,6 @@ use Rattle.claim_walks.specs.Limits.{is_kept, number}
 use Rattle.strategy_check.specs.Least.{least}
 use Rattle.certificate_text.specs.Text.{index_line}
 
--- the legal moves stand on this level, and there is room for each of them and for so many plies
--- behind it
-pub record HasReplies (depth level : ℕ) (game : Course) (stack : Levels) : Type 0 where
-  pub deep : depth < 64
-  pub spare : depth < game.spare
-  pub free : depth ≤ stack.free
-  pub stands : level < length stack.lists
-  pub listed : level_of stack level ≡ moves (position game)
-
 -- a judge that is prepared for so many plies can tell whether the limit is kept with so many left
 pub record CanTell (depth : ℕ) (limit : Limit) (prepared : ℕ) : Type 0 where
   pub ready : depth ≤ prepared

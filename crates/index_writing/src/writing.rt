@@ -10,12 +10,12 @@ ghost use Rattle.hive_model.specs.Courses.{position};
 ghost use Rattle.hive_model.specs.Stack.{level_of};
 ghost use Rattle.search_laws.specs.Leaves.{IsLeaf};
 ghost use Rattle.search_laws.specs.Nodes.{HasRoom, IsNode, CanReply, AreAsBefore};
+ghost use Rattle.claim_walks.specs.Claims.{HasReplies};
 ghost use Rattle.claim_walks.specs.Follows.{range_of};
 ghost use Rattle.strategy_check.specs.Least.{least};
 ghost use Rattle.certificate_text.specs.Text.{index_line};
 ghost use Rattle.index_writing.specs.Writing.{
   CanTell,
-  HasReplies,
   Wrote,
   first_kept,
   index_lines,

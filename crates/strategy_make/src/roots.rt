@@ -9,7 +9,8 @@ ghost use Rattle.hive_model.specs.Courses.{position};
 ghost use Rattle.search_laws.specs.Laws.{IsSmall};
 ghost use Rattle.search_laws.specs.Nodes.{HasRoom, AreAsBefore};
 ghost use Rattle.strategy_check.specs.Least.{least_moves};
-ghost use Rattle.index_writing.specs.Writing.{HasReplies, Wrote, index_lines};
+ghost use Rattle.claim_walks.specs.Claims.{HasReplies};
+ghost use Rattle.index_writing.specs.Writing.{Wrote, index_lines};
 ghost use Rattle.strategy_make.specs.Making.{least_indices};
 
 use claim_walks::Limit;

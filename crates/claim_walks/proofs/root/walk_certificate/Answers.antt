@@ -1,10 +1,13 @@
-use Rattle.std.proofs.Common.{◌≡◌, ◌-◌, slice_get, Some, None, sym, ap, subst, ◌∙◌}
+use Rattle.std.proofs.Common.{◌≡◌, ◌-◌, slice_get, Some, None, refl, sym, ap, subst, ◌∙◌}
 use Rattle.hive_model.specs.Legal.{moves}
 use Rattle.hive_model.specs.Courses.{Course, position}
 use Rattle.hive_model.specs.Stack.{level_of}
 use Rattle.search_laws.proofs.LoopLaws.{level_of-with_level}
 use Rattle.claim_walks.specs.Walks.{place_of}
 use Rattle.claim_walks.specs.Parts.{ending_of}
+use Rattle.search_laws.proofs.NodeLaws.{node-listed}
+use Rattle.claim_walks.specs.Claims.{IsClaimOf}
+use Rattle.claim_walks.proofs.LevelLaws.{node-replies}
 use Rattle.claim_walks.proofs.PlaceLaws.{place-here}
 use Rattle.claim_walks.proofs.FollowLaws.{certificate-at, certificate-none, root-as}
 use Rattle.claim_walks.proofs.root.walk_certificate.Goals as goal
@@ -24,6 +27,17 @@ walk_root-walked-requires-clause-place g c =
     let listed : level_of c.list.new.out c.levels-level.result ≡ moves p = level_of-with_level c.list.new.out c.args.stack.now (moves p) c.levels-level.result c.list.ensures.listed c.levels-level.ensures in
     let place : Some c.in-Some.place ≡ place_of best (moves p) = sym c.in-Some.is ∙ c.find_move.ensures ∙ ap (place_of best) listed in
     subst (λ (h : Course). slice_get (moves (position h)) c.in-Some.place ≡ Some best) (sym c.list.ensures.same) (place-here best (moves p) c.in-Some.place (sym place))
+
+pub walk_root-walked-requires-clause-claim : goal.walk_root-walked-requires-clause-claim
+walk_root-walked-requires-clause-claim g c =
+    subst (λ (h : Course). IsClaimOf h c.args.claim.now.depth c.args.claim.now.value) (sym c.list.ensures.same) c.requires.claim
+
+pub walk_root-walked-requires-clause-replies : goal.walk_root-walked-requires-clause-replies
+walk_root-walked-requires-clause-replies g c =
+    let start = g.G.Game.course c.args.game.now in
+    let claim = c.requires.claim in
+    node-replies _ _ c.args.claim.now.depth c.levels-level.result
+    (node-listed start start _ _ _ c.args.claim.now.depth c.levels-level.result (record { deep = claim.deep; spare = claim.spare; free = c.requires.room }) claim.inner refl c.list.ensures.same c.list.ensures.listed c.levels-level.ensures)
 
 pub returns-clause-told : goal.returns-clause-told
 returns-clause-told g c =

@@ -1,11 +1,10 @@
-use Rattle.std.proofs.Common.{◌≡◌, ◌-◌, length, sym, ap, subst, arith, ◌∙◌}
-use Rattle.hive_model.specs.Lists.{IsOn}
+use Rattle.std.proofs.Common.{◌≡◌, ◌-◌, length, ap, arith, ◌∙◌}
 use Rattle.hive_model.specs.Legal.{moves}
-use Rattle.hive_model.specs.Courses.{position, Course}
+use Rattle.hive_model.specs.Courses.{position}
 use Rattle.search_laws.specs.Laws.{IsSmall}
 use Rattle.search_laws.proofs.Signs.{neg-is}
 use Rattle.search_laws.proofs.MinimaxLaws.{wider}
-use Rattle.search_laws.proofs.LoopLaws.{on-at}
+use Rattle.claim_walks.proofs.LevelLaws.{can-again, place-reply, replies-again}
 use Rattle.claim_walks.proofs.FollowLaws.{before-stops, high-stops, low-stops, all-goes, before-is, high-is, low-is, behind-is, root-shown, one-less, place-low}
 use Rattle.claim_walks.specs.Parts.{ending_of}
 use Rattle.claim_walks.proofs.NodeLaws.{not-shown, is-done, is-shown, part-goes-on}
@@ -23,11 +22,11 @@ returns-then-not-is_done-clause-told g c =
     let s1 = g.W.Walker.seen c.walk_moves-before.new.walker in
     let w = ending_of R g.W.Walker.ending c.walk_moves-before.result in
     before-stops R V p e k c.args.claim.now.best v s0 s1 w (not-shown R g.W.Walker.ending g.met.W.Walker.ends_short _ _ c.is_done.ensures c.if-not-is_done.true)
-    (before-is R V p e k v _ s0 s1 w (one-less v c.requires.small) c.walk_moves-before.ensures.told)
+    (before-is R V p e k v _ s0 s1 w (one-less v c.requires.claim.small) c.walk_moves-before.ensures.told)
 
-pub walk_child-high-requires-clause-legal : goal.walk_child-high-requires-clause-legal
-walk_child-high-requires-clause-legal g c =
-    subst (λ (h : Course). IsOn (moves (position h)) c.args.claim.now.best) (sym c.walk_moves-before.ensures.game) (on-at _ _ _ c.requires.place)
+pub walk_child-high-requires-clause-can : goal.walk_child-high-requires-clause-can
+walk_child-high-requires-clause-can g c =
+    can-again _ _ _ _ _ _ (place-reply _ _ _ c.args.level c.args.place _ c.requires.replies c.requires.place) (record { game = c.walk_moves-before.ensures.game; stack = c.walk_moves-before.ensures.stack })
 
 pub returns-then-not-is_done-2-clause-told : goal.returns-then-not-is_done-2-clause-told
 returns-then-not-is_done-2-clause-told g c =
@@ -39,20 +38,29 @@ returns-then-not-is_done-2-clause-told g c =
     let k = c.args.place in
     let m = c.args.claim.now.best in
     let v = c.args.claim.now.value in
-    let small : IsSmall 1000100 v = wider 1000064 1000100 v (omega arith) c.requires.small in
+    let small : IsSmall 1000100 v = wider 1000064 1000100 v (omega arith) c.requires.claim.small in
     let s0 = g.W.Walker.seen c.args.walker.now in
     let s1 = g.W.Walker.seen c.walk_moves-before.new.walker in
     let s2 = g.W.Walker.seen c.walk_child-high.new.walker in
     let w = ending_of R g.W.Walker.ending c.walk_moves-before.result in
     let x = ending_of R g.W.Walker.ending c.walk_child-high.result in
     high-stops R V p e k m v s0 s1 s2 w x (is-shown R g.W.Walker.ending _ _ c.is_done.ensures c.if-not-is_done.false)
-    (before-is R V p e k v _ s0 s1 w (one-less v c.requires.small) c.walk_moves-before.ensures.told)
+    (before-is R V p e k v _ s0 s1 w (one-less v c.requires.claim.small) c.walk_moves-before.ensures.told)
     (not-shown R g.W.Walker.ending g.met.W.Walker.ends_short _ _ c.is_done-2.ensures c.if-not-is_done-2.true)
     (high-is R V start _ e m v _ s1 s2 x c.walk_moves-before.ensures.game (neg-is v small) c.walk_child-high.ensures.told)
 
-pub walk_child-low-requires-clause-legal : goal.walk_child-low-requires-clause-legal
-walk_child-low-requires-clause-legal g c =
-    subst (λ (h : Course). IsOn (moves (position h)) c.args.claim.now.best) (sym (c.walk_child-high.ensures.game ∙ c.walk_moves-before.ensures.game)) (on-at _ _ _ c.requires.place)
+pub walk_child-low-requires-clause-can : goal.walk_child-low-requires-clause-can
+walk_child-low-requires-clause-can g c =
+    can-again _ _ _ _ _ _ (place-reply _ _ _ c.args.level c.args.place _ c.requires.replies c.requires.place)
+    (record { game = c.walk_child-high.ensures.game ∙ c.walk_moves-before.ensures.game; stack = c.walk_child-high.ensures.stack ∙ c.walk_moves-before.ensures.stack })
+
+pub walk_moves-requires-clause-replies : goal.walk_moves-requires-clause-replies
+walk_moves-requires-clause-replies g c =
+    replies-again _ _ _ _ _ _ c.requires.replies
+    (record {
+      game = c.walk_child-low.ensures.game ∙ c.walk_child-high.ensures.game ∙ c.walk_moves-before.ensures.game;
+      stack = c.walk_child-low.ensures.stack ∙ c.walk_child-high.ensures.stack ∙ c.walk_moves-before.ensures.stack;
+    })
 
 pub returns-then-not-is_done-3-clause-told : goal.returns-then-not-is_done-3-clause-told
 returns-then-not-is_done-3-clause-told g c =
@@ -64,7 +72,7 @@ returns-then-not-is_done-3-clause-told g c =
     let k = c.args.place in
     let m = c.args.claim.now.best in
     let v = c.args.claim.now.value in
-    let small : IsSmall 1000100 v = wider 1000064 1000100 v (omega arith) c.requires.small in
+    let small : IsSmall 1000100 v = wider 1000064 1000100 v (omega arith) c.requires.claim.small in
     let s0 = g.W.Walker.seen c.args.walker.now in
     let s1 = g.W.Walker.seen c.walk_moves-before.new.walker in
     let s2 = g.W.Walker.seen c.walk_child-high.new.walker in
@@ -73,7 +81,7 @@ returns-then-not-is_done-3-clause-told g c =
     let x = ending_of R g.W.Walker.ending c.walk_child-high.result in
     let y = ending_of R g.W.Walker.ending c.walk_child-low.result in
     low-stops R V p e k m v s0 s1 s2 s3 w x y (is-shown R g.W.Walker.ending _ _ c.is_done.ensures c.if-not-is_done.false)
-    (before-is R V p e k v _ s0 s1 w (one-less v c.requires.small) c.walk_moves-before.ensures.told)
+    (before-is R V p e k v _ s0 s1 w (one-less v c.requires.claim.small) c.walk_moves-before.ensures.told)
     (is-shown R g.W.Walker.ending _ _ c.is_done-2.ensures c.if-not-is_done-2.false)
     (high-is R V start _ e m v _ s1 s2 x c.walk_moves-before.ensures.game (neg-is v small) c.walk_child-high.ensures.told)
     (not-shown R g.W.Walker.ending g.met.W.Walker.ends_short _ _ c.is_done-3.ensures c.if-not-is_done-3.true)
@@ -82,17 +90,17 @@ returns-then-not-is_done-3-clause-told g c =
 pub overflow_add-place : goal.overflow_add-place
 overflow_add-place g c =
     let low = place-low (moves (position (g.G.Game.course c.args.game.now))) c.args.place c.args.claim.now.best c.requires.place in
-    let all : c.level_len-count.result ≡ length (moves (position (g.G.Game.course c.args.game.now))) = c.level_len-count.ensures ∙ ap length c.requires.listed in
+    let all : c.level_len-count.result ≡ length (moves (position (g.G.Game.course c.args.game.now))) = c.level_len-count.ensures ∙ ap length c.requires.replies.listed in
     omega (arith, low, all)
 
 pub returns-clause-shown : goal.returns-clause-shown
 returns-clause-shown g c =
     let start = g.G.Game.course c.args.game.now in
     let v = c.args.claim.now.value in
-    let small : IsSmall 1000100 v = wider 1000064 1000100 v (omega arith) c.requires.small in
+    let small : IsSmall 1000100 v = wider 1000064 1000100 v (omega arith) c.requires.claim.small in
     let e1 = c.walk_moves-before.ensures.game in
     let e2 = c.walk_child-high.ensures.game ∙ e1 in
-    let all : c.level_len-count.result ≡ length (moves (position start)) = c.level_len-count.ensures ∙ ap length c.requires.listed in
+    let all : c.level_len-count.result ≡ length (moves (position start)) = c.level_len-count.ensures ∙ ap length c.requires.replies.listed in
     let first = is-done _ _ c.is_done.ensures c.if-not-is_done.false in
     let second = is-done _ _ c.is_done-2.ensures c.if-not-is_done-2.false in
     let third = is-done _ _ c.is_done-3.ensures c.if-not-is_done-3.false in
@@ -100,7 +108,7 @@ returns-clause-shown g c =
     let inv1 = c.walk_moves-before.ensures.true_ inv in
     let inv2 = c.walk_child-high.ensures.true_ inv1 in
     let inv3 = c.walk_child-low.ensures.true_ inv2 in
-    root-shown start _ _ _ c.args.claim.now.depth c.args.place c.level_len-count.result c.args.claim.now.best v _ _ c.requires.inner c.requires.place all (one-less v c.requires.small) (neg-is v small)
+    root-shown start _ _ _ c.args.claim.now.depth c.args.place c.level_len-count.result c.args.claim.now.best v _ _ c.requires.claim.inner c.requires.place all (one-less v c.requires.claim.small) (neg-is v small)
     e1 e2 (c.walk_child-low.ensures.game ∙ e2)
     (c.walk_moves-before.ensures.shown inv first) (c.walk_child-high.ensures.shown inv1 second) (c.walk_child-low.ensures.shown inv2 third) (c.walk_moves.ensures.shown inv3 done)
 
@@ -114,8 +122,8 @@ returns-clause-told g c =
     let k = c.args.place in
     let m = c.args.claim.now.best in
     let v = c.args.claim.now.value in
-    let small : IsSmall 1000100 v = wider 1000064 1000100 v (omega arith) c.requires.small in
-    let all : c.level_len-count.result ≡ length (moves p) = c.level_len-count.ensures ∙ ap length c.requires.listed in
+    let small : IsSmall 1000100 v = wider 1000064 1000100 v (omega arith) c.requires.claim.small in
+    let all : c.level_len-count.result ≡ length (moves p) = c.level_len-count.ensures ∙ ap length c.requires.replies.listed in
     let e1 = c.walk_moves-before.ensures.game in
     let e2 = c.walk_child-high.ensures.game ∙ e1 in
     let s0 = g.W.Walker.seen c.args.walker.now in
@@ -128,7 +136,7 @@ returns-clause-told g c =
     let y = ending_of R g.W.Walker.ending c.walk_child-low.result in
     let z = ending_of R g.W.Walker.ending c.walk_moves.result in
     all-goes R V p e k m v s0 s1 s2 s3 s4 w x y z (is-shown R g.W.Walker.ending _ _ c.is_done.ensures c.if-not-is_done.false)
-    (before-is R V p e k v _ s0 s1 w (one-less v c.requires.small) c.walk_moves-before.ensures.told)
+    (before-is R V p e k v _ s0 s1 w (one-less v c.requires.claim.small) c.walk_moves-before.ensures.told)
     (is-shown R g.W.Walker.ending _ _ c.is_done-2.ensures c.if-not-is_done-2.false)
     (high-is R V start _ e m v _ s1 s2 x e1 (neg-is v small) c.walk_child-high.ensures.told)
     (is-shown R g.W.Walker.ending _ _ c.is_done-3.ensures c.if-not-is_done-3.false)

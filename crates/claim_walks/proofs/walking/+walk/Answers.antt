@@ -14,8 +14,9 @@ use Rattle.claim_walks.specs.declared.limit.Limit.TheVariants.{AtLeast}
 use Rattle.claim_walks.specs.Limits.{is_kept}
 use Rattle.claim_walks.specs.Follows.{Shown}
 use Rattle.claim_walks.specs.Parts.{ending_of}
+use Rattle.claim_walks.proofs.LevelLaws.{level-reply}
 use Rattle.claim_walks.proofs.FollowLaws.{follows-leaf, follows-child, shown-child, turn-told, turn-shown, turn-stops, turn-past, number-small, small-turned}
-use Rattle.claim_walks.proofs.NodeLaws.{leaf-ending, not-shown, is-shown, is-done, game-every, game-index, keeps-still, game-walks, claim-ends, claim-below, below-stops, below-done}
+use Rattle.claim_walks.proofs.NodeLaws.{part-behind, leaf-ending, not-shown, is-shown, is-done, game-every, game-index, keeps-still, game-walks, claim-ends, claim-below, below-stops, below-done}
 use Rattle.claim_walks.proofs.walking.+walk.Goals as goal
 
 pub walk_claim-returns-in-Some-clause-told : goal.walk_claim-returns-in-Some-clause-told
@@ -74,17 +75,13 @@ walk_below-walk_child-walked-requires g t c κs within =
           (
             within.1.1,
             (
-              omega (arith, c.requires.deep, c.requires.inner.deep),
-              (
-                small-turned _ c.requires.small,
-                (
-                  on-at _ _ _ (ap (λ (h : Course). slice_get (moves (position h)) c.args.place) c.in-Some.ensures.game ∙ here),
-                  (
-                    omega (arith, ap (λ (h : Course). h.spare) c.in-Some.ensures.game, c.requires.spare, c.requires.inner.deep),
-                    omega (arith, ap (λ (s : Levels). s.free) c.in-Some.ensures.stack, c.requires.room),
-                  ),
-                ),
-              ),
+              record {
+                legal = on-at _ _ _ (ap (λ (h : Course). slice_get (moves (position h)) c.args.place) c.in-Some.ensures.game ∙ here);
+                deep = omega (arith, c.requires.room.deep, c.requires.inner.deep);
+                spare = omega (arith, ap (λ (h : Course). h.spare) c.in-Some.ensures.game, c.requires.room.spare, c.requires.inner.deep);
+                free = omega (arith, ap (λ (s : Levels). s.free) c.in-Some.ensures.stack, c.requires.room.free);
+              },
+              small-turned _ c.requires.small,
             ),
           ),
         ),
@@ -138,17 +135,8 @@ walk_moves-walk_child-walked-requires g t c κs within =
           (
             within.1.1,
             (
-              c.requires.deep,
-              (
-                c.requires.small,
-                (
-                  on-at _ _ _ (here-in _ _ _ _ _ _ turn.stack (c.requires.listed ∙ ap (λ (h : Course). moves (position h)) (sym turn.game)) c.get-m.ensures),
-                  (
-                    omega (arith, ap (λ (h : Course). h.spare) turn.game, c.requires.spare),
-                    omega (arith, ap (λ (s : Levels). s.free) turn.stack, c.requires.room),
-                  ),
-                ),
-              ),
+              level-reply _ _ _ _ c.args.depth c.args.level c.loop-i.i c.get-m.result c.requires.replies (record { game = turn.game; stack = turn.stack }) c.get-m.ensures,
+              c.requires.small,
             ),
           ),
         ),
@@ -160,7 +148,7 @@ walk_moves-returns-then-not-is_done-clause-told g t c =
     let R = g.W.Walker.rules in
     let turn = c.loop-i.invariant in
     let start = g.G.Game.course c.args.game.now in
-    let here : slice_get (moves (position start)) c.loop-i.i ≡ Some c.get-m.result = here-in _ _ _ _ _ _ turn.stack c.requires.listed c.get-m.ensures in
+    let here : slice_get (moves (position start)) c.loop-i.i ≡ Some c.get-m.result = here-in _ _ _ _ _ _ turn.stack c.requires.replies.listed c.get-m.ensures in
     let ending = ending_of R g.W.Walker.ending c.walk_child-walked.result in
     let now = g.W.Walker.seen c.walk_child-walked.new.walker in
     turn.told ending now
@@ -172,7 +160,7 @@ walk_moves-loop-i-preserved g t c =
     let R = g.W.Walker.rules in
     let turn = c.loop-i.invariant in
     let start = g.G.Game.course c.args.game.now in
-    let here : slice_get (moves (position start)) c.loop-i.i ≡ Some c.get-m.result = here-in _ _ _ _ _ _ turn.stack c.requires.listed c.get-m.ensures in
+    let here : slice_get (moves (position start)) c.loop-i.i ≡ Some c.get-m.result = here-in _ _ _ _ _ _ turn.stack c.requires.replies.listed c.get-m.ensures in
     let done = is-done _ _ c.is_done.ensures (search rules) in
     let now = g.W.Walker.seen c.walk_child-walked.new.walker in
     record {
@@ -191,3 +179,6 @@ walk_moves-returns-clause-told g t c =
     let now = g.W.Walker.seen c.loop-i.walker in
     c.loop-i.invariant.told Shown now
     (turn-past g.W.Walker.rules g.W.Walker.sight (position (g.G.Game.course c.args.game.now)) c.args.depth c.args.limit c.loop-i.i c.args.to now c.loop-i-test.false)
+
+pub walk_moves-returns-then-not-is_done-clause-part : goal.walk_moves-returns-then-not-is_done-clause-part
+walk_moves-returns-then-not-is_done-clause-part g t c = part-behind g.W.Walker.parts c.walk_child-walked.result _ _ _ c.loop-i.invariant.goes c.walk_child-walked.ensures.part

@@ -10,7 +10,7 @@ use Rattle.search_laws.proofs.Signs.{neg-is}
 use Rattle.search_laws.proofs.NodeLaws.{node-reply, before-then}
 use Rattle.search_laws.proofs.HintLaws.{here-in}
 use Rattle.claim_walks.specs.declared.limit.Limit.TheVariants.{AtMost, AtLeast}
-use Rattle.index_writing.proofs.LevelLaws.{level-reply}
+use Rattle.claim_walks.proofs.LevelLaws.{level-reply}
 use Rattle.index_writing.proofs.WriteLaws.{child-written, leaf-written, turn-written, turn-cut, turn-over, node-written, node-cut, node-none, node-every, place-under, wider, small-of, small-turned}
 use Rattle.index_writing.proofs.writing.+write.Goals as goal
 

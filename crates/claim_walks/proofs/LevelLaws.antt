@@ -8,7 +8,7 @@ use Rattle.hive_model.specs.Stack.{Levels, level_of}
 use Rattle.search_laws.specs.Nodes.{IsNode, CanReply, AreAsBefore}
 use Rattle.search_laws.proofs.LoopLaws.{on-at}
 use Rattle.search_laws.proofs.HintLaws.{here-in}
-use Rattle.index_writing.specs.Writing.{HasReplies}
+use Rattle.claim_walks.specs.Claims.{HasReplies}
 
 -- there is room for each move of a node
 pub node-replies : (start : Course) (s : Levels) (d level : ℕ) → IsNode d level start s → HasReplies (d - 1) level start s
