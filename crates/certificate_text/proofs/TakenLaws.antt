@@ -1,8 +1,8 @@
 -- What a reader that reads on has read of its input.
-use Rattle.std.proofs.Common.{◌≡◌, ◌≤◌, ℕ, suc, ◌+◌, ◌-◌, ◌^◌, min, Bool, true, false, List, [], ◌∷◌, ◌++◌, length, length-append, refl, ap, sym, subst, arith, ◌∙◌, add-zero, if◌then◌else◌}
-use Rattle.std.specs.Prelude.{◌==◌}
+use Rattle.std.proofs.Common.{◌≡◌, ◌<◌, ◌≤◌, ℕ, suc, ◌+◌, ◌-◌, ◌^◌, min, Bool, true, false, List, [], ◌∷◌, ◌++◌, length, length-append, refl, ap, sym, subst, arith, ◌∙◌, add-zero, if◌then◌else◌}
+use Rattle.std.specs.Prelude.{◌==◌, ⊤, Result, Err}
 use Rattle.std.proofs.lemmas.List.{append-nil, length-map}
-use Rattle.io_edge.specs.Outside.{Told, in_front, IsAtEnd}
+use Rattle.io_edge.specs.Outside.{HasCause, Told, in_front, IsAtEnd}
 use Rattle.io_edge.proofs.Told.{in_front-nil}
 use Rattle.hive_model.specs.Lines.{Line as OneLine, Text, TooLong as LongLine, line_of, line_parts, lines}
 use Rattle.hive_model.specs.Lists.{onto}
@@ -12,7 +12,11 @@ use Rattle.line_feed.specs.declared.answers.LineAnswer.{LineAnswer}
 use Rattle.line_feed.specs.declared.answers.LineAnswer.TheVariants.{Line, TooLong, End, Failed, Full}
 use Rattle.line_feed.proofs.AheadLemmas.{lines-nil}
 use Rattle.line_feed.proofs.FedLemmas.{fed_kept, fed_line}
+use Rattle.certificate_text.specs.declared.head.HeadFault.{HeadFault}
+use Rattle.certificate_text.specs.declared.head.HeadFault.TheVariants.{ReadFault, InputFull}
+use Rattle.certificate_text.specs.Heads.{TakesLines, last_line}
 use Rattle.certificate_text.specs.Taken.{HasRead}
+use Rattle.certificate_text.proofs.TextLaws.{all-same}
 
 no-bytes : (xs ys : List ℕ) → xs ++ ys ≡ [] → (xs ≡ []) × (ys ≡ [])
 no-bytes [] ys e = (refl, e)
@@ -114,6 +118,18 @@ pub read_line : (a : LineAnswer) (old new : Reading) (r0 r1 : Told) → (bytes :
     → (line : ℕ) (input : List ℕ) (before : ℕ) → line ≡ before + 1 → HasRead input r0 old before → HasRead input r1 new line
 read_line a old new r0 r1 fed within little line input before next r =
     read-more input r1 new (before + lines_given a) line (omega (arith, at-most-one a, next)) (read_on a old new r0 r1 fed within little input before r)
+
+-- what the reading of one line of a head leaves behind
+pub line-taken : (a : LineAnswer) (old new : Reading) (r0 r1 : Told) → (bytes : List ℕ) × Takes r0 r1 old.taken new.taken bytes × Feeds a old bytes new r1 → new.taken ≤ input_limit → HoldsLittle new
+    → (line : ℕ) (result : Result ⊤ HeadFault) (faults faults' : ℕ) → last_line line result ≡ line → (result ≡ Err InputFull → new.taken ≡ input_limit) → HasCause (result ≡ Err ReadFault) faults faults' → (result ≡ Err ReadFault → new.taken < input_limit)
+    → TakesLines 1 line result old new r0 r1 faults faults'
+line-taken a old new r0 r1 fed within little line result faults faults' last full cause failed = record {
+  full = full;
+  cause = cause;
+  bytes = let (bytes, takes, feeds) = fed in all-same old new r0 r1 bytes takes;
+  failed = failed;
+  read = λ input before next r. subst (HasRead input r1 new) (sym last) (read_line a old new r0 r1 fed within little line input before next r);
+}
 
 -- and no line where none was given
 pub read-none-given : (a : LineAnswer) (old new : Reading) (r0 r1 : Told) → (bytes : List ℕ) × Takes r0 r1 old.taken new.taken bytes × Feeds a old bytes new r1 → new.taken ≤ input_limit → HoldsLittle new

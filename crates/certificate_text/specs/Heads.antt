@@ -1,7 +1,7 @@
 -- What the parts of the reading of a head answer.
-use Rattle.std.specs.Prelude.{◌≡◌, ◌≢◌, ℕ, ◌+◌, ◌≤◌, ◌⊎◌, ⊤, List, ◌∷◌, length, drop, Option, Some, Result, Ok, Err}
-use Rattle.io_edge.specs.Outside.{Told}
-use Rattle.line_feed.specs.Feed.{Reading}
+use Rattle.std.specs.Prelude.{◌≡◌, ◌≢◌, ℕ, ◌+◌, ◌<◌, ◌≤◌, ◌⊎◌, ⊤, List, ◌∷◌, length, drop, Option, Some, Result, Ok, Err}
+use Rattle.io_edge.specs.Outside.{HasCause, Told}
+use Rattle.line_feed.specs.Feed.{Reading, input_limit}
 use Rattle.std.specs.Option.{option_map}
 use Rattle.hive_model.specs.Lines.{Line, Text, ToldLines, NoneAhead, LongAhead}
 use Rattle.hive_model.specs.Games.{IsGame}
@@ -13,6 +13,7 @@ use Rattle.certificate_text.specs.declared.head.Head.{Head}
 use Rattle.certificate_text.specs.declared.head.HeadFault.{HeadFault}
 use Rattle.certificate_text.specs.declared.head.HeadFault.TheVariants.{BadLine, BadGame, ReadFault, InputFull, Memory}
 use Rattle.certificate_text.specs.Text.{HeadRead}
+use Rattle.certificate_text.specs.Taken.{HasRead}
 
 -- how many bytes a reader has taken and its source is yet to give, where that is told
 abbrev pub in_all : Reading → Told → Option ℕ
@@ -41,6 +42,18 @@ fault_line n Memory = n
 abbrev pub last_line : {A : Type 0} → ℕ → Result A HeadFault → ℕ
 last_line n (Ok a) = n
 last_line n (Err fault) = fault_line n fault
+
+-- What the reading of k lines of a head, of which the n-th of its text is the last, leaves behind,
+-- by its answer: why the input could not be read. No byte of it is lost; and where the lines before
+-- these were read at most, so many were read at most.
+pub record TakesLines {A : Type 0} (k n : ℕ) (result : Result A HeadFault)
+    (reader reader' : Reading) (rest rest' : Told) (faults faults' : ℕ) : Type 0 where
+  pub full : result ≡ Err InputFull → reader'.taken ≡ input_limit
+  pub cause : HasCause (result ≡ Err ReadFault) faults faults'
+  pub bytes : in_all reader' rest' ≡ in_all reader rest
+  pub failed : result ≡ Err ReadFault → reader'.taken < input_limit
+  pub read : (input : List ℕ) (before : ℕ) → n ≡ before + k → HasRead input rest reader before
+      → HasRead input rest' reader' (last_line n result)
 
 -- the game of a line, or what is wrong with it, unless memory is wanting
 abbrev pub ReadsGame : Result Parsed HeadFault → Result Parsed GameFault → Type 0

@@ -1,23 +1,19 @@
 //! The head of a certificate.
 
-ghost use Rattle.std.specs.Prelude.{◌≡◌, ◌≢◌, ◌+◌, ◌<◌, ◌≤◌, ℕ, List, length, Some, Err, IfOk};
-ghost use Rattle.io_edge.specs.Outside.{HasCause};
-ghost use Rattle.line_feed.specs.Feed.{input_limit};
+ghost use Rattle.std.specs.Prelude.{◌≡◌, ◌≢◌, ◌≤◌, List, length, Some, Err, IfOk};
 ghost use Rattle.line_feed.specs.Ahead.{ahead_of};
 ghost use Rattle.hive_model.specs.Lines.{Line as AnyLine};
 ghost use Rattle.hive_model.specs.Games.{IsGame};
 ghost use Rattle.game_text.specs.Reading.{game_of};
 ghost use Rattle.game_text.specs.declared.faults.GameFault.{GameFault as AnyFault};
 ghost use Rattle.certificate_text.specs.Text.{field_in, game_in, head_of};
-ghost use Rattle.certificate_text.specs.Taken.{HasRead};
 ghost use Rattle.certificate_text.specs.Heads.{
   IsHead,
   Reads,
   ReadsGame,
   ReadsHead,
   TakesLine,
-  in_all,
-  last_line,
+  TakesLines,
 };
 
 use crate::fields::{ClaimText, ClaimValue, Depth, Field, Version};
@@ -59,20 +55,14 @@ pub enum HeadFault {
 /// # Errors
 ///
 /// A line that is missing or too long, a failed read, and a reader that takes no more.
-#[tactic(auto, using(crate::proofs::TakenLaws::read_line))]
+#[tactic(auto)]
 fn next_text<S: Source>(reader: &mut LineReader, source: &mut S, line: u32) -> Result<(), HeadFault>
     ensures told { TakesLine result line reader.new.last (ahead_of reader.old (S.rest source.old))
         (ahead_of reader.new (S.rest source.new)) }
     ensures fits { IfOk result (λ done. length reader.new.last ≤ 65536) }
     ensures no_game { (fault : AnyFault) → result ≢ Err (HeadFault.BadGame fault) }
-    ensures full { result ≡ Err HeadFault.InputFull → reader.new.taken ≡ input_limit }
-    ensures cause { HasCause (result ≡ Err HeadFault.ReadFault) (S.read_faults source.old)
-        (S.read_faults source.new) }
-    ensures bytes { in_all reader.new (S.rest source.new) ≡ in_all reader.old (S.rest source.old) }
-    ensures failed { result ≡ Err HeadFault.ReadFault → reader.new.taken < input_limit }
-    ensures read { (input : List ℕ) (before : ℕ) → line ≡ before + 1
-        → HasRead input (S.rest source.old) reader.old before
-        → HasRead input (S.rest source.new) reader.new (last_line line result) }
+    ensures taken { TakesLines 1 line result reader.old reader.new (S.rest source.old)
+        (S.rest source.new) (S.read_faults source.old) (S.read_faults source.new) }
 {
     match reader.next_line(source) {
         LineAnswer::Line => Ok(()),
@@ -99,14 +89,8 @@ pub fn read_field<F: Field, S: Source>(
         (ahead_of reader.new (S.rest source.new)) }
     ensures holds { IfOk result (F.holds field.now) }
     ensures no_game { (fault : AnyFault) → result ≢ Err (HeadFault.BadGame fault) }
-    ensures full { result ≡ Err HeadFault.InputFull → reader.new.taken ≡ input_limit }
-    ensures cause { HasCause (result ≡ Err HeadFault.ReadFault) (S.read_faults source.old)
-        (S.read_faults source.new) }
-    ensures bytes { in_all reader.new (S.rest source.new) ≡ in_all reader.old (S.rest source.old) }
-    ensures failed { result ≡ Err HeadFault.ReadFault → reader.new.taken < input_limit }
-    ensures read { (input : List ℕ) (before : ℕ) → line ≡ before + 1
-        → HasRead input (S.rest source.old) reader.old before
-        → HasRead input (S.rest source.new) reader.new (last_line line result) }
+    ensures taken { TakesLines 1 line result reader.old reader.new (S.rest source.old)
+        (S.rest source.new) (S.read_faults source.old) (S.read_faults source.new) }
 {
     next_text(reader, source, line)?;
     match field.read(reader.line()) {
@@ -154,13 +138,8 @@ pub fn read_game_line<G: Game + Drop, S: Source>(
     ensures game { IfOk result (λ g. IsGame g.game_type g.moves × (length g.moves ≤ 5000)) }
     ensures fault { (fault : AnyFault) → result ≡ Err (HeadFault.BadGame fault)
         → fault ≢ GameFault.Memory }
-    ensures full { result ≡ Err HeadFault.InputFull → reader.new.taken ≡ input_limit }
-    ensures cause { HasCause (result ≡ Err HeadFault.ReadFault) (S.read_faults source.old)
-        (S.read_faults source.new) }
-    ensures bytes { in_all reader.new (S.rest source.new) ≡ in_all reader.old (S.rest source.old) }
-    ensures failed { result ≡ Err HeadFault.ReadFault → reader.new.taken < input_limit }
-    ensures read { (input : List ℕ) → HasRead input (S.rest source.old) reader.old 1
-        → HasRead input (S.rest source.new) reader.new (last_line 2 result) }
+    ensures taken { TakesLines 1 2 result reader.old reader.new (S.rest source.old)
+        (S.rest source.new) (S.read_faults source.old) (S.read_faults source.new) }
 {
     next_text(reader, source, 2)?;
     line_game::<G>(alloc, reader.line())
@@ -186,13 +165,8 @@ pub fn read_head<G: Game + Drop, S: Source>(
     ensures head { IfOk result (λ h. IsHead newest h) }
     ensures fault { (fault : AnyFault) → result ≡ Err (HeadFault.BadGame fault)
         → fault ≢ GameFault.Memory }
-    ensures full { result ≡ Err HeadFault.InputFull → reader.new.taken ≡ input_limit }
-    ensures cause { HasCause (result ≡ Err HeadFault.ReadFault) (S.read_faults source.old)
-        (S.read_faults source.new) }
-    ensures bytes { in_all reader.new (S.rest source.new) ≡ in_all reader.old (S.rest source.old) }
-    ensures failed { result ≡ Err HeadFault.ReadFault → reader.new.taken < input_limit }
-    ensures read { (input : List ℕ) → HasRead input (S.rest source.old) reader.old 0
-        → HasRead input (S.rest source.new) reader.new (last_line 5 result) }
+    ensures taken { TakesLines 5 5 result reader.old reader.new (S.rest source.old)
+        (S.rest source.new) (S.read_faults source.old) (S.read_faults source.new) }
 {
     let version = read_field(reader, source, 1, &Version { newest })?;
     let game = read_game_line::<G, S>(alloc, reader, source)?;

@@ -1,12 +1,9 @@
 //! The head of a solution.
 
-ghost use Rattle.std.specs.Prelude.{◌≡◌, ◌<◌, ℕ, List, Some, Err, IfOk};
-ghost use Rattle.io_edge.specs.Outside.{HasCause};
-ghost use Rattle.line_feed.specs.Feed.{input_limit};
+ghost use Rattle.std.specs.Prelude.{◌≡◌, List, Some, IfOk};
 ghost use Rattle.line_feed.specs.Ahead.{ahead_of};
 ghost use Rattle.hive_model.specs.Lines.{Line as AnyLine};
-ghost use Rattle.certificate_text.specs.Heads.{Reads, last_line};
-ghost use Rattle.certificate_text.specs.Taken.{HasRead};
+ghost use Rattle.certificate_text.specs.Heads.{Reads, TakesLines};
 ghost use Rattle.win_commands.specs.Verdicts.{IsHead, head_of};
 
 use crate::fields::{Answer, Plies, Version};
@@ -35,12 +32,8 @@ pub(crate) fn read_head<G: Game + Drop, S: Source>(
     ensures told { (lines : List AnyLine) → ahead_of reader.old (S.rest source.old) ≡ Some lines
         → Reads 4 result (head_of lines) lines (ahead_of reader.new (S.rest source.new)) }
     ensures head { IfOk result IsHead }
-    ensures full { result ≡ Err HeadFault.InputFull → reader.new.taken ≡ input_limit }
-    ensures cause { HasCause (result ≡ Err HeadFault.ReadFault)
-        (S.read_faults source.old) (S.read_faults source.new) }
-    ensures failed { result ≡ Err HeadFault.ReadFault → reader.new.taken < input_limit }
-    ensures read { (text : List ℕ) → HasRead text (S.rest source.old) reader.old 0
-        → HasRead text (S.rest source.new) reader.new (last_line 4 result) }
+    ensures taken { TakesLines 4 4 result reader.old reader.new (S.rest source.old)
+        (S.rest source.new) (S.read_faults source.old) (S.read_faults source.new) }
 {
     read_field(reader, source, 1, &Version)?;
     let game = read_game_line::<G, S>(alloc, reader, source)?;

@@ -1,4 +1,4 @@
-use Rattle.std.proofs.Common.{rules, ap, drop, subst, sym}
+use Rattle.std.proofs.Common.{rules, ap, drop, refl, subst, sym}
 use Rattle.std.specs.Prelude.{Result, Err}
 use Rattle.text_verdicts.specs.declared.verdict.Verdict.{Verdict}
 use Rattle.text_verdicts.specs.declared.verdict.Unread.{Unread}
@@ -18,7 +18,7 @@ returns-in-Ok g c = record {
   late = c.migrate_claim.ensures.late;
   reads = search rules;
   writes = search rules;
-  read = λ text r. c.migrate_claim.ensures.read text (c.in-Ok.ensures.read text r);
+  read = λ text r. c.migrate_claim.ensures.read text (c.in-Ok.ensures.taken.read text 0 refl r);
 }
 
 pub returns-in-Err : goal.returns-in-Err
@@ -32,5 +32,5 @@ returns-in-Err g c =
       writes = search rules;
       read = λ text r.
           subst (λ (j : Result Verdict Unread). WasReadAs 5 j text (g.S.Source.rest c.read_head.new.source)) (sym c.taken_as.ensures.judged)
-          (c.fault_verdict.ensures.read 5 text _ _ (c.in-Err.ensures.read text r) (λ e. c.in-Err.ensures.failed (ap Err e)) (λ e. c.in-Err.ensures.full (ap Err e)));
+          (c.fault_verdict.ensures.read 5 text _ _ (c.in-Err.ensures.taken.read text 0 refl r) (λ e. c.in-Err.ensures.taken.failed (ap Err e)) (λ e. c.in-Err.ensures.taken.full (ap Err e)));
     }

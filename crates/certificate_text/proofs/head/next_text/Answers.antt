@@ -1,14 +1,15 @@
-use Rattle.certificate_text.proofs.TakenLaws.{read_line}
+use Rattle.std.proofs.Common.{rules, refl}
+use Rattle.certificate_text.proofs.TakenLaws.{line-taken}
 use Rattle.certificate_text.proofs.head.next_text.Goals as goal
 
-pub returns-in-Line-clause-read : goal.returns-in-Line-clause-read
-returns-in-Line-clause-read g c = read_line c.next_line.result _ _ _ _ c.next_line.ensures.fed c.next_line.ensures.counts.bound c.next_line.ensures.little _
+pub returns-in-Line-clause-taken : goal.returns-in-Line-clause-taken
+returns-in-Line-clause-taken g c = line-taken c.next_line.result _ _ _ _ c.next_line.ensures.fed c.next_line.ensures.counts.bound c.next_line.ensures.little _ _ _ _ refl (search rules) (search rules) (search rules)
 
-pub returns-in-TooLong-clause-read : goal.returns-in-TooLong-clause-read
-returns-in-TooLong-clause-read g c = read_line c.next_line.result _ _ _ _ c.next_line.ensures.fed c.next_line.ensures.counts.bound c.next_line.ensures.little _
+pub returns-in-TooLong-clause-taken : goal.returns-in-TooLong-clause-taken
+returns-in-TooLong-clause-taken g c = line-taken c.next_line.result _ _ _ _ c.next_line.ensures.fed c.next_line.ensures.counts.bound c.next_line.ensures.little _ _ _ _ refl (search rules) (search rules) (search rules)
 
-pub returns-in-Failed-clause-read : goal.returns-in-Failed-clause-read
-returns-in-Failed-clause-read g c = read_line c.next_line.result _ _ _ _ c.next_line.ensures.fed c.next_line.ensures.counts.bound c.next_line.ensures.little _
+pub returns-in-Failed-clause-taken : goal.returns-in-Failed-clause-taken
+returns-in-Failed-clause-taken g c = line-taken c.next_line.result _ _ _ _ c.next_line.ensures.fed c.next_line.ensures.counts.bound c.next_line.ensures.little _ _ _ _ refl (search rules) (search rules) (search rules)
 
-pub returns-in-Full-clause-read : goal.returns-in-Full-clause-read
-returns-in-Full-clause-read g c = read_line c.next_line.result _ _ _ _ c.next_line.ensures.fed c.next_line.ensures.counts.bound c.next_line.ensures.little _
+pub returns-in-Full-clause-taken : goal.returns-in-Full-clause-taken
+returns-in-Full-clause-taken g c = line-taken c.next_line.result _ _ _ _ c.next_line.ensures.fed c.next_line.ensures.counts.bound c.next_line.ensures.little _ _ _ _ refl (search rules) (search rules) (search rules)
