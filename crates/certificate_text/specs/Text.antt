@@ -25,12 +25,16 @@ abbrev pub then_at : {A B : Type 0} → Option A → (A → Option B) → Option
 then_at None next = None
 then_at (Some a) next = next a
 
+-- a number in this range, behind a word
+abbrev pub number_behind : List ℕ → ℕ → ℕ → List ℕ → Option ℕ
+number_behind word least most line =
+    then_at (behind_word word line) (λ t. number_at t least most)
+
 abbrev pub version_at : ℕ → List ℕ → Option ℕ
-version_at newest line =
-    then_at (behind_word (codes "hive-certificate ") line) (λ t. number_at t 1 newest)
+version_at newest line = number_behind (codes "hive-certificate ") 1 newest line
 
 abbrev pub depth_at : List ℕ → Option ℕ
-depth_at line = then_at (behind_word (codes "depth ") line) (λ t. number_at t 1 64)
+depth_at line = number_behind (codes "depth ") 1 64 line
 
 -- something follows
 abbrev pub not_empty : List ℕ → Option (List ℕ)

@@ -17,8 +17,7 @@ ghost use Rattle.game_text.specs.Turns.{behind_word};
 ghost use Rattle.move_text.specs.Readers.{number_at};
 ghost use Rattle.search_laws.specs.Laws.{IsSmall};
 ghost use Rattle.certificate_text.specs.Text.{
-  version_at,
-  depth_at,
+  number_behind,
   move_at,
   value_at,
   int_at,
@@ -69,57 +68,33 @@ pub fn number_at(text: &[u8], least: u64, most: u64) -> Option<u64>
     read_number(text, least, most)
 }
 
-/// The version that the first line of a certificate names, from 1 to the newest.
-fn version_at(text: &[u8], newest: u32) -> Option<u32>
-    ensures version { result ≡ version_at newest text.now }
-    ensures range { IfSome result (λ v. (1 ≤ v) × (v ≤ newest)) }
+/// The number in this range that stands behind a word with which the text begins.
+fn number_behind(text: &[u8], word: &[u8], least: u32, most: u32) -> Option<u32>
+    ensures number { result ≡ number_behind word.now least most text.now }
+    ensures range { IfSome result (λ n. (least ≤ n) × (n ≤ most)) }
 {
-    let rest = behind(text, b"hive-certificate ")?;
-    let version = number_at(rest, 1, newest as u64)?;
-    Some(version as u32)
+    let rest = behind(text, word)?;
+    let number = number_at(rest, least as u64, most as u64)?;
+    Some(number as u32)
 }
 
-/// The version of a certificate, from 1 to the newest.
+/// A number in a range, behind a word.
 #[derive(Clone, Copy)]
-pub(crate) struct Version {
-    pub newest: u32,
+pub struct NumberField<'a> {
+    pub word: &'a [u8],
+    pub least: u32,
+    pub most: u32,
 }
 
-impl Field for Version {
+impl Field for NumberField<'_> {
     type Value = u32;
 
-    ghost at = { λ version line. version_at version.newest line };
+    ghost at = { λ field line. number_behind field.word.now field.least field.most line };
 
-    ghost holds = { λ version v. (1 ≤ v) × (v ≤ version.newest) };
-
-    fn read(&self, line: &[u8]) -> Result<Option<u32>, AllocError> {
-        Ok(version_at(line, self.newest))
-    }
-}
-
-/// The depth that the third line claims, from 1 to 64.
-fn depth_at(text: &[u8]) -> Option<u32>
-    ensures depth { result ≡ depth_at text.now }
-    ensures range { IfSome result (λ d. (1 ≤ d) × (d ≤ 64)) }
-{
-    let rest = behind(text, b"depth ")?;
-    let depth = number_at(rest, 1, 64)?;
-    Some(depth as u32)
-}
-
-/// The depth of a claim, from 1 to 64.
-#[derive(Clone, Copy)]
-pub(crate) struct Depth;
-
-impl Field for Depth {
-    type Value = u32;
-
-    ghost at = { λ _ line. depth_at line };
-
-    ghost holds = { λ _ d. (1 ≤ d) × (d ≤ 64) };
+    ghost holds = { λ field n. (field.least ≤ n) × (n ≤ field.most) };
 
     fn read(&self, line: &[u8]) -> Result<Option<u32>, AllocError> {
-        Ok(depth_at(line))
+        Ok(number_behind(line, self.word, self.least, self.most))
     }
 }
 

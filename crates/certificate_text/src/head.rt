@@ -16,7 +16,7 @@ ghost use Rattle.certificate_text.specs.Heads.{
   TakesLines,
 };
 
-use crate::fields::{ClaimText, ClaimValue, Depth, Field, Version};
+use crate::fields::{ClaimText, ClaimValue, Field, NumberField};
 use game_text::{GameFault, Parsed, read_game};
 use hive_model::{Game, GameType, LineText, MoveList};
 use io_edge::Source;
@@ -168,9 +168,19 @@ pub fn read_head<G: Game + Drop, S: Source>(
     ensures taken { TakesLines 5 5 result reader.old reader.new (S.rest source.old)
         (S.rest source.new) (S.read_faults source.old) (S.read_faults source.new) }
 {
-    let version = read_field(reader, source, 1, &Version { newest })?;
+    let version_field = NumberField {
+        word: b"hive-certificate ",
+        least: 1,
+        most: newest,
+    };
+    let depth_field = NumberField {
+        word: b"depth ",
+        least: 1,
+        most: 64,
+    };
+    let version = read_field(reader, source, 1, &version_field)?;
     let game = read_game_line::<G, S>(alloc, reader, source)?;
-    let depth = read_field(reader, source, 3, &Depth)?;
+    let depth = read_field(reader, source, 3, &depth_field)?;
     let claim_text = read_field(reader, source, 4, &ClaimText { alloc })?;
     let value = read_field(reader, source, 5, &ClaimValue)?;
     Ok(Head {

@@ -7,9 +7,8 @@ use Rattle.hive_model.specs.declared.places.Move.{Move}
 use Rattle.hive_model.specs.Positions.{Position, opening}
 use Rattle.hive_model.specs.Games.{replay}
 use Rattle.hive_model.specs.Strings.{string}
-use Rattle.move_text.specs.Readers.{number_at}
 use Rattle.game_text.specs.Turns.{behind_word}
-use Rattle.certificate_text.specs.Text.{then_at, written_line}
+use Rattle.certificate_text.specs.Text.{number_behind, then_at, written_line}
 use Rattle.index_writing.specs.Writing.{index_lines}
 use Rattle.win_solver.specs.Force.{force}
 use Rattle.win_solver.specs.Solution.{least_solution}
@@ -18,10 +17,10 @@ use Rattle.command_runs.specs.GameRun.{Answers}
 -- The fields of the lines
 
 abbrev pub version_at : List ℕ → Option ℕ
-version_at line = then_at (behind_word (codes "hive-solution ") line) (λ t. number_at t 1 1)
+version_at line = number_behind (codes "hive-solution ") 1 1 line
 
 abbrev pub plies_at : List ℕ → Option ℕ
-plies_at line = then_at (behind_word (codes "plies ") line) (λ t. number_at t 1 16)
+plies_at line = number_behind (codes "plies ") 1 16 line
 
 abbrev pub answer_of : List ℕ → Option Bool
 answer_of word =

@@ -6,8 +6,8 @@ ghost use Rattle.hive_model.specs.Lines.{Line as AnyLine};
 ghost use Rattle.certificate_text.specs.Heads.{Reads, TakesLines};
 ghost use Rattle.win_commands.specs.Verdicts.{IsHead, head_of};
 
-use crate::fields::{Answer, Plies, Version};
-use certificate_text::{HeadFault, read_field, read_game_line};
+use crate::fields::Answer;
+use certificate_text::{HeadFault, NumberField, read_field, read_game_line};
 use game_text::Parsed;
 use hive_model::Game;
 use io_edge::Source;
@@ -35,9 +35,19 @@ pub(crate) fn read_head<G: Game + Drop, S: Source>(
     ensures taken { TakesLines 4 4 result reader.old reader.new (S.rest source.old)
         (S.rest source.new) (S.read_faults source.old) (S.read_faults source.new) }
 {
-    read_field(reader, source, 1, &Version)?;
+    let version_field = NumberField {
+        word: b"hive-solution ",
+        least: 1,
+        most: 1,
+    };
+    let plies_field = NumberField {
+        word: b"plies ",
+        least: 1,
+        most: 16,
+    };
+    read_field(reader, source, 1, &version_field)?;
     let game = read_game_line::<G, S>(alloc, reader, source)?;
-    let plies = read_field(reader, source, 3, &Plies)?;
+    let plies = read_field(reader, source, 3, &plies_field)?;
     let answer = read_field(reader, source, 4, &Answer)?;
     Ok(Head {
         game,
