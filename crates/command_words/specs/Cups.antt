@@ -44,17 +44,22 @@ cup_choices game_type depth plies =
       repetition = None;
     }
 
--- `cup` and its options, of which the programs are required. Each game is played by the setup of a
--- match to a depth, without the rule of third repetition.
-pub record AreCupWords (words : List (String Global)) (setup : Setup) : Type 0 where
+-- the words are `cup` and its options, of which the programs are required, with these values
+pub record CupOptions (words : List (String Global)) : Type 0 where
   pub engines : List ℕ
   pub game_type : Option (List ℕ)
   pub depth : Option (List ℕ)
   pub plies : Option (List ℕ)
   pub give : Gives (map string_bytes words) (codes "cup") cup_options
       (cup_values engines game_type depth plies)
-  pub programs : ArePrograms engines
-  pub setup_is : IsSetupOf (cup_choices game_type depth plies) setup
+
+-- The words ask for a cup. Each game is played by the setup of a match to a depth, without the rule
+-- of third repetition.
+pub record AreCupWords (words : List (String Global)) (setup : Setup) : Type 0 where
+  pub options : CupOptions words
+  pub programs : ArePrograms options.engines
+  pub setup_is :
+      IsSetupOf (cup_choices options.game_type options.depth options.plies) setup
 
 -- the program that a text names: the text, and its words, which stand between its spaces
 abbrev pub engine_of : List ℕ → Engine
@@ -63,10 +68,5 @@ engine_of text = record { text = text; words = between_spaces text }
 -- The words ask for a cup of these programs, in this order: of the texts between the semicolons of
 -- the value of the option `engines`.
 pub record AskForEngines (words : List (String Global)) (engines : List Engine) : Type 0 where
-  pub text : List ℕ
-  pub game_type : Option (List ℕ)
-  pub depth : Option (List ℕ)
-  pub plies : Option (List ℕ)
-  pub give : Gives (map string_bytes words) (codes "cup") cup_options
-      (cup_values text game_type depth plies)
-  pub engines_are : engines ≡ map engine_of (program_texts text)
+  pub options : CupOptions words
+  pub engines_are : engines ≡ map engine_of (program_texts options.engines)

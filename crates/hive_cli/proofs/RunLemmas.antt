@@ -101,15 +101,8 @@ starved_starts words setup engines h = let (white, black, asked) = asks_programs
 -- the words of a cup ask for the engines that its option gives
 pub asks_engines : (words : List (String Global)) (setup : Setup) → AreCupWords words setup → (engines : List Engine) × AskForEngines words engines
 asks_engines words setup h = (
-  map engine_of (program_texts h.engines),
-  record {
-    text = h.engines;
-    game_type = h.game_type;
-    depth = h.depth;
-    plies = h.plies;
-    give = h.give;
-    engines_are = refl;
-  },
+  map engine_of (program_texts h.options.engines),
+  record { options = h.options; engines_are = refl },
 )
 
 level_is_depth : (o : Option (List ℕ)) (margin : ℕ) (level : Level) → IsLevelOf o None margin level → IsDepth level
@@ -118,7 +111,7 @@ level_is_depth (Some text) margin level (n, is, e) = subst IsDepth (sym e) tt
 
 -- a cup is played to a depth
 pub cup_depth : (words : List (String Global)) (setup : Setup) → AreCupWords words setup → IsDepth setup.level
-cup_depth words setup h = level_is_depth h.depth h.setup_is.margin setup.level h.setup_is.level
+cup_depth words setup h = level_is_depth h.options.depth h.setup_is.margin setup.level h.setup_is.level
 
 -- a match that wanted memory before a program was started
 starved_match : (words : List (String Global)) (setup : Setup) (w : World) → AreMatchWords words setup → RunOf words (Match setup) Memory w w
