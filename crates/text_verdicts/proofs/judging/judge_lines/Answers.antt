@@ -1,5 +1,5 @@
 -- What is judged of the lines to come, by whether they have a head.
-use Rattle.std.proofs.Common.{rules, ap, drop, refl, subst, sym}
+use Rattle.std.proofs.Common.{rules, ap, arith, drop, subst, sym}
 use Rattle.std.specs.Prelude.{Ok, Err}
 use Rattle.text_verdicts.specs.declared.verdict.Verdict.{Verdict}
 use Rattle.text_verdicts.specs.Reading.{Judges}
@@ -13,7 +13,7 @@ returns-in-Ok g c =
           let read = c.in-Ok.ensures.takes.told left told in
           subst (λ (v : Verdict). Judges c.judge_claim.result v) (sym (verdict-is form.head_lines form.head_of form.worth left (Ok c.in-Ok.head) read.0)) (c.judge_claim.ensures.judged (drop form.head_lines left) read.1);
       cause = search rules;
-      read = λ text r. c.judge_claim.ensures.read text (c.in-Ok.ensures.takes.taken.read text 0 refl r);
+      read = λ text r. c.judge_claim.ensures.read text (c.in-Ok.ensures.takes.taken.read text 0 (omega arith) r);
     }
 
 pub returns-in-Err : goal.returns-in-Err
@@ -21,5 +21,5 @@ returns-in-Err g c =
     let form = g.F.TextForm in record {
       judged = λ left told. fault-judges form.head_lines form.head_of form.worth left c.in-Err.fault c.fault_verdict.result _ c.fault_verdict.ensures.is (c.in-Err.ensures.takes.told left told);
       cause = search rules;
-      read = λ text r. c.fault_verdict.ensures.read form.head_lines text _ _ (c.in-Err.ensures.takes.taken.read text 0 refl r) (λ e. c.in-Err.ensures.takes.taken.failed (ap Err e)) (λ e. c.in-Err.ensures.takes.taken.full (ap Err e));
+      read = λ text r. c.fault_verdict.ensures.read form.head_lines text _ _ (c.in-Err.ensures.takes.taken.read text 0 (omega arith) r) (λ e. c.in-Err.ensures.takes.taken.failed (ap Err e)) (λ e. c.in-Err.ensures.takes.taken.full (ap Err e));
     }
