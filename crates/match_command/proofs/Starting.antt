@@ -1,5 +1,5 @@
 -- The match of two programs that were started, by what was to come.
-use Rattle.std.proofs.Common.{◌≡◌, ◌⊎◌, ℕ, ◌<◌, List, [], ◌∷◌, length, take, None, Some, refl, ap, sym, ◌∙◌, subst, inl, inr, arith}
+use Rattle.std.proofs.Common.{◌≡◌, ◌⊎◌, ℕ, ◌<◌, ◌+◌, List, [], ◌∷◌, length, take, None, Some, refl, ap, sym, ◌∙◌, subst, inl, inr, arith, length-append}
 use Rattle.io_edge.specs.Outside.{HasCause, Rose, Told, ToldLists, behind}
 use Rattle.io_edge.specs.Starts.{Engines}
 use Rattle.command_runs.specs.GameRun.{WritesAs}
@@ -10,9 +10,9 @@ use Rattle.match_core.specs.declared.answers.Setup.{Setup}
 use Rattle.match_core.specs.Standing.{Standing}
 use Rattle.match_runner.specs.Wires.{Wire}
 use Rattle.match_runner.specs.Runs.{IsLate}
-use Rattle.match_command.specs.Match.{AreFronts, AreSent, BothStarted, Gains, IsBroke, IsPlayedBy, MatchRun, MatchStarts, Means, Played, Scene, end_of, means}
+use Rattle.match_command.specs.Match.{AreFronts, AreSent, BothStarted, Gains, IsBroke, IsPlayedBy, MatchRun, MatchStarts, Means, NoneIsOpen, Played, Scene, end_of, means}
 use Rattle.match_command.specs.Texts.{match_text}
-use Rattle.match_command.specs.Wires.{PlayedOver, StartsTwo}
+use Rattle.match_command.specs.Wires.{ClosesTwo, PlayedOver, StartsTwo}
 
 -- what the links of two programs tell
 pub record TwoStarted (all : List (List ℕ)) (now : ToldLists) (w b : Wire) : Type 0 where
@@ -117,3 +117,23 @@ none_failed text status w0 w before after told same = record {
   rose = λ e. absurd (ends_so text Done SpawnFault status w0 w told (λ d. cc) (λ d. cc) e);
   same = λ n. same;
 }
+
+-- two starts took two of those to come
+two_taken : (coming later : List (List ℕ)) (ws wg bs bg : Told) → StartsTwo (Some coming) (Some later) ws wg bs bg → length coming ≡ length later + 2
+two_taken coming later ws wg bs bg (None, p, q) = absurd p
+two_taken coming later ws wg bs bg (Some mid, (white, e, wr, ww), (black, f, br, bw)) = let one = ap length e in let other = ap length f in omega (arith, one, other)
+
+-- two closes told of two more
+two_closed : (opened closed : List (List ℕ)) (w b : Told) → ClosesTwo (Some opened) (Some closed) w b → length closed ≡ length opened + 2
+two_closed opened closed w b (None, p, q) = absurd q
+two_closed opened closed w b (Some mid, (white, we, e), (black, be, f)) =
+    let one = ap length e ∙ length-append opened (white ∷ []) in
+    let other = ap length f ∙ length-append mid (black ∷ []) in
+    omega (arith, one, other)
+
+-- two programs were started, and two closed: none is left open
+pub none_open : (before between after : Engines) (ws wg bs bg w b : Told) → StartsTwo before.to_come between.to_come ws wg bs bg → after.to_come ≡ between.to_come → between.sent ≡ before.sent → ClosesTwo between.sent after.sent w b → NoneIsOpen before after
+none_open before between after ws wg bs bg w b starts stays sent closes coming later opened closed e f g h =
+    let one = two_taken coming later ws wg bs bg (subst (λ x. StartsTwo x (Some later) ws wg bs bg) e (subst (λ x. StartsTwo before.to_come x ws wg bs bg) (sym stays ∙ f) starts)) in
+    let other = two_closed opened closed w b (subst (λ x. ClosesTwo x (Some closed) w b) (sent ∙ g) (subst (λ x. ClosesTwo between.sent x w b) h closes)) in
+    omega (arith, one, other)
