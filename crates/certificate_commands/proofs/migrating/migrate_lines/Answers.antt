@@ -1,6 +1,9 @@
-use Rattle.std.proofs.Common.{rules, ap}
-use Rattle.std.specs.Prelude.{IfSome}
-use Rattle.claim_walks.specs.Answers.{CountsRefused}
+use Rattle.std.proofs.Common.{rules, ap, subst, sym}
+use Rattle.std.specs.Prelude.{ℕ, map, IfSome}
+use Rattle.hive_model.specs.Courses.{position}
+use Rattle.claim_walks.specs.Answers.{CountsBad, CountsRefused}
+use Rattle.strategy_check.specs.Trace.{checked}
+use Rattle.certificate_text.specs.Text.{index_in}
 use Rattle.strategy_check.specs.Checks.{index_faults}
 use Rattle.citing_text.specs.Migrating.{answered}
 use Rattle.certificate_commands.proofs.MigrateLaws.{read-causes}
@@ -12,7 +15,11 @@ pub returns : goal.returns
 returns g c =
     let causes = read-causes c.migrate-migrated.result _ _ _ c.migrate-migrated.ensures.items.cause in
     record {
-      told = search rules;
+      told = λ left e.
+          let claim = c.args.claim.now in
+          let bad = subst (λ (n : ℕ). IfSome (answered c.migrate-migrated.result) (λ answer. CountsBad (checked (position (g.G.Game.course c.args.game.now)) claim.depth claim.best claim.value (map index_in left)) answer n)) (sym c.lines.ensures)
+          (c.migrate-migrated.ensures.items.bad (map index_in left) (search rules) c.new-indices.ensures.none) in
+          search (rules, bad);
       late = search rules;
       reads = search (rules, causes);
       writes = search rules;
