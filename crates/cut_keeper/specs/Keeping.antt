@@ -63,21 +63,22 @@ pub record AreChanges (old new : Standings) (cs : List Change) : Type 0 where
   pub differ : (c : Change) → IsOn cs c → status_on new c.place ≢ status_on old c.place
   pub others : (p : Place) → ¬ IsOn (changed cs) p → status_on new p ≡ status_on old p
 
--- these stood for a board that is sound, and one piece was put on top of the place since
-pub record Grown (k : Standings) (b : Stacks) (p : Place) : Type 0 where
+-- these stood for a board that is sound, and one piece came or went since, as is said of that board
+-- and the piece
+pub record StoodFor (Since : Stacks → ℕ → Type 0) (k : Standings) : Type 0 where
   pub before : Stacks
   pub sound : IsBoard before
   pub stood : k ≡ keeper_of before
   pub piece : ℕ
-  pub made : b ≡ put before piece p
+  pub made : Since before piece
 
--- these stood for a board that is sound, and one piece was taken from the top of the place since
-pub record Shrunk (k : Standings) (b : Stacks) (p : Place) : Type 0 where
-  pub before : Stacks
-  pub sound : IsBoard before
-  pub stood : k ≡ keeper_of before
-  pub piece : ℕ
-  pub made : before ≡ put b piece p
+-- one piece was put on top of the place since
+abbrev pub Grown : Standings → Stacks → Place → Type 0
+Grown k b p = StoodFor (λ before piece. b ≡ put before piece p) k
+
+-- one piece was taken from the top of the place since
+abbrev pub Shrunk : Standings → Stacks → Place → Type 0
+Shrunk k b p = StoodFor (λ before piece. before ≡ put b piece p) k
 
 -- these stood for a board that is sound, and one piece was put on top of the place since, or taken
 -- from it
