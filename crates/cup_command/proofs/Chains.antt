@@ -32,12 +32,6 @@ nothing-left (x ∷ xs) e = absurd (omega (arith, e))
 
 -- What a close counts
 
-pub counts-one : (link : Wire) (before now : ℕ) → CountsFailed (link.reads + link.writes) before now → now ≡ (if has_failed link then one_more before else before)
-counts-one link before now c = elim (nat_lt 0 (link.reads + link.writes)) as (λ t. nat_lt 0 (link.reads + link.writes) ≡ t → now ≡ (if t then one_more before else before)) [
-  | true ↦ λ e. c.failed (grind (arith, nat_tests))
-  | false ↦ λ e. c.sound (grind (arith, nat_tests))
-] refl
-
 counted-most : (xs : List Wire) → counted xs (2 ^ 64 - 1) ≡ 2 ^ 64 - 1
 counted-most [] = refl
 counted-most (x ∷ xs) = elim (has_failed x) as (λ t. counted xs (if t then one_more (2 ^ 64 - 1) else 2 ^ 64 - 1) ≡ 2 ^ 64 - 1) [

@@ -51,9 +51,6 @@ with_other k p o q other = status_on-with k p o q ∙ ap (λ t. cond t o (status
 pub told_none : (k : Standings) (cs : List Change) → cs ≡ [] → IsTold k cs
 told_none k cs e = subst (IsTold k) (sym e) (record { once = tt; differ = λ c on. absurd on })
 
-pub all_told_none : (b : Stacks) (k : Standings) (cs : List Change) → cs ≡ [] → Told b k cs
-all_told_none b k cs e = record { told = told_none k cs e; right = λ p on. absurd (subst (λ ds. IsOn (changed ds) p) e on) }
-
 pub told_push : (k : Standings) (p : Place) (o : Option Status) (cs : List Change) → IsTold k cs → (IsOn (changed cs) p → status_on k p ≡ o) → status_on k p ≢ o
     → IsTold (with_status k p o) (cs ++ record { place = p; before = status_on k p } ∷ [])
 told_push k p o cs told settled differ = record {

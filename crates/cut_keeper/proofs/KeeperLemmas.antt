@@ -1,9 +1,9 @@
 -- What stands for a board, and what a piece more or less leaves as it was.
-use Rattle.std.proofs.Common.{◌≡◌, ◌≢◌, ◌↔◌, ℕ, ◌+◌, ◌≤◌, ◌<◌, Bool, true, false, cond, not, ◌&&◌, List, [], ◌∷◌, length, map, ◌⊎◌, inl, inr, refl, sym, ◌∙◌, ap, subst, arith, ℤ, pos, ◌+ℤ◌}
+use Rattle.std.proofs.Common.{◌≡◌, ◌≢◌, ◌↔◌, ℕ, ◌≤◌, ◌<◌, Bool, true, false, cond, not, ◌&&◌, List, [], ◌∷◌, length, map, ◌⊎◌, inl, inr, refl, sym, ◌∙◌, ap, subst, arith, ℤ, pos, ◌+ℤ◌}
 use Rattle.std.specs.Prelude.{Option, Some, None, is_some, unwrap_or, IsTrue, nat_eq, nat_lt}
 use Rattle.std.specs.FinMap.Entries.{find, is_sorted, below_all}
 use Rattle.std.specs.Ordering.{is_lt}
-use Rattle.std.proofs.lemmas.Bool.{eqb-true, eqb-false, eq-eqb, lt-ltb, ltb-true, ltb-false, and_parts, and_from}
+use Rattle.std.proofs.lemmas.Bool.{eqb-true, eq-eqb, lt-ltb, ltb-true, and_parts, and_from}
 use Rattle.std.proofs.lemmas.Int.{ints}
 use Rattle.hive_model.specs.declared.places.Place.{Place}
 use Rattle.hive_model.specs.declared.places.Spot.{Spot}
@@ -25,7 +25,7 @@ use Rattle.cut_keeper.specs.declared.statuses.Status.{Status}
 use Rattle.cut_keeper.specs.Rings.{ring, ring_mask, is_suspect}
 use Rattle.cut_keeper.specs.Keeping.{Standings, status_on, with_status, status_of, keeper_of, is_cut_status, KeepsCuts, InOrder, Grown}
 use Rattle.cut_keeper.specs.Slots.{AtMost, Few}
-use Rattle.cut_keeper.specs.Examining.{look, Room, Known, Right, RightButHeight, Pending, suspects}
+use Rattle.cut_keeper.specs.Examining.{look, Known, Right, RightButHeight, Pending, suspects}
 use Rattle.cut_keeper.proofs.StoreLemmas.{none_some, one_some, same_standings, status_on-with}
 use Rattle.cut_keeper.proofs.RingLaws.{arc_from, from_arc, arcs_ring, few_suspects, arc_unsuspected}
 
@@ -229,16 +229,6 @@ module _ (b c : Stacks) (is_b : IsBoard b) (is_c : IsBoard c) (p : Place) (raise
 pub suspect_occupied : (b : Stacks) (p : Place) (d : Dir) → is_suspect (ring (is_occupied b) p) d ≡ true → IsTrue (is_occupied b (step p d))
 suspect_occupied b p d h = (and_parts (is_occupied b (step p d)) _ h).0
 
-pub pending_known : (k : Standings) (b : Stacks) (p : Place) (ds : List Dir) → Pending k b p ds → Known k b
-pending_known k b p ds h q some = elim (h q) [
-  | inl right ↦ at (is_occupied b q) (ap is_some (sym right) ∙ some)
-  | inr (d, on, leads, s) ↦ ap (is_occupied b) (sym leads) ∙ suspect_occupied b p d s
-]
-  where
-    at : (t : Bool) → is_some (cond t (Some (status_of b q)) None) ≡ true → t ≡ true
-    at true h = refl
-    at false h = h
-
 pub pending_then : (k : Standings) (b : Stacks) (p : Place) (d : Dir) (ds : List Dir) → Pending k b p (d ∷ ds) → is_suspect (ring (is_occupied b) p) d ≡ true
     → Pending (with_status k (step p d) (Some (status_of b (step p d)))) b p ds
 pending_then k b p d ds h s q =
@@ -269,16 +259,6 @@ spot_done b is x t h p stands =
 
 pub spot_none : (b : Stacks) → IsBoard b → (x : ℕ) → None ≡ spot_of b x → (p : Place) → StandsAt b x p 0 → ⊥
 spot_none b is x h p stands = none_some _ (h ∙ stands_spot_of b is x p 0 stands)
-
-pub all_right : (k : Standings) (b : Stacks) → IsBoard b → Known k b → ((y : ℕ) (p : Place) → y < 28 → StandsAt b y p 0 → Right k b p) → (p : Place) → Right k b p
-all_right k b is known done p = elim (is_occupied b p) as (λ t. is_occupied b p ≡ t → Right k b p) [
-  | true ↦ λ e. let x = occupied_stands b p e in done x.0 p (is.pieces p 0 x.0 x.1) x.1
-  | false ↦ λ e. nothing (status_on k p) (λ h. let wrong : false ≡ true = sym e ∙ known p h in cc) ∙ sym (ap (λ t. cond t (Some (status_of b p)) None) e)
-] refl
-  where
-    nothing : (o : Option Status) → (is_some o ≡ true → ⊥) → o ≡ None
-    nothing None h = refl
-    nothing (Some s) h = absurd (h refl)
 
 -- A piece more
 
@@ -336,36 +316,6 @@ pub three_suspects : (c : Stacks) (p : Place) → OneArc (is_occupied c) p → s
 three_suspects c p arc = few_suspects (ring (is_occupied c) p) (from_arc (is_occupied c) p arc)
 
 -- Room for the changes
-
-pub room_enter : (c : Stacks) (n x : ℕ) → Room c n x → x < 28 → (spot_of c x ≡ None) ⊎ (n < 28)
-room_enter c n x room small = elim room as (λ _. (spot_of c x ≡ None) ⊎ (n < 28)) [
-  | inl h ↦ inr (omega (arith, h, small))
-  | inr (h, (y, below, none, when)) ↦ elim (nat_lt y x) as (λ t. nat_lt y x ≡ t → (spot_of c x ≡ None) ⊎ (n < 28)) [
-    | true ↦ λ e. let less = when (ltb-true y x e) in inr (omega (arith, less, small))
-    | false ↦ λ e. elim (nat_eq y x) as (λ t. nat_eq y x ≡ t → (spot_of c x ≡ None) ⊎ (n < 28)) [
-      | true ↦ λ f. inl (subst (λ z. spot_of c z ≡ None) (eqb-true y x f) none)
-      | false ↦ λ f. let past = ltb-false y x e in let other = eqb-false y x f in inr (omega (arith, h, past, below, other))
-    ] refl
-  ] refl
-]
-
-pub room_next : (c : Stacks) (n m x : ℕ) → Room c n x → m ≤ n + 1 → (spot_of c x ≡ None → m ≡ n) → Room c m (x + 1)
-room_next c n m x room more absent = elim room as (λ _. Room c m (x + 1)) [
-  | inl h ↦ inl (omega (arith, h, more))
-  | inr (h, (y, below, none, when)) ↦ inr (
-    omega (arith, h, more),
-    (
-      y,
-      below,
-      none,
-      λ past.
-          elim (nat_eq y x) as (λ t. nat_eq y x ≡ t → m ≤ x + 1) [
-            | true ↦ λ f. let same = absent (subst (λ z. spot_of c z ≡ None) (eqb-true y x f) none) in omega (arith, same, h)
-            | false ↦ λ f. let other = eqb-false y x f in let less : y < x = omega (arith, past, other) in let few = when less in omega (arith, few, more)
-          ] refl,
-    ),
-  )
-]
 
 -- what is kept answers for the board
 pub keeps_cuts : (b : Stacks) → IsBoard b → KeepsCuts (keeper_of b) b

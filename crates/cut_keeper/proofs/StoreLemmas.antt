@@ -416,9 +416,6 @@ drop_at [] i c h = absurd (none_some _ h)
 drop_at (d ∷ cs) zero c h = ap (λ e. e ∷ cs) (one_some _ _ h)
 drop_at (d ∷ cs) (suc i) c h = let next : suc i + 1 ≡ suc (i + 1) = omega arith in drop_at cs i c h ∙ ap (λ n. c ∷ drop n (d ∷ cs)) (sym next)
 
-pub empty_few : AtMost 28 []
-empty_few = record { places = []; short = omega arith; cover = λ p h. let wrong : false ≡ true = h in absurd (cc) }
-
 -- one change more is taken back
 pub back_one : (cs : List Change) (i : ℕ) (c : Change) (k j : Standings) → 0 < i → slice_get cs (i - 1) ≡ Some c → j ≡ undone (drop i cs) k → with_status j c.place c.before ≡ undone (drop (i - 1) cs) k
 back_one cs i c k j some at is =
