@@ -12,10 +12,10 @@ use move_text::{MoveFault, piece_name};
 use std::alloc::{AllocError, Global};
 
 /// What stands before the reason why a text is no game: `err` and the number of the refusal.
-fn before_reason(fault: GameFault) -> &'static [u8]
-    ensures { result.now ≡ before_reason fault }
+fn before_reason(fault: &GameFault) -> &'static [u8]
+    ensures { result.now ≡ before_reason fault.now }
 {
-    match fault {
+    match *fault {
         GameFault::Malformed { .. } => b"err 4 ",
         GameFault::TooLong => b"err 11 ",
         GameFault::BadMove { .. } | GameFault::IllegalMove { .. } => b"err 6 ",
@@ -30,9 +30,10 @@ pub(crate) fn refuse_game(alloc: Global, fault: GameFault) -> Result<Reply, Allo
         ≡ Some (ended (game_fault fault ∷ (codes "ok" ∷ [])))) }
     ensures memory { OnOk result (fault ≢ GameFault.Memory) }
 {
+    let start = before_reason(&fault);
     let why = reason_of(alloc, fault)?;
     let mut text = ReplyText::new(alloc);
-    text.push_all(before_reason(fault))?;
+    text.push_all(start)?;
     text.push_all(why.items())?;
     close(text)
 }
