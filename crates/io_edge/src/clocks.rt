@@ -1,6 +1,12 @@
 //! Clocks in memory, which count their readings.
 ghost use Rattle.std.specs.Prelude.{◌≡◌, ◌<◌, ◌≤◌, ◌+◌, ◌^◌, min, drop, vec_len};
-ghost use Rattle.io_edge.specs.Clocks.{StepState, ClockState, TellsTime, last_moment, reading_after};
+ghost use Rattle.io_edge.specs.Clocks.{
+  StepState,
+  ClockState,
+  TellsTime,
+  last_moment,
+  reading_after,
+};
 
 use crate::starts::Clock;
 use std::marker::Model;
