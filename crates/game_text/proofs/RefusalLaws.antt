@@ -28,7 +28,7 @@ use Rattle.game_text.specs.Refusals.{HasParts, AreNotEmpty, HasForm, IsMalformed
 use Rattle.game_text.proofs.TurnLaws.{turn_found, turn_again}
 use Rattle.game_text.proofs.FieldReads.{first, none_read}
 use Rattle.game_text.proofs.OpenLaws.{seen_by, reached_all, third_ends, not_listed, over_stops, open_stands, stands_open}
-use Rattle.game_text.proofs.OrderLaws.{moves_found, moves_again, denoted_size}
+use Rattle.game_text.proofs.OrderLaws.{Reads, moves_found, moves_again, denoted_size}
 use Rattle.game_text.proofs.StopLaws.{Stops, StopsAt, moves_stop, bad_again, illegal_again}
 use Rattle.game_text.proofs.LineLaws.{no_parts, same_state, is_state_itself, same_turn, is_turn_itself, head_read, few_read}
 
@@ -125,12 +125,25 @@ confirmed_refused r line t s u texts fault form few (Err f) e k =
     subst (IsRefusedUnder r line) same (stopped r line t s u texts f form few (moves_stop r (keys t []) (opening t) texts 1 0 f start.0 start.1 low e))
 confirmed_refused r line t s u texts fault form few (Ok ms) e k = states (is_state s (outcome_under r t ms)) refl (is_turn_of u (replay (opening t) ms)) refl k
   where
-    whole : IsReadWhole r line t s u ms
-    whole =
+    found : Reads r (keys t []) (opening t) texts ms
+    found =
         let start = openings t in
         let low : 0 + length texts ≤ 9000 = omega (arith, few) in
-        let found = moves_found r (keys t []) (opening t) texts 1 0 ms start.0 start.1 low e in
-        record { texts = texts; form = form; few = few; denote = found.denote; legal = found.legal; stands = open_stands r t ms found.legal found.yet }
+        moves_found r (keys t []) (opening t) texts 1 0 ms start.0 start.1 low e
+
+    whole : IsReadWhole r line
+    whole = record {
+      game_type = t;
+      declared = s;
+      turn = u;
+      texts = texts;
+      made = ms;
+      form = form;
+      few = few;
+      denote = found.denote;
+      legal = found.legal;
+      stands = open_stands r t ms found.legal found.yet;
+    }
 
     other_state : is_state s (outcome_under r t ms) ≡ false → s ≢ outcome_under r t ms
     other_state f same = let wrong = sym f ∙ ap (λ (z : State). is_state z (outcome_under r t ms)) same ∙ is_state_itself (outcome_under r t ms) in cc
@@ -143,10 +156,10 @@ confirmed_refused r line t s u texts fault form few (Ok ms) e k = states (is_sta
     states true e1 true f1 k1 = absurd (cc)
     states true e1 false f1 k1 =
         let same : ◌≡◌ {A = GameFault} OtherTurn fault = cc in
-        subst (IsRefusedUnder r line) same (record { game_type = t; declared = s; turn = u; made = ms; read = whole; same = same_state s (outcome_under r t ms) e1; other = other_turn f1 })
+        subst (IsRefusedUnder r line) same (record { read = whole; same = same_state s (outcome_under r t ms) e1; other = other_turn f1 })
     states false e1 b f1 k1 =
         let same : ◌≡◌ {A = GameFault} OtherState fault = cc in
-        subst (IsRefusedUnder r line) same (record { game_type = t; declared = s; turn = u; made = ms; read = whole; other = other_state e1 })
+        subst (IsRefusedUnder r line) same (record { read = whole; other = other_state e1 })
 
 pub refused_found : (r : Bool) (line : List ℕ) (fault : GameFault) → game_under r line ≡ Err fault → IsRefusedUnder r line fault
 unfolding game_under
@@ -250,8 +263,19 @@ front_fits : (front behind : List (List ℕ)) (text : List ℕ) → length front
 front_fits [] behind text = omega arith
 front_fits (x ∷ xs) behind text = let rest = front_fits xs behind text in omega (arith, rest)
 
-whole_again : (r : Bool) (line : List ℕ) (t : GameType) (s : State) (u : Turn) (ms : List Move) → IsReadWhole r line t s u ms → game_under r line ≡ confirmed r t s u (Ok ms)
-whole_again r line t s u ms h = formed r line t s u h.texts h.form h.few ∙ ap (confirmed r t s u) (moves_again r (keys t []) (opening t) h.texts 1 ms h.denote h.legal (stands_open r t ms h.stands))
+whole_again : (r : Bool) (line : List ℕ) (h : IsReadWhole r line) → game_under r line ≡ confirmed r h.game_type h.declared h.turn (Ok h.made)
+whole_again r line h =
+    formed r line h.game_type h.declared h.turn h.texts h.form h.few
+    ∙ ap (confirmed r h.game_type h.declared h.turn)
+    (moves_again r (keys h.game_type []) (opening h.game_type) h.texts 1 h.made h.denote h.legal (stands_open r h.game_type h.made h.stands))
+
+-- what is told of a line that was read whole, by whether its turn is that of the game
+by_turn : {r : Bool} {line : List ℕ} → IsReadWhole r line → Bool → Result Parsed GameFault
+by_turn h b = if b then Ok (record { game_type = h.game_type; moves = h.made }) else Err OtherTurn
+
+-- the same, by whether its state is the outcome of the game
+by_state : {r : Bool} {line : List ℕ} → IsReadWhole r line → Bool → Result Parsed GameFault
+by_state h b = if b then by_turn h (is_turn_of h.turn (replay (opening h.game_type) h.made)) else Err OtherState
 
 not_state : (s e : State) → s ≢ e → is_state s e ≡ false
 not_state s e h = go (is_state s e) refl
@@ -276,6 +300,7 @@ no_move r t ms m (inl none) = not_listed r (seen_by (keys t []) (opening t) ms) 
 no_move r t ms m (inr over) = over_stops r t ms (seen_by (keys t []) (opening t) ms) (replay (opening t) ms) m (reached_all t ms) over
 
 pub refused_again : (r : Bool) (line : List ℕ) (fault : GameFault) → IsRefusedUnder r line fault → game_under r line ≡ Err fault
+unfolding by_state by_turn
 refused_again r line (Malformed k) h = malformed_again r line k h
 refused_again r line TooLong h =
     head_read r line h.game_type h.declared h.turn h.texts h.form.parts_are
@@ -297,15 +322,12 @@ refused_again r line (IllegalMove n) h =
     ∙ ap (confirmed r h.game_type w.declared w.turn)
     (illegal_again r (keys h.game_type []) (opening h.game_type) w.front h.made h.text w.behind 1 n h.move w.denote w.legal (stands_open r h.game_type h.made w.stands) w.counted h.denotes
     (no_move r h.game_type h.made h.move h.illegal))
-refused_again r line OtherState h =
-    whole_again r line h.game_type h.declared h.turn h.made h.read
-    ∙ ap (λ (b : Bool). if b then (if is_turn_of h.turn (replay (opening h.game_type) h.made) then Ok (record { game_type = h.game_type; moves = h.made }) else Err OtherTurn) else Err OtherState)
-    (not_state h.declared (outcome_under r h.game_type h.made) h.other)
+refused_again r line OtherState h = whole_again r line h.read ∙ ap (by_state h.read) (not_state h.read.declared (outcome_under r h.read.game_type h.read.made) h.other)
 refused_again r line OtherTurn h =
-    whole_again r line h.game_type h.declared h.turn h.made h.read
-    ∙ ap (λ (b : Bool). if b then (if is_turn_of h.turn (replay (opening h.game_type) h.made) then Ok (record { game_type = h.game_type; moves = h.made }) else Err OtherTurn) else Err OtherState)
-    (ap (λ (z : State). is_state z (outcome_under r h.game_type h.made)) h.same ∙ is_state_itself (outcome_under r h.game_type h.made))
-    ∙ ap (λ (b : Bool). if b then Ok (record { game_type = h.game_type; moves = h.made }) else Err OtherTurn) (not_turn_of h.turn (replay (opening h.game_type) h.made) h.other)
+    let w = h.read in
+    whole_again r line w
+    ∙ ap (by_state w) (ap (λ (z : State). is_state z (outcome_under r w.game_type w.made)) h.same ∙ is_state_itself (outcome_under r w.game_type w.made))
+    ∙ ap (by_turn w) (not_turn_of w.turn (replay (opening w.game_type) w.made) h.other)
 refused_again r line Memory h = absurd h
 
 -- For the call

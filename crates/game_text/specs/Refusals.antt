@@ -123,34 +123,29 @@ pub record IsIllegalMove (r : Bool) (line : List ℕ) (number : ℕ) : Type 0 wh
       ⊎ IsTrue (is_over_state (outcome_under r game_type made))
 
 -- the line has its form and at most 5,000 moves, which are a game, none of them after its end
-pub record IsReadWhole (r : Bool) (line : List ℕ) (t : GameType) (s : State) (u : Turn)
-    (ms : List Move) : Type 0 where
+pub record IsReadWhole (r : Bool) (line : List ℕ) : Type 0 where
+  pub game_type : GameType
+  pub declared : State
+  pub turn : Turn
   pub texts : List (List ℕ)
-  pub form : HasForm line t s u texts
+  pub made : List Move
+  pub form : HasForm line game_type declared turn texts
   pub few : length texts ≤ 5000
-  pub denote : DenoteMoves (opening t) texts ms
-  pub legal : IsGame t ms
-  pub stands : StandsUnder r t ms
+  pub denote : DenoteMoves (opening game_type) texts made
+  pub legal : IsGame game_type made
+  pub stands : StandsUnder r game_type made
 
 -- the declared state is not the outcome of the game
 pub record IsOtherState (r : Bool) (line : List ℕ) : Type 0 where
-  pub game_type : GameType
-  pub declared : State
-  pub turn : Turn
-  pub made : List Move
-  pub read : IsReadWhole r line game_type declared turn made
-  pub other : declared ≢ outcome_under r game_type made
+  pub read : IsReadWhole r line
+  pub other : read.declared ≢ outcome_under r read.game_type read.made
 
 -- the declared state is the outcome of the game, and the declared turn is not that of the game
 pub record IsOtherTurn (r : Bool) (line : List ℕ) : Type 0 where
-  pub game_type : GameType
-  pub declared : State
-  pub turn : Turn
-  pub made : List Move
-  pub read : IsReadWhole r line game_type declared turn made
-  pub same : declared ≡ outcome_under r game_type made
-  pub other : ¬ ((turn.side ≡ (replay (opening game_type) made).side)
-      × (turn.number ≡ (replay (opening game_type) made).turn))
+  pub read : IsReadWhole r line
+  pub same : read.declared ≡ outcome_under r read.game_type read.made
+  pub other : ¬ ((read.turn.side ≡ (replay (opening read.game_type) read.made).side)
+      × (read.turn.number ≡ (replay (opening read.game_type) read.made).turn))
 
 -- The line is refused with this fault, where the rule of third repetition is switched on or off.
 -- Want of memory is none of the line.
