@@ -11,7 +11,7 @@ mod spiders;
 mod steps;
 mod ways;
 
-ghost use Rattle.std.specs.Prelude.{◌≡◌, ◌≢◌, ◌<◌, []};
+ghost use Rattle.std.specs.Prelude.{◌≡◌, ◌≢◌, []};
 ghost use Rattle.hive_model.specs.declared.pieces.Kind.{Kind};
 ghost use Rattle.hive_model.specs.declared.pieces.Kind.TheVariants.{Mosquito};
 ghost use Rattle.hive_model.specs.PlaceLists.{AreAll};
@@ -58,20 +58,9 @@ pub fn reach<B: Board>(kind: Kind, board: &B, from: Place, out: &mut PlaceList)
 #[cfg(test)]
 mod tests {
     use crate::reach;
-    use hive_model::{Board, Kind, Piece, Place, PlaceList};
+    use hive_model::{Kind, Piece, Place, PlaceList};
     use stack_board::PlainBoard;
     use std::test::Fail;
-
-    /// Puts a piece, unless it stands there already.
-    fn stand(board: &mut PlainBoard, index: u8, place: Place)
-        requires piece { index < 28 }
-        requires within { IsWithin 9000 place }
-    {
-        let piece = Piece::at(index);
-        if board.spot(piece).is_none() {
-            board.put(piece, place);
-        }
-    }
 
     fn finds(board: &PlainBoard, kind: Kind, from: Place, wanted: &[Place]) -> bool
         requires kind { kind ≢ Mosquito }
@@ -85,8 +74,8 @@ mod tests {
     #[test]
     fn beside_two_pieces(rt: HostRuntime) -> Result<(), Fail> {
         let mut board = PlainBoard::new(rt.alloc())?;
-        stand(&mut board, 1, Place { q: 0, r: 0 });
-        stand(&mut board, 15, Place { q: 1, r: 0 });
+        board.put(Piece::at(1), Place { q: 0, r: 0 });
+        board.put(Piece::at(15), Place { q: 1, r: 0 });
         let from = Place { q: -1, r: 0 };
         let steps = [Place { q: -1, r: 1 }, Place { q: 0, r: -1 }];
         assert!(rt; finds(&board, Kind::Queen, from, &steps));
@@ -104,8 +93,8 @@ mod tests {
     #[test]
     fn round_two_pieces(rt: HostRuntime) -> Result<(), Fail> {
         let mut board = PlainBoard::new(rt.alloc())?;
-        stand(&mut board, 1, Place { q: 0, r: 0 });
-        stand(&mut board, 15, Place { q: 1, r: 0 });
+        board.put(Piece::at(1), Place { q: 0, r: 0 });
+        board.put(Piece::at(15), Place { q: 1, r: 0 });
         let from = Place { q: -1, r: 0 };
         let spiders = [Place { q: 1, r: 1 }, Place { q: 2, r: -1 }];
         assert!(rt; finds(&board, Kind::Spider, from, &spiders));
@@ -141,12 +130,12 @@ mod tests {
             Place { q: 1, r: -1 },
             Place { q: 1, r: 0 },
         ];
-        stand(&mut board, 0, ring[0]);
-        stand(&mut board, 1, ring[1]);
-        stand(&mut board, 2, ring[2]);
-        stand(&mut board, 3, ring[3]);
-        stand(&mut board, 14, ring[4]);
-        stand(&mut board, 15, ring[5]);
+        board.put(Piece::at(0), ring[0]);
+        board.put(Piece::at(1), ring[1]);
+        board.put(Piece::at(2), ring[2]);
+        board.put(Piece::at(3), ring[3]);
+        board.put(Piece::at(14), ring[4]);
+        board.put(Piece::at(15), ring[5]);
         let middle = Place { q: 0, r: 0 };
         assert!(rt; finds(&board, Kind::Ant, middle, &[]));
         assert!(rt; finds(&board, Kind::Beetle, middle, &ring));

@@ -3,7 +3,7 @@
 //! The board is always the one from which the mosquito was lifted.
 #![tactic(auto)]
 
-ghost use Rattle.std.specs.Prelude.{◌≡◌, ◌≢◌, ◌<◌, [], Some};
+ghost use Rattle.std.specs.Prelude.{◌≡◌, ◌≢◌, [], Some};
 ghost use Rattle.hive_model.specs.declared.pieces.Kind.{Kind};
 ghost use Rattle.hive_model.specs.declared.pieces.Kind.TheVariants.{Mosquito};
 ghost use Rattle.hive_model.specs.PlaceLists.{AreAll};
@@ -112,20 +112,9 @@ pub fn mosquito_reach<B: Board>(board: &B, from: Place, out: &mut PlaceList)
 #[cfg(test)]
 mod tests {
     use crate::mosquito_reach;
-    use hive_model::{Board, Piece, Place, PlaceList};
+    use hive_model::{Piece, Place, PlaceList};
     use stack_board::PlainBoard;
     use std::test::Fail;
-
-    /// Puts a piece, unless it stands there already.
-    fn stand(board: &mut PlainBoard, index: u8, place: Place)
-        requires piece { index < 28 }
-        requires within { IsWithin 9000 place }
-    {
-        let piece = Piece::at(index);
-        if board.spot(piece).is_none() {
-            board.put(piece, place);
-        }
-    }
 
     fn finds(board: &PlainBoard, from: Place, wanted: &[Place]) -> bool
         requires { IsWithin 9500 from }
@@ -138,7 +127,7 @@ mod tests {
     #[test]
     fn beside_a_mosquito(rt: HostRuntime) -> Result<(), Fail> {
         let mut board = PlainBoard::new(rt.alloc())?;
-        stand(&mut board, 25, Place { q: 1, r: 0 });
+        board.put(Piece::at(25), Place { q: 1, r: 0 });
         assert!(rt; finds(&board, Place { q: 0, r: 0 }, &[]));
         Ok(())
     }
@@ -146,8 +135,8 @@ mod tests {
     #[test]
     fn on_a_spider_beside_an_ant(rt: HostRuntime) -> Result<(), Fail> {
         let mut board = PlainBoard::new(rt.alloc())?;
-        stand(&mut board, 15, Place { q: 0, r: 0 });
-        stand(&mut board, 22, Place { q: 1, r: 0 });
+        board.put(Piece::at(15), Place { q: 0, r: 0 });
+        board.put(Piece::at(22), Place { q: 1, r: 0 });
         let around = [
             Place { q: -1, r: 0 },
             Place { q: -1, r: 1 },
