@@ -1,6 +1,6 @@
 //! Bugs of one step: the queen, the pillbug and the beetle.
 
-ghost use Rattle.std.specs.Prelude.{◌≡◌, ◌↔◌, IsTrue};
+ghost use Rattle.std.specs.Prelude.{◌↔◌, IsTrue};
 ghost use Rattle.hive_model.specs.Boards.{is_occupied};
 ghost use Rattle.hive_model.specs.Places.{AreNeighbours, IsWithin};
 ghost use Rattle.hive_model.specs.Steps.{GroundStep, ClimbingStep};

@@ -9,7 +9,7 @@ use Rattle.strategy_check.specs.declared.answers.Why.{Why}
 use Rattle.claim_walks.specs.declared.answers.Halt.TheVariants.{Bad, Failed, Full}
 use Rattle.claim_walks.specs.declared.answers.Checked.{Checked}
 use Rattle.claim_walks.specs.declared.answers.Checked.TheVariants.{Accepted, Refused as CheckRefused, Halted as CheckHalted}
-use Rattle.strategy_check.specs.Trace.{Steps, Holds, checked}
+use Rattle.strategy_check.specs.Trace.{Holds, checked}
 use Rattle.strategy_lemmas.specs.Short.{ShortSteps, short}
 use Rattle.citing_text.specs.declared.draft.Draft.{Draft}
 use Rattle.citing_text.specs.declared.migrating.Migrated.{Migrated}

@@ -1,6 +1,6 @@
 //! How a walk takes indices and writes tokens: it cites wherever something that was shown serves.
 
-ghost use Rattle.std.specs.Prelude.{◌≡◌, ◌≤◌, [], Some, refl};
+ghost use Rattle.std.specs.Prelude.{◌≡◌, [], Some, refl};
 ghost use Rattle.hive_model.specs.Keys.{key};
 ghost use Rattle.hive_model.specs.Minimax.{IsInner, value};
 ghost use Rattle.hive_model.specs.Courses.{position};

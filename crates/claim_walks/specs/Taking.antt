@@ -5,7 +5,6 @@ use Rattle.claim_walks.specs.Follows.{Ending, Shown}
 use Rattle.claim_walks.specs.Items.{Supply}
 use Rattle.claim_walks.specs.Parts.{Parts}
 use Rattle.claim_walks.specs.Answers.{Faults, ReadCauses, ending, IsOfWalk, CountsOn, Causes, EndsAs}
-use Rattle.claim_walks.specs.declared.items.ItemAnswer.{ItemAnswer}
 use Rattle.claim_walks.specs.declared.answers.Halt.TheVariants.{Bad, Failed, Full}
 use Rattle.claim_walks.specs.declared.answers.Stop.{Stop}
 use Rattle.claim_walks.specs.declared.answers.Stop.TheVariants.{Refuses as StopRefuses, Halts as StopHalts}

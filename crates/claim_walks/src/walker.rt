@@ -1,6 +1,6 @@
 //! Who takes the tokens of a walk.
 
-ghost use Rattle.std.specs.Prelude.{◌≡◌, ◌≤◌, ◌↔◌, IsTrue, ⊤};
+ghost use Rattle.std.specs.Prelude.{◌≡◌, ◌↔◌, IsTrue, ⊤};
 ghost use Rattle.hive_model.specs.Courses.{position};
 ghost use Rattle.hive_model.specs.Minimax.{IsInner, value};
 ghost use Rattle.search_laws.specs.Laws.{IsSmall};

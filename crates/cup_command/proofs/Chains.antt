@@ -1,10 +1,9 @@
 -- Chains of starts and of closes.
 use Rattle.std.proofs.Common.{◌≡◌, inl, inr, ℕ, ◌-◌, ◌+◌, ◌^◌, List, [], ◌∷◌, ◌++◌, length, Some, None, true, false, refl, ap, sym, ◌∙◌, arith, subst, length-append}
-use Rattle.std.specs.Prelude.{if◌then◌else◌, nat_lt}
+use Rattle.std.specs.Prelude.{if◌then◌else◌}
 use Rattle.std.proofs.lemmas.Bool.{cases_lt}
-use Rattle.std.proofs.lemmas.Bool.Decides.{nat_tests}
 use Rattle.std.proofs.lemmas.List.Sums.{sum_by-cons}
-use Rattle.io_edge.specs.Outside.{ToldLists, CountsFailed, one_more}
+use Rattle.io_edge.specs.Outside.{ToldLists, one_more}
 use Rattle.io_edge.specs.Starts.{Engines}
 use Rattle.match_command.specs.Match.{NoneIsOpen}
 use Rattle.match_runner.specs.Wires.{Wire}

@@ -1,13 +1,12 @@
 //! The two tests of a step from a place to a neighbour, over any board.
 #![tactic(auto)]
 
-ghost use Rattle.std.specs.Prelude.{◌≡◌, ◌↔◌, IsTrue, nat_lt, max, ◌&&◌, not};
-ghost use Rattle.hive_model.specs.Boards.{Stacks, height_at, is_occupied};
-ghost use Rattle.hive_model.specs.Places.{AreNeighbours, IsWithin, step, is_place};
+ghost use Rattle.std.specs.Prelude.{◌≡◌, ◌↔◌, IsTrue, max, ◌&&◌};
+ghost use Rattle.hive_model.specs.Boards.{is_occupied};
+ghost use Rattle.hive_model.specs.Places.{AreNeighbours, IsWithin, step};
 ghost use Rattle.gates.specs.Beside.{is_beside_one};
 ghost use Rattle.hive_model.specs.Steps.{
   GroundStep,
-  ClimbingStep,
   is_ground_step,
   is_blocked,
   ground_at,

@@ -5,9 +5,6 @@ use Rattle.io_edge.specs.Outside.{Told, behind}
 use Rattle.hive_model.specs.declared.places.Move.{Move}
 use Rattle.hive_model.specs.Positions.{Position}
 use Rattle.hive_model.specs.Games.{after}
-use Rattle.hive_model.specs.Legal.{moves}
-use Rattle.hive_model.specs.Courses.{Course, position}
-use Rattle.hive_model.specs.Stack.{Levels, level_of}
 use Rattle.hive_model.specs.Minimax.{value}
 use Rattle.search_laws.specs.Laws.{IsSmall}
 use Rattle.claim_walks.specs.declared.limit.Limit.{Limit}

@@ -1,7 +1,6 @@
 -- Counts over a list of games.
-use Rattle.std.proofs.Common.{◌≡◌, ℕ, zero, suc, ◌+◌, ◌-◌, ◌≤◌, ◌<◌, List, [], ◌∷◌, ◌++◌, length, take, drop, refl, sym, ◌∙◌, ap, subst, arith, Some, None, inl, inr}
-use Rattle.std.specs.Prelude.{Option, slice_get, slice_index}
-use Rattle.std.specs.List.{sum_by}
+use Rattle.std.proofs.Common.{◌≡◌, ℕ, suc, ◌+◌, ◌-◌, ◌≤◌, ◌<◌, List, [], ◌∷◌, ◌++◌, length, sym, ◌∙◌, ap, arith, Some, inl, inr}
+use Rattle.std.specs.Prelude.{slice_get, slice_index}
 use Rattle.std.proofs.lemmas.List.Sums.{sum_by-append}
 use Rattle.std.proofs.lemmas.Option.{get_or_from_slice_get}
 use Rattle.hive_model.specs.declared.places.Move.{Move}
@@ -12,7 +11,7 @@ use Rattle.hive_model.specs.Legal.{moves}
 use Rattle.hive_model.specs.Games.{after}
 use Rattle.hive_model.specs.Keys.{key}
 use Rattle.hive_model.proofs.GetLemmas.{get_within, get_exists}
-use Rattle.opening_book.specs.Book.{Played, Counts, IsTally, IsBook, IsBookMove, count, line_count, ply_count}
+use Rattle.opening_book.specs.Book.{Played, Counts, IsTally, IsBookMove, count, line_count, ply_count}
 use Rattle.opening_book.specs.Plies.{IsMost}
 
 -- a number at a place, both ways

@@ -1,20 +1,7 @@
 //! Counts over the plies of a played game.
 
-ghost use Rattle.std.specs.Prelude.{
-  ◌≡◌,
-  ℕ,
-  ◌+◌,
-  ◌^◌,
-  ◌<◌,
-  ◌≤◌,
-  [],
-  length,
-  slice_get,
-  IsTrue,
-  Some,
-};
+ghost use Rattle.std.specs.Prelude.{◌≡◌, ℕ, ◌+◌, ◌^◌, ◌<◌, ◌≤◌, [], length, slice_get, Some};
 ghost use Rattle.std.specs.Prelude.{slice_index, slice_index_or, None};
-ghost use Rattle.std.specs.List.{All};
 ghost use Rattle.hive_model.specs.declared.places.Move.{Move};
 ghost use Rattle.hive_model.specs.declared.places.Place.{Place};
 ghost use Rattle.hive_model.specs.Places.{IsWithin};

@@ -2,7 +2,6 @@
 
 ghost use Rattle.std.specs.Prelude.{
   ◌≡◌,
-  ℕ,
   ◌+◌,
   ◌-◌,
   ◌^◌,
@@ -15,8 +14,7 @@ ghost use Rattle.std.specs.Prelude.{
   false,
   IfOk,
 };
-ghost use Rattle.std.specs.Prelude.{slice_get, slice_index, Some, List};
-ghost use Rattle.std.specs.List.{All};
+ghost use Rattle.std.specs.Prelude.{Some, List};
 ghost use Rattle.hive_model.specs.Positions.{Position};
 ghost use Rattle.hive_model.specs.Legal.{is_over};
 ghost use Rattle.hive_model.specs.Courses.{position};

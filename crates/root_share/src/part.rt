@@ -1,6 +1,6 @@
 //! The workers, run by halving their list.
 
-ghost use Rattle.std.specs.Prelude.{◌≡◌, ◌+◌, length};
+ghost use Rattle.std.specs.Prelude.{◌+◌};
 ghost use Rattle.std.specs.Thread.{IsSync, IsSend};
 ghost use Rattle.root_share.specs.Part.{MayRun, HaveRun};
 

@@ -1,6 +1,6 @@
 //! What the steps of workers at a root come to.
 
-ghost use Rattle.std.specs.Prelude.{◌≡◌, ◌+◌, ◌<◌, ◌≤◌, [], ◌∷◌, ◌++◌, length, IfOk, None};
+ghost use Rattle.std.specs.Prelude.{◌≡◌, ◌+◌, ◌<◌, [], ◌∷◌, ◌++◌, length, IfOk, None};
 ghost use Rattle.std.specs.Prelude.{slice_index_or};
 ghost use Rattle.root_share.specs.Run.{Run, bound_of, MayFollow, IsBestChild, IsBestBefore};
 ghost use Rattle.root_share.specs.Run.{better_of, exact_value, raised};

@@ -1,6 +1,6 @@
 //! Whether the positions of two keys are alike.
 
-ghost use Rattle.std.specs.Prelude.{◌≡◌, ◌↔◌, ◌<◌, IsTrue, IfSome, Some};
+ghost use Rattle.std.specs.Prelude.{◌≡◌, ◌<◌, IsTrue, IfSome, Some};
 ghost use Rattle.hive_model.specs.Places.{IsWithin};
 ghost use Rattle.symmetry.specs.Images.{shifted};
 ghost use Rattle.symmetry.specs.Shifts.{AreInPlane, IsShift, HasSameTurn, between, IsAsked};

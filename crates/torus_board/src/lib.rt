@@ -25,7 +25,6 @@ ghost use Rattle.hive_model.specs.Boards.{
   height_at,
   top_at,
   spot_of,
-  under_of,
   put,
   lift,
   is_on_top,

@@ -1,4 +1,4 @@
-use Rattle.std.proofs.Common.{◌≡◌, ◌<◌, ◌≤◌, ◌+◌, drop, subst, sym, ◌∙◌, ap, arith, rules, length}
+use Rattle.std.proofs.Common.{◌≡◌, ◌+◌, drop, subst, ◌∙◌, ap, arith, length}
 use Rattle.std.specs.Prelude.{slice_index, ◌-◌}
 use Rattle.opening_book.specs.Book.{ply_count, line_count}
 use Rattle.hive_model.specs.Boards.{IsBoard}

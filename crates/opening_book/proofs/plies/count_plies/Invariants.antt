@@ -1,9 +1,8 @@
 use Rattle.std.specs.Prelude.{◌≡◌, ℕ, ◌+◌, ◌-◌, ◌<◌, ◌≤◌, Some, slice_get, slice_index, length, take, drop}
 use Rattle.hive_model.specs.declared.places.Move.{Move}
 use Rattle.hive_model.specs.Boards.{IsBoard}
-use Rattle.hive_model.specs.Positions.{Position, opening}
+use Rattle.hive_model.specs.Positions.{Position}
 use Rattle.hive_model.specs.Keys.{key}
-use Rattle.hive_model.specs.Games.{replay}
 use Rattle.hive_model.specs.Courses.{Course, position}
 use Rattle.opening_book.specs.Book.{line_count}
 use Rattle.opening_book.proofs.plies.count_plies.Given as goal

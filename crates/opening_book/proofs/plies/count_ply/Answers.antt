@@ -1,5 +1,5 @@
-use Rattle.std.proofs.Common.{◌≡◌, ◌≢◌, ℕ, ◌+◌, ◌<◌, ◌≤◌, sym, ◌∙◌, ap, subst, arith, Some, rules}
-use Rattle.std.specs.Prelude.{slice_get, slice_index, slice_set}
+use Rattle.std.proofs.Common.{◌≡◌, ◌≢◌, ℕ, ◌+◌, sym, ◌∙◌, ap, arith, Some}
+use Rattle.std.specs.Prelude.{slice_get, slice_index}
 use Rattle.hive_model.specs.declared.places.Move.{Move}
 use Rattle.hive_model.proofs.GetLemmas.{get_within}
 use Rattle.opening_book.specs.Plies.{is_taken_to, one_if}

@@ -1,4 +1,4 @@
-use Rattle.std.specs.Prelude.{◌≡◌, ℕ, ◌+◌, ◌<◌, ◌≤◌, Some, slice_get, slice_index, length}
+use Rattle.std.specs.Prelude.{◌≡◌, ℕ, ◌+◌, ◌<◌, ◌≤◌, Some, slice_get, slice_index}
 use Rattle.hive_model.specs.declared.places.Move.{Move}
 use Rattle.opening_book.specs.Plies.{is_taken_to, one_if}
 use Rattle.opening_book.proofs.plies.count_ply.Given as goal

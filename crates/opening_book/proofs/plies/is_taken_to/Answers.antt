@@ -1,4 +1,4 @@
-use Rattle.std.proofs.Common.{◌≡◌, ℕ, ◌<◌, ◌+◌, sym, ◌∙◌, subst, ap, arith, inl, inr, false, None, slice_index_or}
+use Rattle.std.proofs.Common.{sym, ◌∙◌, ap, arith, inl, inr, false, None, slice_index_or}
 use Rattle.std.proofs.lemmas.Bool.{cases_eq}
 use Rattle.symmetry.specs.Takes.{takes_by}
 use Rattle.opening_book.proofs.PlyLaws.{taken_found, taken_none}

@@ -1,4 +1,4 @@
-use Rattle.std.proofs.Common.{◌≡◌, rules, arith, ◌∙◌, ap, sym, add-one, ◌++◌, ◌∷◌, [], take, suc, ◌+◌}
+use Rattle.std.proofs.Common.{◌≡◌, arith, ◌∙◌, ap, sym, ◌++◌, ◌∷◌, [], take, suc, ◌+◌}
 use Rattle.hive_model.specs.Stack.{level_of}
 use Rattle.opening_book.proofs.PlyLaws.{take_next}
 use Rattle.opening_book.proofs.tally.listed.Goals as goal

@@ -1,4 +1,4 @@
-use Rattle.std.proofs.Common.{◌≡◌, ◌<◌, ◌+◌, ◌++◌, ℕ, List, take, drop, subst, sym, ◌∙◌, ap, arith, rules, length}
+use Rattle.std.proofs.Common.{◌≡◌, ◌+◌, ◌++◌, take, drop, ◌∙◌, ap, arith, length}
 use Rattle.std.specs.Prelude.{slice_get, slice_index}
 use Rattle.hive_model.specs.Positions.{opening}
 use Rattle.opening_book.specs.Book.{Counts, line_count}

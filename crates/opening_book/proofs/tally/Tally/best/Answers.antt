@@ -1,4 +1,4 @@
-use Rattle.std.proofs.Common.{◌≡◌, ◌<◌, subst, sym, ◌∙◌, ap, arith, rules, length, List, ℕ, Some}
+use Rattle.std.proofs.Common.{◌≡◌, ◌<◌, subst, sym, ◌∙◌, ap, arith, length, List, ℕ, Some}
 use Rattle.std.specs.Prelude.{slice_get}
 use Rattle.opening_book.specs.Book.{Counts}
 use Rattle.opening_book.specs.Plies.{IsMost}
