@@ -1,4 +1,5 @@
-// Lines of streams in memory, in pieces of several sizes.
+//! Lines of streams in memory, in pieces of several sizes.
+
 use crate::{LineAnswer, LineReader};
 use io_edge::MemSource;
 use std::alloc::Global;
