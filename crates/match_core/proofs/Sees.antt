@@ -7,7 +7,7 @@ use Rattle.hive_model.specs.Keys.{key}
 use Rattle.hive_model.specs.Courses.{Course, position, with_move, without_last}
 use Rattle.game_text.specs.declared.seen.Seen.{Seen}
 use Rattle.game_text.specs.Seen.{Sees}
-use Rattle.game_text.proofs.SeenLaws.{seen_few, sees_on, sees_same}
+use Rattle.game_text.proofs.SeenLaws.{seen_few, sees_on}
 use Rattle.game_text.proofs.WriteLaws.{taken_size}
 use Rattle.match_core.specs.declared.answers.Task.{Task}
 use Rattle.match_core.specs.declared.answers.Task.TheVariants.{Greet, Begin, Ask, Tell}
@@ -65,19 +65,6 @@ noted seen new game h same pushed =
     let next : game ≡ with_move (without_last game) last.0 = λ i. record { game_type = game.game_type; made = last.1 i; spare = (let e : game.spare ≡ game.spare + 1 - 1 = omega arith in e) i } in
     sees_on seen.repetition new.repetition seen.keys new.keys (without_last game) game last.0 h.keys next same pushed
 
--- a move is made, and its key is not yet kept
+-- without its last move, a list of moves is what it was before that move
 pub taken_back : (ms : List Move) (m : Move) → take (length (ms ++ m ∷ []) - 1) (ms ++ m ∷ []) ≡ ms
 taken_back ms m = take_at ms (m ∷ []) _ (omega (arith, length-append ms (m ∷ [])))
-
-made_some : (ms : List Move) (m : Move) → 1 ≤ length (ms ++ m ∷ [])
-made_some [] m = omega arith
-made_some (k ∷ ms) m = omega arith
-
-pub before_made : (seen : Seen) (old game : Course) (m : Move) → Sees seen old → game ≡ with_move old m → SeesBefore seen game
-before_made seen old game m h moved =
-    let kind : old.game_type ≡ game.game_type = ap (λ (z : Course). z.game_type) (sym moved) in
-    let made : game.made ≡ old.made ++ m ∷ [] = ap (λ (z : Course). z.made) moved in
-    let size = ap length made in
-    let some = made_some old.made m in
-    let back : old.made ≡ take (length game.made - 1) game.made = sym (ap (λ (ms : List Move). take (length ms - 1) ms) made ∙ taken_back old.made m) in
-    record { made = omega (arith, size, some); keys = sees_same seen old (without_last game) kind back h }
