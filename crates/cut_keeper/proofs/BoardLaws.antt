@@ -10,7 +10,7 @@ use Rattle.hive_model.proofs.BoardLemmas.{spot_of_stands, spot_within, stands_sp
 use Rattle.hive_model.proofs.CountLaws.{places_few}
 use Rattle.hive_model.proofs.BackLaws.{put_lift}
 use Rattle.cut_keeper.specs.declared.statuses.Change.{Change}
-use Rattle.cut_keeper.proofs.StoreLemmas.{none_some}
+use Rattle.cut_keeper.proofs.StandingLemmas.{none_some}
 use Rattle.cut_keeper.specs.Keeping.{Standings, status_of, keeper_of, undone, Shrunk}
 
 -- the board of before is the one with the piece put back

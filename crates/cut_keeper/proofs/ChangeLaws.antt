@@ -10,7 +10,7 @@ use Rattle.cut_keeper.specs.declared.statuses.Status.{Status}
 use Rattle.cut_keeper.specs.declared.statuses.Change.{Change}
 use Rattle.cut_keeper.specs.Keeping.{Standings, status_on, with_status, status_of, undone, changed, IsOnce, AreChanges}
 use Rattle.cut_keeper.specs.Examining.{look, IsTold, Told}
-use Rattle.cut_keeper.proofs.StoreLemmas.{status_on-with}
+use Rattle.cut_keeper.proofs.StandingLemmas.{status_on-with}
 
 -- The places of changes
 

@@ -26,7 +26,7 @@ use Rattle.cut_keeper.specs.Rings.{ring, ring_mask, is_suspect}
 use Rattle.cut_keeper.specs.Keeping.{Standings, status_on, with_status, status_of, keeper_of, is_cut_status, KeepsCuts, InOrder, Grown}
 use Rattle.cut_keeper.specs.Slots.{AtMost, Few}
 use Rattle.cut_keeper.specs.Examining.{look, Known, Right, RightButHeight, Pending, suspects}
-use Rattle.cut_keeper.proofs.StoreLemmas.{none_some, one_some, same_standings, status_on-with}
+use Rattle.cut_keeper.proofs.StandingLemmas.{none_some, one_some, same_standings, status_on-with}
 use Rattle.cut_keeper.proofs.RingLaws.{arc_from, from_arc, arcs_ring, few_suspects, arc_unsuspected}
 
 -- What stands for a board, by lookups

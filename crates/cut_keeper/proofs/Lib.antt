@@ -1,4 +1,5 @@
 pub mod RingLaws
+pub mod StandingLemmas
 pub mod StoreLemmas
 pub mod ChangeLaws
 pub mod KeeperLemmas

@@ -16,7 +16,7 @@ use Rattle.arc_law.proofs.ArcBoards.{IsRaised, raised_put}
 use Rattle.cut_keeper.specs.Rings.{ring, is_suspect}
 use Rattle.cut_keeper.specs.Keeping.{Standings, status_on, with_status, status_of, Shrunk}
 use Rattle.cut_keeper.specs.Examining.{look, Known, Right, RightButHeight, Pending}
-use Rattle.cut_keeper.proofs.StoreLemmas.{status_on-with}
+use Rattle.cut_keeper.proofs.StandingLemmas.{status_on-with}
 use Rattle.cut_keeper.proofs.KeeperLemmas.{status_on-keeper_of, look_occupied, step_apart, separating_high, look_high, ring_same, look_or_suspect}
 
 module _ (k : Standings) (c : Stacks) (p : Place) (is : IsBoard c) (shrunk : Shrunk k c p) where

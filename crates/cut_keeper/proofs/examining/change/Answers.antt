@@ -2,7 +2,7 @@ use Rattle.std.proofs.Common.{◌≡◌, sym, ◌∙◌, ap, subst, [], ◌∷�
 use Rattle.cut_keeper.specs.Keeping.{undone, with_status, changed}
 use Rattle.cut_keeper.specs.Examining.{IsTold}
 use Rattle.hive_model.specs.Lists.{IsOn}
-use Rattle.cut_keeper.proofs.StoreLemmas.{with_itself, undone_push}
+use Rattle.cut_keeper.proofs.StandingLemmas.{with_itself, undone_push}
 use Rattle.cut_keeper.proofs.ChangeLaws.{told_push, on_pushed}
 use Rattle.cut_keeper.proofs.examining.change.Goals as goal
 

@@ -3,7 +3,7 @@ use Rattle.hive_model.specs.Boards.{StandsAt, spot_of}
 use Rattle.hive_model.proofs.BoardLemmas.{spot_of_stands, stands_occupied}
 use Rattle.cut_keeper.specs.Examining.{Right, Known}
 use Rattle.cut_keeper.specs.Keeping.{status_of}
-use Rattle.cut_keeper.proofs.StoreLemmas.{none_some}
+use Rattle.cut_keeper.proofs.StandingLemmas.{none_some}
 use Rattle.cut_keeper.proofs.KeeperLemmas.{spot_done, spot_none, right_with, known_with}
 use Rattle.cut_keeper.proofs.examining.examine_piece.Goals as goal
 

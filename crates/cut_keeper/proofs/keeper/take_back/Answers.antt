@@ -1,6 +1,6 @@
 use Rattle.std.proofs.Common.{◌≤◌, ◌-◌, sym, ◌∙◌, subst, arith, ℕ}
 use Rattle.cut_keeper.specs.Slots.{Few}
-use Rattle.cut_keeper.proofs.StoreLemmas.{back_one, back_few}
+use Rattle.cut_keeper.proofs.StandingLemmas.{back_one, back_few}
 use Rattle.cut_keeper.proofs.keeper.take_back.Goals as goal
 
 pub set-requires : goal.set-requires

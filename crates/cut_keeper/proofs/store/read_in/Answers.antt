@@ -2,7 +2,8 @@ use Rattle.std.proofs.Common.{◌≡◌, sym, ◌∙◌, ap, None, Option}
 use Rattle.std.proofs.lemmas.Option.{slice_get-get_or}
 use Rattle.hive_model.proofs.GetLemmas.{get_within}
 use Rattle.std.specs.Prelude.{Some}
-use Rattle.cut_keeper.proofs.StoreLemmas.{none_some, one_some, read_some, read_none, position_gets, status_on-standings}
+use Rattle.cut_keeper.proofs.StandingLemmas.{none_some, one_some}
+use Rattle.cut_keeper.proofs.StoreLemmas.{read_some, read_none, position_gets, status_on-standings}
 use Rattle.cut_keeper.proofs.store.read_in.Goals as goal
 
 pub returns-in-Some-slots : goal.returns-in-Some-slots

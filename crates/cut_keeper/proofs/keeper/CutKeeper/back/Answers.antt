@@ -1,7 +1,7 @@
 use Rattle.std.proofs.Common.{sym, ◌∙◌, ap, subst}
 use Rattle.cut_keeper.specs.Slots.{AtMost}
 use Rattle.cut_keeper.specs.Keeping.{undone}
-use Rattle.cut_keeper.proofs.StoreLemmas.{few_long}
+use Rattle.cut_keeper.proofs.StandingLemmas.{few_long}
 use Rattle.cut_keeper.proofs.keeper.CutKeeper.back.Goals as goal
 
 pub invariant_of-self : goal.invariant_of-self
