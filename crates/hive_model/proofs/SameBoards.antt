@@ -57,14 +57,6 @@ boards_tested a b = (
 
 -- The last key
 
-pub last_pushed : {X : Type 0} (xs : List X) (x : X) → slice_get (xs ++ x ∷ []) (length xs) ≡ Some x
-last_pushed [] x = refl
-last_pushed (y ∷ ys) x = last_pushed ys x
-
-pub size_pushed : {X : Type 0} (xs : List X) (x : X) → length (xs ++ x ∷ []) ≡ suc (length xs)
-size_pushed [] x = refl
-size_pushed (y ∷ ys) x = ap suc (size_pushed ys x)
-
 pub count_at : (ks : List KeyParts) (k : KeyParts) → slice_get ks (length ks - 1) ≡ Some k → count_same k ks ≡ count_last ks
 unfolding count_last
 count_at ks k e = sym (ap (λ o. count_found o ks) e)
