@@ -1,4 +1,4 @@
-use Rattle.std.proofs.Common.{◌≡◌, ◌-◌, length, ap, arith, ◌∙◌}
+use Rattle.std.proofs.Common.{◌≡◌, length, ap, arith, ◌∙◌}
 use Rattle.hive_model.specs.Legal.{moves}
 use Rattle.hive_model.specs.Courses.{position}
 use Rattle.search_laws.specs.Laws.{IsSmall}
@@ -6,7 +6,6 @@ use Rattle.search_laws.proofs.Signs.{neg-is}
 use Rattle.search_laws.proofs.MinimaxLaws.{wider}
 use Rattle.claim_walks.proofs.LevelLaws.{can-again, place-reply, replies-again}
 use Rattle.claim_walks.proofs.FollowLaws.{before-stops, high-stops, low-stops, all-goes, before-is, high-is, low-is, behind-is, root-shown, one-less, place-low}
-use Rattle.claim_walks.specs.Parts.{ending_of}
 use Rattle.claim_walks.proofs.NodeLaws.{not-shown, is-done, is-shown, part-goes-on}
 use Rattle.claim_walks.proofs.root.walk_root.Goals as goal
 
@@ -14,15 +13,9 @@ pub returns-then-not-is_done-clause-told : goal.returns-then-not-is_done-clause-
 returns-then-not-is_done-clause-told g c =
     let R = g.W.Walker.rules in
     let V = g.W.Walker.sight in
-    let p = position (g.G.Game.course c.args.game.now) in
-    let e = c.args.claim.now.depth - 1 in
-    let k = c.args.place in
     let v = c.args.claim.now.value in
-    let s0 = g.W.Walker.seen c.args.walker.now in
-    let s1 = g.W.Walker.seen c.walk_moves-before.new.walker in
-    let w = ending_of R g.W.Walker.ending c.walk_moves-before.result in
-    before-stops R V p e k c.args.claim.now.best v s0 s1 w (not-shown R g.W.Walker.ending g.met.W.Walker.ends_short _ _ c.is_done.ensures c.if-not-is_done.true)
-    (before-is R V p e k v _ s0 s1 w (one-less v c.requires.claim.small) c.walk_moves-before.ensures.told)
+    before-stops R V _ _ _ c.args.claim.now.best v _ (g.W.Walker.seen c.walk_moves-before.new.walker) _ (not-shown R g.W.Walker.ending g.met.W.Walker.ends_short _ _ c.is_done.ensures c.if-not-is_done.true)
+    (before-is R V _ _ _ v _ _ _ _ (one-less v c.requires.claim.small) c.walk_moves-before.ensures.told)
 
 pub walk_child-high-requires-clause-can : goal.walk_child-high-requires-clause-can
 walk_child-high-requires-clause-can g c =
@@ -32,22 +25,12 @@ pub returns-then-not-is_done-2-clause-told : goal.returns-then-not-is_done-2-cla
 returns-then-not-is_done-2-clause-told g c =
     let R = g.W.Walker.rules in
     let V = g.W.Walker.sight in
-    let start = g.G.Game.course c.args.game.now in
-    let p = position start in
-    let e = c.args.claim.now.depth - 1 in
-    let k = c.args.place in
-    let m = c.args.claim.now.best in
     let v = c.args.claim.now.value in
     let small : IsSmall 1000100 v = wider 1000064 1000100 v (omega arith) c.requires.claim.small in
-    let s0 = g.W.Walker.seen c.args.walker.now in
-    let s1 = g.W.Walker.seen c.walk_moves-before.new.walker in
-    let s2 = g.W.Walker.seen c.walk_child-high.new.walker in
-    let w = ending_of R g.W.Walker.ending c.walk_moves-before.result in
-    let x = ending_of R g.W.Walker.ending c.walk_child-high.result in
-    high-stops R V p e k m v s0 s1 s2 w x (is-shown R g.W.Walker.ending _ _ c.is_done.ensures c.if-not-is_done.false)
-    (before-is R V p e k v _ s0 s1 w (one-less v c.requires.claim.small) c.walk_moves-before.ensures.told)
+    high-stops R V _ _ _ _ _ _ _ _ _ _ (is-shown R g.W.Walker.ending _ _ c.is_done.ensures c.if-not-is_done.false)
+    (before-is R V _ _ _ v _ _ _ _ (one-less v c.requires.claim.small) c.walk_moves-before.ensures.told)
     (not-shown R g.W.Walker.ending g.met.W.Walker.ends_short _ _ c.is_done-2.ensures c.if-not-is_done-2.true)
-    (high-is R V start _ e m v _ s1 s2 x c.walk_moves-before.ensures.game (neg-is v small) c.walk_child-high.ensures.told)
+    (high-is R V _ _ _ _ _ _ _ _ _ c.walk_moves-before.ensures.game (neg-is v small) c.walk_child-high.ensures.told)
 
 pub walk_child-low-requires-clause-can : goal.walk_child-low-requires-clause-can
 walk_child-low-requires-clause-can g c =
@@ -66,26 +49,14 @@ pub returns-then-not-is_done-3-clause-told : goal.returns-then-not-is_done-3-cla
 returns-then-not-is_done-3-clause-told g c =
     let R = g.W.Walker.rules in
     let V = g.W.Walker.sight in
-    let start = g.G.Game.course c.args.game.now in
-    let p = position start in
-    let e = c.args.claim.now.depth - 1 in
-    let k = c.args.place in
-    let m = c.args.claim.now.best in
     let v = c.args.claim.now.value in
     let small : IsSmall 1000100 v = wider 1000064 1000100 v (omega arith) c.requires.claim.small in
-    let s0 = g.W.Walker.seen c.args.walker.now in
-    let s1 = g.W.Walker.seen c.walk_moves-before.new.walker in
-    let s2 = g.W.Walker.seen c.walk_child-high.new.walker in
-    let s3 = g.W.Walker.seen c.walk_child-low.new.walker in
-    let w = ending_of R g.W.Walker.ending c.walk_moves-before.result in
-    let x = ending_of R g.W.Walker.ending c.walk_child-high.result in
-    let y = ending_of R g.W.Walker.ending c.walk_child-low.result in
-    low-stops R V p e k m v s0 s1 s2 s3 w x y (is-shown R g.W.Walker.ending _ _ c.is_done.ensures c.if-not-is_done.false)
-    (before-is R V p e k v _ s0 s1 w (one-less v c.requires.claim.small) c.walk_moves-before.ensures.told)
+    low-stops R V _ _ _ _ _ _ _ _ _ _ _ _ (is-shown R g.W.Walker.ending _ _ c.is_done.ensures c.if-not-is_done.false)
+    (before-is R V _ _ _ v _ _ _ _ (one-less v c.requires.claim.small) c.walk_moves-before.ensures.told)
     (is-shown R g.W.Walker.ending _ _ c.is_done-2.ensures c.if-not-is_done-2.false)
-    (high-is R V start _ e m v _ s1 s2 x c.walk_moves-before.ensures.game (neg-is v small) c.walk_child-high.ensures.told)
+    (high-is R V _ _ _ _ _ _ _ _ _ c.walk_moves-before.ensures.game (neg-is v small) c.walk_child-high.ensures.told)
     (not-shown R g.W.Walker.ending g.met.W.Walker.ends_short _ _ c.is_done-3.ensures c.if-not-is_done-3.true)
-    (low-is R V start _ e m v _ s2 s3 y (c.walk_child-high.ensures.game ∙ c.walk_moves-before.ensures.game) (neg-is v small) c.walk_child-low.ensures.told)
+    (low-is R V _ _ _ _ _ _ _ _ _ (c.walk_child-high.ensures.game ∙ c.walk_moves-before.ensures.game) (neg-is v small) c.walk_child-low.ensures.told)
 
 pub overflow_add-place : goal.overflow_add-place
 overflow_add-place g c =
@@ -116,32 +87,16 @@ pub returns-clause-told : goal.returns-clause-told
 returns-clause-told g c =
     let R = g.W.Walker.rules in
     let V = g.W.Walker.sight in
-    let start = g.G.Game.course c.args.game.now in
-    let p = position start in
-    let e = c.args.claim.now.depth - 1 in
-    let k = c.args.place in
-    let m = c.args.claim.now.best in
     let v = c.args.claim.now.value in
     let small : IsSmall 1000100 v = wider 1000064 1000100 v (omega arith) c.requires.claim.small in
-    let all : c.level_len-count.result ≡ length (moves p) = c.level_len-count.ensures ∙ ap length c.requires.replies.listed in
-    let e1 = c.walk_moves-before.ensures.game in
-    let e2 = c.walk_child-high.ensures.game ∙ e1 in
-    let s0 = g.W.Walker.seen c.args.walker.now in
-    let s1 = g.W.Walker.seen c.walk_moves-before.new.walker in
-    let s2 = g.W.Walker.seen c.walk_child-high.new.walker in
-    let s3 = g.W.Walker.seen c.walk_child-low.new.walker in
-    let s4 = g.W.Walker.seen c.walk_moves.new.walker in
-    let w = ending_of R g.W.Walker.ending c.walk_moves-before.result in
-    let x = ending_of R g.W.Walker.ending c.walk_child-high.result in
-    let y = ending_of R g.W.Walker.ending c.walk_child-low.result in
-    let z = ending_of R g.W.Walker.ending c.walk_moves.result in
-    all-goes R V p e k m v s0 s1 s2 s3 s4 w x y z (is-shown R g.W.Walker.ending _ _ c.is_done.ensures c.if-not-is_done.false)
-    (before-is R V p e k v _ s0 s1 w (one-less v c.requires.claim.small) c.walk_moves-before.ensures.told)
+    let e2 = c.walk_child-high.ensures.game ∙ c.walk_moves-before.ensures.game in
+    all-goes R V _ _ _ _ _ _ _ _ _ _ _ _ _ _ (is-shown R g.W.Walker.ending _ _ c.is_done.ensures c.if-not-is_done.false)
+    (before-is R V _ _ _ v _ _ _ _ (one-less v c.requires.claim.small) c.walk_moves-before.ensures.told)
     (is-shown R g.W.Walker.ending _ _ c.is_done-2.ensures c.if-not-is_done-2.false)
-    (high-is R V start _ e m v _ s1 s2 x e1 (neg-is v small) c.walk_child-high.ensures.told)
+    (high-is R V _ _ _ _ _ _ _ _ _ c.walk_moves-before.ensures.game (neg-is v small) c.walk_child-high.ensures.told)
     (is-shown R g.W.Walker.ending _ _ c.is_done-3.ensures c.if-not-is_done-3.false)
-    (low-is R V start _ e m v _ s2 s3 y e2 (neg-is v small) c.walk_child-low.ensures.told)
-    (behind-is R V start _ e k c.level_len-count.result v _ s3 s4 z (c.walk_child-low.ensures.game ∙ e2) (neg-is v small) all c.walk_moves.ensures.told)
+    (low-is R V _ _ _ _ _ _ _ _ _ e2 (neg-is v small) c.walk_child-low.ensures.told)
+    (behind-is R V _ _ _ _ c.level_len-count.result _ _ _ _ _ (c.walk_child-low.ensures.game ∙ e2) (neg-is v small) (c.level_len-count.ensures ∙ ap length c.requires.replies.listed) c.walk_moves.ensures.told)
 
 pub returns-then-not-is_done-2-clause-part : goal.returns-then-not-is_done-2-clause-part
 returns-then-not-is_done-2-clause-part g c = part-goes-on g.W.Walker.parts _ _ _ _ _ _ c.is_done.ensures c.if-not-is_done.false c.walk_moves-before.ensures.part c.walk_child-high.ensures.part
