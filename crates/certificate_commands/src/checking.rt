@@ -144,13 +144,13 @@ impl TextForm for Certificates {
 /// may stand for an index.
 ///
 /// It writes `accepted` and is `Done` where they show that the move is the best one at that depth
-/// and is worth V, and none is left over. Else it writes `refused`, `move`, `index`, `cite`, `leaf`,
-/// `short` or `rest`, and how many were taken, and is `Refused`; `refused move 0` where the text
-/// denotes no legal move. Where the text is none of this form, a line that begins with `bad`
-/// says so, and it is `BadInput`: the first of the first five lines that is missing, too long or
-/// not of its form, what is wrong with the game, that the game is over, or the first line that is
-/// no index where one is taken. A read that fails, a full input and want of memory end the run with
-/// nothing written.
+/// and is worth V, and none is left over. Else it writes `refused`, one of `move`, `index`, `cite`,
+/// `leaf`, `short` and `rest`, and how many were taken, and is `Refused`; `refused move 0` where
+/// the text denotes no legal move. Where the text is none of this form, a line that begins with
+/// `bad` says so, and it is `BadInput`: the first of the first five lines that is missing, too long
+/// or not of its form, what is wrong with the game, that the game is over, or the first line that
+/// is no index where one is taken. A read that fails, a full input and want of memory end the run
+/// with nothing written.
 pub fn check<S: Source, K: Sink, G: Game + Drop>(
     alloc: Global,
     input: &mut S,

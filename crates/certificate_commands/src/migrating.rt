@@ -1,6 +1,20 @@
 //! Certificates become certificates that cite.
 
-ghost use Rattle.std.specs.Prelude.{◌≡◌, ◌≢◌, ◌+◌, ◌≤◌, ◌↔◌, ℕ, ℤ, List, map, Option, Some, IfSome, Err};
+ghost use Rattle.std.specs.Prelude.{
+  ◌≡◌,
+  ◌≢◌,
+  ◌+◌,
+  ◌≤◌,
+  ◌↔◌,
+  ℕ,
+  ℤ,
+  List,
+  map,
+  Option,
+  Some,
+  IfSome,
+  Err,
+};
 ghost use Rattle.io_edge.specs.Outside.{HasCause, Told as AnyTold};
 ghost use Rattle.line_feed.specs.Feed.{Reading};
 ghost use Rattle.hive_model.specs.Lines.{lines};

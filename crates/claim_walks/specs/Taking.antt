@@ -34,7 +34,8 @@ pub record Taking {T W : Type 0} (kinds : Faults W) (answer : Option (WalkAnswer
     (a b : Moment T) : Type 0 where
   pub names : b.names ≡ a.names
   pub cause : PartCauses answer a.items.faults b.items.faults b.items.full
-  pub counted : IfSome answer (λ walked. CountsOn walked a.items.count b.items.count a.taken b.taken)
+  pub counted : IfSome answer
+      (λ walked. CountsOn walked a.items.count b.items.count a.taken b.taken)
   pub lenders : b.items.lenders ≡ a.items.lenders
   pub known : (input : List ℕ) (before : ℕ) → a.items.known input before
       → b.items.known input before
@@ -89,7 +90,9 @@ pub goes-then : {T W : Type 0} (kinds : Faults W) (answer : Option (WalkAnswer W
     (a b c : Moment T) → GoesOn kinds a b → Taking kinds answer b c → Taking kinds answer a c
 goes-then kinds answer a b c first later = record {
   names = later.names ∙ first.names;
-  cause = subst (λ n. PartCauses answer n c.items.faults c.items.full) (first.cause.same (λ e. cc)) later.cause;
+  cause =
+      subst (λ n. PartCauses answer n c.items.faults c.items.full)
+      (first.cause.same (λ e. cc)) later.cause;
   counted =
       counts-then answer a.items.count b.items.count c.items.count a.taken b.taken c.taken
       first.counted later.counted;

@@ -39,7 +39,8 @@ pub trait TextForm {
     ///
     /// # Errors
     ///
-    /// The first fault of the lines, a failed read, a reader that takes no more, and want of memory.
+    /// The first fault of the lines, a failed read, a reader that takes no more, and want of
+    /// memory.
     fn read_head<S: Source, G: Game + Drop>(
         &self,
         alloc: Global,
