@@ -19,7 +19,7 @@ use Rattle.hive_model.proofs.MoveLaws.{moves_legal}
 use Rattle.rule_laws.proofs.Games.{listed_keep, games_sound}
 use Rattle.hive_model.specs.Spread.{IsSpread}
 use Rattle.board_game.proofs.SpreadLaws.{spread_of_hive}
-use Rattle.board_game.specs.Replayed.{IsLoose, CanMake, WasMade, IsReplayed, origin_of, origins}
+use Rattle.board_game.specs.Replayed.{CanBeTaken, CanMake, WasMade, IsReplayed, origin_of, origins}
 
 -- The end of a list
 
@@ -78,7 +78,7 @@ rest_last p (n ∷ k ∷ ms) m h =
 
 -- A legal move can be made
 
-loose_pair : (p : Position) (x : ℕ) (q : Place) → LegalPair p x q → IsLoose p.board x
+loose_pair : (p : Position) (x : ℕ) (q : Place) → LegalPair p x q → CanBeTaken p.board x
 loose_pair p x q h = elim h [
   | inl placed ↦ inl placed.next.in_hand.off
   | inr (queen, moved) ↦ elim moved [

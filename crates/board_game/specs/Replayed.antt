@@ -28,8 +28,8 @@ origins p [] = []
 origins p (m ∷ ms) = origin_of p.board m ∷ origins (after p m) ms
 
 -- the piece is in hand, or on top of its place
-abbrev pub IsLoose : Stacks → ℕ → Type 0
-IsLoose b x =
+abbrev pub CanBeTaken : Stacks → ℕ → Type 0
+CanBeTaken b x =
     (spot_of b x ≡ None) ⊎ ((s : Spot) × (spot_of b x ≡ Some s)
     × (s.level + 1 ≡ height_at b s.place))
 
@@ -38,7 +38,7 @@ IsLoose b x =
 abbrev pub CanMake : Stacks → Move → Type 0
 CanMake b Pass = IsBoard b
 CanMake b (To x q) =
-    IsBoard b × (x < 28) × IsLoose b x × IsWithin 9000 q × IsSpread 32 b
+    IsBoard b × (x < 28) × CanBeTaken b x × IsWithin 9000 q × IsSpread 32 b
     × IsSpread 32 (put (without b x) x q)
 
 -- the move was made on the board b, its piece came from there, and c is what it left

@@ -3,14 +3,14 @@
 ghost use Rattle.std.specs.Prelude.{◌≡◌};
 ghost use Rattle.hive_model.specs.Boards.{Stacks, IsBoard, without, place_in};
 ghost use Rattle.hive_model.specs.Games.{after_board};
-ghost use Rattle.board_game.specs.Replayed.{IsLoose, CanMake, WasMade, origin_of};
+ghost use Rattle.board_game.specs.Replayed.{CanBeTaken, CanMake, WasMade, origin_of};
 
 use hive_model::{GameBoard, Move, Piece, Place};
 
 /// Takes the piece from its place, if it is on the board, and answers the place.
 fn take<B: GameBoard>(board: &mut B, piece: Piece) -> Option<Place>
     requires board { IsBoard (B.stacks board.old) }
-    requires loose { IsLoose (B.stacks board.old) piece }
+    requires loose { CanBeTaken (B.stacks board.old) piece }
     ensures board { B.stacks board.new ≡ without (B.stacks board.old) piece }
     ensures from { result ≡ place_in (B.stacks board.old) piece }
 {

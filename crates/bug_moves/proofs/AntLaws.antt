@@ -17,7 +17,7 @@ use Rattle.hive_model.proofs.GetLemmas.{get_within, get_exists, get_in_front, on
 use Rattle.bug_moves.specs.Adding.{IsAround, Gains}
 use Rattle.bug_moves.proofs.Gaining.{gains_toward}
 use Rattle.bug_moves.proofs.AtHive.{ground_at_hive, at_hive_within}
-use Rattle.bug_moves.specs.Walks.{StepAwayToward, AntWay, IsWorklist, Begins, IsExpanded}
+use Rattle.bug_moves.specs.Walks.{StepAwayToward, AntWay, IsWorklist, Extends, IsExpanded}
 use Rattle.bug_moves.specs.Ways.{StepAway}
 
 -- A new place
@@ -53,7 +53,7 @@ worklist_with p found work new_found new_work h new f w = record {
 pub room_to_push : (p : Place) (found work : List Place) (n : ℕ) → IsWorklist found work → (¬ IsOn found p) → length (with_place p found) ≤ n → length work < n
 room_to_push p found work n h new room = let one = length_with p found new in let same = h.many in omega (arith, one, same, room)
 
-pub begins_with : (p : Place) (work new_work : List Place) → new_work ≡ work ++ p ∷ [] → Begins work new_work
+pub begins_with : (p : Place) (work new_work : List Place) → new_work ≡ work ++ p ∷ [] → Extends work new_work
 begins_with p work new_work w k q at = subst (λ xs. slice_get xs k ≡ Some q) (sym w) (get_in_front work (p ∷ []) k q at)
 
 -- a list gains the place of a step that leads away from s
@@ -87,7 +87,7 @@ expanded_first b s xs found work none h = record {
   others = λ k low p q at is. absurd (omega (arith, low));
 }
 
-pub expanded_next : (b : Stacks) (s place : Place) (found work found' work' : List Place) (n : ℕ) → IsWorklist found work → IsExpanded b s found work n → slice_get work n ≡ Some place → Gains b (StepAway b s place) found found' → Begins work work' → IsExpanded b s found' work' (n + 1)
+pub expanded_next : (b : Stacks) (s place : Place) (found work found' work' : List Place) (n : ℕ) → IsWorklist found work → IsExpanded b s found work n → slice_get work n ≡ Some place → Gains b (StepAway b s place) found found' → Extends work work' → IsExpanded b s found' work' (n + 1)
 expanded_next b s place found work found' work' n list h at gains begins = record {
   list = gains.list;
   ways = λ q on. elim (gains.only q on) [

@@ -22,8 +22,8 @@ pub record IsWorklist (found work : List Place) : Type 0 where
   pub many : length work ≡ length found
 
 -- the second list begins with the first
-abbrev pub Begins : List Place → List Place → Type 0
-Begins old new = (k : ℕ) (q : Place) → slice_get old k ≡ Some q → slice_get new k ≡ Some q
+abbrev pub Extends : List Place → List Place → Type 0
+Extends old new = (k : ℕ) (q : Place) → slice_get old k ≡ Some q → slice_get new k ≡ Some q
 
 -- each step from one of the first n places of the worklist, or from s, leads to s or to a place
 -- that was found

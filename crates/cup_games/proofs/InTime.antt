@@ -20,7 +20,7 @@ use Rattle.match_core.specs.declared.answers.Verdict.{Verdict}
 use Rattle.match_core.specs.declared.answers.Verdict.TheVariants.{Rules, Limit, Forfeit}
 use Rattle.match_core.specs.Replies.{is_ok, is_error}
 use Rattle.match_core.specs.Texts.{read_of}
-use Rattle.match_core.specs.Standing.{Standing, Happening, Sent, Line, TooLong, Ended, Broke, Reading, start, next, after_all, position_of, go, finish, ask, judge, judge_read, decide, accept, first_line, at_stage, keep, reply_ends, hear, question, forfeit, answered, outcome_of}
+use Rattle.match_core.specs.Standing.{Standing, Happening, Sent, Line, TooLong, Ended, Broke, Reading, start, next, after_all, position_now, go, finish, ask, judge, judge_read, decide, accept, first_line, at_stage, keep, reply_ends, hear, question, forfeit, answered, outcome_of}
 use Rattle.match_core.proofs.Fair.{either}
 use Rattle.match_runner.specs.Wires.{Watch}
 use Rattle.match_runner.specs.Turns.{Side}
@@ -50,7 +50,7 @@ asks_at s (Time budget margin) side d t = absurd d
 
 asks : (s : Standing) → InTime s → InTime (ask s)
 unfolding ask
-asks s t = asks_at s s.setup.level (position_of s).side t.depth t
+asks s t = asks_at s s.setup.level (position_now s).side t.depth t
 
 decides : (s : Standing) → InTime s → InTime (decide s)
 unfolding decide
@@ -60,15 +60,15 @@ decides s t =
     (λ e. either InTime (nat_le s.setup.limit (length s.moves)) (finish s Limit) (ask s) (λ f. finishes s Limit (λ x. x) t) (λ f. asks s t))
 
 judges_as : (s : Standing) (line : List ℕ) (o : Result Move MoveFault) → InTime s → InTime (judge_read s line o)
-judges_as s line (Err fault) t = finishes s (Forfeit (position_of s).side (NotAMove line)) (λ x. x) t
+judges_as s line (Err fault) t = finishes s (Forfeit (position_now s).side (NotAMove line)) (λ x. x) t
 judges_as s line (Ok m) t =
-    either InTime (is_listed (position_of s) m) (accept s m) (forfeit s (position_of s).side (Illegal line))
+    either InTime (is_listed (position_now s) m) (accept s m) (forfeit s (position_now s).side (Illegal line))
     (λ e. record { depth = t.depth; place = tt; verdict = t.verdict })
-    (λ e. finishes s (Forfeit (position_of s).side (Illegal line)) (λ x. x) t)
+    (λ e. finishes s (Forfeit (position_now s).side (Illegal line)) (λ x. x) t)
 
 judges : (s : Standing) → InTime s → InTime (judge s)
 unfolding judge
-judges s t = judges_as s (first_line s) (read_of s.setup.game_type (position_of s).board (first_line s)) t
+judges s t = judges_as s (first_line s) (read_of s.setup.game_type (position_now s).board (first_line s)) t
 
 answers_as : (s : Standing) (level : Level) → IsDepth level → InTime s → InTime (answered s level)
 answers_as s (Depth depth) d t = judges s t

@@ -23,7 +23,7 @@ use Rattle.rule_laws.proofs.Openings.{openings}
 use Rattle.game_text.specs.declared.faults.GameFault.{GameFault}
 use Rattle.game_text.specs.declared.faults.GameFault.TheVariants.{Malformed, TooLong, BadMove, IllegalMove, OtherState, OtherTurn, Memory}
 use Rattle.game_text.specs.declared.parsed.Parsed.{Parsed}
-use Rattle.game_text.specs.declared.turns.Turn.{Turn}
+use Rattle.game_text.specs.declared.turns.DeclaredTurn.{DeclaredTurn}
 use Rattle.game_text.specs.Turns.{turn_at}
 use Rattle.game_text.specs.Reading.{moves_from, Fails, Agrees, first_empty, is_state, is_turn_of, confirmed, at_moves, at_turn, after_state, at_state, after_type, at_type, game_at, game_under, game_of}
 use Rattle.game_text.specs.Refusals.{HasParts}
@@ -71,15 +71,15 @@ same_state s u h =
 pub is_state_itself : (s : State) → is_state s s ≡ true
 is_state_itself s = (bytes_eq-Decides (state_bytes s) (state_bytes s)).1 refl
 
-pub same_turn : (u : Turn) (p : Position) → is_turn_of u p ≡ true → (u.side ≡ p.side) × (u.number ≡ p.turn)
+pub same_turn : (u : DeclaredTurn) (p : Position) → is_turn_of u p ≡ true → (u.side ≡ p.side) × (u.number ≡ p.turn)
 same_turn u p h = let both = and_parts (is_colour u.side p.side) (nat_eq u.number p.turn) h in (same_colour u.side p.side both.0, eqb-true u.number p.turn both.1)
 
-pub is_turn_itself : (u : Turn) (p : Position) → u.side ≡ p.side → u.number ≡ p.turn → is_turn_of u p ≡ true
+pub is_turn_itself : (u : DeclaredTurn) (p : Position) → u.side ≡ p.side → u.number ≡ p.turn → is_turn_of u p ≡ true
 is_turn_itself u p e f = ap (λ c. is_colour c p.side && nat_eq u.number p.turn) e ∙ ap (λ t. t && nat_eq u.number p.turn) (from_same_colour p.side p.side refl) ∙ eq-eqb u.number p.turn f
 
 -- What was read is the line's game
 
-confirmed_found : (r : Bool) (line : List ℕ) (t : GameType) (s : State) (u : Turn) (rest : List (List ℕ)) (g : Parsed) → HasParts line t s u rest → length rest ≤ 5000
+confirmed_found : (r : Bool) (line : List ℕ) (t : GameType) (s : State) (u : DeclaredTurn) (rest : List (List ℕ)) (g : Parsed) → HasParts line t s u rest → length rest ≤ 5000
     → (read : Result (List Move) GameFault) → moves_from r t rest ≡ read → confirmed r t s u read ≡ Ok g → IsGameLineUnder r line g.game_type g.moves
 confirmed_found r line t s u rest g head few (Err fault) e k = absurd (cc)
 confirmed_found r line t s u rest g head few (Ok ms) e k = states (is_state s (outcome_under r t ms)) refl (is_turn_of u (replay (opening t) ms)) refl k
@@ -111,16 +111,16 @@ pub under_found : (r : Bool) (line : List ℕ) (g : Parsed) → game_under r lin
 unfolding game_under
 under_found r line g h = go (parts line) refl h
   where
-    few : (t : GameType) (s : State) (u : Turn) (rest : List (List ℕ)) → HasParts line t s u rest → (b : Bool) → nat_lt 5000 (length rest) ≡ b
+    few : (t : GameType) (s : State) (u : DeclaredTurn) (rest : List (List ℕ)) → HasParts line t s u rest → (b : Bool) → nat_lt 5000 (length rest) ≡ b
         → (if b then Err TooLong else confirmed r t s u (moves_from r t rest)) ≡ Ok g → IsGameLineUnder r line g.game_type g.moves
     few t s u rest head true e k = absurd (cc)
     few t s u rest head false e k = let most = ltb-false 5000 (length rest) e in confirmed_found r line t s u rest g head (omega (arith, most)) (moves_from r t rest) refl k
 
-    empty : (t : GameType) (s : State) (u : Turn) (rest : List (List ℕ)) → HasParts line t s u rest → (o : Option ℕ) → at_moves r t s u rest o ≡ Ok g → IsGameLineUnder r line g.game_type g.moves
+    empty : (t : GameType) (s : State) (u : DeclaredTurn) (rest : List (List ℕ)) → HasParts line t s u rest → (o : Option ℕ) → at_moves r t s u rest o ≡ Ok g → IsGameLineUnder r line g.game_type g.moves
     empty t s u rest head (Some k) e = absurd (cc)
     empty t s u rest head None e = few t s u rest head (nat_lt 5000 (length rest)) refl e
 
-    turn : (t : GameType) (s : State) (z : List ℕ) (rest : List (List ℕ)) → parts line ≡ type_bytes t ∷ (state_bytes s ∷ (z ∷ rest)) → (o : Option Turn) → turn_at z ≡ o → at_turn r t s o rest ≡ Ok g → IsGameLineUnder r line g.game_type g.moves
+    turn : (t : GameType) (s : State) (z : List ℕ) (rest : List (List ℕ)) → parts line ≡ type_bytes t ∷ (state_bytes s ∷ (z ∷ rest)) → (o : Option DeclaredTurn) → turn_at z ≡ o → at_turn r t s o rest ≡ Ok g → IsGameLineUnder r line g.game_type g.moves
     turn t s z rest split None e k = absurd (cc)
     turn t s z rest split (Some u) e k =
         let is = turn_found z u e in
@@ -161,13 +161,13 @@ none_empty p (x ∷ xs) [] k d = absurd d
 none_empty p ([] ∷ xs) (m ∷ ms) k d = absurd (denotes_some p.game_type p.board m d.0)
 none_empty p ((b ∷ bs) ∷ xs) (m ∷ ms) k d = none_empty (after p m) xs ms (k + 1) d.1
 
-pub head_read : (r : Bool) (line : List ℕ) (t : GameType) (s : State) (u : Turn) (rest : List (List ℕ)) → HasParts line t s u rest → game_under r line ≡ at_moves r t s u rest (first_empty rest 4)
+pub head_read : (r : Bool) (line : List ℕ) (t : GameType) (s : State) (u : DeclaredTurn) (rest : List (List ℕ)) → HasParts line t s u rest → game_under r line ≡ at_moves r t s u rest (first_empty rest 4)
 head_read r line t s u rest h =
     first r line (type_bytes t) (state_bytes s ∷ (turn_bytes u.side u.number ∷ rest)) (Some t) h.parts_are (type_only (type_bytes t) t refl)
     ∙ ap (λ o. at_state r t o (turn_bytes u.side u.number ∷ rest)) (state_only (state_bytes s) s refl)
     ∙ ap (λ o. at_turn r t s o rest) (turn_again u.side u.number h.low h.high)
 
-pub few_read : (r : Bool) (t : GameType) (s : State) (u : Turn) (rest : List (List ℕ)) → first_empty rest 4 ≡ None → length rest ≤ 5000 → at_moves r t s u rest (first_empty rest 4) ≡ confirmed r t s u (moves_from r t rest)
+pub few_read : (r : Bool) (t : GameType) (s : State) (u : DeclaredTurn) (rest : List (List ℕ)) → first_empty rest 4 ≡ None → length rest ≤ 5000 → at_moves r t s u rest (first_empty rest 4) ≡ confirmed r t s u (moves_from r t rest)
 few_read r t s u rest none few =
     ap (at_moves r t s u rest) none ∙ ap (λ (b : Bool). if b then Err TooLong else confirmed r t s u (moves_from r t rest)) (le-ltb 5000 (length rest) few)
 

@@ -21,7 +21,7 @@ use Rattle.rule_laws.proofs.Openings.{openings}
 use Rattle.game_text.specs.declared.faults.GameFault.{GameFault}
 use Rattle.game_text.specs.declared.faults.GameFault.TheVariants.{Malformed, TooLong, BadMove, IllegalMove, OtherState, OtherTurn, Memory}
 use Rattle.game_text.specs.declared.parsed.Parsed.{Parsed}
-use Rattle.game_text.specs.declared.turns.Turn.{Turn}
+use Rattle.game_text.specs.declared.turns.DeclaredTurn.{DeclaredTurn}
 use Rattle.game_text.specs.Turns.{IsTurn, turn_at}
 use Rattle.game_text.specs.Reading.{may_follow, moves_from, Agrees, first_empty, is_state, is_turn_of, confirmed, at_moves, at_turn, after_state, at_state, after_type, at_type, game_at, game_under}
 use Rattle.game_text.specs.Refusals.{HasParts, AreNotEmpty, HasForm, IsMalformed, IsReadUpTo, IsReadWhole, IsRefusedUnder}
@@ -75,7 +75,7 @@ empty_again ((b ∷ bs) ∷ xs) behind n h =
 -- The fault that was read is one of the line
 
 -- the line is read up to where it stops
-read_to_stop : (r : Bool) (line : List ℕ) (t : GameType) (s : State) (u : Turn) (texts : List (List ℕ)) (k : ℕ) (text : List ℕ) (made : List Move) → HasForm line t s u texts → length texts ≤ 5000
+read_to_stop : (r : Bool) (line : List ℕ) (t : GameType) (s : State) (u : DeclaredTurn) (texts : List (List ℕ)) (k : ℕ) (text : List ℕ) (made : List Move) → HasForm line t s u texts → length texts ≤ 5000
     → StopsAt r (keys t []) (opening t) texts 1 k text made → IsReadUpTo r line k t made text
 read_to_stop r line t s u texts k text made form few at = record {
   declared = s;
@@ -90,7 +90,7 @@ read_to_stop r line t s u texts k text made form few at = record {
   stands = open_stands r t made at.legal at.yet;
 }
 
-stopped : (r : Bool) (line : List ℕ) (t : GameType) (s : State) (u : Turn) (texts : List (List ℕ)) (fault : GameFault) → HasForm line t s u texts → length texts ≤ 5000 → Stops r (keys t []) (opening t) texts 1 fault → IsRefusedUnder r line fault
+stopped : (r : Bool) (line : List ℕ) (t : GameType) (s : State) (u : DeclaredTurn) (texts : List (List ℕ)) (fault : GameFault) → HasForm line t s u texts → length texts ≤ 5000 → Stops r (keys t []) (opening t) texts 1 fault → IsRefusedUnder r line fault
 stopped r line t s u texts (BadMove k f) form few w = record {
   game_type = t;
   made = w.made;
@@ -116,7 +116,7 @@ stopped r line t s u texts OtherState form few w = absurd w
 stopped r line t s u texts OtherTurn form few w = absurd w
 stopped r line t s u texts Memory form few w = absurd w
 
-confirmed_refused : (r : Bool) (line : List ℕ) (t : GameType) (s : State) (u : Turn) (texts : List (List ℕ)) (fault : GameFault) → HasForm line t s u texts → length texts ≤ 5000
+confirmed_refused : (r : Bool) (line : List ℕ) (t : GameType) (s : State) (u : DeclaredTurn) (texts : List (List ℕ)) (fault : GameFault) → HasForm line t s u texts → length texts ≤ 5000
     → (read : Result (List Move) GameFault) → moves_from r t texts ≡ read → confirmed r t s u read ≡ Err fault → IsRefusedUnder r line fault
 confirmed_refused r line t s u texts fault form few (Err f) e k =
     let start = openings t in
@@ -165,31 +165,31 @@ pub refused_found : (r : Bool) (line : List ℕ) (fault : GameFault) → game_un
 unfolding game_under
 refused_found r line fault h = go (parts line) refl h
   where
-    few : (t : GameType) (s : State) (u : Turn) (rest : List (List ℕ)) → HasForm line t s u rest → (b : Bool) → nat_lt 5000 (length rest) ≡ b
+    few : (t : GameType) (s : State) (u : DeclaredTurn) (rest : List (List ℕ)) → HasForm line t s u rest → (b : Bool) → nat_lt 5000 (length rest) ≡ b
         → (if b then Err TooLong else confirmed r t s u (moves_from r t rest)) ≡ Err fault → IsRefusedUnder r line fault
     few t s u rest form true e k =
         let same : ◌≡◌ {A = GameFault} TooLong fault = cc in
         subst (IsRefusedUnder r line) same (record { game_type = t; declared = s; turn = u; texts = rest; form = form; long = ltb-true 5000 (length rest) e })
     few t s u rest form false e k = confirmed_refused r line t s u rest fault form (ltb-false 5000 (length rest) e) (moves_from r t rest) refl k
 
-    empty : (t : GameType) (s : State) (u : Turn) (rest : List (List ℕ)) → HasParts line t s u rest → (o : Option ℕ) → first_empty rest 4 ≡ o → at_moves r t s u rest o ≡ Err fault → IsRefusedUnder r line fault
+    empty : (t : GameType) (s : State) (u : DeclaredTurn) (rest : List (List ℕ)) → HasParts line t s u rest → (o : Option ℕ) → first_empty rest 4 ≡ o → at_moves r t s u rest o ≡ Err fault → IsRefusedUnder r line fault
     empty t s u rest head (Some k) f e =
         let same : ◌≡◌ {A = GameFault} (Malformed k) fault = cc in
         let found = empty_found rest 4 k f in
         subst (IsRefusedUnder r line) same (inr (inr (inr (record { game_type = t; declared = s; turn = u; front = found.front; behind = found.behind; parts_are = subst (HasParts line t s u) found.split head; before = found.before; counted = found.counted }))))
     empty t s u rest head None f e = few t s u rest (record { parts_are = head; none_empty = none_found rest 4 f }) (nat_lt 5000 (length rest)) refl e
 
-    no_turn : (t : GameType) (s : State) (rest : List (List ℕ)) → parts line ≡ type_bytes t ∷ (state_bytes s ∷ rest) → ((x : List ℕ) (xs : List (List ℕ)) → rest ≡ x ∷ xs → (u : Turn) → ¬ IsTurn x u) → IsMalformed line 3
+    no_turn : (t : GameType) (s : State) (rest : List (List ℕ)) → parts line ≡ type_bytes t ∷ (state_bytes s ∷ rest) → ((x : List ℕ) (xs : List (List ℕ)) → rest ≡ x ∷ xs → (u : DeclaredTurn) → ¬ IsTurn x u) → IsMalformed line 3
     no_turn t s rest split none = inr (inr (inl (refl, record { game_type = t; declared = s; rest = rest; parts_are = split; none = none })))
 
-    not_turn : (z x : List ℕ) (rest xs : List (List ℕ)) (u : Turn) → turn_at z ≡ None → z ∷ rest ≡ x ∷ xs → ¬ IsTurn x u
+    not_turn : (z x : List ℕ) (rest xs : List (List ℕ)) (u : DeclaredTurn) → turn_at z ≡ None → z ∷ rest ≡ x ∷ xs → ¬ IsTurn x u
     not_turn z x rest xs u e split is =
         let same : z ≡ x = cc in
         let read = turn_again u.side u.number is.low is.high in
-        let wrong : ◌≡◌ {A = Option Turn} None (Some (record { side = u.side; number = u.number })) = sym e ∙ ap turn_at (same ∙ is.text_is) ∙ read in
+        let wrong : ◌≡◌ {A = Option DeclaredTurn} None (Some (record { side = u.side; number = u.number })) = sym e ∙ ap turn_at (same ∙ is.text_is) ∙ read in
         cc
 
-    turn : (t : GameType) (s : State) (z : List ℕ) (rest : List (List ℕ)) → parts line ≡ type_bytes t ∷ (state_bytes s ∷ (z ∷ rest)) → (o : Option Turn) → turn_at z ≡ o → at_turn r t s o rest ≡ Err fault → IsRefusedUnder r line fault
+    turn : (t : GameType) (s : State) (z : List ℕ) (rest : List (List ℕ)) → parts line ≡ type_bytes t ∷ (state_bytes s ∷ (z ∷ rest)) → (o : Option DeclaredTurn) → turn_at z ≡ o → at_turn r t s o rest ≡ Err fault → IsRefusedUnder r line fault
     turn t s z rest split None e k =
         let same : ◌≡◌ {A = GameFault} (Malformed 3) fault = cc in
         subst (IsRefusedUnder r line) same (no_turn t s (z ∷ rest) split (λ x xs cut u. not_turn z x rest xs u e cut))
@@ -237,7 +237,7 @@ type_none = none_read type_at (λ x t. x ≡ type_bytes t) type_found
 state_none : (x : List ℕ) → ((s : State) → x ≢ state_bytes s) → state_at x ≡ None
 state_none = none_read state_at (λ x s. x ≡ state_bytes s) state_found
 
-turn_none : (x : List ℕ) → ((u : Turn) → ¬ IsTurn x u) → turn_at x ≡ None
+turn_none : (x : List ℕ) → ((u : DeclaredTurn) → ¬ IsTurn x u) → turn_at x ≡ None
 turn_none = none_read turn_at IsTurn turn_found
 
 malformed_again : (r : Bool) (line : List ℕ) (k : ℕ) → IsMalformed line k → game_under r line ≡ Err (Malformed k)
@@ -249,14 +249,14 @@ malformed_again r line k (inr (inr (inl (e, h)))) =
     first r line (type_bytes h.game_type) (state_bytes h.declared ∷ h.rest) (Some h.game_type) h.parts_are (type_only (type_bytes h.game_type) h.game_type refl)
     ∙ ap (λ o. at_state r h.game_type o h.rest) (state_only (state_bytes h.declared) h.declared refl) ∙ third h.rest h.none ∙ ap (λ (n : ℕ). Err (Malformed n)) (sym e)
   where
-    third : (rest : List (List ℕ)) → ((x : List ℕ) (xs : List (List ℕ)) → rest ≡ x ∷ xs → (u : Turn) → ¬ IsTurn x u) → after_state r h.game_type h.declared rest ≡ Err (Malformed 3)
+    third : (rest : List (List ℕ)) → ((x : List ℕ) (xs : List (List ℕ)) → rest ≡ x ∷ xs → (u : DeclaredTurn) → ¬ IsTurn x u) → after_state r h.game_type h.declared rest ≡ Err (Malformed 3)
     third [] none = refl
     third (x ∷ xs) none = ap (λ o. at_turn r h.game_type h.declared o xs) (turn_none x (none x xs refl))
 malformed_again r line k (inr (inr (inr h))) =
     head_read r line h.game_type h.declared h.turn (h.front ++ [] ∷ h.behind) h.parts_are
     ∙ ap (at_moves r h.game_type h.declared h.turn (h.front ++ [] ∷ h.behind)) (empty_again h.front h.behind 4 h.before) ∙ ap (λ (n : ℕ). Err (Malformed n)) (sym h.counted)
 
-formed : (r : Bool) (line : List ℕ) (t : GameType) (s : State) (u : Turn) (texts : List (List ℕ)) → HasForm line t s u texts → length texts ≤ 5000 → game_under r line ≡ confirmed r t s u (moves_from r t texts)
+formed : (r : Bool) (line : List ℕ) (t : GameType) (s : State) (u : DeclaredTurn) (texts : List (List ℕ)) → HasForm line t s u texts → length texts ≤ 5000 → game_under r line ≡ confirmed r t s u (moves_from r t texts)
 formed r line t s u texts form few = head_read r line t s u texts form.parts_are ∙ few_read r t s u texts (none_again texts 4 form.none_empty) few
 
 front_fits : (front behind : List (List ℕ)) (text : List ℕ) → length front ≤ length (front ++ text ∷ behind)
@@ -284,7 +284,7 @@ not_state s e h = go (is_state s e) refl
     go true f = absurd (h (same_state s e f))
     go false f = f
 
-not_turn_of : (u : Turn) (p : Position) → ¬ ((u.side ≡ p.side) × (u.number ≡ p.turn)) → is_turn_of u p ≡ false
+not_turn_of : (u : DeclaredTurn) (p : Position) → ¬ ((u.side ≡ p.side) × (u.number ≡ p.turn)) → is_turn_of u p ≡ false
 not_turn_of u p h = go (is_turn_of u p) refl
   where
     go : (b : Bool) → is_turn_of u p ≡ b → is_turn_of u p ≡ false

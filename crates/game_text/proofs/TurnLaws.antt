@@ -8,7 +8,7 @@ use Rattle.hive_model.specs.Strings.{turn_bytes, side_name}
 use Rattle.move_text.specs.Readers.{number_at}
 use Rattle.move_text.proofs.NumberLaws.{number_found, number_again}
 use Rattle.game_text.proofs.FieldReads.{none_read}
-use Rattle.game_text.specs.declared.turns.Turn.{Turn}
+use Rattle.game_text.specs.declared.turns.DeclaredTurn.{DeclaredTurn}
 use Rattle.game_text.specs.Turns.{IsTurn, behind_word, before_close, turn_number, turn_digits, turn_of, or_turn, turn_at}
 
 pub behind_is : (p xs : List ℕ) → behind_word p (p ++ xs) ≡ Some xs
@@ -42,13 +42,13 @@ is_close (x ∷ y ∷ ys) xs h = go (before_close (y ∷ ys)) refl h (λ r k. is
     go None e k more = absurd (cc)
     go (Some r) e k more = let same : x ∷ r ≡ xs = cc in ap (λ (z : List ℕ). x ∷ z) (more r e) ∙ ap (λ (z : List ℕ). z ++ 93 ∷ []) same
 
-of_found : (c : Colour) (text rest : List ℕ) (u : Turn) → text ≡ side_name c ++ rest → turn_of c (Some rest) ≡ Some u → IsTurn text u
+of_found : (c : Colour) (text rest : List ℕ) (u : DeclaredTurn) → text ≡ side_name c ++ rest → turn_of c (Some rest) ≡ Some u → IsTurn text u
 of_found c text rest u split h = go (before_close rest) refl h
   where
     number : (digits : List ℕ) → before_close rest ≡ Some digits → (o : Option ℕ) → number_at digits 1 999999999 ≡ o → turn_number c o ≡ Some u → IsTurn text u
     number digits e None f k = absurd (cc)
     number digits e (Some n) f k =
-        let same : ◌≡◌ {A = Turn} (record { side = c; number = n }) u = cc in
+        let same : ◌≡◌ {A = DeclaredTurn} (record { side = c; number = n }) u = cc in
         let is = number_found digits 1 999999999 n f in
         subst (IsTurn text) same (record { text_is = split ∙ ap (λ (r : List ℕ). side_name c ++ r) (is_close rest digits e ∙ ap (λ (d : List ℕ). d ++ 93 ∷ []) is.digits); low = is.low; high = is.high })
 
@@ -56,7 +56,7 @@ of_found c text rest u split h = go (before_close rest) refl h
     go None e k = absurd (cc)
     go (Some digits) e k = number digits e (number_at digits 1 999999999) refl k
 
-pub turn_found : (text : List ℕ) (u : Turn) → turn_at text ≡ Some u → IsTurn text u
+pub turn_found : (text : List ℕ) (u : DeclaredTurn) → turn_at text ≡ Some u → IsTurn text u
 unfolding turn_at
 turn_found text u h = go (behind_word (codes "White[") text) (behind_word (codes "Black[") text) refl refl h
   where
@@ -64,7 +64,7 @@ turn_found text u h = go (behind_word (codes "White[") text) (behind_word (codes
     black None e k = absurd (cc)
     black (Some rest) e k = of_found Black text rest u (is_behind (codes "Black[") text rest e) k
 
-    white : (rest : List ℕ) → behind_word (codes "White[") text ≡ Some rest → (w : Option Turn) → turn_of White (Some rest) ≡ w → (o : Option (List ℕ)) → behind_word (codes "Black[") text ≡ o → or_turn w (turn_of Black o) ≡ Some u → IsTurn text u
+    white : (rest : List ℕ) → behind_word (codes "White[") text ≡ Some rest → (w : Option DeclaredTurn) → turn_of White (Some rest) ≡ w → (o : Option (List ℕ)) → behind_word (codes "Black[") text ≡ o → or_turn w (turn_of Black o) ≡ Some u → IsTurn text u
     white rest e None f o g k = black o g k
     white rest e (Some w) f o g k = of_found White text rest u (is_behind (codes "White[") text rest e) (f ∙ k)
 
@@ -79,7 +79,7 @@ turn_is White digits =
     ap (λ o. or_turn (turn_of White o) None) (behind_is (codes "White[") (digits ++ 93 ∷ [])) ∙ ap (λ o. or_turn (turn_digits White o) None) (close_is digits)
     ∙ alone (turn_number White (number_at digits 1 999999999))
   where
-    alone : (o : Option Turn) → or_turn o None ≡ o
+    alone : (o : Option DeclaredTurn) → or_turn o None ≡ o
     alone None = refl
     alone (Some u) = refl
 turn_is Black digits = ap (turn_of Black) (behind_is (codes "Black[") (digits ++ 93 ∷ [])) ∙ ap (turn_digits Black) (close_is digits)

@@ -20,7 +20,7 @@ use Rattle.move_text.specs.Readers.{type_at, state_at}
 use Rattle.game_text.specs.declared.faults.GameFault.{GameFault}
 use Rattle.game_text.specs.declared.faults.GameFault.TheVariants.{Malformed, TooLong, BadMove, IllegalMove, OtherState, OtherTurn, Memory}
 use Rattle.game_text.specs.declared.parsed.Parsed.{Parsed}
-use Rattle.game_text.specs.declared.turns.Turn.{Turn}
+use Rattle.game_text.specs.declared.turns.DeclaredTurn.{DeclaredTurn}
 use Rattle.game_text.specs.Turns.{turn_at}
 
 -- The moves, from the one with this number on
@@ -74,11 +74,11 @@ first_empty ((b ∷ bs) ∷ xs) k = first_empty xs (k + 1)
 abbrev pub is_state : State → State → Bool
 is_state s u = bytes_eq (state_bytes s) (state_bytes u)
 
-abbrev pub is_turn_of : Turn → Position → Bool
+abbrev pub is_turn_of : DeclaredTurn → Position → Bool
 is_turn_of u end = is_colour u.side end.side && nat_eq u.number end.turn
 
 -- the declared state is the outcome of the game, and the declared turn is that of its position
-abbrev pub confirmed : Bool → GameType → State → Turn → Result (List Move) GameFault
+abbrev pub confirmed : Bool → GameType → State → DeclaredTurn → Result (List Move) GameFault
     → Result Parsed GameFault
 confirmed r t s u (Err fault) = Err fault
 confirmed r t s u (Ok ms) =
@@ -87,13 +87,13 @@ confirmed r t s u (Ok ms) =
     else Err OtherTurn)
     else Err OtherState
 
-abbrev pub at_moves : Bool → GameType → State → Turn → List (List ℕ) → Option ℕ
+abbrev pub at_moves : Bool → GameType → State → DeclaredTurn → List (List ℕ) → Option ℕ
     → Result Parsed GameFault
 at_moves r t s u rest (Some k) = Err (Malformed k)
 at_moves r t s u rest None =
     if nat_lt 5000 (length rest) then Err TooLong else confirmed r t s u (moves_from r t rest)
 
-abbrev pub at_turn : Bool → GameType → State → Option Turn → List (List ℕ) → Result Parsed GameFault
+abbrev pub at_turn : Bool → GameType → State → Option DeclaredTurn → List (List ℕ) → Result Parsed GameFault
 at_turn r t s None rest = Err (Malformed 3)
 at_turn r t s (Some u) rest = at_moves r t s u rest (first_empty rest 4)
 

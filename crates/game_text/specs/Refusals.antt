@@ -15,7 +15,7 @@ use Rattle.move_text.specs.declared.faults.MoveFault.{MoveFault}
 use Rattle.move_text.specs.Faults.{Refuses}
 use Rattle.game_text.specs.declared.faults.GameFault.{GameFault}
 use Rattle.game_text.specs.declared.faults.GameFault.TheVariants.{Malformed, TooLong, BadMove, IllegalMove, OtherState, OtherTurn, Memory}
-use Rattle.game_text.specs.declared.turns.Turn.{Turn}
+use Rattle.game_text.specs.declared.turns.DeclaredTurn.{DeclaredTurn}
 use Rattle.game_text.specs.Turns.{IsTurn}
 
 -- the first part is no type
@@ -39,11 +39,11 @@ pub record IsNoTurn (line : List ℕ) : Type 0 where
   pub declared : State
   pub rest : List (List ℕ)
   pub parts_are : parts line ≡ type_bytes game_type ∷ (state_bytes declared ∷ rest)
-  pub none : (part : List ℕ) (texts : List (List ℕ)) → rest ≡ part ∷ texts → (u : Turn)
+  pub none : (part : List ℕ) (texts : List (List ℕ)) → rest ≡ part ∷ texts → (u : DeclaredTurn)
       → ¬ IsTurn part u
 
 -- the parts are a type, a state, a turn, and further texts
-pub record HasParts (line : List ℕ) (t : GameType) (s : State) (u : Turn)
+pub record HasParts (line : List ℕ) (t : GameType) (s : State) (u : DeclaredTurn)
     (texts : List (List ℕ)) : Type 0 where
   pub parts_are : parts line ≡ type_bytes t ∷ (state_bytes s ∷ (turn_bytes u.side u.number ∷ texts))
   pub low : 1 ≤ u.number
@@ -58,7 +58,7 @@ AreNotEmpty texts = (text : List ℕ) → IsOn texts text → text ≢ []
 pub record IsEmptyMove (line : List ℕ) (number : ℕ) : Type 0 where
   pub game_type : GameType
   pub declared : State
-  pub turn : Turn
+  pub turn : DeclaredTurn
   pub front : List (List ℕ)
   pub behind : List (List ℕ)
   pub parts_are : HasParts line game_type declared turn (front ++ [] ∷ behind)
@@ -72,7 +72,7 @@ IsMalformed line number =
     ⊎ (((number ≡ 3) × IsNoTurn line) ⊎ IsEmptyMove line number))
 
 -- the parts are a type, a state, a turn, and texts of which none is empty
-pub record HasForm (line : List ℕ) (t : GameType) (s : State) (u : Turn)
+pub record HasForm (line : List ℕ) (t : GameType) (s : State) (u : DeclaredTurn)
     (texts : List (List ℕ)) : Type 0 where
   pub parts_are : HasParts line t s u texts
   pub none_empty : AreNotEmpty texts
@@ -81,7 +81,7 @@ pub record HasForm (line : List ℕ) (t : GameType) (s : State) (u : Turn)
 pub record IsTooLong (line : List ℕ) : Type 0 where
   pub game_type : GameType
   pub declared : State
-  pub turn : Turn
+  pub turn : DeclaredTurn
   pub texts : List (List ℕ)
   pub form : HasForm line game_type declared turn texts
   pub long : 5000 < length texts
@@ -91,7 +91,7 @@ pub record IsTooLong (line : List ℕ) : Type 0 where
 pub record IsReadUpTo (r : Bool) (line : List ℕ) (number : ℕ) (t : GameType) (ms : List Move)
     (text : List ℕ) : Type 0 where
   pub declared : State
-  pub turn : Turn
+  pub turn : DeclaredTurn
   pub front : List (List ℕ)
   pub behind : List (List ℕ)
   pub form : HasForm line t declared turn (front ++ text ∷ behind)
@@ -126,7 +126,7 @@ pub record IsIllegalMove (r : Bool) (line : List ℕ) (number : ℕ) : Type 0 wh
 pub record IsReadWhole (r : Bool) (line : List ℕ) : Type 0 where
   pub game_type : GameType
   pub declared : State
-  pub turn : Turn
+  pub turn : DeclaredTurn
   pub texts : List (List ℕ)
   pub made : List Move
   pub form : HasForm line game_type declared turn texts

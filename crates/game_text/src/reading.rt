@@ -44,7 +44,7 @@ use crate::faults::GameFault;
 use crate::parsed::Parsed;
 use crate::parts::{count_parts, cut, empty_part};
 use crate::seen::Seen;
-use crate::turns::{Turn, read_turn};
+use crate::turns::{DeclaredTurn, read_turn};
 use hive_model::{Game, GameType, Move, MoveList, State};
 use move_text::{read_move, read_state, read_type};
 use std::alloc::Global;
@@ -126,7 +126,7 @@ fn play_moves<G: Game>(
 pub struct Declared {
     pub game_type: GameType,
     pub state: State,
-    pub turn: Turn,
+    pub turn: DeclaredTurn,
 }
 
 /// The game, if its outcome and turn are the declared ones.

@@ -2,7 +2,7 @@
 
 ghost use Rattle.std.specs.Prelude.{◌≡◌, pos};
 
-use crate::turns::{Turn, read_turn};
+use crate::turns::{DeclaredTurn, read_turn};
 use crate::{
     GameFault, MoveTexts, lines_are_one_game, lines_are_one_game_under, lines_are_read,
     lines_are_read_under, strings_are_games, strings_are_games_under,
@@ -18,8 +18,8 @@ const WITH_MOSQUITO: GameType = GameType {
     pillbug: false,
 };
 
-fn turn(side: Colour, number: u64) -> Option<Turn> {
-    Some(Turn { side, number })
+fn turn(side: Colour, number: u64) -> Option<DeclaredTurn> {
+    Some(DeclaredTurn { side, number })
 }
 
 fn spider_to_origin() -> Move

@@ -9,7 +9,7 @@ use move_text::read_number;
 
 /// A declared turn: the side to move, and the number of the turn.
 #[derive(Clone, Copy, Debug, PartialEq, Eq)]
-pub struct Turn {
+pub struct DeclaredTurn {
     pub side: Colour,
     pub number: u64,
 }
@@ -31,14 +31,14 @@ fn bracketed(text: &[u8]) -> Option<(Colour, &[u8])>
 
 /// The turn that the text declares: `White[n]` or `Black[n]`, with a number of 1 to 9 digits that
 /// is not 0.
-pub fn read_turn(text: &[u8]) -> Option<Turn>
+pub fn read_turn(text: &[u8]) -> Option<DeclaredTurn>
     ensures { result ≡ turn_at text.now }
 {
     let Some((side, digits)) = bracketed(text) else {
         return None;
     };
     match read_number(digits, 1, 999999999) {
-        Some(number) => Some(Turn { side, number }),
+        Some(number) => Some(DeclaredTurn { side, number }),
         None => None,
     }
 }

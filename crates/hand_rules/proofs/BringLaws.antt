@@ -10,7 +10,7 @@ use Rattle.hive_model.specs.Boards.{Stacks}
 use Rattle.hive_model.specs.Positions.{Position}
 use Rattle.hive_model.specs.Placement.{MayPlace, Placement}
 use Rattle.hand_rules.specs.Listing.{IsPairBelow}
-use Rattle.hand_rules.specs.Bringing.{MayBring, IsPlacementMove, position_of}
+use Rattle.hand_rules.specs.Bringing.{MayBring, IsPlacementMove, position_awake}
 
 module _ (p : Position) (x : ℕ) (q : Place) where
   pub bring_from : Placement p x q → MayBring p.game_type p.board p.side p.turn x × MayPlace p.board p.side q
@@ -34,6 +34,6 @@ placed_below p n last Pass = (λ h. h, λ h. h)
 placed_below p n last (To x q) = (λ h. h.1, λ h. let small = ltb-true x 28 h.is_piece in (omega (arith, small, last), h))
 
 -- where no piece may be brought there is no placement
-pub none_to_bring : (t : GameType) (b : Stacks) (c : Colour) (turn : ℕ) → ((x : ℕ) → ¬ MayBring t b c turn x) → (m : Move) → ¬ IsPlacementMove (position_of t b c turn) m
+pub none_to_bring : (t : GameType) (b : Stacks) (c : Colour) (turn : ℕ) → ((x : ℕ) → ¬ MayBring t b c turn x) → (m : Move) → ¬ IsPlacementMove (position_awake t b c turn) m
 none_to_bring t b c turn none Pass h = h
-none_to_bring t b c turn none (To x q) h = none x (bring_from (position_of t b c turn) x q h).0
+none_to_bring t b c turn none (To x q) h = none x (bring_from (position_awake t b c turn) x q h).0

@@ -24,8 +24,8 @@ abbrev pub CanBring : GameType → Stacks → Colour → ℕ → Type 0
 CanBring t b c turn = (x : ℕ) × MayBring t b c turn x
 
 -- the position in which this side is to move on this board, and no piece rests
-abbrev pub position_of : GameType → Stacks → Colour → ℕ → Position
-position_of t b c turn = record { game_type = t; board = b; side = c; turn = turn; rest = None }
+abbrev pub position_awake : GameType → Stacks → Colour → ℕ → Position
+position_awake t b c turn = record { game_type = t; board = b; side = c; turn = turn; rest = None }
 
 -- the move is a placement
 abbrev pub IsPlacementMove : Position → Move → Type 0

@@ -6,7 +6,7 @@ ghost use Rattle.hive_model.specs.declared.places.Move.TheVariants.{To};
 ghost use Rattle.hive_model.specs.Placement.{IsLeastInHand};
 ghost use Rattle.hive_model.specs.Stack.{without_level};
 ghost use Rattle.hand_rules.specs.Listing.{last_level, ListsAll};
-ghost use Rattle.hand_rules.specs.Bringing.{MayBring, CanBring, IsPlacementMove, position_of};
+ghost use Rattle.hand_rules.specs.Bringing.{MayBring, CanBring, IsPlacementMove, position_awake};
 
 use crate::hands::next_of;
 use crate::open_places::placement_places;
@@ -83,7 +83,7 @@ pub fn placements<B: Board>(
 )
     requires level { 1 ≤ length out.old.lists }
     requires empty { last_level out.old ≡ [] }
-    ensures { ListsAll (IsPlacementMove (position_of game_type (B.stacks board.now) colour turn))
+    ensures { ListsAll (IsPlacementMove (position_awake game_type (B.stacks board.now) colour turn))
         out.old out.new }
 {
     if !can_bring(game_type, board, colour, turn) {

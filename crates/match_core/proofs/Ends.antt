@@ -14,7 +14,7 @@ use Rattle.match_core.specs.declared.answers.Stage.TheVariants.{Send, Read, Befo
 use Rattle.match_core.specs.declared.answers.Act.TheVariants.{Read as ReadAct}
 use Rattle.match_core.specs.Keeps.{IsSetup, HasNext}
 use Rattle.match_core.specs.Texts.{read_of}
-use Rattle.match_core.specs.Standing.{Standing, Happening, start, match_after, next, after_all, act_at, answers, position_of}
+use Rattle.match_core.specs.Standing.{Standing, Happening, start, match_after, next, after_all, act_at, answers, position_now}
 use Rattle.match_core.specs.Fairness.{Answering, Reply, nothing_heard, heard, first_of, MovesOn, MatchesAreFair}
 use Rattle.match_core.specs.Plays.{left, IsBounded, IsPliesAt, given, reply_to, left_of_white, left_of_black, is_finished, happens, match_of, MatchesEnd, MatchesAreJudged}
 use Rattle.match_core.proofs.Fair.{reads, ReadsOn}
@@ -86,10 +86,10 @@ open_few Before plies limit h e = omega (arith, h)
 open_few After plies limit h e = omega (arith, h)
 open_few Finished plies limit h e = absurd (cc)
 
-accepts : (s t : Standing) (reply : Reply) → IsBoard (position_of s).board → ReadsOn s t reply → MovesOn s t reply
+accepts : (s t : Standing) (reply : Reply) → IsBoard (position_now s).board → ReadsOn s t reply → MovesOn s t reply
 unfolding read_of
 accepts s t reply board (inl e) = inl e
-accepts s t reply board (inr (m, e, r)) = inr (m, e, record { side = r.side; denotes = denotes_of s.setup.game_type (position_of s).board (first_of reply.lines) m board r.denotes; legal = r.legal })
+accepts s t reply board (inr (m, e, r)) = inr (m, e, record { side = r.side; denotes = denotes_of s.setup.game_type (position_now s).board (first_of reply.lines) m board r.denotes; legal = r.legal })
 
 read : (setup : Setup) (hs : List Happening) (h : Happening) → IsSetup setup → Answering (start setup) (hs ++ h ∷ [])
     → MovesOn (match_after setup hs) (match_after setup (hs ++ h ∷ [])) (heard (start setup) nothing_heard (hs ++ h ∷ [])).last

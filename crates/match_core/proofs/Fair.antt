@@ -29,14 +29,14 @@ use Rattle.match_core.specs.declared.answers.Verdict.{Verdict}
 use Rattle.match_core.specs.declared.answers.Verdict.TheVariants.{Rules, Limit, Forfeit}
 use Rattle.match_core.specs.Replies.{is_ok, is_error}
 use Rattle.match_core.specs.Texts.{read_of}
-use Rattle.match_core.specs.Standing.{Standing, Happening, Sent, Line, TooLong, Ended, Broke, Reading as ClockReading, start, match_after, next, after_all, act_at, answers, position_of, go, finish, ask, judge, judge_read, decide, accept, first_line, at_stage, is_late, keep, reply_ends, hear, question, forfeit, answered, outcome_of}
+use Rattle.match_core.specs.Standing.{Standing, Happening, Sent, Line, TooLong, Ended, Broke, Reading as ClockReading, start, match_after, next, after_all, act_at, answers, position_now, go, finish, ask, judge, judge_read, decide, accept, first_line, at_stage, is_late, keep, reply_ends, hear, question, forfeit, answered, outcome_of}
 use Rattle.match_core.specs.Fairness.{Answering, told_at, told, WasTold, Reply, Heard, nothing_heard, heard_at, heard, first_of}
 
 -- a move is accepted: it is legal, and is read from the first line of the last whole reply, which the side to move gave
 pub record IsRead (s : Standing) (reply : Reply) (m : Move) : Type 0 where
-  pub side : reply.side ≡ (position_of s).side
-  pub denotes : read_of s.setup.game_type (position_of s).board (first_of reply.lines) ≡ Ok m
-  pub legal : IsOn (legal_moves (position_of s)) m
+  pub side : reply.side ≡ (position_now s).side
+  pub denotes : read_of s.setup.game_type (position_now s).board (first_of reply.lines) ≡ Ok m
+  pub legal : IsOn (legal_moves (position_now s)) m
 
 abbrev pub ReadsOn : Standing → Standing → Reply → Type 0
 ReadsOn s t reply = (t.moves ≡ s.moves) ⊎ ((m : Move) × (t.moves ≡ s.moves ++ m ∷ []) × IsRead s reply m)
@@ -84,10 +84,10 @@ IsAsked Ask side mover = side ≡ mover
 IsAsked (Tell m) side mover = Unit {0}
 
 abbrev pub HeardAt : Stage → Standing → Heard → Type 0
-HeardAt (Send job side) s k = (k.begun ≡ []) × IsAsked job side (position_of s).side
-HeardAt (Read job side) s k = (s.first ≡ first_option k.begun) × IsAsked job side (position_of s).side
+HeardAt (Send job side) s k = (k.begun ≡ []) × IsAsked job side (position_now s).side
+HeardAt (Read job side) s k = (s.first ≡ first_option k.begun) × IsAsked job side (position_now s).side
 HeardAt Before s k = k.begun ≡ []
-HeardAt After s k = (k.begun ≡ []) × (s.first ≡ first_option k.last.lines) × (k.last.side ≡ (position_of s).side)
+HeardAt After s k = (k.begun ≡ []) × (s.first ≡ first_option k.last.lines) × (k.last.side ≡ (position_now s).side)
 HeardAt Finished s k = Unit {0}
 
 -- the moves are a legal game, and none follows the end of the game
@@ -157,7 +157,7 @@ pub record Ready (s : Standing) (k : Heard) (tw tb : List Move) : Type 0 where
   pub both : Both s.moves tw tb
   pub begun : k.begun ≡ []
 
-asks_at : (s : Standing) (level : Level) (k : Heard) (tw tb : List Move) → Ready s k tw tb → IsOpen s.setup s.moves → Steps s (go s (question level (position_of s).side)) k tw tb
+asks_at : (s : Standing) (level : Level) (k : Heard) (tw tb : List Move) → Ready s k tw tb → IsOpen s.setup s.moves → Steps s (go s (question level (position_now s).side)) k tw tb
 asks_at s (Depth depth) k tw tb r yet = record { good = record { legal = r.legal; yet = yet; told = r.both; heard = (r.begun, refl) }; moves = inl refl; same = refl }
 asks_at s (Time budget margin) k tw tb r yet = record { good = record { legal = r.legal; yet = yet; told = r.both; heard = r.begun }; moves = inl refl; same = refl }
 
@@ -195,30 +195,30 @@ first-of : (o : Option (List ℕ)) (lines : List (List ℕ)) → o ≡ first_opt
 first-of o [] e = rw e refl
 first-of o (line ∷ lines) e = rw e refl
 
-judges_as : (s : Standing) (line : List ℕ) (o : Result Move MoveFault) (k : Heard) (tw tb : List Move) → Ready s k tw tb → IsOpen s.setup s.moves → read_of s.setup.game_type (position_of s).board line ≡ o → line ≡ first_of k.last.lines → k.last.side ≡ (position_of s).side
+judges_as : (s : Standing) (line : List ℕ) (o : Result Move MoveFault) (k : Heard) (tw tb : List Move) → Ready s k tw tb → IsOpen s.setup s.moves → read_of s.setup.game_type (position_now s).board line ≡ o → line ≡ first_of k.last.lines → k.last.side ≡ (position_now s).side
     → Steps s (judge_read s line o) k tw tb
-judges_as s line (Err fault) k tw tb r yet e f side = finishes s (Forfeit (position_of s).side (NotAMove line)) k tw tb Before r.legal r.both
+judges_as s line (Err fault) k tw tb r yet e f side = finishes s (Forfeit (position_now s).side (NotAMove line)) k tw tb Before r.legal r.both
 judges_as s line (Ok m) k tw tb r yet e f side =
     let P : Standing → Type 0 = λ t. Steps s t k tw tb in
-    either P (is_listed (position_of s) m) (accept s m) (forfeit s (position_of s).side (Illegal line))
+    either P (is_listed (position_now s) m) (accept s m) (forfeit s (position_now s).side (Illegal line))
     (λ l. record {
-      good = record { legal = plays_more s.setup s.moves m r.legal yet (listed_on (position_of s) m l); yet = tt; told = record { before = s.moves; made = refl; white = r.both.white; black = r.both.black }; heard = (r.begun, tt) };
-      moves = inr (m, refl, record { side = side; denotes = ap (read_of s.setup.game_type (position_of s).board) (sym f) ∙ e; legal = listed_on (position_of s) m l });
+      good = record { legal = plays_more s.setup s.moves m r.legal yet (listed_on (position_now s) m l); yet = tt; told = record { before = s.moves; made = refl; white = r.both.white; black = r.both.black }; heard = (r.begun, tt) };
+      moves = inr (m, refl, record { side = side; denotes = ap (read_of s.setup.game_type (position_now s).board) (sym f) ∙ e; legal = listed_on (position_now s) m l });
       same = refl;
     })
-    (λ l. finishes s (Forfeit (position_of s).side (Illegal line)) k tw tb Before r.legal r.both)
+    (λ l. finishes s (Forfeit (position_now s).side (Illegal line)) k tw tb Before r.legal r.both)
 
-judges : (s : Standing) (k : Heard) (tw tb : List Move) → Ready s k tw tb → IsOpen s.setup s.moves → s.first ≡ first_option k.last.lines → k.last.side ≡ (position_of s).side → Steps s (judge s) k tw tb
+judges : (s : Standing) (k : Heard) (tw tb : List Move) → Ready s k tw tb → IsOpen s.setup s.moves → s.first ≡ first_option k.last.lines → k.last.side ≡ (position_now s).side → Steps s (judge s) k tw tb
 unfolding judge
-judges s k tw tb r yet f side = judges_as s (first_line s) (read_of s.setup.game_type (position_of s).board (first_line s)) k tw tb r yet refl (first-of s.first k.last.lines f) side
+judges s k tw tb r yet f side = judges_as s (first_line s) (read_of s.setup.game_type (position_now s).board (first_line s)) k tw tb r yet refl (first-of s.first k.last.lines f) side
 
-answers_at : (s : Standing) (level : Level) (k : Heard) (tw tb : List Move) → Ready s k tw tb → IsOpen s.setup s.moves → s.first ≡ first_option k.last.lines → k.last.side ≡ (position_of s).side → Steps s (answered s level) k tw tb
+answers_at : (s : Standing) (level : Level) (k : Heard) (tw tb : List Move) → Ready s k tw tb → IsOpen s.setup s.moves → s.first ≡ first_option k.last.lines → k.last.side ≡ (position_now s).side → Steps s (answered s level) k tw tb
 answers_at s (Depth depth) k tw tb r yet f side = judges s k tw tb r yet f side
 answers_at s (Time budget margin) k tw tb r yet f side = record { good = record { legal = r.legal; yet = yet; told = r.both; heard = (r.begun, f, side) }; moves = inl refl; same = refl }
 
 -- k is what was heard before the ok
 ends_reply : (s : Standing) (job : Task) (side : Colour) (lines : List (List ℕ)) (tw tb : List Move) → Plays s.setup s.moves → OpenFor job s.setup s.moves → ToldAt (Read job side) s.moves tw tb
-    → s.first ≡ first_option lines → IsAsked job side (position_of s).side → Steps s (reply_ends s job side) (record { begun = []; last = record { side = side; lines = lines } }) tw tb
+    → s.first ≡ first_option lines → IsAsked job side (position_now s).side → Steps s (reply_ends s job side) (record { begun = []; last = record { side = side; lines = lines } }) tw tb
 ends_reply s Greet White lines tw tb legal yet t f a = record { good = record { legal = legal; yet = yet; told = t; heard = (refl, tt) }; moves = inl refl; same = refl }
 ends_reply s Greet Black lines tw tb legal yet t f a = record { good = record { legal = legal; yet = yet; told = t; heard = (refl, tt) }; moves = inl refl; same = refl }
 ends_reply s Begin White lines tw tb legal yet t f a = record { good = record { legal = legal; yet = yet; told = t; heard = (refl, tt) }; moves = inl refl; same = refl }
@@ -232,7 +232,7 @@ first-keep o [] line e = rw e refl
 first-keep o (x ∷ lines) line e = rw e refl
 
 hears : (s : Standing) (job : Task) (side : Colour) (line : List ℕ) (k : Heard) (tw tb : List Move) → Plays s.setup s.moves → OpenFor job s.setup s.moves → ToldAt (Read job side) s.moves tw tb
-    → s.first ≡ first_option k.begun → IsAsked job side (position_of s).side → Steps s (hear s job side line) (heard_at (Read job side) k (Line line)) tw tb
+    → s.first ≡ first_option k.begun → IsAsked job side (position_now s).side → Steps s (hear s job side line) (heard_at (Read job side) k (Line line)) tw tb
 hears s job side line k tw tb legal yet t f a =
     let P : Standing → Heard → Type 0 = λ x j. Steps s x j tw tb in
     let more : Heard = record { begun = k.begun ++ line ∷ []; last = k.last } in
@@ -255,7 +255,7 @@ told_broke Begin side to = refl
 told_broke Ask side to = refl
 told_broke (Tell m) side to = refl
 
-sent_at_send : (s : Standing) (job : Task) (side : Colour) (k : Heard) (tw tb : List Move) → Plays s.setup s.moves → OpenFor job s.setup s.moves → ToldAt (Send job side) s.moves tw tb → k.begun ≡ [] → IsAsked job side (position_of s).side
+sent_at_send : (s : Standing) (job : Task) (side : Colour) (k : Heard) (tw tb : List Move) → Plays s.setup s.moves → OpenFor job s.setup s.moves → ToldAt (Send job side) s.moves tw tb → k.begun ≡ [] → IsAsked job side (position_now s).side
     → Steps s (go s (Read job side)) k (tw ++ told_at (Send job side) Sent White) (tb ++ told_at (Send job side) Sent Black)
 sent_at_send s Greet side k tw tb legal yet t b a = plain (record { good = record { legal = legal; yet = yet; told = t; heard = (rw b refl, tt) }; moves = inl refl; same = refl })
 sent_at_send s Begin side k tw tb legal yet t b a = plain (record { good = record { legal = legal; yet = yet; told = t; heard = (rw b refl, tt) }; moves = inl refl; same = refl })
@@ -297,8 +297,8 @@ steps_at Before s k tw tb TooLong legal yet t b w = absurd (cc)
 steps_at Before s k tw tb Ended legal yet t b w = absurd (cc)
 steps_at After s k tw tb (ClockReading at) legal yet t (b, f, side) w =
     let P : Standing → Type 0 = λ x. Steps s x k tw tb in
-    plain (either P (is_late s at) (forfeit s (position_of s).side (Late s.asked at)) (judge s)
-    (λ e. finishes s (Forfeit (position_of s).side (Late s.asked at)) k tw tb After legal t)
+    plain (either P (is_late s at) (forfeit s (position_now s).side (Late s.asked at)) (judge s)
+    (λ e. finishes s (Forfeit (position_now s).side (Late s.asked at)) k tw tb After legal t)
     (λ e. judges s k tw tb (record { legal = legal; both = t; begun = b }) yet f side))
 steps_at After s k tw tb Sent legal yet t b w = absurd (cc)
 steps_at After s k tw tb Broke legal yet t b w = absurd (cc)

@@ -15,7 +15,7 @@ use Rattle.match_core.specs.declared.answers.Cause.TheVariants.{NotAMove, Illega
 use Rattle.match_core.specs.declared.answers.Verdict.{Verdict}
 use Rattle.match_core.specs.declared.answers.Verdict.TheVariants.{Rules, Limit, Forfeit}
 use Rattle.match_core.specs.Replies.{is_ok, is_error}
-use Rattle.match_core.specs.Standing.{Standing, Happening, Sent, Line, TooLong, Ended, Broke, Reading, next, act_at, answers, position_of, go, finish, ask, judge, judge_read, decide, accept, first_line, at_stage, is_late, keep, reply_ends, hear, question, forfeit, answered, outcome_of}
+use Rattle.match_core.specs.Standing.{Standing, Happening, Sent, Line, TooLong, Ended, Broke, Reading, next, act_at, answers, position_now, go, finish, ask, judge, judge_read, decide, accept, first_line, at_stage, is_late, keep, reply_ends, hear, question, forfeit, answered, outcome_of}
 use Rattle.std.proofs.Common.{◌≡◌, ◌<◌, ◌≤◌, ℕ, ◌+◌, ◌-◌, ◌*◌, false, cond, List, [], ◌∷◌, ◌++◌, length, refl, length-append, IsTrue, arith, Result, Ok, Err}
 use Rattle.match_core.specs.Keeps.{HasNext}
 use Rattle.match_core.specs.Texts.{read_of}
@@ -36,7 +36,7 @@ asks_at s (Time budget margin) side n h l v = record { bounded = record { plies 
 
 asks : (s : Standing) (n : ℕ) → length s.moves < s.setup.limit → 8008 * (s.setup.limit - length s.moves) + 3003 < n → false ≡ has_verdict s.verdict → Falls (ask s) n
 unfolding ask
-asks s n h l v = asks_at s s.setup.level (position_of s).side n h l v
+asks s n h l v = asks_at s s.setup.level (position_now s).side n h l v
 
 le_false : (m n : ℕ) → nat_le m n ≡ false → n < m
 le_false m n e = grind arith
@@ -55,14 +55,14 @@ accepts s m n h l v =
     record { bounded = record { plies = omega (arith, e, h); count = omega arith; judged = v }; less = omega (arith, e, h, l) }
 
 judges_as : (s : Standing) (line : List ℕ) (o : Result Move MoveFault) (n : ℕ) → length s.moves < s.setup.limit → 8008 * (s.setup.limit - length s.moves) ≤ n → false ≡ has_verdict s.verdict → Falls (judge_read s line o) n
-judges_as s line (Err fault) n h l v = ends_at s (Forfeit (position_of s).side (NotAMove line)) n (omega arith)
+judges_as s line (Err fault) n h l v = ends_at s (Forfeit (position_now s).side (NotAMove line)) n (omega arith)
 judges_as s line (Ok m) n h l v =
     let P : Standing → Type 0 = λ t. Falls t n in
-    either P (is_listed (position_of s) m) (accept s m) (forfeit s (position_of s).side (Illegal line)) (λ e. accepts s m n h l v) (λ e. ends_at s (Forfeit (position_of s).side (Illegal line)) n (omega arith))
+    either P (is_listed (position_now s) m) (accept s m) (forfeit s (position_now s).side (Illegal line)) (λ e. accepts s m n h l v) (λ e. ends_at s (Forfeit (position_now s).side (Illegal line)) n (omega arith))
 
 judges : (s : Standing) (n : ℕ) → length s.moves < s.setup.limit → 8008 * (s.setup.limit - length s.moves) ≤ n → false ≡ has_verdict s.verdict → Falls (judge s) n
 unfolding judge
-judges s n h l v = judges_as s (first_line s) (read_of s.setup.game_type (position_of s).board (first_line s)) n h l v
+judges s n h l v = judges_as s (first_line s) (read_of s.setup.game_type (position_now s).board (first_line s)) n h l v
 
 answers_as : (s : Standing) (level : Level) (n : ℕ) → s.count ≤ 1000 → length s.moves < s.setup.limit → 8008 * (s.setup.limit - length s.moves) < n → false ≡ has_verdict s.verdict → Falls (answered s level) n
 answers_as s (Depth depth) n c h l v = judges s n h (omega arith) v
@@ -141,7 +141,7 @@ falls_at Before s Ended c p v w = absurd (cc)
 falls_at After s (Reading at) c p v w =
     let n : ℕ = 8008 * (s.setup.limit - length s.moves) in
     let P : Standing → Type 0 = λ t. Falls t n in
-    either P (is_late s at) (forfeit s (position_of s).side (Late s.asked at)) (judge s) (λ e. ends_at s (Forfeit (position_of s).side (Late s.asked at)) n (omega (arith, p))) (λ e. judges s n p (omega arith) v)
+    either P (is_late s at) (forfeit s (position_now s).side (Late s.asked at)) (judge s) (λ e. ends_at s (Forfeit (position_now s).side (Late s.asked at)) n (omega (arith, p))) (λ e. judges s n p (omega arith) v)
 falls_at After s Sent c p v w = absurd (cc)
 falls_at After s Broke c p v w = absurd (cc)
 falls_at After s (Line bytes) c p v w = absurd (cc)

@@ -15,7 +15,7 @@ use Rattle.match_core.specs.declared.answers.Stage.TheVariants.{Send, Read, Befo
 use Rattle.match_core.specs.declared.answers.Cause.TheVariants.{Illegal, ErrLine, Flood}
 use Rattle.match_core.specs.declared.answers.Verdict.TheVariants.{Rules, Limit}
 use Rattle.match_core.specs.Replies.{is_ok, is_error}
-use Rattle.match_core.specs.Standing.{Standing, Happening, Sent, Line, TooLong, Ended, Broke, Reading, start, next, act_at, answers, position_of, finish, ask, judge, judge_read, decide, accept, first_line, at_stage, is_late, keep, reply_ends, hear, forfeit, answered, latest, outcome_of}
+use Rattle.match_core.specs.Standing.{Standing, Happening, Sent, Line, TooLong, Ended, Broke, Reading, start, next, act_at, answers, position_now, finish, ask, judge, judge_read, decide, accept, first_line, at_stage, is_late, keep, reply_ends, hear, forfeit, answered, latest, outcome_of}
 use Rattle.match_core.specs.Texts.{read_of}
 use Rattle.std.proofs.Common.{◌≡◌, ◌↔◌, ◌⊎◌, inl, inr, ℕ, zero, suc, Bool, true, false, cond, List, [], ◌∷◌, length, refl, None, Some, IsTrue, arith, Result, Ok, Err}
 use Rattle.std.specs.Option.{option_map}
@@ -43,11 +43,11 @@ decides s a =
 
 judges_as : (s : Standing) (a : ℕ) (line : List ℕ) (o : Result Move MoveFault) → judge_read (with_asked s a) line o ≡ with_asked (judge_read s line o) a
 judges_as s a line (Err fault) = refl
-judges_as s a line (Ok m) = conds (is_listed (position_of s) m) (accept s m) (forfeit s (position_of s).side (Illegal line)) _ _ a refl refl
+judges_as s a line (Ok m) = conds (is_listed (position_now s) m) (accept s m) (forfeit s (position_now s).side (Illegal line)) _ _ a refl refl
 
 judges : (s : Standing) (a : ℕ) → judge (with_asked s a) ≡ with_asked (judge s) a
 unfolding judge
-judges s a = judges_as s a (first_line s) (read_of s.setup.game_type (position_of s).board (first_line s))
+judges s a = judges_as s a (first_line s) (read_of s.setup.game_type (position_now s).board (first_line s))
 
 answers_as : (s : Standing) (a : ℕ) (level : Level) → answered (with_asked s a) level ≡ with_asked (answered s level) a
 answers_as s a (Depth depth) = judges s a

@@ -14,7 +14,7 @@ use Rattle.match_core.specs.declared.answers.Stage.TheVariants.{Send, Read, Befo
 use Rattle.match_core.specs.declared.answers.Cause.TheVariants.{Illegal, ErrLine, Flood, Late}
 use Rattle.match_core.specs.declared.answers.Verdict.TheVariants.{Rules, Limit}
 use Rattle.match_core.specs.Replies.{is_ok, is_error}
-use Rattle.match_core.specs.Standing.{Standing, Happening, Sent, Line, TooLong, Ended, Broke, Reading, start, match_after, next, after_all, position_of, finish, ask, judge, judge_read, decide, accept, first_line, at_stage, is_late, keep, reply_ends, hear, forfeit, answered, outcome_of}
+use Rattle.match_core.specs.Standing.{Standing, Happening, Sent, Line, TooLong, Ended, Broke, Reading, start, match_after, next, after_all, position_now, finish, ask, judge, judge_read, decide, accept, first_line, at_stage, is_late, keep, reply_ends, hear, forfeit, answered, outcome_of}
 use Rattle.match_core.specs.Texts.{read_of}
 use Rattle.std.proofs.Common.{◌≡◌, inl, inr, ◌≤◌, ℕ, zero, suc, true, cond, List, [], ◌∷◌, ◌++◌, length, refl, ap, sym, ◌∙◌, Some, arith, subst, Result, Ok, Err, append_assoc}
 use Rattle.hive_model.specs.Lines.{Line as Mark, ToldLines}
@@ -49,11 +49,11 @@ judges_as : (s : Standing) (line : List ℕ) (o : Result Move MoveFault) → Gro
 judges_as s line (Err fault) = no_move s (finish s Limit) refl
 judges_as s line (Ok m) =
     let P : Standing → Type 0 = λ t. Grows s t in
-    either P (is_listed (position_of s) m) (accept s m) (forfeit s (position_of s).side (Illegal line)) (λ e. (m ∷ [], refl)) (λ e. no_move s (finish s Limit) refl)
+    either P (is_listed (position_now s) m) (accept s m) (forfeit s (position_now s).side (Illegal line)) (λ e. (m ∷ [], refl)) (λ e. no_move s (finish s Limit) refl)
 
 judges : (s : Standing) → Grows s (judge s)
 unfolding judge
-judges s = judges_as s (first_line s) (read_of s.setup.game_type (position_of s).board (first_line s))
+judges s = judges_as s (first_line s) (read_of s.setup.game_type (position_now s).board (first_line s))
 
 answers_as : (s : Standing) (level : Level) → Grows s (answered s level)
 answers_as s (Depth depth) = judges s
@@ -97,7 +97,7 @@ grows_at Before s TooLong = no_move s s refl
 grows_at Before s Ended = no_move s s refl
 grows_at After s (Reading at) =
     let P : Standing → Type 0 = λ t. Grows s t in
-    either P (is_late s at) (forfeit s (position_of s).side (Late s.asked at)) (judge s) (λ e. no_move s s refl) (λ e. judges s)
+    either P (is_late s at) (forfeit s (position_now s).side (Late s.asked at)) (judge s) (λ e. no_move s s refl) (λ e. judges s)
 grows_at After s Sent = no_move s s refl
 grows_at After s Broke = no_move s s refl
 grows_at After s (Line bytes) = no_move s s refl
@@ -122,7 +122,7 @@ sent-append (h ∷ fs) gs s to = ap (λ z. sent_at s s.stage h to ++ z) (sent-ap
 
 -- What was done is a front of what happens
 
-pub record Begins (s : Standing) (hs : List Happening) (t : Standing) (all : List Happening) : Type 0 where
+pub record HappensFirst (s : Standing) (hs : List Happening) (t : Standing) (all : List Happening) : Type 0 where
   pub fs : List Happening
   pub more : List Happening
   pub asked : ℕ
@@ -132,17 +132,17 @@ pub record Begins (s : Standing) (hs : List Happening) (t : Standing) (all : Lis
   pub black : sent t fs Black ≡ sent s hs Black
   pub whole : is_finished (after_all s hs).stage ≡ true → more ≡ []
 
-begins_none : (s : Standing) (a n : ℕ) (white black : List Mark) → Begins s [] (with_asked s a) (happens n (with_asked s a) white black)
+begins_none : (s : Standing) (a n : ℕ) (white black : List Mark) → HappensFirst s [] (with_asked s a) (happens n (with_asked s a) white black)
 begins_none s a n white black = record { fs = []; more = happens n (with_asked s a) white black; asked = a; split = refl; match = refl; white = refl; black = refl; whole = λ e. happens_none n (with_asked s a) white black e }
 
-begins_over : (hs : List Happening) (s : Standing) (a n : ℕ) (white black : List Mark) → Answering s hs → is_finished s.stage ≡ true → Begins s hs (with_asked s a) (happens n (with_asked s a) white black)
+begins_over : (hs : List Happening) (s : Standing) (a n : ℕ) (white black : List Mark) → Answering s hs → is_finished s.stage ≡ true → HappensFirst s hs (with_asked s a) (happens n (with_asked s a) white black)
 begins_over [] s a n white black t e = begins_none s a n white black
 begins_over (h ∷ hs) s a n white black (t, u) e = let f = open_at s.stage h t in absurd (cc)
 
-joins : (s t x : Standing) (h k : Happening) (hs : List Happening) (F : Standing → List Happening) → next t k ≡ x → Begins (next s h) hs x (F x) → sent_at t t.stage k White ≡ sent_at s s.stage h White → sent_at t t.stage k Black ≡ sent_at s s.stage h Black
-    → Begins s (h ∷ hs) t (k ∷ F (next t k))
+joins : (s t x : Standing) (h k : Happening) (hs : List Happening) (F : Standing → List Happening) → next t k ≡ x → HappensFirst (next s h) hs x (F x) → sent_at t t.stage k White ≡ sent_at s s.stage h White → sent_at t t.stage k Black ≡ sent_at s s.stage h Black
+    → HappensFirst s (h ∷ hs) t (k ∷ F (next t k))
 joins s t x h k hs F e r w b =
-    let q : Begins (next s h) hs (next t k) (F (next t k)) = subst (λ y. Begins (next s h) hs y (F y)) (sym e) r in
+    let q : HappensFirst (next s h) hs (next t k) (F (next t k)) = subst (λ y. HappensFirst (next s h) hs y (F y)) (sym e) r in
     record {
       fs = k ∷ q.fs;
       more = q.more;
@@ -155,7 +155,7 @@ joins s t x h k hs F e r w b =
     }
 
 begins : (hs : List Happening) (s : Standing) (a n : ℕ) (white black : List Mark) (w b : ToldLines) → Answering s hs → AreInTime s hs → Feeds s hs White (Some white) w → Feeds s hs Black (Some black) b → IsBounded s → left s ≤ n
-    → Begins s hs (with_asked s a) (happens n (with_asked s a) white black)
+    → HappensFirst s hs (with_asked s a) (happens n (with_asked s a) white black)
 begins [] s a n white black w b t i e f bound less = begins_none s a n white black
 begins (h ∷ hs) s a zero white black w b (t, u) (i, j) (mw, e, f) (mb, k, g) bound less = let c = matches_near_their_end s h bound t in let d = c.1 in absurd (omega (arith, d, less))
 begins (h ∷ hs) s a (suc n) white black w b (t, u) (i, j) (mw, e, f) (mb, k, g) bound less =
@@ -167,12 +167,12 @@ begins (h ∷ hs) s a (suc n) white black w b (t, u) (i, j) (mw, e, f) (mb, k, g
     let wl : List Mark = left_of_white s.stage white in
     let bl : List Mark = left_of_black s.stage black in
     let few : left (next s h) ≤ n = let d = c.1 in omega (arith, d, less) in
-    let over : is_finished (at_stage s s.stage h).stage ≡ true → Begins (next s h) hs x (happens n x wl bl) =
+    let over : is_finished (at_stage s s.stage h).stage ≡ true → HappensFirst (next s h) hs x (happens n x wl bl) =
     λ o. begins_over hs (next s h) st.asked n wl bl u (ap (λ (y : Standing). is_finished y.stage) (next_is s h) ∙ o) in
-    let rest : Begins (next s h) hs x (happens n x wl bl) =
-    elim st.w_left as (λ _. Begins (next s h) hs x (happens n x wl bl)) [
+    let rest : HappensFirst (next s h) hs x (happens n x wl bl) =
+    elim st.w_left as (λ _. HappensFirst (next s h) hs x (happens n x wl bl)) [
       | inr o ↦ over o
-      | inl p ↦ elim st.b_left as (λ _. Begins (next s h) hs x (happens n x wl bl)) [
+      | inl p ↦ elim st.b_left as (λ _. HappensFirst (next s h) hs x (happens n x wl bl)) [
         | inr o ↦ over o
         | inl q ↦ begins hs (next s h) st.asked n wl bl w b u j (subst (λ y. Feeds (next s h) hs White y w) p f) (subst (λ y. Feeds (next s h) hs Black y b) q g) c.0 few
       ]

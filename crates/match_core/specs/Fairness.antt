@@ -16,7 +16,7 @@ use Rattle.match_core.specs.declared.answers.Stage.TheVariants.{Send, Read, Befo
 use Rattle.match_core.specs.Replies.{is_ok}
 use Rattle.match_core.specs.Keeps.{IsSetup}
 use Rattle.match_core.specs.Texts.{tell_line}
-use Rattle.match_core.specs.Standing.{Standing, Happening, Sent, Line, TooLong, Ended, Broke, Reading, start, match_after, next, act_at, answers, line_for, position_of}
+use Rattle.match_core.specs.Standing.{Standing, Happening, Sent, Line, TooLong, Ended, Broke, Reading, start, match_after, next, act_at, answers, line_for, position_now}
 
 -- each of these answers the act to come
 abbrev pub Answering : Standing → List Happening → Type 0
@@ -139,9 +139,9 @@ first_of (line ∷ lines) = line
 -- a move is accepted: it is legal, and is what the first line of the last whole reply, which the
 -- side to move gave, denotes
 pub record Accepts (s : Standing) (reply : Reply) (m : Move) : Type 0 where
-  pub side : reply.side ≡ (position_of s).side
-  pub denotes : Denotes s.setup.game_type (position_of s).board (first_of reply.lines) m
-  pub legal : IsOn (legal_moves (position_of s)) m
+  pub side : reply.side ≡ (position_now s).side
+  pub denotes : Denotes s.setup.game_type (position_now s).board (first_of reply.lines) m
+  pub legal : IsOn (legal_moves (position_now s)) m
 
 -- an event leaves the moves, or accepts one
 abbrev pub MovesOn : Standing → Standing → Reply → Type 0

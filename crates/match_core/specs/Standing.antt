@@ -72,8 +72,8 @@ standing setup moves stage asked first count verdict =
     }
 
 -- the position that the moves lead to
-abbrev pub position_of : Standing → Position
-position_of s = replay (opening s.setup.game_type) s.moves
+abbrev pub position_now : Standing → Position
+position_now s = replay (opening s.setup.game_type) s.moves
 
 -- the position before the last move
 abbrev pub position_before : Standing → Position
@@ -117,7 +117,7 @@ question (Time budget margin) side = Before
 
 -- the side to move is asked
 unfoldable pub ask : Standing → Standing
-ask s = go s (question s.setup.level (position_of s).side)
+ask s = go s (question s.setup.level (position_now s).side)
 
 -- a move is accepted: it is played, and then told to white and to black
 abbrev pub accept : Standing → Move → Standing
@@ -130,14 +130,14 @@ first_line s = unwrap_or s.first []
 
 -- the side to move forfeits where its line is no move, or a move that is not legal
 abbrev pub judge_read : Standing → List ℕ → Result Move MoveFault → Standing
-judge_read s line (Err fault) = forfeit s (position_of s).side (NotAMove line)
+judge_read s line (Err fault) = forfeit s (position_now s).side (NotAMove line)
 judge_read s line (Ok m) =
-    cond (is_listed (position_of s) m) (accept s m) (forfeit s (position_of s).side (Illegal line))
+    cond (is_listed (position_now s) m) (accept s m) (forfeit s (position_now s).side (Illegal line))
 
 -- the reply of the side to move is judged
 unfoldable pub judge : Standing → Standing
 judge s =
-    judge_read s (first_line s) (read_of s.setup.game_type (position_of s).board (first_line s))
+    judge_read s (first_line s) (read_of s.setup.game_type (position_now s).board (first_line s))
 
 -- How the game goes on or ended: by its position where that ends it; else it is drawn where the
 -- match is played with the rule of third repetition and the position stands for the third time.
@@ -206,7 +206,7 @@ at_read s job side (Reading at) = s
 
 -- the clock is read before the question
 abbrev pub at_before : Standing → Happening → Standing
-at_before s (Reading at) = record s { stage = Send Ask (position_of s).side; asked = at }
+at_before s (Reading at) = record s { stage = Send Ask (position_now s).side; asked = at }
 at_before s Sent = s
 at_before s (Line bytes) = s
 at_before s TooLong = s
@@ -216,7 +216,7 @@ at_before s Broke = s
 -- the clock is read after the reply
 abbrev pub at_after : Standing → Happening → Standing
 at_after s (Reading at) =
-    cond (is_late s at) (forfeit s (position_of s).side (Late s.asked at)) (judge s)
+    cond (is_late s at) (forfeit s (position_now s).side (Late s.asked at)) (judge s)
 at_after s Sent = s
 at_after s (Line bytes) = s
 at_after s TooLong = s

@@ -14,8 +14,8 @@ use Rattle.match_core.specs.Fairness.{sent_at, is_side}
 use Rattle.match_core.specs.Plays.{joined}
 use Rattle.hive_model.specs.Lines.{ToldLines}
 use Rattle.match_core.specs.Feeds.{Gave, FeedsAt}
-use Rattle.match_runner.specs.declared.turns.Turn.{Turn}
-use Rattle.match_runner.specs.declared.turns.Turn.TheVariants.{GoOn, Finished, ReadFault, WriteFault, Memory}
+use Rattle.match_runner.specs.declared.turns.Acted.{Acted}
+use Rattle.match_runner.specs.declared.turns.Acted.TheVariants.{GoOn, Finished, ReadFault, WriteFault, Memory}
 use Rattle.match_runner.specs.Turns.{Side, Tells, Hears, Looks, Turns, OneSide, CutSide, KeepsAt, is_broke}
 
 pub other_cause : (failed : Type 0) (n : ℕ) → (failed → ⊥) → HasCause failed n n
@@ -114,28 +114,28 @@ cut_none s to o n w = (0, w ∙ behind-nil o.written)
 cut_told : (s : Standing) (at : Colour) (o n : Side) → act_at s.stage ≡ SendAct at → (k : ℕ) × (n.written ≡ behind o.written (take k (line_at s s.stage))) → CutSide s at o n
 cut_told s at o n e (k, g) = (k, rw (sent_line s.stage s at e) g)
 
-pub told_white : (turn : Turn) (s t : Standing) (w0 w b : Side) (k : ℕ) → act_at s.stage ≡ SendAct White → ((at : Colour) → turn ≡ WriteFault at → at ≡ White) → w.ahead ≡ w0.ahead → Tells turn s t w0.written w.written → Turns turn s t w0 w b b k k
+pub told_white : (turn : Acted) (s t : Standing) (w0 w b : Side) (k : ℕ) → act_at s.stage ≡ SendAct White → ((at : Colour) → turn ≡ WriteFault at → at ≡ White) → w.ahead ≡ w0.ahead → Tells turn s t w0.written w.written → Turns turn s t w0 w b b k k
 told_white GoOn s t w0 w b k e side a (f, g) = (Sent, record { time = refl; next_is = f; fits = rw e refl; sound = refl; white = told_side s White w0 w e a g; black = quiet_side s White Black b e refl })
 told_white (WriteFault at) s t w0 w b k e side a (f, g) = (e ∙ ap SendAct (sym (side at refl)), record { next_is = f; fits = rw e refl; white = cut_told s White w0 w e g; black = cut_none s Black b b refl }, refl)
 told_white (ReadFault at) s t w0 w b k e side a g = absurd g
 told_white Finished s t w0 w b k e side a g = absurd g
 told_white Memory s t w0 w b k e side a g = tt
 
-pub told_black : (turn : Turn) (s t : Standing) (w b0 b : Side) (k : ℕ) → act_at s.stage ≡ SendAct Black → ((at : Colour) → turn ≡ WriteFault at → at ≡ Black) → b.ahead ≡ b0.ahead → Tells turn s t b0.written b.written → Turns turn s t w w b0 b k k
+pub told_black : (turn : Acted) (s t : Standing) (w b0 b : Side) (k : ℕ) → act_at s.stage ≡ SendAct Black → ((at : Colour) → turn ≡ WriteFault at → at ≡ Black) → b.ahead ≡ b0.ahead → Tells turn s t b0.written b.written → Turns turn s t w w b0 b k k
 told_black GoOn s t w b0 b k e side a (f, g) = (Sent, record { time = refl; next_is = f; fits = rw e refl; sound = refl; white = quiet_side s Black White w e refl; black = told_side s Black b0 b e a g })
 told_black (WriteFault at) s t w b0 b k e side a (f, g) = (e ∙ ap SendAct (sym (side at refl)), record { next_is = f; fits = rw e refl; white = cut_none s White w w refl; black = cut_told s Black b0 b e g }, refl)
 told_black (ReadFault at) s t w b0 b k e side a g = absurd g
 told_black Finished s t w b0 b k e side a g = absurd g
 told_black Memory s t w b0 b k e side a g = tt
 
-pub heard_white : (turn : Turn) (s t : Standing) (w0 w b : Side) (k : ℕ) → act_at s.stage ≡ ReadAct White → ((at : Colour) → turn ≡ ReadFault at → at ≡ White) → w.written ≡ w0.written → Hears turn s t w0.ahead w.ahead → Turns turn s t w0 w b b k k
+pub heard_white : (turn : Acted) (s t : Standing) (w0 w b : Side) (k : ℕ) → act_at s.stage ≡ ReadAct White → ((at : Colour) → turn ≡ ReadFault at → at ≡ White) → w.written ≡ w0.written → Hears turn s t w0.ahead w.ahead → Turns turn s t w0 w b b k k
 heard_white GoOn s t w0 w b k e side a (h, f, g) = (h, record { time = gave_time h w0.ahead w.ahead k g; next_is = f; fits = gave_fits s.stage h White w0.ahead w.ahead e g; sound = gave_sound h w0.ahead w.ahead g; white = heard_side s h White w0 w e g a; black = still_side s h White Black b e refl })
 heard_white (ReadFault at) s t w0 w b k e side a (f, g) = (e ∙ ap ReadAct (sym (side at refl)), record { next_is = f; fits = rw e refl; white = cut_none s White w0 w a; black = cut_none s Black b b refl }, refl)
 heard_white (WriteFault at) s t w0 w b k e side a g = absurd g
 heard_white Finished s t w0 w b k e side a g = absurd g
 heard_white Memory s t w0 w b k e side a g = tt
 
-pub heard_black : (turn : Turn) (s t : Standing) (w b0 b : Side) (k : ℕ) → act_at s.stage ≡ ReadAct Black → ((at : Colour) → turn ≡ ReadFault at → at ≡ Black) → b.written ≡ b0.written → Hears turn s t b0.ahead b.ahead → Turns turn s t w w b0 b k k
+pub heard_black : (turn : Acted) (s t : Standing) (w b0 b : Side) (k : ℕ) → act_at s.stage ≡ ReadAct Black → ((at : Colour) → turn ≡ ReadFault at → at ≡ Black) → b.written ≡ b0.written → Hears turn s t b0.ahead b.ahead → Turns turn s t w w b0 b k k
 heard_black GoOn s t w b0 b k e side a (h, f, g) = (h, record { time = gave_time h b0.ahead b.ahead k g; next_is = f; fits = gave_fits s.stage h Black b0.ahead b.ahead e g; sound = gave_sound h b0.ahead b.ahead g; white = still_side s h Black White w e refl; black = heard_side s h Black b0 b e g a })
 heard_black (ReadFault at) s t w b0 b k e side a (f, g) = (e ∙ ap ReadAct (sym (side at refl)), record { next_is = f; fits = rw e refl; white = cut_none s White w w refl; black = cut_none s Black b0 b a }, refl)
 heard_black (WriteFault at) s t w b0 b k e side a g = absurd g
@@ -159,7 +159,7 @@ clock_sends FinishedStage s h to e = refl
 looked_side : (s : Standing) (h : Happening) (to : Colour) (o : Side) → act_at s.stage ≡ Clock → OneSide s h to o o
 looked_side s h to o e = record { feeds = feeds_clock s.stage h to o.ahead e; wrote = rw (clock_sends s.stage s h to e) (behind-nil o.written) }
 
-pub looked : (turn : Turn) (s t : Standing) (w b : Side) (c0 c : ℕ) → act_at s.stage ≡ Clock → Looks turn s t c0 c → Turns turn s t w w b b c0 c
+pub looked : (turn : Acted) (s t : Standing) (w b : Side) (c0 c : ℕ) → act_at s.stage ≡ Clock → Looks turn s t c0 c → Turns turn s t w w b b c0 c
 looked GoOn s t w b c0 c e (f, g) = (Reading c, record { time = (g, refl); next_is = f; fits = rw e refl; sound = refl; white = looked_side s (Reading c) White w e; black = looked_side s (Reading c) Black b e })
 looked (ReadFault at) s t w b c0 c e g = absurd g
 looked (WriteFault at) s t w b c0 c e g = absurd g

@@ -17,7 +17,7 @@ use Rattle.match_core.specs.declared.answers.Cause.TheVariants.{NotAMove, Illega
 use Rattle.match_core.specs.declared.answers.Verdict.{Verdict}
 use Rattle.match_core.specs.declared.answers.Verdict.TheVariants.{Rules, Limit, Forfeit}
 use Rattle.match_core.specs.Replies.{is_ok, is_error}
-use Rattle.match_core.specs.Standing.{Standing, Happening, Sent, Line, TooLong, Ended, Broke, Reading, start, next, after_all, act_at, position_of, finish, ask, judge, judge_read, decide, accept, first_line, at_stage, is_late, keep, reply_ends, hear, forfeit, answered, outcome_of}
+use Rattle.match_core.specs.Standing.{Standing, Happening, Sent, Line, TooLong, Ended, Broke, Reading, start, next, after_all, act_at, position_now, finish, ask, judge, judge_read, decide, accept, first_line, at_stage, is_late, keep, reply_ends, hear, forfeit, answered, outcome_of}
 use Rattle.match_core.specs.Texts.{read_of}
 use Rattle.match_core.specs.declared.answers.Act.TheVariants.{Send as SendAct, Read as ReadAct}
 use Rattle.std.proofs.Common.{◌≡◌, ◌⊎◌, inl, inr, ℕ, false, cond, List, [], ◌∷◌, length, refl, ap, sym, ◌∙◌, Some, subst, Ok, Err}
@@ -50,14 +50,14 @@ decides s u =
     (λ e. either P (nat_le s.setup.limit (length s.moves)) (finish s Limit) (ask s) (λ f. finishes s Limit (λ side g. cc)) (λ f. asks s u))
 
 judges_as : (s : Standing) (line : List ℕ) (o : Result Move MoveFault) → IsUnbroken s.verdict → IsUnbroken (judge_read s line o).verdict
-judges_as s line (Err fault) u = finishes s (Forfeit (position_of s).side (NotAMove line)) (λ side f. cc)
+judges_as s line (Err fault) u = finishes s (Forfeit (position_now s).side (NotAMove line)) (λ side f. cc)
 judges_as s line (Ok m) u =
     let P : Standing → Type 0 = λ t. IsUnbroken t.verdict in
-    either P (is_listed (position_of s) m) (accept s m) (forfeit s (position_of s).side (Illegal line)) (λ e. u) (λ e. finishes s (Forfeit (position_of s).side (Illegal line)) (λ side f. cc))
+    either P (is_listed (position_now s) m) (accept s m) (forfeit s (position_now s).side (Illegal line)) (λ e. u) (λ e. finishes s (Forfeit (position_now s).side (Illegal line)) (λ side f. cc))
 
 judges : (s : Standing) → IsUnbroken s.verdict → IsUnbroken (judge s).verdict
 unfolding judge
-judges s u = judges_as s (first_line s) (read_of s.setup.game_type (position_of s).board (first_line s)) u
+judges s u = judges_as s (first_line s) (read_of s.setup.game_type (position_now s).board (first_line s)) u
 
 answers_as : (s : Standing) (level : Level) → IsUnbroken s.verdict → IsUnbroken (answered s level).verdict
 answers_as s (Depth depth) u = judges s u
@@ -101,7 +101,7 @@ goes_at Before s TooLong v u = u
 goes_at Before s Ended v u = u
 goes_at After s (Reading at) v u =
     let P : Standing → Type 0 = λ t. IsUnbroken t.verdict in
-    either P (is_late s at) (forfeit s (position_of s).side (Late s.asked at)) (judge s) (λ e. finishes s (Forfeit (position_of s).side (Late s.asked at)) (λ side g. cc)) (λ e. judges s u)
+    either P (is_late s at) (forfeit s (position_now s).side (Late s.asked at)) (judge s) (λ e. finishes s (Forfeit (position_now s).side (Late s.asked at)) (λ side g. cc)) (λ e. judges s u)
 goes_at After s Sent v u = u
 goes_at After s Broke v u = u
 goes_at After s (Line bytes) v u = u

@@ -17,7 +17,7 @@ use Rattle.match_core.specs.declared.answers.Cause.TheVariants.{Illegal, ErrLine
 use Rattle.match_core.specs.declared.answers.Verdict.{Verdict}
 use Rattle.match_core.specs.declared.answers.Verdict.TheVariants.{Rules, Limit, Forfeit}
 use Rattle.match_core.specs.Replies.{is_ok, is_error}
-use Rattle.match_core.specs.Standing.{Standing, Happening, Sent, Line, TooLong, Ended, Broke, Reading, start, next, after_all, act_at, answers, position_of, go, finish, ask, judge, judge_read, decide, accept, first_line, at_stage, is_late, keep, reply_ends, hear, question, forfeit, answered, outcome_of}
+use Rattle.match_core.specs.Standing.{Standing, Happening, Sent, Line, TooLong, Ended, Broke, Reading, start, next, after_all, act_at, answers, position_now, go, finish, ask, judge, judge_read, decide, accept, first_line, at_stage, is_late, keep, reply_ends, hear, question, forfeit, answered, outcome_of}
 use Rattle.match_core.specs.Texts.{read_of}
 use Rattle.match_core.specs.Keeps.{IsSetup}
 use Rattle.match_core.specs.Fairness.{Answering}
@@ -72,7 +72,7 @@ asks_at s (Time budget margin) side c0 c e v = record { late = no_late s.verdict
 
 asks : (s : Standing) (c0 c : ℕ) → false ≡ has_verdict s.verdict → Fine (ask s) c0 c
 unfolding ask
-asks s c0 c v = asks_at s s.setup.level (position_of s).side c0 c refl v
+asks s c0 c v = asks_at s s.setup.level (position_now s).side c0 c refl v
 
 decides : (s : Standing) (c0 c : ℕ) → false ≡ has_verdict s.verdict → Fine (decide s) c0 c
 unfolding decide
@@ -85,11 +85,11 @@ judges_as : (s : Standing) (line : List ℕ) (o : Result Move MoveFault) (c0 c :
 judges_as s line (Err fault) c0 c v = record { late = tt; asked = tt }
 judges_as s line (Ok m) c0 c v =
     let P : Standing → Type 0 = λ t. Fine t c0 c in
-    either P (is_listed (position_of s) m) (accept s m) (forfeit s (position_of s).side (Illegal line)) (λ e. record { late = no_late s.verdict c0 c v; asked = tt }) (λ e. record { late = tt; asked = tt })
+    either P (is_listed (position_now s) m) (accept s m) (forfeit s (position_now s).side (Illegal line)) (λ e. record { late = no_late s.verdict c0 c v; asked = tt }) (λ e. record { late = tt; asked = tt })
 
 judges : (s : Standing) (c0 c : ℕ) → false ≡ has_verdict s.verdict → Fine (judge s) c0 c
 unfolding judge
-judges s c0 c v = judges_as s (first_line s) (read_of s.setup.game_type (position_of s).board (first_line s)) c0 c v
+judges s c0 c v = judges_as s (first_line s) (read_of s.setup.game_type (position_now s).board (first_line s)) c0 c v
 
 answers_as : (s : Standing) (level : Level) (c0 c : ℕ) → IfTimed level (InIt s.asked c0 c) → false ≡ has_verdict s.verdict → Fine (answered s level) c0 c
 answers_as s (Depth depth) c0 c q v = judges s c0 c v
@@ -134,7 +134,7 @@ goes_at Before s Ended c0 c mid l q v k w = absurd (cc)
 goes_at After s (Reading at) c0 c mid l q v (later, k) w =
     let P : Standing → Type 0 = λ t. Fine t c0 mid in
     let under : s.asked ≤ at = let x = q.1 in omega (arith, x, later) in
-    either P (is_late s at) (forfeit s (position_of s).side (Late s.asked at)) (judge s) (λ e. record { late = (q.0, under, sym k); asked = tt }) (λ e. judges s c0 mid v)
+    either P (is_late s at) (forfeit s (position_now s).side (Late s.asked at)) (judge s) (λ e. record { late = (q.0, under, sym k); asked = tt }) (λ e. judges s c0 mid v)
 goes_at After s Sent c0 c mid l q v k w = absurd (cc)
 goes_at After s Broke c0 c mid l q v k w = absurd (cc)
 goes_at After s (Line bytes) c0 c mid l q v k w = absurd (cc)

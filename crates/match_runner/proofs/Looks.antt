@@ -15,7 +15,7 @@ use Rattle.match_core.specs.declared.answers.Stage.TheVariants.{Send, Read, Befo
 use Rattle.match_core.specs.declared.answers.Cause.TheVariants.{Illegal, ErrLine, Flood, Late}
 use Rattle.match_core.specs.declared.answers.Verdict.TheVariants.{Rules, Limit}
 use Rattle.match_core.specs.Replies.{is_ok, is_error}
-use Rattle.match_core.specs.Standing.{Standing, Happening, Sent, Line, TooLong, Ended, Broke, Reading, start, match_after, next, after_all, act_at, answers, position_of, go, finish, ask, judge, judge_read, decide, accept, first_line, at_stage, is_late, keep, reply_ends, hear, question, forfeit, answered, outcome_of}
+use Rattle.match_core.specs.Standing.{Standing, Happening, Sent, Line, TooLong, Ended, Broke, Reading, start, match_after, next, after_all, act_at, answers, position_now, go, finish, ask, judge, judge_read, decide, accept, first_line, at_stage, is_late, keep, reply_ends, hear, question, forfeit, answered, outcome_of}
 use Rattle.match_core.specs.Texts.{read_of}
 use Rattle.match_core.specs.Fairness.{Answering}
 use Rattle.std.proofs.Common.{◌≡◌, ◌≤◌, ℕ, ◌+◌, ◌*◌, cond, List, [], ◌∷◌, ◌++◌, length, length-append, refl, ap, ◌∙◌, IsTrue, arith, Ok, Err}
@@ -49,7 +49,7 @@ asks_at s (Time budget margin) side n h = omega arith
 
 asks : (s : Standing) (n : ℕ) → n ≤ 2 * length s.moves → Read_so n (ask s)
 unfolding ask
-asks s n h = asks_at s s.setup.level (position_of s).side n h
+asks s n h = asks_at s s.setup.level (position_now s).side n h
 
 decides : (s : Standing) (n : ℕ) → n ≤ 2 * length s.moves → Read_so n (decide s)
 unfolding decide
@@ -62,11 +62,11 @@ judges_as : (s : Standing) (line : List ℕ) (o : Result Move MoveFault) (n : �
 judges_as s line (Err fault) n h = h
 judges_as s line (Ok m) n h =
     let P : Standing → Type 0 = λ t. Read_so n t in
-    either P (is_listed (position_of s) m) (accept s m) (forfeit s (position_of s).side (Illegal line)) (λ e. let k : length (s.moves ++ m ∷ []) ≡ length s.moves + 1 = length-append s.moves (m ∷ []) in omega (arith, k, h)) (λ e. h)
+    either P (is_listed (position_now s) m) (accept s m) (forfeit s (position_now s).side (Illegal line)) (λ e. let k : length (s.moves ++ m ∷ []) ≡ length s.moves + 1 = length-append s.moves (m ∷ []) in omega (arith, k, h)) (λ e. h)
 
 judges : (s : Standing) (n : ℕ) → n ≤ 2 * length s.moves + 2 → Read_so n (judge s)
 unfolding judge
-judges s n h = judges_as s (first_line s) (read_of s.setup.game_type (position_of s).board (first_line s)) n h
+judges s n h = judges_as s (first_line s) (read_of s.setup.game_type (position_now s).board (first_line s)) n h
 
 answers_as : (s : Standing) (level : Level) (n : ℕ) → n ≤ 2 * length s.moves + 1 → Read_so n (answered s level)
 answers_as s (Depth depth) n h = judges s n (omega arith)
@@ -118,7 +118,7 @@ reads_at Before s Ended n b w = absurd (cc)
 reads_at After s (Reading at) n b w =
     let P : Standing → Type 0 = λ t. Read_so (n + 1) t in
     let c : n + 1 ≤ 2 * length s.moves + 2 = omega (arith, b) in
-    either P (is_late s at) (forfeit s (position_of s).side (Late s.asked at)) (judge s) (λ e. c) (λ e. judges s (n + 1) c)
+    either P (is_late s at) (forfeit s (position_now s).side (Late s.asked at)) (judge s) (λ e. c) (λ e. judges s (n + 1) c)
 reads_at After s Sent n b w = absurd (cc)
 reads_at After s Broke n b w = absurd (cc)
 reads_at After s (Line bytes) n b w = absurd (cc)

@@ -6,8 +6,8 @@ use Rattle.line_feed.specs.Feed.{Reading as Reader, HoldsLittle, fresh}
 use Rattle.match_core.specs.declared.answers.Setup.{Setup}
 use Rattle.match_core.specs.Keeps.{IsSetup}
 use Rattle.match_core.specs.Standing.{Standing}
-use Rattle.match_runner.specs.declared.turns.Turn.{Turn}
-use Rattle.match_runner.specs.declared.turns.Turn.TheVariants.{GoOn, Finished, ReadFault, WriteFault, Memory}
+use Rattle.match_runner.specs.declared.turns.Acted.{Acted}
+use Rattle.match_runner.specs.declared.turns.Acted.TheVariants.{GoOn, Finished, ReadFault, WriteFault, Memory}
 use Rattle.match_runner.specs.Wires.{HasFailed, Watch, Wire}
 use Rattle.match_runner.specs.Turns.{Side, Turns, looks_at, side_of}
 use Rattle.match_runner.specs.Runs.{FinalRun, Ran, RanOver, Run}
@@ -38,7 +38,7 @@ ran_over setup t w0 w b0 b r0 r is final = record {
 }
 
 -- an act behind which the run is over
-abbrev pub IsLast : Turn → Type 0
+abbrev pub IsLast : Acted → Type 0
 IsLast GoOn = ⊥
 IsLast Finished = Unit {0}
 IsLast (ReadFault side) = Unit {0}
@@ -46,13 +46,13 @@ IsLast (WriteFault side) = Unit {0}
 IsLast Memory = ⊥
 
 -- which counts rose by an act that failed
-pub record Rises (turn : Turn) (w0 w b0 b : Wire) : Type 0 where
+pub record Rises (turn : Acted) (w0 w b0 b : Wire) : Type 0 where
   pub white_reads : turn ≡ ReadFault White → Rose w0.reads w.reads
   pub white_writes : turn ≡ WriteFault White → Rose w0.writes w.writes
   pub black_reads : turn ≡ ReadFault Black → Rose b0.reads b.reads
   pub black_writes : turn ≡ WriteFault Black → Rose b0.writes b.writes
 
-pub rises : (turn : Turn) (w0 w b0 b : Wire) (w_reads w_writes b_reads b_writes : ℕ) → w0.reads ≤ w_reads → w0.writes ≤ w_writes → b0.reads ≤ b_reads → b0.writes ≤ b_writes
+pub rises : (turn : Acted) (w0 w b0 b : Wire) (w_reads w_writes b_reads b_writes : ℕ) → w0.reads ≤ w_reads → w0.writes ≤ w_writes → b0.reads ≤ b_reads → b0.writes ≤ b_writes
     → HasCause (turn ≡ ReadFault White) w_reads w.reads → HasCause (turn ≡ WriteFault White) w_writes w.writes → HasCause (turn ≡ ReadFault Black) b_reads b.reads → HasCause (turn ≡ WriteFault Black) b_writes b.writes
     → Rises turn w0 w b0 b
 rises turn w0 w b0 b w_reads w_writes b_reads b_writes wr ww br bw x y z u = record {
@@ -62,7 +62,7 @@ rises turn w0 w b0 b w_reads w_writes b_reads b_writes wr ww br bw x y z u = rec
   black_writes = λ e. rose_from _ _ _ bw (u.rose e);
 }
 
-last_act : (turn : Turn) (setup : Setup) (s t : Standing) (w0 w2 b0 b2 : Wire) (x0 x x2 y0 y y2 : Side) (r0 r r2 : Watch) → IsLast turn → Run setup s x0 x y0 y r0 r → Turns turn s t x x2 y y2 r.last r2.last → r2.readings ≤ r.readings + looks_at s.stage
+last_act : (turn : Acted) (setup : Setup) (s t : Standing) (w0 w2 b0 b2 : Wire) (x0 x x2 y0 y y2 : Side) (r0 r r2 : Watch) → IsLast turn → Run setup s x0 x y0 y r0 r → Turns turn s t x x2 y y2 r.last r2.last → r2.readings ≤ r.readings + looks_at s.stage
     → Rises turn w0 w2 b0 b2 → Ran setup t x0 x2 y0 y2 r0 r2 (HasFailed w0 w2) (HasFailed b0 b2)
 last_act GoOn setup s t w0 w2 b0 b2 x0 x x2 y0 y y2 r0 r r2 over run turned c rises = absurd over
 last_act Memory setup s t w0 w2 b0 b2 x0 x x2 y0 y y2 r0 r r2 over run turned c rises = absurd over
@@ -71,7 +71,7 @@ last_act (ReadFault side) setup s t w0 w2 b0 b2 x0 x x2 y0 y y2 r0 r r2 over run
 last_act (WriteFault side) setup s t w0 w2 b0 b2 x0 x x2 y0 y y2 r0 r r2 over run turned c rises = cut_at side setup s t x0 x x2 y0 y y2 r0 r r2 _ _ run (inl turned.0) turned.1 turned.2 c (λ e. inr (rises.white_writes (ap WriteFault e))) (λ e. inr (rises.black_writes (ap WriteFault e)))
 
 -- the run is over behind this act
-pub ends_over : (turn : Turn) (setup : Setup) (s t : Standing) (w_reader b_reader : Reader) (w0 w2 b0 b2 : Wire) (w b : Side) (r0 r r2 : Watch) → IsSetup setup → IsLast turn
+pub ends_over : (turn : Acted) (setup : Setup) (s t : Standing) (w_reader b_reader : Reader) (w0 w2 b0 b2 : Wire) (w b : Side) (r0 r r2 : Watch) → IsSetup setup → IsLast turn
     → Run setup s (side_of fresh w0.rest w0.written) w (side_of fresh b0.rest b0.written) b r0 r
     → Turns turn s t w (side_of w_reader w2.rest w2.written) b (side_of b_reader b2.rest b2.written) r.last r2.last → r2.readings ≤ r.readings + looks_at s.stage
     → HoldsLittle w_reader → HoldsLittle b_reader → Rises turn w0 w2 b0 b2 → RanOver setup t w0 w2 b0 b2 r0 r2

@@ -4,7 +4,7 @@ use Rattle.match_core.specs.declared.answers.Setup.{Setup}
 use Rattle.match_core.specs.declared.answers.Stage.{Stage}
 use Rattle.match_core.specs.declared.answers.Stage.TheVariants.{Send, Read, Before, After, Finished as FinishedStage}
 use Rattle.match_core.specs.declared.answers.Act.TheVariants.{Finish}
-use Rattle.match_core.specs.Standing.{Standing, Happening, start, match_after, next, after_all, act_at, answers, at_stage, forfeit, is_late, position_of, Sent, Line, TooLong, Ended, Broke, Reading}
+use Rattle.match_core.specs.Standing.{Standing, Happening, start, match_after, next, after_all, act_at, answers, at_stage, forfeit, is_late, position_now, Sent, Line, TooLong, Ended, Broke, Reading}
 use Rattle.match_core.specs.Fairness.{Answering}
 use Rattle.match_core.specs.Plays.{joined}
 use Rattle.hive_model.specs.Lines.{lines}
@@ -32,7 +32,7 @@ late_stops (k ∷ hs) s x side m n e (t, u) f = let w : IsTrue (answers Finish k
 
 in_time_at : (stage : Stage) (s x : Standing) (h : Happening) (hs : List Happening) → x ≡ at_stage s stage h → Answering x hs → is_broke h ≡ false → (IsLate (after_all x hs).verdict → ⊥) → IsInTime stage s h
 in_time_at After s x (Reading at) hs e a v f =
-    elim (is_late s at) as (λ b. is_late s at ≡ b → is_late s at ≡ false) [ true ↦ λ l. absurd (late_stops hs s x (position_of s).side s.asked at (e ∙ rw l refl) a f) | false ↦ λ l. l ] refl
+    elim (is_late s at) as (λ b. is_late s at ≡ b → is_late s at ≡ false) [ true ↦ λ l. absurd (late_stops hs s x (position_now s).side s.asked at (e ∙ rw l refl) a f) | false ↦ λ l. l ] refl
 in_time_at After s x Sent hs e a v f = tt
 in_time_at After s x (Line bytes) hs e a v f = tt
 in_time_at After s x TooLong hs e a v f = tt

@@ -14,8 +14,8 @@ use Rattle.match_core.specs.Fairness.{sent_at}
 use Rattle.match_core.specs.Plays.{joined, is_finished}
 use Rattle.hive_model.specs.Lines.{ToldLines}
 use Rattle.match_core.specs.Feeds.{Gave, FeedsAt}
-use Rattle.match_runner.specs.declared.turns.Turn.{Turn}
-use Rattle.match_runner.specs.declared.turns.Turn.TheVariants.{GoOn, Finished, ReadFault, WriteFault, Memory}
+use Rattle.match_runner.specs.declared.turns.Acted.{Acted}
+use Rattle.match_runner.specs.declared.turns.Acted.TheVariants.{GoOn, Finished, ReadFault, WriteFault, Memory}
 
 -- one side: the lines to come, the bytes that were sent to it
 pub record Side : Type 0 where
@@ -23,7 +23,7 @@ pub record Side : Type 0 where
   pub written : Told
 
 -- a line is sent
-abbrev pub Tells : Turn → Standing → Standing → Told → Told → Type 0
+abbrev pub Tells : Acted → Standing → Standing → Told → Told → Type 0
 Tells GoOn s t before after = (t ≡ next s Sent) × (after ≡ behind before (line_at s s.stage))
 Tells (WriteFault at) s t before after =
     (t ≡ next s Broke) × ((n : ℕ) × (after ≡ behind before (take n (line_at s s.stage))))
@@ -32,7 +32,7 @@ Tells Finished s t before after = ⊥
 Tells Memory s t before after = Unit {0}
 
 -- a line is read
-abbrev pub Hears : Turn → Standing → Standing → ToldLines → ToldLines → Type 0
+abbrev pub Hears : Acted → Standing → Standing → ToldLines → ToldLines → Type 0
 Hears GoOn s t old new = (h : Happening) × (t ≡ next s h) × Gave h old new
 Hears (ReadFault side) s t old new = (t ≡ next s Broke) × (new ≡ old)
 Hears (WriteFault side) s t old new = ⊥
@@ -40,7 +40,7 @@ Hears Finished s t old new = ⊥
 Hears Memory s t old new = Unit {0}
 
 -- a match that goes on is within this many bytes of lines
-abbrev pub Room : Turn → Standing → ℕ → Standing → ℕ → Type 0
+abbrev pub Room : Acted → Standing → ℕ → Standing → ℕ → Type 0
 Room GoOn s before t after = is_finished t.stage ≡ false → after ≤ before + 65538
 Room (ReadFault side) s before t after = Unit {0}
 Room (WriteFault side) s before t after = Unit {0}
@@ -48,7 +48,7 @@ Room Finished s before t after = Unit {0}
 Room Memory s before t after = Unit {0}
 
 -- the clock is read
-abbrev pub Looks : Turn → Standing → Standing → ℕ → ℕ → Type 0
+abbrev pub Looks : Acted → Standing → Standing → ℕ → ℕ → Type 0
 Looks GoOn s t before last = (t ≡ next s (Reading last)) × (before ≤ last)
 Looks (ReadFault side) s t before last = ⊥
 Looks (WriteFault side) s t before last = ⊥
@@ -116,7 +116,7 @@ pub record Breaks (s t : Standing) (w0 w b0 b : Side) : Type 0 where
   pub black : CutSide s Black b0 b
 
 -- what an act did to the match, to both sides and to the clock
-abbrev pub Turns : Turn → Standing → Standing → Side → Side → Side → Side → ℕ → ℕ → Type 0
+abbrev pub Turns : Acted → Standing → Standing → Side → Side → Side → Side → ℕ → ℕ → Type 0
 Turns GoOn s t w0 w b0 b c0 c = (h : Happening) × Goes s h t w0 w b0 b c0 c
 Turns (ReadFault side) s t w0 w b0 b c0 c =
     (act_at s.stage ≡ ReadAct side) × Breaks s t w0 w b0 b × (c ≡ c0)

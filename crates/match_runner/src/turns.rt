@@ -15,7 +15,7 @@ use match_core::{Act, Event, Referee};
 
 /// What an act came to.
 #[derive(Clone, Copy, Debug, PartialEq, Eq)]
-pub enum Turn {
+pub enum Acted {
     /// It was done, and the match may go on.
     GoOn,
     /// There is nothing to do: the match is over.
@@ -29,24 +29,24 @@ pub enum Turn {
 }
 
 /// Moves a referee on; there may be no memory for a line.
-fn tell<L: Link, G: Game + Drop>(referee: &mut Referee<G>, link: &mut L, side: Colour) -> Turn
+fn tell<L: Link, G: Game + Drop>(referee: &mut Referee<G>, link: &mut L, side: Colour) -> Acted
     requires { act_at referee.old.stage ≡ Act.Send side }
     ensures told { Tells result referee.old referee.new (L.written link.old) (L.written link.new) }
     ensures rest { L.rest link.new ≡ L.rest link.old }
     ensures reads { L.read_faults link.new ≡ L.read_faults link.old }
-    ensures side { (at : Colour) → result ≡ Turn.WriteFault at → at ≡ side }
-    ensures cause { HasCause (result ≡ Turn.WriteFault side) (L.write_faults link.old)
+    ensures side { (at : Colour) → result ≡ Acted.WriteFault at → at ≡ side }
+    ensures cause { HasCause (result ≡ Acted.WriteFault side) (L.write_faults link.old)
         (L.write_faults link.new) }
 {
     if write_all(link, referee.text()) {
         match referee.step(Event::Sent, &[]) {
-            Ok(()) => Turn::GoOn,
-            Err(_) => Turn::Memory,
+            Ok(()) => Acted::GoOn,
+            Err(_) => Acted::Memory,
         }
     } else {
         match referee.step(Event::Broke, &[]) {
-            Ok(()) => Turn::WriteFault { side },
-            Err(_) => Turn::Memory,
+            Ok(()) => Acted::WriteFault { side },
+            Err(_) => Acted::Memory,
         }
     }
 }
@@ -57,7 +57,7 @@ fn listen<L: Link, G: Game + Drop>(
     reader: &mut LineReader,
     link: &mut L,
     side: Colour,
-) -> Turn
+) -> Acted
     requires act { act_at referee.old.stage ≡ Act.Read side }
     requires room { reader.old.passed + 65536 < input_limit }
     ensures little { HoldsLittle reader.new }
@@ -66,36 +66,36 @@ fn listen<L: Link, G: Game + Drop>(
     ensures room { Room result referee.old reader.old.passed referee.new reader.new.passed }
     ensures written { L.written link.new ≡ L.written link.old }
     ensures writes { L.write_faults link.new ≡ L.write_faults link.old }
-    ensures side { (at : Colour) → result ≡ Turn.ReadFault at → at ≡ side }
-    ensures cause { HasCause (result ≡ Turn.ReadFault side) (L.read_faults link.old)
+    ensures side { (at : Colour) → result ≡ Acted.ReadFault at → at ≡ side }
+    ensures cause { HasCause (result ≡ Acted.ReadFault side) (L.read_faults link.old)
         (L.read_faults link.new) }
 {
     match reader.next_line(link) {
         LineAnswer::Line => match referee.step(Event::Line, reader.line()) {
-            Ok(()) => Turn::GoOn,
-            Err(_) => Turn::Memory,
+            Ok(()) => Acted::GoOn,
+            Err(_) => Acted::Memory,
         },
         LineAnswer::TooLong => match referee.step(Event::TooLong, &[]) {
-            Ok(()) => Turn::GoOn,
-            Err(_) => Turn::Memory,
+            Ok(()) => Acted::GoOn,
+            Err(_) => Acted::Memory,
         },
         LineAnswer::End => match referee.step(Event::Ended, &[]) {
-            Ok(()) => Turn::GoOn,
-            Err(_) => Turn::Memory,
+            Ok(()) => Acted::GoOn,
+            Err(_) => Acted::Memory,
         },
         LineAnswer::Failed => match referee.step(Event::Broke, &[]) {
-            Ok(()) => Turn::ReadFault { side },
-            Err(_) => Turn::Memory,
+            Ok(()) => Acted::ReadFault { side },
+            Err(_) => Acted::Memory,
         },
         LineAnswer::Full => match referee.step(Event::TooLong, &[]) {
-            Ok(()) => Turn::GoOn,
-            Err(_) => Turn::Memory,
+            Ok(()) => Acted::GoOn,
+            Err(_) => Acted::Memory,
         },
     }
 }
 
 /// Reads the clock.
-fn look<C: Clock, G: Game + Drop>(referee: &mut Referee<G>, clock: &mut C) -> Turn
+fn look<C: Clock, G: Game + Drop>(referee: &mut Referee<G>, clock: &mut C) -> Acted
     requires { act_at referee.old.stage ≡ Act.Clock }
     ensures looked { Looks result referee.old referee.new (C.last clock.old) (C.last clock.new) }
     ensures later { C.last clock.old ≤ C.last clock.new }
@@ -104,8 +104,8 @@ fn look<C: Clock, G: Game + Drop>(referee: &mut Referee<G>, clock: &mut C) -> Tu
 {
     let at = clock.now();
     match referee.step(Event::Reading { at }, &[]) {
-        Ok(()) => Turn::GoOn,
-        Err(_) => Turn::Memory,
+        Ok(()) => Acted::GoOn,
+        Err(_) => Acted::Memory,
     }
 }
 
@@ -118,7 +118,7 @@ pub(crate) fn one_act<L: Link, C: Clock, G: Game + Drop>(
     black: &mut L,
     black_lines: &mut LineReader,
     clock: &mut C,
-) -> Turn
+) -> Acted
     requires white_room { is_finished referee.old.stage ≡ false
         → white_lines.old.passed + 65536 < input_limit }
     requires black_room { is_finished referee.old.stage ≡ false
@@ -137,13 +137,13 @@ pub(crate) fn one_act<L: Link, C: Clock, G: Game + Drop>(
         white_lines.new.passed }
     ensures black_room { Room result referee.old black_lines.old.passed referee.new
         black_lines.new.passed }
-    ensures white_reads { HasCause (result ≡ Turn.ReadFault Colour.White) (L.read_faults white.old)
+    ensures white_reads { HasCause (result ≡ Acted.ReadFault Colour.White) (L.read_faults white.old)
         (L.read_faults white.new) }
-    ensures white_writes { HasCause (result ≡ Turn.WriteFault Colour.White)
+    ensures white_writes { HasCause (result ≡ Acted.WriteFault Colour.White)
         (L.write_faults white.old) (L.write_faults white.new) }
-    ensures black_reads { HasCause (result ≡ Turn.ReadFault Colour.Black) (L.read_faults black.old)
+    ensures black_reads { HasCause (result ≡ Acted.ReadFault Colour.Black) (L.read_faults black.old)
         (L.read_faults black.new) }
-    ensures black_writes { HasCause (result ≡ Turn.WriteFault Colour.Black)
+    ensures black_writes { HasCause (result ≡ Acted.WriteFault Colour.Black)
         (L.write_faults black.old) (L.write_faults black.new) }
     ensures later { C.last clock.old ≤ C.last clock.new }
     ensures counted { (C.readings clock.old ≤ C.readings clock.new)
@@ -163,6 +163,6 @@ pub(crate) fn one_act<L: Link, C: Clock, G: Game + Drop>(
             side: Colour::Black,
         } => listen(referee, black_lines, black, Colour::Black),
         Act::Clock => look(referee, clock),
-        Act::Finish => Turn::Finished,
+        Act::Finish => Acted::Finished,
     }
 }

@@ -18,7 +18,7 @@ use Rattle.bug_moves.specs.Adding.{IsAtHive, Gains}
 use Rattle.bug_moves.proofs.AtHive.{touched_at_hive}
 use Rattle.bug_moves.proofs.AntLaws.{some_same, place_of}
 use Rattle.bug_moves.proofs.Gaining.{gains_place, gains_same, gains_turn}
-use Rattle.mosquito_moves.specs.Copied.{shows, CopiesKind, kind_at, InKinds, AmongFirst}
+use Rattle.mosquito_moves.specs.Copied.{shows, CopiesKind, copied_kind, InKinds, AmongFirst}
 
 -- Each kind reaches places at the hive
 
@@ -43,10 +43,10 @@ among_all k b p ps n xs ys all is h = gains_same b (Reach k b p) (AmongFirst n p
 
 -- Each kind in turn
 
-pub kinds_next : (b : Stacks) (P : Kind → Place → Type 0) (n : ℕ) (xs ys zs : List Place) → Gains b (InKinds n P) xs ys → Gains b (P (kind_at n)) ys zs → Gains b (InKinds (n + 1) P) xs zs
-kinds_next b P = gains_turn b (λ k. P (kind_at k))
+pub kinds_next : (b : Stacks) (P : Kind → Place → Type 0) (n : ℕ) (xs ys zs : List Place) → Gains b (InKinds n P) xs ys → Gains b (P (copied_kind n)) ys zs → Gains b (InKinds (n + 1) P) xs zs
+kinds_next b P = gains_turn b (λ k. P (copied_kind k))
 
-pub copied_at : (n : ℕ) → n < 7 → kind_at n ≢ Mosquito
+pub copied_at : (n : ℕ) → n < 7 → copied_kind n ≢ Mosquito
 copied_at zero low e = cc
 copied_at (suc zero) low e = cc
 copied_at (suc (suc zero)) low e = cc
@@ -56,7 +56,7 @@ copied_at (suc (suc (suc (suc (suc zero))))) low e = cc
 copied_at (suc (suc (suc (suc (suc (suc zero)))))) low e = cc
 copied_at (suc (suc (suc (suc (suc (suc (suc n))))))) low e = omega (arith, low)
 
-index_of : (k : Kind) → k ≢ Mosquito → (n : ℕ) × (n < 7) × (kind_at n ≡ k)
+index_of : (k : Kind) → k ≢ Mosquito → (n : ℕ) × (n < 7) × (copied_kind n ≡ k)
 index_of Queen another = let low : 0 < 7 = omega arith in (0, low, refl)
 index_of Spider another = let low : 1 < 7 = omega arith in (1, low, refl)
 index_of Beetle another = let low : 2 < 7 = omega arith in (2, low, refl)
@@ -94,4 +94,4 @@ kinds_all b p n xs ys all h = gains_same b (CopiesOne b p) (InKinds n (CopiesKin
     let (i, low, is) = index_of (kind_of one.other) one.copied in
     let less : i < n = omega (arith, low, all) in
     (i, less, subst (λ j. CopiesKind b p j q) (sym is) (kind_from_one b p q one)))
-    (λ q (i, low, copies). let less : i < 7 = omega (arith, low, all) in one_from_kind b p (kind_at i) q (copied_at i less) copies) h
+    (λ q (i, low, copies). let less : i < 7 = omega (arith, low, all) in one_from_kind b p (copied_kind i) q (copied_at i less) copies) h

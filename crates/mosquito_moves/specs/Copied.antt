@@ -26,12 +26,12 @@ CopiesKind b p k q = IsTrue (touches_kind b p k) × Reach k b p q
 abbrev pub copied_kinds : List Kind
 copied_kinds = Queen ∷ Spider ∷ Beetle ∷ Grasshopper ∷ Ant ∷ Ladybug ∷ Pillbug ∷ []
 
-abbrev pub kind_at : ℕ → Kind
-kind_at n = slice_index_or copied_kinds n Queen
+abbrev pub copied_kind : ℕ → Kind
+copied_kind n = slice_index_or copied_kinds n Queen
 
 -- for one of the first n kinds
 abbrev pub InKinds : ℕ → (Kind → Place → Type 0) → Place → Type 0
-InKinds n P q = (k : ℕ) × (k < n) × P (kind_at k) q
+InKinds n P q = (k : ℕ) × (k < n) × P (copied_kind k) q
 
 -- one of the first n places of a list
 abbrev pub AmongFirst : ℕ → List Place → Place → Type 0

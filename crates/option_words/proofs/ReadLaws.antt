@@ -54,16 +54,16 @@ abbrev pub item_of : Text → Text → Item
 item_of name v = record { name = name; value = v }
 
 -- words begin with the item, where its value is of its form
-abbrev Begins : List Text → Item → List Text → Type 0
-Begins words item others = IsValue item.value → BeginWith words item others × IsItem item
+abbrev StartsItem : List Text → Item → List Text → Type 0
+StartsItem words item others = IsValue item.value → BeginWith words item others × IsItem item
 
-in_one : (word name v : Text) (rest : List Text) → long_of word ≡ Some (name, Some v) → Begins (word ∷ rest) (item_of name v) rest
+in_one : (word name v : Text) (rest : List Text) → long_of word ≡ Some (name, Some v) → StartsItem (word ∷ rest) (item_of name v) rest
 in_one word name v rest long value =
     let cut = long_is word (name, Some v) long in
     let parts = cut_is cut.0 name v cut.2 in
     (inl (ap (λ w. w ∷ rest) (cut.1 ∙ ap (λ t. codes "--" ++ t) parts.0)), record { name = lacks_no_equals name parts.1; value = value })
 
-in_two : (word name v : Text) (rest : List Text) → long_of word ≡ Some (name, None) → Begins (word ∷ (v ∷ rest)) (item_of name v) rest
+in_two : (word name v : Text) (rest : List Text) → long_of word ≡ Some (name, None) → StartsItem (word ∷ (v ∷ rest)) (item_of name v) rest
 in_two word name v rest long value =
     let cut = long_is word (name, None) long in
     let parts = whole_is cut.0 name cut.2 in
@@ -80,7 +80,7 @@ pub record Reads (names : List Text) (held : List Row) (words : List Text) (foun
   pub once : AreDifferent items
   pub found_is : found ≡ held ++ map row_of items
 
-reads_more : (names : List Text) (held : List Row) (item : Item) (words others : List Text) (found : List Row) → Begins words item others
+reads_more : (names : List Text) (held : List Row) (item : Item) (words others : List Text) (found : List Row) → StartsItem words item others
     → is_known names item.name ≡ true → has_row item.name held ≡ false → Reads names (held ++ row_of item ∷ []) others found → Reads names held words found
 reads_more names held item words others found begins known new r = record {
   items = item ∷ r.items;
@@ -103,7 +103,7 @@ module _ (command : Text) (names : List Text) where
   NameReads words = (held found : List Row) (name first : Text) → is_known names name ≡ true → long_of first ≡ Some (name, None) → HasNoDashes words
       → outcome command names (at held (Some (name, [])) (option name)) words ≡ Some found → Reads names held (first ∷ words) found
 
-  use_reads : (held found : List Row) (name v : Text) (words rest : List Text) → AfterReads rest → HasNoDashes rest → Begins words (item_of name v) rest
+  use_reads : (held found : List Row) (name v : Text) (words rest : List Text) → AfterReads rest → HasNoDashes rest → StartsItem words (item_of name v) rest
       → is_known names name ≡ true → uses command names name v held rest ≡ Some found → Reads names held words found
   use_reads held found name v words rest next h begins known is = go (has_row name held) refl
     where

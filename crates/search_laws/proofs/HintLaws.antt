@@ -23,7 +23,7 @@ use Rattle.search_laws.specs.Found.{IsFound, IsOpen}
 use Rattle.search_laws.proofs.FoundLaws.{found-below, found-raises}
 use Rattle.search_laws.proofs.Signs.{below}
 use lib.Signed.{le_z}
-use Rattle.search_laws.proofs.TurnLaws.{Turn, PlaysWithin}
+use Rattle.search_laws.proofs.TurnLaws.{LoopTurn, PlaysWithin}
 
 -- ---- a move that is skipped, since it was tried before
 
@@ -132,7 +132,7 @@ first-cut p d i m w n0 n1 n2 inner here same more =
     most_by-each (λ n. tried_cost p (d - 1) w.beta n w.alpha) (moves p) i m here in
     rw (cost-inner p d w.alpha w.beta inner) (omega (arith, same, more, first))
 
-pub cut-tries : (p : Position) (d : ℕ) (w inner : Window) (i : ℕ) (m : Move) (r : ℤ) (n0 n1 n2 : ℕ) → Turn p d w inner i m r →
+pub cut-tries : (p : Position) (d : ℕ) (w inner : Window) (i : ℕ) (m : Move) (r : ℤ) (n0 n1 n2 : ℕ) → LoopTurn p d w inner i m r →
     PlaysWithin p d w inner.alpha i n0 n1 → n2 ≤ n1 + (1 + cost (after p m) (d - 1) (neg_ℤ inner.beta) (neg_ℤ inner.alpha)) →
     n2 ≤ n0 + tries_cost (tried_cost p (d - 1) w.beta) (reply_value p (d - 1)) w.alpha w.beta (moves p)
 cut-tries p d w inner i m r n0 n1 n2 t so more =

@@ -42,7 +42,7 @@ reply-plays start played m d w behind n0 n1 n2 n3 moved ea eb one more same =
 
 -- ---- a turn of the loop
 
-pub record Turn (p : Position) (d : ℕ) (w inner : Window) (i : ℕ) (m : Move) (r : ℤ) : Type 0 where
+pub record LoopTurn (p : Position) (d : ℕ) (w inner : Window) (i : ℕ) (m : Move) (r : ℤ) : Type 0 where
   pub open_ : IsInner p d
   pub here : slice_get (moves p) i ≡ Some m
   pub beta : inner.beta ≡ w.beta
@@ -50,7 +50,7 @@ pub record Turn (p : Position) (d : ℕ) (w inner : Window) (i : ℕ) (m : Move)
   pub high : inner.alpha <ℤ w.beta
   pub found : IsFound (reply_value p (d - 1) m) inner r
 
-pub cut-found : (p : Position) (d : ℕ) (w inner : Window) (i : ℕ) (m : Move) (r : ℤ) → Turn p d w inner i m r → w.beta ≤ℤ r → IsFound (value p d) w r
+pub cut-found : (p : Position) (d : ℕ) (w inner : Window) (i : ℕ) (m : Move) (r : ℤ) → LoopTurn p d w inner i m r → w.beta ≤ℤ r → IsFound (value p d) w r
 cut-found p d w inner i m r t cut =
     let low : r ≤ℤ reply_value p (d - 1) m = t.found.lower (rw t.beta cut) in
     let each : reply_value p (d - 1) m ≤ℤ greatest (map (reply_value p (d - 1)) (moves p)) = greatest-each (reply_value p (d - 1)) (moves p) i m t.here in
@@ -64,14 +64,14 @@ PlaysWithin p d w alpha i before now =
     ≤ before + tries_cost (tried_cost p (d - 1) w.beta) (reply_value p (d - 1)) w.alpha w.beta (moves p)
 
 -- the answer did not reach beta: alpha is raised to what the move is worth
-pub turn-rest : (p : Position) (d : ℕ) (w inner : Window) (i : ℕ) (m : Move) (r alpha top : ℤ) → Turn p d w inner i m r → r <ℤ w.beta →
+pub turn-rest : (p : Position) (d : ℕ) (w inner : Window) (i : ℕ) (m : Move) (r alpha top : ℤ) → LoopTurn p d w inner i m r → r <ℤ w.beta →
     alpha ≡ int_max inner.alpha r → greatest_from inner.alpha (map (reply_value p (d - 1)) (drop i (moves p))) ≡ top →
     greatest_from alpha (map (reply_value p (d - 1)) (drop (i + 1) (moves p))) ≡ top
 turn-rest p d w inner i m r alpha top t below e so =
     greatest-step (reply_value p (d - 1)) (moves p) i m inner.alpha alpha top so t.here
     (e ∙ found-raises (reply_value p (d - 1) m) inner r (rw t.beta below) t.found)
 
-pub turn-plays : (p : Position) (d : ℕ) (w inner : Window) (i : ℕ) (m : Move) (r alpha : ℤ) (n0 n1 n2 : ℕ) → Turn p d w inner i m r → r <ℤ w.beta →
+pub turn-plays : (p : Position) (d : ℕ) (w inner : Window) (i : ℕ) (m : Move) (r alpha : ℤ) (n0 n1 n2 : ℕ) → LoopTurn p d w inner i m r → r <ℤ w.beta →
     alpha ≡ int_max inner.alpha r → PlaysWithin p d w inner.alpha i n0 n1 →
     n2 ≤ n1 + (1 + cost (after p m) (d - 1) (neg_ℤ inner.beta) (neg_ℤ inner.alpha)) → PlaysWithin p d w alpha (i + 1) n0 n2
 turn-plays p d w inner i m r alpha n0 n1 n2 t below e so more =
@@ -110,7 +110,7 @@ move-legal start entered now s old s1 level i m ee el es en e same =
 
 pub turn-made : (start now : Course) (d i : ℕ) (m : Move) (w inner : Window) (r : ℤ) → IsInner (position start) d → slice_get (moves (position start)) i ≡ Some m →
     now ≡ start → inner.beta ≡ w.beta → w.alpha ≤ℤ inner.alpha → inner.alpha <ℤ w.beta →
-    IsFound (reply_value (position now) (d - 1) m) inner r → Turn (position start) d w inner i m r
+    IsFound (reply_value (position now) (d - 1) m) inner r → LoopTurn (position start) d w inner i m r
 turn-made start now d i m w inner r open_ here same beta low high found = record {
   open_ = open_;
   here = here;

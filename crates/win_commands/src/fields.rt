@@ -29,9 +29,9 @@ fn answer_at(line: &[u8]) -> Option<bool>
 
 /// The answer of a solution.
 #[derive(Clone, Copy)]
-pub(crate) struct Answer;
+pub(crate) struct AnswerField;
 
-impl Field for Answer {
+impl Field for AnswerField {
     type Value = bool;
 
     ghost at = { λ _ line. answer_at line };

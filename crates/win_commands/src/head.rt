@@ -6,7 +6,7 @@ ghost use Rattle.hive_model.specs.Lines.{Line as AnyLine};
 ghost use Rattle.certificate_text.specs.Heads.{Reads, TakesLines};
 ghost use Rattle.win_commands.specs.Verdicts.{IsHead, head_of};
 
-use crate::fields::Answer;
+use crate::fields::AnswerField;
 use certificate_text::{HeadFault, NumberField, read_field, read_game_line};
 use game_text::Parsed;
 use hive_model::Game;
@@ -48,7 +48,7 @@ pub(crate) fn read_head<G: Game + Drop, S: Source>(
     read_field(reader, source, 1, &version_field)?;
     let game = read_game_line::<G, S>(alloc, reader, source)?;
     let plies = read_field(reader, source, 3, &plies_field)?;
-    let answer = read_field(reader, source, 4, &Answer)?;
+    let answer = read_field(reader, source, 4, &AnswerField)?;
     Ok(Head {
         game,
         plies,

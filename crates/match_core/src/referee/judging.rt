@@ -9,7 +9,7 @@ ghost use Rattle.match_core.specs.Standing.{
   forfeit,
   finish,
   accept,
-  position_of,
+  position_now,
 };
 ghost use Rattle.match_core.specs.Keeps.{IsSettled, IsTelling};
 
@@ -102,7 +102,7 @@ impl<G: Game + Drop> Referee<G> {
     fn accept(&mut self, m: Move)
         requires more { length self.old.moves < self.old.setup.limit }
         requires settled { IsSettled self.old.stage }
-        requires legal { IsOn (moves (position_of self.old)) m }
+        requires legal { IsOn (moves (position_now self.old)) m }
         ensures { self.new ≡ accept self.old m }
     {
         write_tell(&mut self.text, &self.game, m.again());

@@ -7,7 +7,7 @@ use Rattle.hive_model.specs.Placement.{MayPlace, Placement}
 use Rattle.hive_model.specs.Stack.{Levels, without_level}
 use Rattle.hive_model.proofs.PlaceListLaws.{all_same}
 use Rattle.hand_rules.specs.Listing.{last_level, IsPairBelow, ListsBelow}
-use Rattle.hand_rules.specs.Bringing.{MayBring, IsPlacementMove, position_of}
+use Rattle.hand_rules.specs.Bringing.{MayBring, IsPlacementMove, position_awake}
 use Rattle.hand_rules.proofs.PairLaws.{none_listed, with_piece, without_piece, all_named}
 use Rattle.hand_rules.proofs.BringLaws.{bring_from, brought_there, placed_below, none_to_bring}
 use Rattle.hand_rules.proofs.bringing.placements.Goals as goal
@@ -26,7 +26,7 @@ returns-then-not-can_bring g c =
 
 pub loop-x-init : goal.loop-x-init
 loop-x-init g c =
-    let p = position_of c.args.game_type (g.B.Board.stacks c.args.board.now) c.args.colour c.args.turn in
+    let p = position_awake c.args.game_type (g.B.Board.stacks c.args.board.now) c.args.colour c.args.turn in
     record { below = none_listed (Placement p) c.args.out.now c.requires.empty }
 
 pub loop-x-preserved : goal.loop-x-preserved
@@ -34,7 +34,7 @@ loop-x-preserved g c =
     let b = g.B.Board.stacks c.args.board.now in
     let t = c.args.game_type in
     let turn = c.args.turn in
-    let p = position_of t b c.args.colour turn in
+    let p = position_awake t b c.args.colour turn in
     let x = c.loop-x.x in
     let qs = c.placement_places.new.out.items in
     let below = c.loop-x.invariant.below in
@@ -61,6 +61,6 @@ loop-x-preserved g c =
 
 pub returns : goal.returns
 returns g c =
-    let p = position_of c.args.game_type (g.B.Board.stacks c.args.board.now) c.args.colour c.args.turn in
+    let p = position_awake c.args.game_type (g.B.Board.stacks c.args.board.now) c.args.colour c.args.turn in
     let x = c.loop-x.x in
     all_named (IsPairBelow (Placement p) x) (IsPlacementMove p) c.args.out.now c.loop-x.out (placed_below p x c.loop-x-test.false) c.loop-x.invariant.below.all
