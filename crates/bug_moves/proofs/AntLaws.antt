@@ -3,6 +3,7 @@ use Rattle.std.proofs.Common.{◌≡◌, ◌≢◌, ℕ, suc, ◌+◌, ◌≤◌
 use Rattle.std.specs.Prelude.{Some, slice_get}
 use Rattle.std.proofs.lemmas.Bool.{cases_eq}
 use Rattle.std.specs.declared.cmp.Ordering.TheVariants.{Less, Equal, Greater}
+use Rattle.std.proofs.lemmas.Option.{same_Some}
 use Rattle.hive_model.specs.declared.places.Place.{Place}
 use Rattle.hive_model.specs.declared.places.Dir.{Dir}
 use Rattle.hive_model.specs.Lists.{IsOn, IsPath}
@@ -69,9 +70,6 @@ path_further S a (p ∷ ps) b c path s = (path.0, path_further S p ps b c path.1
 pub way_further : (b : Stacks) (s p q : Place) → AntWay b s p → StepAway b s p q → AntWay b s q
 way_further b s p q (_, (way, path)) (apart, g) = (apart, (way ++ q ∷ [], path_further (GroundStep b) s way p q path g))
 
-pub some_same : (x y : Place) → Some x ≡ Some y → x ≡ y
-some_same x y e = cc
-
 -- what is to be expanded may be stepped from
 pub listed_within : (b : Stacks) (s place : Place) (found work : List Place) (n : ℕ) → IsWorklist found work → IsExpanded b s found work n → slice_get work n ≡ Some place → IsWithin 9500 place
 listed_within b s place found work n list h at = at_hive_within b h.list.sound place (h.list.near place (list.from_found place (on-at work n place at)))
@@ -98,14 +96,14 @@ expanded_next b s place found work found' work' n list h at gains begins = recor
   others = λ k low p q got is. elim (cases_eq k n) [
     | inl same ↦
         let one : Some p ≡ Some place = sym got ∙ begins k place (ap (slice_get work) same ∙ at) in
-        gains.gained q (subst (λ x. StepAway b s x q) (some_same p place one) is)
+        gains.gained q (subst (λ x. StepAway b s x q) (same_Some p place one) is)
     | inr other ↦
         let less : k < n = omega (arith, low, other) in
         let bound = get_within work n place at in
         let inside : k < length work = omega (arith, less, bound) in
         let (x, was) = get_exists work k inside in
         let one : Some p ≡ Some x = sym got ∙ begins k x was in
-        gains.kept q (h.others k less x q was (subst (λ y. StepAway b s y q) (some_same p x one) is))
+        gains.kept q (h.others k less x q was (subst (λ y. StepAway b s y q) (same_Some p x one) is))
   ];
 }
 

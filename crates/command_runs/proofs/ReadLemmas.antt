@@ -8,15 +8,13 @@ use Rattle.line_feed.specs.SoFar.{Covers, Fed, WasRead}
 use Rattle.line_feed.proofs.FedLemmas.{fed_end, fed_prefix}
 use Rattle.line_feed.proofs.AheadLemmas.{lines-nil}
 use Rattle.std.proofs.lemmas.List.{append-nil}
+use Rattle.std.proofs.lemmas.Option.{same_Some}
 use Rattle.command_runs.specs.Input.{IsAllRead, WereRead}
-
-some_same : {x y : List ℕ} → Some x ≡ Some y → x ≡ y
-some_same e = cc
 
 -- the input is the bytes read and those that are left
 was_read : (rest old : Told) (bytes input : List ℕ) → old ≡ in_front bytes rest → old ≡ Some input → (left : List ℕ) × WasRead input rest bytes left
 was_read None old bytes input e f = cc
-was_read (Some left) old bytes input e f = (left, record { split = some_same (sym f ∙ e); told = refl })
+was_read (Some left) old bytes input e f = (left, record { split = same_Some _ _ (sym f ∙ e); told = refl })
 
 -- of the bytes read the lines given are the first, and the others are those of what is held
 held_of : (finished : Bool) (bytes held : List ℕ) (given : List Line) (rest : Told) → Covers finished bytes held given rest → lines bytes ≡ given ++ lines held

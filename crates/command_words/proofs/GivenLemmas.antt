@@ -1,16 +1,11 @@
 -- What options give.
 use Rattle.std.proofs.Common.{◌≡◌, ◌∙◌, ap, sym, ℕ, List, Bor, Option, None, Some, option_map}
-
-none_some : {v : List ℕ} → None ≡ Some v → ⊥
-none_some e = cc
-
-some_same : {u v : List ℕ} → Some u ≡ Some v → u ≡ v
-some_same e = cc
+use Rattle.std.proofs.lemmas.Option.{none-some, same_Some}
 
 -- a value that is not there is none
 pub none_given : (o : Option (Bor (List ℕ))) (v : List ℕ) → o ≡ None → option_map (λ r. r.now) o ≡ Some v → ⊥
-none_given o v e f = none_some (sym (ap (option_map (λ r. r.now)) e) ∙ f)
+none_given o v e f = none-some _ (sym (ap (option_map (λ r. r.now)) e) ∙ f)
 
 -- a value that is there is this one
 pub some_given : (o : Option (Bor (List ℕ))) (r : Bor (List ℕ)) (v : List ℕ) → o ≡ Some r → option_map (λ r. r.now) o ≡ Some v → r.now ≡ v
-some_given o r v e f = some_same (sym (ap (option_map (λ r. r.now)) e) ∙ f)
+some_given o r v e f = same_Some _ _ (sym (ap (option_map (λ r. r.now)) e) ∙ f)

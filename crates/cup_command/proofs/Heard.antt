@@ -5,6 +5,7 @@ use Rattle.std.specs.Prelude.{if◌then◌else◌, ◌||◌}
 use Rattle.std.specs.List.{AllZip}
 use Rattle.std.proofs.lemmas.Bool.Decides.{nat_tests}
 use Rattle.std.proofs.lemmas.List.Sums.{sum_by-cons}
+use Rattle.std.proofs.lemmas.Option.{same_Some}
 use Rattle.hive_model.specs.declared.pieces.Colour.TheVariants.{White, Black}
 use Rattle.io_edge.specs.Outside.{Told, ToldLists, Rose, behind}
 use Rattle.io_edge.specs.Starts.{Engines}
@@ -168,9 +169,6 @@ each-game setup (old ∷ olds) (new ∷ news) (t ∷ ends) ran told = (game-play
 
 -- What was got
 
-some-told : {X : Type 0} {x y : X} → Some x ≡ Some y → x ≡ y
-some-told e = cc
-
 append-none : {A : Type 0} (xs : List A) → xs ++ [] ≡ xs
 append-none [] = refl
 append-none (x ∷ xs) = ap (λ ys. x ∷ ys) (append-none xs)
@@ -190,7 +188,7 @@ gains-all (l ∷ ls) (w ∷ ws) None (Some after) all (None, c, r) = gains-all l
 gains-all (l ∷ ls) (w ∷ ws) None (Some after) all (Some mid, c, r) = c
 gains-all (l ∷ ls) (w ∷ ws) (Some lists) (Some after) all (None, c, r) = absurd (gains-all ls ws None (Some after) all.1 r)
 gains-all (l ∷ ls) (w ∷ ws) (Some lists) (Some after) all (Some mid, (p, pe, pm), r) =
-    let same : p ≡ w = some-told (sym pe ∙ all.0) in
+    let same : p ≡ w = same_Some _ _ (sym pe ∙ all.0) in
     gains-all ls ws (Some mid) (Some after) all.1 r ∙ (ap (λ m. m ++ ws) (pm ∙ ap (λ q. lists ++ q ∷ []) same) ∙ append_assoc lists (w ∷ []) ws)
 
 all-wrote : (setup : Setup) (olds news : List Job) (ends : List Standing) → Ran setup olds news ends → AllTold olds → AllWrote (all_links news) (got (all_heard olds news))

@@ -2,6 +2,7 @@
 use Rattle.std.proofs.Common.{◌≡◌, ℕ, ◌+◌, ◌≤◌, false, true, List, length, refl, sym, ◌∙◌, ap, subst}
 use Rattle.std.specs.Prelude.{Option, Some, None, is_some, IfSome, IsTrue}
 use Rattle.std.proofs.lemmas.Bool.{eqb-true}
+use Rattle.std.proofs.lemmas.Option.{none-some}
 use Rattle.hive_model.specs.declared.places.Place.{Place}
 use Rattle.hive_model.specs.declared.places.Spot.{Spot}
 use Rattle.hive_model.specs.Boards.{Stacks, StandsAt, height_at, spot_of, is_on_top, is_top_spot, put, lift, IsBoard}
@@ -10,7 +11,6 @@ use Rattle.hive_model.proofs.BoardLemmas.{spot_of_stands, spot_within, stands_sp
 use Rattle.hive_model.proofs.CountLaws.{places_few}
 use Rattle.hive_model.proofs.BackLaws.{put_lift}
 use Rattle.cut_keeper.specs.declared.statuses.Change.{Change}
-use Rattle.cut_keeper.proofs.StandingLemmas.{none_some}
 use Rattle.cut_keeper.specs.Keeping.{Standings, status_of, keeper_of, undone, Shrunk}
 
 -- the board of before is the one with the piece put back
@@ -44,4 +44,4 @@ nothing None h = refl
 nothing (Some x) h = let wrong : true ≡ false = h in absurd (cc)
 
 pub nowhere : (b : Stacks) → IsBoard b → (x : ℕ) (o : Option Spot) → o ≡ spot_of b x → is_some o ≡ false → (r : Place) (i : ℕ) → StandsAt b x r i → ⊥
-nowhere b is x o answer none r i h = none_some _ (sym (nothing o none) ∙ answer ∙ stands_spot_of b is x r i h)
+nowhere b is x o answer none r i h = none-some _ (sym (nothing o none) ∙ answer ∙ stands_spot_of b is x r i h)

@@ -5,6 +5,7 @@ use Rattle.std.specs.FinMap.Entries.{find, is_sorted, below_all}
 use Rattle.std.specs.Ordering.{is_lt}
 use Rattle.std.proofs.lemmas.Bool.{eqb-true, eq-eqb, lt-ltb, ltb-true, and_parts, and_from}
 use Rattle.std.proofs.lemmas.Int.{ints}
+use Rattle.std.proofs.lemmas.Option.{none-some, same_Some}
 use Rattle.hive_model.specs.declared.places.Place.{Place}
 use Rattle.hive_model.specs.declared.places.Spot.{Spot}
 use Rattle.hive_model.specs.declared.places.Dir.{Dir}
@@ -26,7 +27,7 @@ use Rattle.cut_keeper.specs.Rings.{ring, ring_mask, is_suspect}
 use Rattle.cut_keeper.specs.Keeping.{Standings, status_on, with_status, status_of, keeper_of, is_cut_status, KeepsCuts, InOrder, Grown}
 use Rattle.cut_keeper.specs.Slots.{AtMost, Few}
 use Rattle.cut_keeper.specs.Examining.{look, Known, Right, RightButHeight, Pending, suspects}
-use Rattle.cut_keeper.proofs.StandingLemmas.{none_some, one_some, same_standings, status_on-with}
+use Rattle.cut_keeper.proofs.StandingLemmas.{same_standings, status_on-with}
 use Rattle.cut_keeper.proofs.RingLaws.{arc_from, from_arc, arcs_ring, few_suspects, arc_unsuspected}
 
 -- What stands for a board, by lookups
@@ -117,11 +118,11 @@ module _ (k : Standings) (b : Stacks) (p : Place) (but : RightButHeight k b p) w
   but_height_known q h = elim (cases_place q p) [ inl same ↦ ap (is_occupied b) same ∙ but.occupied | inr other ↦ known_at k b q (but.others q other) h ]
 
   pub but_height_some : None ≡ status_on k p → ⊥
-  but_height_some h = none_some _ (h ∙ but.has)
+  but_height_some h = none-some _ (h ∙ but.has)
 
   pub but_height_on : (s : Status) → Some s ≡ status_on k p → record { height = height_at b p; separating = s.separating } ≡ status_of b p
   but_height_on s h =
-      let part = ap (λ (t : Status). t.separating) (one_some _ _ (h ∙ but.has)) ∙ but.separating in
+      let part = ap (λ (t : Status). t.separating) (same_Some _ _ (h ∙ but.has)) ∙ but.separating in
       (λ i. record { height = height_at b p; separating = part i })
 
   pub but_height_right : (q : Place) → Right (with_status k p (Some (status_of b p))) b q
@@ -254,11 +255,11 @@ pending_else k b p d ds h s q = elim (h q) as (λ _. Right k b q ⊎ ((d : Dir) 
 
 pub spot_done : (b : Stacks) → IsBoard b → (x : ℕ) (t : Spot) → Some t ≡ spot_of b x → (p : Place) → StandsAt b x p 0 → (t.place ≡ p) × (t.level ≡ 0)
 spot_done b is x t h p stands =
-    let same = one_some _ _ (h ∙ stands_spot_of b is x p 0 stands) in
+    let same = same_Some _ _ (h ∙ stands_spot_of b is x p 0 stands) in
     (ap (λ (s : Spot). s.place) same, ap (λ (s : Spot). s.level) same)
 
 pub spot_none : (b : Stacks) → IsBoard b → (x : ℕ) → None ≡ spot_of b x → (p : Place) → StandsAt b x p 0 → ⊥
-spot_none b is x h p stands = none_some _ (h ∙ stands_spot_of b is x p 0 stands)
+spot_none b is x h p stands = none-some _ (h ∙ stands_spot_of b is x p 0 stands)
 
 -- A piece more
 

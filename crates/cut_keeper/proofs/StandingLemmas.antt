@@ -2,6 +2,7 @@
 use Rattle.std.proofs.Common.{◌≡◌, ℕ, suc, zero, ◌+◌, ◌≤◌, ◌<◌, Bool, true, false, cond, not, List, [], ◌∷◌, ◌++◌, length, length-append, length-drop, ◌-◌, map, drop, inl, inr, refl, sym, ◌∙◌, ap, arith}
 use Rattle.std.specs.Prelude.{Option, Some, None, slice_get, is_some}
 use Rattle.std.specs.FinMap.Entries.{find-put, find-where_key, is_sorted-put, is_sorted-where_key, same_entries}
+use Rattle.std.proofs.lemmas.Option.{none-some, same_Some}
 use Rattle.hive_model.specs.declared.places.Place.{Place}
 use Rattle.hive_model.specs.Lists.{IsOn}
 use Rattle.hive_model.specs.Places.{place_cmp, is_place}
@@ -13,14 +14,6 @@ use Rattle.cut_keeper.specs.Keeping.{Standings, status_on, with_status, undone, 
 use Rattle.cut_keeper.specs.Slots.{AtMost, Few}
 
 -- None, and some value
-
--- none is no value
-pub none_some : {X : Type 0} (x : X) → None ≡ Some x → ⊥
-none_some x h = cc
-
--- one value at most is held
-pub one_some : {X : Type 0} (x y : X) → Some x ≡ Some y → x ≡ y
-one_some x y h = cc
 
 -- Standings by their lookups
 
@@ -100,8 +93,8 @@ few_long n k h = record { places = map (λ e. e.0) k; short = (let same = length
     length_places (e ∷ k) = ap suc (length_places k)
 
 pub drop_at : (cs : List Change) (i : ℕ) (c : Change) → slice_get cs i ≡ Some c → drop i cs ≡ c ∷ drop (i + 1) cs
-drop_at [] i c h = absurd (none_some _ h)
-drop_at (d ∷ cs) zero c h = ap (λ e. e ∷ cs) (one_some _ _ h)
+drop_at [] i c h = absurd (none-some _ h)
+drop_at (d ∷ cs) zero c h = ap (λ e. e ∷ cs) (same_Some _ _ h)
 drop_at (d ∷ cs) (suc i) c h = let next : suc i + 1 ≡ suc (i + 1) = omega arith in drop_at cs i c h ∙ ap (λ n. c ∷ drop n (d ∷ cs)) (sym next)
 
 -- one change more is taken back

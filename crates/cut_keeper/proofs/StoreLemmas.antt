@@ -4,7 +4,7 @@ use Rattle.std.specs.Prelude.{Option, Some, None, slice_get, slice_set, is_some,
 use Rattle.std.specs.FinMap.Entries.{find-put, is_sorted-put}
 use Rattle.std.specs.List.{filter, position, position_or_len}
 use Rattle.std.proofs.lemmas.Bool.{eqb-true, eq-eqb, lt-ltb, not_from_false}
-use Rattle.std.proofs.lemmas.Option.{slice_get-get_or}
+use Rattle.std.proofs.lemmas.Option.{slice_get-get_or, none-some, same_Some}
 use Rattle.std.proofs.lemmas.List.Quantifiers.{position-Some}
 use Rattle.hive_model.specs.declared.places.Place.{Place}
 use Rattle.hive_model.specs.Lists.{IsOn}
@@ -17,7 +17,7 @@ use Rattle.cut_keeper.specs.declared.statuses.Status.{Status}
 use Rattle.cut_keeper.specs.declared.store.Entry.{Entry}
 use Rattle.cut_keeper.specs.Keeping.{Standings, status_on, with_status, InOrder}
 use Rattle.cut_keeper.specs.Slots.{Few, entry_at, Suits, status_in, standings, IsStore, IsSlotFor, IsFull}
-use Rattle.cut_keeper.proofs.StandingLemmas.{none_some, one_some, same_standings, status_on-with, in_order-with, with_itself}
+use Rattle.cut_keeper.proofs.StandingLemmas.{same_standings, status_on-with, in_order-with, with_itself}
 
 -- Standings of slots
 
@@ -48,11 +48,11 @@ in_has ((Some e) ∷ s) p t h = elim (is_place p e.place) as (λ b. is_place p e
 ] refl h
 
 some_in : (s : List (Option Entry)) (i : ℕ) (p : Place) (t : Status) → Has s i p t → (u : Status) × (status_in s p ≡ Some u)
-some_in [] i p t h = absurd (none_some _ h)
-some_in (None ∷ s) zero p t h = absurd (none_some _ (one_some _ _ h))
+some_in [] i p t h = absurd (none-some _ h)
+some_in (None ∷ s) zero p t h = absurd (none-some _ (same_Some _ _ h))
 some_in (None ∷ s) (suc i) p t h = some_in s i p t h
 some_in ((Some e) ∷ s) zero p t h =
-    let same = one_some _ _ (one_some _ _ h) in
+    let same = same_Some _ _ (same_Some _ _ h) in
     (e.status, ap (λ b. cond b (Some e.status) (status_in s p)) (from_same_place p e.place (sym (ap (λ (f : Entry). f.place) same))))
 some_in ((Some e) ∷ s) (suc i) p t h = elim (is_place p e.place) as (λ b. (u : Status) × (cond b (Some e.status) (status_in s p) ≡ Some u)) [
   | true ↦ (e.status, refl)
@@ -65,7 +65,7 @@ module _ (s : List (Option Entry)) (is : IsStore s) where
       let found = some_in s i p t h in
       let there = in_has s p found.0 found.1 in
       let same = is.apart there.0 i (record { place = p; status = found.0 }) (record { place = p; status = t }) there.1 h refl in
-      let whole = one_some _ _ (one_some _ _ (sym there.1 ∙ ap (slice_get s) same ∙ h)) in
+      let whole = same_Some _ _ (same_Some _ _ (sym there.1 ∙ ap (slice_get s) same ∙ h)) in
       found.1 ∙ ap (λ (e : Entry). Some e.status) whole
 
 module _ (s : List (Option Entry)) (is : IsStore s) (p : Place) (i : ℕ) (slot : IsSlotFor s p i) (o : Option Entry) (u : Option Status) (suits : Suits p o u) where
@@ -128,7 +128,7 @@ module _ (s : List (Option Entry)) (is : IsStore s) (p : Place) (i : ℕ) (slot 
           let has = in_has (slice_set s i o) p t h in
           elim (cases has.0) [
             | inl is_i ↦
-                let one = one_some _ _ (sym here ∙ ap (slice_get (slice_set s i o)) (sym is_i) ∙ has.1) in
+                let one = same_Some _ _ (sym here ∙ ap (slice_get (slice_set s i o)) (sym is_i) ∙ has.1) in
                 (subst (λ v. Suits p v u) one suits).1
             | inr other ↦ absurd (other (slot.only has.0 (record { place = p; status = t }) (sym (else has.0 other) ∙ has.1) refl))
           ]
@@ -185,7 +185,7 @@ position_gets p s i h =
     got (Some e) g t = (e, g, sym (same_place p e.place t))
 
 none_cond : {X : Type 0} (t : Bool) (x : X) → cond t (Some x) None ≡ None → t ≡ false
-none_cond true x h = absurd (none_some x (sym h))
+none_cond true x h = absurd (none-some x (sym h))
 none_cond false x h = refl
 
 pub position_none : {X : Type 0} (t : X → Bool) (s : List X) → position t s ≡ None → (i : ℕ) (x : X) → slice_get s i ≡ Some x → t x ≡ false
@@ -203,7 +203,7 @@ own_slot s is p i h =
     let found = position_gets p s i h in
     record {
       within = subst (λ n. i < n) is.many (get_within s i (Some found.0) found.1);
-      own = λ e g. ap (λ (f : Entry). f.place) (one_some _ _ (one_some _ _ (sym g ∙ found.1))) ∙ found.2;
+      own = λ e g. ap (λ (f : Entry). f.place) (same_Some _ _ (same_Some _ _ (sym g ∙ found.1))) ∙ found.2;
       only = λ j e g same. is.apart j i e found.0 g found.1 (same ∙ sym found.2);
     }
 
@@ -216,7 +216,7 @@ free_slot s is p i none h =
     let gets = slice_get-get_or s i None at.0 in
     record {
       within = subst (λ n. i < n) is.many at.0;
-      own = λ e g. let wrong : false ≡ true = sym (ap is_none (one_some _ _ (sym gets ∙ g))) ∙ at.1 in absurd (cc);
+      own = λ e g. let wrong : false ≡ true = sym (ap is_none (same_Some _ _ (sym gets ∙ g))) ∙ at.1 in absurd (cc);
       only = λ j e g same. absurd (not_at p s none j e g same);
     }
 
@@ -235,7 +235,7 @@ full s is p none taken = record {
 pub read_some : (s : List (Option Entry)) (p : Place) (i : ℕ) (e : Entry) → position (entry_at p) s ≡ Some i → slice_get s i ≡ Some (Some e) → IsStore s → status_in s p ≡ Some e.status
 read_some s p i e h g is =
     let found = position_gets p s i h in
-    let same = one_some _ _ (one_some _ _ (sym found.1 ∙ g)) in
+    let same = same_Some _ _ (same_Some _ _ (sym found.1 ∙ g)) in
     has_in s is i p e.status (g ∙ ap (λ (q : Place). Some (Some (record { place = q; status = e.status }))) (ap (λ (f : Entry). f.place) (sym same) ∙ found.2))
 
 pub read_none : (s : List (Option Entry)) (p : Place) → position (entry_at p) s ≡ None → status_in s p ≡ None
@@ -300,15 +300,15 @@ full_none s is p taken = with_itself (standings s) p None (in_order-standings s)
   | Some t ↦ λ e.
       let has = in_has s p t e in
       let at = taken.taken has.0 (subst (λ n. has.0 < n) is.many (get_within s has.0 _ has.1)) in
-      absurd (at.2 (ap (λ (f : Entry). f.place) (one_some _ _ (one_some _ _ (sym at.1 ∙ has.1)))))
+      absurd (at.2 (ap (λ (f : Entry). f.place) (same_Some _ _ (same_Some _ _ (sym at.1 ∙ has.1)))))
 ] refl))
 
 pub empty_store : IsStore (replicate 56 None)
 empty_store = record { many = refl; apart = λ i j e f g h same. absurd (none 56 i e g) }
   where
     none : (n i : ℕ) (e : Entry) → slice_get (replicate n None) i ≡ Some (Some e) → ⊥
-    none zero i e g = none_some _ g
-    none (suc n) zero e g = none_some _ (one_some _ _ g)
+    none zero i e g = none-some _ g
+    none (suc n) zero e g = none-some _ (same_Some _ _ g)
     none (suc n) (suc i) e g = none n i e g
 
 pub if_free : (s : List (Option Entry)) → IsStore s → (p : Place) (o : Option ℕ) → position (entry_at p) s ≡ None → o ≡ position is_none s → IfSome o (λ i. IsSlotFor s p i)

@@ -15,6 +15,7 @@ use Rattle.cup_core.specs.Engines.{Engine}
 use Rattle.cup_games.specs.Played.{IsDepth}
 use Rattle.match_core.specs.declared.answers.Level.{Level}
 use Rattle.std.specs.Prelude.{Option, None}
+use Rattle.std.proofs.lemmas.Option.{same_Some}
 use Rattle.command_words.specs.Words.{Words}
 use Rattle.cup_command.proofs.Early.{early-none}
 use Rattle.cup_command.specs.Cup.{CupRun, scene as cup_scene}
@@ -70,10 +71,7 @@ no_time : (t : Times) → TakesNoTime t t
 no_time t = record { last = refl; readings = refl; timed = refl }
 
 same_told : {a b : List (List ℕ)} (t : ToldLists) → t ≡ Some a → t ≡ Some b → a ≡ b
-same_told t e f = some_list (sym e ∙ f)
-  where
-    some_list : {a b : List (List ℕ)} → Some a ≡ Some b → a ≡ b
-    some_list e = cc
+same_told t e f = same_Some _ _ (sym e ∙ f)
 
 -- where nothing was started, no program is open
 none_open : (e : Engines) → NoneIsOpen e e
@@ -151,12 +149,9 @@ pub starved : (words : List (String Global)) (asked : Asked) (w : World) (timed 
     → RunOf words asked Memory w (record { scene = record { sides = w.scene.sides; times = record { last = w.scene.times.last; readings = w.scene.times.readings; timed = timed } }; engines = w.engines })
 starved words asked w timed h same = subst (λ (t : List Timed). RunOf words asked Memory w (record { scene = record { sides = w.scene.sides; times = record { last = w.scene.times.last; readings = w.scene.times.readings; timed = t } }; engines = w.engines })) (sym same) (starved_here words asked w h)
 
-some_same : {a b : Asked} → Some a ≡ Some b → a ≡ b
-some_same e = cc
-
 -- what was done is what the words ask for
 pub run_of : (words : List (String Global)) (did asked : Asked) (status : Status) (before after : World) → RunOf words did status before after → Some did ≡ Some asked → RunOf words asked status before after
-run_of words did asked status before after run e = subst (λ a. RunOf words a status before after) (some_same e) run
+run_of words did asked status before after run e = subst (λ a. RunOf words a status before after) (same_Some _ _ e) run
 
 -- what is neither a match nor a cup starts no program
 pub is_alone : (asked : Asked) → ((setup : Setup) → asked ≡ Match setup → ⊥) → ((setup : Setup) → asked ≡ Cup setup → ⊥) → ¬ UsesSpawner asked

@@ -2,6 +2,7 @@
 use Rattle.std.proofs.Common.{◌≡◌, ◌<◌, ℕ, ◌+◌, Bool, true, false, List, [], ◌∷◌, ◌++◌, length, refl, ap, sym, ◌∙◌, arith, append_assoc, length-append, add-zero, None, Some, subst}
 use Rattle.std.specs.Bool.{MatchBool}
 use Rattle.std.proofs.lemmas.List.{append-nil}
+use Rattle.std.proofs.lemmas.Option.{same_Some}
 use Rattle.io_edge.specs.Outside.{Told, in_front, IsAtEnd}
 use Rattle.io_edge.proofs.Told.{in_front-in_front, in_front-nil}
 use Rattle.hive_model.specs.Lines.{Line as OneLine, lines, whole_lines}
@@ -68,17 +69,14 @@ fed_kept {r0} {r1} {r2} {old} {new} {bytes} {b1} {given} f t h =
       below = λ e. absurd (never h.goes_on e);
     }
 
-some-same : {x y : List ℕ} → Some x ≡ Some y → x ≡ y
-some-same e = cc
-
 -- the input is the bytes read and those that are left
 was_read : (rest old : Told) (bytes input : List ℕ) → old ≡ in_front bytes rest → old ≡ Some input → (left : List ℕ) × WasRead input rest bytes left
 was_read None old bytes input e f = cc
-was_read (Some left) old bytes input e f = (left, record { split = some-same (sym f ∙ e); told = refl })
+was_read (Some left) old bytes input e f = (left, record { split = same_Some _ _ (sym f ∙ e); told = refl })
 
 at_end_of : (rest : Told) (left : List ℕ) → IsAtEnd rest → rest ≡ Some left → left ≡ []
 at_end_of None left h e = cc
-at_end_of (Some bytes) left h e = sym (some-same e) ∙ h
+at_end_of (Some bytes) left h e = sym (same_Some _ _ e) ∙ h
 
 prefix_of : (finished : Bool) (bytes held left : List ℕ) (given : List OneLine) (rest : Told) → Covers finished bytes held given rest → rest ≡ Some left → (others : List OneLine) × (lines (bytes ++ left) ≡ given ++ others)
 prefix_of true bytes held left given rest (all, none, at_end) e = ([], rw (at_end_of rest left at_end e, append-nil bytes, append-nil given) all)

@@ -3,6 +3,7 @@ use Rattle.std.proofs.Common.{◌≡◌, ℕ, ◌+◌, ◌<◌, List, [], ◌∷
 use Rattle.std.specs.declared.option.Option.{Option}
 use Rattle.std.specs.declared.result.Result.{Result}
 use Rattle.std.specs.Result.{IfOk}
+use Rattle.std.proofs.lemmas.Option.{same_Some}
 use Rattle.io_edge.specs.Outside.{Told, ToldLists, Rose, behind}
 use Rattle.io_edge.specs.Starts.{Engines}
 use Rattle.hive_model.specs.declared.pieces.Colour.TheVariants.{White, Black}
@@ -29,9 +30,6 @@ broke_counted t w0 w b0 b broke white black (Black, e) = black (broke.black e)
 
 -- What was sent
 
-some-told : {X : Type 0} {x y : X} → Some x ≡ Some y → x ≡ y
-some-told e = cc
-
 -- two closes append what was written to both
 gains_of : (before after : ToldLists) (w b : Told) (x y : List ℕ) (claim : List ℕ → List ℕ → Type 0) → ClosesTwo before after w b → w ≡ Some x → b ≡ Some y → claim x y → Gains before after claim
 gains_of before None w b x y claim closes e f h = tt
@@ -39,8 +37,8 @@ gains_of None (Some after) w b x y claim (None, c, d) e f h = d
 gains_of None (Some after) w b x y claim (Some mid, c, d) e f h = c
 gains_of (Some before) (Some after) w b x y claim (None, c, d) e f h = absurd d
 gains_of (Some before) (Some after) w b x y claim (Some mid, (p, pe, pm), (q, qe, qm)) e f h =
-    let px : p ≡ x = some-told (sym pe ∙ e) in
-    let qy : q ≡ y = some-told (sym qe ∙ f) in
+    let px : p ≡ x = same_Some _ _ (sym pe ∙ e) in
+    let qy : q ≡ y = same_Some _ _ (sym qe ∙ f) in
     let at : after ≡ (before ++ x ∷ []) ++ y ∷ [] = qm ∙ (ap (λ m. m ++ q ∷ []) pm ∙ (ap (λ p. (before ++ p ∷ []) ++ q ∷ []) px ∙ ap (λ q. (before ++ x ∷ []) ++ q ∷ []) qy)) in (
       x,
       y,

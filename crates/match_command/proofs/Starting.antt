@@ -1,5 +1,6 @@
 -- The match of two programs that were started, by what was to come.
 use Rattle.std.proofs.Common.{◌≡◌, ◌⊎◌, ℕ, ◌<◌, ◌+◌, List, [], ◌∷◌, length, take, None, Some, refl, ap, sym, ◌∙◌, subst, inl, inr, arith, length-append}
+use Rattle.std.proofs.lemmas.Option.{same_Some}
 use Rattle.io_edge.specs.Outside.{HasCause, Rose, Told, ToldLists, behind}
 use Rattle.io_edge.specs.Starts.{Engines}
 use Rattle.command_runs.specs.GameRun.{WritesAs}
@@ -26,9 +27,6 @@ pub record TwoStarted (all : List (List ℕ)) (now : ToldLists) (w b : Wire) : T
   pub white_got : w.written ≡ Some []
   pub black_got : b.written ≡ Some []
 
-some-told : {X : Type 0} {x y : X} → Some x ≡ Some y → x ≡ y
-some-told e = cc
-
 two_started : (before now : ToldLists) (w b : Wire) (all : List (List ℕ)) → StartsTwo before now w.rest w.written b.rest b.written → before ≡ Some all → TwoStarted all now w b
 two_started None now w b all starts e = absurd (cc)
 two_started (Some xs) now w b all (None, p, q) e = absurd p
@@ -37,7 +35,7 @@ two_started (Some xs) (Some zs) w b all (Some ys, (white, xe, wr, ww), (black, y
   white = white;
   black = black;
   others = zs;
-  first_two = sym (some-told e) ∙ (xe ∙ ap (λ ys. white ∷ ys) ye);
+  first_two = sym (same_Some _ _ e) ∙ (xe ∙ ap (λ ys. white ∷ ys) ye);
   left = refl;
   white_says = wr;
   black_says = br;

@@ -19,6 +19,7 @@ use Rattle.match_core.specs.Standing.{Standing, Happening, Sent, Line, TooLong, 
 use Rattle.match_core.specs.Texts.{read_of}
 use Rattle.std.proofs.Common.{◌≡◌, ◌↔◌, ◌⊎◌, inl, inr, ℕ, zero, suc, Bool, true, false, cond, List, [], ◌∷◌, length, refl, None, Some, IsTrue, arith, Result, Ok, Err}
 use Rattle.std.specs.Option.{option_map}
+use Rattle.std.proofs.lemmas.Option.{same_Some}
 use Rattle.hive_model.specs.Lines.{Line as Mark, Text, ToldLines}
 use Rattle.match_core.specs.Keeps.{IsSetup}
 use Rattle.match_core.specs.declared.answers.Act.TheVariants.{Finish}
@@ -80,12 +81,9 @@ pub record Same (stage : Stage) (s : Standing) (a : ℕ) (h : Happening) (white 
   pub w_sent : sent_at (with_asked s a) stage (reply_to stage a white black) White ≡ sent_at s stage h White
   pub b_sent : sent_at (with_asked s a) stage (reply_to stage a white black) Black ≡ sent_at s stage h Black
 
-some-same : {x y : List Mark} → Some x ≡ Some y → x ≡ y
-some-same e = cc
-
 gave_line : (bytes : List ℕ) (marks : List Mark) (mid : ToldLines) → Some marks ≡ option_map (λ ms. Text bytes ∷ ms) mid → (given marks ≡ Line bytes) × (mid ≡ Some (others marks))
 gave_line bytes marks None e = cc
-gave_line bytes marks (Some ms) e = let f : marks ≡ Text bytes ∷ ms = some-same e in rw f (refl, refl)
+gave_line bytes marks (Some ms) e = let f : marks ≡ Text bytes ∷ ms = same_Some _ _ e in rw f (refl, refl)
 
 read_white : (s : Standing) (a : ℕ) (job : Task) (h : Happening) (white black : List Mark) (w b : ToldLines) → Gave h (Some white) w → b ≡ Some black → Same (Read job White) s a h white black w b
 read_white s a job (Line bytes) white black w b g e = let (f, k) = gave_line bytes white w g in record { asked = a; match = rw f (hears s a job White bytes); w_left = inl k; b_left = inl e; w_sent = refl; b_sent = refl }

@@ -22,6 +22,7 @@ use Rattle.match_core.specs.Texts.{read_of}
 use Rattle.match_core.specs.declared.answers.Act.TheVariants.{Send as SendAct, Read as ReadAct}
 use Rattle.std.proofs.Common.{◌≡◌, ◌⊎◌, inl, inr, ℕ, false, cond, List, [], ◌∷◌, length, refl, ap, sym, ◌∙◌, Some, subst, Ok, Err}
 use Rattle.std.specs.declared.result.Result.{Result}
+use Rattle.std.proofs.lemmas.Option.{same_Some}
 use Rattle.match_core.proofs.Fair.{either}
 use Rattle.match_core.proofs.Follows.{next_is}
 use Rattle.match_runner.specs.Wires.{Watch, Wire}
@@ -33,10 +34,7 @@ abbrev IsUnbroken : Option Verdict → Type 0
 IsUnbroken v = (side : Colour) → v ≡ Some (Forfeit side BrokeCause) → ⊥
 
 finishes : (s : Standing) (v : Verdict) → ((side : Colour) → v ≡ Forfeit side BrokeCause → ⊥) → IsUnbroken (finish s v).verdict
-finishes s v f = λ side e. f side (some-verdict e)
-  where
-    some-verdict : {x y : Verdict} → Some x ≡ Some y → x ≡ y
-    some-verdict e = cc
+finishes s v f = λ side e. f side (same_Some _ _ e)
 
 asks : (s : Standing) → IsUnbroken s.verdict → IsUnbroken (ask s).verdict
 unfolding ask

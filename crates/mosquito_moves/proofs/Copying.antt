@@ -1,5 +1,6 @@
 -- What a mosquito copies, kind by kind, is what it copies.
 use Rattle.std.proofs.Common.{◌≡◌, ◌≢◌, ℕ, suc, zero, ◌+◌, ◌≤◌, ◌<◌, true, false, List, length, ◌↔◌, refl, sym, ◌∙◌, ap, subst, arith}
+use Rattle.std.proofs.lemmas.Option.{same_Some}
 use Rattle.std.specs.Prelude.{Option, Some, None, slice_get}
 use Rattle.hive_model.specs.declared.pieces.Kind.{Kind}
 use Rattle.hive_model.specs.declared.pieces.Kind.TheVariants.{Queen, Spider, Beetle, Grasshopper, Ant, Mosquito, Ladybug, Pillbug}
@@ -16,7 +17,7 @@ use Rattle.hive_model.proofs.PieceLaws.{same_kind, from_same_kind}
 use Rattle.hive_model.proofs.RuleLaws.{any_has, has_any, dir_on}
 use Rattle.bug_moves.specs.Adding.{IsAtHive, Gains}
 use Rattle.bug_moves.proofs.AtHive.{touched_at_hive}
-use Rattle.bug_moves.proofs.AntLaws.{some_same, place_of}
+use Rattle.bug_moves.proofs.AntLaws.{place_of}
 use Rattle.bug_moves.proofs.Gaining.{gains_place, gains_same, gains_turn}
 use Rattle.mosquito_moves.specs.Copied.{shows, CopiesKind, copied_kind, InKinds, AmongFirst}
 
@@ -34,7 +35,7 @@ got_at_hive k b p ps n q is at = reach_at_hive k b p q ((is q).0 (on-at ps n q a
 pub among_next : (b : Stacks) (ps : List Place) (n : ℕ) (p : Place) (xs ys zs : List Place) → Gains b (AmongFirst n ps) xs ys → slice_get ps n ≡ Some p → IsAtHive b p → zs ≡ with_place p ys → Gains b (AmongFirst (n + 1) ps) xs zs
 among_next b ps n p xs ys zs one at near made =
     gains_turn b (λ k q. slice_get ps k ≡ Some q) n xs ys zs one
-    (gains_place b (λ q. slice_get ps n ≡ Some q) p ys zs one.list near made at (λ q is. some_same p q (sym at ∙ is)))
+    (gains_place b (λ q. slice_get ps n ≡ Some q) p ys zs one.list near made at (λ q is. same_Some p q (sym at ∙ is)))
 
 pub among_all : (k : Kind) (b : Stacks) (p : Place) (ps : List Place) (n : ℕ) (xs ys : List Place) → length ps ≤ n → ((q : Place) → IsOn ps q ↔ Reach k b p q) → Gains b (AmongFirst n ps) xs ys → Gains b (Reach k b p) xs ys
 among_all k b p ps n xs ys all is h = gains_same b (Reach k b p) (AmongFirst n ps) xs ys

@@ -3,6 +3,7 @@ use Rattle.std.proofs.Common.{◌≡◌, ℕ, zero, suc, ◌+◌, ◌-◌, ◌<�
 use Rattle.std.proofs.lemmas.Int.{ints, clamps, by_lt_z, to_z-of_z}
 use Rattle.std.specs.List.{slice_get}
 use Rattle.std.specs.Int.{int_max}
+use Rattle.std.proofs.lemmas.Option.{same_Some}
 use mir.Val.{SFits}
 use mir.Syntax.{w32}
 use Rattle.hive_model.specs.declared.places.Move.{Move}
@@ -94,16 +95,13 @@ reply-low p d i m inner here =
     let each = greatest-each (reply_value p (d - 1)) (moves p) i m here in
     omega (arith, ints, each, value-greatest p d inner)
 
-some-same : (n m : Move) → Some n ≡ Some m → n ≡ m
-some-same n m e = cc
-
 -- what the search of the rest asks, where the first move raised alpha
 pub hint-worth : (start now : Course) (d i : ℕ) (n : Move) (alpha : ℤ) → now ≡ start → slice_get (moves (position start)) i ≡ Some n → reply_value (position start) (d - 1) n ≤ℤ alpha →
     (m : Move) → slice_get (moves (position now)) i ≡ Some m → reply_value (position now) (d - 1) m ≤ℤ alpha
 hint-worth start now d i n alpha same here less = subst
     (λ (h : Course). (m : Move) → slice_get (moves (position h)) i ≡ Some m → reply_value (position h) (d - 1) m ≤ℤ alpha)
     (sym same)
-    (λ m e. let k : n ≡ m = some-same n m (sym here ∙ e) in omega (arith, ints, less, ap (reply_value (position start) (d - 1)) k))
+    (λ m e. let k : n ≡ m = same_Some n m (sym here ∙ e) in omega (arith, ints, less, ap (reply_value (position start) (d - 1)) k))
 
 pub inner-here : (start now : Course) (d : ℕ) → now ≡ start → IsInner (position start) d → IsInner (position now) d
 inner-here start now d same inner = subst (λ (h : Course). IsInner (position h) d) (sym same) inner

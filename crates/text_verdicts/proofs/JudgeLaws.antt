@@ -2,6 +2,7 @@
 use Rattle.std.proofs.Common.{◌≡◌, ℕ, take, ◌<◌, ◌≤◌, ◌+◌, ◌-◌, ◌^◌, min, arith, Bool, true, List, [], ◌++◌, length, refl, sym, ap, subst, ◌∙◌, inl, inr, Some, None}
 use Rattle.std.specs.Prelude.{Result, Ok, Err}
 use Rattle.std.proofs.lemmas.List.{append-nil}
+use Rattle.std.proofs.lemmas.Option.{same_Some}
 use Rattle.io_edge.specs.Outside.{Told, IsAtEnd, behind, in_front}
 use Rattle.hive_model.specs.Lines.{lines}
 use Rattle.line_feed.specs.Feed.{HoldsLittle, Reading, fresh, input_limit, pending}
@@ -57,18 +58,15 @@ most-read most input rest reader r = (r.given, given_were_read input r.fed refl 
 within-most : (m n : ℕ) (input : List ℕ) (rest : Told) (reader : Reading) → m ≤ n → HasRead input rest reader m → AtMostWereRead n input rest
 within-most m n input rest reader less r = most-read n input rest reader (read-more input rest reader m n less r)
 
-some-same : {x y : List ℕ} → Some x ≡ Some y → x ≡ y
-some-same e = cc
-
 -- the input is the bytes read and those that are left
 split : (input : List ℕ) (rest : Told) (bytes : List ℕ) → Some input ≡ in_front bytes rest → (left : List ℕ) × WasRead input rest bytes left
 split input None bytes e = cc
-split input (Some left) bytes e = (left, record { split = some-same e; told = refl })
+split input (Some left) bytes e = (left, record { split = same_Some _ _ e; told = refl })
 
 all-covered : (input bytes left : List ℕ) (rest : Told) (taken : ℕ) → WasRead input rest bytes left → taken ≡ length bytes → taken < input_limit → IsAtEnd rest → IsAllRead input rest
 all-covered input bytes left None taken w counted below over = absurd (let e = w.told in cc)
 all-covered input bytes left (Some rest) taken w counted below over =
-    let told : rest ≡ left = some-same w.told in
+    let told : rest ≡ left = same_Some _ _ w.told in
     let none : left ≡ [] = sym told ∙ over in
     let same : input ≡ bytes = w.split ∙ (ap (λ (x : List ℕ). bytes ++ x) none ∙ append-nil bytes) in
     record { at_end = ap Some over; below = subst (λ (n : ℕ). n < input_limit) (counted ∙ ap length (sym same)) below }

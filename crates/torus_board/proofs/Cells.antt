@@ -4,6 +4,7 @@ use Rattle.std.specs.Prelude.{Option, Some, None, slice_get, IsTrue}
 use Rattle.std.proofs.lemmas.Bool.{cases_eq}
 use Rattle.std.proofs.Math.ListN.{length-set}
 use Rattle.std.proofs.lemmas.Int.{ints}
+use Rattle.std.proofs.lemmas.Option.{none-some, same_Some}
 use Rattle.hive_model.specs.declared.places.Place.{Place}
 use Rattle.hive_model.specs.declared.places.Spot.{Spot}
 use Rattle.hive_model.specs.Places.{IsWithin}
@@ -18,12 +19,6 @@ use Rattle.hive_model.specs.Spread.{AreNear, IsNearAll, IsSpread}
 use Rattle.torus_board.specs.Grid.{IsGrid, IsLinked}
 use Rattle.residues.specs.Residues.{cell_of}
 use Rattle.residues.proofs.Cells.{cell_once, cell_within}
-
-pub one_some : {X : Type 0} (a b : X) → Some a ≡ Some b → a ≡ b
-one_some a b h = cc
-
-pub none_some : {X : Type 0} (a : X) → None ≡ Some a → ⊥
-none_some a h = cc
 
 no_top : (xs : List ℕ) → ((x : ℕ) → top_of xs ≡ Some x → ⊥) → (top_of xs ≡ None) × (length xs ≡ 0)
 no_top [] h = (refl, refl)
@@ -43,7 +38,7 @@ module _ (n : ℕ) (b : Stacks) (is : IsBoard b) (cells : List (Option ℕ)) (gr
   seen x t at spot here =
       let (q, top, i) = grid.own (cell_of n p) x (cell _ at) in
       let stands : StandsAt b x q (height_at b q - 1) = top in
-      let one : t ≡ record { place = q; level = height_at b q - 1 } = one_some _ _ (sym spot ∙ stands_spot_of b is x q (height_at b q - 1) stands) in
+      let one : t ≡ record { place = q; level = height_at b q - 1 } = same_Some _ _ (sym spot ∙ stands_spot_of b is x q (height_at b q - 1) stands) in
       let q_is : q ≡ p = sym (ap (λ (u : Spot). u.place) one) ∙ here in
       let level : t.level ≡ height_at b q - 1 = ap (λ (u : Spot). u.level) one in
       let some = get_within (stack_at b q) (height_at b q - 1) x stands in
@@ -57,23 +52,23 @@ module _ (n : ℕ) (b : Stacks) (is : IsBoard b) (cells : List (Option ℕ)) (gr
 
   pub other_spot : (x : ℕ) (t : Spot) → slice_get cells i ≡ Some (Some x) → spot_of b x ≡ Some t → t.place ≢ p → (top_at b p ≡ None) × (height_at b p ≡ 0)
   other_spot x t at spot other = unseen (λ y u at_y spot_y here.
-      let same : x ≡ y = one_some _ _ (one_some _ _ (sym (cell _ at) ∙ at_y)) in
-      let spots : t ≡ u = one_some _ _ (sym spot ∙ ap (spot_of b) same ∙ spot_y) in
+      let same : x ≡ y = same_Some _ _ (same_Some _ _ (sym (cell _ at) ∙ at_y)) in
+      let spots : t ≡ u = same_Some _ _ (sym spot ∙ ap (spot_of b) same ∙ spot_y) in
       other (ap (λ (v : Spot). v.place) spots ∙ here))
 
   pub no_spot : (x : ℕ) → slice_get cells i ≡ Some (Some x) → spot_of b x ≡ None → (top_at b p ≡ None) × (height_at b p ≡ 0)
   no_spot x at spot = unseen (λ y u at_y spot_y here.
-      let same : x ≡ y = one_some _ _ (one_some _ _ (sym (cell _ at) ∙ at_y)) in
-      none_some _ (sym spot ∙ ap (spot_of b) same ∙ spot_y))
+      let same : x ≡ y = same_Some _ _ (same_Some _ _ (sym (cell _ at) ∙ at_y)) in
+      none-some _ (sym spot ∙ ap (spot_of b) same ∙ spot_y))
 
   pub no_piece : slice_get cells i ≡ Some None → (top_at b p ≡ None) × (height_at b p ≡ 0)
-  no_piece at = unseen (λ y u at_y spot_y here. none_some _ (one_some _ _ (sym (cell _ at) ∙ at_y)))
+  no_piece at = unseen (λ y u at_y spot_y here. none-some _ (same_Some _ _ (sym (cell _ at) ∙ at_y)))
 
 -- A piece that is put on top of a place comes off again
 
 module _ (b : Stacks) (x : ℕ) (p : Place) (is : IsBoard b) (small : x < 28) (inside : IsWithin 9000 p) (absent : spot_of b x ≡ None) where
   gone : (r : Place) (i : ℕ) → StandsAt b x r i → ⊥
-  gone r i h = none_some _ (sym absent ∙ stands_spot_of b is x r i h)
+  gone r i h = none-some _ (sym absent ∙ stands_spot_of b is x r i h)
 
   pub put_board : IsBoard (put b x p)
   put_board = board_put b x p is small inside gone
@@ -117,7 +112,7 @@ module _ (n : ℕ) (some : 0 < n) (b : Stacks) (is : IsBoard b) (x : ℕ) (p : P
     many = length-set cells (cell_of n p) _ ∙ grid.many;
     tops = λ q y top. elim (cases_place q p) [
       | inl same ↦
-          let y_is : x ≡ y = one_some _ _ (sym (put_top_here b x p is small inside absent) ∙ ap (top_at (put b x p)) (sym same) ∙ top) in
+          let y_is : x ≡ y = same_Some _ _ (sym (put_top_here b x p is small inside absent) ∙ ap (top_at (put b x p)) (sym same) ∙ top) in
           ap (λ r. slice_get (slice_set cells (cell_of n p) (Some x)) (cell_of n r)) same ∙ here ∙ ap (λ z. Some (Some z)) y_is
       | inr other ↦
           let old : top_at b q ≡ Some y = sym (put_top_there b x p is small inside absent q other) ∙ top in
@@ -127,7 +122,7 @@ module _ (n : ℕ) (some : 0 < n) (b : Stacks) (is : IsBoard b) (x : ℕ) (p : P
     own = λ i y at. elim (cases_eq i (cell_of n p)) [
       | inl same ↦
           let got = sym here ∙ ap (slice_get (slice_set cells (cell_of n p) (Some x))) (sym same) ∙ at in
-          let y_is = one_some _ _ (one_some _ _ got) in
+          let y_is = same_Some _ _ (same_Some _ _ got) in
           (p, put_top_here b x p is small inside absent ∙ ap Some y_is, sym same)
       | inr other ↦
           let (q, top, i_is) = grid.own i y (sym (get-set_other cells (cell_of n p) i (Some x) other) ∙ at) in
@@ -183,7 +178,7 @@ module _ (n : ℕ) (some : 0 < n) (b : Stacks) (is : IsBoard b) (spread : IsSpre
     own = λ i y at. elim (cases_eq i (cell_of n p)) [
       | inl same ↦
           let got : Some (under_of b x) ≡ Some (Some y) = sym here ∙ ap (slice_get (slice_set cells (cell_of n p) (under_of b x))) (sym same) ∙ at in
-          (p, lifts.top_here b is x p level stands top ∙ one_some _ _ got, sym same)
+          (p, lifts.top_here b is x p level stands top ∙ same_Some _ _ got, sym same)
       | inr other ↦
           let (q, high, i_is) = grid.own i y (sym (get-set_other cells (cell_of n p) i (under_of b x) other) ∙ at) in
           let apart : q ≢ p = (λ e. other (sym i_is ∙ ap (cell_of n) e)) in
@@ -217,7 +212,7 @@ module _ (n : ℕ) (some : 0 < n) (b : Stacks) (is : IsBoard b) (spread : IsSpre
 -- The empty board
 
 nowhere : (p : Place) (x : ℕ) → top_at [] p ≡ Some x → ⊥
-nowhere p x h = none_some _ h
+nowhere p x h = none-some _ h
 
 pub empty_grid : (n : ℕ) (cells : List (Option ℕ)) → length cells ≡ n * n → ((i x : ℕ) → slice_get cells i ≡ Some (Some x) → ⊥) → IsGrid n [] cells
 empty_grid n cells many none = record { many = many; tops = λ p x h. absurd (nowhere p x h); own = λ i x h. absurd (none i x h) }

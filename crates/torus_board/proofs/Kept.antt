@@ -2,6 +2,7 @@
 use Rattle.std.proofs.Common.{◌≡◌, ℕ, suc, zero, inl, inr, ◌*◌, ◌+◌, ◌≤◌, ◌<◌, ◌∙◌, refl, ap, sym, false, true, cond, None, Some, Option, List, [], ◌∷◌, length, subst, slice_set, Bool, arith}
 use Rattle.std.specs.List.{list_all}
 use Rattle.std.specs.Prelude.{replicate, is_none, slice_get, is_some, unwrap_or, IsNone, IsTrue}
+use Rattle.std.proofs.lemmas.Option.{none-some, same_Some}
 use Rattle.hive_model.specs.declared.places.Place.{Place}
 use Rattle.hive_model.specs.declared.places.Spot.{Spot}
 use Rattle.hive_model.specs.Places.{IsWithin}
@@ -12,7 +13,7 @@ use Rattle.hive_model.proofs.GetLemmas.{get_exists}
 use Rattle.hive_model.specs.Spread.{IsNearAll, IsSpread}
 use Rattle.torus_board.specs.Grid.{IsSide, IsGrid, IsLinked}
 use Rattle.residues.specs.Residues.{cell_of}
-use Rattle.torus_board.proofs.Cells.{one_some, none_some, grid_put, linked_put, spread_put, grid_lift, linked_lift, spread_lift, empty_grid, empty_spread}
+use Rattle.torus_board.proofs.Cells.{grid_put, linked_put, spread_put, grid_lift, linked_lift, spread_lift, empty_grid, empty_spread}
 
 -- a height is no more than the number of the pieces
 pub height_low : (s : Spots) (p : Place) → height_by s p ≤ length s
@@ -28,7 +29,7 @@ none_is None e = refl
 none_is (Some t) e = let wrong : true ≡ false = e in absurd (cc)
 
 opened : (o : Option (Option Spot)) (t : Spot) → unwrap_or o None ≡ Some t → o ≡ Some (Some t)
-opened None t h = absurd (none_some _ h)
+opened None t h = absurd (none-some _ h)
 opened (Some u) t h = ap Some h
 
 -- the whole invariant of a grid
@@ -88,7 +89,7 @@ module _ (n : ℕ) (s : Spots) (below cells : List (Option ℕ)) (is : Kept n s 
 
     module _ (k i j : ℕ) (o : Option ℕ) (at_k : k ≡ cell_of n t.place) (at_i : i ≡ x) (at_j : j ≡ x) (o_is : slice_get below x ≡ Some o) where
       under : o ≡ under_of (board_of s) x
-      under = one_some _ _ (sym o_is ∙ is.3.links x small)
+      under = same_Some _ _ (sym o_is ∙ is.3.links x small)
 
       pub lift_kept : Kept n (slice_set s j None) (slice_set below i None) (slice_set cells k o)
       lift_kept =
@@ -120,8 +121,8 @@ side_small n (inr (inl e)) = (omega (arith, e), omega (arith, e))
 side_small n (inr (inr e)) = (omega (arith, e), omega (arith, e))
 
 none_in : (k i x : ℕ) → slice_get (replicate {A = Option ℕ} k None) i ≡ Some (Some x) → ⊥
-none_in zero i x h = none_some _ h
-none_in (suc k) zero x h = none_some _ (one_some _ _ h)
+none_in zero i x h = none-some _ h
+none_in (suc k) zero x h = none-some _ (same_Some _ _ h)
 none_in (suc k) (suc i) x h = none_in k i x h
 
 length-replicate : (k : ℕ) → length (replicate {A = Option ℕ} k None) ≡ k
@@ -137,8 +138,8 @@ no_links below many none = record {
 }
   where
     all : (ys : List (Option ℕ)) (x : ℕ) (o : Option ℕ) → list_all is_none ys ≡ true → slice_get ys x ≡ Some o → o ≡ None
-    all [] x o e h = absurd (none_some _ h)
-    all (None ∷ ys) zero o e h = sym (one_some _ _ h)
+    all [] x o e h = absurd (none-some _ h)
+    all (None ∷ ys) zero o e h = sym (same_Some _ _ h)
     all (None ∷ ys) (suc x) o e h = all ys x o e h
     all ((Some y) ∷ ys) x o e h = let wrong : false ≡ true = e in absurd (cc)
 

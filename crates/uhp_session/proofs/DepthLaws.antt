@@ -1,6 +1,7 @@
 -- The depth of a search for a time shows in the reply to its own line alone.
 use Rattle.std.proofs.Common.{◌≡◌, ℕ, Bool, true, false, List, Result, Ok, Err, refl, sym, ◌∙◌, if◌then◌else◌}
 use Rattle.std.specs.Prelude.{Option, Some, None, codes}
+use Rattle.std.proofs.lemmas.Option.{none-some}
 use Rattle.hive_model.specs.Lines.{Text as TextLine, TooLong as LongLine}
 use Rattle.uhp_words.specs.declared.command.Command.{Command}
 use Rattle.uhp_words.specs.declared.command.Command.TheVariants.{Info, NewGame, Play, Pass, ValidMoves, BestDepth, BestTime, Undo, Options, OptionGet, OptionSet, Exit}
@@ -35,9 +36,6 @@ depth_kept s line d e (Err Arguments) = refl
 
 -- The reply
 
-some_none : {x : Search} → Some x ≡ None → ⊥
-some_none e = cc
-
 -- a search that is refused has one reply
 time_same : (s : State) (o : Option Begun) (budget d e : ℕ) → search_in o budget ≡ None
     → reply_of (in_game s o (λ g. if is_ended g then refuse s (codes "err 8 game over") else best_line s d g))
@@ -51,7 +49,7 @@ time_same s (Some g) budget d e none = go (is_ended g) none
     go : (over : Bool) → (if over then None else asked) ≡ None
         → reply_of (if over then refuse s (codes "err 8 game over") else best_line s d g) ≡ reply_of (if over then refuse s (codes "err 8 game over") else best_line s e g)
     go true same = refl
-    go false same = absurd (some_none same)
+    go false same = absurd (none-some _ (sym same))
 
 command_same : (s : State) (line : List ℕ) (d e : ℕ) (c : Command) → command_search s (Ok c) ≡ None → reply_of (command_answer s line d c) ≡ reply_of (command_answer s line e c)
 command_same s line d e Info none = refl

@@ -1,10 +1,8 @@
-use Rattle.std.proofs.Common.{◌≡◌, ℕ, None, Some, sym, subst}
+use Rattle.std.proofs.Common.{sym, subst}
+use Rattle.std.proofs.lemmas.Option.{none-some}
 use Rattle.hive_model.specs.Fields.{IsTimeText}
 use Rattle.command_words.proofs.setup.timed_level.Goals as goal
 
-none_some : {n : ℕ} → None ≡ Some n → ⊥
-none_some e = cc
-
 pub returns-in_err-budget-clause-only : goal.returns-in_err-budget-clause-only
 returns-in_err-budget-clause-only c = λ l (budget, is, e).
-    absurd (none_some (c.in_err-budget.ensures.only budget (subst (λ t. IsTimeText t budget) (sym c.as_bytes.ensures.value) is)))
+    absurd (none-some _ (c.in_err-budget.ensures.only budget (subst (λ t. IsTimeText t budget) (sym c.as_bytes.ensures.value) is)))

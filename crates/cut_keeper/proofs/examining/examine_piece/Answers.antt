@@ -1,9 +1,9 @@
 use Rattle.std.proofs.Common.{ℕ, sym, ◌∙◌, ap, subst, inl, inr}
+use Rattle.std.proofs.lemmas.Option.{none-some}
 use Rattle.hive_model.specs.Boards.{StandsAt, spot_of}
 use Rattle.hive_model.proofs.BoardLemmas.{spot_of_stands, stands_occupied}
 use Rattle.cut_keeper.specs.Examining.{Right, Known}
 use Rattle.cut_keeper.specs.Keeping.{status_of}
-use Rattle.cut_keeper.proofs.StandingLemmas.{none_some}
 use Rattle.cut_keeper.proofs.KeeperLemmas.{spot_done, spot_none, right_with, known_with}
 use Rattle.cut_keeper.proofs.examining.examine_piece.Goals as goal
 
@@ -50,9 +50,9 @@ returns-in-None-clause-done g c = λ p stands.
 
 pub examine-requires-clause-room : goal.examine-requires-clause-room
 examine-requires-clause-room g c = elim c.requires.room [
-  | inl none ↦ absurd (none_some _ (sym none ∙ ap (spot_of (g.B.Board.stacks c.args.board.now)) (sym c.at.ensures) ∙ sym c.in-Some.ensures.spot))
+  | inl none ↦ absurd (none-some _ (sym none ∙ ap (spot_of (g.B.Board.stacks c.args.board.now)) (sym c.at.ensures) ∙ sym c.in-Some.ensures.spot))
   | inr less ↦ less
 ]
 
 pub returns-then-level-eq0-clause-absent : goal.returns-then-level-eq0-clause-absent
-returns-then-level-eq0-clause-absent g c = λ none. absurd (none_some _ (sym none ∙ ap (spot_of (g.B.Board.stacks c.args.board.now)) (sym c.at.ensures) ∙ sym c.in-Some.ensures.spot))
+returns-then-level-eq0-clause-absent g c = λ none. absurd (none-some _ (sym none ∙ ap (spot_of (g.B.Board.stacks c.args.board.now)) (sym c.at.ensures) ∙ sym c.in-Some.ensures.spot))

@@ -1,8 +1,7 @@
 use Rattle.std.proofs.Common.{◌≡◌, sym, ◌∙◌, ap, None, Option}
-use Rattle.std.proofs.lemmas.Option.{slice_get-get_or}
+use Rattle.std.proofs.lemmas.Option.{slice_get-get_or, none-some, same_Some}
 use Rattle.hive_model.proofs.GetLemmas.{get_within}
 use Rattle.std.specs.Prelude.{Some}
-use Rattle.cut_keeper.proofs.StandingLemmas.{none_some, one_some}
 use Rattle.cut_keeper.proofs.StoreLemmas.{read_some, read_none, position_gets, status_on-standings}
 use Rattle.cut_keeper.proofs.store.read_in.Goals as goal
 
@@ -21,7 +20,7 @@ pub returns-in-None-slots : goal.returns-in-None-slots
 returns-in-None-slots c =
     let s = c.args.slots.now in
     let found = position_gets c.args.place s c.in-Some.i (sym c.in-Some.ensures.position) in
-    absurd (none_one _ _ (sym c.in-None-slots.is) (one_some _ _ (sym (slice_get-get_or s c.in-Some.i None (get_within s c.in-Some.i _ found.1)) ∙ found.1)))
+    absurd (none_one _ _ (sym c.in-None-slots.is) (same_Some _ _ (sym (slice_get-get_or s c.in-Some.i None (get_within s c.in-Some.i _ found.1)) ∙ found.1)))
   where
     none_one : {X : Type 0} (o : Option X) (x : X) → None ≡ o → o ≡ Some x → ⊥
-    none_one o x h k = none_some x (h ∙ k)
+    none_one o x h k = none-some x (h ∙ k)
