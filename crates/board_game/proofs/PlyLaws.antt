@@ -1,7 +1,6 @@
 -- What one ply more, or one less, makes of a game.
-use Rattle.std.proofs.Common.{◌≡◌, ℕ, suc, ◌+◌, ◌-◌, ◌≤◌, ◌<◌, List, [], ◌∷◌, ◌++◌, length, take, get_or, inl, inr, refl, sym, ◌∙◌, ap, subst, arith, length-append}
+use Rattle.std.proofs.Common.{◌≡◌, ℕ, suc, ◌+◌, ◌-◌, ◌≤◌, ◌<◌, List, [], ◌∷◌, ◌++◌, length, inl, inr, refl, sym, ◌∙◌, ap, subst, arith, length-append}
 use Rattle.std.specs.Prelude.{Option, Some, None, slice_get}
-use Rattle.std.proofs.lemmas.List.{take_all, take_more}
 use Rattle.hive_model.specs.declared.pieces.GameType.{GameType}
 use Rattle.hive_model.specs.declared.places.Place.{Place}
 use Rattle.hive_model.specs.declared.places.Move.{Move}
@@ -20,15 +19,6 @@ use Rattle.rule_laws.proofs.Games.{listed_keep, games_sound}
 use Rattle.hive_model.specs.Spread.{IsSpread}
 use Rattle.board_game.proofs.SpreadLaws.{spread_of_hive}
 use Rattle.board_game.specs.Replayed.{CanBeTaken, CanMake, WasMade, IsReplayed, origin_of, origins}
-
--- The end of a list
-
-pub cut_last : {X : Type 0} (xs : List X) (d : X) → 0 < length xs → xs ≡ take (length xs - 1) xs ++ get_or xs (length xs - 1) d ∷ []
-cut_last xs d long =
-    let n : length xs - 1 + 1 ≡ length xs = omega (arith, long) in
-    let last : length xs - 1 < length xs = omega (arith, long) in
-    let all : length xs ≤ length xs = omega arith in
-    sym (take_all (length xs) xs all) ∙ ap (λ k. take k xs) (sym n) ∙ take_more xs (length xs - 1) d last
 
 -- the same ends, the same lists in front of them
 same_ends : {X : Type 0} (xs ys : List X) (x y : X) → xs ++ x ∷ [] ≡ ys ++ y ∷ [] → (xs ≡ ys) × (x ≡ y)
@@ -150,6 +140,3 @@ module _ (t : GameType) (b : Stacks) (ms : List Move) (from : List (Option Place
     from_are = ends.0;
     few = (let s = shorter in omega (arith, s));
   }
-
-pub nothing_played : (t : GameType) (b : Stacks) → b ≡ [] → IsReplayed t b [] []
-nothing_played t b e = record { game = tt; board_is = e; from_are = refl; few = omega arith }
