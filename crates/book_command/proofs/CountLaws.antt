@@ -10,14 +10,15 @@ use Rattle.line_feed.specs.SoFar.{Fed}
 use Rattle.line_feed.proofs.FedLemmas.{fed_end, fed_held, fed_line}
 use Rattle.game_text.specs.declared.parsed.Parsed.{Parsed}
 use Rattle.opening_book.specs.Book.{Counts, IsTally, Played}
+use Rattle.command_runs.specs.Answered.{IsUnanswered, ReadsWhile}
 use Rattle.command_runs.specs.Asking.{WereTaken}
 use Rattle.command_runs.specs.OneGame.{bad_line}
 use Rattle.command_runs.specs.declared.no_game.NoGame.{NoGame}
 use Rattle.command_runs.specs.declared.no_game.NoGame.TheVariants.{Bad, ReadFault, InputFull, Memory}
 use Rattle.command_runs.proofs.ReadLemmas.{all_is_read, given_were_read}
 use Rattle.book_command.specs.Asked.{AreGames, AreGood, Asks, played_in}
-use Rattle.book_command.specs.Reading.{Counted, GivesNone, GivesPlayed, HasBegun, IsNoBook, IsWhole, played_by}
-use Rattle.book_command.specs.Runs.{ReadsWhile}
+use Rattle.book_command.specs.Reading.{Counted, GivesNone, GivesPlayed, HasBegun, IsWhole, played_by}
+use Rattle.book_command.specs.Runs.{about_book}
 use Rattle.book_command.specs.Text.{refusal}
 
 -- The counting so far: whatever was given before, these lines were given since. They are these games,
@@ -84,7 +85,7 @@ all_counted c taken ends = λ input asked begun.
     }
 
 held_after : {start now new : Reading} {from to rest : Told} {first last : Counts} {number : ℕ} {bytes : List ℕ} (many : ℕ → Type 0) (c : Counting start now from to first last number) → WereTaken bytes now new to rest
-    → Holds now bytes new → many new.taken → (input : List ℕ) (asked : Parsed) → HasBegun input asked start from → ReadsWhile many input rest
+    → Holds now bytes new → many new.taken → (input : List ℕ) (asked : Parsed) → HasBegun input asked start from → ReadsWhile about_book many input rest
 held_after {bytes = bytes} many c taken holds so_many input asked begun =
     let (more, fed) = fed_so_far input asked c begun in
     let (left, read, all, count) = fed_held input fed taken.takes holds refl in
@@ -92,7 +93,7 @@ held_after {bytes = bytes} many c taken holds so_many input asked begun =
 
 -- no game was given
 pub none_after : {start now new : Reading} {from to rest : Told} {first last : Counts} {number : ℕ} {bytes : List ℕ} (e : NoGame) (c : Counting start now from to first last number) → WereTaken bytes now new to rest
-    → GivesNone e number bytes now new rest → (input : List ℕ) (asked : Parsed) → HasBegun input asked start from → IsNoBook e input rest
+    → GivesNone e number bytes now new rest → (input : List ℕ) (asked : Parsed) → HasBegun input asked start from → IsUnanswered about_book e input rest
 none_after {number = number} (Bad text) c taken ((line, gives, none), says) = λ input asked begun.
     let (more, fed) = fed_so_far input asked c begun in
     let given = begun.line ∷ c.ls in

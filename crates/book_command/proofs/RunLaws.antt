@@ -1,5 +1,5 @@
 -- How a run ends.
-use Rattle.std.proofs.Common.{◌≡◌, ℕ, zero, suc, List, [], ◌∷◌, ◌++◌, refl, ap, sym, ◌∙◌, subst, inl, inr, Some, None, arith, append_assoc}
+use Rattle.std.proofs.Common.{◌≡◌, ℕ, zero, suc, List, [], ◌∷◌, ◌++◌, ap, sym, ◌∙◌, subst, inl, inr, Some, None, arith, append_assoc}
 use Rattle.std.specs.Prelude.{Option, Ok, Err, slice_get}
 use Rattle.std.proofs.lemmas.List.{append-nil}
 use Rattle.io_edge.specs.Outside.{Told, behind}
@@ -11,21 +11,18 @@ use Rattle.hive_model.specs.Lists.{IsOn}
 use Rattle.hive_model.specs.Positions.{Position}
 use Rattle.game_text.specs.declared.parsed.Parsed.{Parsed}
 use Rattle.opening_book.specs.Book.{IsBook, Played}
+use Rattle.command_runs.specs.Answered.{IsUnanswered}
 use Rattle.command_runs.specs.Asking.{IsReplayOf}
-use Rattle.command_runs.specs.GameRun.{TellsNone, WritesAs}
-use Rattle.command_runs.specs.Input.{Sides, WereRead, WhereTold}
+use Rattle.command_runs.specs.Input.{WereRead}
 use Rattle.command_runs.specs.OneGame.{game_in, last_position}
-use Rattle.command_runs.specs.declared.no_game.NoGame.{NoGame}
-use Rattle.command_runs.specs.declared.no_game.NoGame.TheVariants.{Bad, ReadFault as NoRead, InputFull as TooMuch, Memory as NoMemory}
-use Rattle.command_runs.specs.declared.status.Status.{Status}
-use Rattle.command_runs.specs.declared.status.Status.TheVariants.{Done, Refused, Usage, ReadFault, WriteFault, SpawnFault, BadInput, Memory, InputFull}
+use Rattle.command_runs.specs.declared.no_game.NoGame.TheVariants.{Memory as NoMemory}
+use Rattle.command_runs.proofs.AnsweredLemmas.{answered_done}
 use Rattle.command_runs.proofs.GameRunLemmas.{end_is}
 use Rattle.command_runs.proofs.OneGameLemmas.{all_were_read}
-use Rattle.command_runs.proofs.ServedLemmas.{no_failure, not_full}
 use Rattle.book_command.specs.Asked.{AreGames, AreGood, Asks, played_in}
 use Rattle.book_command.specs.Laws.{BooksAreDone, IsMadeMove, WrittenMovesAreLegal}
-use Rattle.book_command.specs.Reading.{IsNoBook, IsWhole}
-use Rattle.book_command.specs.Runs.{BookRun, IsAnswer, IsBad}
+use Rattle.book_command.specs.Reading.{IsWhole}
+use Rattle.book_command.specs.Runs.{IsAnswer, IsBad, about_book}
 use Rattle.book_command.specs.Text.{IsLegalHere, IsLineOf}
 
 -- The line of the book
@@ -55,7 +52,7 @@ asked_good [] start games never = absurd never
 asked_good (line ∷ others) start games asks = (start, games, asks)
 
 -- the input was read to its end, and memory was wanting
-pub no_line : (input : List ℕ) (rest : Told) (start : Parsed) (games : List Played) → IsWhole input rest start games → IsNoBook NoMemory input rest
+pub no_line : (input : List ℕ) (rest : Told) (start : Parsed) (games : List Played) → IsWhole input rest start games → IsUnanswered about_book NoMemory input rest
 no_line input rest start games whole = (
   lines input,
   [],
@@ -65,21 +62,6 @@ no_line input rest start games whole = (
     one = omega arith;
   },
 )
-
--- The run
-
-bad_run : (status : Status) (before after : Sides) (text : List ℕ) → WhereTold before.rest (λ input. IsNoBook (Bad text) input after.rest) → WritesAs text BadInput status before.written after.written → BookRun status before after
-bad_run status before after text none (inl (e, wrote)) = subst (λ s. BookRun s before after) (sym e) (λ input told.
-    let (why, bad, is) = none input told in (why, record { bad = bad; wrote = wrote ∙ ap (behind before.written) is }))
-bad_run status before after text none (inr (e, (n, less, wrote))) = subst (λ s. BookRun s before after) (sym e) (λ input told.
-    let (why, bad, is) = none input told in (text, n, record { is_text = inl (why, bad, is); cut = less; wrote = wrote }))
-
--- there is no line of a book
-pub none_run : (none : NoGame) (status : Status) (before after : Sides) → WhereTold before.rest (λ input. IsNoBook none input after.rest) → TellsNone none status before.written after.written → BookRun status before after
-none_run (Bad text) status before after none told = bad_run status before after text none told
-none_run NoRead status before after none (e, same) = subst (λ s. BookRun s before after) (sym e) (same, none)
-none_run TooMuch status before after none (e, same) = subst (λ s. BookRun s before after) (sym e) (same, none)
-none_run NoMemory status before after none (e, same) = subst (λ s. BookRun s before after) (sym e) (same, none)
 
 -- Laws
 
@@ -118,18 +100,8 @@ not_bad input rest why start games asks (inr (inr (given, no_game))) =
     (subst (λ ls. Asks ls start games) (read.of_input ∙ ap (λ ls. ls ++ others) r.are) asks) r.none
 
 pub books_done : BooksAreDone
-books_done Done before after run input served (start, games, asks) = inl refl
-books_done Memory before after run input served (start, games, asks) = inr refl
-books_done BadInput before after run input served (start, games, asks) =
-    let (why, wrote) = run input served.told in absurd (not_bad input after.rest why start games asks wrote.bad)
-books_done ReadFault before after run input served (start, games, asks) = absurd (no_failure served.reads refl)
-books_done WriteFault before after run input served (start, games, asks) = absurd (no_failure served.writes refl)
-books_done InputFull before after (same, run) input served (start, games, asks) =
-    let (bytes, left, full, is) = run input served.told in
-    absurd (not_full input bytes left after.rest is.was_read full served.below)
-books_done Refused before after run input served (start, games, asks) = absurd run
-books_done Usage before after run input served (start, games, asks) = absurd run
-books_done SpawnFault before after run input served (start, games, asks) = absurd run
+books_done = answered_done about_book IsAnswer (λ input. (start : Parsed) × (games : List Played) × Asks (lines input) start games)
+    (λ input rest why (start, games, asks) bad. not_bad input rest why start games asks bad) (λ input rest bytes left is. is.was_read)
 
 made_move : (start : Parsed) (games : List Played) (found : Option (Move × ℕ)) → IsBook (last_position start) games found → IsMadeMove start games found
 made_move start games None book = tt
@@ -138,7 +110,7 @@ made_move start games (Some b) book = (on_list (moves (last_position start)) boo
 pub moves_legal : WrittenMovesAreLegal
 moves_legal = λ before after run input told.
     let (line, wrote) = run input told in
-    let is = wrote.is_answer in (
+    let is = wrote.answer in (
       is.answers.found,
       record {
         start = is.start;

@@ -11,6 +11,7 @@ use Rattle.line_feed.proofs.FedLemmas.{fed_begin, fed_end, fed_held, fed_line}
 use Rattle.game_text.specs.declared.faults.GameFault.{GameFault}
 use Rattle.game_text.specs.declared.parsed.Parsed.{Parsed}
 use Rattle.game_text.specs.Reading.{game_of}
+use Rattle.command_runs.specs.Answered.{IsUnanswered, ReadsWhile}
 use Rattle.command_runs.specs.Asking.{GivesGame, GivesNone, IsReplayOf, WereTaken}
 use Rattle.command_runs.specs.Input.{WereRead, WhereTold}
 use Rattle.command_runs.specs.OneGame.{game_in, if_open, last_position, open_game}
@@ -20,8 +21,8 @@ use Rattle.command_runs.proofs.GameRunLemmas.{end_is}
 use Rattle.command_runs.proofs.OneGameLemmas.{all_were_read}
 use Rattle.command_runs.proofs.ReadLemmas.{all_is_read, given_were_read, none_were_read}
 use Rattle.book_command.specs.Asked.{AreGood}
-use Rattle.book_command.specs.Reading.{HasBegun, IsNoBook}
-use Rattle.book_command.specs.Runs.{ReadsWhile}
+use Rattle.book_command.specs.Reading.{HasBegun}
+use Rattle.book_command.specs.Runs.{about_book}
 
 -- Its game
 
@@ -68,13 +69,13 @@ begun {r0} {r1} {old} {new} {bytes} is taken (line, gives, (game, plays, replay_
 )
 
 -- no line was given, and none of those that were read is refused
-held_first : {r0 r1 : Told} {old new : Reading} {bytes : List ℕ} (many : ℕ → Type 0) (input : List ℕ) → old ≡ fresh → WereTaken bytes old new r0 r1 → Holds old bytes new → r0 ≡ Some input → many new.taken → ReadsWhile many input r1
+held_first : {r0 r1 : Told} {old new : Reading} {bytes : List ℕ} (many : ℕ → Type 0) (input : List ℕ) → old ≡ fresh → WereTaken bytes old new r0 r1 → Holds old bytes new → r0 ≡ Some input → many new.taken → ReadsWhile about_book many input r1
 held_first {r0} {r1} {old} {new} {bytes} many input is taken holds told so_many =
     let (left, read, all, count) = fed_held input (fed_begin r0 old is) taken.takes holds told in
     (bytes, left, subst many count so_many, record { was_read = read; good = subst AreGood (sym all) tt })
 
 -- the first line gave no game
-pub none_begun : {r0 r1 : Told} {old new : Reading} {bytes : List ℕ} (e : NoGame) → old ≡ fresh → WereTaken bytes old new r0 r1 → GivesNone e bytes old new r1 → WhereTold r0 (λ input. IsNoBook e input r1)
+pub none_begun : {r0 r1 : Told} {old new : Reading} {bytes : List ℕ} (e : NoGame) → old ≡ fresh → WereTaken bytes old new r0 r1 → GivesNone e bytes old new r1 → WhereTold r0 (λ input. IsUnanswered about_book e input r1)
 none_begun {r0} {r1} {old} {new} {bytes} (Bad text) is taken none = λ input told. elim none [
   | inl (why, (line, gives, other), says) ↦
       (why, inr (inl (line, record { were_read = given_were_read input (fed_first is taken gives) told taken.within taken.little; refused = other })), says)
@@ -98,11 +99,11 @@ none_begun {r0} {r1} {old} Memory is taken none = λ input told. elim none [
 ]
 
 -- nothing was read
-pub unread : (rest : Told) → WhereTold rest (λ input. IsNoBook Memory input rest)
+pub unread : (rest : Told) → WhereTold rest (λ input. IsUnanswered about_book Memory input rest)
 unread rest = λ input told. ([], [], record { were_read = none_were_read input rest told; good = tt; one = omega arith })
 
 -- one line was read, and memory was wanting
-pub one_read : (input : List ℕ) (start : Parsed) (reader : Reading) (rest : Told) → HasBegun input start reader rest → IsNoBook Memory input rest
+pub one_read : (input : List ℕ) (start : Parsed) (reader : Reading) (rest : Told) → HasBegun input start reader rest → IsUnanswered about_book Memory input rest
 one_read input start reader rest b = (
   b.line ∷ [],
   [],

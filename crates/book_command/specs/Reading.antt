@@ -13,7 +13,6 @@ use Rattle.command_runs.specs.OneGame.{bad_line, game_in}
 use Rattle.command_runs.specs.declared.no_game.NoGame.{NoGame}
 use Rattle.command_runs.specs.declared.no_game.NoGame.TheVariants.{Bad, ReadFault, InputFull, Memory}
 use Rattle.book_command.specs.Asked.{Asks, played_in}
-use Rattle.book_command.specs.Runs.{IsBad, ReadsGood, ReadsWhile}
 use Rattle.book_command.specs.Text.{refusal}
 
 -- A further line
@@ -69,13 +68,6 @@ pub record IsWhole (input : List ℕ) (rest : Told) (start : Parsed) (games : Li
     : Type 0 where
   pub asks : Asks (lines input) start games
   pub over : IsAllRead input rest
-
--- why the input asks about no position, or why that is not known
-abbrev pub IsNoBook : NoGame → List ℕ → Told → Type 0
-IsNoBook (Bad text) input rest = (why : List ℕ) × IsBad input rest why × (text ≡ bad_line why)
-IsNoBook ReadFault input rest = ReadsWhile (λ many. many < input_limit) input rest
-IsNoBook InputFull input rest = ReadsWhile (λ many. many ≡ input_limit) input rest
-IsNoBook Memory input rest = ReadsGood input rest
 
 -- The counts
 

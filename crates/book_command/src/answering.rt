@@ -6,10 +6,9 @@ ghost use Rattle.hive_model.specs.Courses.{position};
 ghost use Rattle.hive_model.specs.Legal.{is_over};
 ghost use Rattle.opening_book.specs.Book.{IsTally};
 ghost use Rattle.command_runs.specs.Input.{WhereTold};
-ghost use Rattle.command_runs.specs.GameRun.{WritesAs};
+ghost use Rattle.command_runs.specs.Answered.{IsUnanswered, WritesAs};
 ghost use Rattle.command_runs.specs.Runs.{RunsAs, side_of};
-ghost use Rattle.book_command.specs.Reading.{IsNoBook};
-ghost use Rattle.book_command.specs.Runs.{BookRun, IsAnswer};
+ghost use Rattle.book_command.specs.Runs.{BookRun, IsAnswer, about_book};
 
 use crate::reading::count_games;
 use crate::telling::book_line;
@@ -35,7 +34,7 @@ fn answer<S: Source, G: Game + Drop>(alloc: Global, input: &mut S) -> Result<Rep
     ensures line { IfOk result (λ line. WhereTold (S.rest input.old)
         (λ bytes. IsAnswer bytes (S.rest input.new) line)) }
     ensures none { IfErr result (λ e. WhereTold (S.rest input.old)
-        (λ bytes. IsNoBook e bytes (S.rest input.new))) }
+        (λ bytes. IsUnanswered about_book e bytes (S.rest input.new))) }
     ensures cause { HasCause (result ≡ Err NoGame.ReadFault)
         (S.read_faults input.old) (S.read_faults input.new) }
 {

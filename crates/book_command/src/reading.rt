@@ -8,16 +8,17 @@ ghost use Rattle.hive_model.specs.Lines.{Line as AnyLine};
 ghost use Rattle.game_text.specs.Reading.{game_of};
 ghost use Rattle.game_text.specs.declared.parsed.Parsed.{Parsed as AnyGame};
 ghost use Rattle.opening_book.specs.Book.{Played};
+ghost use Rattle.command_runs.specs.Answered.{IsUnanswered};
 ghost use Rattle.command_runs.specs.Asking.{Says, WereTaken};
 ghost use Rattle.command_runs.specs.OneGame.{bad_line};
 ghost use Rattle.book_command.specs.Asked.{as_played};
+ghost use Rattle.book_command.specs.Runs.{about_book};
 ghost use Rattle.book_command.specs.Text.{refusal};
 ghost use Rattle.book_command.specs.Reading.{
   Counted,
   GivesNone,
   GivesPlayed,
   HasBegun,
-  IsNoBook,
   IsWhole,
   LacksGame,
   played_by,
@@ -111,7 +112,7 @@ pub(crate) fn count_games<S: Source, G: Game + Drop>(
         → IsWhole bytes (S.rest input.new) start games)) }
     ensures none { IfErr result (λ e. (bytes : List ℕ) (start : AnyGame)
         → HasBegun bytes start reader.old (S.rest input.old)
-        → IsNoBook e bytes (S.rest input.new)) }
+        → IsUnanswered about_book e bytes (S.rest input.new)) }
     ensures cause { HasCause (result ≡ Err NoGame.ReadFault)
         (S.read_faults input.old) (S.read_faults input.new) }
 {

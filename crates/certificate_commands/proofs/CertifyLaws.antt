@@ -12,7 +12,7 @@ use Rattle.strategy_make.specs.Making.{certificate, certificate_of}
 use Rattle.command_runs.specs.Asking.{IsReplayOf}
 use Rattle.command_runs.specs.Input.{Sides, WhereTold}
 use Rattle.command_runs.specs.OneGame.{IsAsked, asked}
-use Rattle.command_runs.specs.GameRun.{WritesAnswer}
+use Rattle.command_runs.specs.Answered.{WritesAnswer}
 use Rattle.command_runs.specs.declared.status.Status.{Status}
 use Rattle.command_runs.proofs.GameRunLemmas.{end_is, game_run}
 use Rattle.text_verdicts.proofs.AskedLaws.{asked-open}

@@ -147,9 +147,9 @@ certificate-accepted = λ t ms depth m h.
 
 pub certified-accepted : CertifiedIsAccepted
 certified-accepted = λ depth some deep before after run input told none.
-    let (game, text, wrote) = run input told in
-    let (m, is) = wrote.answer in
-    let here = asked-open (lines input) game wrote.is_asked.asks in
+    let (text, wrote) = run input told in
+    let (game, is_asked, (m, is)) = wrote.answer in
+    let here = asked-open (lines input) game is_asked.asks in
     let may : MayCertify game.game_type game.moves depth m = record {
       game = here.legal;
       few = here.few;

@@ -5,7 +5,7 @@ ghost use Rattle.std.specs.Bool.{OnTrue};
 ghost use Rattle.io_edge.specs.Outside.{HasCause};
 ghost use Rattle.hive_model.specs.Courses.{position};
 ghost use Rattle.hive_model.specs.Minimax.{best};
-ghost use Rattle.command_runs.specs.GameRun.{WritesAnswer};
+ghost use Rattle.command_runs.specs.Answered.{WritesAnswer};
 ghost use Rattle.command_runs.specs.Runs.{RunsAs, side_of};
 ghost use Rattle.strategy_make.specs.Making.{certificate_of};
 ghost use Rattle.certificate_commands.specs.Certifying.{CertifyRun, HasCertificate};

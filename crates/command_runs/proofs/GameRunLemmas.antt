@@ -1,37 +1,20 @@
 -- How a command that answers one game ends.
-use Rattle.std.proofs.Common.{◌≡◌, ◌≤◌, ℕ, List, [], ◌∷◌, length, ap, sym, ◌∙◌, subst, inl, inr, arith}
+use Rattle.std.proofs.Common.{◌≡◌, ◌≤◌, ℕ, List, [], ◌∷◌, length, sym, subst, inl, inr, arith}
 use Rattle.std.specs.Prelude.{Result, Ok, Err}
-use Rattle.io_edge.specs.Outside.{behind}
 use Rattle.hive_model.specs.Courses.{Course, position}
 use Rattle.hive_model.specs.Lines.{Line, lines}
 use Rattle.hive_model.specs.Positions.{opening}
 use Rattle.hive_model.specs.Games.{replay}
 use Rattle.game_text.specs.declared.parsed.Parsed.{Parsed}
 use Rattle.command_runs.specs.Input.{Sides, WhereTold}
-use Rattle.command_runs.specs.OneGame.{IsAsked, and_no_more, asked, last_position, game_in}
-use Rattle.command_runs.specs.Asking.{IsReplayOf, IsNoGame}
-use Rattle.command_runs.specs.GameRun.{Answers, GameRun, TellsNone, WritesAnswer, WritesAs}
+use Rattle.command_runs.specs.OneGame.{AsksOne, IsAsked, and_no_more, asked, last_position, game_in}
+use Rattle.command_runs.specs.Asking.{IsReplayOf}
+use Rattle.command_runs.specs.Answered.{WritesAnswer}
+use Rattle.command_runs.specs.GameRun.{Answers, AnswersGame, GameRun, about_game}
+use Rattle.command_runs.specs.Served.{RunsAreDone}
 use Rattle.command_runs.specs.declared.status.Status.{Status}
-use Rattle.command_runs.specs.declared.status.Status.TheVariants.{BadInput}
-use Rattle.command_runs.specs.declared.no_game.NoGame.{NoGame}
-use Rattle.command_runs.specs.declared.no_game.NoGame.TheVariants.{Bad, ReadFault as NoRead, InputFull as TooMuch, Memory as NoMemory}
+use Rattle.command_runs.proofs.AnsweredLemmas.{answered_done, written_run}
 use Rattle.command_runs.proofs.OneGameLemmas.{all_were_read}
-
--- the input was bad
-bad_run : (answers : Answers) (status : Status) (before after : Sides) (text : List ℕ) → WhereTold before.rest (λ input. IsNoGame (Bad text) input after.rest)
-    → WritesAs text BadInput status before.written after.written → GameRun answers status before after
-bad_run answers status before after text none (inl (e, wrote)) = subst (λ s. GameRun answers s before after) (sym e) (λ input told.
-    let (why, bad, is) = none input told in (why, record { bad = bad; wrote = wrote ∙ ap (behind before.written) is }))
-bad_run answers status before after text none (inr (e, (n, less, wrote))) = subst (λ s. GameRun answers s before after) (sym e) (λ input told.
-    let (why, bad, is) = none input told in (text, n, record { is_text = inl (why, bad, is); cut = less; wrote = wrote }))
-
--- the input was not one game
-pub none_run : (answers : Answers) (none : NoGame) (status : Status) (before after : Sides) → WhereTold before.rest (λ input. IsNoGame none input after.rest) → TellsNone none status before.written after.written
-    → GameRun answers status before after
-none_run answers (Bad text) status before after none told = bad_run answers status before after text none told
-none_run answers NoRead status before after none (e, same) = subst (λ s. GameRun answers s before after) (sym e) (same, none)
-none_run answers TooMuch status before after none (e, same) = subst (λ s. GameRun answers s before after) (sym e) (same, none)
-none_run answers NoMemory status before after none (e, same) = subst (λ s. GameRun answers s before after) (sym e) (same, none)
 
 more_lines : (r : Result Parsed (List ℕ)) (line : Line) (others : List Line) (game : Parsed) → and_no_more r (line ∷ others) ≡ Ok game → ⊥
 more_lines (Ok other) line others game e = cc
@@ -55,11 +38,16 @@ game_run answers status before after c text given is_answer (inl (e, same)) = su
   same,
   λ input told. let (game, is, end) = given input told in (lines input, all_were_read is.over, asked_by_one (lines input) game is.asks),
 )
-game_run answers status before after c text given is_answer (inr (inl (e, wrote))) = subst (λ s. GameRun answers s before after) (sym e) (λ input told.
-    let (game, is, end) = given input told in (game, text, record { is_asked = is; answer = is_answer game end; wrote = wrote }))
-game_run answers status before after c text given is_answer (inr (inr (e, (n, less, wrote)))) = subst (λ s. GameRun answers s before after) (sym e) (λ input told.
-    let (game, is, end) = given input told in (
-      text,
-      n,
-      record { is_text = inr (game, is, is_answer game end); cut = less; wrote = wrote },
-    ))
+game_run answers status before after c text given is_answer (inr wrote) =
+    written_run about_game (AnswersGame answers) status before after text
+    (λ input told. let (game, is, end) = given input told in (game, is, is_answer game end)) wrote
+
+-- Games that are asked for
+
+asked_once : (r : Result Parsed (List ℕ)) (game : Parsed) (why : List ℕ) → r ≡ Ok game → r ≡ Err why → ⊥
+asked_once r game why e f = cc
+
+-- a run that answers the one game of its input is done, unless memory is wanting
+pub game_run_done : (answers : Answers) → RunsAreDone (GameRun answers) AsksOne
+game_run_done answers = answered_done about_game (AnswersGame answers) AsksOne
+    (λ input rest why (game, asks) bad. asked_once (asked (lines input)) game why asks bad.asks) (λ input rest bytes left is. is.was_read)

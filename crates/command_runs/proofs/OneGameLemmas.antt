@@ -13,7 +13,9 @@ use Rattle.game_text.specs.declared.parsed.Parsed.{Parsed}
 use Rattle.game_text.specs.Reading.{game_of}
 use Rattle.command_runs.specs.Input.{IsAllRead, WereRead, WhereTold}
 use Rattle.command_runs.specs.OneGame.{AreUndecided, FewWereRead, IsAsked, IsBad, IsUndecided, and_no_more, asked, game_in, open_game}
-use Rattle.command_runs.specs.Asking.{GivesGame, GivesNone, GoesOn, IsReplayOf, IsNoGame, Lacks, Resumes, Says, WereTaken}
+use Rattle.command_runs.specs.Answered.{IsUnanswered}
+use Rattle.command_runs.specs.GameRun.{about_game}
+use Rattle.command_runs.specs.Asking.{GivesGame, GivesNone, GoesOn, IsReplayOf, Lacks, Resumes, Says, WereTaken}
 use Rattle.command_runs.specs.declared.no_game.NoGame.{NoGame}
 use Rattle.command_runs.specs.declared.no_game.NoGame.TheVariants.{Bad, ReadFault, InputFull, Memory}
 use Rattle.command_runs.proofs.ReadLemmas.{all_is_read, fresh_holds_little, given_were_read}
@@ -94,7 +96,7 @@ held_open {bytes = bytes} {b1} input fed taken holds e open_ =
     )
 
 -- no line was given before
-pub no_game_first : {r0 r1 : Told} {old new : Reading} {bytes : List ℕ} (e : NoGame) → old ≡ fresh → WereTaken bytes old new r0 r1 → GivesNone e bytes old new r1 → WhereTold r0 (λ input. IsNoGame e input r1)
+pub no_game_first : {r0 r1 : Told} {old new : Reading} {bytes : List ℕ} (e : NoGame) → old ≡ fresh → WereTaken bytes old new r0 r1 → GivesNone e bytes old new r1 → WhereTold r0 (λ input. IsUnanswered about_game e input r1)
 no_game_first {r0} {r1} {old} {new} {bytes} (Bad text) is taken none = λ input told. elim none [
   | inl (why, (line, gives, other), says) ↦ (why, is_bad input why (fed_first is taken gives) taken.within taken.little told (λ others. ap (λ r. and_no_more r others) other) (omega arith), says)
   | inr (ends, says) ↦
@@ -126,7 +128,7 @@ no_game_first {r0} {r1} {old} Memory is taken none = λ input told. elim none [
 
 -- a game was given before
 pub no_game_after : {r0 r1 r2 : Told} {old mid new : Reading} {b1 b2 : List ℕ} {course : Course} (e : NoGame) → old ≡ fresh → WereTaken b1 old mid r0 r1 → GivesGame course b1 old mid r1 → WereTaken b2 mid new r1 r2
-    → GoesOn e b2 mid new r2 → WhereTold r0 (λ input. IsNoGame e input r2)
+    → GoesOn e b2 mid new r2 → WhereTold r0 (λ input. IsUnanswered about_game e input r2)
 no_game_after (Bad text) is taken (line, gives, (game, plays, replay_of)) more ((line2, gives2), says) = λ input told. (
   codes "more lines",
   is_bad input (codes "more lines") (fed_line (fed_first is taken gives) more.takes gives2) more.within more.little told (λ others. ap (λ r. and_no_more r (line2 ∷ others)) plays) (omega arith),

@@ -3,7 +3,7 @@ use Rattle.std.proofs.Common.{◌≡◌, ◌≢◌, ℕ, List, [], ◌++◌, ref
 use Rattle.std.proofs.lemmas.List.{append-nil}
 use Rattle.io_edge.specs.Outside.{Told, behind}
 use Rattle.io_edge.proofs.Told.{behind-behind}
-use Rattle.command_runs.specs.GameRun.{WritesAs}
+use Rattle.command_runs.specs.Answered.{WritesAs}
 use Rattle.command_runs.specs.declared.status.Status.{Status}
 use Rattle.command_runs.specs.declared.status.Status.TheVariants.{WriteFault}
 

@@ -1,5 +1,5 @@
 -- How the one game of an input is read: its line, and then the end of the input.
-use Rattle.std.specs.Prelude.{◌≡◌, ◌≢◌, ◌⊎◌, ℕ, ◌<◌, ◌≤◌, List, codes, length, Result, Ok, Err}
+use Rattle.std.specs.Prelude.{◌≡◌, ◌≢◌, ◌⊎◌, ℕ, ◌<◌, ◌≤◌, List, codes, Result, Ok, Err}
 use Rattle.io_edge.specs.Outside.{Told}
 use Rattle.hive_model.specs.Courses.{Course}
 use Rattle.hive_model.specs.Lines.{Line}
@@ -7,7 +7,7 @@ use Rattle.line_feed.specs.Feed.{Reading, Ends, Gives, Holds, HoldsLittle, Takes
 use Rattle.game_text.specs.declared.faults.GameFault.{GameFault}
 use Rattle.game_text.specs.declared.faults.GameFault.TheVariants.{Memory as NoMemory}
 use Rattle.game_text.specs.declared.parsed.Parsed.{Parsed}
-use Rattle.command_runs.specs.OneGame.{FewWereRead, IsBad, IsUndecided, bad_line, game_in}
+use Rattle.command_runs.specs.OneGame.{bad_line, game_in}
 use Rattle.command_runs.specs.Reasons.{reason}
 use Rattle.command_runs.specs.declared.no_game.NoGame.{NoGame}
 use Rattle.command_runs.specs.declared.no_game.NoGame.TheVariants.{Bad, ReadFault, InputFull, Memory}
@@ -86,14 +86,3 @@ GoesOn (Bad text) bytes old new rest =
 GoesOn ReadFault bytes old new rest = Holds old bytes new × (new.taken < input_limit)
 GoesOn InputFull bytes old new rest = Holds old bytes new × (new.taken ≡ input_limit)
 GoesOn Memory bytes old new rest = GivesLine bytes old new rest
-
--- why the input is not one game, and what was read to know it
-abbrev pub IsNoGame : NoGame → List ℕ → Told → Type 0
-IsNoGame (Bad text) input rest = (why : List ℕ) × IsBad input rest why × (text ≡ bad_line why)
-IsNoGame ReadFault input rest =
-    (bytes : List ℕ) × (left : List ℕ) × (length bytes < input_limit)
-    × IsUndecided input rest bytes left
-IsNoGame InputFull input rest =
-    (bytes : List ℕ) × (left : List ℕ) × (length bytes ≡ input_limit)
-    × IsUndecided input rest bytes left
-IsNoGame Memory input rest = FewWereRead input rest

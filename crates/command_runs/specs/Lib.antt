@@ -3,6 +3,7 @@ pub mod Input
 pub mod Reasons
 pub mod OneGame
 pub mod Asking
+pub mod Answered
 pub mod GameRun
 pub mod Served
 pub mod Runs

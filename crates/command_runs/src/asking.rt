@@ -9,12 +9,13 @@ ghost use Rattle.game_text.specs.Reading.{game_of};
 ghost use Rattle.game_text.specs.declared.parsed.Parsed.{Parsed as AnyGame};
 ghost use Rattle.command_runs.specs.Input.{WhereTold};
 ghost use Rattle.command_runs.specs.OneGame.{IsAsked, if_open, open_game};
+ghost use Rattle.command_runs.specs.Answered.{IsUnanswered};
+ghost use Rattle.command_runs.specs.GameRun.{about_game};
 ghost use Rattle.command_runs.specs.Asking.{
   GivesGame,
   GivesNone,
   GoesOn,
   IsReplayOf,
-  IsNoGame,
   Lacks,
   Resumes,
   Says,
@@ -153,7 +154,7 @@ pub fn read_one_game<S: Source, G: Game + Drop>(
         × IsReplayOf (G.course g) game)) }
     ensures room { IfOk result (λ g. room ≤ (G.course g).spare) }
     ensures none { IfErr result (λ e. WhereTold (S.rest input.old)
-        (λ bytes. IsNoGame e bytes (S.rest input.new))) }
+        (λ bytes. IsUnanswered about_game e bytes (S.rest input.new))) }
     ensures cause { HasCause (result ≡ Err NoGame.ReadFault) (S.read_faults input.old)
         (S.read_faults input.new) }
 {

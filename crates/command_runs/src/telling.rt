@@ -1,7 +1,7 @@
 //! The text with which a run ends, and the line that says why the input is bad.
 ghost use Rattle.std.specs.Prelude.{◌≡◌, ◌≢◌};
 ghost use Rattle.io_edge.specs.Outside.{HasCause};
-ghost use Rattle.command_runs.specs.GameRun.{WritesAs, TellsNone};
+ghost use Rattle.command_runs.specs.Answered.{WritesAs, TellsNone};
 
 use crate::no_game::NoGame;
 use crate::status::Status;

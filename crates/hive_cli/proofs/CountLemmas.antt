@@ -9,7 +9,7 @@ use Rattle.game_text.specs.declared.parsed.Parsed.{Parsed}
 use Rattle.command_runs.specs.Input.{Sides, WhereTold}
 use Rattle.command_runs.specs.OneGame.{IsAsked}
 use Rattle.command_runs.specs.Asking.{IsReplayOf}
-use Rattle.command_runs.specs.GameRun.{WritesAnswer}
+use Rattle.command_runs.specs.Answered.{WritesAnswer}
 use Rattle.command_runs.specs.declared.status.Status.{Status}
 use Rattle.command_runs.proofs.WrittenLemmas.{on_written}
 use Rattle.command_runs.proofs.GameRunLemmas.{end_is, game_run}

@@ -3,7 +3,7 @@ ghost use Rattle.std.specs.Prelude.{◌≡◌, ℕ, ◌<◌, ◌≤◌, false, l
 ghost use Rattle.std.specs.Bool.{OnTrue, OnFalse};
 ghost use Rattle.io_edge.specs.Outside.{HasCause, behind};
 ghost use Rattle.hive_model.specs.Courses.{position};
-ghost use Rattle.command_runs.specs.GameRun.{WritesAnswer};
+ghost use Rattle.command_runs.specs.Answered.{WritesAnswer};
 ghost use Rattle.command_runs.specs.Runs.{RunsAs, side_of};
 ghost use Rattle.hive_cli.specs.Count.{CountRun, count_line_of, count_text};
 

@@ -3,7 +3,7 @@ use Rattle.std.proofs.Common.{◌≡◌, ◌⊎◌, ℕ, ◌<◌, ◌+◌, List,
 use Rattle.std.proofs.lemmas.Option.{same_Some}
 use Rattle.io_edge.specs.Outside.{HasCause, Rose, Told, ToldLists, behind}
 use Rattle.io_edge.specs.Starts.{Engines}
-use Rattle.command_runs.specs.GameRun.{WritesAs}
+use Rattle.command_runs.specs.Answered.{WritesAs}
 use Rattle.command_runs.specs.declared.status.Status.{Status}
 use Rattle.command_runs.specs.declared.status.Status.TheVariants.{Done, SpawnFault}
 use Rattle.command_runs.proofs.WrittenLemmas.{ends_so}

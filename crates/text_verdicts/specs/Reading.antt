@@ -3,7 +3,7 @@ use Rattle.std.specs.Prelude.{◌≡◌, ℕ, ⊤, ◌⊎◌, List, Result, Ok, 
 use Rattle.io_edge.specs.Outside.{Told}
 use Rattle.certificate_text.specs.declared.head.HeadFault.{HeadFault}
 use Rattle.certificate_text.specs.declared.head.HeadFault.TheVariants.{BadLine as LineFault, BadGame as NoGame, ReadFault as NoRead, InputFull as IsFull, Memory as NoMemory}
-use Rattle.command_runs.specs.GameRun.{WritesAs}
+use Rattle.command_runs.specs.Answered.{WritesAs}
 use Rattle.command_runs.specs.declared.status.Status.{Status}
 use Rattle.command_runs.specs.declared.status.Status.TheVariants.{Memory, ReadFault as ReadFailed, InputFull as InputIsFull}
 use Rattle.text_verdicts.specs.declared.verdict.Verdict.{Verdict}

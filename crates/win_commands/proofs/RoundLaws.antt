@@ -131,10 +131,11 @@ accepted t ms plies may =
 
 pub solved-accepted : SolvedIsAccepted
 solved-accepted = λ plies some short before after run input told none.
-    let (game, text, wrote) = run input told in
-    let here = asked-open (lines input) game wrote.is_asked.asks in
+    let (text, wrote) = run input told in
+    let (game, is_asked, answer) = wrote.answer in
+    let here = asked-open (lines input) game is_asked.asks in
     let may : MayAsk game.game_type game.moves plies = record { game = here.legal; few = here.few; open_ = here.goes_on; some = some; short = short } in (
       text,
       wrote.wrote ∙ ap (λ w. behind w text) none,
-      ap (λ x. verdict (lines x)) wrote.answer ∙ accepted game.game_type game.moves plies may,
+      ap (λ x. verdict (lines x)) answer ∙ accepted game.game_type game.moves plies may,
     )

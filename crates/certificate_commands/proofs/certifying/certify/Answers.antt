@@ -1,14 +1,15 @@
 -- How an answer ends, by whether the input was one game.
 use Rattle.std.proofs.Common.{◌≡◌, true, false, rules}
 use Rattle.hive_model.specs.Lines.{lines}
-use Rattle.command_runs.proofs.GameRunLemmas.{none_run}
+use Rattle.command_runs.specs.GameRun.{AnswersGame, about_game}
+use Rattle.command_runs.proofs.AnsweredLemmas.{none_run}
 use Rattle.certificate_commands.specs.Certifying.{certificates_of}
 use Rattle.certificate_commands.proofs.CertifyLaws.{certified, has-one}
 use Rattle.certificate_commands.proofs.certifying.certify.Goals as goal
 
 pub returns-in-Err : goal.returns-in-Err
 returns-in-Err g c = record {
-  run = none_run (certificates_of c.args.depth) c.in-Err.none c.tell_none.result _ _ c.in-Err.ensures.none c.tell_none.ensures.told;
+  run = none_run about_game (AnswersGame (certificates_of c.args.depth)) c.in-Err.none c.tell_none.result _ _ c.in-Err.ensures.none c.tell_none.ensures.told;
   reads = search rules;
   writes = search rules;
 }

@@ -1,6 +1,6 @@
 -- What is written tells the cup that was played.
 use Rattle.std.proofs.Common.{List, ℕ, subst}
-use Rattle.command_runs.specs.GameRun.{WritesAs}
+use Rattle.command_runs.specs.Answered.{WritesAs}
 use Rattle.command_runs.specs.declared.status.Status.TheVariants.{Done}
 use Rattle.match_command.proofs.Starting.{none_failed}
 use Rattle.cup_command.proofs.Ends.{told-as}

@@ -1,6 +1,7 @@
 -- How a count ends, by whether the input was one game.
 use Rattle.std.proofs.Common.{rules}
-use Rattle.command_runs.proofs.GameRunLemmas.{none_run}
+use Rattle.command_runs.specs.GameRun.{AnswersGame, about_game}
+use Rattle.command_runs.proofs.AnsweredLemmas.{none_run}
 use Rattle.hive_cli.specs.Count.{counts_of}
 use Rattle.hive_cli.proofs.CountLemmas.{counts_run}
 use Rattle.hive_cli.proofs.counts.count.Goals as goal
@@ -14,7 +15,7 @@ returns-in-Ok g c = record {
 
 pub returns-in-Err : goal.returns-in-Err
 returns-in-Err g c = record {
-  run = none_run (counts_of c.args.plies) c.in-Err.none c.tell_none.result _ _ c.in-Err.ensures.none c.tell_none.ensures.told;
+  run = none_run about_game (AnswersGame (counts_of c.args.plies)) c.in-Err.none c.tell_none.result _ _ c.in-Err.ensures.none c.tell_none.ensures.told;
   reads = search rules;
   writes = search rules;
 }

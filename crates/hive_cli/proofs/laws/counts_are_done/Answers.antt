@@ -1,4 +1,4 @@
-use Rattle.command_runs.proofs.ServedLemmas.{game_run_done}
+use Rattle.command_runs.proofs.GameRunLemmas.{game_run_done}
 use Rattle.hive_cli.specs.Count.{counts_of}
 use Rattle.hive_cli.proofs.laws.counts_are_done.Goals as goal
 

@@ -1,6 +1,6 @@
 -- What is written tells the match that was played.
 use Rattle.std.proofs.Common.{List, ℕ, ◌∙◌, subst}
-use Rattle.command_runs.specs.GameRun.{WritesAs}
+use Rattle.command_runs.specs.Answered.{WritesAs}
 use Rattle.command_runs.specs.declared.status.Status.TheVariants.{Done}
 use Rattle.match_command.proofs.Starting.{both_as, none_failed, none_open, told_as, told_from}
 use Rattle.match_command.proofs.playing.play_match.Goals as goal

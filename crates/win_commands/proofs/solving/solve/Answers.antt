@@ -1,6 +1,8 @@
 -- How an answer ends, by whether the input was one game.
 use Rattle.std.proofs.Common.{rules}
-use Rattle.command_runs.proofs.GameRunLemmas.{game_run, none_run}
+use Rattle.command_runs.specs.GameRun.{AnswersGame, about_game}
+use Rattle.command_runs.proofs.AnsweredLemmas.{none_run}
+use Rattle.command_runs.proofs.GameRunLemmas.{game_run}
 use Rattle.win_commands.specs.Text.{solution_of, solution_text}
 use Rattle.win_commands.proofs.solving.solve.Goals as goal
 
@@ -15,7 +17,7 @@ returns-in-Ok g c =
 
 pub returns-in-Err : goal.returns-in-Err
 returns-in-Err g c = record {
-  run = none_run (solution_of c.args.plies) c.in-Err.none c.tell_none.result _ _ c.in-Err.ensures.none c.tell_none.ensures.told;
+  run = none_run about_game (AnswersGame (solution_of c.args.plies)) c.in-Err.none c.tell_none.result _ _ c.in-Err.ensures.none c.tell_none.ensures.told;
   reads = search rules;
   writes = search rules;
 }
