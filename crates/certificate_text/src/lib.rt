@@ -10,4 +10,4 @@ mod writing;
 pub use fields::{Field, NumberField, behind, number_at};
 pub use head::{Head, HeadFault, read_field, read_game_line, read_head};
 pub use lines::{IndexLine, LineForm, LineIndices, LineItems};
-pub use writing::{index_line, push_line, push_number, write_head};
+pub use writing::{index_line, push_line, push_move, push_number, write_head};

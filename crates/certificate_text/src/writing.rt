@@ -35,24 +35,32 @@ pub fn push_line(text: &mut ReplyText, word: &[u8], field: &[u8]) -> Result<(), 
 /// # Errors
 ///
 /// Want of memory.
-pub fn push_number(text: &mut ReplyText, word: &[u8], number: u32) -> Result<(), AllocError>
+pub fn push_number(text: &mut ReplyText, word: &[u8], number: u64) -> Result<(), AllocError>
     ensures { OnOk result (text.new ≡ text.old ++ written_line (word.now ++ decimal number)) }
 {
     let mut buffer = Buffer::new();
     push_line(text, word, buffer.format(number).as_bytes())
 }
 
-/// Appends the line of a legal move.
-fn push_move<G: Game>(text: &mut ReplyText, game: &G, m: Move) -> Result<(), AllocError>
+/// Appends a line: a word and a legal move.
+///
+/// # Errors
+///
+/// Want of memory.
+pub fn push_move<G: Game>(
+    text: &mut ReplyText,
+    word: &[u8],
+    game: &G,
+    m: Move,
+) -> Result<(), AllocError>
     requires { IsOn (moves (position (G.course game.now))) m }
-    ensures line { OnOk result (text.new
-        ≡ text.old ++ written_line (codes "move "
-        ++ text_of (position (G.course game.now)).board m)) }
+    ensures line { OnOk result (text.new ≡ text.old
+        ++ written_line (word.now ++ text_of (position (G.course game.now)).board m)) }
     ensures game { IsGame (G.course game.now).game_type (G.course game.now).made }
 {
     let _state = game.state();
     let written = write_move(game, m);
-    push_line(text, b"move ", written.as_str().as_bytes())
+    push_line(text, word, written.as_str().as_bytes())
 }
 
 /// Appends the line of a value.
@@ -84,11 +92,11 @@ pub fn write_head<G: Game + Drop>(
         (G.course game.now).made) }
 {
     let mut text = ReplyText::new(alloc);
-    push_number(&mut text, b"hive-certificate ", version)?;
+    push_number(&mut text, b"hive-certificate ", u64::from(version))?;
     write_game(alloc, game, &mut text)?;
     text.push(b'\n')?;
-    push_number(&mut text, b"depth ", claim.depth)?;
-    push_move(&mut text, game, claim.best)?;
+    push_number(&mut text, b"depth ", u64::from(claim.depth))?;
+    push_move(&mut text, b"move ", game, claim.best)?;
     push_value(&mut text, claim.value)?;
     Ok(text)
 }

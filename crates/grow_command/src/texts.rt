@@ -1,41 +1,18 @@
 //! The eight lines about a made game.
 
-ghost use Rattle.std.specs.Prelude.{◌≡◌, ◌++◌, codes, decimal, OnOk, IfOk};
+ghost use Rattle.std.specs.Prelude.{◌≡◌, ◌++◌, codes, OnOk, IfOk};
 ghost use Rattle.hive_model.specs.Courses.{position};
-ghost use Rattle.hive_model.specs.Denotes.{text as text_of};
-ghost use Rattle.hive_model.specs.Legal.{moves};
-ghost use Rattle.hive_model.specs.Lists.{IsOn};
 ghost use Rattle.hive_model.specs.Strings.{string};
 ghost use Rattle.grow_game.specs.Growing.{TellsBest};
 ghost use Rattle.certificate_text.specs.Text.{written_line};
 ghost use Rattle.grow_command.specs.Text.{best_field, lines_text, lines_about};
 
-use certificate_text::push_line;
+use certificate_text::{push_line, push_move, push_number};
 use game_text::write_game;
 use grow_game::Grown;
-use hive_model::{Best, Game, Move, ReplyText};
-use itoa::Buffer;
-use move_text::{state_text, type_text, write_move};
+use hive_model::{Best, Game, ReplyText};
+use move_text::{state_text, type_text};
 use std::alloc::{AllocError, Global};
-
-/// Appends a line: a word and a number.
-fn push_number(text: &mut ReplyText, word: &[u8], number: u64) -> Result<(), AllocError>
-    ensures { OnOk result (text.new ≡ text.old ++ written_line (word.now ++ decimal number)) }
-{
-    let mut buffer = Buffer::new();
-    push_line(text, word, buffer.format(number).as_bytes())
-}
-
-/// Appends the line of a best move, which is legal.
-fn push_move<G: Game>(text: &mut ReplyText, game: &G, m: Move) -> Result<(), AllocError>
-    requires { IsOn (moves (position (G.course game.now))) m }
-    ensures { OnOk result (text.new ≡ text.old
-        ++ written_line (codes "best " ++ text_of (position (G.course game.now)).board m)) }
-{
-    let _state = game.state();
-    let written = write_move(game, m);
-    push_line(text, b"best ", written.as_str().as_bytes())
-}
 
 /// Appends the line of the best move, or that there is none.
 fn push_best<G: Game>(text: &mut ReplyText, game: &G, best: Option<Best>) -> Result<(), AllocError>
@@ -44,7 +21,7 @@ fn push_best<G: Game>(text: &mut ReplyText, game: &G, best: Option<Best>) -> Res
         ≡ text.old ++ written_line (codes "best " ++ best_field (position (G.course game.now)))) }
 {
     match best {
-        Some(found) => push_move(text, game, found.best),
+        Some(found) => push_move(text, b"best ", game, found.best),
         None => push_line(text, b"best ", b"none"),
     }
 }

@@ -35,7 +35,7 @@ pub(crate) fn head_of<G: Game + Drop>(
     push_line(&mut text, b"hive-solution ", b"1")?;
     write_game(alloc, game, &mut text)?;
     text.push(b'\n')?;
-    push_number(&mut text, b"plies ", plies)?;
+    push_number(&mut text, b"plies ", u64::from(plies))?;
     push_answer(&mut text, answer)?;
     Ok(text)
 }
