@@ -7,19 +7,10 @@ ghost use Rattle.cup_games.specs.Played.{AreStandingsOf, HasVerdict, pairing, ve
 
 use crate::job::CupJob;
 use cup_core::{StandingList, standings as standings_of};
-use hive_model::{Game, LineText};
+use hive_model::Game;
 use io_edge::Link;
-use match_core::{Cause, Verdict};
+use match_core::{Cause, Verdict, copy_line};
 use std::alloc::{AllocError, Global};
-
-/// A copy of a line.
-fn copy_line(alloc: Global, line: &LineText) -> Result<LineText, AllocError>
-    ensures { IfOk result (λ copy. copy ≡ line.now) }
-{
-    let mut copy = LineText::new(alloc);
-    copy.push_all(line.items())?;
-    Ok(copy)
-}
 
 /// A copy of a cause.
 fn copy_cause(alloc: Global, cause: &Cause) -> Result<Cause, AllocError>
@@ -27,13 +18,13 @@ fn copy_cause(alloc: Global, cause: &Cause) -> Result<Cause, AllocError>
 {
     Ok(match cause {
         Cause::NotAMove { line } => Cause::NotAMove {
-            line: copy_line(alloc, line)?,
+            line: copy_line(alloc, line.items())?,
         },
         Cause::Illegal { line } => Cause::Illegal {
-            line: copy_line(alloc, line)?,
+            line: copy_line(alloc, line.items())?,
         },
         Cause::ErrLine { line } => Cause::ErrLine {
-            line: copy_line(alloc, line)?,
+            line: copy_line(alloc, line.items())?,
         },
         Cause::Flood { lines } => Cause::Flood { lines: *lines },
         Cause::LongLine => Cause::LongLine,

@@ -13,4 +13,5 @@ pub use laws::{
     matches_are_fair, matches_are_judged, matches_are_of_their_lines, matches_begin, matches_end,
     matches_near_their_end,
 };
+pub use line_text::copy_line;
 pub use referee::Referee;

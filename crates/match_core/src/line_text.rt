@@ -4,8 +4,12 @@ ghost use Rattle.std.specs.Prelude.{◌≡◌, IfOk};
 use hive_model::LineText;
 use std::alloc::{AllocError, Global};
 
-/// A copy of these bytes.
-pub(crate) fn copy_line(alloc: Global, bytes: &[u8]) -> Result<LineText, AllocError>
+/// A copy of these bytes, as a line that is kept.
+///
+/// # Errors
+///
+/// Want of memory.
+pub fn copy_line(alloc: Global, bytes: &[u8]) -> Result<LineText, AllocError>
     ensures { IfOk result (λ t. t ≡ bytes.now) }
 {
     let mut kept = LineText::new(alloc);
