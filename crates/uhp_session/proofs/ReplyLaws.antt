@@ -1,14 +1,13 @@
 -- The games of lines, and the commands that only tell.
-use Rattle.std.proofs.Common.{◌≡◌, ◌≤◌, ℕ, Bool, true, false, List, [], ◌∷◌, length, Result, Ok, Err, inl, inr, refl, sym, subst, arith, if◌then◌else◌}
+use Rattle.std.proofs.Common.{◌≡◌, ◌≤◌, ℕ, Bool, true, false, List, length, Result, Ok, Err, inl, inr, refl, sym, subst, arith, if◌then◌else◌}
 use Rattle.std.specs.Prelude.{Option, Some, None, codes}
-use Rattle.std.specs.Str.{bytes_eq}
 use Rattle.hive_model.specs.declared.pieces.GameType.{GameType}
 use Rattle.hive_model.specs.declared.places.Move.{Move}
 use Rattle.hive_model.specs.Games.{IsGame}
 use Rattle.hive_model.specs.Repetition.{StandsUnder}
 use Rattle.hive_model.specs.Strings.{IsGameLineUnder}
 use Rattle.uhp_session.proofs.StandLaws.{stands_none}
-use Rattle.uhp_session.specs.Answers.{Begun, State, Answer, Says, is_ended, after_of, refuse, in_game, while_on, list, best_line, get, tell, option_of}
+use Rattle.uhp_session.specs.Answers.{Begun, State, Answer, is_ended, after_of, refuse, in_game, while_on, list, best_line, get, tell, option_of}
 use Rattle.uhp_session.specs.declared.options.Setting.{Setting}
 use Rattle.uhp_session.specs.declared.options.SettingFault.{SettingFault}
 

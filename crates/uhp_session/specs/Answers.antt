@@ -75,21 +75,17 @@ written g = string_under g.repetition g.game_type g.made
 
 -- the game with these moves in place of its own
 abbrev pub with_moves : Begun → List Move → Begun
-with_moves g ms = record { game_type = g.game_type; made = ms; repetition = g.repetition }
+with_moves g ms = record g { made = ms }
 
 -- the session with this game in place of its own
 abbrev pub with_game : State → Begun → State
-with_game s g =
-    record { game = Some g; table = s.table; workers = s.workers; repetition = s.repetition }
+with_game s g = record s { game = Some g }
 
 -- the session with this value of an option in place of its own
 abbrev pub with_setting : State → Setting → State
-with_setting s (Table entries) =
-    record { game = s.game; table = entries; workers = s.workers; repetition = s.repetition }
-with_setting s (Workers workers) =
-    record { game = s.game; table = s.table; workers = workers; repetition = s.repetition }
-with_setting s (Repetition on) =
-    record { game = s.game; table = s.table; workers = s.workers; repetition = on }
+with_setting s (Table entries) = record s { table = entries }
+with_setting s (Workers workers) = record s { workers = workers }
+with_setting s (Repetition on) = record s { repetition = on }
 
 -- the lines of a reply but for the last, which is `ok`, and the session afterwards; or the session
 -- is left, with no reply
@@ -122,8 +118,8 @@ abbrev pub or_base : List ℕ → List ℕ
 or_base [] = codes "Base"
 or_base (b ∷ bs) = b ∷ bs
 
--- what stands before the reason why a text is no game: `err` and the number of the refusal. (Want of
--- memory is no fault of the text.)
+-- what stands before the reason why a text is no game: `err` and the number of the refusal. (Want
+-- of memory is no fault of the text.)
 abbrev pub before_reason : GameFault → List ℕ
 before_reason (Malformed part) = codes "err 4 "
 before_reason TooManyPlies = codes "err 11 "

@@ -70,7 +70,8 @@ fn push_setting(text: &mut ReplyText, setting: Setting) -> Result<(), AllocError
 
 /// The line of an option, and `ok`.
 pub(crate) fn tell_setting(alloc: Global, setting: Setting) -> Result<Reply, AllocError>
-    ensures { IfOk result (λ r. text_of r ≡ Some (ended (option_line setting ∷ (codes "ok" ∷ [])))) }
+    ensures { IfOk result (λ r. text_of r
+        ≡ Some (ended (option_line setting ∷ (codes "ok" ∷ [])))) }
 {
     let mut text = ReplyText::new(alloc);
     push_setting(&mut text, setting)?;
@@ -79,7 +80,8 @@ pub(crate) fn tell_setting(alloc: Global, setting: Setting) -> Result<Reply, All
 
 /// Why an option is not told or set, and `ok`.
 pub(crate) fn refuse_setting(alloc: Global, fault: SettingFault) -> Result<Reply, AllocError>
-    ensures { IfOk result (λ r. text_of r ≡ Some (ended (setting_fault fault ∷ (codes "ok" ∷ [])))) }
+    ensures { IfOk result (λ r. text_of r
+        ≡ Some (ended (setting_fault fault ∷ (codes "ok" ∷ [])))) }
 {
     match fault {
         SettingFault::NoSuchOption => say(alloc, b"err 9 no such option"),

@@ -4,18 +4,18 @@ ghost use Rattle.std.specs.Prelude.{◌≡◌, ◌≤◌, length, Ok, IfOk, OnOk
 ghost use Rattle.game_text.specs.Reading.{game_under};
 ghost use Rattle.uhp_words.specs.Grammar.{IsCommand, AreWithin};
 ghost use Rattle.uhp_words.specs.Reading.{command_of};
-ghost use Rattle.uhp_session.specs.Answers.{Gave, IsSetting, IsShort, after_of, begin, best_line};
-ghost use Rattle.uhp_session.specs.Answers.{command_answer, fresh, get, go_on, in_game, line_in};
-ghost use Rattle.uhp_session.specs.Answers.{list, next, option_of, or_base, play, reply, reply_of, set};
-ghost use Rattle.uhp_session.specs.Answers.{text_of, undo, while_on, with_setting, words_answer};
+ghost use Rattle.uhp_session.specs.Answers.{Gave, IsShort, after_of, begin, best_line};
+ghost use Rattle.uhp_session.specs.Answers.{command_answer, fresh, go_on, in_game, line_in, list};
+ghost use Rattle.uhp_session.specs.Answers.{next, or_base, play, reply, reply_of, text_of, undo};
+ghost use Rattle.uhp_session.specs.Answers.{while_on, words_answer};
 ghost use Rattle.uhp_session.specs.Searches.{Answered, IsUntimed, asks, command_search};
 ghost use Rattle.uhp_session.specs.Searches.{search_in, times};
 
+mod settings;
+
 use crate::current::Current;
 use crate::lines::{LineIn, Reply, or_base};
-use crate::options::{
-    Setting, SettingFault, refuse_setting, setting_of, tell_options, tell_setting,
-};
+use crate::options::tell_options;
 use crate::refusals::{refuse_game, refuse_move};
 use crate::says::say;
 use crate::workers::{Team, taken};
@@ -201,63 +201,6 @@ impl<G: Game + Send + Drop> Session<G> {
                 part(line, value),
             ),
             Command::Exit => Ok(Reply::Exit),
-        }
-    }
-
-    /// The option of this name, with the value that it has.
-    fn option_of(&self, name: &[u8]) -> Result<Setting, SettingFault>
-        ensures { result ≡ option_of self.now name.now }
-    {
-        if name == b"Table".as_slice() {
-            Ok(Setting::Table(self.table))
-        } else if name == b"Workers".as_slice() {
-            Ok(Setting::Workers(self.workers))
-        } else if name == b"Repetition".as_slice() {
-            Ok(Setting::Repetition(self.repetition))
-        } else {
-            Err(SettingFault::NoSuchOption)
-        }
-    }
-
-    /// The line of the option of this name.
-    fn tell_option(&self, alloc: Global, name: &[u8]) -> Result<Reply, AllocError>
-        ensures { IfOk result (λ r. text_of r ≡ reply_of (get self.now name.now)) }
-    {
-        match self.option_of(name) {
-            Ok(setting) => tell_setting(alloc, setting),
-            Err(fault) => refuse_setting(alloc, fault),
-        }
-    }
-
-    /// The option has this value from now on. A searcher serves the values it was made for.
-    fn keep(&mut self, setting: Setting)
-        requires { IsSetting setting }
-        ensures { self.new ≡ with_setting self.old setting }
-    {
-        match setting {
-            Setting::Table(entries) => {
-                self.table = entries;
-                self.searcher = None;
-            }
-            Setting::Workers(workers) => {
-                self.workers = workers;
-                self.searcher = None;
-            }
-            Setting::Repetition(on) => self.repetition = on,
-        }
-    }
-
-    /// Gives the option of this name this value.
-    fn set_option(&mut self, alloc: Global, name: &[u8], value: &[u8]) -> Result<Reply, AllocError>
-        ensures { Gave (set self.old name.now value.now) result self.old self.new }
-    {
-        match setting_of(name, value) {
-            Ok(setting) => {
-                let reply = tell_setting(alloc, setting)?;
-                self.keep(setting);
-                Ok(reply)
-            }
-            Err(fault) => refuse_setting(alloc, fault),
         }
     }
 
