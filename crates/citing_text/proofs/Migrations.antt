@@ -1,5 +1,5 @@
 -- What the walk of a whole certificate that writes tokens says of the indices.
-use Rattle.std.proofs.Common.{◌≡◌, ℕ, List, sym, ap, subst, ◌∙◌, ℤ, Option, None, Some}
+use Rattle.std.proofs.Common.{◌≡◌, ◌++◌, ℕ, Bool, List, sym, ap, subst, ◌∙◌, ℤ, Option, None, Some}
 use Rattle.std.specs.Prelude.{IfSome}
 use Rattle.hive_model.specs.declared.places.Move.{Move}
 use Rattle.hive_model.specs.Positions.{Position}
@@ -18,6 +18,8 @@ use Rattle.strategy_check.proofs.TakenLaws.{accepted-indices}
 use Rattle.strategy_lemmas.specs.Short.{ShortSteps, short, shortened, of_indices, written_by}
 use Rattle.strategy_lemmas.proofs.OutcomeLaws.{ends-as}
 use Rattle.io_edge.specs.Outside.{Told}
+use Rattle.index_writing.specs.Writing.{Wrote}
+use Rattle.index_writing.proofs.WriteLaws.{wrote-as, wrote-is}
 use Rattle.citing_text.specs.declared.draft.Draft.{Draft}
 use Rattle.citing_text.specs.declared.migrating.Migrated.TheVariants.{Halted}
 use Rattle.citing_text.specs.TokenText.{token_lines}
@@ -42,10 +44,20 @@ module _ (p : Position) (d : ℕ) (m : Move) (v : ℤ) (items : List (Option ℕ
       let written : s.written ≡ short p d m v f.0 = sym (ap written_by e) ∙ ap (λ (is : List (Option ℕ)). written_by (shortened p d m v is)) f.1 in
       record { indices = f.0; are = f.1; hold = f.2; lines_are = lines ∙ ap token_lines written }
 
+  -- the indices hold, and the draft has the lines of their tokens
+  pub accepted-is : (answer : Checked Why) (draft : Draft) → answer ≡ Accepted → ShortAnswers (shortened p d m v items) (Some answer) draft → Shortens p d m v items draft.text
+  accepted-is answer draft is told =
+      let h : ShortAnswers (shortened p d m v items) (Some Accepted) draft = subst (λ (x : Checked Why). ShortAnswers (shortened p d m v items) (Some x) draft) is told in
+      shortens-is h.0 draft.text h.1 h.2
+
   pub halted-told : (head : List ℕ) (a b : Told) (why : AnyHalt) (draft : Draft) → ShortAnswers (shortened p d m v items) (Some (CheckHalted why)) draft → MigrateAnswers p d m v items head (Halted why) a b
   halted-told head a b Bad draft h = (h.0, halted-is h.0 h.1)
   halted-told head a b Failed draft h = tt
   halted-told head a b Full draft h = tt
+
+-- a head and these lines were written one behind the other, or a part of them
+pub wrote-both : (r flag : Bool) (head lines text : List ℕ) (a b : Told) → r ≡ flag → lines ≡ text → Wrote r (head ++ lines) a b → Wrote flag (head ++ text) a b
+wrote-both r flag head lines text a b is same h = wrote-as flag _ _ a b (ap (λ (l : List ℕ). head ++ l) same) (wrote-is r flag _ a b is h)
 
 module _ (p : Position) (d : ℕ) (m : Move) (v : ℤ) where
   bad-is : (items : List (Option ℕ)) (answer : Option (Checked Why)) (count : ℕ) → IfSome answer (λ c. CountsBad (shortened p d m v items) c count) → IfSome answer (λ c. CountsBad (checked p d m v items) c count)

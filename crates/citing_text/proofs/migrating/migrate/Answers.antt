@@ -1,44 +1,28 @@
-use Rattle.std.proofs.Common.{ℕ, true, false, List, ◌++◌, ap, sym, subst, Some}
+use Rattle.std.proofs.Common.{true, false, ap, sym, subst, Some}
 use Rattle.hive_model.specs.Courses.{position}
 use Rattle.claim_walks.specs.declared.answers.Checked.{Checked}
 use Rattle.claim_walks.specs.declared.answers.Checked.TheVariants.{Accepted, Refused, Halted}
 use Rattle.strategy_check.specs.declared.answers.Why.{Why}
 use Rattle.strategy_lemmas.specs.Short.{shortened}
-use Rattle.index_writing.specs.Writing.{Wrote}
-use Rattle.index_writing.proofs.WriteLaws.{wrote-as, wrote-is}
 use Rattle.citing_text.specs.Migrating.{ShortAnswers}
-use Rattle.citing_text.proofs.Migrations.{shortens-is, refused-is, halted-told, items-are}
+use Rattle.citing_text.proofs.Migrations.{accepted-is, wrote-both, refused-is, halted-told, items-are}
 use Rattle.citing_text.proofs.migrating.migrate.Goals as goal
 
 pub returns-then-write_both-clause-told : goal.returns-then-write_both-clause-told
 returns-then-write_both-clause-told g c =
-    let p = position (g.G.Game.course c.args.game.now) in
-    let d = c.args.claim.now.depth in
-    let m = c.args.claim.now.best in
-    let v = c.args.claim.now.value in
     let draft = c.shorten_certificate.new.draft in
-    let a = g.K.Sink.written c.args.sink.now in
-    let b = g.K.Sink.written c.write_both.new.sink in
-    let wrote : Wrote true (c.args.head.now ++ draft.text) a b =
-    wrote-as true _ _ a b (ap (λ (l : List ℕ). c.args.head.now ++ l) c.items.ensures) (wrote-is c.write_both.result true _ a b c.if-write_both.true c.write_both.ensures.wrote) in
-    λ items e.
-    let h : ShortAnswers (shortened p d m v items) (Some Accepted) draft = subst (λ (x : Checked Why). ShortAnswers (shortened p d m v items) (Some x) draft) c.in-Accepted.is (c.in-Some.ensures.told items e) in
-    (draft.text, shortens-is p d m v items h.0 draft.text h.1 h.2, wrote)
+    λ items e. (
+      draft.text,
+      accepted-is _ _ _ _ items c.in-Some.checked draft c.in-Accepted.is (c.in-Some.ensures.told items e),
+      wrote-both c.write_both.result true c.args.head.now _ draft.text (g.K.Sink.written c.args.sink.now) _ c.if-write_both.true c.items.ensures c.write_both.ensures.wrote,
+    )
 
 pub returns-in-Accepted-clause-told : goal.returns-in-Accepted-clause-told
 returns-in-Accepted-clause-told g c =
-    let p = position (g.G.Game.course c.args.game.now) in
-    let d = c.args.claim.now.depth in
-    let m = c.args.claim.now.best in
-    let v = c.args.claim.now.value in
     let draft = c.shorten_certificate.new.draft in
-    let a = g.K.Sink.written c.args.sink.now in
-    let b = g.K.Sink.written c.write_both.new.sink in
-    let wrote : Wrote false (c.args.head.now ++ draft.text) a b =
-    wrote-as false _ _ a b (ap (λ (l : List ℕ). c.args.head.now ++ l) c.items.ensures) (wrote-is c.write_both.result false _ a b c.if-write_both.false c.write_both.ensures.wrote) in
     λ items e.
-    let h : ShortAnswers (shortened p d m v items) (Some Accepted) draft = subst (λ (x : Checked Why). ShortAnswers (shortened p d m v items) (Some x) draft) c.in-Accepted.is (c.in-Some.ensures.told items e) in
-    (draft.text, shortens-is p d m v items h.0 draft.text h.1 h.2, wrote.0, wrote.1, wrote.2)
+    let (n, cut, wrote) = wrote-both c.write_both.result false c.args.head.now _ draft.text (g.K.Sink.written c.args.sink.now) _ c.if-write_both.false c.items.ensures c.write_both.ensures.wrote in
+    (draft.text, accepted-is _ _ _ _ items c.in-Some.checked draft c.in-Accepted.is (c.in-Some.ensures.told items e), n, cut, wrote)
 
 pub returns-in-Refused-clause-told : goal.returns-in-Refused-clause-told
 returns-in-Refused-clause-told g c =
