@@ -1,6 +1,6 @@
-use Rattle.std.proofs.Common.{rules, ◌≡◌, length, sym, ap, subst, arith, ◌∙◌}
+use Rattle.std.proofs.Common.{rules, ◌≡◌, length, ap, arith, ◌∙◌}
 use Rattle.hive_model.specs.Legal.{moves}
-use Rattle.hive_model.specs.Courses.{position, Course}
+use Rattle.hive_model.specs.Courses.{position}
 use Rattle.search_laws.specs.Laws.{IsSmall}
 use Rattle.search_laws.proofs.Signs.{neg-is}
 use Rattle.search_laws.proofs.MinimaxLaws.{wider}
@@ -25,14 +25,10 @@ write_child-requires-clause-can g c =
 pub returns-then-not-write_child-clause-wrote : goal.returns-then-not-write_child-clause-wrote
 returns-then-not-write_child-clause-wrote g c =
     let start = g.G.Game.course c.args.game.now in
-    let p = position start in
-    let e = c.args.depth in
-    let k = c.args.place in
-    let m = c.args.best.now.best in
     let v = c.args.best.now.value in
     let small : IsSmall 1000100 v = wider 1000064 1000100 v (omega arith) c.requires.small in
-    most-cut p e k m v c.write_moves.result c.write_child.result _ _ _ (search rules) (before-written p e k v _ c.write_moves.result _ _ (one-less v c.requires.small) c.write_moves.ensures.wrote)
-    (search rules) (most-written start _ e m v _ c.write_child.result _ _ c.write_moves.ensures.before.game (neg-is v small) c.write_child.ensures.wrote)
+    most-cut _ _ _ _ v c.write_moves.result c.write_child.result _ _ _ (search rules) (before-written (position start) c.args.depth _ v _ c.write_moves.result _ _ (one-less v c.requires.small) c.write_moves.ensures.wrote)
+    (search rules) (most-written start _ c.args.depth _ v _ c.write_child.result _ _ c.write_moves.ensures.before.game (neg-is v small) c.write_child.ensures.wrote)
 
 pub write_child-requires-2-clause-can : goal.write_child-requires-2-clause-can
 write_child-requires-2-clause-can g c =
@@ -45,17 +41,13 @@ write_moves-requires-2-clause-replies g c =
 pub returns-then-not-write_child-2-clause-wrote : goal.returns-then-not-write_child-2-clause-wrote
 returns-then-not-write_child-2-clause-wrote g c =
     let start = g.G.Game.course c.args.game.now in
-    let p = position start in
-    let e = c.args.depth in
-    let k = c.args.place in
-    let m = c.args.best.now.best in
     let v = c.args.best.now.value in
     let small : IsSmall 1000100 v = wider 1000064 1000100 v (omega arith) c.requires.small in
     let moved = c.write_child.ensures.before.game ∙ c.write_moves.ensures.before.game in
-    least-cut p e k m v c.write_moves.result c.write_child.result c.write_child-2.result _ _ _ _ (search rules)
-    (before-written p e k v _ c.write_moves.result _ _ (one-less v c.requires.small) c.write_moves.ensures.wrote)
-    (search rules) (most-written start _ e m v _ c.write_child.result _ _ c.write_moves.ensures.before.game (neg-is v small) c.write_child.ensures.wrote)
-    (search rules) (least-written start _ e m v _ c.write_child-2.result _ _ moved (neg-is v small) c.write_child-2.ensures.wrote)
+    least-cut _ _ _ _ v c.write_moves.result c.write_child.result c.write_child-2.result _ _ _ _ (search rules)
+    (before-written (position start) c.args.depth _ v _ c.write_moves.result _ _ (one-less v c.requires.small) c.write_moves.ensures.wrote)
+    (search rules) (most-written start _ c.args.depth _ v _ c.write_child.result _ _ c.write_moves.ensures.before.game (neg-is v small) c.write_child.ensures.wrote)
+    (search rules) (least-written start _ c.args.depth _ v _ c.write_child-2.result _ _ moved (neg-is v small) c.write_child-2.ensures.wrote)
 
 pub overflow_add-from : goal.overflow_add-from
 overflow_add-from g c =
