@@ -6,36 +6,42 @@ ghost use Rattle.hive_model.specs.Courses.{position};
 use crate::judging::{key_after, worth_after};
 use crate::listing::{is_legal_after, list_moves, state_of};
 use crate::making::{make, unmake};
+use crate::telling::ask;
 use crate::turns::{side_after, turn_after};
+use cut_keeper::{CutKeeper, Delta};
 use hive_model::{
     Board, Colour, Game, GameBoard, GameType, Key, Move, MoveStack, Piece, Place, Spot, State,
 };
-use one_hive::{Separating, known_or_found};
+use leaf_worth::Base;
 use std::alloc::{AllocError, Global};
 use std::marker::Model;
 
-/// A game on a board. To take a move back it keeps where the piece of each ply came from; the piece
-/// that rests is that of the last move. The separating places of a position are found at the first
-/// question that needs them, and known from then on: `play` keeps them for the way back, and `undo`
-/// gives them back without a walk.
+/// A game on a board. To take a move back it keeps where the piece of each ply came from, and what
+/// the keeper of the cut places knew before it; the piece that rests is that of the last move. The
+/// keeper stands for the board between any two calls, so that a question asks no walk. Of the piece
+/// that was asked for last it has what was found of the board without it.
 #[derive(Drop)]
 pub struct BoardGame<B: GameBoard> {
     game_type: GameType,
     board: B,
     made: Vec<Move>,
     from: Vec<Option<Place>>,
-    separating: Option<Separating>,
-    before: Vec<Option<Separating>>,
+    keeper: CutKeeper,
+    before: Vec<Delta>,
+    asked: Option<(Piece, Base)>,
     spare: u32,
     count: u64,
 }
 
 impl<B: GameBoard> Model for BoardGame<B> {
-    ghost use Rattle.std.specs.Prelude.{◌≡◌, ◌≤◌, ◌+◌, vec_capacity, vec_len, IfSome};
+    ghost use Rattle.std.specs.Prelude.{◌≡◌, ◌≤◌, ◌+◌, vec_capacity, vec_len};
     ghost use Rattle.hive_model.specs.Positions.{opening};
     ghost use Rattle.board_game.specs.Replayed.{Played, IsReplayed};
-    ghost use Rattle.one_hive.specs.Separating.{AreSeparating};
+    ghost use Rattle.one_hive.specs.Separating.{MarksSeparating};
     ghost use Rattle.board_game.specs.Kept.{AreKept};
+    ghost use Rattle.board_game.specs.Asked.{IsAsked};
+    ghost use Rattle.hive_model.specs.Pieces.{other_side};
+    ghost use Rattle.rule_laws.specs.Soundness.{side_after};
 
     ghost Value = { Played };
 
@@ -49,10 +55,11 @@ impl<B: GameBoard> Model for BoardGame<B> {
         × (vec_len g.from ≡ vec_len g.made)
         × (vec_len g.made + g.spare ≤ vec_capacity g.made)
         × (vec_len g.made + g.spare ≤ vec_capacity g.from)
-        × IfSome g.separating (AreSeparating (B.stacks g.board))
+        × MarksSeparating (B.stacks g.board) g.keeper
         × AreKept (opening g.game_type) g.made.items g.before.items
         × (vec_len g.before ≡ vec_len g.made)
-        × (vec_len g.made + g.spare ≤ vec_capacity g.before) };
+        × (vec_len g.made + g.spare ≤ vec_capacity g.before)
+        × IsAsked (B.stacks g.board) (other_side (side_after (vec_len g.made))) g.asked };
 }
 
 impl<B: GameBoard> Board for BoardGame<B> {
@@ -75,6 +82,10 @@ impl<B: GameBoard> Board for BoardGame<B> {
     fn under(&self, piece: Piece) -> Option<Piece> {
         self.board.under(piece)
     }
+
+    fn neighbours(&self, place: Place) -> u8 {
+        self.board.neighbours(place)
+    }
 }
 
 impl<B: GameBoard> Game for BoardGame<B> {
@@ -88,8 +99,9 @@ impl<B: GameBoard> Game for BoardGame<B> {
             board: B::empty(alloc)?,
             made: Vec::new(alloc),
             from: Vec::new(alloc),
-            separating: None,
+            keeper: CutKeeper::new(),
             before: Vec::new(alloc),
+            asked: None,
             spare: 0,
             count: 0,
         })
@@ -121,6 +133,10 @@ impl<B: GameBoard> Game for BoardGame<B> {
         state_of(&self.board, self.game_type, &self.made)
     }
 
+    fn is_sound(&self) {
+        let _game_type = self.game_type;
+    }
+
     fn side(&self) -> Colour {
         side_after(self.made.len() as u32)
     }
@@ -130,43 +146,56 @@ impl<B: GameBoard> Game for BoardGame<B> {
     }
 
     fn list(&mut self, out: &mut MoveStack) {
-        let separating = known_or_found(&self.board, self.separating.take());
-        list_moves(&self.board, &separating, self.game_type, &self.made, out);
-        self.separating = Some(separating);
+        list_moves(&self.board, &self.keeper, self.game_type, &self.made, out);
     }
 
     fn is_legal(&mut self, m: Move) -> bool {
-        let separating = known_or_found(&self.board, self.separating.take());
-        let is_legal = is_legal_after(&self.board, &separating, self.game_type, &self.made, m);
-        self.separating = Some(separating);
-        is_legal
+        is_legal_after(&self.board, &self.keeper, self.game_type, &self.made, m)
     }
 
     fn play(&mut self, m: Move) {
-        let from = make(&mut self.board, &m);
+        let delta = self.keeper.delta();
+        let from = make(&mut self.board, &mut self.keeper, &m);
         let _ = self.made.push(m);
         let _ = self.from.push(from);
-        let separating = self.separating.take();
-        let _ = self.before.push(separating);
+        let _ = self.before.push(delta);
+        self.asked = None;
         self.spare -= 1;
         self.count = self.count.saturating_add(1);
     }
 
     fn undo(&mut self) {
+        let Some(delta) = self.before.pop() else {
+            unreachable!();
+        };
         if let Some(m) = self.made.pop() {
             let from = self.from.pop().flatten();
             unmake(&mut self.board, &m, from);
-            let separating = self.before.pop().flatten();
-            self.separating = separating;
+            self.keeper.back(delta);
+            self.asked = None;
             self.spare += 1;
         }
     }
 
     fn evaluate(&mut self) -> i32 {
-        let separating = known_or_found(&self.board, self.separating.take());
-        let worth = worth_after(&self.board, &separating, &self.made);
-        self.separating = Some(separating);
-        worth
+        worth_after(&self.board, &self.keeper, &self.made)
+    }
+
+    fn value_after(&mut self, m: Move) -> Option<i32> {
+        let Move::To { piece, place } = m else {
+            return None;
+        };
+        let side = side_after(self.made.len() as u32).other();
+        let (told, base) = ask(
+            &self.board,
+            &self.keeper,
+            self.asked.take(),
+            piece,
+            place,
+            side,
+        );
+        self.asked = Some((piece, base));
+        told
     }
 
     fn key(&self) -> Key {

@@ -1,8 +1,8 @@
 -- What the mask of a ring says of its arcs.
-use Rattle.std.proofs.Common.{◌≡◌, ℕ, ◌-◌, ◌≤◌, Bool, true, false, not, ◌&&◌, ◌||◌, refl, sym, ◌∙◌, ap, subst}
+use Rattle.std.proofs.Common.{◌≡◌, ◌≢◌, ℕ, ◌-◌, ◌/◌, ◌%◌, ◌<◌, ◌≤◌, bit_and, Bool, true, false, not, ◌&&◌, ◌||◌, refl, sym, ◌∙◌, ap, subst}
 use Rattle.std.specs.Prelude.{IsTrue, nat_eq, nat_le, if◌then◌else◌}
-use Rattle.std.specs.List.{list_all}
-use Rattle.std.proofs.lemmas.Bool.{eqb-true, eq-eqb, leb-true, and_parts, and_from, not_from_false, not-true}
+use Rattle.std.specs.List.{list_all, list_any}
+use Rattle.std.proofs.lemmas.Bool.{eqb-true, eq-eqb, leb-true, and_parts, and_from, not_from_false, not-true, ne_eqb}
 use Rattle.hive_model.specs.declared.places.Place.{Place}
 use Rattle.hive_model.specs.declared.places.Dir.{Dir}
 use Rattle.hive_model.specs.declared.places.Dir.TheVariants.{E, NE, NW, W, SW, SE}
@@ -10,9 +10,13 @@ use Rattle.hive_model.specs.Places.{step, dirs, dir_before, is_place}
 use Rattle.hive_model.proofs.RuleLaws.{any_has, has_any, all_at, at_all, dir_on, step_once}
 use Rattle.hive_model.proofs.PlaceLemmas.{from_same_place, is_other_place}
 use Rattle.arc_table.specs.Masks.{arcs, how_many}
+use Rattle.arc_table.proofs.EachMask.{same_at}
+use Rattle.hive_model.specs.Boards.{Stacks, is_occupied}
 use Rattle.hive_model.specs.Hive.{except}
 use Rattle.arc_law.specs.Arcs.{OneArc}
-use Rattle.cut_keeper.specs.Rings.{turn, weight, ring, ring_mask, is_suspect, is_dir, starts, is_arc, off}
+use Rattle.hive_model.specs.Neighbours.{weight, ring, ring_mask}
+use Rattle.cut_keeper.specs.Rings.{turn, is_suspect, is_dir, starts, is_arc, off}
+use Rattle.cut_keeper.specs.Keeping.{suspects}
 
 -- Directions by their numbers
 
@@ -127,6 +131,37 @@ pub few_suspects : (r : Dir → Bool) → is_arc r ≡ true → how_many (is_sus
 unfolding few_test
 few_suspects r h = leb-true _ _ (or_second (is_arc r) _ (ring_at few_test few_all r) h)
 
+-- a mask of one neighbour, and a neighbour that is not the only one
+only_test : (Dir → Bool) → Bool
+only_test r = list_all (λ d. not (nat_eq (ring_mask r) (weight d)) || (r d && list_all (λ e. not (r e) || is_dir e d) dirs)) dirs
+
+only_all : every_ring only_test ≡ true
+unfolding every only_test
+only_all = refl
+
+pub only_from : (r : Dir → Bool) (d : Dir) → ring_mask r ≡ weight d → (r d ≡ true) × ((e : Dir) → r e ≡ true → e ≡ d)
+unfolding only_test
+only_from r d one =
+    let at = all_at (λ d. not (nat_eq (ring_mask r) (weight d)) || (r d && list_all (λ e. not (r e) || is_dir e d) dirs)) dirs d (ring_at only_test only_all r) (dir_on d) in
+    let both = and_parts (r d) _ (or_second _ _ at (eq-eqb _ _ one)) in
+    (both.0, λ e on. same_dir e d (or_second _ _ (all_at (λ e. not (r e) || is_dir e d) dirs e both.1 (dir_on e)) on))
+
+another_test : (Dir → Bool) → Bool
+another_test r = list_all (λ d. not (r d) || (not (not (nat_eq (ring_mask r) (weight d))) || list_any (λ e. r e && not (is_dir e d)) dirs)) dirs
+
+another_all : every_ring another_test ≡ true
+unfolding every another_test
+another_all = refl
+
+pub another_from : (r : Dir → Bool) (d : Dir) → ring_mask r ≢ weight d → r d ≡ true → (e : Dir) × (r e ≡ true) × (e ≢ d)
+unfolding another_test
+another_from r d more on =
+    let at = all_at (λ d. not (r d) || (not (not (nat_eq (ring_mask r) (weight d))) || list_any (λ e. r e && not (is_dir e d)) dirs)) dirs d (ring_at another_test another_all r) (dir_on d) in
+    let any = or_second _ _ (or_second _ _ at on) (not_from_false _ (ne_eqb (ring_mask r) (weight d) more)) in
+    let found = any_has (λ e. r e && not (is_dir e d)) dirs any in
+    let both = and_parts (r found.0) _ found.2 in
+    (found.0, both.0, λ same. let wrong : false ≡ true = sym (not-true _ both.1) ∙ from_same_dir found.0 d same in cc)
+
 small_test : (Dir → Bool) → Bool
 small_test r = nat_le (ring_mask r) 63 && list_all (λ d. not (r d) || nat_le (weight d) (ring_mask r)) dirs
 
@@ -137,6 +172,30 @@ small_all = refl
 pub small_mask : (r : Dir → Bool) → ring_mask r ≤ 63
 unfolding small_test
 small_mask r = leb-true _ _ (and_parts _ _ (ring_at small_test small_all r)).0
+
+-- the bits of a mask are those of its ring
+bit_test : (Dir → Bool) → Bool
+bit_test r = list_all (λ d. bool_eq (not (nat_eq (bit_and (ring_mask r) (weight d)) 0)) (r d)) dirs
+
+bit_all : every_ring bit_test ≡ true
+unfolding every bit_test
+bit_all = refl
+
+pub bit_at : (r : Dir → Bool) (d : Dir) → not (nat_eq (bit_and (ring_mask r) (weight d)) 0) ≡ r d
+unfolding bit_test
+bit_at r d = same_bool _ _ (all_at (λ d. bool_eq (not (nat_eq (bit_and (ring_mask r) (weight d)) 0)) (r d)) dirs d (ring_at bit_test bit_all r) (dir_on d))
+
+pub bit_most : (r : Dir → Bool) (d : Dir) → r d ≡ true → weight d ≤ ring_mask r
+unfolding small_test
+bit_most r d on =
+    leb-true _ _ (or_second (r d) _ (all_at (λ d. not (r d) || nat_le (weight d) (ring_mask r)) dirs d (and_parts _ _ (ring_at small_test small_all r)).1 (dir_on d)) on)
+
+-- each mask below 64 has a ring
+abbrev pub ring_of : ℕ → Dir → Bool
+ring_of m d = nat_eq (m / weight d % 2) 1
+
+pub ring_of_mask : (m : ℕ) → m < 64 → ring_mask (ring_of m) ≡ m
+ring_of_mask m below = same_at (λ m. ring_mask (ring_of m)) (λ m. m) refl m below
 
 -- One arc, by its test
 
@@ -191,3 +250,14 @@ arc_unsuspected o p d on h =
     ] h) in
     let is : is_arc (off r d) ≡ true = sym (arcs_off r d on) ∙ one in
     arc_from (except o (step p d)) p (ap is_arc (ring_off o p d) ∙ is)
+
+-- A mask on a board
+
+pub arc_mask : (c : Stacks) (p : Place) (m : ℕ) → m ≡ ring_mask (ring (is_occupied c) p) → arcs m ≡ 1 → OneArc (is_occupied c) p
+arc_mask c p m is one = arc_from (is_occupied c) p (sym (arcs_ring (ring (is_occupied c) p)) ∙ eq-eqb _ _ (ap arcs (sym is) ∙ one))
+
+pub three_suspects : (c : Stacks) (p : Place) → OneArc (is_occupied c) p → suspects c p dirs ≤ 3
+three_suspects c p arc = few_suspects (ring (is_occupied c) p) (from_arc (is_occupied c) p arc)
+
+pub suspect_occupied : (b : Stacks) (p : Place) (d : Dir) → is_suspect (ring (is_occupied b) p) d ≡ true → IsTrue (is_occupied b (step p d))
+suspect_occupied b p d h = (and_parts (is_occupied b (step p d)) _ h).0

@@ -1,116 +1,252 @@
-//! The keeper.
+//! The keeper, and a board with it.
 
-ghost use Rattle.std.specs.Prelude.{◌≡◌, ◌↔◌, ◌≤◌, [], length, IfOk, IsTrue, Some};
+ghost use Rattle.std.specs.Prelude.{◌≡◌, ◌↔◌, [], ◌+◌, ◌<◌, ◌≤◌, IsTrue};
 ghost use Rattle.hive_model.specs.Places.{IsWithin};
-ghost use Rattle.hive_model.specs.Boards.{Stacks, IsBoard};
+ghost use Rattle.hive_model.specs.Boards.{height_at};
 ghost use Rattle.hive_model.specs.Hive.{IsCut};
-ghost use Rattle.cut_keeper.specs.Keeping.{
-  Late,
-  Stays,
-  keeper_of,
-  is_cut_status,
-  status_on,
-  undone,
-};
-ghost use Rattle.cut_keeper.specs.Slots.{AtMost};
-ghost use Rattle.cut_keeper.specs.Updating.{Updated, TakesFew};
+ghost use Rattle.one_hive.specs.Separating.{MarksSeparating};
+ghost use Rattle.cut_keeper.specs.Keeping.{Grown, Shrunk};
 
-use crate::statuses::{Delta, Status};
-use crate::store::Store;
-use crate::updating::update;
-use hive_model::{Board, Place};
-use one_hive::Steps;
-use std::alloc::{AllocError, Global};
-use std::marker::Model;
-use std::sync::ledger::Ledger;
+use crate::updating::{added, removed};
+use hive_model::{Board, Cuts, Piece, Place, Spot};
+use one_hive::{Marks, Steps};
+use std::marker::{Brand, Model};
+use std::sync::ledger::{Blank, Ledger};
 
-/// For each occupied place of a board its height, and whether it is separating. Contracts see the
-/// list of the places with their statuses, in the order of the places; `keeper_of` a board is the
-/// one that stands for it.
+/// A mark for each piece: where a keeper stands for a board, a piece that is on top of a place is
+/// marked exactly where the place is separating.
 #[derive(Drop)]
 pub struct CutKeeper {
-    store: Store,
+    marks: Marks,
 }
 
 impl Model for CutKeeper {
-    ghost use Rattle.cut_keeper.specs.Keeping.{Standings};
-    ghost use Rattle.cut_keeper.specs.Slots.{AtMost};
+    ghost use Rattle.std.specs.Prelude.{List, Bool};
 
-    ghost Value = { Standings };
+    ghost Value = { List Bool };
 
-    ghost view = { λ k. k.store };
-
-    ghost invariant = { λ k. AtMost 28 k.store };
+    ghost view = { λ k. k.marks };
 }
 
-/// Whether this is the status of a cut place.
-fn is_cut_status(status: Status) -> bool
-    ensures { result ≡ is_cut_status (Some status) }
-{
-    status.height == 1 && status.separating
+/// What a keeper knew before a change.
+#[derive(Drop)]
+pub struct Delta {
+    marks: Marks,
 }
 
-/// Takes changes back, the last one first.
-fn take_back(store: &mut Store, delta: &Delta)
-    requires { AtMost 28 store.old }
-    ensures { store.new ≡ undone delta.now store.old }
-{
-    let mut i = delta.len();
-    while i > 0 {
-        i -= 1;
-        let change = delta.get(i);
-        store.set(change.place, change.before);
-    }
+impl Model for Delta {
+    ghost use Rattle.std.specs.Prelude.{List, Bool};
+
+    ghost Value = { List Bool };
+
+    ghost view = { λ d. d.marks };
 }
 
 impl CutKeeper {
-    /// Stands for the empty board. All memory is taken here.
-    pub fn new(_alloc: Global) -> Result<CutKeeper, AllocError>
-        ensures { IfOk result (λ k. k ≡ keeper_of []) }
+    /// Stands for the empty board.
+    pub fn new() -> CutKeeper
+        ensures { MarksSeparating [] result }
     {
-        Ok(CutKeeper {
-            store: Store::new(),
-        })
+        CutKeeper {
+            marks: Marks::new(),
+        }
     }
 
-    /// After a piece was put on the place or taken from it, makes a keeper that stood for the board
-    /// before stand for the board, and answers what it changed. It takes no step where the place
-    /// was occupied before and is so still, at most 5 where the occupied neighbours of the place
-    /// form one arc, and else at most 28.
-    pub fn update<B: Board, L: Ledger>(
+    /// The same keeper once more.
+    pub fn again(&self) -> CutKeeper
+        ensures { result ≡ self.now }
+    {
+        CutKeeper {
+            marks: self.marks.again(),
+        }
+    }
+
+    /// What takes the keeper back to what it knows now.
+    pub fn delta(&self) -> Delta
+        ensures { result ≡ self.now }
+    {
+        let marks = self.marks.again();
+        Delta { marks }
+    }
+
+    /// After the piece was put on top of the place, makes a keeper that stood for the board before
+    /// stand for the board, and answers what takes the change back. It takes no step where the
+    /// place was occupied before, and else at most 3.
+    pub fn added<B: Board, L: Ledger>(
         &mut self,
         board: &B,
+        piece: Piece,
         place: Place,
         steps: &mut Steps<L>,
     ) -> Delta
-        requires late { Late self.old (B.stacks board.now) place }
+        requires grown { Grown self.old (B.stacks board.now) piece place }
         requires within { IsWithin 9500 place }
-        ensures updated { Updated (B.stacks board.now) self.old self.new result }
-        ensures steps { TakesFew (B.stacks board.now) place
-            (Stays self.old (B.stacks board.now) place) steps.old steps.new }
+        ensures marks { MarksSeparating (B.stacks board.now) self.new }
+        ensures before { result ≡ self.old }
+        ensures none { 1 < height_at (B.stacks board.now) place → steps.new ≡ steps.old }
+        ensures few { steps.new ≤ steps.old + 3 }
     {
-        update(&mut self.store, board, place, steps)
+        let delta = self.delta();
+        added(&mut self.marks, board, piece, place, steps);
+        delta
     }
 
-    /// Takes the changes of a call back: each place of the delta has its status of before. At most
-    /// 28 places have one then.
+    /// After the piece was taken from the top of the place, makes a keeper that stood for the board
+    /// before stand for the board, and answers what takes the change back. It takes no step where
+    /// the place is occupied still, and else at most 3.
+    pub fn removed<B: Board, L: Ledger>(
+        &mut self,
+        board: &B,
+        piece: Piece,
+        place: Place,
+        steps: &mut Steps<L>,
+    ) -> Delta
+        requires shrunk { Shrunk self.old (B.stacks board.now) piece place }
+        requires within { IsWithin 9500 place }
+        ensures marks { MarksSeparating (B.stacks board.now) self.new }
+        ensures before { result ≡ self.old }
+        ensures none { 0 < height_at (B.stacks board.now) place → steps.new ≡ steps.old }
+        ensures few { steps.new ≤ steps.old + 3 }
+    {
+        let delta = self.delta();
+        removed(&mut self.marks, board, piece, place, steps);
+        delta
+    }
+
+    /// Takes a change back: the keeper knows what it knew before it.
     pub fn back(&mut self, delta: Delta)
-        requires { length (undone delta self.old) ≤ 28 }
-        ensures { self.new ≡ undone delta self.old }
+        ensures { self.new ≡ delta }
     {
-        take_back(&mut self.store, &delta);
+        self.marks = delta.marks;
     }
 
-    /// Whether the place is kept as a separating place of height 1. Where the keeper stands for a
-    /// board, that is a cut place of it.
-    pub fn is_cut(&self, place: Place) -> bool
-        ensures kept { result ≡ is_cut_status (status_on self.now place) }
-        ensures cut { (b : Stacks) → IsBoard b → self.now ≡ keeper_of b
-            → IsTrue result ↔ IsCut b place }
+    /// Whether an occupied place of the board that it stands for is a cut place.
+    pub fn is_cut<B: Board>(&self, board: &B, place: Place) -> bool
+        requires { MarksSeparating (B.stacks board.now) self.now }
+        ensures { IsTrue result ↔ IsCut (B.stacks board.now) place }
     {
-        match self.store.status(place) {
-            Some(status) => is_cut_status(status),
+        if board.height(place) != 1 {
+            return false;
+        }
+        match board.top(place) {
+            Some(top) => self.marks.is_set(top),
             None => false,
         }
+    }
+}
+
+fn added_in<B: Board, L: Ledger>(
+    keeper: &mut CutKeeper,
+    board: &B,
+    piece: Piece,
+    place: Place,
+    blank: Blank,
+) -> Delta
+    requires name { blank.name ≡ L.name }
+    requires parts { blank.parts ≡ L.parts }
+    requires some { 0 < L.parts }
+    requires grown { Grown keeper.old (B.stacks board.now) piece place }
+    requires within { IsWithin 9500 place }
+    ensures marks { MarksSeparating (B.stacks board.now) keeper.new }
+    ensures before { result ≡ keeper.old }
+{
+    let mut steps = Steps::<L>::new(blank);
+    keeper.added(board, piece, place, &mut steps)
+}
+
+fn removed_in<B: Board, L: Ledger>(
+    keeper: &mut CutKeeper,
+    board: &B,
+    piece: Piece,
+    place: Place,
+    blank: Blank,
+) -> Delta
+    requires name { blank.name ≡ L.name }
+    requires parts { blank.parts ≡ L.parts }
+    requires some { 0 < L.parts }
+    requires shrunk { Shrunk keeper.old (B.stacks board.now) piece place }
+    requires within { IsWithin 9500 place }
+    ensures marks { MarksSeparating (B.stacks board.now) keeper.new }
+    ensures before { result ≡ keeper.old }
+{
+    let mut steps = Steps::<L>::new(blank);
+    keeper.removed(board, piece, place, &mut steps)
+}
+
+/// `CutKeeper::added` for a caller that counts no steps.
+pub fn added_uncounted<B: Board>(
+    keeper: &mut CutKeeper,
+    board: &B,
+    piece: Piece,
+    place: Place,
+) -> Delta
+    requires grown { Grown keeper.old (B.stacks board.now) piece place }
+    requires within { IsWithin 9500 place }
+    ensures marks { MarksSeparating (B.stacks board.now) keeper.new }
+    ensures before { result ≡ keeper.old }
+{
+    added_in::<B, Brand>(keeper, board, piece, place, Blank::new(1))
+}
+
+/// `CutKeeper::removed` for a caller that counts no steps.
+pub fn removed_uncounted<B: Board>(
+    keeper: &mut CutKeeper,
+    board: &B,
+    piece: Piece,
+    place: Place,
+) -> Delta
+    requires shrunk { Shrunk keeper.old (B.stacks board.now) piece place }
+    requires within { IsWithin 9500 place }
+    ensures marks { MarksSeparating (B.stacks board.now) keeper.new }
+    ensures before { result ≡ keeper.old }
+{
+    removed_in::<B, Brand>(keeper, board, piece, place, Blank::new(1))
+}
+
+/// A board with the keeper that stands for it.
+#[derive(Drop)]
+pub struct KeptCuts<'a, B: Board> {
+    board: &'a B,
+    keeper: &'a CutKeeper,
+    ghost stands: { MarksSeparating (B.stacks board.now) keeper.now },
+}
+
+impl<'a, B: Board> KeptCuts<'a, B> {
+    /// The board with this keeper.
+    pub fn new(board: &'a B, keeper: &'a CutKeeper) -> KeptCuts<'a, B>
+        requires { MarksSeparating (B.stacks board.now) keeper.now }
+        ensures { ⟦<KeptCuts<'a, B> as Board>⟧.stacks result ≡ B.stacks board.now }
+    {
+        KeptCuts { board, keeper }
+    }
+}
+
+impl<B: Board> Board for KeptCuts<'_, B> {
+    ghost stacks = { λ k. B.stacks k.board.now };
+
+    fn top(&self, place: Place) -> Option<Piece> {
+        self.board.top(place)
+    }
+
+    fn height(&self, place: Place) -> u8 {
+        self.board.height(place)
+    }
+
+    fn spot(&self, piece: Piece) -> Option<Spot> {
+        self.board.spot(piece)
+    }
+
+    fn under(&self, piece: Piece) -> Option<Piece> {
+        self.board.under(piece)
+    }
+
+    fn neighbours(&self, place: Place) -> u8 {
+        self.board.neighbours(place)
+    }
+}
+
+impl<B: Board> Cuts for KeptCuts<'_, B> {
+    fn is_cut(&self, place: Place) -> bool {
+        self.keeper.is_cut(self.board, place)
     }
 }

@@ -1,61 +1,43 @@
-//! The six neighbours of a place as a mask: bit i is set where the neighbour in direction i is
-//! occupied.
+//! What the mask of the occupied neighbours of a place tells.
 
-ghost use Rattle.std.specs.Prelude.{◌≡◌, ◌<◌, ◌≤◌};
-ghost use Rattle.hive_model.specs.Places.{IsWithin};
-ghost use Rattle.hive_model.specs.Boards.{is_occupied};
-ghost use Rattle.cut_keeper.specs.Rings.{ring, ring_mask, weight, bit_of, is_suspect};
+ghost use Rattle.std.specs.Prelude.{◌≡◌, ◌≢◌, ◌<◌, ◌≤◌, Bool, None, IfSome, IsTrue};
+ghost use Rattle.hive_model.specs.declared.places.Dir.{Dir};
+ghost use Rattle.hive_model.specs.Neighbours.{ring_mask, weight};
+ghost use Rattle.cut_keeper.specs.Rings.{is_suspect};
 
 use arc_table::arcs;
-use hive_model::{Board, Dir, Place, is_occupied};
+use hive_model::Dir;
 
-fn weight_of(dir: Dir) -> u8
-    ensures { result ≡ weight dir }
+/// Whether the neighbour in this direction is occupied.
+pub fn has_bit(mask: u8, dir: Dir) -> bool
+    requires { mask < 64 }
+    ensures bit { (r : Dir → Bool) → mask ≡ ring_mask r → result ≡ r dir }
+    ensures most { IsTrue result → weight dir ≤ mask }
 {
-    match dir {
-        Dir::E => 1,
-        Dir::NE => 2,
-        Dir::NW => 4,
-        Dir::W => 8,
-        Dir::SW => 16,
-        Dir::SE => 32,
-    }
-}
-
-#[tactic(auto, using(hive_model::proofs::PlaceLemmas::wider))]
-fn bit<B: Board>(board: &B, place: Place, dir: Dir) -> u8
-    requires { IsWithin 9500 place }
-    ensures bit { result ≡ bit_of (ring (is_occupied (B.stacks board.now)) place) dir }
-    ensures low { result ≤ weight dir }
-{
-    if is_occupied(board, place.step(dir)) {
-        weight_of(dir)
-    } else {
-        0
-    }
-}
-
-/// The mask of the occupied neighbours of a place.
-pub(crate) fn mask_of<B: Board>(board: &B, place: Place) -> u8
-    requires { IsWithin 9500 place }
-    ensures mask { result ≡ ring_mask (ring (is_occupied (B.stacks board.now)) place) }
-    ensures bound { result < 64 }
-{
-    bit(board, place, Dir::E)
-        + bit(board, place, Dir::NE)
-        + bit(board, place, Dir::NW)
-        + bit(board, place, Dir::W)
-        + bit(board, place, Dir::SW)
-        + bit(board, place, Dir::SE)
+    mask & dir.bit() != 0
 }
 
 /// Whether the neighbour in this direction is occupied, and the others form no single arc without
 /// it.
-#[tactic(auto, using(hive_model::proofs::PlaceLemmas::wider))]
-pub(crate) fn is_suspect<B: Board>(board: &B, place: Place, dir: Dir, mask: u8) -> bool
-    requires within { IsWithin 9500 place }
-    requires mask { mask ≡ ring_mask (ring (is_occupied (B.stacks board.now)) place) }
-    ensures { result ≡ is_suspect (ring (is_occupied (B.stacks board.now)) place) dir }
+pub fn is_suspect(mask: u8, dir: Dir) -> bool
+    requires { mask < 64 }
+    ensures { (r : Dir → Bool) → mask ≡ ring_mask r → result ≡ is_suspect r dir }
 {
-    is_occupied(board, place.step(dir)) && arcs(mask - weight_of(dir)) != 1
+    has_bit(mask, dir) && arcs(mask - dir.bit()) != 1
+}
+
+/// The direction of the only occupied neighbour, where the mask has one alone.
+pub fn only_in(mask: u8) -> Option<Dir>
+    ensures some { IfSome result (λ d. mask ≡ weight d) }
+    ensures none { result ≡ None → (d : Dir) → mask ≢ weight d }
+{
+    match mask {
+        1 => Some(Dir::E),
+        2 => Some(Dir::NE),
+        4 => Some(Dir::NW),
+        8 => Some(Dir::W),
+        16 => Some(Dir::SW),
+        32 => Some(Dir::SE),
+        _ => None,
+    }
 }

@@ -1,12 +1,12 @@
 //! A line and a beetle on it, a ring that is opened, and how often a keeper asks a board.
 
-ghost use Rattle.std.specs.Prelude.{◌≡◌, ◌<◌, IsTrue};
+ghost use Rattle.std.specs.Prelude.{◌<◌, IsTrue};
 ghost use Rattle.hive_model.specs.Boards.{is_on_top};
 ghost use Rattle.hive_model.specs.Places.{IsWithin};
 
-use crate::kept_board::update_uncounted;
-use crate::{CutKeeper, KeptBoard};
-use hive_model::{Board, Cuts, Piece, Place, Spot};
+use crate::{CutKeeper, added_uncounted, removed_uncounted};
+use hive_model::{Board, Piece, Place, Spot};
+use one_hive::is_one;
 use stack_board::PlainBoard;
 use std::alloc::{AllocError, Global};
 use std::cell::Cell;
@@ -42,6 +42,11 @@ impl Board for Counted<'_> {
         self.calls.set(self.calls.get().saturating_add(1));
         self.board.under(piece)
     }
+
+    fn neighbours(&self, place: Place) -> u8 {
+        self.calls.set(self.calls.get().saturating_add(1));
+        self.board.neighbours(place)
+    }
 }
 
 /// Whether the piece is on top of its place.
@@ -54,122 +59,160 @@ fn is_on_top(board: &PlainBoard, piece: Piece) -> bool
     }
 }
 
-/// A board and the keeper that stands for it.
+/// A board that is one hive, and the keeper that stands for it.
 #[derive(Drop)]
 struct Tried {
     board: PlainBoard,
     keeper: CutKeeper,
+    calls: u32,
 }
 
 impl Model for Tried {
-    ghost use Rattle.std.specs.Prelude.{◌≡◌};
     ghost use Rattle.hive_model.specs.Boards.{Stacks, IsBoard};
-    ghost use Rattle.cut_keeper.specs.Keeping.{keeper_of};
+    ghost use Rattle.hive_model.specs.Hive.{OneHive};
+    ghost use Rattle.one_hive.specs.Separating.{MarksSeparating};
 
     ghost Value = { Stacks };
 
     ghost view = { λ t. t.board };
 
-    ghost invariant = { λ t. IsBoard t.board × (t.keeper ≡ keeper_of t.board) };
+    ghost invariant = { λ t. IsBoard t.board × OneHive t.board × MarksSeparating t.board t.keeper };
 }
 
 impl Tried {
-    fn new(alloc: Global) -> Result<Tried, AllocError> {
-        let keeper = CutKeeper::new(alloc)?;
+    /// The empty board.
+    fn new(alloc: Global) -> Result<Option<Tried>, AllocError> {
         let board = PlainBoard::new(alloc)?;
+        let keeper = CutKeeper::new();
         let _spot = board.spot(Piece::at(0));
-        Ok(Tried { board, keeper })
-    }
-
-    /// Puts a piece that is not on the board on the place, and answers how often the keeper asked
-    /// the board.
-    fn put(&mut self, piece: Piece, place: Place) -> u32
-        requires { IsWithin 9000 place }
-    {
-        if self.board.spot(piece).is_some() {
-            return 0;
+        if !is_one(&board) {
+            return Ok(None);
         }
-        self.board.put(piece, place);
-        let _spot = self.board.spot(piece);
-        let counted = Counted {
-            board: &self.board,
-            calls: Cell::new(0),
-        };
-        let _delta = update_uncounted(&mut self.keeper, &counted, place);
-        counted.calls.get()
+        Ok(Some(Tried {
+            board,
+            keeper,
+            calls: 0,
+        }))
     }
 
-    /// Lifts the piece if it is on top.
-    fn lift(&mut self, piece: Piece) {
-        if is_on_top(&self.board, piece) {
-            let place = self.board.lift(piece);
-            let _spot = self.board.spot(piece);
-            let _delta = update_uncounted(&mut self.keeper, &self.board, place);
-        }
-    }
-
-    /// Puts a piece that is not on the board on the place, lifts it and takes the changes back.
-    /// Answers whether the place was a cut place in between.
-    fn put_and_back(&mut self, index: u8, place: Place) -> bool
+    /// With the piece on the place, if it was not on the board and leaves one hive. Remembers how
+    /// often the keeper asked the board.
+    fn put(self, index: u8, place: Place) -> Option<Tried>
         requires small { index < 28 }
         requires within { IsWithin 9000 place }
     {
         let piece = Piece::at(index);
-        if self.board.spot(piece).is_some() {
-            return false;
+        let Tried {
+            mut board,
+            mut keeper,
+            ..
+        } = self;
+        if board.spot(piece).is_some() {
+            return None;
         }
-        self.board.put(piece, place);
-        let _spot = self.board.spot(piece);
-        let delta = update_uncounted(&mut self.keeper, &self.board, place);
-        let is_cut = self.keeper.is_cut(place);
-        let _place = self.board.lift(piece);
-        self.keeper.back(delta);
-        is_cut
+        board.put(piece, place);
+        let _spot = board.spot(piece);
+        if !is_one(&board) {
+            return None;
+        }
+        let counted = Counted {
+            board: &board,
+            calls: Cell::new(0),
+        };
+        let _delta = added_uncounted(&mut keeper, &counted, piece, place);
+        let calls = counted.calls.get();
+        Some(Tried {
+            board,
+            keeper,
+            calls,
+        })
+    }
+
+    /// Without the piece, if it is on top and leaves one hive.
+    fn lifted(self, index: u8) -> Option<Tried>
+        requires { index < 28 }
+    {
+        let piece = Piece::at(index);
+        let Tried {
+            mut board,
+            mut keeper,
+            calls,
+        } = self;
+        if !is_on_top(&board, piece) {
+            return None;
+        }
+        let place = board.lift(piece);
+        let _spot = board.spot(piece);
+        if !is_one(&board) {
+            return None;
+        }
+        let _delta = removed_uncounted(&mut keeper, &board, piece, place);
+        Some(Tried {
+            board,
+            keeper,
+            calls,
+        })
     }
 
     fn is_cut(&self, q: i32, r: i32) -> bool {
-        self.keeper.is_cut(Place { q, r })
+        self.keeper.is_cut(&self.board, Place { q, r })
     }
 }
 
-/// The board on which the first pieces stand on these places, in turn, and how often the keeper
-/// asked it for the last one.
-fn tried_of(alloc: Global, places: &[(i32, i32)]) -> Result<(Tried, u32), AllocError> {
-    let mut tried = Tried::new(alloc)?;
-    let mut calls = 0;
+/// The board on which the first pieces stand on these places, in turn.
+fn tried_of(alloc: Global, places: &[(i32, i32)]) -> Result<Option<Tried>, AllocError> {
+    let Some(mut tried) = Tried::new(alloc)? else {
+        return Ok(None);
+    };
     for (x, (q, r)) in places.iter().enumerate() {
-        if x < 28 && -20 <= *q && *q <= 20 && -20 <= *r && *r <= 20 {
-            calls = tried.put(Piece::at(x as u8), Place { q: *q, r: *r });
+        if x >= 28 || *q < -20 || 20 < *q || *r < -20 || 20 < *r {
+            return Ok(None);
+        }
+        match tried.put(x as u8, Place { q: *q, r: *r }) {
+            Some(next) => tried = next,
+            None => return Ok(None),
         }
     }
-    Ok((tried, calls))
+    Ok(Some(tried))
 }
 
 #[test]
 fn middle_of_a_line_under_a_beetle(rt: HostRuntime) -> Result<(), Fail> {
-    let (mut tried, _) = tried_of(rt.alloc(), &[(0, 0), (1, 0), (-1, 0)])?;
+    let Some(tried) = tried_of(rt.alloc(), &[(0, 0), (1, 0), (-1, 0)])? else {
+        assert!(rt; false, "no board");
+        return Ok(());
+    };
     assert!(rt; tried.is_cut(0, 0));
-    assert!(rt; !tried.is_cut(1, 0));
-    assert!(rt; !tried.is_cut(-1, 0));
-    assert!(rt; !tried.put_and_back(17, Place { q: 0, r: 0 }));
-    assert!(rt; tried.is_cut(0, 0));
+    assert!(rt; !tried.is_cut(1, 0) && !tried.is_cut(-1, 0));
+    let Some(under) = tried.put(17, Place { q: 0, r: 0 }) else {
+        assert!(rt; false, "no beetle");
+        return Ok(());
+    };
+    assert!(rt; !under.is_cut(0, 0));
+    let Some(after) = under.lifted(17) else {
+        assert!(rt; false, "no lift");
+        return Ok(());
+    };
+    assert!(rt; after.is_cut(0, 0));
     Ok(())
 }
 
 #[test]
 fn opened_ring(rt: HostRuntime) -> Result<(), Fail> {
     let ring = [(1, 0), (1, -1), (0, -1), (-1, 0), (-1, 1), (0, 1)];
-    let (mut tried, _) = tried_of(rt.alloc(), &ring)?;
+    let Some(whole) = tried_of(rt.alloc(), &ring)? else {
+        assert!(rt; false, "no board");
+        return Ok(());
+    };
     for (q, r) in ring {
-        assert!(rt; !tried.is_cut(q, r));
+        assert!(rt; !whole.is_cut(q, r));
     }
-    tried.lift(Piece::at(0));
-    assert!(rt; tried.is_cut(0, -1));
-    assert!(rt; tried.is_cut(-1, 0));
-    assert!(rt; tried.is_cut(-1, 1));
-    assert!(rt; !tried.is_cut(1, -1));
-    assert!(rt; !tried.is_cut(0, 1));
-    assert!(rt; !tried.is_cut(1, 0));
+    let Some(open) = whole.lifted(0) else {
+        assert!(rt; false, "no lift");
+        return Ok(());
+    };
+    assert!(rt; open.is_cut(0, -1) && open.is_cut(-1, 0) && open.is_cut(-1, 1));
+    assert!(rt; !open.is_cut(1, -1) && !open.is_cut(0, 1) && !open.is_cut(1, 0));
     Ok(())
 }
 
@@ -190,19 +233,13 @@ fn beetle_on_a_long_line_asks_little(rt: HostRuntime) -> Result<(), Fail> {
         (11, 0),
         (5, 0),
     ];
-    let (tried, calls) = tried_of(rt.alloc(), &line)?;
+    let Some(tried) = tried_of(rt.alloc(), &line)? else {
+        assert!(rt; false, "no board");
+        return Ok(());
+    };
+    let calls = tried.calls;
     assert!(rt; calls > 0 && calls <= 20, "{calls} calls");
     assert!(rt; tried.is_cut(4, 0) && !tried.is_cut(5, 0) && tried.is_cut(6, 0));
     assert!(rt; !tried.is_cut(0, 0) && !tried.is_cut(11, 0));
-    Ok(())
-}
-
-#[test]
-fn deltas_tell_how_many_places_changed(rt: HostRuntime) -> Result<(), Fail> {
-    let mut board = KeptBoard::<PlainBoard>::new(rt.alloc())?;
-    let first = board.put(Piece::at(0), Place { q: 0, r: 0 });
-    assert!(rt; !first.is_empty());
-    assert_eq!(rt; first.len(), 1);
-    assert!(rt; !board.is_cut(Place { q: 0, r: 0 }));
     Ok(())
 }

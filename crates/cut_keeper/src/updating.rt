@@ -1,150 +1,192 @@
-//! Statuses kept up after one piece was put on a place or taken from it.
+//! Marks kept up after one piece was put on a place or taken from it.
 
-ghost use Rattle.std.specs.Prelude.{◌≡◌, ◌↔◌, ◌+◌, ◌≤◌, [], length, IsTrue};
-ghost use Rattle.hive_model.specs.declared.places.Place.{Place};
-ghost use Rattle.hive_model.specs.Places.{IsWithin};
-ghost use Rattle.hive_model.specs.Boards.{IsBoard, is_occupied};
+ghost use Rattle.std.specs.Prelude.{◌≡◌, ◌≢◌, ◌↔◌, ℕ, ◌+◌, ◌<◌, ◌≤◌, Some, IsTrue};
+ghost use Rattle.hive_model.specs.Places.{IsWithin, step};
+ghost use Rattle.hive_model.specs.Boards.{IsBoard, height_at, is_occupied, top_at};
 ghost use Rattle.arc_law.specs.Arcs.{OneArc};
-ghost use Rattle.cut_keeper.specs.Rings.{ring, ring_mask};
-ghost use Rattle.cut_keeper.specs.Keeping.{IsTurned, Late, Stays, with_status, undone};
-ghost use Rattle.cut_keeper.specs.Slots.{AtMost};
-ghost use Rattle.cut_keeper.specs.Examining.{look, Known, Room, Told};
-ghost use Rattle.cut_keeper.specs.Updating.{MadeRight, Updated, TakesFew};
+ghost use Rattle.one_hive.specs.Visits.{IsSet};
+ghost use Rattle.one_hive.specs.Separating.{MarksSeparating};
+ghost use Rattle.hive_model.specs.Neighbours.{weight};
+ghost use Rattle.cut_keeper.specs.Keeping.{Grown, Shrunk, HasMask};
 
-use crate::examining::{beside, change, examine, examine_all, set_height};
-use crate::rings::mask_of;
-use crate::statuses::Delta;
-use crate::store::Store;
+use crate::examining::{beside, examine};
+use crate::rings::only_in;
 use arc_table::arcs;
-use hive_model::{Board, Piece, Place};
-use one_hive::Steps;
+use hive_model::{Board, Dir, Piece, Place};
+use one_hive::{Marks, Steps, mark_separating};
 use std::sync::ledger::Ledger;
 
-/// Makes the status of the place right: it is examined, or empty now.
-fn settle<B: Board, L: Ledger>(
-    keeper: &mut Store,
-    board: &B,
-    place: Place,
-    steps: &mut Steps<L>,
-    delta: &mut Delta,
-)
-    requires turned { IsTurned keeper.old (B.stacks board.now) place }
-    requires first { delta.old ≡ [] }
-    ensures status { keeper.new
-        ≡ with_status keeper.old place (look (B.stacks board.now) place) }
-    ensures undone { undone delta.new keeper.new ≡ undone delta.old keeper.old }
-    ensures room { length delta.new ≤ 1 }
-    ensures told { Told (B.stacks board.now) keeper.new delta.new }
-    ensures step { steps.new ≤ steps.old + 1 }
+/// Gives one piece the mark of another.
+fn hand_on(marks: &mut Marks, from: Piece, to: Piece)
+    ensures to { IsSet marks.new to ↔ IsSet marks.old from }
+    ensures others { (x : ℕ) → x ≢ to → IsSet marks.new x ↔ IsSet marks.old x }
 {
-    if board.height(place) == 0 {
-        change(keeper, place, None, delta);
-    } else {
-        examine(keeper, board, place, steps, delta);
+    let is_set = marks.is_set(from);
+    marks.give(to, is_set);
+}
+
+/// A piece was put on a place that was occupied: no place but it has another top piece.
+fn added_above<B: Board>(marks: &mut Marks, board: &B, piece: Piece, place: Place)
+    requires sound { IsBoard (B.stacks board.now) }
+    requires grown { Grown marks.old (B.stacks board.now) piece place }
+    requires high { 1 < height_at (B.stacks board.now) place }
+    ensures { MarksSeparating (B.stacks board.now) marks.new }
+{
+    if let Some(below) = board.under(piece) {
+        hand_on(marks, below, piece);
     }
 }
 
-/// Beside one arc the place is made right, and some of its neighbours are examined.
-fn update_beside<B: Board, L: Ledger>(
-    keeper: &mut Store,
+/// A piece was put beside one occupied place alone: that place holds it to the others, if there are
+/// any.
+fn added_beside_one<B: Board>(marks: &mut Marks, board: &B, piece: Piece, place: Place, dir: Dir)
+    requires sound { IsBoard (B.stacks board.now) }
+    requires grown { Grown marks.old (B.stacks board.now) piece place }
+    requires low { height_at (B.stacks board.now) place ≤ 1 }
+    requires unmarked { IsSet marks.old piece → ⊥ }
+    requires ring { HasMask (B.stacks board.now) place (weight dir) }
+    requires arc { OneArc (is_occupied (B.stacks board.now)) place }
+    ensures { MarksSeparating (B.stacks board.now) marks.new }
+{
+    let next = place.step(dir);
+    if let Some(top) = board.top(next) {
+        let is_cut = only_in(board.neighbours(next)).is_none();
+        marks.give(top, is_cut);
+    }
+}
+
+/// A piece was put on a place whose occupied neighbours form one arc.
+fn added_beside<B: Board, L: Ledger>(
+    marks: &mut Marks,
     board: &B,
+    piece: Piece,
     place: Place,
     mask: u8,
     steps: &mut Steps<L>,
-) -> Delta
-    requires turned { IsTurned keeper.old (B.stacks board.now) place }
-    requires within { IsWithin 9500 place }
-    requires mask { mask ≡ ring_mask (ring (is_occupied (B.stacks board.now)) place) }
-    requires arc { OneArc (is_occupied (B.stacks board.now)) place }
-    ensures made { MadeRight (B.stacks board.now) keeper.old keeper.new result }
-    ensures steps { steps.new ≤ steps.old + 4 }
-{
-    let mut delta = Delta::new();
-    settle(keeper, board, place, steps, &mut delta);
-    beside(keeper, board, place, mask, steps, &mut delta);
-    delta
-}
-
-/// Takes the status of the place away if it is empty now. What has a status is occupied then.
-fn clear_if_empty<B: Board>(keeper: &mut Store, board: &B, place: Place, delta: &mut Delta)
-    requires turned { IsTurned keeper.old (B.stacks board.now) place }
-    requires first { delta.old ≡ [] }
-    ensures known { Known keeper.new (B.stacks board.now) }
-    ensures undone { undone delta.new keeper.new ≡ undone delta.old keeper.old }
-    ensures room { Room (B.stacks board.now) (length delta.new) 0 }
-    ensures told { Told (B.stacks board.now) keeper.new delta.new }
-{
-    if board.height(place) == 0 {
-        change(keeper, place, None, delta);
-    }
-}
-
-/// Elsewhere every place is examined.
-fn update_elsewhere<B: Board, L: Ledger>(
-    keeper: &mut Store,
-    board: &B,
-    place: Place,
-    steps: &mut Steps<L>,
-) -> Delta
-    requires { IsTurned keeper.old (B.stacks board.now) place }
-    ensures made { MadeRight (B.stacks board.now) keeper.old keeper.new result }
-    ensures steps { steps.new ≤ steps.old + 28 }
-{
-    let mut delta = Delta::new();
-    clear_if_empty(keeper, board, place, &mut delta);
-    examine_all(keeper, board, steps, &mut delta);
-    delta
-}
-
-/// Whether the place has a status, and is occupied on the board.
-fn stays<B: Board>(keeper: &Store, board: &B, place: Place) -> bool
-    ensures { IsTrue result ↔ Stays keeper.now (B.stacks board.now) place }
-{
-    keeper.status(place).is_some() && board.height(place) > 0
-}
-
-fn update_by_case<B: Board, L: Ledger>(
-    keeper: &mut Store,
-    board: &B,
-    place: Place,
-    steps: &mut Steps<L>,
-) -> Delta
+)
     requires sound { IsBoard (B.stacks board.now) }
-    requires late { Late keeper.old (B.stacks board.now) place }
-    requires within { IsWithin 9500 place }
-    ensures made { MadeRight (B.stacks board.now) keeper.old keeper.new result }
-    ensures steps { TakesFew (B.stacks board.now) place
-        (Stays keeper.old (B.stacks board.now) place) steps.old steps.new }
+    requires grown { Grown marks.old (B.stacks board.now) piece place }
+    requires low { height_at (B.stacks board.now) place ≤ 1 }
+    requires ring { HasMask (B.stacks board.now) place mask }
+    requires arc { OneArc (is_occupied (B.stacks board.now)) place }
+    ensures marks { MarksSeparating (B.stacks board.now) marks.new }
+    ensures steps { steps.new ≤ steps.old + 3 }
 {
-    // where the place was occupied and is so still, its height alone changes
-    if stays(keeper, board, place) {
-        return set_height(keeper, board, place);
+    marks.give(piece, false);
+    match only_in(mask) {
+        Some(dir) => added_beside_one(marks, board, piece, place, dir),
+        None => beside(marks, board, place, mask, true, steps),
     }
-    let mask = mask_of(board, place);
-    if arcs(mask) == 1 {
-        return update_beside(keeper, board, place, mask, steps);
-    }
-    update_elsewhere(keeper, board, place, steps)
 }
 
-/// After a piece was put on the place or taken from it, makes what stood for the board before stand
-/// for the board.
-pub(crate) fn update<B: Board, L: Ledger>(
-    keeper: &mut Store,
+/// After a piece was put on top of the place, makes what stood for the board before stand for the
+/// board.
+pub(crate) fn added<B: Board, L: Ledger>(
+    marks: &mut Marks,
     board: &B,
+    piece: Piece,
     place: Place,
     steps: &mut Steps<L>,
-) -> Delta
-    requires late { Late keeper.old (B.stacks board.now) place }
+)
+    requires grown { Grown marks.old (B.stacks board.now) piece place }
     requires within { IsWithin 9500 place }
-    ensures sound { IsBoard (B.stacks board.now) }
-    ensures updated { Updated (B.stacks board.now) keeper.old keeper.new result }
-    ensures short { AtMost 28 keeper.new }
-    ensures steps { TakesFew (B.stacks board.now) place
-        (Stays keeper.old (B.stacks board.now) place) steps.old steps.new }
+    ensures marks { MarksSeparating (B.stacks board.now) marks.new }
+    ensures none { 1 < height_at (B.stacks board.now) place → steps.new ≡ steps.old }
+    ensures few { steps.new ≤ steps.old + 3 }
 {
-    let _spot = board.spot(Piece::at(0));
-    let delta = update_by_case(keeper, board, place, steps);
-    keeper.rises();
-    delta
+    let _spot = board.spot(piece);
+    if board.height(place) > 1 {
+        added_above(marks, board, piece, place);
+        return;
+    }
+    let mask = board.neighbours(place);
+    if arcs(mask) == 1 {
+        added_beside(marks, board, piece, place, mask, steps);
+        return;
+    }
+    *marks = mark_separating(board, steps);
+}
+
+/// A piece was taken from a place that is occupied still: no place but it has another top piece.
+fn removed_above<B: Board>(marks: &mut Marks, board: &B, piece: Piece, place: Place, top: Piece)
+    requires sound { IsBoard (B.stacks board.now) }
+    requires shrunk { Shrunk marks.old (B.stacks board.now) piece place }
+    requires top { top_at (B.stacks board.now) place ≡ Some top }
+    ensures { MarksSeparating (B.stacks board.now) marks.new }
+{
+    hand_on(marks, piece, top);
+}
+
+/// A piece was taken that stood beside one occupied place alone.
+fn removed_beside_one<B: Board, L: Ledger>(
+    marks: &mut Marks,
+    board: &B,
+    piece: Piece,
+    place: Place,
+    dir: Dir,
+    steps: &mut Steps<L>,
+)
+    requires sound { IsBoard (B.stacks board.now) }
+    requires shrunk { Shrunk marks.old (B.stacks board.now) piece place }
+    requires empty { height_at (B.stacks board.now) place ≡ 0 }
+    requires ring { HasMask (B.stacks board.now) place (weight dir) }
+    requires arc { OneArc (is_occupied (B.stacks board.now)) place }
+    ensures marks { MarksSeparating (B.stacks board.now) marks.new }
+    ensures steps { steps.new ≤ steps.old + 1 }
+{
+    let next = place.step(dir);
+    if let Some(top) = board.top(next) {
+        examine(marks, board, next, top, steps);
+    }
+}
+
+/// A piece was taken from a place whose occupied neighbours form one arc.
+fn removed_beside<B: Board, L: Ledger>(
+    marks: &mut Marks,
+    board: &B,
+    piece: Piece,
+    place: Place,
+    mask: u8,
+    steps: &mut Steps<L>,
+)
+    requires sound { IsBoard (B.stacks board.now) }
+    requires shrunk { Shrunk marks.old (B.stacks board.now) piece place }
+    requires empty { height_at (B.stacks board.now) place ≡ 0 }
+    requires ring { HasMask (B.stacks board.now) place mask }
+    requires arc { OneArc (is_occupied (B.stacks board.now)) place }
+    ensures marks { MarksSeparating (B.stacks board.now) marks.new }
+    ensures steps { steps.new ≤ steps.old + 3 }
+{
+    match only_in(mask) {
+        Some(dir) => removed_beside_one(marks, board, piece, place, dir, steps),
+        None => beside(marks, board, place, mask, false, steps),
+    }
+}
+
+/// After a piece was taken from the top of the place, makes what stood for the board before stand
+/// for the board.
+pub(crate) fn removed<B: Board, L: Ledger>(
+    marks: &mut Marks,
+    board: &B,
+    piece: Piece,
+    place: Place,
+    steps: &mut Steps<L>,
+)
+    requires shrunk { Shrunk marks.old (B.stacks board.now) piece place }
+    requires within { IsWithin 9500 place }
+    ensures marks { MarksSeparating (B.stacks board.now) marks.new }
+    ensures none { 0 < height_at (B.stacks board.now) place → steps.new ≡ steps.old }
+    ensures few { steps.new ≤ steps.old + 3 }
+{
+    let _spot = board.spot(piece);
+    if let Some(top) = board.top(place) {
+        removed_above(marks, board, piece, place, top);
+        return;
+    }
+    let mask = board.neighbours(place);
+    if arcs(mask) == 1 {
+        removed_beside(marks, board, piece, place, mask, steps);
+        return;
+    }
+    *marks = mark_separating(board, steps);
 }

@@ -5,6 +5,7 @@ ghost use Rattle.std.specs.Prelude.{◌<◌};
 mod beside;
 mod kept;
 mod rows;
+mod told;
 mod walk;
 
 use hive_model::{Game, Move, Piece, Place};

@@ -5,22 +5,15 @@ ghost use Rattle.hive_model.specs.Boards.{is_occupied};
 ghost use Rattle.hive_model.specs.Evaluation.{round_queen};
 ghost use Rattle.hive_model.specs.Places.{IsWithin, step, dirs};
 
-use hive_model::{Board, Colour, Dir, Place};
+use hive_model::{Board, Colour, Place};
 
 /// How many neighbours of the place are occupied.
-fn occupied_round<B: Board>(board: &B, place: Place) -> usize
+pub fn occupied_round<B: Board>(board: &B, place: Place) -> usize
     requires { IsWithin 10000 place }
     ensures count { result ≡ count_by (λ d. is_occupied (B.stacks board.now) (step place d)) dirs }
     ensures few { result ≤ 6 }
 {
-    Dir::ALL
-        .iter()
-        .filter(
-            |dir| -> bool
-                requires { IsWithin 10000 place }
-            { board.height(place.step(**dir)) > 0 },
-        )
-        .count()
+    board.neighbours(place).count_ones() as usize
 }
 
 /// How many neighbours of the side's queen are occupied; 0 for a queen in hand.

@@ -1,13 +1,13 @@
 -- The counts of numbers stay true where a key is added at the end, and where the last is taken away; and keys of one board have
 -- one number.
 use Rattle.std.proofs.Common.{◌≡◌, ℕ, ◌+◌, ◌-◌, ◌≤◌, ◌<◌, Bool, true, false, cond, Option, None, Result, Ok, Err, OnOk, OnErr, List, [], ◌∷◌, ◌++◌, refl, ap, arith, ◌∙◌, rules}
-use Rattle.std.specs.Prelude.{nat_eq, nat_le, fold}
+use Rattle.std.specs.Prelude.{nat_eq, nat_le}
 use Rattle.std.specs.List.{count_by}
 use Rattle.std.proofs.lemmas.List.Sums.{sum_by-append, sum_by-cons}
 use Rattle.indexmap.specs.IndexMap.{IndexMap}
 use Rattle.hive_model.specs.Keys.{KeyParts}
-use Rattle.hive_model.specs.declared.places.Spot.{Spot}
-use Rattle.hive_model.specs.KeyNumbers.{mixed, number_of}
+use Rattle.hive_model.specs.SpotNumbers.{number_in}
+use Rattle.hive_model.specs.KeyNumbers.{number_of}
 use Rattle.hive_model.specs.NumberCounts.{or_none, count_of, has_number, AreCounted}
 use Rattle.hive_model.specs.Repetition.{same_board, count_same}
 use Rattle.hive_model.proofs.SameBoards.{boards_tested}
@@ -87,11 +87,7 @@ module _ {S : Type 0} (ks : List KeyParts) (key : KeyParts) (old new : IndexMap 
 
 -- Keys of one board
 
-number_in : List (Option Spot) → ℕ
-number_in spots = fold mixed 0 spots
-
 same_number : (a b : KeyParts) → same_board a b ≡ true → nat_eq (number_of a) (number_of b) ≡ true
-unfolding number_in
 same_number a b e = let is : number_of a ≡ number_of b = ap number_in ((boards_tested a b).0 e).spots in search rules
 
 passes_too : (a b : Bool) → (a ≡ true → b ≡ true) → cond a 1 0 ≤ cond b 1 0

@@ -2,6 +2,7 @@ pub mod Lists
 pub mod Pieces
 pub mod PlaceLists
 pub mod Places
+pub mod Neighbours
 pub mod Boards
 pub mod Spots
 pub mod Spread
@@ -23,6 +24,8 @@ pub mod Stack
 pub mod Courses
 pub mod Evaluation
 pub mod Keys
+pub mod SpotNumbers
+pub mod SmallSpots
 pub mod SameKeys
 pub mod SameSpots
 pub mod KeyNumbers

@@ -15,6 +15,7 @@ ghost use Rattle.std.specs.Prelude.{
   slice_get,
   Some,
   IfOk,
+  IfSome,
   OnOk,
   OnErr,
   IsTrue,
@@ -23,10 +24,11 @@ ghost use Rattle.hive_model.specs.Lists.{IsOn};
 ghost use Rattle.hive_model.specs.Positions.{IsSound};
 ghost use Rattle.hive_model.specs.Legal.{moves};
 ghost use Rattle.hive_model.specs.Legal as rules;
-ghost use Rattle.hive_model.specs.Games.{IsGame};
+ghost use Rattle.hive_model.specs.Games.{IsGame, after};
 ghost use Rattle.hive_model.specs.Courses.{Course, position, with_move, without_last, is_listed};
 ghost use Rattle.hive_model.specs.Stack.{with_level};
 ghost use Rattle.hive_model.specs.Evaluation.{eval};
+ghost use Rattle.hive_model.specs.Minimax.{value};
 ghost use Rattle.hive_model.specs.Keys.{key};
 
 use crate::boards::Board;
@@ -52,11 +54,12 @@ pub trait Game: Board + Sized {
         ensures empty { IfOk result (λ g. (course g).made ≡ []) }
         ensures unplayed { IfOk result (λ g. played g ≡ 0) };
 
-    /// Makes room for at least this many more plies. Nothing else changes, and nothing at all after
-    /// want of memory.
+    /// Makes room for at least this many more plies; what room there is stays. Nothing else changes,
+    /// and nothing at all after want of memory.
     fn reserve(&mut self, plies: u32) -> Result<(), AllocError>
         requires { length (course self.old).made + plies ≤ 5064 }
         ensures room { OnOk result (plies ≤ (course self.new).spare) }
+        ensures kept { (course self.old).spare ≤ (course self.new).spare }
         ensures same { course self.new ≡ record {
           game_type = (course self.old).game_type;
           made = (course self.old).made;
@@ -81,6 +84,11 @@ pub trait Game: Board + Sized {
     /// Whether the game goes on, and how it ended. The moves are a game, and its position is sound.
     fn state(&self) -> State
         ensures state { result ≡ rules.state (position (course self.now)) }
+        ensures game { IsGame (course self.now).game_type (course self.now).made }
+        ensures sound { IsSound (position (course self.now)) };
+
+    /// That the moves are a game, and its position is sound; nothing is computed.
+    fn is_sound(&self)
         ensures game { IsGame (course self.now).game_type (course self.now).made }
         ensures sound { IsSound (position (course self.now)) };
 
@@ -123,6 +131,15 @@ pub trait Game: Board + Sized {
     /// 1,000. The game is as before.
     fn evaluate(&mut self) -> i32
         ensures worth { result ≡ eval (position (course self.old)) }
+        ensures same { course self.new ≡ course self.old }
+        ensures count { played self.new ≡ played self.old };
+
+    /// What the position after a legal move is worth to its side to move with no ply left to search,
+    /// where that is told without making the move. The game is as before.
+    fn value_after(&mut self, m: Move) -> Option<i32>
+        requires { IsOn (moves (position (course self.old))) m }
+        ensures value { IfSome result (λ v. v
+            ≡ value (after (position (course self.old)) m) 0) }
         ensures same { course self.new ≡ course self.old }
         ensures count { played self.new ≡ played self.old };
 

@@ -1,24 +1,38 @@
 //! What tells positions apart whose values may differ.
 
-ghost use Rattle.std.specs.Prelude.{◌≡◌, IfSome, fold};
+ghost use Rattle.std.specs.Prelude.{◌≡◌, IfSome};
 ghost use Rattle.hive_model.specs.Places.{IsWithin};
 ghost use Rattle.hive_model.specs.Keys.{key_of, spot_in};
 ghost use Rattle.std.specs.Hash as fed;
-ghost use Rattle.hive_model.specs.KeyNumbers.{equal_numbers, mixed, number_of};
+ghost use Rattle.hive_model.specs.SpotNumbers.{mixed};
+ghost use Rattle.hive_model.specs.SmallSpots.{small, large};
+ghost use Rattle.hive_model.specs.KeyNumbers.{equal_numbers, number_of};
 ghost use Rattle.hive_model.specs.Repetition.{same_board};
 
 use crate::boards::Board;
 use crate::pieces::{Colour, GameType, Piece};
-use crate::places::Spot;
+use crate::places::{Place, Spot};
 use std::hash::{Hash, Hasher};
 use std::marker::Model;
+
+/// Where a piece stands, if it is in play, in six bytes. Of a piece that is in hand all is 0.
+#[derive(Clone, Copy, Debug, PartialEq, Eq)]
+struct SmallSpot {
+    q: i16,
+    r: i16,
+    level: u8,
+    in_play: bool,
+}
 
 /// A position's key: where each piece stands and at which level, the game type, the side to move,
 /// the number of the turn, capped at 5, and the piece that rests. Sound positions with equal keys
 /// are worth the same at every depth.
+///
+/// The number by which tables find it is kept, so that it is found once.
 #[derive(Clone, Copy, Debug, PartialEq, Eq)]
 pub struct Key {
-    spots: [Option<Spot>; 28],
+    number: u64,
+    spots: [SmallSpot; 28],
     game_type: GameType,
     side: Colour,
     turn: u8,
@@ -26,14 +40,18 @@ pub struct Key {
 }
 
 impl Model for Key {
-    ghost use Rattle.hive_model.specs.Keys.{KeyParts, IsInPlane};
+    ghost use Rattle.hive_model.specs.Keys.{KeyParts};
 
     ghost Value = { KeyParts };
 
-    ghost invariant = { λ k. IsInPlane k.spots };
+    ghost use Rattle.std.specs.Prelude.{map};
+    ghost use Rattle.hive_model.specs.SpotNumbers.{number_in};
+    ghost use Rattle.hive_model.specs.SmallSpots.{small, large, IsSmallKey};
+
+    ghost invariant = { λ k. IsSmallKey k.number k.spots };
 
     ghost view = { λ k. record {
-      spots = k.spots;
+      spots = map large k.spots;
       game_type = k.game_type;
       side = k.side;
       turn = k.turn;
@@ -41,11 +59,21 @@ impl Model for Key {
     } };
 
     ghost inverse = { λ v. record {
-      spots = v.spots;
+      number = number_in v.spots;
+      spots = map small v.spots;
       game_type = v.game_type;
       side = v.side;
       turn = v.turn;
       rest = v.rest;
+    } };
+
+    ghost inverse_ok = { λ a h i. record {
+      number = h.number i;
+      spots = h.again i;
+      game_type = a.game_type;
+      side = a.side;
+      turn = a.turn;
+      rest = a.rest;
     } };
 }
 
@@ -69,15 +97,46 @@ fn mixed(number: u64, spot: Option<Spot>) -> u64
     (number ^ here).wrapping_mul(SPREAD)
 }
 
-/// A number of the spots, in which those of different keys seldom agree.
-fn number_of(spots: &[Option<Spot>]) -> u64
-    ensures { result ≡ fold mixed 0 spots.now }
-{
-    let mut number = 0;
-    for spot in spots {
-        number = mixed(number, *spot);
+impl SmallSpot {
+    /// A piece in hand.
+    const NONE: SmallSpot = SmallSpot {
+        q: 0,
+        r: 0,
+        level: 0,
+        in_play: false,
+    };
+
+    /// The spot in less memory.
+    fn of(spot: Option<Spot>) -> SmallSpot
+        requires { IfSome spot (λ s. IsWithin 9000 s.place) }
+        ensures { result ≡ small spot }
+    {
+        match spot {
+            Some(spot) => SmallSpot {
+                q: spot.place.q as i16,
+                r: spot.place.r as i16,
+                level: spot.level,
+                in_play: true,
+            },
+            None => SmallSpot::NONE,
+        }
     }
-    number
+
+    /// The spot, if the piece is in play.
+    fn spot(self) -> Option<Spot>
+        ensures { result ≡ large self }
+    {
+        if !self.in_play {
+            return None;
+        }
+        Some(Spot {
+            place: Place {
+                q: i32::from(self.q),
+                r: i32::from(self.r),
+            },
+            level: self.level,
+        })
+    }
 }
 
 /// Tables find a key by a number of its spots alone, for speed; `==` compares all.
@@ -87,7 +146,7 @@ impl Hash for Key {
     ghost respects_eq = { equal_numbers };
 
     fn hash<H: Hasher>(&self, state: &mut H) {
-        state.write_u64(self.number());
+        state.write_u64(self.number);
     }
 }
 
@@ -96,7 +155,7 @@ impl Key {
     pub(crate) fn number(&self) -> u64
         ensures { result ≡ number_of self.now }
     {
-        number_of(&self.spots)
+        self.number
     }
 
     /// The key of a position: its game type, its board, the side to move, the number of the turn
@@ -110,11 +169,15 @@ impl Key {
     ) -> Key
         ensures { result ≡ key_of game_type (B.stacks board.now) side turn rest }
     {
-        let mut spots = [None; 28];
+        let mut spots = [SmallSpot::NONE; 28];
+        let mut number = 0;
         for index in 0..28u8 {
-            spots[index as usize] = board.spot(Piece::at(index));
+            let spot = board.spot(Piece::at(index));
+            number = mixed(number, spot);
+            spots[index as usize] = SmallSpot::of(spot);
         }
         Key {
+            number,
             spots,
             game_type,
             side,
@@ -128,7 +191,7 @@ impl Key {
         ensures spot { result ≡ spot_in self.now piece }
         ensures within { IfSome result (λ s. IsWithin 9000 s.place) }
     {
-        self.spots[piece.index() as usize]
+        self.spots[piece.index() as usize].spot()
     }
 
     /// The game type.
@@ -163,9 +226,10 @@ impl Key {
     pub fn same_board(&self, other: &Key) -> bool
         ensures { result ≡ same_board self.now other.now }
     {
-        self.rest == other.rest
-            && self.side == other.side
-            && self.game_type == other.game_type
+        self.number == other.number
             && self.spots == other.spots
+            && self.game_type == other.game_type
+            && self.side == other.side
+            && self.rest == other.rest
     }
 }

@@ -35,7 +35,7 @@ ghost use Rattle.hive_model.specs.Spread.{IsSpread, IsNearAll};
 ghost use Rattle.residues.specs.Residues.{residue, cell_of};
 ghost use Rattle.torus_board.specs.Grid.{IsSide, IsGrid, IsLinked};
 
-use hive_model::{Board, GameBoard, Piece, Place, Spot};
+use hive_model::{Board, Dir, GameBoard, Piece, Place, Spot};
 use std::alloc::{AllocError, Global};
 use std::marker::Model;
 
@@ -191,6 +191,15 @@ impl<const SIDE: usize> Board for Torus<SIDE> {
 
     fn under(&self, piece: Piece) -> Option<Piece> {
         under_in(&self.below, piece)
+    }
+
+    fn neighbours(&self, place: Place) -> u8 {
+        Dir::E.bit_if(self.height(place.step(Dir::E)) > 0)
+            + Dir::NE.bit_if(self.height(place.step(Dir::NE)) > 0)
+            + Dir::NW.bit_if(self.height(place.step(Dir::NW)) > 0)
+            + Dir::W.bit_if(self.height(place.step(Dir::W)) > 0)
+            + Dir::SW.bit_if(self.height(place.step(Dir::SW)) > 0)
+            + Dir::SE.bit_if(self.height(place.step(Dir::SE)) > 0)
     }
 }
 

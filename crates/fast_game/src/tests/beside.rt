@@ -11,12 +11,16 @@ use std::alloc::{AllocError, Global};
 use std::test::Fail;
 
 /// The next number of a sequence that a seed begins.
-fn next_number(number: u32) -> u32 {
+pub fn next_number(number: u32) -> u32 {
     number.wrapping_mul(1_664_525).wrapping_add(1_013_904_223)
 }
 
 /// One of the legal moves, if there is any.
-fn any_move<G: Game>(alloc: Global, game: &mut G, number: u32) -> Result<Option<Move>, AllocError> {
+pub fn any_move<G: Game>(
+    alloc: Global,
+    game: &mut G,
+    number: u32,
+) -> Result<Option<Move>, AllocError> {
     let mut lists = MoveStack::new(alloc, 1)?;
     game.list(&mut lists);
     let many = lists.level_len(0);

@@ -23,7 +23,7 @@ loop-at-init c =
 pub index-at-requires : goal.index-at-requires
 index-at-requires c =
     let indexed = is-indexed _ _ _ _ c.self.view_is c.self.invariant.3 in
-    let within : c.in-Some.place < length c.self.inside.previous.items = is-beside _ _ _ _ indexed c.loop-at.at c.in-Some.place c.in-Some.is c.loop-at.invariant.here in
+    let within : c.in-Some.place < length c.self.inside.previous.items = is-beside c.args.key.now c.args.self.now _ _ indexed c.loop-at.at c.in-Some.place c.in-Some.is c.loop-at.invariant.here in
     search rules
 
 pub loop-at-smaller : goal.loop-at-smaller
@@ -32,7 +32,7 @@ loop-at-smaller c =
     let ls = c.args.self.now in
     let indexed = is-indexed _ _ _ _ c.self.view_is c.self.invariant.3 in
     let back : c.index-at.result.now ≡ last_before k ls c.in-Some.place =
-    goes-back _ _ _ _ indexed c.loop-at.at c.in-Some.place c.in-Some.is c.loop-at.invariant.here c.index-at.result.now c.index-at.ensures in
+    goes-back k ls _ _ indexed c.loop-at.at c.in-Some.place c.in-Some.is c.loop-at.invariant.here c.index-at.result.now c.index-at.ensures in
     let below : reach c.index-at.result.now ≤ c.in-Some.place = subst (λ o. reach o ≤ c.in-Some.place) (sym back) (reach-below k ls c.in-Some.place) in
     let here : reach c.loop-at.at ≡ reach (Some c.in-Some.place) = ap reach c.in-Some.is in
     let less : reach c.index-at.result.now < reach c.loop-at.at = omega (arith, below, here) in less
@@ -44,7 +44,7 @@ loop-at-preserved c =
     let ls = c.args.self.now in
     let indexed = is-indexed _ _ _ _ c.self.view_is c.self.invariant.3 in
     let back : c.index-at.result.now ≡ last_before k ls c.in-Some.place =
-    goes-back _ _ _ _ indexed c.loop-at.at c.in-Some.place c.in-Some.is c.loop-at.invariant.here c.index-at.result.now c.index-at.ensures in
+    goes-back k ls _ _ indexed c.loop-at.at c.in-Some.place c.in-Some.is c.loop-at.invariant.here c.index-at.result.now c.index-at.ensures in
     let found : c.if-serves.found ≡ cond (serves_at k c.args.depth x (slice_get ls c.in-Some.place)) (Some c.in-Some.place) c.loop-at.found =
     elim c.if-serves.branch [
       | then-serves w ↦ w.found-is ∙ sym (ap (λ b. cond b (Some c.in-Some.place) c.loop-at.found) (sym c.serves.ensures ∙ w.if-serves.true))

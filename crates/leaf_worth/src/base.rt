@@ -1,0 +1,73 @@
+//! A board without one piece, looked at once for all places that the piece can go to.
+
+ghost use Rattle.std.specs.Prelude.{◌≡◌, false, IsNone, IfSome};
+ghost use Rattle.hive_model.specs.declared.pieces.Colour.TheVariants.{White, Black};
+ghost use Rattle.hive_model.specs.declared.places.Move.TheVariants.{To};
+ghost use Rattle.hive_model.specs.Boards.{spot_of, without};
+ghost use Rattle.hive_model.specs.Games.{after};
+ghost use Rattle.hive_model.specs.Legal.{is_surrounded};
+ghost use Rattle.hive_model.specs.Minimax.{value};
+ghost use Rattle.hive_model.specs.Pieces.{other_side};
+ghost use Rattle.hive_model.specs.Places.{IsWithin};
+ghost use Rattle.hive_model.specs.Positions.{Position};
+ghost use Rattle.one_hive.specs.Separating.{MarksSeparating};
+ghost use Rattle.leaf_worth.specs.Bases.{IsFound};
+
+use crate::worth_after::{has_two_places, worth_after_put};
+use cut_keeper::{CutKeeper, KeptCuts};
+use hive_eval::evaluate;
+use hive_model::{Board, Colour, Piece, Place};
+use std::marker::Model;
+
+/// What is found once of a board without a piece: the keeper that stands for it, what it is worth
+/// to a side while no piece rests, and whether it is known to have two occupied places.
+#[derive(Drop)]
+pub struct Base {
+    keeper: CutKeeper,
+    worth: i32,
+    two: bool,
+}
+
+impl Model for Base {
+    ghost use Rattle.leaf_worth.specs.Bases.{Found};
+
+    ghost Value = { Found };
+
+    ghost view = { λ b. record { marks = b.keeper; worth = b.worth; two = b.two } };
+}
+
+impl Base {
+    /// What is found of the board with the keeper that stands for it, for the side that is to move
+    /// after the piece was put.
+    pub fn of<B: Board>(board: &B, keeper: CutKeeper, side: Colour) -> Base
+        requires { MarksSeparating (B.stacks board.now) keeper }
+        ensures { IsFound (B.stacks board.now) side result }
+    {
+        let two = has_two_places(board);
+        let worth = evaluate(&KeptCuts::new(board, &keeper), side, None);
+        Base { keeper, worth, two }
+    }
+
+    /// What a position is worth to its side to move that the piece leads to when it goes to the
+    /// place, where that is told: it is the value with no ply left to search, so the game is not
+    /// over there. The board is that of the position before, without the piece, and no queen is
+    /// surrounded on it.
+    pub fn value_after<B: Board>(
+        &self,
+        board: &B,
+        piece: Piece,
+        place: Place,
+        side: Colour,
+    ) -> Option<i32>
+        requires found { IsFound (B.stacks board.now) side self.now }
+        requires absent { IsNone (spot_of (B.stacks board.now) piece) }
+        requires within { IsWithin 9000 place }
+        requires white { is_surrounded (B.stacks board.now) White ≡ false }
+        requires black { is_surrounded (B.stacks board.now) Black ≡ false }
+        ensures { (p : Position) → without p.board piece ≡ B.stacks board.now → other_side p.side
+            ≡ side → IfSome result (λ v. v ≡ value (after p (To piece place)) 0) }
+    {
+        let known = KeptCuts::new(board, &self.keeper);
+        worth_after_put(&known, self.worth, piece, place, side, self.two)
+    }
+}
