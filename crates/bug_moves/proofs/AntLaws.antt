@@ -12,6 +12,7 @@ use Rattle.hive_model.specs.Boards.{Stacks}
 use Rattle.hive_model.specs.Near.{placed_by, with_place}
 use Rattle.hive_model.specs.Steps.{GroundStep}
 use Rattle.hive_model.proofs.PlaceLemmas.{exact_places, cases_place}
+use Rattle.hive_model.proofs.CountLaws.{touched_few}
 use Rattle.hive_model.proofs.Floods.{on_append, append_left, append_right}
 use Rattle.hive_model.proofs.NearLaws.{with_place_on, on_with_place}
 use Rattle.hive_model.proofs.GetLemmas.{get_within, get_exists, get_in_front, on-at}
@@ -138,3 +139,7 @@ module _ (b : Stacks) (s : Place) (found work : List Place) (n : ℕ) (list : Is
     gained = λ q (apart, (way, path)). follow s way q (inl refl) apart path;
     only = λ q on. inr (h.ways q on);
   }
+
+-- there are at most as many places at the hive as a list has room for
+pub found_few : (b : Stacks) (found : List Place) → IsAround b found → length found ≤ 196
+found_few b found h = touched_few b h.sound found h.in_order h.near

@@ -1,5 +1,5 @@
 -- A list of places gains one place, or what each direction gives.
-use Rattle.std.proofs.Common.{◌≡◌, ℕ, ◌+◌, ◌≤◌, ◌<◌, List, [], length, inl, inr, refl, sym, ◌∙◌, subst, arith}
+use Rattle.std.proofs.Common.{◌≡◌, ℕ, Bool, true, false, ◌+◌, ◌≤◌, ◌<◌, List, [], length, inl, inr, refl, sym, ◌∙◌, subst, arith}
 use Rattle.std.proofs.lemmas.Bool.{cases_eq}
 use Rattle.hive_model.specs.declared.places.Place.{Place}
 use Rattle.hive_model.specs.declared.places.Dir.{Dir}
@@ -13,6 +13,8 @@ use Rattle.hive_model.specs.Near.{with_place}
 use Rattle.hive_model.proofs.NearLaws.{rises_with, with_place_on, on_with_place}
 use Rattle.hive_model.proofs.CountLaws.{touched_few}
 use Rattle.bug_moves.proofs.AtHive.{ground_at_hive, climb_at_hive, at_hive_within}
+use Rattle.std.specs.Prelude.{IsTrue}
+use Rattle.gates.specs.Slides.{AreSlides, has_dir}
 use Rattle.bug_moves.specs.Adding.{IsAtHive, IsAround, Gains, dir_at, InFirst}
 use Rattle.bug_moves.specs.Ways.{Toward, InSome, Onward}
 
@@ -80,6 +82,9 @@ gains_onward b S T p d to xs ys leads here = gains_same b (Onward S T p d) (InSo
     (λ q (_, on). subst (λ (x : Place). InSome (T x) q) (sym leads) on)
     (λ q on. onward_at S T p d to q leads here on)
 
+pub gains_not_onward : (b : Stacks) (S : Place → Type 0) (T : Place → Dir → Place → Type 0) (p : Place) (d : Dir) (xs : List Place) → IsAround b xs → (S (step p d) → ⊥) → Gains b (Onward S T p d) xs xs
+gains_not_onward b S T p d xs h none = gains_nothing b (Onward S T p d) xs h (λ q (here, _). absurd (none here))
+
 -- One thing of a row after another
 
 pub gains_turn : (b : Stacks) (P : ℕ → Place → Type 0) (n : ℕ) (xs ys zs : List Place)
@@ -121,9 +126,24 @@ gains_all b P n xs ys all = gains_same b (InSome P) (InFirst n P) xs ys
     (k, within, subst (λ (e : Dir). P e q) (sym same) is))
     (λ q (k, _, is). (dir_at k, is))
 
-pub gains_ways : (b : Stacks) (S : Place → Place → Type 0) (p : Place) (n : ℕ) (xs ys : List Place) → 6 ≤ n → ((q : Place) → S p q → (d : Dir) × (step p d ≡ q)) → Gains b (InFirst n (Toward S p)) xs ys → Gains b (S p) xs ys
-gains_ways b S p n xs ys all leads h = gains_same b (S p) (InSome (Toward S p)) xs ys
-    (λ q is. let (d, same) = leads q is in (d, (same, is))) (λ q (_, (_, is)). is) (gains_all b (Toward S p) n xs ys all h)
+-- the six directions one after another
+pub gains_six : (b : Stacks) (P : Dir → Place → Type 0) (a0 a1 a2 a3 a4 a5 a6 : List Place) → IsAround b a0
+    → Gains b (P E) a0 a1 → Gains b (P NE) a1 a2 → Gains b (P NW) a2 a3 → Gains b (P W) a3 a4 → Gains b (P SW) a4 a5 → Gains b (P SE) a5 a6 → Gains b (InSome P) a0 a6
+gains_six b P a0 a1 a2 a3 a4 a5 a6 h e ne nw w sw se =
+    let none : Gains b (InFirst 0 P) a0 a0 = gains_nothing b (InFirst 0 P) a0 h (λ q (k, low, _). absurd (omega (arith, low))) in
+    let one : Gains b (InFirst 1 P) a0 a1 = gains_next b P 0 a0 a0 a1 none e in
+    let two : Gains b (InFirst 2 P) a0 a2 = gains_next b P 1 a0 a1 a2 one ne in
+    let three : Gains b (InFirst 3 P) a0 a3 = gains_next b P 2 a0 a2 a3 two nw in
+    let four : Gains b (InFirst 4 P) a0 a4 = gains_next b P 3 a0 a3 a4 three w in
+    let five : Gains b (InFirst 5 P) a0 a5 = gains_next b P 4 a0 a4 a5 four sw in
+    let six : Gains b (InFirst 6 P) a0 a6 = gains_next b P 5 a0 a5 a6 five se in
+    let all : 6 ≤ 6 = omega arith in
+    gains_all b P 6 a0 a6 all six
+
+-- the steps in all directions are all steps
+pub gains_steps : (b : Stacks) (S : Place → Place → Type 0) (p : Place) (xs ys : List Place) → ((q : Place) → S p q → (d : Dir) × (step p d ≡ q)) → Gains b (InSome (Toward S p)) xs ys → Gains b (S p) xs ys
+gains_steps b S p xs ys leads = gains_same b (S p) (InSome (Toward S p)) xs ys
+    (λ q is. let (d, same) = leads q is in (d, (same, is))) (λ q (_, (_, is)). is)
 
 -- a list that was empty has what it gained
 pub gained_all : (b : Stacks) (S : Place → Type 0) (xs ys : List Place) → xs ≡ [] → Gains b S xs ys → AreAll S ys
@@ -134,3 +154,19 @@ gained_all b S xs ys none h = record {
     λ is. h.gained q is,
   );
 }
+
+-- Ground steps by their mask
+
+pub slide_step : (b : Stacks) (p : Place) (m : ℕ) (d : Dir) (to : Place) {answer : Bool} → AreSlides b p m → answer ≡ has_dir m d → IsTrue answer → to ≡ step p d → GroundStep b p to
+slide_step b p m d to are is set leads = subst (GroundStep b p) (sym leads) ((are d).0 (sym is ∙ set))
+
+pub no_slide : (b : Stacks) (p : Place) (m : ℕ) (d : Dir) {answer : Bool} → AreSlides b p m → answer ≡ has_dir m d → answer ≡ false → GroundStep b p (step p d) → ⊥
+no_slide b p m d are is unset ground = let wrong : false ≡ true = sym unset ∙ (is ∙ (are d).1 ground) in cc
+
+-- where there is one there is room for its end, and a step on from there is within bounds
+pub slide_room : (b : Stacks) (p : Place) (m : ℕ) (d : Dir) (to : Place) (xs : List Place) {answer : Bool} → IsAround b xs → AreSlides b p m → answer ≡ has_dir m d → IsTrue answer → to ≡ step p d → length (with_place to xs) ≤ 196
+slide_room b p m d to xs h are is set leads = ground_room b p to xs h (slide_step b p m d to are is set leads)
+
+-- where there is no ground step in a direction, a way that begins by it adds nothing
+pub gains_no_slide : (b : Stacks) (S : Place → Place → Type 0) (p : Place) (d : Dir) (xs : List Place) → IsAround b xs → ((q : Place) → S p q → GroundStep b p q) → (GroundStep b p (step p d) → ⊥) → Gains b (Toward S p d) xs xs
+gains_no_slide b S p d xs h by none = gains_no_step b S p d (step p d) xs h refl (λ is. absurd (none (by (step p d) is)))

@@ -5,3 +5,5 @@ pub mod AntLaws
 pub mod WayLaws
 pub mod KindLaws
 pub mod FoundLaws
+pub mod TrailLaws
+pub mod RowLaws

@@ -1,3 +1,4 @@
 pub mod Adding
 pub mod Ways
 pub mod Walks
+pub mod Trails

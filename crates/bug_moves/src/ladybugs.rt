@@ -18,7 +18,7 @@ impl Way for Down {
     #[tactic(auto, using(crate::proofs::Gaining::climb_room))]
     fn add<B: Board>(&self, board: &B, from: Place, dir: Dir, out: &mut PlaceList) {
         let to = from.step(dir);
-        if to.is(self.start) || is_occupied(board, to) || !may_climb(board, from, to) {
+        if to.is(self.start) || is_occupied(board, to) || !may_climb(board, from, dir, to) {
             return;
         }
         add_place(out, to);
@@ -37,7 +37,7 @@ impl<W: Way> Way for Climb<W> {
     #[tactic(auto, using(crate::proofs::Gaining::climb_within))]
     fn add<B: Board>(&self, board: &B, from: Place, dir: Dir, out: &mut PlaceList) {
         let to = from.step(dir);
-        if is_occupied(board, to) && may_climb(board, from, to) {
+        if is_occupied(board, to) && may_climb(board, from, dir, to) {
             add_ways(&self.then, board, to, out);
         }
     }

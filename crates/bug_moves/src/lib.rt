@@ -9,6 +9,7 @@ mod hops;
 mod ladybugs;
 mod spiders;
 mod steps;
+mod trail;
 mod ways;
 
 ghost use Rattle.std.specs.Prelude.{◌≡◌, ◌≢◌, []};
@@ -23,8 +24,11 @@ use crate::hops::OverRow;
 use crate::ladybugs::{Climb, Down};
 use crate::spiders::First;
 use crate::steps::{Creep, Slide};
-use crate::ways::add_ways;
+use crate::ways::{add_slides, add_ways};
+pub use ants::list_in_order;
+pub use found::add_new;
 use hive_model::{Board, Kind, Piece, Place, PlaceList};
+pub use trail::Trail;
 
 /// The places that a bug of this kind reaches from a place, by q and then by r.
 ///
@@ -41,11 +45,11 @@ pub fn reach<B: Board>(kind: Kind, board: &B, from: Place, out: &mut PlaceList)
     // each board that answers where a piece stands is sound
     let _spot = board.spot(Piece::at(0));
     match kind {
-        Kind::Queen | Kind::Pillbug => add_ways(&Slide, board, from, out),
-        Kind::Beetle => add_ways(&Creep, board, from, out),
+        Kind::Queen | Kind::Pillbug => add_slides(&Slide, board, from, out),
+        Kind::Beetle => add_slides(&Creep, board, from, out),
         Kind::Grasshopper => add_ways(&OverRow, board, from, out),
         Kind::Ant => ant_ways(board, from, out),
-        Kind::Spider => add_ways(&First, board, from, out),
+        Kind::Spider => add_slides(&First, board, from, out),
         Kind::Ladybug => {
             let down = Down { start: from };
             let along = Climb { then: down };

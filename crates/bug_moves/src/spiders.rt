@@ -2,8 +2,8 @@
 
 ghost use Rattle.bug_moves.specs.Ways.{FirstToward, SecondToward, ThirdToward};
 
-use crate::ways::{Way, add_ways};
-use gates::slide_toward;
+use crate::ways::{GroundWay, add_slides};
+use gates::has_dir;
 use hive_model::{Board, Dir, Place, PlaceList, add_place};
 
 /// A third step, which does not go back to where the spider was.
@@ -13,13 +13,16 @@ struct Third {
     first: Place,
 }
 
-impl Way for Third {
+impl GroundWay for Third {
     ghost toward = { λ way b. ThirdToward b way.start way.first };
 
     #[tactic(auto, using(crate::proofs::Gaining::ground_room))]
-    fn add<B: Board>(&self, board: &B, from: Place, dir: Dir, out: &mut PlaceList) {
+    fn add<B: Board>(&self, board: &B, from: Place, dir: Dir, slides: u8, out: &mut PlaceList) {
+        if !has_dir(slides, dir) {
+            return;
+        }
         let to = from.step(dir);
-        if to.is(self.start) || to.is(self.first) || !slide_toward(board, from, dir, to) {
+        if to.is(self.start) || to.is(self.first) {
             return;
         }
         add_place(out, to);
@@ -32,19 +35,22 @@ struct Second {
     start: Place,
 }
 
-impl Way for Second {
+impl GroundWay for Second {
     ghost toward = { λ way b. SecondToward b way.start };
 
-    fn add<B: Board>(&self, board: &B, from: Place, dir: Dir, out: &mut PlaceList) {
+    fn add<B: Board>(&self, board: &B, from: Place, dir: Dir, slides: u8, out: &mut PlaceList) {
+        if !has_dir(slides, dir) {
+            return;
+        }
         let to = from.step(dir);
-        if to.is(self.start) || !slide_toward(board, from, dir, to) {
+        if to.is(self.start) {
             return;
         }
         let third = Third {
             start: self.start,
             first: from,
         };
-        add_ways(&third, board, to, out);
+        add_slides(&third, board, to, out);
     }
 }
 
@@ -52,13 +58,13 @@ impl Way for Second {
 #[derive(Clone, Copy)]
 pub struct First;
 
-impl Way for First {
+impl GroundWay for First {
     ghost toward = { λ _ b. FirstToward b };
 
-    fn add<B: Board>(&self, board: &B, from: Place, dir: Dir, out: &mut PlaceList) {
-        let to = from.step(dir);
-        if slide_toward(board, from, dir, to) {
-            add_ways(&Second { start: from }, board, to, out);
+    fn add<B: Board>(&self, board: &B, from: Place, dir: Dir, slides: u8, out: &mut PlaceList) {
+        if has_dir(slides, dir) {
+            let to = from.step(dir);
+            add_slides(&Second { start: from }, board, to, out);
         }
     }
 }

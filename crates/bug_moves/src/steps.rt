@@ -1,45 +1,47 @@
 //! Bugs of one step: the queen, the pillbug and the beetle.
 
-ghost use Rattle.std.specs.Prelude.{◌↔◌, IsTrue};
+ghost use Rattle.std.specs.Prelude.{◌≡◌, ◌↔◌, IsTrue};
 ghost use Rattle.hive_model.specs.Boards.{is_occupied};
-ghost use Rattle.hive_model.specs.Places.{AreNeighbours, IsWithin};
+ghost use Rattle.hive_model.specs.Places.{IsWithin, step};
 ghost use Rattle.hive_model.specs.Steps.{GroundStep, ClimbingStep};
+ghost use Rattle.gates.specs.Slides.{AreSlides};
 ghost use Rattle.bug_moves.specs.Ways.{Toward, BeetleStep};
 
-use crate::ways::Way;
-use gates::{climb_ok, slide_ok, slide_toward};
+use crate::ways::GroundWay;
+use gates::{climb_toward, has_dir};
 use hive_model::{Board, Dir, Place, PlaceList, add_place, is_occupied};
 
-/// Whether the step between two neighbours is a climbing step: one of them is occupied, and the
-/// step is not blocked.
-pub fn may_climb<B: Board>(board: &B, from: Place, to: Place) -> bool
-    requires near { AreNeighbours from to }
+/// Whether the step in this direction is a climbing step: one of its places is occupied, and it is
+/// not blocked.
+pub fn may_climb<B: Board>(board: &B, from: Place, dir: Dir, to: Place) -> bool
+    requires leads { to ≡ step from dir }
     requires within { IsWithin 9500 from }
     ensures { IsTrue result ↔ ClimbingStep (B.stacks board.now) from to }
 {
-    (is_occupied(board, from) || is_occupied(board, to)) && climb_ok(board, from, to)
+    (is_occupied(board, to) || is_occupied(board, from)) && climb_toward(board, from, dir, to)
 }
 
-/// Whether a beetle makes the step between two neighbours.
-fn may_creep<B: Board>(board: &B, from: Place, to: Place) -> bool
-    requires near { AreNeighbours from to }
+/// Whether a beetle makes the step in this direction. The directions of the ground steps are given.
+fn may_creep<B: Board>(board: &B, from: Place, dir: Dir, to: Place, slides: u8) -> bool
+    requires leads { to ≡ step from dir }
     requires within { IsWithin 9500 from }
+    requires slides { AreSlides (B.stacks board.now) from slides }
     ensures { IsTrue result ↔ BeetleStep (B.stacks board.now) from to }
 {
-    slide_ok(board, from, to) || may_climb(board, from, to)
+    has_dir(slides, dir) || may_climb(board, from, dir, to)
 }
 
 /// One step on the ground.
 #[derive(Clone, Copy)]
 pub struct Slide;
 
-impl Way for Slide {
+impl GroundWay for Slide {
     ghost toward = { λ _ b. Toward (GroundStep b) };
 
     #[tactic(auto, using(crate::proofs::Gaining::ground_room))]
-    fn add<B: Board>(&self, board: &B, from: Place, dir: Dir, out: &mut PlaceList) {
-        let to = from.step(dir);
-        if slide_toward(board, from, dir, to) {
+    fn add<B: Board>(&self, board: &B, from: Place, dir: Dir, slides: u8, out: &mut PlaceList) {
+        if has_dir(slides, dir) {
+            let to = from.step(dir);
             add_place(out, to);
         }
     }
@@ -49,12 +51,12 @@ impl Way for Slide {
 #[derive(Clone, Copy)]
 pub struct Creep;
 
-impl Way for Creep {
+impl GroundWay for Creep {
     ghost toward = { λ _ b. Toward (BeetleStep b) };
 
-    fn add<B: Board>(&self, board: &B, from: Place, dir: Dir, out: &mut PlaceList) {
+    fn add<B: Board>(&self, board: &B, from: Place, dir: Dir, slides: u8, out: &mut PlaceList) {
         let place = from.step(dir);
-        if may_creep(board, from, place) {
+        if may_creep(board, from, dir, place, slides) {
             add_place(out, place);
         }
     }

@@ -1,11 +1,16 @@
 -- A ground step in a direction that is known.
-use Rattle.std.proofs.Common.{◌≡◌, true, ◌&&◌, sym, ◌∙◌, subst}
-use Rattle.std.proofs.lemmas.Bool.{and_parts, and_from}
+use Rattle.std.proofs.Common.{◌≡◌, ℕ, not, arith, true, false, ◌&&◌, refl, sym, ◌∙◌, subst, ap}
+use Rattle.std.specs.Prelude.{nat_eq, nat_lt}
+use Rattle.std.proofs.lemmas.Bool.{and_parts, and_from, eq-eqb}
 use Rattle.hive_model.specs.declared.places.Place.{Place}
 use Rattle.hive_model.specs.declared.places.Dir.{Dir}
 use Rattle.hive_model.specs.Places.{step, dirs, is_place}
-use Rattle.hive_model.specs.Boards.{Stacks}
-use Rattle.hive_model.specs.Steps.{GroundStep, ground_at}
+use Rattle.hive_model.specs.Boards.{Stacks, height_at, is_occupied}
+use Rattle.hive_model.specs.Neighbours.{ring}
+use Rattle.hive_model.proofs.CopyLaws.{not_occupied}
+use Rattle.gates.specs.Beside.{is_beside_one}
+use Rattle.gates.specs.Slides.{AreSlides, has_dir, slides}
+use Rattle.hive_model.specs.Steps.{GroundStep, FreeStep, ground_at, is_blocked}
 use Rattle.hive_model.proofs.PlaceLemmas.{same_place, from_same_place}
 use Rattle.hive_model.proofs.RuleLaws.{any_has, has_any, dir_on, step_once, ground_from, from_ground}
 
@@ -17,3 +22,26 @@ from_toward b p d q leads h =
     let found = any_has (λ e. is_place (step p e) q && ground_at b p e) dirs (from_ground b p q h) in
     let parts = and_parts (is_place (step p found.0) q) _ found.2 in
     subst (λ e. ground_at b p e ≡ true) (step_once p found.0 d (same_place (step p found.0) q parts.0 ∙ leads)) parts.1
+
+none_there : (n : ℕ) → not (nat_lt 0 n) ≡ nat_eq n 0
+none_there n = grind arith
+
+-- from an empty place the ground steps are those that its ring tells
+slides_at : (b : Stacks) (p : Place) (d : Dir) → is_occupied b p ≡ false → slides (ring (is_occupied b) p) d ≡ ground_at b p d
+slides_at b p d free =
+    ap (λ t. t && is_beside_one b p d) (none_there (height_at b (step p d)))
+    ∙ ap (λ t. t && (nat_eq (height_at b (step p d)) 0 && is_beside_one b p d)) (sym (eq-eqb (height_at b p) 0 (not_occupied b p free)))
+
+pub slides_amid_ring : (b : Stacks) (p : Place) (m : ℕ) → is_occupied b p ≡ false → ((d : Dir) → has_dir m d ≡ slides (ring (is_occupied b) p) d) → AreSlides b p m
+slides_amid_ring b p m free same d = (
+  λ h. toward_from b p d (step p d) refl (sym (slides_at b p d free) ∙ (sym (same d) ∙ h)),
+  λ g. same d ∙ (slides_at b p d free ∙ from_toward b p d (step p d) refl g),
+)
+
+-- A step that is not blocked in a direction that is known
+
+pub free_toward : (b : Stacks) (p : Place) (d : Dir) (q : Place) → q ≡ step p d → is_blocked b p d ≡ false → FreeStep b p q
+free_toward b p d q leads h = record { dir = d; leads = sym leads; free = h }
+
+pub toward_free : (b : Stacks) (p : Place) (d : Dir) (q : Place) → q ≡ step p d → FreeStep b p q → is_blocked b p d ≡ false
+toward_free b p d q leads h = subst (λ e. is_blocked b p e ≡ false) (step_once p h.dir d (h.leads ∙ leads)) h.free

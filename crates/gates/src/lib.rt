@@ -1,6 +1,8 @@
 //! The two tests of a step from a place to a neighbour, over any board.
 #![tactic(auto)]
 
+mod slides;
+
 ghost use Rattle.std.specs.Prelude.{◌≡◌, ◌↔◌, IsTrue, max, ◌&&◌};
 ghost use Rattle.hive_model.specs.Boards.{is_occupied};
 ghost use Rattle.hive_model.specs.Places.{AreNeighbours, IsWithin, step};
@@ -15,16 +17,24 @@ ghost use Rattle.hive_model.specs.Steps.{
 };
 
 use hive_model::{Board, Dir, Place, is_occupied};
+pub use slides::{has_dir, slides_from, slides_from_empty};
 
-/// Whether both common neighbours are higher than the two places of the step.
+/// Whether both common neighbours are higher than the two places of the step. They are asked first:
+/// often one of them is empty.
 #[tactic(auto, using(hive_model::proofs::PlaceLemmas::wider))]
 fn is_blocked<B: Board>(board: &B, from: Place, dir: Dir) -> bool
     requires { IsWithin 9500 from }
     ensures { result ≡ is_blocked (B.stacks board.now) from dir }
 {
-    let higher = board.height(from).max(board.height(from.step(dir)));
     let before = board.height(from.step(dir.before()));
+    if before == 0 {
+        return false;
+    }
     let after = board.height(from.step(dir.after()));
+    if after == 0 {
+        return false;
+    }
+    let higher = board.height(from).max(board.height(from.step(dir)));
     higher < before && higher < after
 }
 
@@ -102,4 +112,13 @@ pub fn climb_ok<B: Board>(board: &B, from: Place, to: Place) -> bool
     ensures { IsTrue result ↔ FreeStep (B.stacks board.now) from to }
 {
     free_to(board, from, to)
+}
+
+/// The same, where the direction of the step is at hand.
+pub fn climb_toward<B: Board>(board: &B, from: Place, dir: Dir, to: Place) -> bool
+    requires leads { to ≡ step from dir }
+    requires within { IsWithin 9500 from }
+    ensures { IsTrue result ↔ FreeStep (B.stacks board.now) from to }
+{
+    !is_blocked(board, from, dir)
 }

@@ -3,12 +3,13 @@
 ghost use Rattle.std.specs.Prelude.{◌≡◌, ◌↔◌, ◌+◌, ◌≤◌, [], ◌++◌, map, length, IsTrue};
 ghost use Rattle.hive_model.specs.declared.places.Place.{Place};
 ghost use Rattle.hive_model.specs.declared.places.Move.TheVariants.{To};
-ghost use Rattle.hive_model.specs.Placement.{IsLeastInHand};
+ghost use Rattle.hive_model.specs.Placement.{IsLeastInHand, MayPlace};
+ghost use Rattle.hive_model.specs.PlaceLists.{AreAll};
 ghost use Rattle.hive_model.specs.Stack.{without_level};
 ghost use Rattle.hand_rules.specs.Listing.{last_level, ListsAll};
 ghost use Rattle.hand_rules.specs.Bringing.{MayBring, CanBring, IsPlacementMove, position_awake};
 
-use crate::hands::next_of;
+use crate::hands::{in_hand, next_of};
 use crate::open_places::placement_places;
 use hive_model::{Board, Colour, GameType, Kind, Move, MoveStack, Piece, Place, PlaceList};
 
@@ -34,8 +35,11 @@ pub fn may_bring<B: Board>(
 ) -> bool
     ensures { IsTrue result ↔ MayBring game_type (B.stacks board.now) colour turn piece }
 {
+    if !piece.colour().is(colour) || !in_hand(game_type, board, piece) {
+        return false;
+    }
     let is_queen = matches!(piece.kind(), Kind::Queen);
-    if !piece.colour().is(colour) || is_queen && turn == 1 {
+    if is_queen && turn == 1 {
         return false;
     }
     if !is_queen && turn >= 4 && board.spot(colour.queen()).is_none() {
@@ -54,6 +58,24 @@ fn can_bring<B: Board>(game_type: GameType, board: &B, colour: Colour, turn: u32
         }
     }
     false
+}
+
+/// Lists all places where a piece of this colour may be placed, by q and then r, each once, if the
+/// side may bring any piece into play in its turn of this number, and else none.
+pub fn bring_places<B: Board>(
+    game_type: GameType,
+    board: &B,
+    colour: Colour,
+    turn: u32,
+    out: &mut PlaceList,
+)
+    requires { out.old.items ≡ [] }
+    ensures { CanBring game_type (B.stacks board.now) colour turn
+        → AreAll (MayPlace (B.stacks board.now) colour) out.new.items }
+{
+    if can_bring(game_type, board, colour, turn) {
+        placement_places(board, colour, out);
+    }
 }
 
 /// Puts the piece's move to each of the places at the end of the last level, in their order.

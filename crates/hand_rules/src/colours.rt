@@ -22,10 +22,11 @@ pub fn has_colour<B: Board>(board: &B, colour: Colour) -> bool
     ensures answer { result ≡ has_colour (B.stacks board.now) colour }
     ensures board { IsBoard (B.stacks board.now) }
 {
+    // each board that answers where a piece stands is sound
+    let _spot = board.spot(Piece::at(0));
     for x in 0..28u8 {
         let piece = Piece::at(x);
-        let spot = board.spot(piece);
-        if piece.colour().is(colour) && spot.is_some() {
+        if piece.colour().is(colour) && board.spot(piece).is_some() {
             return true;
         }
     }

@@ -9,9 +9,13 @@ use Rattle.hive_model.specs.declared.places.Move.TheVariants.{Pass, To}
 use Rattle.hive_model.specs.Lists.{IsOn}
 use Rattle.hive_model.specs.PlaceLists.{AreAll}
 use Rattle.hive_model.specs.Boards.{Stacks, spot_of, IsBoard}
+use Rattle.hive_model.specs.Places.{IsWithin}
 use Rattle.hive_model.specs.Positions.{Position}
 use Rattle.hive_model.specs.Placement.{MayPlace}
 use Rattle.hive_model.specs.Legal.{IsOver, LegalPair, is_over, moves}
+use Rattle.hive_model.proofs.NearLaws.{near_within}
+use Rattle.hive_model.proofs.LegalLaws.{near_placement}
+use Rattle.hive_model.proofs.PlacementLaws.{from_placement}
 use Rattle.hive_model.proofs.OverLaws.{from_over}
 use Rattle.hive_model.proofs.MoveLaws.{moves_legal, legal_moves}
 use Rattle.hand_rules.specs.Bringing.{MayBring}
@@ -43,6 +47,10 @@ module _ (t : GameType) (b : Stacks) (c : Colour) (turn : ℕ) (rest : Option �
     λ moved. inr moved,
     λ h. elim h [ inl placed ↦ absurd (none (bring_from here x q placed).0) | inr moved ↦ moved ],
   )
+
+  -- a place where it may be brought is near the hive
+  pub brought_within : IsBoard b → MayBring t b c turn x → MayPlace b c q → IsWithin 9500 q
+  brought_within is may place = near_within b is q (near_placement here x q (from_placement here x q (from_bring here x q may place)))
 
 -- The list of legal moves, while the game is not over
 

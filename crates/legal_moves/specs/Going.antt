@@ -5,7 +5,7 @@ use Rattle.hive_model.specs.declared.pieces.GameType.{GameType}
 use Rattle.hive_model.specs.declared.places.Place.{Place}
 use Rattle.hive_model.specs.declared.places.Spot.{Spot}
 use Rattle.hive_model.specs.Lists.{IsOn, Rises}
-use Rattle.hive_model.specs.Pieces.{kind_of, queen_of}
+use Rattle.hive_model.specs.Pieces.{kind_of, piece_of, queen_of}
 use Rattle.hive_model.specs.Places.{place_cmp}
 use Rattle.hive_model.specs.Boards.{Stacks, spot_of, is_in_play, lift}
 use Rattle.hive_model.specs.Near.{near}
@@ -13,7 +13,10 @@ use Rattle.hive_model.specs.Reach.{MovesAs}
 use Rattle.hive_model.specs.Positions.{Position}
 use Rattle.hive_model.specs.Throws.{IsThrower, ThrowOver, Throw}
 use Rattle.hive_model.specs.Legal.{Walk}
+use Rattle.hive_model.specs.declared.pieces.Kind.TheVariants.{Mosquito, Pillbug}
+use Rattle.pillbug_throws.specs.Throwing.{ThrowsFrom}
 use Rattle.legal_moves.specs.declared.turns.Turn.{Turn}
+use Rattle.legal_moves.specs.declared.turns.Throwers.{Throwers}
 
 -- a game of this type in which this side is to move on this board, in its turn of this number, and
 -- this piece rests, if any
@@ -32,6 +35,11 @@ Goes b x q = (from : Spot) × (spot_of b x ≡ Some from) × MovesAs (kind_of x)
 abbrev pub ThrownBy : Stacks → Option ℕ → ℕ → ℕ → Place → Type 0
 ThrownBy b rest y x q =
     (t : Spot) × IsThrower b rest y t × ((a : Spot) × ThrowOver b rest t.place x a q)
+
+-- these are the spots from which the pillbug and the mosquito of the side to move may throw
+pub record AreThrowers (p : Position) (t : Throwers) : Type 0 where
+  pub pillbug : ThrowsFrom p.board p.rest (piece_of p.side Pillbug 0) t.pillbug
+  pub mosquito : ThrowsFrom p.board p.rest (piece_of p.side Mosquito 0) t.mosquito
 
 -- a piece of the board is moved or thrown, which takes the side's queen in play
 abbrev pub IsMoved : Position → ℕ → Place → Type 0

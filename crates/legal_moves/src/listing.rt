@@ -7,25 +7,29 @@ ghost use Rattle.hive_model.specs.Placement.{MayPlace};
 ghost use Rattle.hive_model.specs.Legal.{is_over, moves, LegalPair};
 ghost use Rattle.hive_model.specs.Stack.{with_level};
 ghost use Rattle.hand_rules.specs.Listing.{last_level, IsPairBelow, ListsAll, GainsPlaces};
-ghost use Rattle.legal_moves.specs.Going.{position_of};
+ghost use Rattle.hand_rules.specs.Bringing.{CanBring};
+ghost use Rattle.legal_moves.specs.Going.{AreThrowers, position_of};
 
-use crate::throws::moved_places;
-use crate::turns::Turn;
-use hand_rules::{may_bring, placement_places, push_each};
+use crate::throws::{find_throwers, moved_places};
+use crate::turns::{Throwers, Turn};
+use hand_rules::{bring_places, may_bring, push_each};
 use hive_model::{Board, Cuts, Move, MoveStack, Piece, PlaceList};
 
 /// Puts the legal moves of the piece at the end of the last level. `open_places` are the places
-/// where the side may place, and `places` is a list to write on.
+/// where the side may place, if it may bring any piece, and `places` is a list to write on.
 fn push_piece<B: Cuts>(
     board: &B,
     turn: &Turn,
+    throwers: &Throwers,
     open_places: &PlaceList,
     piece: Piece,
     places: &mut PlaceList,
     out: &mut MoveStack,
 )
     requires board { IsBoard (B.stacks board.now) }
-    requires places { AreAll (MayPlace (B.stacks board.now) turn.now.side) open_places.now.items }
+    requires throwers { AreThrowers (position_of (B.stacks board.now) turn.now) throwers.now }
+    requires places { CanBring turn.now.game_type (B.stacks board.now) turn.now.side turn.now.number
+        → AreAll (MayPlace (B.stacks board.now) turn.now.side) open_places.now.items }
     requires level { 1 ≤ length out.old.lists }
     requires room { length (last_level out.old) + 196 ≤ 5488 }
     ensures { GainsPlaces (LegalPair (position_of (B.stacks board.now) turn.now) piece) piece
@@ -36,7 +40,7 @@ fn push_piece<B: Cuts>(
         return;
     }
     places.clear();
-    moved_places(board, turn, piece, places);
+    moved_places(board, turn, throwers, piece, places);
     push_each(piece, places.as_slice(), out);
 }
 
@@ -50,10 +54,25 @@ fn push_pairs<B: Cuts>(board: &B, turn: &Turn, out: &mut MoveStack)
         out.old out.new }
 {
     let mut open_places = PlaceList::new();
-    placement_places(board, turn.side, &mut open_places);
+    bring_places(
+        turn.game_type,
+        board,
+        turn.side,
+        turn.number,
+        &mut open_places,
+    );
+    let throwers = find_throwers(board, turn);
     let mut places = PlaceList::new();
     for x in 0..28u8 {
-        push_piece(board, turn, &open_places, Piece::at(x), &mut places, out);
+        push_piece(
+            board,
+            turn,
+            &throwers,
+            &open_places,
+            Piece::at(x),
+            &mut places,
+            out,
+        );
     }
 }
 

@@ -5,14 +5,15 @@ ghost use Rattle.hive_model.specs.declared.places.Place.{Place};
 ghost use Rattle.hive_model.specs.Lists.{IsOn};
 ghost use Rattle.hive_model.specs.PlaceLists.{AreAll};
 ghost use Rattle.hive_model.specs.Boards.{IsBoard};
+ghost use Rattle.hive_model.specs.Places.{IsWithin};
 ghost use Rattle.hive_model.specs.Legal.{LegalPair, is_over, moves};
 ghost use Rattle.legal_moves.specs.Going.{position_of};
 ghost use Rattle.legal_moves.specs.Listing.{HasPair};
 
-use crate::throws::moved_places;
+use crate::throws::{find_throwers, is_moved, moved_places};
 use crate::turns::Turn;
-use hand_rules::{may_bring, placement_places};
-use hive_model::{Board, Cuts, Move, Piece, Place, PlaceList, has_place};
+use hand_rules::{may_bring, may_place, placement_places};
+use hive_model::{Board, Cuts, Move, Piece, Place, PlaceList};
 
 /// Lists where the piece may go in this turn, from the hand, by its own way or thrown.
 fn piece_places<B: Cuts>(board: &B, turn: &Turn, piece: Piece, out: &mut PlaceList)
@@ -23,18 +24,43 @@ fn piece_places<B: Cuts>(board: &B, turn: &Turn, piece: Piece, out: &mut PlaceLi
     if may_bring(turn.game_type, board, turn.side, turn.number, piece) {
         placement_places(board, turn.side, out);
     } else {
-        moved_places(board, turn, piece, out);
+        let throwers = find_throwers(board, turn);
+        moved_places(board, turn, &throwers, piece, out);
     }
 }
 
-/// Whether the piece may go to the place.
+/// Whether the place is no further out than places beside the hive can be.
+fn is_within(place: Place) -> bool
+    ensures { IsTrue result ↔ IsWithin 9500 place }
+{
+    if place.q < -9500 {
+        return false;
+    }
+    if place.q > 9500 {
+        return false;
+    }
+    if place.r < -9500 {
+        return false;
+    }
+    if place.r > 9500 {
+        return false;
+    }
+    true
+}
+
+/// Whether the piece may go to the place. That piece and that place alone are looked at: where the
+/// piece is in hand no list is made.
 fn is_pair<B: Cuts>(board: &B, turn: &Turn, piece: Piece, place: Place) -> bool
     requires { IsBoard (B.stacks board.now) }
     ensures { IsTrue result ↔ LegalPair (position_of (B.stacks board.now) turn.now) piece place }
 {
-    let mut places = PlaceList::new();
-    piece_places(board, turn, piece, &mut places);
-    has_place(places.as_slice(), place)
+    if !may_bring(turn.game_type, board, turn.side, turn.number, piece) {
+        return is_moved(board, turn, piece, place);
+    }
+    if !is_within(place) {
+        return false;
+    }
+    may_place(board, turn.side, place)
 }
 
 /// Whether the piece may go anywhere.

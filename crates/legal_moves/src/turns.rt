@@ -5,7 +5,7 @@ ghost use Rattle.hive_model.specs.declared.pieces.Kind.TheVariants.{Mosquito, Pi
 ghost use Rattle.hive_model.specs.Pieces.{piece_of};
 ghost use Rattle.hive_model.specs.Boards.{is_in_play};
 
-use hive_model::{Board, Colour, GameType, Piece};
+use hive_model::{Board, Colour, GameType, Piece, Spot};
 
 /// The side to move, in a game of this type, the number of its turn from 1 on, and the piece that
 /// rests: the one that was placed, moved or thrown on the last ply.
@@ -15,6 +15,13 @@ pub struct Turn {
     pub side: Colour,
     pub number: u32,
     pub rest: Option<Piece>,
+}
+
+/// Where the pillbug and the mosquito of the side to move stand, each where it may throw.
+#[derive(Drop)]
+pub struct Throwers {
+    pub pillbug: Option<Spot>,
+    pub mosquito: Option<Spot>,
 }
 
 /// The same once more.

@@ -9,7 +9,7 @@ ghost use Rattle.legal_moves.specs.Going.{Goes, position_of};
 
 use crate::turns::Turn;
 use bug_moves::reach;
-use hive_model::{Board, Cuts, Kind, Lifted, Piece, PlaceList};
+use hive_model::{Board, Cuts, Kind, Lifted, Piece, Place, PlaceList, has_place};
 use mosquito_moves::mosquito_reach;
 
 /// Whether the piece may leave its place: it is on top, it does not rest, and its place is no cut
@@ -55,4 +55,28 @@ pub fn walks<B: Cuts>(board: &B, turn: &Turn, piece: Piece, out: &mut PlaceList)
     if piece.colour().is(turn.side) && may_walk(board, piece, &turn.rest) {
         go(board, piece, out);
     }
+}
+
+/// Whether the piece, which is on top, moves to the place by its kind's rule.
+#[inline(never)]
+fn goes_to<B: Board>(board: &B, piece: Piece, place: Place) -> bool
+    requires board { IsBoard (B.stacks board.now) }
+    requires top { IsTrue (is_on_top (B.stacks board.now) piece) }
+    ensures { IsTrue result ↔ Goes (B.stacks board.now) piece place }
+{
+    let mut places = PlaceList::new();
+    go(board, piece, &mut places);
+    has_place(places.as_slice(), place)
+}
+
+/// Whether the piece moves to the place by its kind's rule, as one of the side to move that may
+/// leave its place.
+pub fn is_walk<B: Cuts>(board: &B, turn: &Turn, piece: Piece, place: Place) -> bool
+    requires { IsBoard (B.stacks board.now) }
+    ensures { IsTrue result ↔ Walk (position_of (B.stacks board.now) turn.now) piece place }
+{
+    if piece.colour().is(turn.side) && may_walk(board, piece, &turn.rest) {
+        return goes_to(board, piece, place);
+    }
+    false
 }

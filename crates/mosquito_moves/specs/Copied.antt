@@ -1,5 +1,5 @@
 -- What a mosquito copies, kind by kind.
-use Rattle.std.specs.Prelude.{◌≡◌, ℕ, ◌<◌, Bool, false, List, [], ◌∷◌, Option, Some, None, IsTrue, slice_get, slice_index_or}
+use Rattle.std.specs.Prelude.{◌≡◌, ℕ, ◌<◌, Bool, false, List, [], ◌∷◌, Option, Some, None, IsTrue, slice_get, slice_index_or, map}
 use Rattle.std.specs.List.{list_any}
 use Rattle.hive_model.specs.declared.pieces.Kind.{Kind}
 use Rattle.hive_model.specs.declared.pieces.Kind.TheVariants.{Queen, Spider, Beetle, Grasshopper, Ant, Ladybug, Pillbug}
@@ -17,6 +17,10 @@ shows k (Some x) = is_kind (kind_of x) k
 -- a piece of this kind is on top of a neighbour
 abbrev pub touches_kind : Stacks → Place → Kind → Bool
 touches_kind b p k = list_any (λ d. shows k (top_at b (step p d))) dirs
+
+-- the top pieces of the six neighbours
+abbrev pub tops_round : Stacks → Place → List (Option ℕ)
+tops_round b p = map (λ d. top_at b (step p d)) dirs
 
 -- as a neighbour of this kind moves
 abbrev pub CopiesKind : Stacks → Place → Kind → Place → Type 0

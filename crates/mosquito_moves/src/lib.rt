@@ -4,13 +4,14 @@
 #![tactic(auto)]
 
 ghost use Rattle.std.specs.Prelude.{◌≡◌, ◌≢◌, [], Some};
+ghost use Rattle.std.specs.List.{list_any};
 ghost use Rattle.hive_model.specs.declared.pieces.Kind.{Kind};
 ghost use Rattle.hive_model.specs.declared.pieces.Kind.TheVariants.{Mosquito};
 ghost use Rattle.hive_model.specs.PlaceLists.{AreAll};
 ghost use Rattle.hive_model.specs.Places.{IsWithin};
 ghost use Rattle.hive_model.specs.Reach.{Reach, Copies, CopiesOne};
 ghost use Rattle.bug_moves.specs.Adding.{IsAround, Gains};
-ghost use Rattle.mosquito_moves.specs.Copied.{shows, touches_kind, CopiesKind};
+ghost use Rattle.mosquito_moves.specs.Copied.{shows, tops_round, CopiesKind};
 
 use bug_moves::reach;
 use hive_model::{Board, Dir, Kind, Piece, Place, PlaceList, add_place, place_at};
@@ -35,17 +36,27 @@ fn shows(top: Option<Piece>, kind: Kind) -> bool
     }
 }
 
-/// Whether a neighbour of the place has a piece of this kind on top.
+/// The top pieces of the six neighbours of a place, in the order of the directions.
 #[tactic(auto, using(hive_model::proofs::PlaceLemmas::wider))]
-fn touches_kind<B: Board>(board: &B, from: Place, kind: Kind) -> bool
+fn tops_round<B: Board>(board: &B, from: Place) -> [Option<Piece>; 6]
     requires { IsWithin 9500 from }
-    ensures { result ≡ touches_kind (B.stacks board.now) from kind }
+    ensures { result ≡ tops_round (B.stacks board.now) from }
 {
-    Dir::ALL.iter().any(
-        |d| -> bool
-            requires { IsWithin 9500 from }
-        { shows(board.top(from.step(*d)), kind) },
-    )
+    [
+        board.top(from.step(Dir::E)),
+        board.top(from.step(Dir::NE)),
+        board.top(from.step(Dir::NW)),
+        board.top(from.step(Dir::W)),
+        board.top(from.step(Dir::SW)),
+        board.top(from.step(Dir::SE)),
+    ]
+}
+
+/// Whether one of the top pieces is of this kind.
+fn any_shows(tops: &[Option<Piece>], kind: Kind) -> bool
+    ensures { result ≡ list_any (shows kind) tops.now }
+{
+    tops.iter().any(|top| shows(*top, kind))
 }
 
 /// Adds where a bug of this kind goes.
@@ -65,15 +76,22 @@ fn add_reach<B: Board>(board: &B, from: Place, kind: Kind, out: &mut PlaceList)
     }
 }
 
-/// Adds where a bug of this kind goes, if one is a neighbour.
-fn copy_kind<B: Board>(board: &B, from: Place, kind: Kind, out: &mut PlaceList)
+/// Adds where a bug of this kind goes, if one is a neighbour. The neighbours' top pieces are given.
+fn copy_kind<B: Board>(
+    board: &B,
+    from: Place,
+    tops: &[Option<Piece>],
+    kind: Kind,
+    out: &mut PlaceList,
+)
+    requires tops { tops.now ≡ tops_round (B.stacks board.now) from }
     requires kind { kind ≢ Mosquito }
     requires within { IsWithin 9500 from }
     requires list { IsAround (B.stacks board.now) out.old.items }
     ensures { Gains (B.stacks board.now) (CopiesKind (B.stacks board.now) from kind) out.old.items
         out.new.items }
 {
-    if touches_kind(board, from, kind) {
+    if any_shows(tops, kind) {
         add_reach(board, from, kind, out);
     }
 }
@@ -85,8 +103,9 @@ fn copy_neighbours<B: Board>(board: &B, from: Place, out: &mut PlaceList)
     ensures { Gains (B.stacks board.now) (CopiesOne (B.stacks board.now) from) out.old.items
         out.new.items }
 {
+    let tops = tops_round(board, from);
     for kind in COPIED {
-        copy_kind(board, from, kind, out);
+        copy_kind(board, from, &tops, kind, out);
     }
 }
 

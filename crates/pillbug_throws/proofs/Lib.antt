@@ -1,1 +1,2 @@
 pub mod ThrowParts
+pub mod Closeness

@@ -19,7 +19,13 @@ ghost use Rattle.hive_model.specs.PlaceLists.{AreAll};
 ghost use Rattle.hive_model.specs.Places.{IsWithin, is_place, step, AreNeighbours};
 ghost use Rattle.hive_model.specs.Positions.{is_piece};
 ghost use Rattle.hive_model.specs.Throws.{IsThrower};
-ghost use Rattle.pillbug_throws.specs.Throwing.{IsLoose, ComesDown, ThrowsTo};
+ghost use Rattle.pillbug_throws.specs.Throwing.{
+  AreClose,
+  IsLoose,
+  StandsLoose,
+  ComesDown,
+  ThrowsTo,
+};
 
 use gates::climb_ok;
 use hive_model::{Board, Cuts, Dir, Lifted, Piece, Place, PlaceList, add_place};
@@ -63,6 +69,42 @@ fn is_loose<B: Cuts>(board: &B, over: Place, piece: Piece, from: Place, rest: Op
         return false;
     }
     !board.is_cut(from)
+}
+
+/// Whether the coordinates of two places differ by at most 1 each, as those of neighbours do.
+fn is_close(place: Place, other: Place) -> bool
+    requires place { IsWithin 9500 place }
+    requires other { IsWithin 9500 other }
+    ensures { AreClose place other → IsTrue result }
+{
+    if place.q > other.q + 1 {
+        return false;
+    }
+    if other.q > place.q + 1 {
+        return false;
+    }
+    if place.r > other.r + 1 {
+        return false;
+    }
+    if other.r > place.r + 1 {
+        return false;
+    }
+    true
+}
+
+/// Whether the piece, of either colour, can be lifted over a thrower on this place: it is on the
+/// board, alone on a neighbour of the place that is no cut place, and does not rest.
+pub fn may_be_thrown<B: Cuts>(board: &B, over: Place, piece: Piece, rest: Option<Piece>) -> bool
+    requires { IsWithin 9500 over }
+    ensures { IsTrue result ↔ StandsLoose (B.stacks board.now) rest over piece }
+{
+    let Some(from) = board.spot(piece) else {
+        return false;
+    };
+    if !is_close(over, from.place) {
+        return false;
+    }
+    is_loose(board, over, piece, from.place, rest)
 }
 
 /// Whether the place is empty, and not the one that the piece was lifted from.

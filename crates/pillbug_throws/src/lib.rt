@@ -5,8 +5,8 @@
 mod landing;
 mod throwers;
 
-pub use landing::throws;
-pub use throwers::may_throw;
+pub use landing::{may_be_thrown, throws};
+pub use throwers::{may_throw, throwing_spot};
 
 #[cfg(test)]
 mod tests;

@@ -7,8 +7,9 @@ ghost use Rattle.hive_model.specs.Boards.{height_at, top_at};
 ghost use Rattle.hive_model.specs.Places.{IsWithin, step, dirs};
 ghost use Rattle.hive_model.specs.Positions.{is_piece};
 ghost use Rattle.hive_model.specs.Throws.{IsThrower, is_pillbug, can_throw};
+ghost use Rattle.pillbug_throws.specs.Throwing.{ThrowsFrom};
 
-use hive_model::{Board, Dir, Kind, Piece, Place};
+use hive_model::{Board, Dir, Kind, Piece, Place, Spot};
 
 /// Whether a top piece is a pillbug.
 fn is_pillbug(top: Option<Piece>) -> bool
@@ -62,5 +63,16 @@ pub fn may_throw<B: Board>(board: &B, piece: Piece, rest: Option<Piece>) -> bool
     match board.spot(piece) {
         Some(spot) => throws_from(board, piece, spot.place, rest),
         None => false,
+    }
+}
+
+/// Where the piece may throw from: where it stands, if it may throw.
+pub fn throwing_spot<B: Board>(board: &B, piece: Piece, rest: Option<Piece>) -> Option<Spot>
+    ensures { ThrowsFrom (B.stacks board.now) rest piece result }
+{
+    if may_throw(board, piece, rest) {
+        board.spot(piece)
+    } else {
+        None
     }
 }

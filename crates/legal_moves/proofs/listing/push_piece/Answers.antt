@@ -18,7 +18,7 @@ returns-then-may_bring g c =
       places = c.as_slice.result.now;
       all = subst (AreAll (LegalPair (position_of b t) c.args.piece)) (sym same)
           (all_same (MayPlace b t.side) (LegalPair (position_of b t) c.args.piece) c.args.open_places.now.items
-          (λ q. brought_pair t.game_type b t.side t.number t.rest c.args.piece q may) c.requires.places);
+          (λ q. brought_pair t.game_type b t.side t.number t.rest c.args.piece q may) (c.requires.places (c.args.piece, may)));
       few = c.as_slice.ensures.fits;
       added = c.push_each.ensures.added;
       levels = c.push_each.ensures.levels;
