@@ -50,13 +50,6 @@ struct Begun {
     worth: i32,
 }
 
-/// The first of the legal moves that is worth most, its place among them, and what it is worth.
-#[derive(Drop)]
-struct Top {
-    first: u32,
-    best: Best,
-}
-
 /// The first of the legal moves that is worth most with `depth` plies searched in all, and what it
 /// is worth, or none where the deadline came first. The move that the table names, or that looks
 /// best, is tried before the others. The clock was last read before the deadline. What is found is
@@ -87,17 +80,17 @@ pub(crate) fn best_reply<G: Game, C: Clock>(
     let hint = root_choice(&key, game, table, stack, level);
     let found = try_all(game, level, depth, hint, stack, table, ticker, clock);
     stack.drop_level();
-    let top = found?;
+    let best = found?;
     let window = Window {
         alpha: FIRST_BOUND,
         beta: HIGHEST,
     };
     let tried = Tried {
-        value: top.best.value,
-        first: top.first,
+        value: best.value,
+        first: Some(best.best.again()),
     };
     keep_found(table, &key, depth, window, tried);
-    Some(top.best)
+    Some(best)
 }
 
 /// The same over the legal moves, which stand on a level. The move at the place `hint` of the list,
@@ -111,9 +104,9 @@ fn try_all<G: Game, C: Clock>(
     table: &mut ValueTable,
     ticker: &mut Ticker,
     clock: &mut C,
-) -> Option<Top>
+) -> Option<Best>
     requires node { IsNode depth level (G.course game.old) stack.old }
-    ensures top { IfSome result (λ t. IsTop (position (G.course game.old)) depth t.best) }
+    ensures top { IfSome result (λ b. IsTop (position (G.course game.old)) depth b) }
     ensures before { AreAsBefore (G.course game.old) (G.course game.new) stack.old stack.new }
     ensures stopped { result ≡ None → HasStopped ticker.old ticker.new (C.last clock.new) }
     ensures time { KeepsTime ticker.old ticker.new (C.readings clock.old) (C.readings clock.new)
@@ -153,14 +146,14 @@ fn try_in_turn<G: Game, C: Clock>(
     table: &mut ValueTable,
     ticker: &mut Ticker,
     clock: &mut C,
-) -> Option<Top>
+) -> Option<Best>
     requires node { IsNode depth level (G.course game.old) stack.old }
     requires low { negsuc 1000088 ≤ℤ begun.worth }
     requires high { begun.worth ≤ℤ value (position (G.course game.old)) depth }
     requires known { IfSome begun.hint (λ i. (m : AnyMove)
         → slice_get (moves (position (G.course game.old))) i ≡ Some m
         → reply_value (position (G.course game.old)) (depth - 1) m ≡ begun.worth) }
-    ensures top { IfSome result (λ t. IsTop (position (G.course game.old)) depth t.best) }
+    ensures top { IfSome result (λ b. IsTop (position (G.course game.old)) depth b) }
     ensures before { AreAsBefore (G.course game.old) (G.course game.new) stack.old stack.new }
     ensures stopped { result ≡ None → HasStopped ticker.old ticker.new (C.last clock.new) }
     ensures time { KeepsTime ticker.old ticker.new (C.readings clock.old) (C.readings clock.new)
@@ -172,7 +165,6 @@ fn try_in_turn<G: Game, C: Clock>(
 {
     let count = stack.level_len(level);
     let mut best = stack.get(level, 0);
-    let mut first = 0;
     let mut greatest = begun.worth - 1;
     for i in 0..count {
         let m = stack.get(level, i);
@@ -194,15 +186,13 @@ fn try_in_turn<G: Game, C: Clock>(
         )?;
         if found > greatest {
             best = m;
-            first = i;
             greatest = found;
         }
     }
-    let best = Best {
+    Some(Best {
         best,
         value: greatest,
-    };
-    Some(Top { first, best })
+    })
 }
 
 /// What the move at the place `i` is worth: what is known of it, where it was tried first, and else

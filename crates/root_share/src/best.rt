@@ -1,6 +1,6 @@
 //! The call that runs all workers at a root.
 
-ghost use Rattle.std.specs.Prelude.{◌≡◌, ◌+◌, ◌<◌, ◌≤◌, [], ◌∷◌, map, length, Some, IfOk, false};
+ghost use Rattle.std.specs.Prelude.{◌≡◌, ◌+◌, ◌<◌, ◌≤◌, [], ◌∷◌, map, length, Some, IfOk, OnErr, false};
 ghost use Rattle.std.specs.List.{All};
 ghost use Rattle.hive_model.specs.Legal.{moves, is_over};
 ghost use Rattle.hive_model.specs.Minimax.{value, best};
@@ -35,7 +35,8 @@ fn list_root<G: Game>(workers: &mut [Worker<G>], root: &mut MoveStack)
 /// root leaves w when divided by W; it plays no more than its share. The workers run beside each
 /// other where threads can be had, and the answer is the one of a single worker under any schedule.
 /// Before each move a worker calls the gate. Games and searchers are as before, also after want of
-/// memory, which is the only other answer and comes before the first move is tried.
+/// memory, which is the only other answer and comes before the first move is tried: no game has
+/// played a move then.
 pub fn best_shared<R: Threads + Sync, G: Game + Send, T: Gate + Sync>(
     rt: &R,
     alloc: Global,
@@ -61,6 +62,8 @@ pub fn best_shared<R: Threads + Sync, G: Game + Send, T: Gate + Sync>(
     ensures played { let p = root_of (map (λ w. G.course w.game) workers.old) in
         PlaysWithin p depth (length workers.old) 0
         (map (λ w. G.played w.game) workers.old) (map (λ w. G.played w.game) workers.new) }
+    ensures unplayed { OnErr result (map (λ w. G.played w.game) workers.new
+        ≡ map (λ w. G.played w.game) workers.old) }
 {
     let mut root = MoveStack::new(alloc, 1)?;
     list_root(workers, &mut root);

@@ -1,6 +1,7 @@
 -- What look-ups find after an entry was put, or was used and went to the front.
 use Rattle.std.proofs.Common.{◌≡◌, ◌≢◌, ℕ, zero, suc, Bool, true, false, cond, List, [], ◌∷◌, length, take, Some, None, ◌⊎◌, inl, inr, refl, sym, ap, arith, ◌∙◌}
 use Rattle.std.specs.Option.{option_map, option_map_or}
+use Rattle.std.specs.List.{slice_get}
 use Rattle.std.specs.Map.{lookup, lookup_entry, remove_entry}
 use Rattle.lru.specs.LruCache.{promoted}
 use Rattle.lru.proofs.CallerLemmas.{Contains-lookup_entry}
@@ -50,10 +51,11 @@ module _ {K V : Type 0} (E : K → K → Bool) (decides : Decides E) where
 
   -- all but the last entry are found as before
   pub lookup-front : (n : ℕ) (es : List (K × V)) → length es ≡ suc n
-      → (last : K) × ((j : K) → (lookup (E j) (take n es) ≡ lookup (E j) es) ⊎ ((lookup (E j) (take n es) ≡ None) × (last ≡ j)))
+      → (last : K) × (option_map (λ f. f.0) (slice_get es n) ≡ Some last) × ((j : K) → (lookup (E j) (take n es) ≡ lookup (E j) es) ⊎ ((lookup (E j) (take n es) ≡ None) × (last ≡ j)))
   lookup-front n [] h = absurd (omega (arith, h))
   lookup-front zero (e ∷ es) h = (
     e.0,
+    refl,
     λ j. elim (apart E decides j e.0) [
       | inl same ↦ inr (refl, sym same)
       | inr other ↦ inl (sym (past j e es other.0 ∙ none j es (omega (arith, h))))
@@ -66,9 +68,10 @@ module _ {K V : Type 0} (E : K → K → Bool) (decides : Decides E) where
   lookup-front (suc n) (e ∷ es) h =
       let rest = lookup-front n es (omega (arith, h)) in (
         rest.0,
+        rest.1,
         λ j. elim (apart E decides j e.0) [
           | inl same ↦ inl (at_front j e (take n es) same ∙ sym (at_front j e es same))
-          | inr other ↦ elim (rest.1 j) [
+          | inr other ↦ elim (rest.2 j) [
             | inl found ↦ inl (past j e (take n es) other.0 ∙ found ∙ sym (past j e es other.0))
             | inr lost ↦ inr (past j e (take n es) other.0 ∙ lost.0, lost.1)
           ]

@@ -5,6 +5,6 @@ mod entry;
 mod laws;
 mod table;
 
-pub use entry::{Bound, Entry};
+pub use entry::{Bound, Entry, Known};
 pub use laws::one_position_is_enough;
 pub use table::ValueTable;
