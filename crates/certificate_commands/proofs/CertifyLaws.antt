@@ -1,33 +1,21 @@
 -- What a game that was read keeps, and what is written of it.
-use Rattle.std.proofs.Common.{◌≡◌, ◌≤◌, ℕ, List, length, ap, sym, ◌∙◌, subst, Some}
-use Rattle.std.specs.Prelude.{Ok}
+use Rattle.std.proofs.Common.{◌≡◌, ◌≤◌, ℕ, ap, sym, ◌∙◌, Some}
 use Rattle.hive_model.specs.declared.places.Move.{Move}
 use Rattle.hive_model.specs.Courses.{Course, position}
-use Rattle.hive_model.specs.Legal.{is_over}
-use Rattle.hive_model.specs.Lines.{Line}
 use Rattle.hive_model.specs.Minimax.{best, value}
 use Rattle.game_text.specs.declared.parsed.Parsed.{Parsed}
 use Rattle.search_laws.proofs.BestLaws.{best-exists}
 use Rattle.strategy_make.specs.Making.{certificate, certificate_of}
-use Rattle.command_runs.specs.Asking.{IsReplayOf}
+use Rattle.command_runs.specs.Asking.{IsReplayOf, IsUnderWay}
 use Rattle.command_runs.specs.Input.{Sides, WhereTold}
-use Rattle.command_runs.specs.OneGame.{IsAsked, asked}
+use Rattle.command_runs.specs.OneGame.{IsAsked}
 use Rattle.command_runs.specs.Answered.{WritesAnswer}
 use Rattle.command_runs.specs.declared.status.Status.{Status}
 use Rattle.command_runs.proofs.GameRunLemmas.{end_is, game_run}
-use Rattle.text_verdicts.proofs.AskedLaws.{asked-open}
-use Rattle.certificate_commands.specs.Certifying.{CertifyRun, HasCertificate, certificates_of}
-
--- a game under way that was read has a certificate
-pub has-one : (c : Course) (game : Parsed) (ls : List Line) → asked ls ≡ Ok game → IsReplayOf c game → HasCertificate c
-has-one c game ls is end =
-    let here = asked-open ls game is in record {
-      open_ = ap is_over (end_is c game end) ∙ here.goes_on;
-      few = subst (λ ms. length ms ≤ 5000) (sym end.made) here.few;
-    }
+use Rattle.certificate_commands.specs.Certifying.{CertifyRun, certificates_of}
 
 -- the input was one game, and its certificate was written
-pub certified : (depth : ℕ) (status : Status) (before after : Sides) (c : Course) → 1 ≤ depth → HasCertificate c → WhereTold before.rest (λ input. (game : Parsed) × IsAsked input after.rest game × IsReplayOf c game)
+pub certified : (depth : ℕ) (status : Status) (before after : Sides) (c : Course) → 1 ≤ depth → IsUnderWay c → WhereTold before.rest (λ input. (game : Parsed) × IsAsked input after.rest game × IsReplayOf c game)
     → WritesAnswer (certificate_of c depth (best (position c) depth)) status before.written after.written → CertifyRun depth status before after
 certified depth status before after c some has given told =
     let found = best-exists (position c) depth (record { deep = some; open_ = has.open_ }) in

@@ -1,5 +1,5 @@
 -- What a head keeps, and that a later version reads the heads of an earlier one.
-use Rattle.std.proofs.Common.{◌≡◌, ℕ, ◌≤◌, List, [], ◌∷◌, drop, length, refl, sym, ap, ◌∙◌, subst, arith, Option, Some, None, inl, inr}
+use Rattle.std.proofs.Common.{◌≡◌, ◌⊎◌, ℕ, zero, suc, ◌≤◌, List, [], ◌∷◌, drop, length, refl, sym, ap, ◌∙◌, subst, arith, Option, Some, None, inl, inr}
 use Rattle.std.specs.Prelude.{codes, Result, Ok, Err}
 use Rattle.hive_model.specs.declared.pieces.GameType.{GameType}
 use Rattle.hive_model.specs.declared.places.Move.{Move}
@@ -148,3 +148,23 @@ head-first lines head e first = head-begins 1 lines ∙ go lines (after_version 
         by : (o : Option ℕ) → version_at 2 line ≡ o → and_then (or_bad 1 o) next ≡ Ok head → and_then (or_bad 1 (version_at 1 line)) next ≡ Ok head
         by None is k = cc
         by (Some v) is k = ap (λ (o : Option ℕ). and_then (or_bad 1 o) next) (version-first line v is (one v k)) ∙ k
+
+-- ---- the version of a head is the first or the second
+
+one-or-two : (v : ℕ) → 1 ≤ v → v ≤ 2 → (v ≡ 1) ⊎ (v ≡ 2)
+one-or-two zero low high = absurd (omega (arith, low))
+one-or-two (suc zero) low high = inl refl
+one-or-two (suc (suc zero)) low high = inr refl
+one-or-two (suc (suc (suc v))) low high = absurd (omega (arith, high))
+
+either-word : (line : List ℕ) (v : ℕ) → version_at 2 line ≡ Some v → (v ≡ 1) ⊎ (v ≡ 2)
+either-word line v e = go (behind_word (codes "hive-certificate ") line) e
+  where
+    go : (o : Option (List ℕ)) → then_at o (λ t. number_at t 1 2) ≡ Some v → (v ≡ 1) ⊎ (v ≡ 2)
+    go None h = cc
+    go (Some t) h = let found = number_found t 1 2 v h in one-or-two v found.low found.high
+
+pub either-version : (lines : List Line) (head : Head) → head_of 2 lines ≡ Ok head → (head.version ≡ 1) ⊎ (head.version ≡ 2)
+either-version lines head e =
+    let one = has-field 1 (version_at 2) lines (λ v. after_version lines v) head (sym (head-begins 2 lines) ∙ e) in
+    subst (λ n. (n ≡ 1) ⊎ (n ≡ 2)) (head-version lines one.field head one.goes_on) (either-word one.line one.field one.found)

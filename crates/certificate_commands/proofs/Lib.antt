@@ -9,3 +9,5 @@ pub mod LowTokens
 pub mod CitingTexts
 pub mod CitedReads
 pub mod LineReads
+pub mod TokenLaws
+pub mod HeldLaws

@@ -1,8 +1,6 @@
 -- What is written of a game as its certificate.
-use Rattle.std.specs.Prelude.{◌≡◌, ℕ, ◌≤◌, false, List, length, Some}
+use Rattle.std.specs.Prelude.{◌≡◌, ℕ, List, Some}
 use Rattle.hive_model.specs.declared.places.Move.{Move}
-use Rattle.hive_model.specs.Legal.{is_over}
-use Rattle.hive_model.specs.Courses.{Course, position}
 use Rattle.hive_model.specs.Minimax.{best, value}
 use Rattle.strategy_make.specs.Making.{certificate}
 use Rattle.game_text.specs.declared.parsed.Parsed.{Parsed}
@@ -10,11 +8,6 @@ use Rattle.command_runs.specs.Input.{Sides}
 use Rattle.command_runs.specs.OneGame.{last_position}
 use Rattle.command_runs.specs.GameRun.{Answers, GameRun}
 use Rattle.command_runs.specs.declared.status.Status.{Status}
-
--- the game under way is not over, and has at most 5,000 moves
-pub record HasCertificate (c : Course) : Type 0 where
-  pub open_ : is_over (position c) ≡ false
-  pub few : length c.made ≤ 5000
 
 -- the text is the certificate that this is the game's best move at a depth, and of what that is
 -- worth

@@ -1,5 +1,5 @@
 -- Laws of certificates that are written and checked.
-use Rattle.std.specs.Prelude.{◌≡◌, ℕ, ◌≤◌, false, List, length, map, drop, ℤ, Option, Some, Ok}
+use Rattle.std.specs.Prelude.{◌≡◌, ◌⊎◌, ◌↔◌, ℕ, ◌≤◌, false, List, length, map, drop, ℤ, Option, Some, Ok}
 use Rattle.hive_model.specs.declared.pieces.GameType.{GameType}
 use Rattle.hive_model.specs.declared.places.Move.{Move}
 use Rattle.hive_model.specs.Positions.{Position, opening}
@@ -9,6 +9,7 @@ use Rattle.hive_model.specs.Lines.{Line, lines}
 use Rattle.hive_model.specs.Minimax.{best, value}
 use Rattle.strategy_check.specs.Trace.{Holds}
 use Rattle.strategy_lemmas.specs.Cited.{HoldsCited}
+use Rattle.strategy_lemmas.specs.declared.tokens.Token.{Token}
 use Rattle.citing_text.specs.TokenText.{token_in}
 use Rattle.certificate_text.specs.declared.head.Head.{Head}
 use Rattle.certificate_text.specs.Text.{head_of, index_in}
@@ -71,9 +72,24 @@ HoldsOf = HoldsAs 1 index_in Holds
 abbrev pub HeldIsAccepted : Type 0
 HeldIsAccepted = AreAccepted HoldsOf
 
--- so are those of a head of the second version, and tokens
+-- the lines are a head of the second version with its claim, and tokens that hold of it
+abbrev pub HoldsCitedOf : List Line → Head → Move → List Token → Type 0
+HoldsCitedOf = HoldsAs 2 token_in HoldsCited
+
+-- such lines are accepted too
 abbrev pub HeldCitedIsAccepted : Type 0
-HeldCitedIsAccepted = AreAccepted (HoldsAs 2 token_in HoldsCited)
+HeldCitedIsAccepted = AreAccepted HoldsCitedOf
+
+-- the lines are a certificate that holds, of the first version or of the second
+abbrev pub IsHeld : List Line → Type 0
+IsHeld ls =
+    (head : Head) × (m : Move)
+    × (((indices : List ℕ) × HoldsOf ls head m indices)
+    ⊎ ((tokens : List Token) × HoldsCitedOf ls head m tokens))
+
+-- exactly such lines are accepted
+abbrev pub CertificatesAlone : Type 0
+CertificatesAlone = (ls : List Line) → (verdict ls ≡ Accepted) ↔ IsHeld ls
 
 -- a game of at most 5,000 moves that is not over, and its best move at a depth from 1 to 64
 pub record MayCertify (t : GameType) (ms : List Move) (depth : ℕ) (m : Move) : Type 0 where

@@ -1,16 +1,16 @@
 //! The best move of a game, with a certificate.
 
-ghost use Rattle.std.specs.Prelude.{◌≡◌, ◌≤◌, true};
-ghost use Rattle.std.specs.Bool.{OnTrue};
+ghost use Rattle.std.specs.Prelude.{◌≡◌, ◌≤◌};
 ghost use Rattle.io_edge.specs.Outside.{HasCause};
 ghost use Rattle.hive_model.specs.Courses.{position};
 ghost use Rattle.hive_model.specs.Minimax.{best};
 ghost use Rattle.command_runs.specs.Answered.{WritesAnswer};
+ghost use Rattle.command_runs.specs.Asking.{IsUnderWay};
 ghost use Rattle.command_runs.specs.Runs.{RunsAs, side_of};
 ghost use Rattle.strategy_make.specs.Making.{certificate_of};
-ghost use Rattle.certificate_commands.specs.Certifying.{CertifyRun, HasCertificate};
+ghost use Rattle.certificate_commands.specs.Certifying.{CertifyRun};
 
-use command_runs::{Status, is_over, read_one_game, tell_none};
+use command_runs::{Status, read_one_game, tell_none};
 use deepening::Searcher;
 use hive_model::Game;
 use io_edge::{Sink, Source};
@@ -20,14 +20,6 @@ use strategy_make::{MakeFault, make};
 /// How many positions the table of a search keeps.
 const TABLE_ENTRIES: u32 = 65_536;
 
-/// Whether a game has a certificate: it is not over, and has at most 5,000 moves.
-fn has_certificate<G: Game>(game: &G) -> bool
-    ensures has { OnTrue result (HasCertificate (G.course game.now)) }
-    ensures every { HasCertificate (G.course game.now) → result ≡ true }
-{
-    !is_over(game) && game.plies() <= 5000
-}
-
 /// Writes the certificate of a game.
 fn tell_certificate<K: Sink, G: Game + Drop>(
     alloc: Global,
@@ -35,7 +27,7 @@ fn tell_certificate<K: Sink, G: Game + Drop>(
     depth: u32,
     output: &mut K,
 ) -> Status
-    requires has { HasCertificate (G.course game) }
+    requires under_way { IsUnderWay (G.course game) }
     requires some { 1 ≤ depth }
     requires deep { depth ≤ 64 }
     requires spare { depth ≤ (G.course game).spare }
@@ -77,9 +69,5 @@ pub fn certify<S: Source, K: Sink, G: Game + Drop>(
         Ok(game) => game,
         Err(none) => return tell_none(none, output),
     };
-    // each game that was read has one, which no clause says of a source that hides its bytes
-    if !has_certificate(&game) {
-        return Status::BadInput;
-    }
     tell_certificate(alloc, game, depth, output)
 }

@@ -2,6 +2,7 @@
 
 ghost use Rattle.certificate_commands.specs.Laws.{
   AcceptedIsTrue,
+  CertificatesAlone,
   CertificatesAreAccepted,
   CertifiedIsAccepted,
   CertifiesAreDone,
@@ -31,6 +32,13 @@ pub fn held_claims_are_accepted()
 /// A text of the second version is accepted whose tokens hold of its claim.
 pub fn held_tokens_are_accepted()
     ensures { HeldCitedIsAccepted }
+{}
+
+/// A text is accepted exactly where it has a head, whose game is not over and whose text of a move
+/// denotes one, and behind it just items that hold of its claim: indices where it is of the first
+/// version, and tokens where it is of the second.
+pub fn certificates_alone_are_accepted()
+    ensures { CertificatesAlone }
 {}
 
 /// The certificate of the best move of a game that is not over is accepted.

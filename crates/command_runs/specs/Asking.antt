@@ -1,7 +1,8 @@
 -- How the one game of an input is read: its line, and then the end of the input.
-use Rattle.std.specs.Prelude.{◌≡◌, ◌≢◌, ◌⊎◌, ℕ, ◌<◌, ◌≤◌, List, codes, Result, Ok, Err}
+use Rattle.std.specs.Prelude.{◌≡◌, ◌≢◌, ◌⊎◌, ℕ, ◌<◌, ◌≤◌, false, List, length, codes, Result, Ok, Err}
 use Rattle.io_edge.specs.Outside.{Told}
-use Rattle.hive_model.specs.Courses.{Course}
+use Rattle.hive_model.specs.Courses.{Course, position}
+use Rattle.hive_model.specs.Legal.{is_over}
 use Rattle.hive_model.specs.Lines.{Line}
 use Rattle.line_feed.specs.Feed.{Reading, Ends, Gives, Holds, HoldsLittle, Takes, input_limit}
 use Rattle.game_text.specs.declared.faults.GameFault.{GameFault}
@@ -18,6 +19,11 @@ use Rattle.command_runs.specs.declared.no_game.NoGame.TheVariants.{Bad, ReadFaul
 pub record IsReplayOf (course : Course) (game : Parsed) : Type 0 where
   pub kind : course.game_type ≡ game.game_type
   pub made : course.made ≡ game.moves
+
+-- a game under way goes on, and has at most 5,000 moves
+pub record IsUnderWay (course : Course) : Type 0 where
+  pub open_ : is_over (position course) ≡ false
+  pub few : length course.made ≤ 5000
 
 -- the answer is a game, and the game under way is at its end
 abbrev pub Resumes : Course → Result Parsed (List ℕ) → Type 0

@@ -16,6 +16,7 @@ ghost use Rattle.command_runs.specs.Asking.{
   GivesNone,
   GoesOn,
   IsReplayOf,
+  IsUnderWay,
   Lacks,
   Resumes,
   Says,
@@ -64,8 +65,10 @@ pub fn is_over<G: Game>(game: &G) -> bool
 /// The game that was read, under way and with room for so many more plies, if it is not over.
 fn begin_again<G: Game + Drop>(alloc: Global, game: Parsed, room: u32) -> Result<G, NoGame>
     requires legal { IsGame game.game_type game.moves }
-    requires few { length game.moves + room ≤ 5064 }
+    requires few { length game.moves ≤ 5000 }
+    requires little { room ≤ 64 }
     ensures game { IfOk result (λ g. Resumes (G.course g) (if_open game)) }
+    ensures under_way { IfOk result (λ g. IsUnderWay (G.course g)) }
     ensures room { IfOk result (λ g. room ≤ (G.course g).spare) }
     ensures none { IfErr result (λ e. Lacks e (if_open game)) }
 {
@@ -81,6 +84,7 @@ fn game_of<G: Game + Drop>(alloc: Global, text: &[u8], room: u32) -> Result<G, N
     requires short { length text.now ≤ 65536 }
     requires few { room ≤ 64 }
     ensures game { IfOk result (λ g. Resumes (G.course g) (open_game (game_of text.now))) }
+    ensures under_way { IfOk result (λ g. IsUnderWay (G.course g)) }
     ensures room { IfOk result (λ g. room ≤ (G.course g).spare) }
     ensures none { IfErr result (λ e. Lacks e (open_game (game_of text.now))) }
 {
@@ -104,6 +108,7 @@ pub fn first_game<S: Source, G: Game + Drop>(
         × MatchResult result
         (λ g. GivesGame (G.course g) bytes reader.old reader.new (S.rest input.new))
         (λ e. GivesNone e bytes reader.old reader.new (S.rest input.new)) }
+    ensures under_way { IfOk result (λ g. IsUnderWay (G.course g)) }
     ensures room { IfOk result (λ g. room ≤ (G.course g).spare) }
     ensures cause { HasCause (result ≡ Err NoGame.ReadFault) (S.read_faults input.old)
         (S.read_faults input.new) }
@@ -141,7 +146,8 @@ fn no_more_lines<S: Source>(
 }
 
 /// Reads the input, which is to be one line, a game that is not over, to its end. The game is under
-/// way at the end of its moves, with room for so many more plies. A line that shows that the input
+/// way at the end of its moves, of which there are at most 5,000, with room for so many more plies.
+/// A line that shows that the input
 /// is none is the last that is read.
 pub fn read_one_game<S: Source, G: Game + Drop>(
     alloc: Global,
@@ -152,6 +158,7 @@ pub fn read_one_game<S: Source, G: Game + Drop>(
     ensures game { IfOk result (λ g. WhereTold (S.rest input.old)
         (λ bytes. (game : AnyGame) × IsAsked bytes (S.rest input.new) game
         × IsReplayOf (G.course g) game)) }
+    ensures under_way { IfOk result (λ g. IsUnderWay (G.course g)) }
     ensures room { IfOk result (λ g. room ≤ (G.course g).spare) }
     ensures none { IfErr result (λ e. WhereTold (S.rest input.old)
         (λ bytes. IsUnanswered about_game e bytes (S.rest input.new))) }

@@ -11,7 +11,7 @@ use Rattle.match_core.specs.declared.answers.Setup.{Setup}
 use Rattle.match_core.specs.declared.answers.Verdict.{Verdict}
 use Rattle.match_core.specs.Standing.{Standing}
 use Rattle.match_core.specs.Feeds.{IsFront}
-use Rattle.match_runner.specs.Runs.{IsJudged, IsLate}
+use Rattle.match_runner.specs.Runs.{HasCourse, IsJudged, IsLate}
 use Rattle.match_command.specs.Match.{AreFronts, AreSent, IsBroke, end_of}
 use Rattle.cup_core.specs.declared.pairing.Pairing.{Pairing}
 use Rattle.cup_core.specs.declared.standing.Standing.{Standing as Place}
@@ -115,11 +115,13 @@ pub record PlayedBy
   pub gains : Gains before.sent after.sent (got games)
   pub few : RoseBy (exceptions games) before.engine_faults after.engine_faults
 
--- a game was played by this setup to a verdict, which is not that an answer was late
+-- a game was played by this setup to a verdict, which is not that an answer was late: what happened
+-- in it answers the acts that were to come
 pub record IsEnded (setup : Setup) (t : Standing) : Type 0 where
   pub same : t.setup ≡ setup
   pub judged : IsJudged t
   pub in_time : ¬ IsLate t.verdict
+  pub course : HasCourse setup t
 
 -- all games of a cup were played to these ends, over programs that were started in their order;
 -- where a side broke, a program was counted that had failed

@@ -1,17 +1,19 @@
 //! Cups of two engines over links in memory.
 
+mod meeting;
+
 ghost use Rattle.std.specs.Prelude.{◌≡◌, map, IfOk};
 ghost use Rattle.cup_core.specs.Cup.{pairings};
 ghost use Rattle.cup_games.specs.Played.{pairing};
 
-use crate::{CupGate, CupJob, FreeCupGate, run_cup, standings};
+use crate::{CupJob, FreeCupGate, run_cup, standings};
 use cup_core::{Pairing, Standing};
 use hive_model::{Colour, GameType};
-use io_edge::{MemLink, MemSink, MemSource};
+use io_edge::{Link, MemLink, MemSink, MemSource};
 use match_core::{Cause, Level, Setup, Verdict};
+use meeting::{Meeting, MeetingLink};
 use plain_game::PlainGame;
 use std::alloc::{AllocError, Global};
-use std::sync::atomic::{AtomicBool, Ordering};
 use std::test::Fail;
 
 const ONE_PLY: Setup = Setup {
@@ -30,31 +32,6 @@ const TO_WHITE: &[u8] = b"newgame Base\nbestmove depth 1\nplay wS1\n";
 
 /// What black is sent in it.
 const TO_BLACK: &[u8] = b"newgame Base\nplay wS1\n";
-
-/// How often a game that waits for another looks at its flag.
-const LOOKS: u32 = 1_000_000_000;
-
-/// Before it begins each of two games tells that it is here, and then looks whether the other is.
-#[derive(Drop)]
-struct Meeting {
-    here: [AtomicBool; 2],
-    saw: [AtomicBool; 2],
-}
-
-impl CupGate for Meeting {
-    fn before_game(&self, game: u32) {
-        if game >= 2 {
-            return;
-        }
-        self.here[game as usize].store(true, Ordering::SeqCst);
-        for _ in 0..LOOKS {
-            if self.here[1 - game as usize].load(Ordering::SeqCst) {
-                self.saw[game as usize].store(true, Ordering::SeqCst);
-                return;
-            }
-        }
-    }
-}
 
 /// A link that will say this.
 fn link_of(alloc: Global, text: &[u8]) -> Result<MemLink, AllocError> {
@@ -79,7 +56,7 @@ fn cup_of_two(alloc: Global) -> Result<Vec<CupJob<MemLink, PlainGame>>, AllocErr
 }
 
 /// The verdict of the game at this place.
-fn verdict_at(jobs: &[CupJob<MemLink, PlainGame>], place: usize) -> Option<&Verdict> {
+fn verdict_at<L: Link>(jobs: &[CupJob<L, PlainGame>], place: usize) -> Option<&Verdict> {
     jobs.get(place)?.referee()?.verdict()
 }
 
@@ -121,15 +98,59 @@ fn two_engines_play_two_games(rt: HostRuntime) -> Result<(), Fail> {
     Ok(())
 }
 
+/// The links to white and to black of a game of one ply, at this place. White's move comes once
+/// the other game has come to it too.
+fn links_that_meet<'a>(
+    alloc: Global,
+    game: usize,
+    meeting: &'a Meeting,
+) -> Result<(MeetingLink<'a>, MeetingLink<'a>), AllocError> {
+    let before = Vec::from_slice(alloc, b"id A\nok\nok\n".as_slice())?;
+    let reads = before.len();
+    let mut said = before;
+    said.extend_from_slice(b"wS1\nok\nok\n".as_slice())?;
+    let bytes_alone = Vec::from_slice(alloc, &[1])?;
+    let source = MemSource::new(said, bytes_alone, Vec::new(alloc));
+    let sink = MemSink::new(alloc, Vec::new(alloc), Vec::new(alloc));
+    let says = MeetingLink::meeting(MemLink::new(source, sink), game, reads, meeting);
+    let hears = link_of(alloc, b"id B\nok\nok\nok\n")?;
+    Ok((says, MeetingLink::alone(hears, meeting)))
+}
+
+/// The cup of two engines, of one ply in each game, over links that meet.
+fn cup_that_meets<'a>(
+    alloc: Global,
+    meeting: &'a Meeting,
+) -> Result<Vec<CupJob<MeetingLink<'a>, PlainGame>>, AllocError>
+    ensures { IfOk result (λ jobs. map pairing jobs.items ≡ pairings 2) }
+{
+    let mut jobs = Vec::new(alloc);
+    let (a, b) = links_that_meet(alloc, 0, meeting)?;
+    jobs.push(CupJob::new(Pairing { white: 1, black: 2 }, a, b, ONE_PLY))?;
+    let (b, a) = links_that_meet(alloc, 1, meeting)?;
+    jobs.push(CupJob::new(Pairing { white: 2, black: 1 }, b, a, ONE_PLY))?;
+    Ok(jobs)
+}
+
 #[test]
-fn two_games_meet(rt: HostRuntime) -> Result<(), Fail> {
-    let gate = Meeting {
-        here: [AtomicBool::new(false), AtomicBool::new(false)],
-        saw: [AtomicBool::new(false), AtomicBool::new(false)],
-    };
+fn two_games_meet_before_they_begin(rt: HostRuntime) -> Result<(), Fail> {
+    let meeting = Meeting::new();
     let mut jobs = cup_of_two(rt.alloc())?;
-    run_cup(&rt, rt.alloc(), &mut jobs, &gate)?;
-    assert!(rt; gate.saw[0].load(Ordering::SeqCst));
-    assert!(rt; gate.saw[1].load(Ordering::SeqCst));
+    run_cup(&rt, rt.alloc(), &mut jobs, &meeting)?;
+    for game in 0..2usize {
+        assert!(rt; meeting.has_met(game), "the game at place {game}");
+    }
+    Ok(())
+}
+
+#[test]
+fn two_games_meet_in_their_midst(rt: HostRuntime) -> Result<(), Fail> {
+    let meeting = Meeting::new();
+    let mut jobs = cup_that_meets(rt.alloc(), &meeting)?;
+    run_cup(&rt, rt.alloc(), &mut jobs, &FreeCupGate)?;
+    for game in 0..2usize {
+        assert!(rt; meeting.has_met(game), "the game at place {game}");
+        assert!(rt; matches!(verdict_at(&jobs, game), Some(Verdict::Limit)));
+    }
     Ok(())
 }

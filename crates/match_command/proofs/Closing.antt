@@ -9,10 +9,13 @@ use Rattle.io_edge.specs.Starts.{Engines}
 use Rattle.hive_model.specs.declared.pieces.Colour.TheVariants.{White, Black}
 use Rattle.match_core.specs.declared.answers.Setup.{Setup}
 use Rattle.match_core.specs.declared.answers.Verdict.{Verdict}
-use Rattle.match_core.specs.Standing.{Standing}
+use Rattle.hive_model.specs.Lines.{lines}
+use Rattle.match_core.specs.Standing.{Happening, Standing, start}
+use Rattle.match_core.specs.Fairness.{sent}
+use Rattle.match_core.specs.Plays.{joined}
 use Rattle.match_runner.specs.Wires.{HasFailed, IsFresh, Watch, Wire}
-use Rattle.match_runner.specs.Runs.{BrokeOnly, IsFrontSent, IsVerdict as IsVerdictBy, RanLinks, RanOver}
-use Rattle.match_command.specs.Match.{AreFronts, AreSent, Gains, IsBroke, IsPlayedBy, IsVerdict, Means, means, sent_in}
+use Rattle.match_runner.specs.Runs.{BrokeOnly, IsFrontSent, IsUpToReply as IsUpToReplyBy, IsVerdict as IsVerdictBy, RanLinks, RanOver}
+use Rattle.match_command.specs.Match.{AreFronts, AreSent, AreSentBy, Gains, IsBroke, IsPlayedBy, IsUpToReply, IsVerdict, Means, means, sent_in}
 use Rattle.match_command.specs.Texts.{match_text}
 use Rattle.match_command.specs.Wires.{ClosesTwo, CountsEither, PlayedOver}
 
@@ -61,6 +64,23 @@ all_gained setup white black before after w0 w b0 b closes e f x y =
     gains_of before after w b (sent_in setup white black White) (sent_in setup white black Black) (AreSent setup white black) closes (from_none w0 w (sent_in setup white black White) e x) (from_none b0 b (sent_in setup white black Black) f y)
     (record { white_got = refl; black_got = refl })
 
+some_gained : (setup : Setup) (hs : List Happening) (before after : ToldLists) (w0 w b0 b : Told) → ClosesTwo before after w b → w0 ≡ Some [] → b0 ≡ Some []
+    → w ≡ behind w0 (joined (sent (start setup) hs White)) → b ≡ behind b0 (joined (sent (start setup) hs Black)) → Gains before after (AreSentBy setup hs)
+some_gained setup hs before after w0 w b0 b closes e f x y =
+    let to_white = joined (sent (start setup) hs White) in
+    let to_black = joined (sent (start setup) hs Black) in
+    gains_of before after w b to_white to_black (AreSentBy setup hs) closes (from_none w0 w to_white e x) (from_none b0 b to_black f y) (record { white_got = refl; black_got = refl })
+
+up_to : (setup : Setup) (t : Standing) (white black : List ℕ) (w0 w b0 b : Told) (before after : Means) → ClosesTwo before.engines.sent after.engines.sent w b → w0 ≡ Some [] → b0 ≡ Some []
+    → IsUpToReplyBy setup (lines white) (lines black) t w0 w b0 b → IsUpToReply setup white black t before after
+up_to setup t white black w0 w b0 b before after closes e f m = record {
+  hs = m.hs;
+  front = m.front;
+  replied = m.replied;
+  moves = m.moves;
+  gains = some_gained setup m.hs before.engines.sent after.engines.sent w0 w b0 b closes e f m.to_white m.to_black;
+}
+
 -- The verdict
 
 verdict_part : (full v : Option Verdict) (w0 w b0 b : Wire) (before after : Means) → (HasFailed w0 w → Rose before.engines.engine_faults after.engines.engine_faults) → (HasFailed b0 b → Rose before.engines.engine_faults after.engines.engine_faults)
@@ -90,6 +110,9 @@ played_by_links setup t w0 w b0 b r0 r before after ran white_counted black_coun
         verdict = m.verdict;
         gains = all_gained setup white black before.sent after.sent w0.written w.written b0.written b.written closes ww bw m.to_white m.to_black;
       };
+  late = λ calm is.
+      up_to setup t white black w0.written w.written b0.written b.written (means r0.last r0.readings before) (means r.last r.readings after) closes ww bw
+      (ran.late white black wr br (λ x. calm (white_counted x)) (λ x. calm (black_counted x)) is);
 }
 
 -- the match that was run, once both links are closed
@@ -105,6 +128,8 @@ played_over setup t w0 w b0 b r0 r before after wf bf ran counts closes =
         same = ran.links.same;
         readings = ran.readings;
         late = ran.late;
+        lates = ran.links.lates;
+        course = ran.course;
         broke = broke_counted t w0 w b0 b ran.links.broke white black;
       };
       by_links = played_by_links setup t w0 w b0 b r0 r before after ran.links white black closes;

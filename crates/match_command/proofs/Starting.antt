@@ -11,7 +11,7 @@ use Rattle.match_core.specs.declared.answers.Setup.{Setup}
 use Rattle.match_core.specs.Standing.{Standing}
 use Rattle.match_runner.specs.Wires.{Wire}
 use Rattle.match_runner.specs.Runs.{IsLate}
-use Rattle.match_command.specs.Match.{AreFronts, AreSent, BothStarted, Gains, IsBroke, IsPlayedBy, MatchRun, MatchStarts, Means, NoneIsOpen, Played, Scene, end_of, means}
+use Rattle.match_command.specs.Match.{AreFronts, AreSent, AreSentBy, BothStarted, Gains, IsBroke, IsPlayedBy, MatchRun, MatchStarts, Means, NoneIsOpen, Played, Scene, end_of, means}
 use Rattle.match_command.specs.Texts.{match_text}
 use Rattle.match_command.specs.Wires.{ClosesTwo, PlayedOver, StartsTwo}
 
@@ -58,6 +58,14 @@ played_before setup white black t last readings before between after sent faults
         verdict = m.verdict;
         gains = subst (λ s. Gains s after.engines.sent (AreSent setup white black)) sent m.gains;
       };
+  late = λ calm is.
+      let m = by.late (λ rose. calm (subst (λ n. Rose n after.engines.engine_faults) faults rose)) is in record {
+        hs = m.hs;
+        front = m.front;
+        replied = m.replied;
+        moves = m.moves;
+        gains = subst (λ s. Gains s after.engines.sent (AreSentBy setup m.hs)) sent m.gains;
+      };
 }
 
 -- the match of two programs, from before they were started
@@ -71,6 +79,8 @@ played_from setup t w b last readings before between after starts_two stays sent
         same = p.out.same;
         readings = p.out.readings;
         late = p.out.late;
+        lates = p.out.lates;
+        course = p.out.course;
         broke = λ broke. counted (p.out.broke broke);
       };
       programs = λ all e.

@@ -8,14 +8,16 @@ use Rattle.hive_model.specs.Lines.{lines}
 use Rattle.command_runs.specs.declared.status.Status.{Status}
 use Rattle.command_runs.specs.declared.status.Status.TheVariants.{Done, Refused, Usage, ReadFault, WriteFault, SpawnFault, BadInput, Memory, InputFull}
 use Rattle.match_core.specs.declared.answers.Setup.{Setup}
+use Rattle.match_core.specs.declared.answers.Stage.TheVariants.{After}
 use Rattle.match_core.specs.declared.answers.Cause.TheVariants.{Broke}
 use Rattle.match_core.specs.declared.answers.Verdict.{Verdict}
 use Rattle.match_core.specs.declared.answers.Verdict.TheVariants.{Forfeit}
-use Rattle.match_core.specs.Standing.{Standing, start, match_after}
+use Rattle.match_core.specs.Standing.{Standing, Happening, start, match_after}
 use Rattle.match_core.specs.Fairness.{sent}
 use Rattle.match_core.specs.Plays.{joined, match_of}
 use Rattle.match_core.specs.Feeds.{IsFront}
-use Rattle.match_runner.specs.Runs.{IsJudged, IsLate, LateIn}
+use Rattle.match_core.specs.Lates.{LatesAreLate}
+use Rattle.match_runner.specs.Runs.{HasTimedCourse, IsJudged, IsLate, LateIn}
 use Rattle.match_command.specs.Texts.{match_text}
 
 -- What a run can change
@@ -76,6 +78,22 @@ pub record AreFronts (setup : Setup) (white black to_white to_black : List ℕ) 
   pub white_got : IsFront to_white (sent_in setup white black White)
   pub black_got : IsFront to_black (sent_in setup white black Black)
 
+-- what each program got is all that these events send it
+pub record AreSentBy (setup : Setup) (hs : List Happening) (to_white to_black : List ℕ)
+    : Type 0 where
+  pub white_got : to_white ≡ joined (sent (start setup) hs White)
+  pub black_got : to_black ≡ joined (sent (start setup) hs Black)
+
+-- moves and bytes sent are those of the match of these programs up to a reply: its last line was
+-- read, and next the clock is read
+pub record IsUpToReply
+    (setup : Setup) (white black : List ℕ) (t : Standing) (before after : Means) : Type 0 where
+  pub hs : List Happening
+  pub front : IsFront hs (match_of setup (lines white) (lines black))
+  pub replied : (match_after setup hs).stage ≡ After
+  pub moves : t.moves ≡ (match_after setup hs).moves
+  pub gains : Gains before.engines.sent after.engines.sent (AreSentBy setup hs)
+
 -- moves, verdict and bytes sent are those of the match of these programs
 pub record IsWhole
     (setup : Setup) (white black : List ℕ) (t : Standing) (before after : Means) : Type 0 where
@@ -98,8 +116,9 @@ pub record IsPart
   pub verdict : IsVerdict (end_of setup white black).verdict t.verdict before after
   pub gains : Gains before.engines.sent after.engines.sent (AreFronts setup white black)
 
--- what was played and sent where the two programs say this: always a part of their match, and the
--- whole of it where no program's failure was counted and no answer was late
+-- What was played and sent where the two programs say this: always a part of their match. Where no
+-- program's failure was counted it is the whole of it, or the match up to a reply whose answer was
+-- late.
 pub record IsPlayedBy
     (setup : Setup) (white black : List ℕ) (t : Standing) (before after : Means) : Type 0 where
   pub part : IsPart setup white black t before after
@@ -107,6 +126,10 @@ pub record IsPlayedBy
       ¬ Rose before.engines.engine_faults after.engines.engine_faults
       → ¬ IsLate t.verdict
       → IsWhole setup white black t before after
+  pub late :
+      ¬ Rose before.engines.engine_faults after.engines.engine_faults
+      → IsLate t.verdict
+      → IsUpToReply setup white black t before after
 
 -- of the programs to come the first two were started, as white and as black, and played; no others
 -- were started
@@ -119,12 +142,17 @@ pub record StartsTwoOf
   pub left : after.engines.to_come ≡ Some others
   pub played : IsPlayedBy setup white black t before after
 
--- a match was played to its verdict, and stands so, whatever its programs say
+-- A match was played to its verdict, and stands so, whatever its programs say. What happened in it
+-- answers the acts that were to come, by readings of the clock in their order. A side forfeits for
+-- a late answer only at its turn, where it was asked with a time and answered after this and the
+-- margin.
 pub record PlayedOut (setup : Setup) (t : Standing) (before after : Means) : Type 0 where
   pub judged : IsJudged t
   pub same : t.setup ≡ setup
   pub readings : after.readings ≤ before.readings + (2 * length t.moves + 2)
   pub late : LateIn t.verdict before.last after.last
+  pub lates : LatesAreLate t
+  pub course : HasTimedCourse setup t before.last after.last
   pub broke : IsBroke t.verdict → Rose before.engines.engine_faults after.engines.engine_faults
 
 -- a match was played to its verdict, and stands so; and what its programs say tells what was played

@@ -112,17 +112,17 @@ grows : (hs : List Happening) (s : Standing) → Grows s (after_all s hs)
 grows [] s = no_move s s refl
 grows (h ∷ hs) s = front_front s.moves (next s h).moves (after_all (next s h) hs).moves (subst (λ x. Grows s x) (sym (next_is s h)) (grows_at s.stage s h)) (grows hs (next s h))
 
-after_all-append : (fs gs : List Happening) (s : Standing) → after_all s (fs ++ gs) ≡ after_all (after_all s fs) gs
+pub after_all-append : (fs gs : List Happening) (s : Standing) → after_all s (fs ++ gs) ≡ after_all (after_all s fs) gs
 after_all-append [] gs s = refl
 after_all-append (h ∷ fs) gs s = after_all-append fs gs (next s h)
 
-sent-append : (fs gs : List Happening) (s : Standing) (to : Colour) → sent s (fs ++ gs) to ≡ sent s fs to ++ sent (after_all s fs) gs to
+pub sent-append : (fs gs : List Happening) (s : Standing) (to : Colour) → sent s (fs ++ gs) to ≡ sent s fs to ++ sent (after_all s fs) gs to
 sent-append [] gs s to = refl
 sent-append (h ∷ fs) gs s to = ap (λ z. sent_at s s.stage h to ++ z) (sent-append fs gs (next s h) to) ∙ sym (append_assoc (sent_at s s.stage h to) (sent (next s h) fs to) _)
 
 -- What was done is a front of what happens
 
-pub record HappensFirst (s : Standing) (hs : List Happening) (t : Standing) (all : List Happening) : Type 0 where
+pub record BeginsSo (s : Standing) (hs : List Happening) (t : Standing) (all : List Happening) : Type 0 where
   pub fs : List Happening
   pub more : List Happening
   pub asked : ℕ
@@ -132,17 +132,17 @@ pub record HappensFirst (s : Standing) (hs : List Happening) (t : Standing) (all
   pub black : sent t fs Black ≡ sent s hs Black
   pub whole : is_finished (after_all s hs).stage ≡ true → more ≡ []
 
-begins_none : (s : Standing) (a n : ℕ) (white black : List Mark) → HappensFirst s [] (with_asked s a) (happens n (with_asked s a) white black)
+begins_none : (s : Standing) (a n : ℕ) (white black : List Mark) → BeginsSo s [] (with_asked s a) (happens n (with_asked s a) white black)
 begins_none s a n white black = record { fs = []; more = happens n (with_asked s a) white black; asked = a; split = refl; match = refl; white = refl; black = refl; whole = λ e. happens_none n (with_asked s a) white black e }
 
-begins_over : (hs : List Happening) (s : Standing) (a n : ℕ) (white black : List Mark) → Answering s hs → is_finished s.stage ≡ true → HappensFirst s hs (with_asked s a) (happens n (with_asked s a) white black)
+begins_over : (hs : List Happening) (s : Standing) (a n : ℕ) (white black : List Mark) → Answering s hs → is_finished s.stage ≡ true → BeginsSo s hs (with_asked s a) (happens n (with_asked s a) white black)
 begins_over [] s a n white black t e = begins_none s a n white black
 begins_over (h ∷ hs) s a n white black (t, u) e = let f = open_at s.stage h t in absurd (cc)
 
-joins : (s t x : Standing) (h k : Happening) (hs : List Happening) (F : Standing → List Happening) → next t k ≡ x → HappensFirst (next s h) hs x (F x) → sent_at t t.stage k White ≡ sent_at s s.stage h White → sent_at t t.stage k Black ≡ sent_at s s.stage h Black
-    → HappensFirst s (h ∷ hs) t (k ∷ F (next t k))
+joins : (s t x : Standing) (h k : Happening) (hs : List Happening) (F : Standing → List Happening) → next t k ≡ x → BeginsSo (next s h) hs x (F x) → sent_at t t.stage k White ≡ sent_at s s.stage h White → sent_at t t.stage k Black ≡ sent_at s s.stage h Black
+    → BeginsSo s (h ∷ hs) t (k ∷ F (next t k))
 joins s t x h k hs F e r w b =
-    let q : HappensFirst (next s h) hs (next t k) (F (next t k)) = subst (λ y. HappensFirst (next s h) hs y (F y)) (sym e) r in
+    let q : BeginsSo (next s h) hs (next t k) (F (next t k)) = subst (λ y. BeginsSo (next s h) hs y (F y)) (sym e) r in
     record {
       fs = k ∷ q.fs;
       more = q.more;
@@ -155,7 +155,7 @@ joins s t x h k hs F e r w b =
     }
 
 begins : (hs : List Happening) (s : Standing) (a n : ℕ) (white black : List Mark) (w b : ToldLines) → Answering s hs → AreInTime s hs → Feeds s hs White (Some white) w → Feeds s hs Black (Some black) b → IsBounded s → left s ≤ n
-    → HappensFirst s hs (with_asked s a) (happens n (with_asked s a) white black)
+    → BeginsSo s hs (with_asked s a) (happens n (with_asked s a) white black)
 begins [] s a n white black w b t i e f bound less = begins_none s a n white black
 begins (h ∷ hs) s a zero white black w b (t, u) (i, j) (mw, e, f) (mb, k, g) bound less = let c = matches_near_their_end s h bound t in let d = c.1 in absurd (omega (arith, d, less))
 begins (h ∷ hs) s a (suc n) white black w b (t, u) (i, j) (mw, e, f) (mb, k, g) bound less =
@@ -167,12 +167,12 @@ begins (h ∷ hs) s a (suc n) white black w b (t, u) (i, j) (mw, e, f) (mb, k, g
     let wl : List Mark = left_of_white s.stage white in
     let bl : List Mark = left_of_black s.stage black in
     let few : left (next s h) ≤ n = let d = c.1 in omega (arith, d, less) in
-    let over : is_finished (at_stage s s.stage h).stage ≡ true → HappensFirst (next s h) hs x (happens n x wl bl) =
+    let over : is_finished (at_stage s s.stage h).stage ≡ true → BeginsSo (next s h) hs x (happens n x wl bl) =
     λ o. begins_over hs (next s h) st.asked n wl bl u (ap (λ (y : Standing). is_finished y.stage) (next_is s h) ∙ o) in
-    let rest : HappensFirst (next s h) hs x (happens n x wl bl) =
-    elim st.w_left as (λ _. HappensFirst (next s h) hs x (happens n x wl bl)) [
+    let rest : BeginsSo (next s h) hs x (happens n x wl bl) =
+    elim st.w_left as (λ _. BeginsSo (next s h) hs x (happens n x wl bl)) [
       | inr o ↦ over o
-      | inl p ↦ elim st.b_left as (λ _. HappensFirst (next s h) hs x (happens n x wl bl)) [
+      | inl p ↦ elim st.b_left as (λ _. BeginsSo (next s h) hs x (happens n x wl bl)) [
         | inr o ↦ over o
         | inl q ↦ begins hs (next s h) st.asked n wl bl w b u j (subst (λ y. Feeds (next s h) hs White y w) p f) (subst (λ y. Feeds (next s h) hs Black y b) q g) c.0 few
       ]
@@ -188,6 +188,7 @@ matches_begin setup hs white black w b is t i e f =
       moves = (g.0, ap (λ (x : List Happening). (match_after setup x).moves) q.split ∙ (ap (λ (x : Standing). x.moves) (after_all-append q.fs q.more (start setup)) ∙ (g.1 ∙ ap (λ z. z ++ g.0) m)));
       to_white = (sent (after_all (start setup) q.fs) q.more White, ap (λ x. sent (start setup) x White) q.split ∙ (sent-append q.fs q.more (start setup) White ∙ ap (λ z. z ++ sent (after_all (start setup) q.fs) q.more White) q.white));
       to_black = (sent (after_all (start setup) q.fs) q.more Black, ap (λ x. sent (start setup) x Black) q.split ∙ (sent-append q.fs q.more (start setup) Black ∙ ap (λ z. z ++ sent (after_all (start setup) q.fs) q.more Black) q.black));
+      first = record { fs = q.fs; front = (q.more, q.split); same = record { asked = q.asked; match = q.match; white = q.white; black = q.black } };
     }
 
 -- all of what happens was done, where the match is over

@@ -5,3 +5,4 @@ pub mod Falls
 pub mod Follows
 pub mod Ends
 pub mod Fronts
+pub mod Lates

@@ -91,7 +91,15 @@ MatchesAreOfTheirLines =
 abbrev pub IsFront : {X : Type 0} → List X → List X → Type 0
 IsFront {X} front all = (more : List X) × (all ≡ front ++ more)
 
--- the moves, and the lines sent to each side, are the first of those of the match of these lines
+-- what happens first in the match of these lines is what has happened, but for readings of the clock
+pub record HappensFirst (setup : Setup) (hs : List Happening) (white black : List Mark)
+    : Type 0 where
+  pub fs : List Happening
+  pub front : IsFront fs (match_of setup white black)
+  pub same : AreSame (start setup) hs (start setup) fs
+
+-- The moves, and the lines sent to each side, are the first of those of the match of these lines,
+-- and so is what has happened.
 pub record IsBegun (setup : Setup) (hs : List Happening) (white black : List Mark) : Type 0 where
   pub moves : IsFront (match_after setup hs).moves
       (match_after setup (match_of setup white black)).moves
@@ -99,6 +107,7 @@ pub record IsBegun (setup : Setup) (hs : List Happening) (white black : List Mar
       (sent (start setup) (match_of setup white black) White)
   pub to_black : IsFront (sent (start setup) hs Black)
       (sent (start setup) (match_of setup white black) Black)
+  pub first : HappensFirst setup hs white black
 
 -- a match that took just these lines so far, with no fault and no late answer, is a front of the
 -- match of these lines

@@ -5,3 +5,4 @@ pub mod Keeps
 pub mod Fairness
 pub mod Plays
 pub mod Feeds
+pub mod Lates

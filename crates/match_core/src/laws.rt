@@ -2,6 +2,7 @@
 ghost use Rattle.match_core.specs.Fairness.{MatchesAreFair};
 ghost use Rattle.match_core.specs.Plays.{MatchesNearTheirEnd, MatchesEnd, MatchesAreJudged};
 ghost use Rattle.match_core.specs.Feeds.{MatchesAreOfTheirLines, MatchesBegin};
+ghost use Rattle.match_core.specs.Lates.{MatchesTellLates};
 
 /// Over every list of events that answer the acts the moves are a legal game, none follows the end
 /// of the game, each is what the reply of the side to move denotes, and each side was told all of
@@ -32,7 +33,14 @@ pub fn matches_are_judged()
 {}
 
 /// A match that took just these lines so far, with no fault and no late answer, is a front of the
-/// match of these lines.
+/// match of these lines: its moves, the lines sent, and all that happened, but for readings of the
+/// clock.
 pub fn matches_begin()
     ensures { MatchesBegin }
+{}
+
+/// Where a side forfeits for a late answer, it was its turn, sides are asked with a time, and it
+/// answered after the time and the margin had passed since it was asked.
+pub fn matches_tell_lates()
+    ensures { MatchesTellLates }
 {}

@@ -15,7 +15,7 @@ use Rattle.match_runner.specs.Wires.{Watch, Wire}
 use Rattle.match_runner.proofs.Endings.{by_end}
 use Rattle.match_runner.specs.Turns.{Side, is_broke, side_of, CutSide}
 use Rattle.match_runner.specs.Runs.{AreSound, Run, Cut, FinalRun, FrontRun, IsFrontOf, IsFrontSent}
-use Rattle.std.proofs.Common.{◌≡◌, ◌⊎◌, inl, inr, ℕ, ◌+◌, true, false, List, [], ◌∷◌, refl, ap, sym, ◌∙◌, Some, IsTrue, subst, ◌++◌, append_assoc}
+use Rattle.std.proofs.Common.{◌≡◌, ◌⊎◌, inl, inr, ℕ, true, false, List, [], ◌∷◌, refl, ap, sym, ◌∙◌, Some, IsTrue, subst, ◌++◌, append_assoc}
 use Rattle.io_edge.specs.Outside.{Told, behind}
 use Rattle.line_feed.specs.Feed.{fresh}
 use Rattle.match_core.specs.Keeps.{IsSetup}

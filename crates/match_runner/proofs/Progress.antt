@@ -56,7 +56,7 @@ served-snoc hs s h to o m n f g = record {
       g.wrote ∙ (ap (λ z. behind z (joined (sent_at (after_all s hs) (after_all s hs).stage h to))) f.wrote ∙ (behind-behind o.written (joined (sent s hs to)) _ ∙ ap (behind o.written) (sym x)));
 }
 
-time-snoc : (hs : List Happening) (h : Happening) (a b c : ℕ) → KeepTime a hs b → KeepsAt h b c → KeepTime a (hs ++ h ∷ []) c
+pub time-snoc : (hs : List Happening) (h : Happening) (a b c : ℕ) → KeepTime a hs b → KeepsAt h b c → KeepTime a (hs ++ h ∷ []) c
 time-snoc [] h a b c e k = (c, subst (λ x. KeepsAt h x c) e k, refl)
 time-snoc (x ∷ hs) h a b c (mid, f, g) k = (mid, f, time-snoc hs h mid b c g k)
 

@@ -48,7 +48,7 @@ in_time_at (Read job side) s x h hs e a v f = tt
 in_time_at Before s x h hs e a v f = tt
 in_time_at FinishedStage s x h hs e a v f = tt
 
-in_time : (hs : List Happening) (s : Standing) → Answering s hs → AreSound hs → (IsLate (after_all s hs).verdict → ⊥) → AreInTime s hs
+pub in_time : (hs : List Happening) (s : Standing) → Answering s hs → AreSound hs → (IsLate (after_all s hs).verdict → ⊥) → AreInTime s hs
 in_time [] s a v f = tt
 in_time (h ∷ hs) s (t, u) (v, w) f = (in_time_at s.stage s (next s h) h hs (next_is s h) u v f, in_time hs (next s h) u w f)
 

@@ -5,6 +5,7 @@ use Rattle.hive_model.specs.declared.pieces.Colour.{Colour}
 use Rattle.hive_model.specs.declared.pieces.Colour.TheVariants.{White, Black}
 use Rattle.line_feed.specs.Feed.{Reading as Reader, HoldsLittle, fresh}
 use Rattle.match_core.specs.declared.answers.Setup.{Setup}
+use Rattle.match_core.specs.declared.answers.Stage.TheVariants.{After}
 use Rattle.match_core.specs.declared.answers.Act.TheVariants.{Send as SendAct, Read as ReadAct, Finish}
 use Rattle.hive_model.specs.Lines.{Line as Mark, lines}
 use Rattle.match_core.specs.declared.answers.Cause.TheVariants.{NotAMove, Illegal, ErrLine, Flood, LongLine, Ended as EndedCause, Broke as BrokeCause, Late}
@@ -14,6 +15,7 @@ use Rattle.match_core.specs.Standing.{Standing, Happening, start, match_after, n
 use Rattle.match_core.specs.Fairness.{Answering, sent}
 use Rattle.match_core.specs.Plays.{joined, IsBounded, match_of, has_verdict}
 use Rattle.match_core.specs.Feeds.{Feeds, IsFront}
+use Rattle.match_core.specs.Lates.{LatesAreLate}
 use Rattle.match_runner.specs.Wires.{HasFailed, Watch, Wire}
 use Rattle.match_runner.specs.Turns.{Side, Breaks, KeepsAt, is_broke, looks_at, side_of}
 
@@ -184,6 +186,42 @@ VerdictRun setup t w0 w b0 b =
     → IsVerdict (match_after setup (match_of setup (lines white) (lines black))).verdict t.verdict
     w0 w b0 b
 
+-- what happened in a match of this setup that stands so: each answers the act that was to come
+pub record IsCourse (setup : Setup) (t : Standing) (hs : List Happening) : Type 0 where
+  pub here : t ≡ match_after setup hs
+  pub fits : Answering (start setup) hs
+
+-- a match of this setup comes to stand so
+abbrev pub HasCourse : Setup → Standing → Type 0
+HasCourse setup t = (hs : List Happening) × IsCourse setup t hs
+
+-- the same, by readings of a clock whose last one before the match and behind it are these
+abbrev pub HasTimedCourse : Setup → Standing → ℕ → ℕ → Type 0
+HasTimedCourse setup t before now =
+    (hs : List Happening) × IsCourse setup t hs × KeepTime before hs now
+
+-- The moves, and the bytes sent to each side, are those of the match of these lines up to a reply:
+-- its last line was read, and next the clock is read.
+pub record IsUpToReply (setup : Setup) (white black : List Mark) (t : Standing)
+    (w0 w b0 b : Told) : Type 0 where
+  pub hs : List Happening
+  pub front : IsFront hs (match_of setup white black)
+  pub replied : (match_after setup hs).stage ≡ After
+  pub moves : t.moves ≡ (match_after setup hs).moves
+  pub to_white : w ≡ behind w0 (joined (sent (start setup) hs White))
+  pub to_black : b ≡ behind b0 (joined (sent (start setup) hs Black))
+
+-- where both links tell their bytes, no call failed and an answer was late
+abbrev pub LateRun : Setup → Standing → Wire → Wire → Wire → Wire → Type 0
+LateRun setup t w0 w b0 b =
+    (white black : List ℕ)
+    → w0.rest ≡ Some white
+    → b0.rest ≡ Some black
+    → ¬ HasFailed w0 w
+    → ¬ HasFailed b0 b
+    → IsLate t.verdict
+    → IsUpToReply setup (lines white) (lines black) t w0.written w.written b0.written b.written
+
 -- a match that was run over two links: it is of this setup and has a verdict, and this is known of
 -- it by the links
 pub record RanLinks (setup : Setup) (t : Standing) (w0 w b0 b : Wire) : Type 0 where
@@ -193,6 +231,9 @@ pub record RanLinks (setup : Setup) (t : Standing) (w0 w b0 b : Wire) : Type 0 w
   pub front : FrontRun setup t w0 w b0 b
   pub verdict : VerdictRun setup t w0 w b0 b
   pub told : ToldRun setup t w0 w b0 b
+  pub course : HasCourse setup t
+  pub lates : LatesAreLate t
+  pub late : LateRun setup t w0 w b0 b
 
 -- a match that was run over two links and a clock, which is read at most twice for each move and
 -- twice more
@@ -201,4 +242,5 @@ pub record RanOver
   pub events : FinalRun setup t w0 w b0 b r0 r
   pub links : RanLinks setup t w0 w b0 b
   pub late : LateIn t.verdict r0.last r.last
+  pub course : HasTimedCourse setup t r0.last r.last
   pub readings : r.readings ≤ r0.readings + (2 * length t.moves + 2)

@@ -1,5 +1,5 @@
 -- Laws of forced wins that are told and checked.
-use Rattle.std.specs.Prelude.{◌≡◌, ℕ, ◌≤◌, false, List, length, Ok}
+use Rattle.std.specs.Prelude.{◌≡◌, ◌↔◌, ℕ, ◌≤◌, false, List, length, map, drop, Ok, Some}
 use Rattle.hive_model.specs.declared.pieces.GameType.{GameType}
 use Rattle.hive_model.specs.declared.places.Move.{Move}
 use Rattle.hive_model.specs.Positions.{opening}
@@ -10,6 +10,8 @@ use Rattle.command_runs.specs.Input.{Sides, WhereTold}
 use Rattle.command_runs.specs.OneGame.{AsksOne, last_position}
 use Rattle.command_runs.specs.Served.{RunsAreDone}
 use Rattle.command_runs.specs.declared.status.Status.TheVariants.{Done}
+use Rattle.certificate_text.specs.Text.{index_in}
+use Rattle.win_solver.specs.Solution.{Solves}
 use Rattle.win_commands.specs.declared.head.Head.{Head}
 use Rattle.text_verdicts.specs.declared.verdict.Verdict.TheVariants.{Accepted}
 use Rattle.text_verdicts.specs.Laws.{WritesAccepted}
@@ -31,6 +33,21 @@ abbrev pub VerifiedIsTrue : Type 0
 VerifiedIsTrue =
     (before : Sides) → (after : Sides) → VerifyRun Done before after
     → WhereTold before.rest (λ input. (head : Head) × IsTrueText (lines input) head)
+
+-- The lines are a solution: they have a head, whose game is not over, and those behind it are
+-- indices that show its answer.
+pub record HoldsSolution (ls : List Line) (head : Head) (indices : List ℕ) : Type 0 where
+  pub has_head : head_of ls ≡ Ok head
+  pub open_ : is_over (last_position head.game) ≡ false
+  pub are_indices : map index_in (drop 4 ls) ≡ map (λ i. Some i) indices
+  pub solves :
+      Solves (last_position head.game) head.plies (last_position head.game).side head.answer indices
+
+-- exactly such lines are accepted
+abbrev pub SolutionsAlone : Type 0
+SolutionsAlone =
+    (ls : List Line)
+    → (verdict ls ≡ Accepted) ↔ ((head : Head) × (indices : List ℕ) × HoldsSolution ls head indices)
 
 -- Where the streams served the run, the answer to an input that is exactly one line, a game that is
 -- not over, is done, unless memory is wanting.

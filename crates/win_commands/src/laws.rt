@@ -2,6 +2,7 @@
 
 ghost use Rattle.win_commands.specs.Laws.{
   AcceptedIsTrue,
+  SolutionsAlone,
   SolutionsAreAccepted,
   SolvedIsAccepted,
   SolvesAreDone,
@@ -12,6 +13,12 @@ ghost use Rattle.win_commands.specs.Laws.{
 /// The answer of a text that is accepted is the true one.
 pub fn accepted_answers_are_true()
     ensures { AcceptedIsTrue }
+{}
+
+/// A text is accepted exactly where it has a head, whose game is not over, and behind it just
+/// indices that show its answer.
+pub fn solutions_alone_are_accepted()
+    ensures { SolutionsAlone }
 {}
 
 /// Where a check of a text is done, the answer of the text is the true one.

@@ -18,9 +18,9 @@ use Rattle.search_laws.proofs.HintLaws.{reply-low}
 use Rattle.search_laws.proofs.MinimaxLaws.{moves-not_over, value-greatest}
 use Rattle.claim_walks.specs.declared.limit.Limit.TheVariants.{AtLeast}
 use Rattle.claim_walks.proofs.SoundLaws.{keeps-true, true-keeps}
-use Rattle.value_table.specs.Entries.{EntryParts}
-use Rattle.value_table.specs.Truth.{stands}
-use Rattle.search_core.proofs.EntryLaws.{entry-stands}
+use Rattle.value_table.specs.Entries.{KnownParts}
+use Rattle.value_table.specs.Truth.{stands, IsTrueOf}
+use Rattle.search_core.proofs.EntryLaws.{known-stands}
 use Rattle.win_solver.proofs.ForceLaws.{bool-is, at-place}
 
 -- a move is worth so much to the side that makes it
@@ -84,7 +84,7 @@ child-reaches start played m d n k r moved one is =
 -- ---- the table
 
 -- what an entry tells is true of the position
-pub told-is : (p : Position) (d : ℕ) (n : ℤ) (b : Bool) (o : Option EntryParts) → IsSound p → IfSome o (λ e. (e.key ≡ key p) × (e.depth ≡ d)) →
+pub told-is : (p : Position) (d : ℕ) (n : ℤ) (b : Bool) (o : Option KnownParts) → IsSound p → IfSome o (λ e. (e.depth ≡ d) × IsTrueOf (key p) e.depth e.bound e.value) →
     IsSomeAnd o (λ e. (v : ℤ) → IsTrue (stands e.bound v e.value) → b ≡ int_le n v) → b ≡ int_le n (value p d)
 told-is p d n b None sound own told = absurd told
-told-is p d n b (Some e) sound own told = told (value p d) (entry-stands p d e sound own.0 own.1)
+told-is p d n b (Some e) sound own told = told (value p d) (known-stands p d e sound own.1 own.0)

@@ -20,9 +20,9 @@ ghost use Rattle.hive_model.specs.Evaluation.{eval};
 ghost use Rattle.hive_model.specs.Courses.{position};
 ghost use Rattle.value_table.specs.Truth.{stands};
 
-use hive_model::{Game, Key};
+use hive_model::{Game, Key, Move};
 use search_laws::end_value;
-use value_table::{Bound, Entry, ValueTable};
+use value_table::{Bound, Entry, Known, ValueTable};
 
 /// The size that no evaluation exceeds.
 pub(crate) const GREATEST_EVALUATION: i32 = 1_000;
@@ -61,7 +61,7 @@ fn evaluation_reaches<G: Game>(game: &mut G, least: i32) -> bool
 }
 
 /// What an entry tells of whether a position of its key is worth so much, if it tells it.
-pub(crate) fn told_by(entry: &Option<Entry>, least: i32) -> Option<bool>
+pub(crate) fn told_by(entry: &Option<Known>, least: i32) -> Option<bool>
     ensures { IfSome result (λ b. IsSomeAnd entry.now
         (λ e. (v : ℤ) → IsTrue (stands e.bound v e.value) → b ≡ int_le least v)) }
 {
@@ -77,22 +77,21 @@ pub(crate) fn told_by(entry: &Option<Entry>, least: i32) -> Option<bool>
 }
 
 /// Keeps what was found of a sound position with this key: whether it is worth so much, and the
-/// place of the move that decided it.
+/// move that decided it.
 pub(crate) fn keep_answer(
     table: &mut ValueTable,
     key: &Key,
     depth: u32,
     least: i32,
-    reply: Option<u32>,
+    reply: Option<Move>,
 )
     requires low { negsuc 1000200 ≤ℤ least }
     requires found { (p : Position) × IsSound p × (key_of_position p ≡ key.now)
         × (is_some reply ≡ int_le least (value p depth)) }
 {
-    let hint = reply.unwrap_or(65_535).min(65_535) as u16;
     if reply.is_some() {
-        table.keep(Entry::new(*key, depth, Bound::AtLeast, least, hint));
+        table.keep(Entry::new(*key, depth, Bound::AtLeast, least, reply));
     } else {
-        table.keep(Entry::new(*key, depth, Bound::AtMost, least - 1, hint));
+        table.keep(Entry::new(*key, depth, Bound::AtMost, least - 1, None));
     }
 }

@@ -68,16 +68,16 @@ fn reaches_at_once<G: Game>(game: &mut G, least: i32, space: &mut Workspace) -> 
     find_reply(game, 1, least, None, space).is_some()
 }
 
-/// The place of a legal move that is worth so much to the side that makes it, where the game goes
-/// on and a ply is left. The move at the place `hint` is tried first.
+/// A legal move that is worth so much to the side that makes it, where the game goes on and a ply
+/// is left. The hint is tried first.
 #[cycle(reaches)]
 fn find_reply<G: Game>(
     game: &mut G,
     depth: u32,
     least: i32,
-    hint: Option<u32>,
+    hint: Option<Move>,
     space: &mut Workspace,
-) -> Option<u32>
+) -> Option<Move>
     requires asked { CanBeAsked least }
     requires inner { IsInner (position (G.course game.old)) depth }
     requires room { HasRoom depth (G.course game.old) space.old.stack }
@@ -99,9 +99,9 @@ fn first_reply<G: Game>(
     level: u32,
     depth: u32,
     least: i32,
-    hint: Option<u32>,
+    hint: Option<Move>,
     space: &mut Workspace,
-) -> Option<u32>
+) -> Option<Move>
     requires asked { CanBeAsked least }
     requires node { IsNode depth level (G.course game.old) space.old.stack }
     ensures found { is_some result ≡ int_le least (value (position (G.course game.old)) depth) }
@@ -119,23 +119,23 @@ fn first_reply<G: Game>(
             space
                 .table
                 .note_cut(game.plies(), space.stack.get(level, i));
-            return Some(i);
+            return Some(space.stack.get(level, i));
         }
     }
     None
 }
 
-/// The place of the move to try first, where it is worth so much: the one at the place `hint`, else
-/// the one that decided last after as many plies of the game.
+/// The move to try first, where it is worth so much: the hint, else the one that decided last after
+/// as many plies of the game.
 #[cycle(reaches)]
 fn hinted_reply<G: Game>(
     game: &mut G,
     level: u32,
     depth: u32,
     least: i32,
-    hint: Option<u32>,
+    hint: Option<Move>,
     space: &mut Workspace,
-) -> Option<u32>
+) -> Option<Move>
     requires asked { CanBeAsked least }
     requires node { IsNode depth level (G.course game.old) space.old.stack }
     ensures found { IsSome result
@@ -149,7 +149,7 @@ fn hinted_reply<G: Game>(
     }
     let m = space.stack.get(level, place);
     if reply_reaches(game, m, depth - 1, least, space) {
-        return Some(place);
+        return Some(space.stack.get(level, place));
     }
     None
 }

@@ -2,6 +2,7 @@
 
 use crate::Solver;
 use command_runs::read_one_game;
+use hive_model::Game;
 use io_edge::{MemSink, MemSource};
 use plain_game::PlainGame;
 use std::alloc::{AllocError, Global};
@@ -29,6 +30,22 @@ fn answers(alloc: Global, text: &str) -> Result<Option<[bool; 3]>, AllocError> {
     let two = solver.solve(&mut game, 2);
     let three = solver.solve(&mut game, 3);
     Ok(Some([one, two, three]))
+}
+
+/// How many moves are played where a solver tells twice of the game of a text whether a win can be
+/// forced within two plies: the first time, and the second; none where it is no game.
+fn plays_of_two_tells(alloc: Global, text: &str) -> Result<Option<(u64, u64)>, AllocError> {
+    let mut source = source_of(alloc, text)?;
+    let Ok(mut game) = read_one_game::<MemSource, PlainGame>(alloc, &mut source, 2) else {
+        return Ok(None);
+    };
+    let mut solver = Solver::prepare(alloc, 1_000, 2)?;
+    let begun = game.played();
+    let _ = solver.solve(&mut game, 2);
+    let told = game.played();
+    let _ = solver.solve(&mut game, 2);
+    let again = game.played();
+    Ok(Some((told.saturating_sub(begun), again.saturating_sub(told))))
 }
 
 /// What is written of the opening within two plies, in pieces of so many bytes, where the write of
@@ -65,6 +82,16 @@ fn indices_are_written_whole_or_cut_short(rt: HostRuntime) -> Result<(), Fail> {
         let (done, sink) = written(rt.alloc(), piece, fails)?;
         assert_eq!(rt; done, whole, "pieces of {piece}");
         assert_eq!(rt; sink.bytes(), lines.as_bytes(), "pieces of {piece}");
+    }
+    Ok(())
+}
+
+#[test]
+fn what_was_told_before_serves(rt: HostRuntime) -> Result<(), Fail> {
+    for text in ["Base", WON] {
+        let (first, second) = plays_of_two_tells(rt.alloc(), text)?.ok_or("a game")?;
+        assert!(rt; first > 0);
+        assert!(rt; second < first, "{second} plays and {first} of {text}");
     }
     Ok(())
 }

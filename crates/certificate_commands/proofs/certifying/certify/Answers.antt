@@ -1,10 +1,9 @@
 -- How an answer ends, by whether the input was one game.
-use Rattle.std.proofs.Common.{◌≡◌, true, false, rules}
-use Rattle.hive_model.specs.Lines.{lines}
+use Rattle.std.proofs.Common.{rules}
 use Rattle.command_runs.specs.GameRun.{AnswersGame, about_game}
 use Rattle.command_runs.proofs.AnsweredLemmas.{none_run}
 use Rattle.certificate_commands.specs.Certifying.{certificates_of}
-use Rattle.certificate_commands.proofs.CertifyLaws.{certified, has-one}
+use Rattle.certificate_commands.proofs.CertifyLaws.{certified}
 use Rattle.certificate_commands.proofs.certifying.certify.Goals as goal
 
 pub returns-in-Err : goal.returns-in-Err
@@ -14,20 +13,9 @@ returns-in-Err g c = record {
   writes = search rules;
 }
 
-pub returns-then-not-has_certificate : goal.returns-then-not-has_certificate
-returns-then-not-has_certificate g c = record {
-  run = λ input told.
-      let (game, is, end) = c.in-Ok.ensures.game input told in
-      let yes : c.has_certificate.result ≡ true = c.has_certificate.ensures.every (has-one (g.G.Game.course c.in-Ok.game) game (lines input) is.asks end) in
-      let no : c.has_certificate.result ≡ false = search rules in
-      absurd (cc);
-  reads = search rules;
-  writes = search rules;
-}
-
 pub returns : goal.returns
 returns g c = record {
-  run = certified c.args.depth c.tell_certificate.result _ _ (g.G.Game.course c.in-Ok.game) c.requires.some (search rules) c.in-Ok.ensures.game c.tell_certificate.ensures.told;
+  run = certified c.args.depth c.tell_certificate.result _ _ (g.G.Game.course c.in-Ok.game) c.requires.some c.in-Ok.ensures.under_way c.in-Ok.ensures.game c.tell_certificate.ensures.told;
   reads = search rules;
   writes = search rules;
 }

@@ -1,0 +1,32 @@
+-- What it is that an answer was late.
+use Rattle.std.specs.Prelude.{◌≡◌, ℕ, ◌+◌, ◌<◌, List, Some}
+use Rattle.hive_model.specs.declared.pieces.Colour.{Colour}
+use Rattle.match_core.specs.declared.answers.Setup.{Setup}
+use Rattle.match_core.specs.declared.answers.Level.TheVariants.{Time}
+use Rattle.match_core.specs.declared.answers.Cause.TheVariants.{Late}
+use Rattle.match_core.specs.declared.answers.Verdict.TheVariants.{Forfeit}
+use Rattle.match_core.specs.Standing.{Standing, Happening, start, match_after, position_now}
+use Rattle.match_core.specs.Fairness.{Answering}
+
+-- The answer of a side was late by these two readings of the clock: it was this side's turn, sides
+-- are asked with a time, and it answered after the time and the margin had passed since it was
+-- asked.
+pub record IsLateBy (t : Standing) (side : Colour) (asked answered : ℕ) : Type 0 where
+  pub turn : side ≡ (position_now t).side
+  pub budget : ℕ
+  pub margin : ℕ
+  pub timed : t.setup.level ≡ Time budget margin
+  pub over : asked + budget + margin < answered
+
+-- where a side forfeits for a late answer, its answer was late by the readings that are told
+abbrev pub LatesAreLate : Standing → Type 0
+LatesAreLate t =
+    (side : Colour) (asked answered : ℕ)
+    → t.verdict ≡ Some (Forfeit side (Late asked answered))
+    → IsLateBy t side asked answered
+
+-- so it is in every match
+abbrev pub MatchesTellLates : Type 0
+MatchesTellLates =
+    (setup : Setup) (hs : List Happening) → Answering (start setup) hs
+    → LatesAreLate (match_after setup hs)
