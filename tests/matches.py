@@ -98,6 +98,25 @@ def try_cups(program, folder):
     expect("one that is not there", cup(program, [deep[0], str(folder / "none"), deep[1]], words), (5, [""]))
 
 
+def try_meeting(program, folder):
+    """A cup of two engines that answer, where they are asked for a move, once both games have come to that; they wait half a minute."""
+    body = (
+        "printf 'id x\\nok\\n'\nwhile read -r word rest; do\n[ \"$word\" != bestmove ] || {\n"
+        f"mkdir {folder}/asked.$$\nn=0\nwhile [ \"$(ls -d {folder}/asked.* | wc -l)\" -lt 2 ] && [ $n -lt 300 ]; do sleep 0.1; n=$((n+1)); done\n"
+        "[ $n -lt 300 ] && echo wS1 || echo alone\n}\necho ok\ndone"
+    )
+    engines = [write_engine(folder, name, body) for name in ("meets1", "meets2")]
+    verdicts = check_cup("a cup of games that meet", engines, cup(program, engines, ["--depth", "1", "--plies", "1"]))
+    expect("games that meet", verdicts, {(1, 2): "limit 1", (2, 1): "limit 1"})
+
+
+def try_words(program, folder):
+    """An engine gets the words behind its name, each as it stands."""
+    says = write_engine(folder, "says", "printf 'id x\\nok\\n'\nread -r line; echo ok\nread -r line; printf '%s,' \"$#\" \"$@\"; printf '\\nok\\n'")
+    for words, wanted in (("", "0,"), (" --quiet", "1,--quiet,"), (" y -x * $HOME", "4,y,-x,*,$HOME,")):
+        expect(f"the words {words!r}", verdict(program, says + words, says, ["--depth", "1"])[1], f"forfeit white notamove {wanted}")
+
+
 def left_behind(folder):
     """The processes that were started from the folder and still run."""
     found = []
@@ -145,6 +164,8 @@ if __name__ == "__main__":
         last = verdict(program, hive, returns + " --quiet", ["--depth", "1", "--plies", "4"])[1]
         expect("an engine with CR LF", last, "forfeit black notamove")
         expect("an engine that is not there", play(program, hive, str(folder / "none"), ["--depth", "1"]), (5, ""))
+        try_words(program, folder)
         try_cups(program, folder)
+        try_meeting(program, folder)
         expect("no process is left", gone(folder), True)
     print("matches: all is as expected")

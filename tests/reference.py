@@ -315,7 +315,7 @@ class Refusal(Exception):
 
 
 def is_number(text, least, most):
-    return text.isascii() and text.isdigit() and str(int(text)) == text and least <= int(text) <= most
+    return text.isascii() and text.isdigit() and len(text) <= len(str(most)) and str(int(text)) == text and least <= int(text) <= most
 
 
 class Play:

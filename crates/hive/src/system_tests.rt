@@ -3,6 +3,8 @@ use crate::machine_clock::MachineClock;
 use crate::programs::Programs;
 use io_edge::{Clock, ReadAnswer, Source, Spawner, StartFault, write_all};
 use std::test::Fail;
+use std::thread;
+use std::time::Duration;
 
 #[test]
 fn a_clock_never_goes_back(rt: HostRuntime) {
@@ -10,6 +12,45 @@ fn a_clock_never_goes_back(rt: HostRuntime) {
     let first = clock.now();
     let second = clock.now();
     assert!(rt; 0 < first && first <= second);
+}
+
+#[test]
+fn a_clock_counts_milliseconds(rt: HostRuntime) {
+    let mut clock = MachineClock::new(&rt);
+    let before = clock.now();
+    thread::sleep(&rt, Duration::from_millis(60));
+    let passed = clock.now().saturating_sub(before);
+    // a busy machine may sleep longer, but not a hundred times
+    assert!(rt; 60 <= passed && passed < 6_000, "{passed}");
+}
+
+#[test]
+fn a_program_gets_its_words(rt: HostRuntime) -> Result<(), Fail> {
+    let mut programs = Programs::new(&rt, rt.alloc());
+    let words = [
+        String::from_str(rt.alloc(), "sh")?,
+        String::from_str(rt.alloc(), "-c")?,
+        String::from_str(rt.alloc(), "printf '%s,' \"$0\" \"$@\"")?,
+        String::from_str(rt.alloc(), "x")?,
+        String::from_str(rt.alloc(), "y")?,
+        String::from_str(rt.alloc(), "")?,
+        String::from_str(rt.alloc(), "a b")?,
+    ];
+    let Ok(mut engine) = programs.start(&words) else {
+        assert!(rt; false, "a start that was to succeed");
+        return Ok(());
+    };
+    let mut said = Vec::new(rt.alloc());
+    for _ in 0..20 {
+        let mut byte = [0u8; 1];
+        match engine.read(&mut byte) {
+            ReadAnswer::Got(_) => said.push(byte[0])?,
+            ReadAnswer::End | ReadAnswer::Failed => break,
+        }
+    }
+    assert_eq!(rt; said.as_slice(), b"x,y,,a b,".as_slice());
+    programs.close(engine);
+    Ok(())
 }
 
 #[test]

@@ -1,7 +1,9 @@
-//! The streams over a reader and a writer that answer as they are told.
+//! The streams over a reader and a writer that answer as they are told, and how each run ends.
 ghost use Rattle.std.specs.Prelude.{◌≤◌, IfOk};
 
+use crate::complaint;
 use crate::streams::Counted;
+use hive_cli::Status;
 use io_edge::{ReadAnswer, Sink, Source, WriteAnswer};
 use std::io;
 use std::io::{Read, Write};
@@ -64,4 +66,26 @@ fn streams_answer_as_their_ends(rt: HostRuntime) {
         assert_eq!(rt; output.write(b"text".as_slice()), write);
     }
     assert_eq!(rt; flushed.load(Ordering::SeqCst), 2);
+}
+
+#[test]
+fn each_end_has_its_number_and_its_line(rt: HostRuntime) {
+    for (status, number, line) in [
+        (Status::Done, 0, None),
+        (Status::Refused, 1, None),
+        (Status::Usage, 2, Some("hive: wrong command line")),
+        (Status::ReadFault, 3, Some("hive: input failed")),
+        (Status::WriteFault, 4, Some("hive: output failed")),
+        (
+            Status::SpawnFault,
+            5,
+            Some("hive: an engine could not be started"),
+        ),
+        (Status::BadInput, 6, None),
+        (Status::Memory, 7, Some("hive: out of memory")),
+        (Status::InputFull, 8, Some("hive: input too long")),
+    ] {
+        assert_eq!(rt; status.code(), number, "{status:?}");
+        assert_eq!(rt; complaint(status), line, "{status:?}");
+    }
 }

@@ -75,7 +75,7 @@ pub(crate) enum Stop {
 
 impl Stop {
     /// The status of a run that stops so, where a line was refused, or none.
-    fn status(self, refused: bool) -> Status
+    pub(crate) fn status(self, refused: bool) -> Status
         ensures { result ≡ status_of refused self }
     {
         match self {

@@ -4,6 +4,8 @@ mod best;
 mod commands;
 mod counted;
 mod faults;
+mod kept;
+mod late;
 mod lists;
 mod programs;
 mod refused;

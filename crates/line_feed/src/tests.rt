@@ -1,12 +1,11 @@
 //! Lines of streams in memory, in pieces of several sizes.
 
-use crate::{LineAnswer, LineReader};
+use crate::{INPUT_LIMIT, LineAnswer, LineReader};
 use io_edge::MemSource;
 use std::alloc::Global;
 use std::test::Fail;
 
-/// The answers of a reader up to the end: a line as its bytes and `|`, a failed read as `!`, the
-/// end as `.`.
+/// The answers of a new reader.
 fn answers(
     alloc: Global,
     input: &[u8],
@@ -18,9 +17,19 @@ fn answers(
     let fails = Vec::from_slice(alloc, &[failing_read])?;
     let mut source = MemSource::new(bytes, pieces, fails);
     let mut reader = LineReader::new(alloc)?;
+    answers_of(alloc, &mut reader, &mut source)
+}
+
+/// The answers of a reader up to the end or to the limit: a line as its bytes and `|`, a failed
+/// read as `!`, the end as `.`, the limit as `full`.
+fn answers_of(
+    alloc: Global,
+    reader: &mut LineReader,
+    source: &mut MemSource,
+) -> Result<Vec<u8>, Fail> {
     let mut text = Vec::new(alloc);
     for _ in 0..20 {
-        match reader.next_line(&mut source) {
+        match reader.next_line(source) {
             LineAnswer::Line => {
                 text.extend_from_slice(reader.line())?;
                 text.push(b'|')?;
@@ -31,7 +40,10 @@ fn answers(
                 return Ok(text);
             }
             LineAnswer::Failed => text.push(b'!')?,
-            LineAnswer::Full => text.extend_from_slice("full|".as_bytes())?,
+            LineAnswer::Full => {
+                text.extend_from_slice("full".as_bytes())?;
+                return Ok(text);
+            }
         }
     }
     Ok(text)
@@ -112,6 +124,34 @@ fn a_failed_read_loses_nothing(rt: HostRuntime) -> Result<(), Fail> {
             want.as_bytes(),
             "{input:?}, read {failing_read} fails"
         );
+    }
+    Ok(())
+}
+
+#[test]
+fn an_input_has_a_limit(rt: HostRuntime) -> Result<(), Fail> {
+    // so many bytes before the limit
+    for (left, input, want) in [
+        (7, "ab\ncd\n", "ab|cd|."),
+        (6, "ab\ncd\n", "ab|cd|full"),
+        (5, "ab\ncd\n", "ab|full"),
+        (3, "ab\ncd\n", "ab|full"),
+        (2, "ab", "full"),
+        (1, "", "."),
+        (0, "", "full"),
+    ] {
+        for pieces in [[1].as_slice(), [2].as_slice(), [].as_slice()] {
+            let bytes = Vec::from_slice(rt.alloc(), input.as_bytes())?;
+            let sizes = Vec::from_slice(rt.alloc(), pieces)?;
+            let mut source = MemSource::new(bytes, sizes, Vec::new(rt.alloc()));
+            let mut reader = LineReader::resumed(rt.alloc(), INPUT_LIMIT - left)?;
+            let got = answers_of(rt.alloc(), &mut reader, &mut source)?;
+            assert_eq!(rt;
+                got.as_slice(),
+                want.as_bytes(),
+                "{left} bytes before the limit, {input:?} in pieces of {pieces:?}"
+            );
+        }
     }
     Ok(())
 }

@@ -1,6 +1,7 @@
 //! Reads and writes that fail in the midst of a session.
 
 use crate::Status;
+use crate::service::Stop;
 use crate::tests::{GREETING, Setting, expect_run, expect_session, joined};
 use std::alloc::{AllocError, Global};
 use std::test::Fail;
@@ -123,6 +124,51 @@ fn each_write_fails_in_turn(rt: HostRuntime) -> Result<(), Fail> {
 }
 
 #[test]
+fn a_fault_past_the_last_call_changes_nothing(rt: HostRuntime) -> Result<(), Fail> {
+    let lines = talk_lines(rt.alloc())?;
+    let all = written_for(rt.alloc(), lines.len())?;
+    for piece in [1, 7] {
+        let reads = lines.len().div_ceil(piece) + 1;
+        let writes = write_sizes(rt.alloc(), piece)?.len();
+        for past in 1..=3usize {
+            let failing_read = reads.saturating_add(past) as u64;
+            let failing_write = writes.saturating_add(past) as u64;
+            for (failing_read, failing_write) in [(failing_read, 0), (0, failing_write)] {
+                let setting = Setting {
+                    words: &["uhp"],
+                    input: lines.as_slice(),
+                    pieces: &[piece],
+                    failing_read,
+                    failing_write,
+                };
+                expect_run(&rt, rt.alloc(), setting, Status::Done, all.as_slice())?;
+            }
+        }
+    }
+    Ok(())
+}
+
+#[test]
+fn a_fault_past_exit_changes_nothing(rt: HostRuntime) -> Result<(), Fail> {
+    let written = joined(rt.alloc(), GREETING, &["Base;NotStarted;White[1]\nok\n"])?;
+    // one read gives both lines, and another one finds `exit` alone
+    for (pieces, failing_read, failing_write) in [
+        ([].as_slice(), 2, 3),
+        ([8, 5].as_slice(), 3, 100),
+    ] {
+        let setting = Setting {
+            words: &["uhp"],
+            input: b"newgame\nexit\nvalidmoves\n".as_slice(),
+            pieces,
+            failing_read,
+            failing_write,
+        };
+        expect_run(&rt, rt.alloc(), setting, Status::Done, written.as_slice())?;
+    }
+    Ok(())
+}
+
+#[test]
 fn a_read_fails_after_a_line(rt: HostRuntime) -> Result<(), Fail> {
     let setting = Setting {
         words: &["uhp"],
@@ -140,6 +186,20 @@ fn a_read_fails_after_a_line(rt: HostRuntime) -> Result<(), Fail> {
         written.as_slice(),
     )?;
     Ok(())
+}
+
+#[test]
+fn each_stop_has_its_status(rt: HostRuntime) {
+    for (stop, status) in [
+        (Stop::ReadFailed, Status::ReadFault),
+        (Stop::WriteFailed, Status::WriteFault),
+        (Stop::NoMemory, Status::Memory),
+        (Stop::Full, Status::InputFull),
+    ] {
+        for refused in [false, true] {
+            assert_eq!(rt; stop.status(refused), status, "{stop:?}");
+        }
+    }
 }
 
 #[test]

@@ -8,7 +8,7 @@ use std::test::Fail;
 use std::thread::Threads;
 
 /// A link that will say this.
-fn link_of(alloc: Global, text: &[u8]) -> Result<MemLink, AllocError> {
+pub(crate) fn link_of(alloc: Global, text: &[u8]) -> Result<MemLink, AllocError> {
     let source = MemSource::new(
         Vec::from_slice(alloc, text)?,
         Vec::new(alloc),
