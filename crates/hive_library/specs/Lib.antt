@@ -1,0 +1,3 @@
+pub mod Rooms
+pub mod Games
+pub mod Version

@@ -1,0 +1,40 @@
+//! The room that a caller lends for a text.
+
+ghost use Rattle.std.specs.Bool.{OnFalse, OnTrue};
+ghost use Rattle.hive_library.specs.Rooms.{Gives, IsPut, IsShort, Puts};
+
+use crate::faults::Fault;
+use hive_model::ReplyText;
+
+/// It was done.
+const DONE: u32 = 0;
+
+/// The room is too short for the text.
+const ROOM_SHORT: u32 = 9;
+
+/// Puts the text into the front of the room, if it goes there, and tells its length.
+pub(crate) fn put(text: &[u8], room: &mut [u8], needed: &mut usize) -> u32
+    ensures { Puts text.now result room.old room.new needed.new }
+{
+    let count = text.len();
+    *needed = count;
+    if room.len() < count {
+        return ROOM_SHORT;
+    }
+    let (front, _) = room.split_at_mut(count);
+    front.copy_from_slice(text);
+    DONE
+}
+
+/// Gives the text, or tells why there is none.
+pub(crate) fn give(answer: Result<ReplyText, Fault>, room: &mut [u8], needed: &mut usize) -> u32
+    ensures { Gives answer result room.old room.new needed.new }
+{
+    match answer {
+        Ok(text) => put(text.items(), room, needed),
+        Err(fault) => {
+            *needed = 0;
+            fault.code()
+        }
+    }
+}

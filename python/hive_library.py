@@ -1,0 +1,62 @@
+"""Hive in Python's own process: the rules and the search, over the shared library.
+
+    hive = Hive("libhive_library.so")
+    hive.moves("Base")            # 'wS1;wB1;wA1;wG1;wQ' or so, as `validmoves` lists them
+    hive.after("Base", "wS1")     # 'Base;InProgress;Black[1];wS1'
+
+Each method is the function of its name in c/hive_library.h, and answers its text; where there is none, it raises a HiveError, whose status
+is that of the header.
+"""
+import ctypes
+
+
+class HiveError(Exception):
+    """A call that puts no text: `status` is 1 to 15, as c/hive_library.h names them, but for 9."""
+
+    def __init__(self, name, status):
+        super().__init__(f"{name}: {status}")
+        self.status = status
+
+
+class Hive:
+    """The library at a path. Its methods may be called by several threads at once."""
+
+    def __init__(self, path):
+        """Loads the shared library."""
+        self._library = ctypes.CDLL(path)
+
+    def _call(self, name, *given, room=1 << 14):
+        """The text that a function puts, for texts and numbers; a room that is too short is made longer once."""
+        function = getattr(self._library, "hive_library_" + name)
+        words = []
+        for item in given:
+            words += [ctypes.c_uint32(item)] if isinstance(item, int) else [bytes(item, "utf-8"), ctypes.c_size_t(len(bytes(item, "utf-8")))]
+        needed = ctypes.c_size_t(0)
+        while True:
+            text = ctypes.create_string_buffer(room)
+            status = function(*words, text, ctypes.c_size_t(room), ctypes.byref(needed))
+            if status == 0:
+                return text.raw[: needed.value].decode("ascii")
+            if status != 9:
+                raise HiveError(name, status)
+            room = needed.value
+
+    def version(self):
+        """The name and the version of the library."""
+        return self._call("version")
+
+    def written(self, line):
+        """The written form of the game that the line is."""
+        return self._call("written", line)
+
+    def moves(self, line):
+        """The legal moves of the game that the line is, joined by semicolons."""
+        return self._call("moves", line)
+
+    def after(self, line, move):
+        """The written form of the game behind a move."""
+        return self._call("after", line, move)
+
+    def best(self, line, depth):
+        """The best move so many plies deep, from 1 to 64."""
+        return self._call("best", line, depth)
