@@ -1,5 +1,5 @@
 #!/usr/bin/env bash
-# Runs the transcripts of README.md against the built program.
+# Looks whether the pages are true: transcripts against the built program, links, and the files and names that they cite.
 set -eu
 top=$(cd "$(dirname "$0")/.." && pwd)
 "$top/hive" uhp </dev/null >/dev/null
