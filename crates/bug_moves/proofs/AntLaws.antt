@@ -1,6 +1,6 @@
 -- What an ant finds is closed under steps, and so it is all that it reaches.
-use Rattle.std.proofs.Common.{◌≡◌, ◌≢◌, ℕ, suc, ◌+◌, ◌≤◌, ◌<◌, List, [], ◌∷◌, ◌++◌, length, ◌⊎◌, inl, inr, refl, sym, ◌∙◌, ap, subst, arith, length-append}
-use Rattle.std.specs.Prelude.{Some, slice_get}
+use Rattle.std.proofs.Common.{◌≡◌, false, ◌≢◌, ℕ, suc, ◌+◌, ◌≤◌, ◌<◌, List, [], ◌∷◌, ◌++◌, length, ◌⊎◌, inl, inr, refl, sym, ◌∙◌, ap, subst, arith, length-append}
+use Rattle.std.specs.Prelude.{Some, slice_get, nat_lt}
 use Rattle.std.proofs.lemmas.Bool.{cases_eq}
 use Rattle.std.specs.declared.cmp.Ordering.TheVariants.{Less, Equal, Greater}
 use Rattle.std.proofs.lemmas.Option.{same_Some}
@@ -8,7 +8,7 @@ use Rattle.hive_model.specs.declared.places.Place.{Place}
 use Rattle.hive_model.specs.declared.places.Dir.{Dir}
 use Rattle.hive_model.specs.Lists.{IsOn, IsPath}
 use Rattle.hive_model.specs.Places.{place_cmp, step, IsWithin}
-use Rattle.hive_model.specs.Boards.{Stacks}
+use Rattle.hive_model.specs.Boards.{Stacks, height_at, is_occupied}
 use Rattle.hive_model.specs.Near.{placed_by, with_place}
 use Rattle.hive_model.specs.Steps.{GroundStep}
 use Rattle.hive_model.proofs.PlaceLemmas.{exact_places, cases_place}
@@ -74,6 +74,19 @@ way_further b s p q (_, (way, path)) (apart, g) = (apart, (way ++ q ∷ [], path
 -- what is to be expanded may be stepped from
 pub listed_within : (b : Stacks) (s place : Place) (found work : List Place) (n : ℕ) → IsWorklist found work → IsExpanded b s found work n → slice_get work n ≡ Some place → IsWithin 9500 place
 listed_within b s place found work n list h at = at_hive_within b h.list.sound place (h.list.near place (list.from_found place (on-at work n place at)))
+
+-- what is to be expanded is empty
+ends_empty : (b : Stacks) (s : Place) (way : List Place) (q : Place) → s ≢ q → IsPath (GroundStep b) s way q → height_at b q ≡ 0
+ends_empty b s [] q apart same = absurd (apart same)
+ends_empty b s (x ∷ way) q apart path = elim (cases_place x q) [
+  | inl same ↦ subst (λ (z : Place). height_at b z ≡ 0) same path.0.to_empty
+  | inr away ↦ ends_empty b x way q away path.1
+]
+
+pub listed_empty : (b : Stacks) (s place : Place) (found work : List Place) (n : ℕ) → IsWorklist found work → IsExpanded b s found work n → slice_get work n ≡ Some place → is_occupied b place ≡ false
+listed_empty b s place found work n list h at =
+    let (apart, (way, path)) = h.ways place (list.from_found place (on-at work n place at)) in
+    ap (nat_lt 0) (ends_empty b s way place apart path)
 
 pub expanded_first : (b : Stacks) (s : Place) (xs found work : List Place) → xs ≡ [] → Gains b (StepAway b s s) xs found → IsExpanded b s found work 0
 expanded_first b s xs found work none h = record {

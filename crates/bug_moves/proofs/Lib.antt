@@ -7,3 +7,4 @@ pub mod KindLaws
 pub mod FoundLaws
 pub mod TrailLaws
 pub mod RowLaws
+pub mod TakenLaws

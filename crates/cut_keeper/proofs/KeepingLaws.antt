@@ -1,7 +1,7 @@
 -- Marks that are made right, one place after another.
 use Rattle.std.proofs.Common.{◌≡◌, ◌≢◌, ◌↔◌, ℕ, Bool, true, false, List, [], ◌∷◌, ◌⊎◌, inl, inr, refl, sym, ◌∙◌, ap, subst, arith, ◌-◌, ◌<◌}
-use Rattle.std.specs.Prelude.{Some, None, slice_get, IsTrue}
-use Rattle.std.proofs.lemmas.Bool.{cases_lt, ltb-true}
+use Rattle.std.specs.Prelude.{Some, None, slice_get, nat_eq, IsTrue}
+use Rattle.std.proofs.lemmas.Bool.{cases_lt, ltb-true, eqb-true, eq-eqb}
 use Rattle.hive_model.specs.declared.places.Place.{Place}
 use Rattle.hive_model.specs.declared.places.Dir.{Dir}
 use Rattle.hive_model.specs.Lists.{IsOn}
@@ -121,9 +121,15 @@ no_top b p none = elim (cases_lt 0 (height_at b p)) [
 pub top_there : (b : Stacks) (p : Place) → IsTrue (is_occupied b p) → None ≡ top_at b p → ⊥
 top_there b p on none = let some = ltb-true 0 _ on in let off = no_top b p none in omega (arith, some, off)
 
-pub cut_marked : (b : Stacks) (ms : List Bool) (p : Place) (top n : ℕ) (r : Bool) → MarksSeparating b ms → n ≡ height_at b p → n ≡ 1 → Some top ≡ top_at b p → slice_get ms top ≡ Some r → IsTrue r ↔ IsCut b p
-cut_marked b ms p top n r stood height one here is =
-    let law = stood p top (sym here) in (
-      λ e. record { alone = sym height ∙ one; separates = law.0 (is ∙ ap (λ (t : Bool). Some t) e) },
-      λ h. let both : Some r ≡ Some true = sym is ∙ law.1 h.separates in cc,
-    )
+pub unmarked_uncut : (b : Stacks) (ms : List Bool) (p : Place) (top : ℕ) → MarksSeparating b ms → top_at b p ≡ Some top → slice_get ms top ≡ Some false → ¬ IsCut b p
+unmarked_uncut b ms p top stood here off cut =
+    let both : Some false ≡ Some true = sym off ∙ (stood p top here).1 cut.separates in
+    let wrong : false ≡ true = cc in
+    cc
+
+-- and a marked one is a cut place where it has one piece
+pub marked_cut : (b : Stacks) (ms : List Bool) (p : Place) (top n : ℕ) → MarksSeparating b ms → n ≡ height_at b p → top_at b p ≡ Some top → slice_get ms top ≡ Some true → IsTrue (nat_eq n 1) ↔ IsCut b p
+marked_cut b ms p top n stood height here on = (
+  λ e. record { alone = sym height ∙ eqb-true n 1 e; separates = (stood p top here).0 on },
+  λ h. eq-eqb n 1 (height ∙ h.alone),
+)

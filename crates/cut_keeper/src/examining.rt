@@ -11,11 +11,11 @@ ghost use Rattle.cut_keeper.specs.Keeping.{Right, HalfRight, HasMask, Pending, s
 use crate::rings::is_suspect;
 use arc_table::arcs;
 use hive_model::{Board, Dir, Piece, Place};
-use one_hive::{Marks, Steps, walk_is_cut};
+use one_hive::{Marks, Steps, walk_parts};
 use std::sync::ledger::Ledger;
 
 /// Whether an occupied place is separating: no place is whose occupied neighbours form one arc, and
-/// of another a walk tells.
+/// of another a walk tells, which ends as soon as it met all its neighbours.
 fn is_separating<B: Board, L: Ledger>(board: &B, place: Place, steps: &mut Steps<L>) -> bool
     requires one_hive { OneHive (B.stacks board.now) }
     requires occupied { IsTrue (is_occupied (B.stacks board.now) place) }
@@ -26,7 +26,7 @@ fn is_separating<B: Board, L: Ledger>(board: &B, place: Place, steps: &mut Steps
     if arcs(board.neighbours(place)) == 1 {
         return false;
     }
-    walk_is_cut(board, place, steps)
+    walk_parts(board, place, steps)
 }
 
 /// Makes the mark of an occupied place right, whose top piece is given.

@@ -1,8 +1,8 @@
 //! The keeper, and a board with it.
 
-ghost use Rattle.std.specs.Prelude.{◌≡◌, ◌↔◌, [], ◌+◌, ◌<◌, ◌≤◌, IsTrue};
+ghost use Rattle.std.specs.Prelude.{◌≡◌, ◌↔◌, [], ◌+◌, ◌<◌, ◌≤◌, Some, IsTrue};
 ghost use Rattle.hive_model.specs.Places.{IsWithin};
-ghost use Rattle.hive_model.specs.Boards.{height_at};
+ghost use Rattle.hive_model.specs.Boards.{height_at, top_at};
 ghost use Rattle.hive_model.specs.Hive.{IsCut};
 ghost use Rattle.one_hive.specs.Separating.{MarksSeparating};
 ghost use Rattle.cut_keeper.specs.Keeping.{Grown, Shrunk};
@@ -125,13 +125,23 @@ impl CutKeeper {
         requires { MarksSeparating (B.stacks board.now) self.now }
         ensures { IsTrue result ↔ IsCut (B.stacks board.now) place }
     {
-        if board.height(place) != 1 {
-            return false;
-        }
         match board.top(place) {
-            Some(top) => self.marks.is_set(top),
+            Some(top) => self.is_cut_below(board, place, top),
             None => false,
         }
+    }
+
+    /// Whether the place, whose top piece is given, is a cut place: few are marked, so that its
+    /// height is seldom read.
+    fn is_cut_below<B: Board>(&self, board: &B, place: Place, top: Piece) -> bool
+        requires marks { MarksSeparating (B.stacks board.now) self.now }
+        requires top { top_at (B.stacks board.now) place ≡ Some top }
+        ensures { IsTrue result ↔ IsCut (B.stacks board.now) place }
+    {
+        if !self.marks.is_set(top) {
+            return false;
+        }
+        board.height(place) == 1
     }
 }
 

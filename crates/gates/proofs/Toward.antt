@@ -1,10 +1,10 @@
 -- A ground step in a direction that is known.
-use Rattle.std.proofs.Common.{◌≡◌, ℕ, not, arith, true, false, ◌&&◌, refl, sym, ◌∙◌, subst, ap}
+use Rattle.std.proofs.Common.{◌≡◌, ℕ, Bool, max, not, arith, true, false, ◌&&◌, refl, sym, ◌∙◌, subst, ap}
 use Rattle.std.specs.Prelude.{nat_eq, nat_lt}
 use Rattle.std.proofs.lemmas.Bool.{and_parts, and_from, eq-eqb}
 use Rattle.hive_model.specs.declared.places.Place.{Place}
 use Rattle.hive_model.specs.declared.places.Dir.{Dir}
-use Rattle.hive_model.specs.Places.{step, dirs, is_place}
+use Rattle.hive_model.specs.Places.{step, dirs, dir_before, dir_after, is_place}
 use Rattle.hive_model.specs.Boards.{Stacks, height_at, is_occupied}
 use Rattle.hive_model.specs.Neighbours.{ring}
 use Rattle.hive_model.proofs.CopyLaws.{not_occupied}
@@ -45,3 +45,22 @@ free_toward b p d q leads h = record { dir = d; leads = sym leads; free = h }
 
 pub toward_free : (b : Stacks) (p : Place) (d : Dir) (q : Place) → q ≡ step p d → FreeStep b p q → is_blocked b p d ≡ false
 toward_free b p d q leads h = subst (λ e. is_blocked b p e ≡ false) (step_once p h.dir d (h.leads ∙ leads)) h.free
+
+-- beside an empty place no step is blocked
+
+none_higher : (m n : ℕ) → n ≡ 0 → nat_lt m n ≡ false
+none_higher m n none = grind (arith, none)
+
+and_none : (s t : Bool) → t ≡ false → s && t ≡ false
+and_none true t none = none
+and_none false t none = refl
+
+pub free_before : (b : Stacks) (p : Place) (d : Dir) → is_occupied b (step p (dir_before d)) ≡ false → is_blocked b p d ≡ false
+free_before b p d free =
+    ap (λ t. t && nat_lt (max (height_at b p) (height_at b (step p d))) (height_at b (step p (dir_after d))))
+    (none_higher (max (height_at b p) (height_at b (step p d))) (height_at b (step p (dir_before d))) (not_occupied b (step p (dir_before d)) free))
+
+pub free_after : (b : Stacks) (p : Place) (d : Dir) → is_occupied b (step p (dir_after d)) ≡ false → is_blocked b p d ≡ false
+free_after b p d free =
+    and_none (nat_lt (max (height_at b p) (height_at b (step p d))) (height_at b (step p (dir_before d)))) _
+    (none_higher (max (height_at b p) (height_at b (step p d))) (height_at b (step p (dir_after d))) (not_occupied b (step p (dir_after d)) free))

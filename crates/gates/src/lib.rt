@@ -1,6 +1,7 @@
 //! The two tests of a step from a place to a neighbour, over any board.
 #![tactic(auto)]
 
+mod climbs;
 mod slides;
 
 ghost use Rattle.std.specs.Prelude.{◌≡◌, ◌↔◌, IsTrue, max, ◌&&◌};
@@ -16,6 +17,7 @@ ghost use Rattle.hive_model.specs.Steps.{
   FreeStep,
 };
 
+pub use climbs::climb_amid;
 use hive_model::{Board, Dir, Place, is_occupied};
 pub use slides::{has_dir, slides_from, slides_from_empty};
 

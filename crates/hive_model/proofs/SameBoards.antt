@@ -1,7 +1,8 @@
 -- The test of keys of one board, and the count of the keys that have the board of the last.
-use Rattle.std.proofs.Common.{◌≡◌, suc, ◌-◌, Bool, ◌&&◌, List, [], ◌∷◌, ◌++◌, length, map, refl, sym, ◌∙◌, ap, arith}
-use Rattle.std.specs.Prelude.{Some, nat_eq, slice_get}
+use Rattle.std.proofs.Common.{◌≡◌, suc, ◌-◌, ◌<◌, ◌≤◌, Bool, ◌&&◌, List, [], ◌∷◌, ◌++◌, length, map, refl, sym, ◌∙◌, ap, arith}
+use Rattle.std.specs.Prelude.{Some, nat_eq, slice_get, slice_index_or}
 use Rattle.std.specs.Option.{option_eq}
+use Rattle.std.proofs.lemmas.Option.{slice_get_read}
 use lib.Pointwise.{pointwise}
 use Rattle.hive_model.specs.declared.places.Move.{Move}
 use Rattle.hive_model.specs.contracts.key.SmallSpotPartialEq.TheImpl as small_spot
@@ -46,6 +47,14 @@ boards_tested a b = (
 pub count_at : (ks : List KeyParts) (k : KeyParts) → slice_get ks (length ks - 1) ≡ Some k → count_same k ks ≡ count_last ks
 unfolding count_last
 count_at ks k e = sym (ap (λ o. count_found o ks) e)
+
+-- the key that is read at the end tells how often the last board stands
+pub last_read : (keys now : List KeyParts) (last : KeyParts) → keys ≡ now → 1 ≤ length now → last ≡ slice_index_or keys (length keys - 1) last → count_same last keys ≡ count_last now
+last_read keys now last same some read =
+    let size = ap length same in
+    let less : length keys - 1 < length keys = omega (arith, some, size) in
+    let at : slice_get keys (length keys - 1) ≡ Some last = slice_get_read keys _ (length keys - 1) last refl less read in
+    count_at keys last at ∙ ap count_last same
 
 -- The keys of a game's positions
 

@@ -9,6 +9,7 @@ ghost use Rattle.std.specs.Prelude.{
   ◌^◌,
   ◌<◌,
   ◌≤◌,
+  ◌≤ℤ◌,
   [],
   length,
   min,
@@ -28,7 +29,7 @@ ghost use Rattle.hive_model.specs.Games.{IsGame, after};
 ghost use Rattle.hive_model.specs.Courses.{Course, position, with_move, without_last, is_listed};
 ghost use Rattle.hive_model.specs.Stack.{with_level};
 ghost use Rattle.hive_model.specs.Evaluation.{eval};
-ghost use Rattle.hive_model.specs.Minimax.{value};
+ghost use Rattle.hive_model.specs.Minimax.{value, reply_value};
 ghost use Rattle.hive_model.specs.Keys.{key};
 
 use crate::boards::Board;
@@ -107,6 +108,12 @@ pub trait Game: Board + Sized {
         ensures same { course self.new ≡ course self.old }
         ensures count { played self.new ≡ played self.old };
 
+    /// How many legal moves there are: the length of their list. The game is as before.
+    fn count_moves(&mut self) -> u32
+        ensures counted { result ≡ length (moves (position (course self.old))) }
+        ensures same { course self.new ≡ course self.old }
+        ensures count { played self.new ≡ played self.old };
+
     /// Whether the move is legal. The game is as before.
     fn is_legal(&mut self, m: Move) -> bool
         ensures legal { IsTrue result ↔ IsOn (moves (position (course self.old))) m }
@@ -140,6 +147,14 @@ pub trait Game: Board + Sized {
         requires { IsOn (moves (position (course self.old))) m }
         ensures value { IfSome result (λ v. v
             ≡ value (after (position (course self.old)) m) 0) }
+        ensures same { course self.new ≡ course self.old }
+        ensures count { played self.new ≡ played self.old };
+
+    /// At most what a legal move is worth to the side that makes it, with one ply of best play behind
+    /// it, where that is told without making the move. The game is as before.
+    fn most_after(&mut self, m: Move) -> Option<i32>
+        requires { IsOn (moves (position (course self.old))) m }
+        ensures most { IfSome result (λ b. reply_value (position (course self.old)) 1 m ≤ℤ b) }
         ensures same { course self.new ≡ course self.old }
         ensures count { played self.new ≡ played self.old };
 

@@ -90,14 +90,23 @@ impl Repeats {
         }
     }
 
+    /// How many of the keys have the board of the last one, itself among them. The turn does not
+    /// count.
+    pub fn times(&self) -> u32
+        requires { 1 ≤ length self.now }
+        ensures { result ≡ count_last self.now }
+    {
+        let keys = self.kept.as_slice();
+        count_same(&keys[keys.len() - 1], keys)
+    }
+
     /// Whether at least three of the keys have the board of the last one, itself among them. The
-    /// turn does not count.
+    /// turn does not count. The keys are looked through only where three of them have one number.
     pub fn is_third(&self) -> bool
         requires { 1 ≤ length self.now }
         ensures { result ≡ nat_le 3 (count_last self.now) }
     {
         let keys = self.kept.as_slice();
-        let last = &keys[keys.len() - 1];
-        3 <= count_of(&self.counts, last.number()) && 3 <= count_same(last, keys)
+        3 <= count_of(&self.counts, keys[keys.len() - 1].number()) && 3 <= self.times()
     }
 }

@@ -3,3 +3,4 @@ pub mod Walking
 pub mod Throwing
 pub mod Pairing
 pub mod Listed
+pub mod CountLaws

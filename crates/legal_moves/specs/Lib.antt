@@ -1,2 +1,3 @@
 pub mod Going
 pub mod Listing
+pub mod Counting

@@ -14,7 +14,7 @@ use hive_model::{Board, Piece, Place, PlaceList, place_at};
 use std::sync::ledger::Ledger;
 
 /// Marks the piece on top of the place, if one is.
-fn mark_top<B: Board>(board: &B, place: Place, marks: &mut Marks)
+pub(crate) fn mark_top<B: Board>(board: &B, place: Place, marks: &mut Marks)
     ensures { (x : ℕ) → IsSet marks.new x
         ↔ ((top_at (B.stacks board.now) place ≡ Some x) ⊎ IsSet marks.old x) }
 {

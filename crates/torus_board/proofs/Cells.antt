@@ -76,7 +76,7 @@ module _ (b : Stacks) (x : ℕ) (p : Place) (is : IsBoard b) (small : x < 28) (i
   put_stack : stack_at (put b x p) p ≡ stack_at b p ++ x ∷ []
   put_stack = stack_at-put b x p p ∙ ap (λ t. cond t (stack_at b p ++ x ∷ []) (stack_at b p)) (is_place_itself p)
 
-  put_height : height_at (put b x p) p ≡ height_at b p + 1
+  pub put_height : height_at (put b x p) p ≡ height_at b p + 1
   put_height = ap length put_stack ∙ length-append (stack_at b p) (x ∷ [])
 
   put_lifted : lift (put b x p) x ≡ b
@@ -146,7 +146,7 @@ module _ (n : ℕ) (some : 0 < n) (b : Stacks) (is : IsBoard b) (x : ℕ) (p : P
     ];
   }
 
-  put_occupied : (q : Place) → IsTrue (is_occupied (put b x p) q) → IsTrue (is_occupied b q) ⊎ (q ≡ p)
+  pub put_occupied : (q : Place) → IsTrue (is_occupied (put b x p) q) → IsTrue (is_occupied b q) ⊎ (q ≡ p)
   put_occupied q h =
       let first = occupied_stands (put b x p) q h in
       elim (put_stands b x p first.0 q 0 first.1) [ inl old ↦ inl (stands_occupied b first.0 q 0 old) | inr (e, f, g) ↦ inr f ]
@@ -201,7 +201,7 @@ module _ (n : ℕ) (some : 0 < n) (b : Stacks) (is : IsBoard b) (spread : IsSpre
     ];
   }
 
-  lift_occupied : (q : Place) → IsTrue (is_occupied (lift b x) q) → IsTrue (is_occupied b q)
+  pub lift_occupied : (q : Place) → IsTrue (is_occupied (lift b x) q) → IsTrue (is_occupied b q)
   lift_occupied q h =
       let first = occupied_stands (lift b x) q h in
       stands_occupied b first.0 q 0 (lift_stands b is x p level stands top first.0 q 0 first.1).0

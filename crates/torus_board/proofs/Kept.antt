@@ -5,13 +5,15 @@ use Rattle.std.specs.Prelude.{replicate, is_none, slice_get, is_some, unwrap_or,
 use Rattle.std.proofs.lemmas.Option.{none-some, same_Some}
 use Rattle.hive_model.specs.declared.places.Place.{Place}
 use Rattle.hive_model.specs.declared.places.Spot.{Spot}
-use Rattle.hive_model.specs.Places.{IsWithin}
 use Rattle.hive_model.specs.Boards.{Stacks, spot_of, is_on_top, is_top_spot, top_at, height_at, under_of, put, lift}
 use Rattle.hive_model.specs.Spots.{Spots, IsSpots, HasSpot, board_of, height_by, spots_put, is_at}
 use Rattle.hive_model.proofs.SpotLemmas.{is_board, board_has, height_is, spots_put_is, board_of-put, spots_lift_is, board_of-lift, absent_is, on_top_is, spot_is, no_spots}
 use Rattle.hive_model.proofs.GetLemmas.{get_exists}
 use Rattle.hive_model.specs.Spread.{IsNearAll, IsSpread}
-use Rattle.torus_board.specs.Grid.{IsSide, IsGrid, IsLinked}
+use Rattle.hive_model.specs.Places.{IsWithin, origin}
+use Rattle.torus_board.specs.declared.towers.Tower.{Tower}
+use Rattle.torus_board.specs.Grid.{IsSide, IsGrid, IsHigh, IsLinked}
+use Rattle.torus_board.proofs.Heights.{high_put, high_lift, empty_high}
 use Rattle.residues.specs.Residues.{cell_of}
 use Rattle.torus_board.proofs.Cells.{grid_put, linked_put, spread_put, grid_lift, linked_lift, spread_lift, empty_grid, empty_spread}
 
@@ -33,10 +35,10 @@ opened None t h = absurd (none-some _ h)
 opened (Some u) t h = ap Some h
 
 -- the whole invariant of a grid
-abbrev pub Kept : ℕ → Spots → List (Option ℕ) → List (Option ℕ) → Type 0
-Kept n s below cells = (32 ≤ n) × (n ≤ 128) × IsSpots s × IsLinked (board_of s) below × IsGrid n (board_of s) cells × IsSpread n (board_of s)
+abbrev pub Kept : ℕ → Spots → List (Option ℕ) → List (Option ℕ) → List Tower → Type 0
+Kept n s below cells towers = (32 ≤ n) × (n ≤ 128) × IsSpots s × IsLinked (board_of s) below × IsGrid n (board_of s) cells × IsSpread n (board_of s) × IsHigh n (board_of s) towers
 
-module _ (n : ℕ) (s : Spots) (below cells : List (Option ℕ)) (is : Kept n s below cells) (b : Stacks) (view : board_of s ≡ b) (x : ℕ) (small : x < 28) where
+module _ (n : ℕ) (s : Spots) (below cells : List (Option ℕ)) (towers : List Tower) (is : Kept n s below cells towers) (b : Stacks) (view : board_of s ≡ b) (x : ℕ) (small : x < 28) where
   some : 0 < n
   some = let wide = is.0 in omega (arith, wide)
 
@@ -58,9 +60,12 @@ module _ (n : ℕ) (s : Spots) (below cells : List (Option ℕ)) (is : Kept n s 
       written : slice_set s j (Some (record { place = p; level = h })) ≡ spots_put s x p
       written = (λ m. slice_set s (at_j m) (Some (record { place = p; level = height m }))) ∙ ap (λ l. slice_set s x (Some (record { place = p; level = l }))) (sym (height_is s is.2 p))
 
-      pub put_kept : Kept n (slice_set s j (Some (record { place = p; level = h }))) (slice_set below i top) (slice_set cells k (Some x))
+      abbrev risen : ℕ → ℕ → List Tower
+      risen c l = slice_set towers c (record { place = p; height = l + 1 })
+
+      pub put_kept : Kept n (slice_set s j (Some (record { place = p; level = h }))) (slice_set below i top) (slice_set cells k (Some x)) (risen k h)
       put_kept =
-          subst (λ u. Kept n u (slice_set below i top) (slice_set cells k (Some x))) (sym written) (
+          subst (λ u. Kept n u (slice_set below i top) (slice_set cells k (Some x)) (risen k h)) (sym written) (
             is.0,
             is.1,
             spots_put_is s is.2 x p free within,
@@ -69,6 +74,8 @@ module _ (n : ℕ) (s : Spots) (below cells : List (Option ℕ)) (is : Kept n s 
             subst (λ c. IsGrid n c (slice_set cells k (Some x))) (sym made) (subst (λ m. IsGrid n (put (board_of s) x p) (slice_set cells m (Some x))) (sym at_k)
                 (grid_put n some (board_of s) (is_board s is.2) x p small within off close cells is.4)),
             subst (IsSpread n) (sym made) (spread_put n some (board_of s) (is_board s is.2) x p small within off close is.5),
+            subst (λ c. IsHigh n c (risen k h)) (sym made) (subst (λ m. IsHigh n (put (board_of s) x p) (risen m h)) (sym at_k) (subst (λ l. IsHigh n (put (board_of s) x p) (risen (cell_of n p) l)) (sym height)
+                (high_put n some (board_of s) (is_board s is.2) x p small within off close towers is.6))),
           )
 
       pub put_made : board_of (slice_set s j (Some (record { place = p; level = h }))) ≡ put b x p
@@ -91,9 +98,12 @@ module _ (n : ℕ) (s : Spots) (below cells : List (Option ℕ)) (is : Kept n s 
       under : o ≡ under_of (board_of s) x
       under = same_Some _ _ (sym o_is ∙ is.3.links x small)
 
-      pub lift_kept : Kept n (slice_set s j None) (slice_set below i None) (slice_set cells k o)
+      abbrev sunk : ℕ → List Tower
+      sunk c = slice_set towers c (record { place = t.place; height = t.level })
+
+      pub lift_kept : Kept n (slice_set s j None) (slice_set below i None) (slice_set cells k o) (sunk k)
       lift_kept =
-          subst (λ m. Kept n (slice_set s m None) (slice_set below i None) (slice_set cells k o)) (sym at_j) (
+          subst (λ m. Kept n (slice_set s m None) (slice_set below i None) (slice_set cells k o) (sunk k)) (sym at_j) (
             is.0,
             is.1,
             spots_lift_is s is.2 x t.place t.level stands top_here,
@@ -102,6 +112,8 @@ module _ (n : ℕ) (s : Spots) (below cells : List (Option ℕ)) (is : Kept n s 
             subst (λ c. IsGrid n c (slice_set cells k o)) (sym left) (subst (λ m. IsGrid n (lift (board_of s) x) (slice_set cells m o)) (sym at_k) (subst (λ u. IsGrid n (lift (board_of s) x) (slice_set cells (cell_of n t.place) u)) (sym under)
                 (grid_lift n some (board_of s) (is_board s is.2) is.5 x t.place t.level (board_has s is.2 x t.place t.level stands) high cells is.4))),
             subst (IsSpread n) (sym left) (spread_lift n some (board_of s) (is_board s is.2) is.5 x t.place t.level (board_has s is.2 x t.place t.level stands) high),
+            subst (λ c. IsHigh n c (sunk k)) (sym left) (subst (λ m. IsHigh n (lift (board_of s) x) (sunk m)) (sym at_k)
+                (high_lift n some (board_of s) (is_board s is.2) is.5 x t.place t.level (board_has s is.2 x t.place t.level stands) high towers is.6)),
           )
 
       pub lift_made : board_of (slice_set s j None) ≡ lift b x
@@ -144,12 +156,13 @@ no_links below many none = record {
     all ((Some y) ∷ ys) x o e h = let wrong : false ≡ true = e in absurd (cc)
 
 pub new_kept : (n : ℕ) → IsSide n → (s : Spots) → length s ≡ 28 → list_all is_none s ≡ true → board_of s ≡ [] → (below : List (Option ℕ)) → length below ≡ 28 → list_all is_none below ≡ true
-    → (cells : List (Option ℕ)) → cells ≡ replicate (n * n) None → Kept n s below cells
-new_kept n side s many none empty below long free cells clear = (
+    → (cells : List (Option ℕ)) → cells ≡ replicate (n * n) None → (towers : List Tower) → towers ≡ replicate (n * n) (record { place = origin; height = 0 }) → Kept n s below cells towers
+new_kept n side s many none empty below long free cells clear towers flat = (
   (side_small n side).0,
   (side_small n side).1,
   no_spots s none many,
   subst (λ b. IsLinked b below) (sym empty) (no_links below long free),
   subst (λ b. IsGrid n b cells) (sym empty) (empty_grid n cells (ap length clear ∙ length-replicate (n * n)) (λ i x h. none_in (n * n) i x (ap (λ (l : List (Option ℕ)). slice_get l i) (sym clear) ∙ h))),
   subst (IsSpread n) (sym empty) (empty_spread n),
+  subst (λ b. IsHigh n b towers) (sym empty) (empty_high n towers flat),
 )

@@ -1,8 +1,9 @@
 -- The cells of a wrapped grid, and the links downward, of a board.
-use Rattle.std.specs.Prelude.{◌≡◌, ℕ, ◌*◌, ◌<◌, List, length, Option, Some, slice_get, ◌⊎◌}
+use Rattle.std.specs.Prelude.{◌≡◌, ℕ, ◌*◌, ◌<◌, IsTrue, List, length, Option, Some, slice_get, ◌⊎◌}
 use Rattle.hive_model.specs.declared.places.Place.{Place}
-use Rattle.hive_model.specs.Boards.{Stacks, top_at, under_of}
+use Rattle.hive_model.specs.Boards.{Stacks, height_at, is_occupied, top_at, under_of}
 use Rattle.residues.specs.Residues.{cell_of}
+use Rattle.torus_board.specs.declared.towers.Tower.{Tower}
 
 -- the sides that a grid may have
 abbrev pub IsSide : ℕ → Type 0
@@ -15,6 +16,14 @@ pub record IsGrid (n : ℕ) (b : Stacks) (cells : List (Option ℕ)) : Type 0 wh
       → slice_get cells (cell_of n p) ≡ Some (Some x)
   pub own : (i x : ℕ) → slice_get cells i ≡ Some (Some x)
       → (p : Place) × (top_at b p ≡ Some x) × (cell_of n p ≡ i)
+
+-- the cell of each occupied place has its height, and each other cell has none
+pub record IsHigh (n : ℕ) (b : Stacks) (towers : List Tower) : Type 0 where
+  pub many : length towers ≡ n * n
+  pub heights : (p : Place) → IsTrue (is_occupied b p)
+      → slice_get towers (cell_of n p) ≡ Some (record { place = p; height = height_at b p })
+  pub own : (i : ℕ) (t : Tower) → slice_get towers i ≡ Some t → 0 < t.height
+      → (height_at b t.place ≡ t.height) × (cell_of n t.place ≡ i)
 
 -- each piece has the piece directly below it, if there is one
 pub record IsLinked (b : Stacks) (below : List (Option ℕ)) : Type 0 where

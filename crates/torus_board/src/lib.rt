@@ -1,6 +1,8 @@
 //! A board on a wrapped grid.
 #![tactic(auto)]
 
+mod towers;
+
 ghost use Rattle.std.specs.Prelude.{
   ◌≡◌,
   ◌+◌,
@@ -35,9 +37,16 @@ ghost use Rattle.hive_model.specs.Spread.{IsSpread, IsNearAll};
 ghost use Rattle.residues.specs.Residues.{residue, cell_of};
 ghost use Rattle.torus_board.specs.Grid.{IsSide, IsGrid, IsLinked};
 
+use crate::towers::{Tower, height_in};
 use hive_model::{Board, Dir, GameBoard, Piece, Place, Spot};
 use std::alloc::{AllocError, Global};
 use std::marker::Model;
+
+/// The tower of a cell that was not written yet.
+const NO_TOWER: Tower = Tower {
+    place: Place { q: 0, r: 0 },
+    height: 0,
+};
 
 /// A coordinate's residue.
 fn residue(z: i32, side: usize) -> usize
@@ -131,28 +140,16 @@ fn top_in(
     }
 }
 
-fn height_in(spots: &[Option<Spot>; 28], cells: &[Option<Piece>], side: usize, place: Place) -> u8
-    requires small { side ≤ 128 }
-    requires some { 0 < side }
-    requires spots { IsSpots spots.now }
-    requires grid { IsGrid side (board_of spots.now) cells.now }
-    ensures { result ≡ height_at (board_of spots.now) place }
-{
-    match highest_in(spots, cells, side, place) {
-        Some((_, level)) => level + 1,
-        None => 0,
-    }
-}
-
 /// A board of at most 28 pieces, seen as the finite map from places to the pieces there. It keeps
-/// where each piece stands and what is directly below it, and in a grid of SIDE times SIDE cells
-/// the top piece of each place, found by the residues of the place's coordinates. So every look-up
-/// is one read, and a place with the residues of another reads as empty.
+/// where each piece stands and what is directly below it, and in grids of SIDE times SIDE cells the
+/// top piece of each place and its height, found by the residues of the place's coordinates. So
+/// every look-up is one read or two, and a place with the residues of another reads as empty.
 #[derive(Drop)]
 pub struct Torus<const SIDE: usize> {
     spots: [Option<Spot>; 28],
     below: [Option<Piece>; 28],
     cells: Vec<Option<Piece>>,
+    towers: Vec<Tower>,
 }
 
 impl<const SIDE: usize> Model for Torus<SIDE> {
@@ -160,7 +157,7 @@ impl<const SIDE: usize> Model for Torus<SIDE> {
     ghost use Rattle.hive_model.specs.Boards.{Stacks};
     ghost use Rattle.hive_model.specs.Spots.{board_of, IsSpots};
     ghost use Rattle.hive_model.specs.Spread.{IsSpread};
-    ghost use Rattle.torus_board.specs.Grid.{IsGrid, IsLinked};
+    ghost use Rattle.torus_board.specs.Grid.{IsGrid, IsHigh, IsLinked};
 
     ghost Value = { Stacks };
 
@@ -169,7 +166,8 @@ impl<const SIDE: usize> Model for Torus<SIDE> {
     ghost invariant = { λ a. (32 ≤ SIDE) × (SIDE ≤ 128) × IsSpots a.spots
         × IsLinked (board_of a.spots) a.below
         × IsGrid SIDE (board_of a.spots) a.cells.items
-        × IsSpread SIDE (board_of a.spots) };
+        × IsSpread SIDE (board_of a.spots)
+        × IsHigh SIDE (board_of a.spots) a.towers.items };
 }
 
 impl<const SIDE: usize> Board for Torus<SIDE> {
@@ -182,7 +180,7 @@ impl<const SIDE: usize> Board for Torus<SIDE> {
     }
 
     fn height(&self, place: Place) -> u8 {
-        height_in(&self.spots, &self.cells, SIDE, place)
+        height_in(&self.towers, SIDE, place)
     }
 
     fn spot(&self, piece: Piece) -> Option<Spot> {
@@ -227,6 +225,7 @@ impl<const SIDE: usize> Torus<SIDE> {
             spots: [None; 28],
             below: [None; 28],
             cells: vec![in alloc; None; SIDE * SIDE]?,
+            towers: vec![in alloc; NO_TOWER; SIDE * SIDE]?,
         })
     }
 
@@ -238,10 +237,14 @@ impl<const SIDE: usize> Torus<SIDE> {
         requires near { IsNearAll SIDE self.old place }
         ensures { self.new ≡ put self.old piece place }
     {
-        let level = height_in(&self.spots, &self.cells, SIDE, place);
+        let level = self.height(place);
         let top = top_in(&self.spots, &self.cells, SIDE, place);
         let index = index_in(SIDE, place);
         self.cells[index] = Some(piece);
+        self.towers[index] = Tower {
+            place,
+            height: level + 1,
+        };
         self.below[piece.index() as usize] = top;
         self.spots[piece.index() as usize] = Some(Spot { place, level });
     }
@@ -258,6 +261,10 @@ impl<const SIDE: usize> Torus<SIDE> {
                 let index = index_in(SIDE, place);
                 let below = under_in(&self.below, piece);
                 self.cells[index] = below;
+                self.towers[index] = Tower {
+                    place,
+                    height: spot.level,
+                };
                 self.below[piece.index() as usize] = None;
                 self.spots[piece.index() as usize] = None;
                 place

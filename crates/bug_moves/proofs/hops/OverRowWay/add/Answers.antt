@@ -1,11 +1,19 @@
-use Rattle.std.proofs.Common.{arith, sym, ◌∙◌}
+use Rattle.std.proofs.Common.{arith, refl, sym, ◌∙◌}
 use Rattle.bug_moves.proofs.Gaining.{room_for}
 use Rattle.bug_moves.proofs.HopLaws.{few_over, more_over, next_over, row_at_hive, gains_hop, gains_no_hop}
 use Rattle.std.specs.Prelude.{IsTrue}
 use Rattle.hive_model.specs.Boards.{is_occupied}
 use Rattle.hive_model.specs.Places.{steps}
 use Rattle.std.proofs.Common.{suc, ap}
+use Rattle.bug_moves.proofs.TakenLaws.{is_free}
+use Rattle.hive_model.specs.Places.{step}
 use Rattle.bug_moves.proofs.hops.OverRowWay.add.Goals as goal
+
+pub returns-then-not-has_dir : goal.returns-then-not-has_dir
+returns-then-not-has_dir g c =
+    let b = g.B.Board.stacks c.args.board.now in
+    let free = is_free b c.args.from c.args.dir c.args.taken c.requires.taken c.has_dir.ensures c.if-not-has_dir.true in
+    gains_no_hop b c.args.from c.args.dir 0 (step c.args.from c.args.dir) c.args.out.now.items c.requires.list (omega arith) refl free
 
 pub row-init : goal.row-init
 row-init g c = record { place = c.step-place.ensures; over = λ k some low. absurd (omega (arith, some, low)) }

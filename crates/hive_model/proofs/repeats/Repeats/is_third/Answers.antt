@@ -1,26 +1,11 @@
-use Rattle.std.proofs.Common.{◌≡◌, ◌-◌, ◌<◌, ◌≤◌, List, length, refl, sym, ◌∙◌, ap, subst, arith}
-use Rattle.std.specs.Prelude.{Some, nat_le, slice_get, slice_index_or}
-use Rattle.std.proofs.lemmas.Option.{slice_get_read}
+use Rattle.std.proofs.Common.{◌≡◌, ◌<◌, List, sym, ◌∙◌, ap, subst, arith}
 use Rattle.hive_model.specs.Keys.{KeyParts}
 use Rattle.hive_model.specs.KeyNumbers.{number_of}
 use Rattle.hive_model.specs.NumberCounts.{count_of, AreCounted}
-use Rattle.hive_model.specs.Repetition.{count_same, count_last}
-use Rattle.hive_model.proofs.SameBoards.{count_at}
+use Rattle.hive_model.specs.Repetition.{count_last}
+use Rattle.hive_model.proofs.SameBoards.{last_read}
 use Rattle.hive_model.proofs.NumberCountLaws.{few_alike, both_few}
 use Rattle.hive_model.proofs.repeats.Repeats.is_third.Goals as goal
-
--- the last key tells how often the last board stands
-last_read : (keys now : List KeyParts) (last : KeyParts) → keys ≡ now → 1 ≤ length now → last ≡ slice_index_or keys (length keys - 1) last → count_same last keys ≡ count_last now
-last_read keys now last same some read =
-    let size = ap length same in
-    let less : length keys - 1 < length keys = omega (arith, some, size) in
-    let at : slice_get keys (length keys - 1) ≡ Some last = slice_get_read keys _ (length keys - 1) last refl less read in
-    count_at keys last at ∙ ap count_last same
-
-pub returns-then-count_of-ge3 : goal.returns-then-count_of-ge3
-returns-then-count_of-ge3 c =
-    let same = c.as_slice-keys.ensures.value ∙ c.self.view_is in
-    ap (nat_le 3) (c.count_same.ensures ∙ last_read c.as_slice-keys.result.now c.args.self.now c.index-keys-keys.result same c.requires c.index-keys-keys.is)
 
 pub returns-else-count_of-ge3 : goal.returns-else-count_of-ge3
 returns-else-count_of-ge3 c =

@@ -1,0 +1,89 @@
+//! How many legal moves there are.
+
+ghost use Rattle.std.specs.Prelude.{◌≡◌, length};
+ghost use Rattle.hive_model.specs.PlaceLists.{AreAll};
+ghost use Rattle.hive_model.specs.Boards.{IsBoard};
+ghost use Rattle.hive_model.specs.Placement.{MayPlace};
+ghost use Rattle.hive_model.specs.Legal.{is_over, moves, LegalPair};
+ghost use Rattle.hand_rules.specs.Bringing.{CanBring};
+ghost use Rattle.legal_moves.specs.Counting.{AreMany, PairsAreMany};
+ghost use Rattle.legal_moves.specs.Going.{AreThrowers, position_of};
+
+use crate::throws::{find_throwers, moved_places};
+use crate::turns::{Throwers, Turn};
+use hand_rules::{bring_places, may_bring};
+use hive_model::{Board, Cuts, Piece, PlaceList};
+
+/// To how many places the piece may go. `open_places` are the places where the side may place, if
+/// it may bring any piece, and `places` is a list to write on.
+fn count_piece<B: Cuts>(
+    board: &B,
+    turn: &Turn,
+    throwers: &Throwers,
+    open_places: &PlaceList,
+    piece: Piece,
+    places: &mut PlaceList,
+) -> u32
+    requires board { IsBoard (B.stacks board.now) }
+    requires throwers { AreThrowers (position_of (B.stacks board.now) turn.now) throwers.now }
+    requires places { CanBring turn.now.game_type (B.stacks board.now) turn.now.side turn.now.number
+        → AreAll (MayPlace (B.stacks board.now) turn.now.side) open_places.now.items }
+    ensures { AreMany (LegalPair (position_of (B.stacks board.now) turn.now) piece) result }
+{
+    if may_bring(turn.game_type, board, turn.side, turn.number, piece) {
+        let free = open_places.len();
+        return free as u32;
+    }
+    places.clear();
+    moved_places(board, turn, throwers, piece, places);
+    let many = places.len();
+    many as u32
+}
+
+/// How many legal moves of pieces there are. Where several kinds may be placed, their places are
+/// found once.
+fn count_pairs<B: Cuts>(board: &B, turn: &Turn) -> u32
+    requires { IsBoard (B.stacks board.now) }
+    ensures { PairsAreMany (LegalPair (position_of (B.stacks board.now) turn.now)) 28 result }
+{
+    let mut open_places = PlaceList::new();
+    bring_places(
+        turn.game_type,
+        board,
+        turn.side,
+        turn.number,
+        &mut open_places,
+    );
+    let throwers = find_throwers(board, turn);
+    let mut places = PlaceList::new();
+    let mut count = 0u32;
+    for x in 0..28u8 {
+        count += count_piece(
+            board,
+            turn,
+            &throwers,
+            &open_places,
+            Piece::at(x),
+            &mut places,
+        );
+    }
+    count
+}
+
+/// How many legal moves there are in this turn, the pass among them: the length of the list that
+/// `list` makes. No move is listed. `over` says whether the game is over; no move is legal then.
+pub fn count_moves<B: Cuts>(board: &B, turn: &Turn, over: bool) -> u32
+    requires { over ≡ is_over (position_of (B.stacks board.now) turn.now) }
+    ensures { result ≡ length (moves (position_of (B.stacks board.now) turn.now)) }
+{
+    if over {
+        return 0;
+    }
+    // each board that answers where a piece stands is sound
+    let _spot = board.spot(Piece::at(0));
+    let pairs = count_pairs(board, turn);
+    if pairs == 0 {
+        return 1;
+    }
+    pairs
+}
