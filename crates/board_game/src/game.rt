@@ -3,23 +3,27 @@
 ghost use Rattle.std.specs.Prelude.{◌≡◌, refl};
 ghost use Rattle.hive_model.specs.Courses.{position};
 
+use crate::before::Before;
 use crate::judging::{key_after, worth_after};
-use crate::listing::{is_legal_after, list_moves, state_of};
+use crate::listing::{count_after, is_legal_after, list_moves, state_of};
 use crate::making::{make, unmake};
-use crate::telling::ask;
+use crate::refuting::{reply_behind, turn_behind};
+use crate::telling::{ask, whole_of};
 use crate::turns::{side_after, turn_after};
-use cut_keeper::{CutKeeper, Delta};
+use cut_keeper::CutKeeper;
 use hive_model::{
     Board, Colour, Game, GameBoard, GameType, Key, Move, MoveStack, Piece, Place, Spot, State,
 };
 use leaf_worth::Base;
+use quiet_reply::most_worth;
 use std::alloc::{AllocError, Global};
 use std::marker::Model;
 
 /// A game on a board. To take a move back it keeps where the piece of each ply came from, and what
-/// the keeper of the cut places knew before it; the piece that rests is that of the last move. The
-/// keeper stands for the board between any two calls, so that a question asks no walk. Of the piece
-/// that was asked for last it has what was found of the board without it.
+/// it knew before it; the piece that rests is that of the last move. The keeper of the cut places
+/// stands for the board between any two calls, so that a question asks no walk. It has what was
+/// found of the board, and of the board without the piece that was asked for last, and of the quiet
+/// places the one that was found last.
 #[derive(Drop)]
 pub struct BoardGame<B: GameBoard> {
     game_type: GameType,
@@ -27,8 +31,10 @@ pub struct BoardGame<B: GameBoard> {
     made: Vec<Move>,
     from: Vec<Option<Place>>,
     keeper: CutKeeper,
-    before: Vec<Delta>,
+    before: Vec<Before>,
+    whole: Option<Base>,
     asked: Option<(Piece, Base)>,
+    quiet: Option<Place>,
     spare: u32,
     count: u64,
 }
@@ -39,7 +45,7 @@ impl<B: GameBoard> Model for BoardGame<B> {
     ghost use Rattle.board_game.specs.Replayed.{Played, IsReplayed};
     ghost use Rattle.one_hive.specs.Separating.{MarksSeparating};
     ghost use Rattle.board_game.specs.Kept.{AreKept};
-    ghost use Rattle.board_game.specs.Asked.{IsAsked};
+    ghost use Rattle.board_game.specs.Asked.{IsAsked, IsWhole};
     ghost use Rattle.hive_model.specs.Pieces.{other_side};
     ghost use Rattle.rule_laws.specs.Soundness.{side_after};
 
@@ -59,7 +65,8 @@ impl<B: GameBoard> Model for BoardGame<B> {
         × AreKept (opening g.game_type) g.made.items g.before.items
         × (vec_len g.before ≡ vec_len g.made)
         × (vec_len g.made + g.spare ≤ vec_capacity g.before)
-        × IsAsked (B.stacks g.board) (other_side (side_after (vec_len g.made))) g.asked };
+        × IsAsked (B.stacks g.board) (other_side (side_after (vec_len g.made))) g.asked
+        × IsWhole (B.stacks g.board) (other_side (side_after (vec_len g.made))) g.whole };
 }
 
 impl<B: GameBoard> Board for BoardGame<B> {
@@ -101,7 +108,9 @@ impl<B: GameBoard> Game for BoardGame<B> {
             from: Vec::new(alloc),
             keeper: CutKeeper::new(),
             before: Vec::new(alloc),
+            whole: None,
             asked: None,
+            quiet: None,
             spare: 0,
             count: 0,
         })
@@ -149,30 +158,40 @@ impl<B: GameBoard> Game for BoardGame<B> {
         list_moves(&self.board, &self.keeper, self.game_type, &self.made, out);
     }
 
+    fn count_moves(&mut self) -> u32 {
+        count_after(&self.board, &self.keeper, self.game_type, &self.made)
+    }
+
     fn is_legal(&mut self, m: Move) -> bool {
         is_legal_after(&self.board, &self.keeper, self.game_type, &self.made, m)
     }
 
     fn play(&mut self, m: Move) {
         let delta = self.keeper.delta();
+        let whole = self.whole.take();
+        let asked = self.asked.take();
         let from = make(&mut self.board, &mut self.keeper, &m);
         let _ = self.made.push(m);
         let _ = self.from.push(from);
-        let _ = self.before.push(delta);
-        self.asked = None;
+        let _ = self.before.push(Before {
+            delta,
+            whole,
+            asked,
+        });
         self.spare -= 1;
         self.count = self.count.saturating_add(1);
     }
 
     fn undo(&mut self) {
-        let Some(delta) = self.before.pop() else {
+        let Some(before) = self.before.pop() else {
             unreachable!();
         };
         if let Some(m) = self.made.pop() {
             let from = self.from.pop().flatten();
             unmake(&mut self.board, &m, from);
-            self.keeper.back(delta);
-            self.asked = None;
+            self.keeper.back(before.delta);
+            self.whole = before.whole;
+            self.asked = before.asked;
             self.spare += 1;
         }
     }
@@ -186,16 +205,27 @@ impl<B: GameBoard> Game for BoardGame<B> {
             return None;
         };
         let side = side_after(self.made.len() as u32).other();
+        let whole = whole_of(&self.board, &self.keeper, self.whole.take(), side);
         let (told, base) = ask(
             &self.board,
             &self.keeper,
+            &whole,
             self.asked.take(),
             piece,
             place,
             side,
         );
+        self.whole = Some(whole);
         self.asked = Some((piece, base));
         told
+    }
+
+    fn most_after(&mut self, m: Move) -> Option<i32> {
+        let turn = turn_behind(self.game_type, &self.made, &m);
+        let quiet = reply_behind(&mut self.board, &m, &turn, self.quiet)?;
+        self.quiet = Some(quiet);
+        let worth = self.value_after(m)?;
+        Some(most_worth(&turn, worth))
     }
 
     fn key(&self) -> Key {

@@ -13,30 +13,54 @@ ghost use Rattle.hive_model.specs.Places.{IsWithin};
 ghost use Rattle.hive_model.specs.Positions.{Position};
 ghost use Rattle.leaf_worth.specs.Bases.{IsFound};
 ghost use Rattle.one_hive.specs.Separating.{MarksSeparating};
-ghost use Rattle.board_game.specs.Asked.{IsAsked};
+ghost use Rattle.board_game.specs.Asked.{IsAsked, IsWhole};
 ghost use Rattle.board_game.specs.Replayed.{CanBeTaken};
 
 use cut_keeper::{CutKeeper, removed_uncounted};
 use hive_model::{Board, Colour, Lifted, Piece, Place};
 use leaf_worth::Base;
 
-/// What is found of the board without the piece, which is in hand or on top. The keeper stands for
-/// the board, which is one hive with the piece and without it.
-fn base_without<B: Board>(board: &B, keeper: &CutKeeper, piece: Piece, side: Colour) -> Base
+/// What is found of the whole board, which is one hive: what was found before, or else what is
+/// found now. The keeper stands for the board.
+pub fn whole_of<B: Board>(board: &B, keeper: &CutKeeper, known: Option<Base>, side: Colour) -> Base
+    requires marks { MarksSeparating (B.stacks board.now) keeper.now }
+    requires one_hive { OneHive (B.stacks board.now) }
+    requires known { IsWhole (B.stacks board.now) side known }
+    ensures { IsFound (B.stacks board.now) side result }
+{
+    match known {
+        Some(whole) => whole,
+        None => Base::of_hive(board, keeper.again(), side),
+    }
+}
+
+/// What is found of the board without the piece, which is in hand or on top, by what was found of
+/// the whole board. The keeper stands for the board, which is one hive with the piece and without
+/// it, and on which no queen is surrounded.
+fn base_without<B: Board>(
+    board: &B,
+    keeper: &CutKeeper,
+    whole: &Base,
+    piece: Piece,
+    side: Colour,
+) -> Base
     requires loose { CanBeTaken (B.stacks board.now) piece }
     requires one_hive { OneHive (B.stacks board.now) }
     requires left { OneHive (without (B.stacks board.now) piece) }
     requires marks { MarksSeparating (B.stacks board.now) keeper.now }
+    requires whole { IsFound (B.stacks board.now) side whole.now }
+    requires white { is_surrounded (B.stacks board.now) White ≡ false }
+    requires black { is_surrounded (B.stacks board.now) Black ≡ false }
     ensures { IsFound (without (B.stacks board.now) piece) side result }
 {
-    let mut known = keeper.again();
     match board.spot(piece) {
         Some(spot) => {
+            let mut known = keeper.again();
             let left = Lifted::new(board, piece);
             let _delta = removed_uncounted(&mut known, &left, piece, spot.place);
-            Base::of(&left, known, side)
+            whole.left_by(board, &left, known, piece, spot.place, side, true)
         }
-        None => Base::of(board, known, side),
+        None => whole.again(),
     }
 }
 
@@ -68,6 +92,7 @@ fn value_by<B: Board>(
 fn known_or_found<B: Board>(
     board: &B,
     keeper: &CutKeeper,
+    whole: &Base,
     asked: Option<(Piece, Base)>,
     piece: Piece,
     side: Colour,
@@ -76,6 +101,9 @@ fn known_or_found<B: Board>(
     requires one_hive { OneHive (B.stacks board.now) }
     requires left { OneHive (without (B.stacks board.now) piece) }
     requires marks { MarksSeparating (B.stacks board.now) keeper.now }
+    requires whole { IsFound (B.stacks board.now) side whole.now }
+    requires white { is_surrounded (B.stacks board.now) White ≡ false }
+    requires black { is_surrounded (B.stacks board.now) Black ≡ false }
     requires asked { IsAsked (B.stacks board.now) side asked }
     ensures { IsFound (without (B.stacks board.now) piece) side result }
 {
@@ -84,7 +112,7 @@ fn known_or_found<B: Board>(
             return base;
         }
     }
-    base_without(board, keeper, piece, side)
+    base_without(board, keeper, whole, piece, side)
 }
 
 /// What the position is worth to its side to move that the piece leads to when it goes to the place
@@ -92,11 +120,13 @@ fn known_or_found<B: Board>(
 pub fn ask<B: Board>(
     board: &B,
     keeper: &CutKeeper,
+    whole: &Base,
     asked: Option<(Piece, Base)>,
     piece: Piece,
     place: Place,
     side: Colour,
 ) -> (Option<i32>, Base)
+    requires whole { IsFound (B.stacks board.now) side whole.now }
     requires asked { IsAsked (B.stacks board.now) side asked }
     requires loose { CanBeTaken (B.stacks board.now) piece }
     requires one_hive { OneHive (B.stacks board.now) }
@@ -109,7 +139,7 @@ pub fn ask<B: Board>(
     ensures value { (p : Position) → p.board ≡ B.stacks board.now → other_side p.side ≡ side
         → IfSome result.0 (λ v. v ≡ value (after p (To piece place)) 0) }
 {
-    let base = known_or_found(board, keeper, asked, piece, side);
+    let base = known_or_found(board, keeper, whole, asked, piece, side);
     let told = value_by(board, &base, piece, place, side);
     (told, base)
 }

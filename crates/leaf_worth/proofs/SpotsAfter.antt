@@ -26,15 +26,22 @@ use Rattle.arc_law.proofs.ArcBoards.{IsRaised, raised_put, arc_but_one, another_
 use Rattle.hive_model.specs.Neighbours.{ring, ring_mask, weight}
 use Rattle.cut_keeper.proofs.RingLaws.{arc_unsuspected, another_from}
 use Rattle.cut_keeper.proofs.ChangeLaws.{same_separating, same_occupied}
-use Rattle.leaf_worth.specs.After.{HasTwo, Stays, FreeAfter}
+use Rattle.cut_keeper.specs.Rings.{is_suspect}
+use Rattle.leaf_worth.specs.declared.free_after.FreeChange.TheVariants.{Lost}
+use Rattle.leaf_worth.specs.After.{HasTwo, FreeAfter}
 
-same_tests : {P : Type 0} (r t : Bool) → (IsTrue r ↔ P) → (IsTrue t ↔ P) → r ≡ t
+-- the neighbour in this direction is none whose neighbours form no single arc without it, or it is
+-- no cut place
+abbrev pub Stays : Stacks → Place → Dir → Type 0
+Stays b p d = (is_suspect (ring (is_occupied b) p) d ≡ false) ⊎ (¬ IsCut b (step p d))
+
+pub same_tests : {P : Type 0} (r t : Bool) → (IsTrue r ↔ P) → (IsTrue t ↔ P) → r ≡ t
 same_tests true true a b = refl
 same_tests true false a b = sym (b.1 (a.0 refl))
 same_tests false true a b = a.1 (b.0 refl)
 same_tests false false a b = refl
 
-no_and : (t : Bool) → (t && false) ≡ false
+pub no_and : (t : Bool) → (t && false) ≡ false
 no_and true = refl
 no_and false = refl
 
@@ -87,7 +94,7 @@ all_dirs P a b c d e f SW = e
 all_dirs P a b c d e f SE = f
 
 module _ (b : Stacks) (is : IsBoard b) (x : ℕ) (p : Place) (low : x < 28) (inside : IsWithin 9000 p) (absent : spot_of b x ≡ None) where
-  gone : (q : Place) (i : ℕ) → StandsAt b x q i → ⊥
+  pub gone : (q : Place) (i : ℕ) → StandsAt b x q i → ⊥
   gone q i h = let wrong : ◌≡◌ {A = Option Spot} None (Some (record { place = q; level = i })) = sym absent ∙ stands_spot_of b is x q i h in cc
 
   pub is_after : IsBoard (put b x p)
@@ -151,7 +158,7 @@ module _ (b : Stacks) (is : IsBoard b) (x : ℕ) (p : Place) (low : x < 28) (ins
         at (Some s) e = at_place y s apart e
 
   -- the piece covers another one
-  pub free_above : (top : ℕ) → top_at b p ≡ Some top → FreeAfter b x p (Some top)
+  pub free_above : (top : ℕ) → top_at b p ≡ Some top → FreeAfter b x p (Some (Lost top))
   free_above top on = (λ y other. free_by (Some top) at_place y (λ e. other (cc)), not_free, is.pieces p _ top on)
     where
       some : 0 < height_at b p
@@ -196,31 +203,60 @@ module _ (b : Stacks) (is : IsBoard b) (x : ℕ) (p : Place) (low : x < 28) (ins
         let on = stands_occupied b y s.place s.level (spot_of_stands b y s stands) in
         free_elsewhere s (moved s.place on) (same s.place on)) y (λ e. cc)
 
-    -- beside one arc whose inner neighbours are no cut places
-    pub free_beside_arc : OneArc (is_occupied b) p → ((d : Dir) → ring_mask (ring (is_occupied b) p) ≢ weight d) → ((d : Dir) → Stays b p d) → FreeAfter b x p None
-    free_beside_arc arc more stays = free_where same
-      where
-        same : (q : Place) → IsTrue (is_occupied b q) → IsCut (put b x p) q ↔ IsCut b q
-        same q on =
-            let other = moved q on in
-            elim (are_neighbours p q) as (λ t. are_neighbours p q ≡ t → IsCut (put b x p) q ↔ IsCut b q) [
-              | false ↦ λ e. cut_by q other (arc_but_one b x p empty q other (arc_without b p q (λ n. let wrong : false ≡ true = sym e ∙ from_neighbours p q n in cc) arc))
-              | true ↦ λ e.
-                  let n = neighbours_from p q e in
-                  let d = n.0 in
-                  let on_d : IsTrue (is_occupied b (step p d)) = ap (is_occupied b) n.1 ∙ on in
-                  subst (λ r. IsCut (put b x p) r ↔ IsCut b r) n.1 (beside d on_d)
-            ] refl
-          where
-            beside : (d : Dir) → IsTrue (is_occupied b (step p d)) → IsCut (put b x p) (step p d) ↔ IsCut b (step p d)
-            beside d on_d = elim (stays d) [
-              | inl calm ↦ cut_by (step p d) (step_moves p d) (arc_but_one b x p empty (step p d) (step_moves p d) (arc_unsuspected (is_occupied b) p d on_d calm))
-              | inr no_cut ↦
-                  let another = another_from (ring (is_occupied b) p) d (more d) on_d in
-                  let still = another_beside b x p empty (step p d) (step_moves p d) another.0 another.1 (λ e. another.2 (step_once p another.0 d e)) in
-                  let e = raised.others (step p d) (step_moves p d) in
-                  (λ h. absurd (no_cut (record { alone = sym e ∙ h.alone; separates = still h.separates })), λ h. absurd (no_cut h))
-            ]
+    -- where a piece stands on the ground of this place alone, all other places stay
+    module _ (n : Place) (one : height_at b n ≡ 1) (top : ℕ) (at_top : top_at b n ≡ Some top) where
+      pub first_on : StandsAt b top n 0
+      first_on = let e : 0 ≡ height_at b n - 1 = omega (arith, one) in ap (slice_get (stack_at b n)) e ∙ at_top
+
+      pub but_on : ((q : Place) → IsTrue (is_occupied b q) → q ≢ n → IsCut (put b x p) q ↔ IsCut b q) → (y : ℕ) → y ≢ top → is_free_piece (put b x p) (Some x) y ≡ is_free_piece b None y
+      but_on same y apart = free_by (Some top) at_place y (λ e. apart (cc))
+        where
+          at_place : (y : ℕ) (s : Spot) → Some top ≢ Some y → spot_of b y ≡ Some s → is_uncut_top (put b x p) (Some s) ≡ is_uncut_top b (Some s)
+          at_place y s other stands =
+              let stood = spot_of_stands b y s stands in
+              let on_s = stands_occupied b y s.place s.level stood in
+              elim (cases_place s.place n) [
+                | inr elsewhere ↦ free_elsewhere s (moved s.place on_s) (same s.place on_s elsewhere)
+                | inl there ↦
+                    let here : StandsAt b y n s.level = subst (λ q. StandsAt b y q s.level) there stood in
+                    let below = get_within (stack_at b n) s.level y here in
+                    let level : 0 ≡ s.level = omega (arith, below, one) in
+                    absurd (other (sym first_on ∙ ap (slice_get (stack_at b n)) level ∙ here))
+              ]
+
+      -- the piece there is another one than that which is put
+      pub other_on : top ≢ x
+      other_on e = gone n 0 (first_on ∙ ap (λ (k : ℕ). Some k) e)
+
+      pub free_on : n ≢ p → is_free_piece (put b x p) (Some x) top ≡ not (is_cut (put b x p) n)
+      free_on apart =
+          let stands = stands_spot_of b is top n 0 first_on in
+          free_then top other_on ∙ ap (is_uncut_top (put b x p)) stands
+          ∙ ap (λ t. t && not (is_cut (put b x p) n)) (eq-eqb _ _ (sym (raised.others n apart ∙ one)))
+
+    -- beside one arc of two or more, each neighbour that stays and each place that is none
+    module _ (arc : OneArc (is_occupied b) p) (more : (d : Dir) → ring_mask (ring (is_occupied b) p) ≢ weight d) where
+      still_beside : (d : Dir) → IsTrue (is_occupied b (step p d)) → Stays b p d → IsCut (put b x p) (step p d) ↔ IsCut b (step p d)
+      still_beside d on_d (inl calm) = cut_by (step p d) (step_moves p d) (arc_but_one b x p empty (step p d) (step_moves p d) (arc_unsuspected (is_occupied b) p d on_d calm))
+      still_beside d on_d (inr no_cut) =
+          let another = another_from (ring (is_occupied b) p) d (more d) on_d in
+          let still = another_beside b x p empty (step p d) (step_moves p d) another.0 another.1 (λ e. another.2 (step_once p another.0 d e)) in
+          let e = raised.others (step p d) (step_moves p d) in
+          (λ h. absurd (no_cut (record { alone = sym e ∙ h.alone; separates = still h.separates })), λ h. absurd (no_cut h))
+
+      pub still_cut : (q : Place) → IsTrue (is_occupied b q) → ((d : Dir) → step p d ≡ q → Stays b p d) → IsCut (put b x p) q ↔ IsCut b q
+      still_cut q on stays =
+          let other = moved q on in
+          elim (are_neighbours p q) as (λ t. are_neighbours p q ≡ t → IsCut (put b x p) q ↔ IsCut b q) [
+            | false ↦ λ e. cut_by q other (arc_but_one b x p empty q other (arc_without b p q (λ n. let wrong : false ≡ true = sym e ∙ from_neighbours p q n in cc) arc))
+            | true ↦ λ e.
+                let n = neighbours_from p q e in
+                let on_d : IsTrue (is_occupied b (step p n.0)) = ap (is_occupied b) n.1 ∙ on in
+                subst (λ r. IsCut (put b x p) r ↔ IsCut b r) n.1 (still_beside n.0 on_d (stays n.0 n.1))
+          ] refl
+
+      pub free_beside_arc : ((d : Dir) → Stays b p d) → FreeAfter b x p None
+      free_beside_arc stays = free_where (λ q on. still_cut q on (λ d _. stays d))
 
     -- beside one neighbour alone
     module _ (d : Dir) (on : IsTrue (is_occupied b (step p d))) (only : (e : Dir) → IsTrue (is_occupied b (step p e)) → e ≡ d) where
@@ -250,38 +286,19 @@ module _ (b : Stacks) (is : IsBoard b) (x : ℕ) (p : Place) (low : x < 28) (ins
             (λ h. let a = h.alone in absurd (omega (arith, a, e, there, high)), λ h. let a = h.alone in absurd (omega (arith, a, there, high)))
       ])
 
-      pub free_beside_one : HasTwo b → height_at b (step p d) ≤ 1 → (top : ℕ) → top_at b (step p d) ≡ Some top → FreeAfter b x p (Some top)
-      free_beside_one two ground top at_top = (λ y other. free_by (Some top) at_place y (λ e. other (cc)), not_free, is.pieces (step p d) _ top at_top)
+      pub free_beside_one : HasTwo b → height_at b (step p d) ≤ 1 → (top : ℕ) → top_at b (step p d) ≡ Some top → FreeAfter b x p (Some (Lost top))
+      free_beside_one two ground top at_top = (but_on (step p d) one top at_top same_but, not_free, is.pieces (step p d) _ top at_top)
         where
           one : height_at b (step p d) ≡ 1
           one = let some = ltb-true 0 _ on in omega (arith, some, ground)
 
-          first : StandsAt b top (step p d) 0
-          first = let e : 0 ≡ height_at b (step p d) - 1 = omega (arith, one) in ap (slice_get (stack_at b (step p d))) e ∙ at_top
-
-          at_place : (y : ℕ) (s : Spot) → Some top ≢ Some y → spot_of b y ≡ Some s → is_uncut_top (put b x p) (Some s) ≡ is_uncut_top b (Some s)
-          at_place y s other stands =
-              let stood = spot_of_stands b y s stands in
-              let on_s = stands_occupied b y s.place s.level stood in
-              elim (cases_place s.place (step p d)) [
-                | inr elsewhere ↦ free_elsewhere s (moved s.place on_s) (same_but s.place on_s elsewhere)
-                | inl same ↦
-                    let here : StandsAt b y (step p d) s.level = subst (λ q. StandsAt b y q s.level) same stood in
-                    let below = get_within (stack_at b (step p d)) s.level y here in
-                    let level : 0 ≡ s.level = omega (arith, below, one) in
-                    absurd (other (sym first ∙ ap (slice_get (stack_at b (step p d))) level ∙ here))
-              ]
-
           not_free : is_free_piece (put b x p) (Some x) top ≡ false
           not_free =
-              let stands = stands_spot_of b is top (step p d) 0 first in
-              let other : top ≢ x = (λ e. gone (step p d) 0 (first ∙ ap (λ (k : ℕ). Some k) e)) in
               let cut : IsCut (put b x p) (step p d) = record {
                 alone = raised.others (step p d) (step_moves p d) ∙ one;
                 separates = (one_beside b x p empty d on only).1 (another_place b two (step p d));
               } in
-              free_then top other ∙ ap (is_uncut_top (put b x p)) stands
-              ∙ ap (λ t. nat_eq (0 + 1) (height_at (put b x p) (step p d)) && not t) (from_cut (put b x p) is_after (step p d) cut) ∙ no_and _
+              free_on (step p d) one top at_top (step_moves p d) ∙ ap not (from_cut (put b x p) is_after (step p d) cut)
 
 -- a place with no piece on top is empty
 pub no_top : (b : Stacks) (p : Place) → top_at b p ≡ None → height_at b p ≡ 0

@@ -1,10 +1,11 @@
 //! A board without one piece, looked at once for all places that the piece can go to.
 
-ghost use Rattle.std.specs.Prelude.{◌≡◌, false, IsNone, IfSome};
+ghost use Rattle.std.specs.Prelude.{◌≡◌, false, IsNone, IsTrue, IfSome};
 ghost use Rattle.hive_model.specs.declared.pieces.Colour.TheVariants.{White, Black};
 ghost use Rattle.hive_model.specs.declared.places.Move.TheVariants.{To};
-ghost use Rattle.hive_model.specs.Boards.{spot_of, without};
+ghost use Rattle.hive_model.specs.Boards.{put, spot_of, without};
 ghost use Rattle.hive_model.specs.Games.{after};
+ghost use Rattle.hive_model.specs.Hive.{OneHive};
 ghost use Rattle.hive_model.specs.Legal.{is_surrounded};
 ghost use Rattle.hive_model.specs.Minimax.{value};
 ghost use Rattle.hive_model.specs.Pieces.{other_side};
@@ -14,18 +15,21 @@ ghost use Rattle.one_hive.specs.Separating.{MarksSeparating};
 ghost use Rattle.leaf_worth.specs.Bases.{IsFound};
 
 use crate::worth_after::{has_two_places, worth_after_put};
+use crate::worth_before::{worth_before_put, worth_resting};
 use cut_keeper::{CutKeeper, KeptCuts};
 use hive_eval::evaluate;
 use hive_model::{Board, Colour, Piece, Place};
 use std::marker::Model;
 
 /// What is found once of a board without a piece: the keeper that stands for it, what it is worth
-/// to a side while no piece rests, and whether it is known to have two occupied places.
+/// to a side while no piece rests, whether it is known to have two occupied places, and whether it
+/// is known to be one hive.
 #[derive(Drop)]
 pub struct Base {
     keeper: CutKeeper,
     worth: i32,
     two: bool,
+    one: bool,
 }
 
 impl Model for Base {
@@ -33,19 +37,90 @@ impl Model for Base {
 
     ghost Value = { Found };
 
-    ghost view = { λ b. record { marks = b.keeper; worth = b.worth; two = b.two } };
+    ghost view = { λ b. record { marks = b.keeper; worth = b.worth; two = b.two; one = b.one } };
 }
 
 impl Base {
     /// What is found of the board with the keeper that stands for it, for the side that is to move
-    /// after the piece was put.
+    /// after the piece was put. Whether the board is one hive is not known.
     pub fn of<B: Board>(board: &B, keeper: CutKeeper, side: Colour) -> Base
         requires { MarksSeparating (B.stacks board.now) keeper }
         ensures { IsFound (B.stacks board.now) side result }
     {
+        Base::found(board, keeper, side, false)
+    }
+
+    /// The same of a board that is one hive.
+    pub fn of_hive<B: Board>(board: &B, keeper: CutKeeper, side: Colour) -> Base
+        requires marks { MarksSeparating (B.stacks board.now) keeper }
+        requires one_hive { OneHive (B.stacks board.now) }
+        ensures { IsFound (B.stacks board.now) side result }
+    {
+        Base::found(board, keeper, side, true)
+    }
+
+    /// What is found of a board that is known to be one hive or not.
+    fn found<B: Board>(board: &B, keeper: CutKeeper, side: Colour, one: bool) -> Base
+        requires marks { MarksSeparating (B.stacks board.now) keeper }
+        requires one { IsTrue one → OneHive (B.stacks board.now) }
+        ensures { IsFound (B.stacks board.now) side result }
+    {
         let two = has_two_places(board);
         let worth = evaluate(&KeptCuts::new(board, &keeper), side, None);
-        Base { keeper, worth, two }
+        Base {
+            keeper,
+            worth,
+            two,
+            one,
+        }
+    }
+
+    /// The same once more.
+    pub fn again(&self) -> Base
+        ensures { result ≡ self.now }
+    {
+        Base {
+            keeper: self.keeper.again(),
+            worth: self.worth,
+            two: self.two,
+            one: self.one,
+        }
+    }
+
+    /// What is found of the board that is left without the piece, by what was found of the board
+    /// with it, where it is on top of the place; the keeper stands for the board that is left, on
+    /// which no queen is surrounded, and `one` is whether that is known to be one hive.
+    pub fn left_by<B: Board, L: Board>(
+        &self,
+        board: &B,
+        left: &L,
+        keeper: CutKeeper,
+        piece: Piece,
+        place: Place,
+        side: Colour,
+        one: bool,
+    ) -> Base
+        requires found { IsFound (B.stacks board.now) side self.now }
+        requires back { B.stacks board.now ≡ put (L.stacks left.now) piece place }
+        requires absent { IsNone (spot_of (L.stacks left.now) piece) }
+        requires within { IsWithin 9000 place }
+        requires marks { MarksSeparating (L.stacks left.now) keeper }
+        requires white { is_surrounded (L.stacks left.now) White ≡ false }
+        requires black { is_surrounded (L.stacks left.now) Black ≡ false }
+        requires one { IsTrue one → OneHive (L.stacks left.now) }
+        ensures { IsFound (L.stacks left.now) side result }
+    {
+        let with = KeptCuts::new(board, &self.keeper);
+        let after = worth_resting(&with, self.worth, piece, side);
+        let two = has_two_places(left);
+        let without = KeptCuts::new(left, &keeper);
+        let worth = worth_before_put(&without, after, piece, place, side, two, one);
+        Base {
+            keeper,
+            worth,
+            two,
+            one,
+        }
     }
 
     /// What a position is worth to its side to move that the piece leads to when it goes to the
@@ -68,6 +143,6 @@ impl Base {
             ≡ side → IfSome result (λ v. v ≡ value (after p (To piece place)) 0) }
     {
         let known = KeptCuts::new(board, &self.keeper);
-        worth_after_put(&known, self.worth, piece, place, side, self.two)
+        worth_after_put(&known, self.worth, piece, place, side, self.two, self.one)
     }
 }

@@ -63,6 +63,15 @@ ask-told-requires-clause-one_hive g c =
     let can = subst (λ b. CanMake b c.args.m) (sym c.self.invariant.0.board_is) (can_make i.game_type i.made.items c.args.m c.self.invariant.0.game low legal) in
     (subst (CanMake (g.B.Board.stacks i.board)) c.in-To.is can).6
 
+pub whole_of-whole-requires-clause-one_hive : goal.whole_of-whole-requires-clause-one_hive
+whole_of-whole-requires-clause-one_hive g c =
+    let i = c.self.inside in
+    let few = c.self.invariant.0.few in
+    let low : length i.made.items < 9000 = omega (arith, few) in
+    let legal = subst (λ (s : Played). IsOn (moves (position s.course)) c.args.m) (sym c.self.view_is) c.requires in
+    let can = subst (λ b. CanMake b c.args.m) (sym c.self.invariant.0.board_is) (can_make i.game_type i.made.items c.args.m c.self.invariant.0.game low legal) in
+    (subst (CanMake (g.B.Board.stacks i.board)) c.in-To.is can).6
+
 pub ask-told-requires-clause-left : goal.ask-told-requires-clause-left
 ask-told-requires-clause-left g c =
     let i = c.self.inside in

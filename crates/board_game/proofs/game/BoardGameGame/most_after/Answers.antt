@@ -1,0 +1,39 @@
+use Rattle.std.proofs.Common.{◌≡◌, ◌<◌, ◌+◌, ◌≤◌, length, sym, ◌∙◌, ap, subst, arith, pos, ◌+ℤ◌, ◌≤ℤ◌}
+use Rattle.std.specs.Prelude.{vec_len, vec_capacity}
+use Rattle.hive_model.specs.Lists.{IsOn}
+use Rattle.hive_model.specs.Legal.{moves}
+use Rattle.hive_model.specs.Boards.{Stacks}
+use Rattle.hive_model.specs.Pieces.{other_side}
+use Rattle.hive_model.specs.Positions.{opening}
+use Rattle.hive_model.specs.Courses.{position}
+use Rattle.one_hive.specs.Separating.{MarksSeparating}
+use Rattle.rule_laws.specs.Soundness.{side_after}
+use Rattle.board_game.specs.Asked.{IsAsked, IsWhole}
+use Rattle.board_game.specs.Kept.{AreKept}
+use Rattle.board_game.specs.Replayed.{Played, CanMake, IsReplayed}
+use Rattle.board_game.proofs.PlyLaws.{can_make}
+use Rattle.board_game.proofs.game.BoardGameGame.most_after.Goals as goal
+
+pub reply_behind-requires : goal.reply_behind-requires
+reply_behind-requires g c =
+    let i = c.self.inside in
+    let few = c.self.invariant.0.few in
+    let low : length i.made.items < 9000 = omega (arith, few) in
+    let legal = subst (λ (s : Played). IsOn (moves (position s.course)) c.args.m) (sym c.self.view_is) c.requires in
+    subst (λ b. CanMake b c.args.m) (sym c.self.invariant.0.board_is) (can_make i.game_type i.made.items c.args.m c.self.invariant.0.game low legal)
+
+pub invariant_of-self : goal.invariant_of-self
+invariant_of-self g c =
+    let i = c.self.inside in
+    subst (λ (b : Stacks).
+    IsReplayed i.game_type b i.made.items i.from.items × (vec_len i.made + i.spare ≤ 5064) × (vec_len i.from ≡ vec_len i.made) × (vec_len i.made + i.spare ≤ vec_capacity i.made) × (vec_len i.made + i.spare ≤ vec_capacity i.from)
+    × MarksSeparating b i.keeper × AreKept (opening i.game_type) i.made.items i.before.items × (vec_len i.before ≡ vec_len i.made) × (vec_len i.made + i.spare ≤ vec_capacity i.before)
+    × IsAsked b (other_side (side_after (vec_len i.made))) i.asked × IsWhole b (other_side (side_after (vec_len i.made))) i.whole) (sym c.reply_behind.ensures.same) c.self.invariant
+
+pub invariant_of-self-2 : goal.invariant_of-self-2
+invariant_of-self-2 g c =
+    let i = c.self.inside in
+    subst (λ (b : Stacks).
+    IsReplayed i.game_type b i.made.items i.from.items × (vec_len i.made + i.spare ≤ 5064) × (vec_len i.from ≡ vec_len i.made) × (vec_len i.made + i.spare ≤ vec_capacity i.made) × (vec_len i.made + i.spare ≤ vec_capacity i.from)
+    × MarksSeparating b i.keeper × AreKept (opening i.game_type) i.made.items i.before.items × (vec_len i.before ≡ vec_len i.made) × (vec_len i.made + i.spare ≤ vec_capacity i.before)
+    × IsAsked b (other_side (side_after (vec_len i.made))) i.asked × IsWhole b (other_side (side_after (vec_len i.made))) i.whole) (sym c.reply_behind.ensures.same) c.self.invariant

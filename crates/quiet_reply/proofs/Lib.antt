@@ -1,0 +1,3 @@
+pub mod Resting
+pub mod Quiet
+pub mod Tests

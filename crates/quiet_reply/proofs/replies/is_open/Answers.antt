@@ -1,0 +1,8 @@
+use Rattle.std.proofs.Common.{sym, ◌∙◌}
+use Rattle.hive_model.proofs.BoardLemmas.{spot_within}
+use Rattle.hive_model.proofs.PlaceLemmas.{wider, wider_on_board}
+use Rattle.quiet_reply.proofs.replies.is_open.Goals as goal
+
+pub is_walled-requires : goal.is_walled-requires
+is_walled-requires g c =
+    wider _ (wider_on_board _ (spot_within (g.B.Board.stacks c.args.board.now) c.spot.ensures.board c.queen.result c.in-Some.spot (sym c.spot.ensures.spot ∙ c.in-Some.is)))

@@ -1,0 +1,91 @@
+//! Quiet replies.
+
+ghost use Rattle.std.specs.Prelude.{◌≡◌, ◌≢◌, false, IfSome, IsTrue, pos, ◌+ℤ◌, ◌-ℤ◌, ◌≤ℤ◌};
+ghost use Rattle.hive_model.specs.declared.pieces.Colour.TheVariants.{White, Black};
+ghost use Rattle.hive_model.specs.Legal.{is_surrounded};
+ghost use Rattle.hive_model.specs.declared.pieces.Kind.TheVariants.{Queen};
+ghost use Rattle.hive_model.specs.Pieces.{kind_of};
+ghost use Rattle.hive_model.specs.Minimax.{value};
+ghost use Rattle.hive_model.specs.Positions.{Position};
+ghost use Rattle.hand_rules.specs.Bringing.{MayBring};
+ghost use Rattle.legal_moves.specs.Going.{position_of};
+ghost use Rattle.quiet_reply.specs.Quiet.{rest_weight};
+
+use crate::places::find_quiet;
+use hand_rules::may_bring;
+use hive_model::{Board, Colour, Kind, Piece, Place, is_walled};
+use legal_moves::Turn;
+
+/// A piece that is no queen and that the side to move may bring into play.
+fn any_brought<B: Board>(board: &B, turn: &Turn) -> Option<Piece>
+    ensures brought { IfSome result (MayBring turn.now.game_type (B.stacks board.now) turn.now.side
+        turn.now.number) }
+    ensures no_queen { IfSome result (λ x. kind_of x ≢ Queen) }
+{
+    for x in 0..28u8 {
+        let piece = Piece::at(x);
+        if matches!(piece.kind(), Kind::Queen) {
+            continue;
+        }
+        if may_bring(turn.game_type, board, turn.side, turn.number, piece) {
+            return Some(piece);
+        }
+    }
+    None
+}
+
+/// Whether the side's queen is in hand or has an empty neighbour.
+#[tactic(auto, using(hive_model::proofs::PlaceLemmas::wider, hive_model::proofs::PlaceLemmas::wider_on_board))]
+fn is_open<B: Board>(board: &B, side: Colour) -> bool
+    ensures { IsTrue result → is_surrounded (B.stacks board.now) side ≡ false }
+{
+    match board.spot(side.queen()) {
+        Some(spot) => !is_walled(board, spot.place),
+        None => true,
+    }
+}
+
+/// A place to which the side to move may bring a piece so that one ply more of best play costs it
+/// at most what the resting piece counts; the place that is hinted at is tried first. None where no
+/// such reply is found, or the game is over.
+pub fn quiet_reply<B: Board>(board: &B, turn: &Turn, hint: Option<Place>) -> Option<Place>
+    ensures { IfSome result (λ q. value (position_of (B.stacks board.now) turn.now) 0
+        ≤ℤ (value (position_of (B.stacks board.now) turn.now) 1 +ℤ pos (rest_weight turn.now.rest))) }
+{
+    if !is_open(board, Colour::White) {
+        return None;
+    }
+    if !is_open(board, Colour::Black) {
+        return None;
+    }
+    let _board = board.spot(Piece::at(0));
+    let piece = any_brought(board, turn)?;
+    let _number = piece.index();
+    find_quiet(board, turn.side, hint)
+}
+
+/// What the piece that rests counts where it is free and rests no more.
+fn rest_weight(rest: &Option<Piece>) -> i32
+    ensures weight { result ≡ pos (rest_weight rest.now) }
+    ensures most { result ≤ℤ pos 10 }
+{
+    let Some(piece) = rest else {
+        return 0;
+    };
+    match piece.kind() {
+        Kind::Queen | Kind::Spider => 4,
+        Kind::Grasshopper => 6,
+        Kind::Beetle | Kind::Ladybug | Kind::Pillbug => 8,
+        Kind::Ant | Kind::Mosquito => 10,
+    }
+}
+
+/// At most what a move is worth to the side that made it with one ply behind it, where there is a
+/// quiet reply; `worth` is what the position after it is worth to its side to move with no ply
+/// left.
+pub fn most_worth(turn: &Turn, worth: i32) -> i32
+    requires { (p : Position) × (worth ≡ value p 0) }
+    ensures { result ≡ (pos (rest_weight turn.now.rest) -ℤ worth) }
+{
+    rest_weight(&turn.rest) - worth
+}
