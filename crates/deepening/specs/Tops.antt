@@ -1,9 +1,10 @@
 -- What the search of a root answers, and what one for a time tells of itself.
-use Rattle.std.specs.Prelude.{◌≡◌, ℕ, ◌+◌, ◌<◌, ◌≤◌, Some}
+use Rattle.std.specs.Prelude.{◌≡◌, ℕ, ◌+◌, ◌-◌, ◌*◌, ◌^◌, ◌<◌, ◌≤◌, Some}
 use Rattle.hive_model.specs.declared.answers.Best.{Best}
 use Rattle.hive_model.specs.declared.answers.Timed.{Timed}
 use Rattle.hive_model.specs.Positions.{Position}
 use Rattle.hive_model.specs.Minimax.{value, best}
+use Rattle.hive_model.specs.Costs.{share}
 
 -- the first of the legal moves that is worth most with so many plies searched, and what it is worth
 pub record IsTop (p : Position) (depth : ℕ) (top : Best) : Type 0 where
@@ -21,3 +22,9 @@ pub record IsTimed (given before after : ℕ) (told : Timed) : Type 0 where
   pub started : before ≤ told.started
   pub order : told.started ≤ told.stopped
   pub stopped : told.stopped ≡ after
+
+-- after depth 1 the clock was read at least once for each 256 plays, where the count of readings
+-- and that of plays stand below their end, that of a u64
+abbrev pub IsWatched : Position → ℕ → ℕ → ℕ → ℕ → Type 0
+IsWatched p readings readings' played played' = readings' < 2 ^ 64 - 1 → played' < 2 ^ 64 - 1
+    → played' ≤ played + share p 1 0 1 + 256 * (readings' - readings)

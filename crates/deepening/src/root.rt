@@ -26,7 +26,7 @@ ghost use Rattle.hive_model.specs.Courses.{position};
 ghost use Rattle.search_laws.specs.Found.{IsFound, IsOpen};
 ghost use Rattle.search_laws.specs.Nodes.{HasRoom, IsNode, CanReply, AreAsBefore};
 ghost use Rattle.search_core.specs.Times.{behind, sum_but};
-ghost use Rattle.ticker.specs.Ticks.{has_come, HasStopped, KeepsTime};
+ghost use Rattle.ticker.specs.Ticks.{has_come, HasStopped, KeepsTime, IsInTime, CountsPlays};
 ghost use Rattle.deepening.specs.Shares.{turns_share};
 ghost use Rattle.deepening.specs.Tops.{IsTop};
 
@@ -69,6 +69,10 @@ pub(crate) fn best_reply<G: Game, C: Clock>(
     ensures top { IfSome result (λ b. IsTop (position (G.course game.old)) depth b) }
     ensures before { AreAsBefore (G.course game.old) (G.course game.new) stack.old stack.new }
     ensures stopped { result ≡ None → HasStopped ticker.old ticker.new (C.last clock.new) }
+    ensures in_time { IfSome result (λ b. IsInTime ticker.old (C.last clock.old)
+        (C.last clock.new)) }
+    ensures often { CountsPlays ticker.old ticker.new (C.readings clock.old)
+        (C.readings clock.new) (G.played game.old) (G.played game.new) }
     ensures time { KeepsTime ticker.old ticker.new (C.readings clock.old) (C.readings clock.new)
         (C.last clock.old) (C.last clock.new) (nodes (position (G.course game.old)) depth) }
     ensures played { G.played game.new ≤ G.played game.old + share (position (G.course game.old))
@@ -109,6 +113,10 @@ fn try_all<G: Game, C: Clock>(
     ensures top { IfSome result (λ b. IsTop (position (G.course game.old)) depth b) }
     ensures before { AreAsBefore (G.course game.old) (G.course game.new) stack.old stack.new }
     ensures stopped { result ≡ None → HasStopped ticker.old ticker.new (C.last clock.new) }
+    ensures in_time { IfSome result (λ b. IsInTime ticker.old (C.last clock.old)
+        (C.last clock.new)) }
+    ensures often { CountsPlays ticker.old ticker.new (C.readings clock.old)
+        (C.readings clock.new) (G.played game.old) (G.played game.new) }
     ensures time { KeepsTime ticker.old ticker.new (C.readings clock.old) (C.readings clock.new)
         (C.last clock.old) (C.last clock.new) (nodes (position (G.course game.old)) depth) }
     ensures played { G.played game.new ≤ G.played game.old + share (position (G.course game.old))
@@ -156,6 +164,10 @@ fn try_in_turn<G: Game, C: Clock>(
     ensures top { IfSome result (λ b. IsTop (position (G.course game.old)) depth b) }
     ensures before { AreAsBefore (G.course game.old) (G.course game.new) stack.old stack.new }
     ensures stopped { result ≡ None → HasStopped ticker.old ticker.new (C.last clock.new) }
+    ensures in_time { IfSome result (λ b. IsInTime ticker.old (C.last clock.old)
+        (C.last clock.new)) }
+    ensures often { CountsPlays ticker.old ticker.new (C.readings clock.old)
+        (C.readings clock.new) (G.played game.old) (G.played game.new) }
     ensures time { KeepsTime ticker.old ticker.new (C.readings clock.old) (C.readings clock.new)
         (C.last clock.old) (C.last clock.new)
         (sum_but begun.hint 0 (behind (position (G.course game.old)) (depth - 1))
@@ -217,6 +229,10 @@ fn worth_of<G: Game, C: Clock>(
         window v) }
     ensures before { AreAsBefore (G.course game.old) (G.course game.new) stack.old stack.new }
     ensures stopped { result ≡ None → HasStopped ticker.old ticker.new (C.last clock.new) }
+    ensures in_time { IfSome result (λ v. IsInTime ticker.old (C.last clock.old)
+        (C.last clock.new)) }
+    ensures often { CountsPlays ticker.old ticker.new (C.readings clock.old)
+        (C.readings clock.new) (G.played game.old) (G.played game.new) }
     ensures time { KeepsTime ticker.old ticker.new (C.readings clock.old) (C.readings clock.new)
         (C.last clock.old) (C.last clock.new)
         (if option_eq nat_eq begun.hint (Some i) then 0

@@ -9,7 +9,7 @@ ghost use Rattle.search_laws.specs.Nodes.{HasRoom, CanReply, AreAsBefore};
 use hive_model::{Game, Move, MoveStack};
 
 /// How many lists of so many legal moves, at most 8, the game can go on with. The last ply of them
-/// is counted by the length of its list of moves, not played. The game and the stack are as before.
+/// is counted, neither listed nor played. The game and the stack are as before.
 pub fn count_lines<G: Game>(game: &mut G, plies: u32, stack: &mut MoveStack) -> u128
     requires few { plies ≤ 8 }
     requires spare { plies ≤ (G.course game.old).spare }
@@ -36,13 +36,13 @@ fn lines_from<G: Game>(game: &mut G, plies: u32, stack: &mut MoveStack) -> u128
     if plies == 0 {
         return 1;
     }
+    if plies == 1 {
+        let count = game.count_moves();
+        return count as u128;
+    }
     let level = stack.levels();
     game.list(stack);
     let count = stack.level_len(level);
-    if plies == 1 {
-        stack.drop_level();
-        return count as u128;
-    }
     let mut total = 0;
     for i in 0..count {
         let m = stack.get(level, i);

@@ -5,23 +5,59 @@ ghost use Rattle.hive_model.specs.Legal.{moves};
 ghost use Rattle.hive_model.specs.Lists.{IsOn};
 ghost use Rattle.hive_model.specs.Minimax.{reply_value};
 ghost use Rattle.hive_model.specs.Courses.{position};
+ghost use Rattle.search_laws.specs.Found.{IsFound, IsOpen};
 
 use hive_model::{Game, Move};
+use search_laws::Window;
 
-/// What a legal move is worth to the side that makes it, where no ply is left behind it and the
-/// game tells it without making the move.
-pub(crate) fn told_reply<G: Game>(game: &mut G, m: Move, depth: u32) -> Option<i32>
+/// What a legal move is worth to the side that makes it with no ply left behind it.
+fn told_leaf<G: Game>(game: &mut G, m: Move) -> Option<i32>
     requires { IsOn (moves (position (G.course game.old))) m }
-    ensures worth { IfSome result (λ v. v
-        ≡ reply_value (position (G.course game.old)) depth m) }
+    ensures worth { IfSome result (λ v. v ≡ reply_value (position (G.course game.old)) 0 m) }
     ensures same { G.course game.new ≡ G.course game.old }
     ensures count { G.played game.new ≡ G.played game.old }
 {
-    if depth > 0 {
-        return None;
-    }
     match game.value_after(m) {
         Some(worth) => Some(-worth),
         None => None,
+    }
+}
+
+/// At most what a legal move is worth with one ply left behind it, where this is no more than the
+/// lower end of the window.
+fn told_bound<G: Game>(game: &mut G, m: Move, window: Window) -> Option<i32>
+    requires window { IsOpen window }
+    requires legal { IsOn (moves (position (G.course game.old))) m }
+    ensures found { IfSome result (IsFound (reply_value (position (G.course game.old)) 1 m) window) }
+    ensures same { G.course game.new ≡ G.course game.old }
+    ensures count { G.played game.new ≡ G.played game.old }
+{
+    let worth = game.value_after(m.again())?;
+    if -worth > window.alpha {
+        return None;
+    }
+    let most = game.most_after(m)?;
+    if most <= window.alpha {
+        Some(most)
+    } else {
+        None
+    }
+}
+
+/// The answer of a search of a legal move in the window, with so many plies left behind it, where
+/// the game tells it without making the move: what it is worth where none is left, and a bound at
+/// or below the lower end where one is.
+pub(crate) fn told_reply<G: Game>(game: &mut G, m: Move, depth: u32, window: Window) -> Option<i32>
+    requires window { IsOpen window }
+    requires legal { IsOn (moves (position (G.course game.old))) m }
+    ensures found { IfSome result (IsFound (reply_value (position (G.course game.old)) depth m)
+        window) }
+    ensures same { G.course game.new ≡ G.course game.old }
+    ensures count { G.played game.new ≡ G.played game.old }
+{
+    match depth {
+        0 => told_leaf(game, m),
+        1 => told_bound(game, m, window),
+        _ => None,
     }
 }

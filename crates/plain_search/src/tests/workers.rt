@@ -13,7 +13,7 @@ use hive_model::{Best, Game, Move, MoveStack, Piece, Place, State};
 use plain_game::PlainGame;
 use root_share::{FreeGate, Gate, Worker, best_shared};
 use std::alloc::{AllocError, Global};
-use std::sync::atomic::{AtomicBool, Ordering};
+use std::sync::atomic::{AtomicBool, AtomicU32, Ordering};
 use std::test::Fail;
 use std::thread::Threads;
 
@@ -42,7 +42,8 @@ struct Meeting {
 
 impl Gate for Meeting {
     fn before_child(&self, worker: u32, child: u32) {
-        if child >= 2 || worker >= 2 {
+        let _ = child;
+        if worker >= 2 || self.here[worker as usize].load(Ordering::SeqCst) {
             return;
         }
         self.here[worker as usize].store(true, Ordering::SeqCst);
@@ -55,24 +56,28 @@ impl Gate for Meeting {
     }
 }
 
-/// Holds one of two workers before its first child until the other has come to its last one.
+/// Holds one of two workers before its first child until the other has come to its last one, after
+/// as many as `others`.
 #[derive(Drop)]
 struct Holding {
     held: u32,
-    last: u32,
+    others: u32,
+    calls: AtomicU32,
+    began: AtomicBool,
     came: AtomicBool,
     gave_up: AtomicBool,
 }
 
 impl Gate for Holding {
     fn before_child(&self, worker: u32, child: u32) {
+        let _ = child;
         if worker != self.held {
-            if child == self.last {
+            if self.calls.fetch_add(1, Ordering::SeqCst) == self.others {
                 self.came.store(true, Ordering::SeqCst);
             }
             return;
         }
-        if child != self.held {
+        if self.began.swap(true, Ordering::SeqCst) {
             return;
         }
         for _ in 0..LOOKS {
@@ -81,6 +86,20 @@ impl Gate for Holding {
             }
         }
         self.gave_up.store(true, Ordering::SeqCst);
+    }
+}
+
+/// Notes the child that each of two workers begins with; 1,000 where it has not begun.
+#[derive(Drop)]
+struct Beginning {
+    first: [AtomicU32; 2],
+}
+
+impl Gate for Beginning {
+    fn before_child(&self, worker: u32, child: u32) {
+        if worker < 2 && self.first[worker as usize].load(Ordering::SeqCst) == 1000 {
+            self.first[worker as usize].store(child, Ordering::SeqCst);
+        }
     }
 }
 
@@ -155,11 +174,13 @@ fn plays_beside<R: Threads + Sync>(
 {
     let gate = Holding {
         held,
-        last: if (count - 1) % 2 == held {
-            count - 2
+        others: if held == 1 {
+            (count - 1) / 2
         } else {
-            count - 1
+            count / 2 - 1
         },
+        calls: AtomicU32::new(0),
+        began: AtomicBool::new(false),
         came: AtomicBool::new(false),
         gave_up: AtomicBool::new(false),
     };
@@ -193,6 +214,36 @@ fn place_of_the_win(alloc: Global) -> Result<Option<(u32, u32)>, AllocError> {
         }
     }
     Ok(None)
+}
+
+/// Of the moves at the places that leave `part` when divided by 2 the least that one is worth to
+/// the other side, and what the move at `place` is worth to it, as far as the game tells of them.
+fn looks_of(alloc: Global, part: u32, place: u32) -> Result<Option<(i32, i32)>, AllocError> {
+    let Ok(parsed) = read_game::<PlainGame>(alloc, ONE_MOVE_WINS.as_bytes()) else {
+        return Ok(None);
+    };
+    if parsed.moves.items().len() > 5000 {
+        return Ok(None);
+    }
+    let mut game: PlainGame = played(alloc, parsed.game_type, parsed.moves.items(), 0)?;
+    let mut root = MoveStack::new(alloc, 1)?;
+    game.list(&mut root);
+    let mut least = i32::MAX;
+    let mut here = i32::MAX;
+    for i in 0..root.level_len(0) {
+        let m = root.get(0, i);
+        if i % 2 != part || !game.is_legal(m.again()) {
+            continue;
+        }
+        let Some(worth) = game.value_after(m) else {
+            continue;
+        };
+        least = least.min(worth);
+        if i == place {
+            here = worth;
+        }
+    }
+    Ok(Some((least, here)))
 }
 
 #[test]
@@ -232,5 +283,20 @@ fn a_worker_plays_less_after_the_best(rt: HostRuntime) -> Result<(), Fail> {
     let after = plays_beside(&rt, rt.alloc(), count, other, other as usize)?.ok_or("held")?;
     let before = plays_beside(&rt, rt.alloc(), count, with_best, other as usize)?.ok_or("held")?;
     assert!(rt; after < before, "{after} plays and {before}");
+    Ok(())
+}
+
+#[test]
+fn each_worker_begins_with_the_move_that_looks_best(rt: HostRuntime) -> Result<(), Fail> {
+    let gate = Beginning {
+        first: [AtomicU32::new(1000), AtomicU32::new(1000)],
+    };
+    found_by(&rt, rt.alloc(), 2, 2, &gate)?.ok_or("the root")?;
+    for part in [0, 1] {
+        let place = gate.first[part].load(Ordering::SeqCst);
+        let (least, here) = looks_of(rt.alloc(), part as u32, place)?.ok_or("the moves")?;
+        assert!(rt; here < i32::MAX, "the move at {place}");
+        assert_eq!(rt; here, least);
+    }
     Ok(())
 }

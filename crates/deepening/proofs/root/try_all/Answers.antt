@@ -1,12 +1,13 @@
-use Rattle.std.proofs.Common.{rules, arith, refl, Some, ◌-◌, to_z, of_z}
+use Rattle.std.proofs.Common.{rules, arith, refl, Some, to_z, of_z}
 use Rattle.std.proofs.lemmas.Int.{ints}
 use mir.Syntax.{w32}
 use Rattle.hive_model.specs.Courses.{position}
 use Rattle.search_laws.proofs.NodeLaws.{node-again, node-at, node-reply}
 use Rattle.search_laws.proofs.HintLaws.{reply-low}
 use Rattle.search_laws.proofs.RootLaws.{small-value}
-use Rattle.search_core.proofs.TimeLaws.{one-time, both-time, rest-time}
+use Rattle.search_core.proofs.TimeLaws.{if-some, one-time, both-time, rest-time}
 use Rattle.deepening.proofs.RootStops.{first-known, reply-least, turns-within, first-then-turns, first-alone, known-here, turns-here}
+use Rattle.search_core.proofs.CountLaws.{in_time-then, counts-then}
 use Rattle.deepening.proofs.root.try_all.Goals as goal
 
 pub reply-requires-clause-window : goal.reply-requires-clause-window
@@ -78,3 +79,11 @@ returns-clause-time g c =
 pub returns-clause-played : goal.returns-clause-played
 returns-clause-played g c =
     turns-within (position (g.G.Game.course c.args.game.now)) c.args.depth _ _ c.try_in_turn-2.ensures.played
+
+pub returns-then-first-level_len-clause-in_time : goal.returns-then-first-level_len-clause-in_time
+returns-then-first-level_len-clause-in_time g c =
+    if-some _ _ c.try_in_turn.result (λ b x. in_time-then _ _ _ _ _ c.reply.ensures.time.deadline c.in_ok-worth.ensures.in_time x) c.try_in_turn.ensures.in_time
+
+pub returns-then-first-level_len-clause-often : goal.returns-then-first-level_len-clause-often
+returns-then-first-level_len-clause-often g c =
+    counts-then _ _ _ _ _ _ _ _ _ c.reply.ensures.time.deadline c.reply.ensures.often c.try_in_turn.ensures.often

@@ -13,6 +13,7 @@ use Rattle.search_laws.specs.declared.window.Window.{Window}
 use Rattle.search_laws.proofs.NodeLaws.{node-reply, before-then}
 use Rattle.search_laws.proofs.HintLaws.{here-in}
 use Rattle.search_core.proofs.TimeLaws.{keeps-none, keeps-more, less}
+use Rattle.search_core.proofs.CountLaws.{in_time-none, in_time-then, counts-none, counts-then}
 use Rattle.deepening.proofs.RootStops.{root-from, root-alpha, known-at, turns-begin, turns-end, turns-stop, turn-left_of, known-time}
 use Rattle.search_laws.proofs.RootLaws.{Tried, tried, tried-more, tried-less, root-best, root-end, root-value, small-value}
 use Rattle.deepening.proofs.root.try_in_turn.Goals as goal
@@ -33,6 +34,8 @@ loop-i-init g c =
       root = root-from _ _ _ _ c.requires.node.inner (omega (arith, ints, c.requires.low, c.requires.high, small.high)) (omega (arith, ints, c.requires.low, c.requires.high, small.high));
       plays = turns-begin _ _ _ _ (omega (arith, ints, c.requires.low, c.requires.high, small.high));
       left = omega arith;
+      in_time = in_time-none _ _;
+      often = counts-none _ _ _;
       time = keeps-more _ _ _ _ _ _ _ _ (omega arith) (keeps-none _ _ _);
     }
 
@@ -71,6 +74,8 @@ loop-i-preserved g c =
     let fewer = turn-left_of (position start) c.args.depth c.loop-i.i c.get-m.result c.args.begun.hint here in
     let left = less _ _ _ _ fewer turn.left in
     let time = known-time start (g.G.Game.course c.loop-i.game) c.args.depth c.loop-i.i c.get-m.result c.args.begun.hint _ _ _ _ _ _ _ _ _ turn.before.game here turn.left turn.time (rw c.again.ensures at c.worth_of.ensures.time) in
+    let in_time = in_time-then _ _ _ _ _ turn.time.deadline turn.in_time c.in_ok-found.ensures.in_time in
+    let often = counts-then _ _ _ _ _ _ _ _ _ turn.time.deadline turn.often c.worth_of.ensures.often in
     let window : Window = record { alpha = to_z w32 (of_z w32 (best -ℤ pos 1)); beta = pos 1000100 } in
     let made : Tried start c.args.depth c.loop-i.i best c.loop-i.best c.get-m.result window c.in_ok-found.found
     (g.G.Game.played c.args.game.now) (g.G.Game.played c.loop-i.game) (g.G.Game.played c.worth_of.new.game) =
@@ -86,6 +91,8 @@ loop-i-preserved g c =
             plays = rw (w.greatest-is ∙ same) kept.plays;
             left = left;
             time = time;
+            in_time = in_time;
+            often = often;
           }
       | else-found-greatest w ↦
           let under : c.in_ok-found.found ≤ℤ best = rw same at (lt-false best (to_z w32 (of_z w32 c.in_ok-found.found)) w.if-found-greatest.false) in
@@ -96,6 +103,8 @@ loop-i-preserved g c =
             plays = rw w.greatest-is kept.plays;
             left = left;
             time = time;
+            in_time = in_time;
+            often = often;
           }
     ]
 
@@ -129,3 +138,7 @@ returns-clause-top g c =
 
 pub returns-clause-played : goal.returns-clause-played
 returns-clause-played g c = turns-end _ _ _ _ _ _ c.loop-i.invariant.plays
+
+pub returns-in_err-found-clause-often : goal.returns-in_err-found-clause-often
+returns-in_err-found-clause-often g c =
+    counts-then _ _ _ _ _ _ _ _ _ c.loop-i.invariant.time.deadline c.loop-i.invariant.often c.worth_of.ensures.often

@@ -2,7 +2,7 @@ use Rattle.std.proofs.Common.{rules, ◌≡◌, ◌+◌, ◌-◌, ◌^◌, ◌<�
 use Rattle.std.specs.List.{slice_get}
 use Rattle.hive_model.specs.Legal.{moves}
 use Rattle.hive_model.specs.Courses.{position}
-use Rattle.search_laws.proofs.TurnLaws.{move-here, move-legal, count-here}
+use Rattle.search_laws.proofs.TurnLaws.{move-here, move-legal}
 use Rattle.search_laws.specs.Nodes.{CanReply}
 use Rattle.search_laws.proofs.NodeLaws.{reply-room, before-then}
 use Rattle.plain_search.proofs.PlySteps.{levels-left, spare-before}
@@ -28,9 +28,7 @@ pub lines_from-returns-then-plies-eq0-clause-count : goal.lines_from-returns-the
 lines_from-returns-then-plies-eq0-clause-count g t c = count-none _ _ c.if-plies-eq0.true
 
 pub lines_from-returns-then-plies-eq1-clause-count : goal.lines_from-returns-then-plies-eq1-clause-count
-lines_from-returns-then-plies-eq1-clause-count g t c =
-    let start = g.G.Game.course c.args.game.now in
-    count-one _ _ _ c.if-plies-eq1.true (count-here start start _ _ _ _ refl c.list.ensures.listed c.levels-level.ensures c.level_len-count.ensures)
+lines_from-returns-then-plies-eq1-clause-count g t c = count-one _ _ _ c.if-plies-eq1.true c.count_moves-count.ensures.counted
 
 pub lines_from-loop-i-init : goal.lines_from-loop-i-init
 lines_from-loop-i-init g t c = record {

@@ -1,0 +1,38 @@
+//! Which of its children a worker begins with. Any choice is right; a good one raises the bound
+//! early, for all workers.
+
+ghost use Rattle.std.specs.Prelude.{◌≡◌, ◌<◌, [], ◌∷◌};
+ghost use Rattle.hive_model.specs.Legal.{moves};
+ghost use Rattle.hive_model.specs.Courses.{position};
+
+use hive_model::{Game, MoveStack};
+
+/// The first place of a child of this part that is worth most, of those whose worth the game tells
+/// without making the move. The game is as before, and nothing is played.
+pub(crate) fn best_told<G: Game>(
+    game: &mut G,
+    root: &MoveStack,
+    part: u32,
+    parts: u32,
+) -> Option<u32>
+    requires listed { root.now.lists ≡ moves (position (G.course game.old)) ∷ [] }
+    requires parts { 0 < parts }
+    ensures same { G.course game.new ≡ G.course game.old }
+    ensures count { G.played game.new ≡ G.played game.old }
+{
+    let mut least = i32::MAX;
+    let mut best = None;
+    for child in 0..root.level_len(0) {
+        if child % parts != part {
+            continue;
+        }
+        let Some(worth) = game.value_after(root.get(0, child)) else {
+            continue;
+        };
+        if worth < least {
+            least = worth;
+            best = Some(child);
+        }
+    }
+    best
+}

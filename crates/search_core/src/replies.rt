@@ -1,0 +1,103 @@
+//! What a move is worth, by a search of the position after it.
+
+ghost use Rattle.std.specs.Prelude.{None, IfSome, ◌≡◌, ◌+◌, ◌≤◌, neg_ℤ};
+ghost use Rattle.hive_model.specs.Games.{after};
+ghost use Rattle.hive_model.specs.Minimax.{reply_value, nodes};
+ghost use Rattle.hive_model.specs.Costs.{cost};
+ghost use Rattle.hive_model.specs.Courses.{position};
+ghost use Rattle.search_laws.specs.Found.{IsFound, IsOpen};
+ghost use Rattle.search_laws.specs.Nodes.{CanReply, AreAsBefore};
+ghost use Rattle.ticker.specs.Ticks.{HasStopped, KeepsTime, IsInTime, CountsPlays};
+
+use crate::found::Found;
+use crate::search;
+use crate::told::told_reply;
+use hive_model::{Game, Move, MoveStack};
+use io_edge::Clock;
+use search_laws::Window;
+use ticker::Ticker;
+use value_table::ValueTable;
+
+/// Searches for what a legal move is worth to the side that makes it, with `depth` plies of best
+/// play behind it, as `search` does. None where the deadline came first. With no ply behind it the
+/// move is not made where the game tells its worth.
+#[cycle(search)]
+pub fn reply<G: Game, C: Clock>(
+    game: &mut G,
+    m: Move,
+    depth: u32,
+    window: Window,
+    stack: &mut MoveStack,
+    table: &mut ValueTable,
+    ticker: &mut Ticker,
+    clock: &mut C,
+) -> Option<i32>
+    requires window { IsOpen window }
+    requires can { CanReply m depth (G.course game.old) stack.old }
+    ensures found { IfSome result (λ v. IsFound (reply_value (position (G.course game.old)) depth m)
+        window v) }
+    ensures before { AreAsBefore (G.course game.old) (G.course game.new) stack.old stack.new }
+    ensures stopped { result ≡ None → HasStopped ticker.old ticker.new (C.last clock.new) }
+    ensures in_time { IfSome result (λ v. IsInTime ticker.old (C.last clock.old)
+        (C.last clock.new)) }
+    ensures often { CountsPlays ticker.old ticker.new (C.readings clock.old)
+        (C.readings clock.new) (G.played game.old) (G.played game.new) }
+    ensures time { KeepsTime ticker.old ticker.new (C.readings clock.old) (C.readings clock.new)
+        (C.last clock.old) (C.last clock.new)
+        (1 + nodes (after (position (G.course game.old)) m) depth) }
+    ensures played { G.played game.new ≤ G.played game.old +
+        (1 + cost (after (position (G.course game.old)) m) depth (neg_ℤ window.beta)
+        (neg_ℤ window.alpha)) }
+{
+    let told = told_reply(game, m.again(), depth, window);
+    if told.is_some() {
+        return told;
+    }
+    play_reply(game, m, depth, window, stack, table, ticker, clock)
+}
+
+/// The same, and the move is made.
+#[cycle(search)]
+fn play_reply<G: Game, C: Clock>(
+    game: &mut G,
+    m: Move,
+    depth: u32,
+    window: Window,
+    stack: &mut MoveStack,
+    table: &mut ValueTable,
+    ticker: &mut Ticker,
+    clock: &mut C,
+) -> Option<i32>
+    requires window { IsOpen window }
+    requires can { CanReply m depth (G.course game.old) stack.old }
+    ensures found { IfSome result (λ v. IsFound (reply_value (position (G.course game.old)) depth m)
+        window v) }
+    ensures before { AreAsBefore (G.course game.old) (G.course game.new) stack.old stack.new }
+    ensures stopped { result ≡ None → HasStopped ticker.old ticker.new (C.last clock.new) }
+    ensures in_time { IfSome result (λ v. IsInTime ticker.old (C.last clock.old)
+        (C.last clock.new)) }
+    ensures often { CountsPlays ticker.old ticker.new (C.readings clock.old)
+        (C.readings clock.new) (G.played game.old) (G.played game.new) }
+    ensures time { KeepsTime ticker.old ticker.new (C.readings clock.old) (C.readings clock.new)
+        (C.last clock.old) (C.last clock.new)
+        (1 + nodes (after (position (G.course game.old)) m) depth) }
+    ensures played { G.played game.new ≤ G.played game.old +
+        (1 + cost (after (position (G.course game.old)) m) depth (neg_ℤ window.beta)
+        (neg_ℤ window.alpha)) }
+{
+    game.play(m);
+    if ticker.tick(clock) {
+        game.undo();
+        return None;
+    }
+    let behind = Window {
+        alpha: -window.beta,
+        beta: -window.alpha,
+    };
+    let found = search(game, depth, behind, stack, table, ticker, clock);
+    game.undo();
+    match found {
+        Found::Found { value } => Some(-value),
+        Found::Stopped => None,
+    }
+}
