@@ -2,6 +2,7 @@ pub mod CertifyLaws
 pub mod HeadLaws
 pub mod CheckLaws
 pub mod ClaimLaws
+pub mod JudgedLaws
 pub mod MigrateLaws
 pub mod MigrateRuns
 pub mod MigrationLaws

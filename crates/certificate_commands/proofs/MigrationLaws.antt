@@ -35,7 +35,7 @@ ended : (status : Status) (before after : Sides) → MigrateRun status before af
 ended Done before after run input served is = inl refl
 ended Refused before after run input served is = accepted-done 5 first_verdict Refused before after run input served is
 ended Usage before after run input served is = absurd run
-ended ReadFault before after run input served is = accepted-done 5 first_verdict ReadFault before after run input served is
+ended ReadFault before after run input served is = absurd (no_failure served.reads refl)
 ended WriteFault before after run input served is = absurd (no_failure served.writes refl)
 ended SpawnFault before after run input served is = absurd run
 ended BadInput before after run input served is = accepted-done 5 first_verdict BadInput before after run input served is

@@ -23,7 +23,7 @@ use Rattle.text_verdicts.specs.declared.verdict.Unread.{Unread}
 use Rattle.text_verdicts.specs.declared.verdict.Unread.TheVariants.{ReadFault as UnreadFault}
 use Rattle.text_verdicts.specs.Judging.{text_verdict}
 use Rattle.text_verdicts.specs.Reading.{WasReadAs}
-use Rattle.text_verdicts.specs.Runs.{CutVerdict, Judgement, VerdictRun}
+use Rattle.text_verdicts.specs.Runs.{CutVerdict, Judgement, TookLess, VerdictRun}
 use Rattle.certificate_commands.specs.declared.migrating.Taken.{Taken}
 use Rattle.certificate_commands.specs.declared.migrating.Taken.TheVariants.{Written, Cut, Judged, Missed}
 use Rattle.certificate_commands.specs.Verdicts.{claimed_move, end_of, of_claim}
@@ -132,7 +132,8 @@ MigrateRun WriteFault before after =
     ⊎ ((n : ℕ) × CutVerdict 5 (first_verdict (lines input)) input before after n))
 MigrateRun Refused before after = VerdictRun 5 first_verdict Refused before after
 MigrateRun BadInput before after = VerdictRun 5 first_verdict BadInput before after
-MigrateRun ReadFault before after = VerdictRun 5 first_verdict ReadFault before after
+MigrateRun ReadFault before after =
+    (after.written ≡ before.written) × WhereTold before.rest (λ input. TookLess input after.rest)
 MigrateRun InputFull before after = VerdictRun 5 first_verdict InputFull before after
 MigrateRun Memory before after = VerdictRun 5 first_verdict Memory before after
 MigrateRun Usage before after = ⊥

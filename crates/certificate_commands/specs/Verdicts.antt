@@ -1,5 +1,6 @@
 -- What the lines of a text are worth as a certificate.
-use Rattle.std.specs.Prelude.{ℕ, nat_eq, List, map, ℤ, Option, Result, Ok, Err, if◌then◌else◌}
+use Rattle.std.proofs.Common.{arith}
+use Rattle.std.specs.Prelude.{ℕ, ◌+◌, ◌<◌, nat_eq, List, map, ℤ, Option, Result, Ok, Err, if◌then◌else◌}
 use Rattle.hive_model.specs.declared.places.Move.{Move}
 use Rattle.hive_model.specs.Positions.{Position, opening}
 use Rattle.hive_model.specs.Legal.{is_over}
@@ -14,6 +15,7 @@ use Rattle.strategy_lemmas.specs.declared.tokens.Token.{Token}
 use Rattle.strategy_lemmas.specs.declared.tokens.WhyCited.{WhyCited}
 use Rattle.strategy_lemmas.specs.declared.tokens.WhyCited.TheVariants.{NoSuchMove as CitedNoMove, BadIndex as CitedBadIndex, BadCite as CitedBadCite, LeafFails as CitedLeafFails, TooShort as CitedTooShort, Rest as CitedRest}
 use Rattle.strategy_lemmas.specs.Cited.{CitedSteps, cited_checked}
+use Rattle.strategy_lemmas.specs.CitedChecks.{cited_looked_for}
 use Rattle.citing_text.specs.TokenText.{token_in}
 use Rattle.certificate_text.specs.declared.head.Head.{Head}
 use Rattle.certificate_text.specs.Text.{head_of, index_in}
@@ -23,7 +25,7 @@ use Rattle.text_verdicts.specs.declared.verdict.Verdict.{Verdict}
 use Rattle.text_verdicts.specs.declared.verdict.Verdict.TheVariants.{Refused, BadCite, GameOver}
 use Rattle.text_verdicts.specs.Verdicts.{of_walk, walk_verdict}
 use Rattle.text_verdicts.specs.Judging.{text_verdict}
-use Rattle.text_verdicts.specs.Runs.{VerdictRun}
+use Rattle.text_verdicts.specs.Runs.{IsDecidedBehind, VerdictRun}
 
 -- the position at the end of the game of a head
 abbrev pub end_of : Head → Position
@@ -80,3 +82,13 @@ verdict = text_verdict 5 (head_of 2) of_claim
 -- what was written and read where `check` ends with this status
 abbrev pub CheckRun : Status → Sides → Sides → Type 0
 CheckRun = VerdictRun 5 verdict
+
+-- where fewer lines were read than were looked for before a fault of tokens, they do not decide
+pub why-decides : (head lines place : ℕ) (why : WhyCited)
+    → lines < head + place + cited_looked_for why → IsDecidedBehind head (of_why place why) lines
+why-decides head lines place CitedNoMove few = few
+why-decides head lines place CitedBadIndex few = few
+why-decides head lines place CitedBadCite few = omega (arith, few)
+why-decides head lines place CitedLeafFails few = few
+why-decides head lines place CitedTooShort few = few
+why-decides head lines place CitedRest few = few

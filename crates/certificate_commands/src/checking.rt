@@ -1,6 +1,6 @@
 //! Checks of certificates.
 
-ghost use Rattle.std.specs.Prelude.{◌≤◌, map};
+ghost use Rattle.std.specs.Prelude.{◌≤◌, map, refl};
 ghost use Rattle.hive_model.specs.Courses.{position};
 ghost use Rattle.certificate_text.specs.Text.{head_of, index_in};
 ghost use Rattle.certificate_text.specs.Heads.{IsHead};
@@ -110,6 +110,8 @@ impl TextForm for Certificates {
     type Head = Head;
 
     ghost head_lines = { 5 };
+
+    ghost has_lines = { refl };
 
     ghost head_of = { head_of 2 };
 

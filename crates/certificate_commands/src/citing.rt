@@ -9,7 +9,7 @@ ghost use Rattle.citing_text.specs.TokenText.{token_in};
 ghost use Rattle.command_runs.specs.Runs.{side_of};
 ghost use Rattle.text_verdicts.specs.Judging.{JudgesAhead};
 ghost use Rattle.claim_walks.specs.Claims.{IsClaimOf};
-ghost use Rattle.certificate_commands.specs.Verdicts.{of_tokens, of_why};
+ghost use Rattle.certificate_commands.specs.Verdicts.{of_tokens, of_why, why-decides};
 
 use crate::checking::HEAD_LINES;
 use citing_text::LineTokens;
@@ -47,6 +47,8 @@ impl Reasons for TokenReasons {
     ghost faults = { cited_faults };
 
     ghost refusal = { of_why };
+
+    ghost decides = { why-decides };
 
     fn refused(why: WhyCited, place: u64) -> Verdict {
         fault_of(place, why)

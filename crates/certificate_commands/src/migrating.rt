@@ -89,8 +89,8 @@ fn taken_of(migrated: Migrated, lines: u64) -> Taken
     ensures read { (text : List ℕ) (rest : AnyTold) (reader : Reading)
         → HasRead text rest reader (5 + lines)
         → IfSome (answered migrated) (λ answer. CountsRefused index_faults answer lines)
-        → IfSome (answered migrated) (λ answer. Ended {T = ℕ} index_faults
-        (λ stop. StopsAt stop reader) answer)
+        → IfSome (answered migrated) (λ answer. Ended index_faults
+        (λ stop. StopsAt index_in stop reader) answer)
         → WasReadAs 5 (judged_of result) text rest }
     ensures cut { (result ≡ Taken.Cut) ↔ (migrated ≡ Migrated.WriteFault) }
 {

@@ -143,3 +143,17 @@ pub read-item : (a : LineAnswer) (old new : Reading) (r0 r1 : Told) → (bytes :
 read-item a old new r0 r1 fed within little count now next input before r =
     let s : HasRead input r1 new (before + count + 1) = read_line a old new r0 r1 fed within little (before + count + 1) input (before + count) refl r in
     record { bytes = s.bytes; given = s.given; few = omega (arith, s.few, within-limit input r1 new (before + count + 1) s, next); fed = s.fed; within = s.within; little = s.little }
+
+-- where no line was given the last that was taken is the one before
+pub none-taken : (a : LineAnswer) (old new : Reading) (r0 r1 : Told) → (bytes : List ℕ) × Takes r0 r1 old.taken new.taken bytes × Feeds a old bytes new r1 → new.taken ≤ input_limit → HoldsLittle new → lines_given a ≡ 0
+    → (line : ℕ) (result : Result ⊤ HeadFault) (faults faults' : ℕ) → last_line line result ≡ line - 1 → (result ≡ Err InputFull → new.taken ≡ input_limit) → HasCause (result ≡ Err ReadFault) faults faults' → (result ≡ Err ReadFault → new.taken < input_limit)
+    → TakesLines 1 line result old new r0 r1 faults faults'
+none-taken a old new r0 r1 fed within little none line result faults faults' last full cause failed = record {
+  full = full;
+  cause = cause;
+  bytes = let (bytes, takes, feeds) = fed in all-same old new r0 r1 bytes takes;
+  failed = failed;
+  read = λ input before next r.
+      let same : before ≡ last_line line result = omega (arith, next, last) in
+      subst (HasRead input r1 new) same (read-none-given a old new r0 r1 fed within little none input before r);
+}

@@ -1,5 +1,5 @@
 -- What the parts of the reading of a head answer.
-use Rattle.std.specs.Prelude.{◌≡◌, ◌≢◌, ℕ, ◌+◌, ◌<◌, ◌≤◌, ◌⊎◌, ⊤, List, ◌∷◌, length, drop, Option, Some, Result, Ok, Err}
+use Rattle.std.specs.Prelude.{◌≡◌, ◌≢◌, ℕ, ◌+◌, ◌-◌, ◌<◌, ◌≤◌, ◌⊎◌, ⊤, List, ◌∷◌, length, drop, Option, Some, Result, Ok, Err}
 use Rattle.io_edge.specs.Outside.{HasCause, Told}
 use Rattle.line_feed.specs.Feed.{Reading, input_limit}
 use Rattle.std.specs.Option.{option_map}
@@ -30,11 +30,12 @@ TakesLine (Err InputFull) n last old new = ⊤
 TakesLine (Err Memory) n last old new = ⊥
 
 -- the number of the last line that was taken at most where the reading of lines up to the n-th
--- meets this fault: that of the bad line, or the second, which is the game
+-- meets this fault: that of the bad line, or the second, which is the game; a line before the last
+-- where a read has failed
 abbrev pub fault_line : ℕ → HeadFault → ℕ
 fault_line n (BadLine k) = k
 fault_line n (BadGame fault) = 2
-fault_line n ReadFault = n
+fault_line n ReadFault = n - 1
 fault_line n InputFull = n
 fault_line n Memory = n
 

@@ -97,7 +97,7 @@ impl<S: Source, F: LineForm> Items for LineItems<'_, '_, S, F> {
         bytes = in_all s.reader.now (S.rest s.source.now);
       };
       known = λ input before. HasRead input (S.rest s.source.now) s.reader.now (before + s.lines);
-      met = λ answer. StopsAt answer s.reader.now;
+      met = λ answer. StopsAt F.item answer s.reader.now;
     } };
 
     fn take(&mut self) -> ItemAnswer<F::Item> {

@@ -1,11 +1,11 @@
 -- What the code sees of a walk that writes tokens, where its indices are told.
-use Rattle.std.specs.Prelude.{ℕ, Option, None, Some}
-use Rattle.claim_walks.specs.Follows.{held, Sight, Ending, Unread}
+use Rattle.std.specs.Prelude.{ℕ, ⊤, Option, None, Some}
+use Rattle.claim_walks.specs.Follows.{held, Sight, Ending, Unread, CarriesOn}
 use Rattle.claim_walks.specs.Items.{Told}
 use Rattle.claim_walks.specs.Answers.{ending}
 use Rattle.claim_walks.specs.declared.answers.WalkAnswer.{WalkAnswer}
 use Rattle.strategy_check.specs.declared.answers.Why.{Why}
-use Rattle.strategy_lemmas.specs.Short.{ShortSteps}
+use Rattle.strategy_lemmas.specs.Short.{ShortSteps, short_rules}
 use Rattle.citing_text.specs.declared.draft.Draft.{Draft}
 use Rattle.citing_text.specs.TokenText.{token_lines}
 
@@ -22,11 +22,21 @@ abbrev pub draft_of : ShortSteps → Draft
 draft_of s =
     record { taken = held s.items.taken; lemmas = s.lemmas; text = token_lines s.written }
 
--- what the code sees of what is left to a walk
-abbrev pub short_sight : Sight ShortSteps ShortSeen
+-- what the code sees of what is left to a walk; of one that is unread nothing is asked
+abbrev pub short_sight : Sight ShortSteps Why ShortSeen
 short_sight = record {
   view = λ s. short_seen (Some s.items.left) (draft_of s);
   place = λ n. n.draft.taken;
+  unread = λ o n. ⊤;
+}
+
+pub short-carries_on : CarriesOn short_rules short_sight
+short-carries_on = record {
+  leaf = λ s n h. tt;
+  place = λ s n h. tt;
+  below = λ p e x i s t took n h. tt;
+  ends = λ p e x s o took n h. tt;
+  keep = λ p e x s n h. tt;
 }
 
 -- how a part of a walk ended, or none where there was no memory for a token

@@ -14,7 +14,13 @@ ghost use Rattle.lemma_list.specs.Lemmas.{server};
 ghost use Rattle.strategy_lemmas.specs.Short.{ShortSteps, short_rules};
 ghost use Rattle.claim_walks.specs.Taking.{Taking, moment_of, taking_parts};
 ghost use Rattle.strategy_check.specs.Checks.{index_faults};
-ghost use Rattle.citing_text.specs.Shortening.{ShortSeen, short_ending, short_seen, short_sight};
+ghost use Rattle.citing_text.specs.Shortening.{
+  ShortSeen,
+  short-carries_on,
+  short_ending,
+  short_seen,
+  short_sight,
+};
 ghost use Rattle.citing_text.specs.ShortTaking.{
   of_passed,
   of_short_stop,
@@ -116,6 +122,8 @@ impl<I: Items<Item = u32>> Walker for ShortWalk<'_, '_, I> {
     ghost parts = { taking_parts index_faults of_short_stop (short_moment I.supply) };
 
     ghost counts = { λ s. refl };
+
+    ghost carries_on = { short-carries_on };
 
     ghost ends_short = { stops-short };
 

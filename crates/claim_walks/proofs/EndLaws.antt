@@ -1,13 +1,14 @@
 -- What the answer of a whole check says of the walk.
-use Rattle.std.proofs.Common.{◌≡◌, ℕ, ◌+◌, Bool, true, false, cond, List, [], ◌∷◌, refl, sym, ap, subst, arith, ◌∙◌, Option, Some}
-use Rattle.claim_walks.specs.Walks.{Outcome, Left, Fault, Rules, go_on, finish}
+use Rattle.std.proofs.Common.{◌≡◌, ◌<◌, ◌≤◌, ℕ, ◌+◌, Bool, true, false, cond, List, [], ◌∷◌, refl, sym, ap, subst, arith, ◌∙◌, Option, Some}
+use Rattle.claim_walks.specs.Walks.{Outcome, Left, Fault, Halt, Rules, go_on, finish}
 use Rattle.claim_walks.specs.Follows.{held, Sight, Meets}
 use Rattle.claim_walks.specs.Items.{Told, IsAtEnd, Supply, is_none_left}
-use Rattle.claim_walks.specs.Answers.{Answers, CountsBad, Faults, ended, ending}
+use Rattle.claim_walks.specs.Answers.{Answers, CountsBad, CountsUnread, StopsUnread, Faults, ended, ending, looked}
 use Rattle.claim_walks.specs.Parts.{ending_of}
 use Rattle.claim_walks.specs.Taking.{Taking, moment_of, of_walk, stop_ending}
-use Rattle.claim_walks.proofs.ItemLaws.{answers-as, bad-as, meets-is}
-use Rattle.claim_walks.specs.Ends.{ChecksItems, EndsItems, IsLastLook, IsWhole}
+use Rattle.claim_walks.proofs.ItemLaws.{answers-as, bad-as, unread-as, meets-is}
+use Rattle.claim_walks.specs.Ends.{ChecksItems, EndsItems, EndsUnread, IsLastLook, IsWhole}
+use Rattle.claim_walks.specs.declared.answers.Halt.{Halt as AnyHalt}
 use Rattle.claim_walks.specs.declared.answers.Halt.TheVariants.{Bad, Failed, Full}
 use Rattle.claim_walks.specs.declared.answers.Stop.{Stop}
 use Rattle.claim_walks.specs.declared.answers.WalkAnswer.{WalkAnswer}
@@ -28,14 +29,14 @@ some-is told (x ∷ items) e more = refl
 -- ---- what is answered
 
 -- what is seen tells of the items that are left, and of so many that were taken
-pub record Tells {S W N T : Type 0} (R : Rules S W) (V : Sight S N) (told : Told T) (taken : ℕ) (n : N) : Type 0 where
+pub record Tells {S W N T : Type 0} (R : Rules S W) (V : Sight S W N) (told : Told T) (taken : ℕ) (n : N) : Type 0 where
   pub items : S → List (Option T)
   pub left : (s : S) → n ≡ V.view s → told ≡ Some (items s)
   pub count : (s : S) → n ≡ V.view s → taken ≡ held (R.taken s)
   pub place : V.place n ≡ taken
   pub ends : (s : S) → R.at_end s ≡ is_none_left (items s)
 
-module _ {S W N T : Type 0} (R : Rules S W) (V : Sight S N) (told : Told T) (taken : ℕ) (n : N) (tells : Tells R V told taken n) where
+module _ {S W N T : Type 0} (R : Rules S W) (V : Sight S W N) (told : Told T) (taken : ℕ) (n : N) (tells : Tells R V told taken n) where
   finishes : (s : S) (b : Bool) → R.at_end s ≡ b → finish R s ≡ cond b (Left s) (Fault R.reasons.rest (R.taken s))
   finishes s b e = ap (λ (x : Bool). cond x (Left s) (Fault R.reasons.rest (R.taken s))) e
 
@@ -80,6 +81,44 @@ module _ {S W N T : Type 0} (R : Rules S W) (V : Sight S N) (told : Told T) (tak
   whole-counts rest (Halts Failed) answer o before after m whole count same = subst (λ (x : Checked W). CountsBad (go_on o (finish R)) x after) (sym whole) tt
   whole-counts rest (Halts Full) answer o before after m whole count same = subst (λ (x : Checked W). CountsBad (go_on o (finish R)) x after) (sym whole) tt
 
+  -- ---- where the items could not be read on
+
+  module _ (kinds : Faults W) (looks : (o : Outcome S W) → V.unread o n → taken < looked kinds R.taken o) (one : kinds.looked_for R.reasons.rest ≡ 1) where
+    finish-by : (s : S) (count : ℕ) (b : Bool) → R.at_end s ≡ b → count ≤ R.taken s → CountsUnread kinds (finish R s) count
+    finish-by s count true e low = subst (λ (x : Outcome S W). CountsUnread kinds x count) (sym (finishes s true e)) tt
+    finish-by s count false e low = let more : count < R.taken s + kinds.looked_for R.reasons.rest = omega (arith, low, one) in subst (λ (x : Outcome S W). CountsUnread kinds x count) (sym (finishes s false e)) more
+
+    stops-unread : (o : Outcome S W) (count : ℕ) → count ≡ taken → V.unread o n → CountsUnread kinds (go_on o (finish R)) count
+    stops-unread (Left s) count same h = let more : taken < R.taken s = looks (Left s) h in finish-by s count (R.at_end s) refl (omega (arith, same, more))
+    stops-unread (Fault why k) count same h = subst (λ (j : ℕ). j < k + kinds.looked_for why) (sym same) (looks (Fault why k) h)
+    stops-unread (Halt k) count same h = subst (λ (j : ℕ). j < k + 1) (sym same) (looks (Halt k) h)
+
+    look-unread : (o : Outcome S W) (s : S) (count : ℕ) → o ≡ Left s → n ≡ V.view s → count ≡ taken → CountsUnread kinds (go_on o (finish R)) count
+    look-unread o s count left seen same =
+        let low : count ≤ R.taken s = omega (arith, same, tells.count s seen) in
+        subst (λ (x : Outcome S W). CountsUnread kinds (go_on x (finish R)) count) (sym left) (finish-by s count (R.at_end s) refl low)
+
+    done-unread : (answer : Checked W) (o : Outcome S W) (s : S) (count : ℕ) → o ≡ Left s → n ≡ V.view s → ((halt : AnyHalt) → answer ≡ Halted halt → count ≡ taken) → StopsUnread kinds (go_on o (finish R)) answer count
+    done-unread Accepted o s count left seen same = tt
+    done-unread (Refused place why) o s count left seen same = tt
+    done-unread (Halted Bad) o s count left seen same = tt
+    done-unread (Halted Failed) o s count left seen same = look-unread o s count left seen (same Failed refl)
+    done-unread (Halted Full) o s count left seen same = look-unread o s count left seen (same Full refl)
+
+    pub whole-unread : (rest : W) (walked : WalkAnswer W) (answer : Checked W) (o : Outcome S W) (before after : ℕ) → Meets V o (ending walked) n → IsWhole rest walked taken told answer → before ≡ ended walked taken →
+        ((halt : AnyHalt) → answer ≡ Halted halt → after ≡ before) → StopsUnread kinds (go_on o (finish R)) answer after
+    whole-unread rest Done answer o before after m whole count same = done-unread answer o m.0 after m.1 m.2 (λ halt e. same halt e ∙ count)
+    whole-unread rest (Refuses why) answer o before after m whole count same = subst (λ (x : Checked W). StopsUnread kinds (go_on o (finish R)) x after) (sym whole) tt
+    whole-unread rest (Halts Bad) answer o before after m whole count same = subst (λ (x : Checked W). StopsUnread kinds (go_on o (finish R)) x after) (sym whole) tt
+    whole-unread rest (Halts Failed) answer o before after m whole count same = subst (λ (x : Checked W). StopsUnread kinds (go_on o (finish R)) x after) (sym whole) (stops-unread o after (same Failed whole ∙ count) m)
+    whole-unread rest (Halts Full) answer o before after m whole count same = subst (λ (x : Checked W). StopsUnread kinds (go_on o (finish R)) x after) (sym whole) (stops-unread o after (same Full whole ∙ count) m)
+
+    pub certificate-unread : (rest : W) (whole_walk o : Outcome S W) (w : Walked (Stop W)) (walked : WalkAnswer W) (seen : N) (answer : Checked W) (before after : ℕ) → whole_walk ≡ go_on o (finish R) → Meets V o (ending_of R stop_ending w) seen → seen ≡ n →
+        walked ≡ of_walk R.reasons.leaf_fails R.reasons.bad_index w → IsWhole rest walked taken told answer → before ≡ ended walked taken → ((halt : AnyHalt) → answer ≡ Halted halt → after ≡ before) → StopsUnread kinds whole_walk answer after
+    certificate-unread rest whole_walk o w walked seen answer before after e m same ends whole count stands =
+        unread-as kinds whole_walk (go_on o (finish R)) answer after e
+        (whole-unread rest walked answer o before after (subst (λ (x : N). Meets V o (ending walked) x) same (meets-is R V o w walked seen ends m)) whole count stands)
+
   -- the same of the walk of a whole certificate, as the code ends it
   pub certificate-answers : (rest : W) (whole_walk o : Outcome S W) (w : Walked (Stop W)) (walked : WalkAnswer W) (seen : N) (answer : Checked W) → R.reasons.rest ≡ rest → whole_walk ≡ go_on o (finish R) → Meets V o (ending_of R stop_ending w) seen → seen ≡ n →
       walked ≡ of_walk R.reasons.leaf_fails R.reasons.bad_index w → IsWhole rest walked taken told answer → Answers whole_walk answer
@@ -110,3 +149,10 @@ checks-items {I} supply kinds outcome walked answer first begun middle last name
       known = λ input before k. ends.known input before (part.known input before k);
       met = ends.met part.met;
     })
+
+-- those that were taken away did not end it
+pub ends-unread : {I S W T : Type 0} (supply : I → Supply T) (kinds : Faults W) (outcome : List (Option T) → Outcome S W) (walked : WalkAnswer W) (answer : Checked W) (first begun middle last : I) (names later : List ℕ) (none taken : ℕ) → begun ≡ first → none ≡ 0 →
+    Taking kinds (Some walked) (moment_of names none (supply begun)) (moment_of later taken (supply middle)) →
+    ((items : List (Option T)) → (supply first).left ≡ Some items → (supply middle).count ≡ ended walked taken → StopsUnread kinds (outcome items) answer (supply last).count) → EndsUnread kinds outcome answer (supply first) (supply last)
+ends-unread {I} supply kinds outcome walked answer first begun middle last names later none taken same zero part unread =
+    λ items e z. unread items e (part.counted (ap (λ (i : I). (supply i).count) same ∙ z ∙ sym zero))

@@ -4,7 +4,7 @@ use Rattle.claim_walks.specs.Walks.{Outcome, Rules}
 use Rattle.claim_walks.specs.Follows.{Sight, Ending, Meets}
 use Rattle.claim_walks.specs.Parts.{IsPart, ending_of}
 use Rattle.claim_walks.specs.Items.{Told, in_front}
-use Rattle.claim_walks.specs.Answers.{Faults, ending, Answers, CountsBad}
+use Rattle.claim_walks.specs.Answers.{Faults, ending, Answers, CountsBad, StopsUnread}
 use Rattle.claim_walks.specs.Taking.{Moment, Taking, GoesOn, stop_ending, of_walk, stop_parts}
 use Rattle.claim_walks.specs.declared.items.ItemAnswer.TheVariants.{End}
 use Rattle.claim_walks.specs.declared.answers.Stop.{Stop}
@@ -23,7 +23,7 @@ module _ {S W : Type 0} (R : Rules S W) where
   ending-is BadIndex = refl
   ending-is (Stops stop) = refl
 
-  pub meets-is : {N : Type 0} (V : Sight S N) (o : Outcome S W) (w : Walked (Stop W)) (walked : WalkAnswer W) (n : N) → walked ≡ of_walk R.reasons.leaf_fails R.reasons.bad_index w →
+  pub meets-is : {N : Type 0} (V : Sight S W N) (o : Outcome S W) (w : Walked (Stop W)) (walked : WalkAnswer W) (n : N) → walked ≡ of_walk R.reasons.leaf_fails R.reasons.bad_index w →
       Meets V o (ending_of R stop_ending w) n → Meets V o (ending walked) n
   meets-is V o w walked n is h = subst (λ (e : Ending W). Meets V o e n) (ending-is w ∙ ap ending (sym is)) h
 
@@ -70,3 +70,6 @@ answers-as {S} {W} o q answer e h = subst (λ (x : Outcome S W). Answers x answe
 
 pub bad-as : {S W : Type 0} (o q : Outcome S W) (answer : Checked W) (count : ℕ) → o ≡ q → CountsBad q answer count → CountsBad o answer count
 bad-as {S} {W} o q answer count e h = subst (λ (x : Outcome S W). CountsBad x answer count) (sym e) h
+
+pub unread-as : {S W : Type 0} (kinds : Faults W) (o q : Outcome S W) (answer : Checked W) (count : ℕ) → o ≡ q → StopsUnread kinds q answer count → StopsUnread kinds o answer count
+unread-as {S} {W} kinds o q answer count e h = subst (λ (x : Outcome S W). StopsUnread kinds x answer count) (sym e) h

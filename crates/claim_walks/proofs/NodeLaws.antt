@@ -14,9 +14,10 @@ use Rattle.claim_walks.specs.declared.walker.Walked.{Walked}
 use Rattle.claim_walks.specs.declared.walker.Walked.TheVariants.{Done, LeafFails, BadIndex, Stops}
 use Rattle.claim_walks.specs.Limits.{Keeps, EachKeeps}
 use Rattle.claim_walks.specs.Walks.{Outcome, Left, Step, Below, Ends, Rules, go_on, walk_at, walk_step, walk, goes_below}
-use Rattle.claim_walks.specs.Follows.{held, range_of, Ending, Shown, Refused, Sight, Meets, Follows}
+use Rattle.claim_walks.specs.Follows.{held, range_of, Ending, Shown, Refused, Sight, Meets, Follows, Carries, CarriesOn}
 use Rattle.claim_walks.specs.Parts.{EndsHere, IsPart, Parts, ending_of, leaf_walked}
 use Rattle.claim_walks.proofs.WalkLaws.{walk-inner}
+use Rattle.claim_walks.proofs.CarryLaws.{then-carries, walk-carries}
 use Rattle.claim_walks.proofs.FollowLaws.{Walks, WalksAll, follows-stop, node-every, shown-every, shown-index}
 
 -- ---- endings
@@ -71,7 +72,7 @@ keeps-still start now d x y same ey h = subst (λ (g : Course). Keeps (AtLeast y
 
 -- ---- what is told
 
-module _ {S W N : Type 0} (R : Rules S W) (V : Sight S N) where
+module _ {S W N : Type 0} (R : Rules S W) (V : Sight S W N) where
   pub game-walks : (start now : Course) (d : ℕ) (x y : ℤ) (count : ℕ) (a b : N) (w : Ending W) → now ≡ start → IsInner (position start) d → count ≡ length (moves (position start)) → y ≡ neg_ℤ x →
       WalksAll R V (position now) (d - 1) (AtLeast y) (range_of (moves (position now)) 0 count) a w b → Walks R V (position start) d (AtMost x) a w b
   game-walks start now d x y count a b w same inner all ey h =
@@ -80,17 +81,21 @@ module _ {S W N : Type 0} (R : Rules S W) (V : Sight S N) where
 
   -- where what is taken is known to end the walk
   pub ends-here : (p : Position) (d : ℕ) (x : ℤ) (a b : N) (w : Ending W) → ((s : S) → a ≡ V.view s → (o : Outcome S W) × (R.take p d x s ≡ Ends o) × Meets V o w b) → EndsHere R V p d x a w b
-  ends-here p d x a b w took walk ms s e = let t = took s e in subst (λ (o : Outcome S W). Meets V o w b) (sym (ap (walk_step R walk ms) t.1)) t.2
+  ends-here p d x a b w took walk ms carries s e = let t = took s e in subst (λ (o : Outcome S W). Meets V o w b) (sym (ap (walk_step R walk ms) t.1)) t.2
+
+  -- what is walked below a move and kept
+  below-carries : CarriesOn R V → (p : Position) (d : ℕ) (x : ℤ) (m : Move) → (let f : S → Outcome S W = λ s1. go_on (walk R (after p m) (d - 1) (AtMost (neg_ℤ x)) s1) (λ s2. Left (R.keep p d x s2)) in Carries V f)
+  below-carries on p d x m = then-carries V (walk R (after p m) (d - 1) (AtMost (neg_ℤ x))) (λ s2. Left (R.keep p d x s2)) (walk-carries R V on (d - 1) (after p m) (AtMost (neg_ℤ x))) (on.keep p d x)
 
   -- a node that takes something goes on or ends
-  pub claim-ends : (start now : Course) (d : ℕ) (c : Limit) (x y : ℤ) (a b : N) (w : Ending W) → IsInner (position start) d → c ≡ AtLeast x → now ≡ start → y ≡ x →
+  pub claim-ends : CarriesOn R V → (start now : Course) (d : ℕ) (c : Limit) (x y : ℤ) (a b : N) (w : Ending W) → IsInner (position start) d → c ≡ AtLeast x → now ≡ start → y ≡ x →
       EndsHere R V (position now) d y a w b → Walks R V (position start) d c a w b
-  claim-ends start now d c x y a b w inner ec same ey h =
+  claim-ends on start now d c x y a b w inner ec same ey h =
       let p = position start in
       let here : EndsHere R V p d x a w b = subst (λ (z : ℤ). EndsHere R V p d z a w b) ey (subst (λ (g : Course). EndsHere R V (position g) d y a w b) same h) in
       subst (λ (l : Limit). Walks R V p d l a w b) (sym ec)
       (λ s e. subst (λ (o : Outcome S W). Meets V o w b) (sym (walk-inner R p d (AtLeast x) s inner))
-      (here (λ m s1. go_on (walk R (after p m) (d - 1) (AtMost (neg_ℤ x)) s1) (λ s2. Left (R.keep p d x s2))) (moves p) s e))
+      (here (λ m s1. go_on (walk R (after p m) (d - 1) (AtMost (neg_ℤ x)) s1) (λ s2. Left (R.keep p d x s2))) (moves p) (below-carries on p d x) s e))
 
   -- what is walked below the move that is named
   abbrev pub below : Position → ℕ → ℤ → Move → S → Outcome S W
@@ -121,12 +126,12 @@ module _ {S W N : Type 0} (R : Rules S W) (V : Sight S N) where
   turned start now d x y m a b w same ey h =
       subst (λ (z : ℤ). Walks R V (after (position start) m) (d - 1) (AtMost z) a w b) ey (subst (λ (g : Course). Walks R V (after (position g) m) (d - 1) (AtMost y) a w b) same h)
 
-  pub below-stops : (start now : Course) (d : ℕ) (x y : ℤ) (i : ℕ) (m : Move) (a b : N) (w : Ending W) → now ≡ start → y ≡ neg_ℤ x → Some m ≡ slice_get (moves (position start)) i → (w ≡ Shown → ⊥) →
+  pub below-stops : CarriesOn R V → (start now : Course) (d : ℕ) (x y : ℤ) (i : ℕ) (m : Move) (a b : N) (w : Ending W) → now ≡ start → y ≡ neg_ℤ x → Some m ≡ slice_get (moves (position start)) i → (w ≡ Shown → ⊥) →
       Walks R V (after (position now) m) (d - 1) (AtMost y) a w b → Follows V (goes_below R (position start) d x i) a w b
-  below-stops start now d x y i m a b w same ey here not h =
+  below-stops on start now d x y i m a b w same ey here not h =
       let p = position start in
       below-at p d x i m a b w here
-      (follows-stop V (walk R (after p m) (d - 1) (AtMost (neg_ℤ x))) (λ s2. Left (R.keep p d x s2)) a b w not (turned start now d x y m a b w same ey h))
+      (follows-stop V (walk R (after p m) (d - 1) (AtMost (neg_ℤ x))) (λ s2. Left (R.keep p d x s2)) a b w not (on.keep p d x) (turned start now d x y m a b w same ey h))
 
   pub below-done : (start now later : Course) (d : ℕ) (x y z : ℤ) (i : ℕ) (m : Move) (a b c : N) (w : Ending W) → now ≡ start → y ≡ neg_ℤ x → Some m ≡ slice_get (moves (position start)) i → w ≡ Shown →
       Walks R V (after (position now) m) (d - 1) (AtMost y) a w b → later ≡ start → z ≡ x → ((s : S) → b ≡ V.view s → c ≡ V.view (R.keep (position later) d z s)) →

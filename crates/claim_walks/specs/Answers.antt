@@ -1,10 +1,10 @@
 -- What the code answers of a walk over items that are told.
-use Rattle.std.specs.Prelude.{◌≡◌, ℕ, ◌+◌, ◌≤◌, Bool, IsTrue, ⊤}
+use Rattle.std.specs.Prelude.{◌≡◌, ℕ, ◌+◌, ◌<◌, ◌≤◌, Bool, IsTrue, ⊤}
 use Rattle.io_edge.specs.Outside.{Rose}
 use Rattle.claim_walks.specs.Walks.{Outcome, Left, Fault, Halt}
 use Rattle.claim_walks.specs.Follows.{held, Ending, Shown, Refused as RefusedFor, BadItem, Unread}
 use Rattle.claim_walks.specs.declared.items.ItemAnswer.{ItemAnswer}
-use Rattle.claim_walks.specs.declared.items.ItemAnswer.TheVariants.{End, Failed as NoRead, Full as NoMore}
+use Rattle.claim_walks.specs.declared.items.ItemAnswer.TheVariants.{End, Bad as BadOne, Failed as NoRead, Full as NoMore}
 use Rattle.claim_walks.specs.declared.answers.Halt.TheVariants.{Bad, Failed, Full}
 use Rattle.claim_walks.specs.declared.answers.WalkAnswer.{WalkAnswer}
 use Rattle.claim_walks.specs.declared.answers.WalkAnswer.TheVariants.{Done, Refuses, Halts}
@@ -19,6 +19,14 @@ pub record Faults (W : Type 0) : Type 1 where
   pub on_short : W → Type 0 → Type 0
   -- how many items beyond those before the fault were looked at
   pub looked_at : W → ℕ
+  -- how many were looked for, the one that is missing among them
+  pub looked_for : W → ℕ
+
+-- how many items a walk has looked for that ends so, by how many were taken
+abbrev pub looked : {S W : Type 0} → Faults W → (S → ℕ) → Outcome S W → ℕ
+looked faults taken (Left s) = taken s
+looked faults taken (Fault why n) = n + faults.looked_for why
+looked faults taken (Halt n) = n + 1
 
 -- how a part of a walk ended
 abbrev pub ending : {W : Type 0} → WalkAnswer W → Ending W
@@ -63,6 +71,21 @@ CountsBad o (Halted Bad) count = (n : ℕ) × (o ≡ Halt n) × (count ≡ held 
 CountsBad o (Halted Failed) count = ⊤
 CountsBad o (Halted Full) count = ⊤
 
+-- Where the items could not be read on, those that were taken away did not end the whole check: it
+-- looks for more, and for the end where all is shown.
+abbrev pub CountsUnread : {S W : Type 0} → Faults W → Outcome S W → ℕ → Type 0
+CountsUnread faults (Left s) count = ⊤
+CountsUnread faults (Fault why n) count = count < n + faults.looked_for why
+CountsUnread faults (Halt n) count = count < n + 1
+
+-- the same by the answer of the check
+abbrev pub StopsUnread : {S W : Type 0} → Faults W → Outcome S W → Checked W → ℕ → Type 0
+StopsUnread faults o Accepted count = ⊤
+StopsUnread faults o (Refused place why) count = ⊤
+StopsUnread faults o (Halted Bad) count = ⊤
+StopsUnread faults o (Halted Failed) count = CountsUnread faults o count
+StopsUnread faults o (Halted Full) count = CountsUnread faults o count
+
 -- Where a fault ends a whole check, at most so many items were taken away: those before it, and
 -- what was looked at.
 abbrev pub CountsRefused : {W : Type 0} → Faults W → Checked W → ℕ → Type 0
@@ -86,12 +109,12 @@ Causes answer = ReadCauses (answer ≡ Halts Failed) (answer ≡ Halts Full)
 abbrev pub EndCauses : {W : Type 0} → Checked W → ℕ → ℕ → Bool → Type 0
 EndCauses answer = ReadCauses (answer ≡ Halted Failed) (answer ≡ Halted Full)
 
--- Where the walk ended at an answer of the items that gave none, what is so after such an answer is
--- so.
+-- Where the walk ended at an answer of the items that gave none, a bad item among them, what is so
+-- after such an answer is so.
 abbrev pub EndsAs : {T W : Type 0} → Faults W → (ItemAnswer T → Type 0) → WalkAnswer W → Type 0
 EndsAs faults met Done = ⊤
 EndsAs faults met (Refuses why) = faults.on_short why (met End)
-EndsAs faults met (Halts Bad) = ⊤
+EndsAs faults met (Halts Bad) = met BadOne
 EndsAs faults met (Halts Failed) = met NoRead
 EndsAs faults met (Halts Full) = met NoMore
 
@@ -99,6 +122,6 @@ EndsAs faults met (Halts Full) = met NoMore
 abbrev pub Ended : {T W : Type 0} → Faults W → (ItemAnswer T → Type 0) → Checked W → Type 0
 Ended faults met Accepted = met End
 Ended faults met (Refused place why) = faults.on_short why (met End)
-Ended faults met (Halted Bad) = ⊤
+Ended faults met (Halted Bad) = met BadOne
 Ended faults met (Halted Failed) = met NoRead
 Ended faults met (Halted Full) = met NoMore

@@ -2,7 +2,8 @@
 use Rattle.std.specs.Prelude.{◌≡◌, ◌≢◌, ℕ, Bool, List, [], ⊤, Option, None, Some, IfSome}
 use Rattle.claim_walks.specs.Items.{Told, IsAtEnd, Supply}
 use Rattle.claim_walks.specs.Walks.{Outcome}
-use Rattle.claim_walks.specs.Answers.{Faults, ReadCauses, Causes, EndCauses, CountsBad, CountsRefused, EndsAs, Ended, ended}
+use Rattle.claim_walks.specs.Answers.{Faults, ReadCauses, Causes, EndCauses, CountsBad, CountsRefused, StopsUnread, EndsAs, Ended, ended}
+use Rattle.claim_walks.specs.declared.answers.Halt.{Halt}
 use Rattle.claim_walks.specs.declared.answers.Halt.TheVariants.{Bad, Failed, Full}
 use Rattle.claim_walks.specs.declared.answers.WalkAnswer.{WalkAnswer}
 use Rattle.claim_walks.specs.declared.answers.WalkAnswer.TheVariants.{Done, Refuses, Halts}
@@ -27,7 +28,7 @@ IsWhole rest (Halts halt) taken told answer = answer ≡ Halted halt
 -- what becomes of the items where a walk that took so many ends, and the whole with it
 pub record EndsItems {T W : Type 0} (kinds : Faults W) (walked : WalkAnswer W) (taken : ℕ)
     (answer : Checked W) (a b : Supply T) : Type 0 where
-  pub bad : answer ≡ Halted Bad → b.count ≡ a.count
+  pub halted : (halt : Halt) → answer ≡ Halted halt → b.count ≡ a.count
   pub refused : a.count ≡ ended walked taken → CountsRefused kinds answer b.count
   pub cause : (first : ℕ) → Causes walked first a.faults a.full
       → EndCauses answer first b.faults b.full
@@ -52,3 +53,11 @@ pub record ChecksItems {S T W : Type 0} (kinds : Faults W) (outcome : List (Opti
   pub lenders : b.lenders ≡ a.lenders
   pub known : (input : List ℕ) (before : ℕ) → a.known input before → b.known input before
   pub met : IfSome answer (λ checked. Ended kinds b.met checked)
+
+-- Where items that are told could not be read on in a whole check, of which none was taken before,
+-- those that were taken away did not end it.
+abbrev pub EndsUnread : {S T W : Type 0} → Faults W → (List (Option T) → Outcome S W) → Checked W
+    → Supply T → Supply T → Type 0
+EndsUnread {S} {T} kinds outcome answer a b =
+    (items : List (Option T)) → a.left ≡ Some items → a.count ≡ 0
+    → StopsUnread kinds (outcome items) answer b.count

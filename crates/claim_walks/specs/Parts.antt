@@ -3,7 +3,7 @@ use Rattle.std.specs.Prelude.{◌≡◌, ℕ, Bool, true, false, List, ℤ, Opti
 use Rattle.hive_model.specs.declared.places.Move.{Move}
 use Rattle.hive_model.specs.Positions.{Position}
 use Rattle.claim_walks.specs.Walks.{Outcome, Fault, Below as GoesBelow, Rules, go_on, walk_step, finish, certificate}
-use Rattle.claim_walks.specs.Follows.{Sight, Ending, Shown as IsShown, Refused, Meets, Follows}
+use Rattle.claim_walks.specs.Follows.{Sight, Ending, Shown as IsShown, Refused, Meets, Follows, Carries}
 use Rattle.claim_walks.specs.declared.walker.Walked.{Walked}
 use Rattle.claim_walks.specs.declared.walker.Walked.TheVariants.{Done, LeafFails, BadIndex, Stops as WalkStops}
 use Rattle.claim_walks.specs.declared.walker.Took.{Took}
@@ -16,15 +16,16 @@ ending_of rules ending LeafFails = Refused rules.reasons.leaf_fails
 ending_of rules ending BadIndex = Refused rules.reasons.bad_index
 ending_of rules ending (WalkStops stop) = ending stop
 
--- the walk ends so where this is taken, whatever moves there are and however they would be walked
-abbrev pub EndsHere : {S W N : Type 0} → Rules S W → Sight S N → Position → ℕ → ℤ → N → Ending W → N
-    → Type 0
+-- the walk ends so where this is taken, whatever moves there are and however they would be walked,
+-- if that carries on
+abbrev pub EndsHere : {S W N : Type 0} → Rules S W → Sight S W N → Position → ℕ → ℤ → N → Ending W
+    → N → Type 0
 EndsHere {S} {W} rules V p e x before ending after =
-    (walk : Move → S → Outcome S W) (ms : List Move)
+    (walk : Move → S → Outcome S W) (ms : List Move) → ((m : Move) → Carries V (walk m))
     → Follows V (λ s. walk_step rules walk ms (rules.take p e x s)) before ending after
 
 -- what the code finds where a node takes a token, and what is then seen
-abbrev pub Finds : {S W N T : Type 0} → Rules S W → Sight S N → (T → Ending W) → Position → ℕ → ℤ
+abbrev pub Finds : {S W N T : Type 0} → Rules S W → Sight S W N → (T → Ending W) → Position → ℕ → ℤ
     → Took T → N → N → Type 0
 Finds {S} rules V ending p e x (Below i) before after =
     (s : S) → before ≡ V.view s → (s1 : S) × (rules.take p e x s ≡ GoesBelow i s1)
@@ -72,7 +73,7 @@ IsPartIf parts (Some walked) a b = IsPart parts walked a b
 
 -- How the walk of a whole certificate ends, all but the test that nothing is left over: its move is
 -- not legal, or its parts end so, where what is left to it is told.
-abbrev pub LeadsToEnd : {S W N T : Type 0} → Rules S W → Sight S N → (T → Ending W) → Position → ℕ
+abbrev pub LeadsToEnd : {S W N T : Type 0} → Rules S W → Sight S W N → (T → Ending W) → Position → ℕ
     → Move → ℤ → Option (Walked T) → N → N → Type 0
 LeadsToEnd {S} rules V ending p d m v None before after =
     (s : S) → certificate rules p d m v s ≡ Fault rules.reasons.no_such_move 0

@@ -7,7 +7,7 @@ ghost use Rattle.search_laws.specs.Laws.{IsSmall};
 ghost use Rattle.search_laws.specs.Nodes.{HasRoom};
 ghost use Rattle.claim_walks.specs.Limits.{Keeps};
 ghost use Rattle.claim_walks.specs.Walks.{Rules};
-ghost use Rattle.claim_walks.specs.Follows.{Ending, Shown, Sight, held};
+ghost use Rattle.claim_walks.specs.Follows.{CarriesOn, Ending, Shown, Sight, held};
 ghost use Rattle.claim_walks.specs.Parts.{Finds, IsFoundBy, Parts};
 ghost use Rattle.claim_walks.specs.declared.limit.Limit.TheVariants.{AtLeast};
 
@@ -68,7 +68,7 @@ pub trait Walker {
     ghost rules: { Rules Steps Why };
 
     /// What is seen of what is left to a walk.
-    ghost sight: { Sight Steps Seen };
+    ghost sight: { Sight Steps Why Seen };
 
     /// What is seen of what is left to it.
     ghost seen: { Self → Seen };
@@ -115,6 +115,9 @@ pub trait Walker {
 
     /// What is seen of a walk has the count of what was taken.
     ghost counts: { (s : Steps) → sight.place (sight.view s) ≡ held (rules.taken s) };
+
+    /// What is so of an unread walk stays so, however the walk goes on.
+    ghost carries_on: { CarriesOn rules sight };
 
     /// A walk that it ends is not shown.
     ghost ends_short: { (stop : Self.Stop) → ending stop ≡ Shown → ⊥ };

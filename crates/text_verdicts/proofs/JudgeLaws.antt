@@ -25,7 +25,7 @@ use Rattle.text_verdicts.specs.declared.verdict.Unread.TheVariants.{ReadFault, I
 use Rattle.text_verdicts.specs.Verdicts.{status_of, verdict_line}
 use Rattle.text_verdicts.specs.Laws.{AcceptedAreDone}
 use Rattle.text_verdicts.specs.Reading.{Judges, TellsJudged, WasReadAs}
-use Rattle.text_verdicts.specs.Runs.{AtMostWereRead, Judgement, VerdictRun, WasReadToJudge, WasReadToRefuse, WroteVerdict}
+use Rattle.text_verdicts.specs.Runs.{AtMostWereRead, IsDecidedBehind, IsUndecided, Judgement, VerdictRun, WasUnread, WasReadToJudge, WasReadToRefuse, WroteVerdict}
 
 -- only what is accepted is done
 pub done-accepted : (v : Verdict) → status_of v ≡ Done → v ≡ Accepted
@@ -92,6 +92,21 @@ pub bad-read : (head lines line : ℕ) (input : List ℕ) (rest : Told) (reader 
 bad-read head lines line input rest reader is r =
     (r.given, given_were_read input r.fed refl r.within r.little, omega (arith, is, r.few, within-limit input rest reader (head + lines) r))
 
+-- ---- what does not decide
+
+-- no verdict is decided within the head but by a fault of it
+pub within-head : (head n : ℕ) (v : Verdict) → n < head → IsDecidedBehind head v n
+within-head head n Accepted less = tt
+within-head head n (Refused place why) less = omega (arith, less)
+within-head head n (BadCite place) less = omega (arith, less)
+within-head head n (BadLine k) less = inl less
+within-head head n (BadGame fault) less = less
+within-head head n GameOver less = less
+
+-- where fewer lines were read than a head has
+pub head-unread : (head most : ℕ) (v : Verdict) (input : List ℕ) (rest : Told) (reader : Reading) → most < head → HasRead input rest reader most → IsUndecided head v input rest
+head-unread head most v input rest reader less r = (r.given, given_were_read input r.fed refl r.within r.little, within-head head (length r.given) v (omega (arith, r.few, less)))
+
 -- ---- a run
 
 -- the line of the verdict was written
@@ -129,13 +144,13 @@ wrote-cut head verdict v before after n judges read less wrote = λ input told.
 
 -- what was judged of the input was told
 pub verdict-run : (head : ℕ) (verdict : Judgement) (judged : Result Verdict Unread) (status : Status) (before after : Sides) → WhereTold before.rest (λ input. Judges judged (verdict (lines input))) → WhereTold before.rest (λ input. WasReadAs head judged input after.rest)
-    → TellsJudged judged status before.written after.written → VerdictRun head verdict status before after
-verdict-run head verdict (Ok v) status before after judges read (inl (e, same)) = subst (λ (s : Status). VerdictRun head verdict s before after) (sym e) same
-verdict-run head verdict (Ok v) status before after judges read (inr (inl (e, wrote))) = subst (λ (s : Status). VerdictRun head verdict s before after) (sym e) (wrote-whole head verdict v before after judges read wrote)
-verdict-run head verdict (Ok v) status before after judges read (inr (inr (e, (n, less, wrote)))) = subst (λ (s : Status). VerdictRun head verdict s before after) (sym e) (wrote-cut head verdict v before after n judges read less wrote)
-verdict-run head verdict (Err ReadFault) status before after judges read (e, same) = subst (λ (s : Status). VerdictRun head verdict s before after) (sym e) (same, read)
-verdict-run head verdict (Err InputFull) status before after judges read (e, same) = subst (λ (s : Status). VerdictRun head verdict s before after) (sym e) (same, read)
-verdict-run head verdict (Err WantsMemory) status before after judges read (e, same) = subst (λ (s : Status). VerdictRun head verdict s before after) (sym e) same
+    → WhereTold before.rest (λ input. judged ≡ Err ReadFault → IsUndecided head (verdict (lines input)) input after.rest) → TellsJudged judged status before.written after.written → VerdictRun head verdict status before after
+verdict-run head verdict (Ok v) status before after judges read unread (inl (e, same)) = subst (λ (s : Status). VerdictRun head verdict s before after) (sym e) same
+verdict-run head verdict (Ok v) status before after judges read unread (inr (inl (e, wrote))) = subst (λ (s : Status). VerdictRun head verdict s before after) (sym e) (wrote-whole head verdict v before after judges read wrote)
+verdict-run head verdict (Ok v) status before after judges read unread (inr (inr (e, (n, less, wrote)))) = subst (λ (s : Status). VerdictRun head verdict s before after) (sym e) (wrote-cut head verdict v before after n judges read less wrote)
+verdict-run head verdict (Err ReadFault) status before after judges read unread (e, same) = subst (λ (s : Status). VerdictRun head verdict s before after) (sym e) (same, λ input told. record { took = read input told; undecided = unread input told refl })
+verdict-run head verdict (Err InputFull) status before after judges read unread (e, same) = subst (λ (s : Status). VerdictRun head verdict s before after) (sym e) (same, read)
+verdict-run head verdict (Err WantsMemory) status before after judges read unread (e, same) = subst (λ (s : Status). VerdictRun head verdict s before after) (sym e) same
 
 -- ---- what is accepted is done
 

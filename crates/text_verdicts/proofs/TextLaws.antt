@@ -1,24 +1,34 @@
 -- What is judged of a text by its head, and what a reader has read that is lent to a walk.
-use Rattle.std.proofs.Common.{◌≡◌, ℕ, ◌+◌, Bool, true, false, List, drop, refl, sym, ap, subst, arith}
-use Rattle.std.specs.Prelude.{Result, Err, if◌then◌else◌}
+use Rattle.std.proofs.Common.{◌≡◌, ◌<◌, ◌≤◌, ℕ, ◌+◌, ◌-◌, ◌^◌, min, Bool, true, false, List, drop, length, refl, sym, ap, subst, arith, inr}
+use Rattle.std.specs.Prelude.{Result, Ok, Err, if◌then◌else◌}
 use Rattle.io_edge.specs.Outside.{Told}
 use Rattle.hive_model.specs.Lines.{Line, ToldLines}
-use Rattle.line_feed.specs.Feed.{Reading}
+use Rattle.line_feed.specs.Feed.{Reading, input_limit}
+use Rattle.claim_walks.specs.Walks.{Outcome, Left, Fault, Halt}
+use Rattle.claim_walks.specs.Follows.{held}
+use Rattle.claim_walks.specs.Answers.{Faults, CountsUnread}
 use Rattle.certificate_text.specs.declared.head.HeadFault.{HeadFault}
 use Rattle.certificate_text.specs.declared.head.HeadFault.TheVariants.{BadLine as LineFault, BadGame as NoGame, ReadFault as NoRead, InputFull as IsFull, Memory as NoMemory}
 use Rattle.certificate_text.specs.Heads.{Reads}
 use Rattle.certificate_text.specs.Taken.{HasRead}
+use Rattle.certificate_text.proofs.TakenLaws.{within-limit}
+use Rattle.command_runs.proofs.ReadLemmas.{given_were_read}
 use Rattle.text_verdicts.specs.declared.verdict.Verdict.{Verdict}
 use Rattle.text_verdicts.specs.declared.verdict.Verdict.TheVariants.{Accepted, GameOver}
 use Rattle.text_verdicts.specs.declared.verdict.Unread.{Unread}
 use Rattle.text_verdicts.specs.Judging.{of_head, text_verdict}
 use Rattle.text_verdicts.specs.Reading.{Judges, of_fault}
-use Rattle.text_verdicts.specs.Runs.{Judgement}
+use Rattle.text_verdicts.specs.Verdicts.{walk_verdict}
+use Rattle.text_verdicts.specs.Runs.{IsDecidedBehind, IsUndecided, Judgement}
 
 module _ {H : Type 0} (n : ℕ) (head_of : List Line → Result H HeadFault) (worth : H → Judgement) where
   pub verdict-is : (ls : List Line) (r : Result H HeadFault) → head_of ls ≡ r → text_verdict n head_of worth ls ≡ of_head worth r (drop n ls)
   unfolding text_verdict
   verdict-is ls r e = ap (λ h. of_head worth h (drop n ls)) e
+
+  -- what does not decide the lines behind a head does not decide the text
+  pub head-undecided : (ls : List Line) (head : H) (text : List ℕ) (rest : Told) → head_of ls ≡ Ok head → IsUndecided n (worth head (drop n ls)) text rest → IsUndecided n (text_verdict n head_of worth ls) text rest
+  head-undecided ls head text rest e h = subst (λ (v : Verdict). IsUndecided n v text rest) (sym (verdict-is ls (Ok head) e)) h
 
   -- where there is no head
   of-fault : (ls : List Line) (fault : HeadFault) (later : ToldLines) → (let r : Result H HeadFault = Err fault in Reads n r (head_of ls) ls later) → Judges (of_fault fault) (text_verdict n head_of worth ls)
@@ -50,3 +60,15 @@ read-begins head text rest0 rest1 reader0 reader1 lines same_reader same_rest no
 pub if-open : (over : Bool) (v : Verdict) → over ≡ false → (if over then GameOver else v) ≡ v
 if-open true v e = cc
 if-open false v e = refl
+
+-- ---- where a walk was unread
+
+module _ {S W : Type 0} (faults : Faults W) (refusal : ℕ → W → Verdict) (decides : (head lines place : ℕ) (why : W) → lines < head + place + faults.looked_for why → IsDecidedBehind head (refusal place why) lines) where
+  walk-behind : (head lines n : ℕ) (o : Outcome S W) → CountsUnread faults o lines → n ≤ head + lines → n ≤ input_limit → IsDecidedBehind head (walk_verdict refusal head o) n
+  walk-behind head lines n (Left s) less few within = tt
+  walk-behind head lines n (Fault why k) less few within = decides head n (held k) why (omega (arith, less, few, within))
+  walk-behind head lines n (Halt k) less few within = inr (omega (arith, less, few, within))
+
+  pub walk-unread : (head lines : ℕ) (o : Outcome S W) (text : List ℕ) (rest : Told) (reader : Reading) → CountsUnread faults o lines → HasRead text rest reader (head + lines) → IsUndecided head (walk_verdict refusal head o) text rest
+  walk-unread head lines o text rest reader less r =
+      (r.given, given_were_read text r.fed refl r.within r.little, walk-behind head lines (length r.given) o less r.few (within-limit text rest reader (head + lines) r))

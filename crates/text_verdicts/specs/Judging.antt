@@ -14,7 +14,7 @@ use Rattle.text_verdicts.specs.declared.verdict.Verdict.TheVariants.{BadLine, Ba
 use Rattle.text_verdicts.specs.declared.verdict.Unread.{Unread}
 use Rattle.text_verdicts.specs.declared.verdict.Unread.TheVariants.{ReadFault}
 use Rattle.text_verdicts.specs.Reading.{Judges, WasReadAs}
-use Rattle.text_verdicts.specs.Runs.{Judgement}
+use Rattle.text_verdicts.specs.Runs.{IsUndecided, Judgement}
 
 -- the verdict on a head and the lines behind it, or on the fault of a head; the last three are no
 -- faults of lines
@@ -42,7 +42,8 @@ pub record TakesHead {H : Type 0} (n : ℕ) (head_of : List Line → Result H He
 
 -- What is judged of the lines to come, where the head of a text has so many lines and so many lines
 -- were read at most: what the lines are worth, where they are told, unless the input could not be
--- read. Why it could not, and what was then read of it.
+-- read. Why it could not, and what was then read of it; where a read has failed the lines that were
+-- read do not decide.
 pub record JudgesAhead (head : ℕ) (worth : Judgement) (most : ℕ) (result : Result Verdict Unread)
     (reader : Reading) (source source' : Aside) : Type 0 where
   pub judged : (left : List Line) → ahead_of reader source.bytes ≡ Some left
@@ -50,6 +51,9 @@ pub record JudgesAhead (head : ℕ) (worth : Judgement) (most : ℕ) (result : R
   pub cause : HasCause (result ≡ Err ReadFault) source.faults source'.faults
   pub read : (text : List ℕ) → HasRead text source.bytes reader most
       → WasReadAs head result text source'.bytes
+  pub unread : (left : List Line) → ahead_of reader source.bytes ≡ Some left → (text : List ℕ)
+      → HasRead text source.bytes reader most → result ≡ Err ReadFault
+      → IsUndecided head (worth left) text source'.bytes
 
 -- The same of a whole input.
 pub record JudgesInput (head : ℕ) (worth : Judgement) (result : Result Verdict Unread)
@@ -57,3 +61,5 @@ pub record JudgesInput (head : ℕ) (worth : Judgement) (result : Result Verdict
   pub judged : WhereTold source.bytes (λ text. Judges result (worth (lines text)))
   pub cause : HasCause (result ≡ Err ReadFault) source.faults source'.faults
   pub read : WhereTold source.bytes (λ text. WasReadAs head result text source'.bytes)
+  pub unread : WhereTold source.bytes (λ text. result ≡ Err ReadFault
+      → IsUndecided head (worth (lines text)) text source'.bytes)

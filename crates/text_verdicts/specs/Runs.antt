@@ -1,9 +1,10 @@
 -- What a command that checks a text writes and reads, by the status with which it ends.
-use Rattle.std.specs.Prelude.{◌≡◌, ℕ, ◌+◌, ◌<◌, ◌≤◌, List, length, take}
+use Rattle.std.specs.Prelude.{◌≡◌, ℕ, ◌+◌, ◌<◌, ◌≤◌, ◌⊎◌, ⊤, List, length, take}
 use Rattle.io_edge.specs.Outside.{Told, behind}
 use Rattle.hive_model.specs.Lines.{Line, lines}
 use Rattle.line_feed.specs.Feed.{input_limit}
 use Rattle.line_feed.specs.SoFar.{WasRead}
+use Rattle.strategy_check.specs.Checks.{looked_for}
 use Rattle.strategy_check.specs.declared.answers.Why.{Why}
 use Rattle.strategy_check.specs.declared.answers.Why.TheVariants.{NoSuchMove, BadIndex, LeafFails, TooShort, Rest}
 use Rattle.command_runs.specs.Input.{IsAllRead, Sides, WereRead, WhereTold}
@@ -58,6 +59,30 @@ TookLimit input rest =
     (bytes : List ℕ) × (left : List ℕ) × WasRead input rest bytes left
     × (length bytes ≡ input_limit)
 
+-- The lines that decide this verdict are more than so many, where a head has so many: the one
+-- behind those that were taken is one of them where an index is missing or left over. What is
+-- accepted is decided by the end of the input alone. Each line of the head is one of them, even
+-- behind a fault of the head.
+abbrev pub IsDecidedBehind : ℕ → Verdict → ℕ → Type 0
+IsDecidedBehind head Accepted n = ⊤
+IsDecidedBehind head (Refused place why) n = n < head + place + looked_for why
+IsDecidedBehind head (BadCite place) n = n < head + place
+IsDecidedBehind head (BadLine k) n = (n < head) ⊎ (n < k)
+IsDecidedBehind head (BadGame fault) n = n < head
+IsDecidedBehind head GameOver n = n < head
+
+-- These first lines of the input were read, and at most a piece beyond them, and they do not decide
+-- the verdict.
+abbrev pub IsUndecided : ℕ → Verdict → List ℕ → Told → Type 0
+IsUndecided head worth input rest =
+    (read : List Line) × WereRead input rest read × IsDecidedBehind head worth (length read)
+
+-- where a read has failed: fewer bytes left the input than a run may read, and the lines that were
+-- read do not decide the verdict
+pub record WasUnread (head : ℕ) (worth : Verdict) (input : List ℕ) (rest : Told) : Type 0 where
+  pub took : TookLess input rest
+  pub undecided : IsUndecided head worth input rest
+
 -- Writing
 
 -- the line of this verdict on the input was written, and the status is that of the verdict
@@ -75,7 +100,8 @@ pub record CutVerdict (head : ℕ) (worth : Verdict) (input : List ℕ) (before 
   pub was_read : WasReadToJudge head worth input after.rest
 
 -- A check of texts whose head has so many lines writes the line of the verdict on the lines of the
--- input. Where a read has failed, the limit is reached or memory is wanting, nothing was written.
+-- input. Where a read has failed, the limit is reached or memory is wanting, nothing was written; a
+-- read has failed only before the lines that decide the verdict were read.
 abbrev pub VerdictRun : ℕ → Judgement → Status → Sides → Sides → Type 0
 VerdictRun head verdict Done before after =
     WhereTold before.rest
@@ -90,7 +116,8 @@ VerdictRun head verdict WriteFault before after =
     WhereTold before.rest
     (λ input. (n : ℕ) × CutVerdict head (verdict (lines input)) input before after n)
 VerdictRun head verdict ReadFault before after =
-    (after.written ≡ before.written) × WhereTold before.rest (λ input. TookLess input after.rest)
+    (after.written ≡ before.written) × WhereTold before.rest
+    (λ input. WasUnread head (verdict (lines input)) input after.rest)
 VerdictRun head verdict InputFull before after =
     (after.written ≡ before.written) × WhereTold before.rest (λ input. TookLimit input after.rest)
 VerdictRun head verdict Memory before after = after.written ≡ before.written

@@ -1,6 +1,6 @@
 //! The check of a text, whatever its form.
 
-ghost use Rattle.std.specs.Prelude.{ℕ, List, Result, IfOk};
+ghost use Rattle.std.specs.Prelude.{◌≡◌, ◌+◌, ◌-◌, ℕ, List, Result, IfOk};
 ghost use Rattle.hive_model.specs.Lines.{Line as AnyLine};
 ghost use Rattle.certificate_text.specs.declared.head.HeadFault.{HeadFault as AnyFault};
 ghost use Rattle.command_runs.specs.Runs.{RunsAs, side_of};
@@ -24,6 +24,9 @@ pub trait TextForm {
 
     /// How many lines a head has.
     ghost head_lines: { ℕ };
+
+    /// It has some.
+    ghost has_lines: { (head_lines - 1) + 1 ≡ head_lines };
 
     /// The head of the lines of a text, or the first fault of these lines.
     ghost head_of: { List AnyLine → Result Self.Head AnyFault };

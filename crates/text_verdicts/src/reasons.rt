@@ -1,6 +1,6 @@
 //! The reasons for which texts are refused.
 
-ghost use Rattle.std.specs.Prelude.{◌≡◌, ◌+◌, ◌≤◌, ℕ, List, true, Ok};
+ghost use Rattle.std.specs.Prelude.{◌≡◌, ◌+◌, ◌<◌, ◌≤◌, ℕ, List, true, Ok};
 ghost use Rattle.io_edge.specs.Outside.{Told as AnyTold};
 ghost use Rattle.line_feed.specs.Feed.{Reading};
 ghost use Rattle.claim_walks.specs.Answers.{Faults};
@@ -9,6 +9,7 @@ ghost use Rattle.strategy_check.specs.Checks.{index_faults};
 ghost use Rattle.certificate_text.specs.Taken.{HasRead};
 ghost use Rattle.text_verdicts.specs.declared.verdict.Verdict.{Verdict as AnyVerdict};
 ghost use Rattle.text_verdicts.specs.Reading.{WasReadAs};
+ghost use Rattle.text_verdicts.specs.Runs.{IsDecidedBehind};
 ghost use Rattle.text_verdicts.specs.Verdicts.{index_refusal};
 
 use crate::verdict::Verdict;
@@ -30,6 +31,11 @@ pub trait Reasons {
 
     /// The verdict that a reason is, where so many items were taken before it.
     ghost refusal: { ℕ → Self.Why → AnyVerdict };
+
+    /// Where fewer lines were read than were looked for before the reason, they do not decide.
+    ghost decides: { (head lines place : ℕ) (why : Self.Why)
+        → lines < head + place + faults.looked_for why
+        → IsDecidedBehind head (refusal place why) lines };
 
     /// The verdict that the reason is, where so many items were taken before it. Where no more
     /// lines were taken than the walk looked at, it tells what was read of the text.
@@ -53,6 +59,8 @@ impl Reasons for IndexReasons {
     ghost faults = { index_faults };
 
     ghost refusal = { index_refusal };
+
+    ghost decides = { λ head lines place why few. few };
 
     fn refused(why: Why, place: u64) -> Verdict {
         Verdict::Refused { place, why }

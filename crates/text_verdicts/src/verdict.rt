@@ -1,14 +1,22 @@
 //! What a text that is checked is worth.
 
-ghost use Rattle.std.specs.Prelude.{◌≡◌, ◌↔◌, ◌+◌, ◌<◌, ℕ, List, Err};
+ghost use Rattle.std.specs.Prelude.{◌≡◌, ◌↔◌, ◌+◌, ◌<◌, ℕ, List, Option, Err};
 ghost use Rattle.io_edge.specs.Outside.{Told as AnyTold};
+ghost use Rattle.hive_model.specs.Lines.{Line};
 ghost use Rattle.line_feed.specs.Feed.{Reading, input_limit};
 ghost use Rattle.claim_walks.specs.Walks.{Outcome};
-ghost use Rattle.claim_walks.specs.Answers.{Answers, CountsBad, CountsRefused, Ended};
+ghost use Rattle.claim_walks.specs.Answers.{
+  Answers,
+  CountsBad,
+  CountsRefused,
+  Ended,
+  StopsUnread,
+};
 ghost use Rattle.certificate_text.specs.Heads.{fault_line};
 ghost use Rattle.certificate_text.specs.Taken.{HasRead, StopsAt};
 ghost use Rattle.text_verdicts.specs.Verdicts.{walk_verdict};
 ghost use Rattle.text_verdicts.specs.Reading.{Judges, WasReadAs, of_fault};
+ghost use Rattle.text_verdicts.specs.Runs.{IsUndecided};
 
 use crate::reasons::Reasons;
 use certificate_text::HeadFault;
@@ -76,10 +84,14 @@ pub fn verdict_of<R: Reasons>(
         → Judges result (walk_verdict R.refusal head o) }
     ensures failed { (result ≡ Err Unread.ReadFault) ↔ (checked ≡ Checked.Halted Halt.Failed) }
     ensures full { result ≡ Err Unread.InputFull → checked ≡ Checked.Halted Halt.Full }
-    ensures read { (text : List ℕ) (rest : AnyTold) (reader : Reading)
+    ensures read { (text : List ℕ) (rest : AnyTold) (reader : Reading) (item : Line → Option R.Item)
         → HasRead text rest reader (head + lines) → CountsRefused R.faults checked lines
-        → Ended {T = R.Item} R.faults (λ answer. StopsAt answer reader) checked
+        → Ended R.faults (λ answer. StopsAt item answer reader) checked
         → WasReadAs head result text rest }
+    ensures unread { (o : Outcome R.Steps R.Why) → StopsUnread R.faults o checked lines
+        → (text : List ℕ) (rest : AnyTold) (reader : Reading)
+        → HasRead text rest reader (head + lines) → result ≡ Err Unread.ReadFault
+        → IsUndecided head (walk_verdict R.refusal head o) text rest }
 {
     match checked {
         Checked::Accepted => Ok(Verdict::Accepted),

@@ -1,3 +1,4 @@
 pub mod HeadLaws
 pub mod VerdictLaws
 pub mod RoundLaws
+pub mod JudgedLaws

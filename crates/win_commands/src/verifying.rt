@@ -1,6 +1,6 @@
 //! Checks of solutions.
 
-ghost use Rattle.std.specs.Prelude.{◌≤◌, map};
+ghost use Rattle.std.specs.Prelude.{◌≤◌, map, refl};
 ghost use Rattle.hive_model.specs.Minimax.{IsInner};
 ghost use Rattle.hive_model.specs.Courses.{position};
 ghost use Rattle.certificate_text.specs.Text.{index_in};
@@ -88,6 +88,8 @@ impl TextForm for Solutions {
     type Head = Head;
 
     ghost head_lines = { 4 };
+
+    ghost has_lines = { refl };
 
     ghost head_of = { head_of };
 

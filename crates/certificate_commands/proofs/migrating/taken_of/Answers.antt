@@ -6,6 +6,7 @@ use Rattle.claim_walks.specs.Answers.{CountsRefused, Ended}
 use Rattle.strategy_check.specs.Checks.{index_faults}
 use Rattle.citing_text.specs.Migrating.{answered}
 use Rattle.certificate_text.specs.Taken.{StopsAt}
+use Rattle.certificate_text.specs.Text.{index_in}
 use Rattle.text_verdicts.proofs.JudgeLaws.{all-read, bad-read, refused-read}
 use Rattle.certificate_commands.proofs.migrating.taken_of.Goals as goal
 
@@ -15,7 +16,7 @@ HasFew lines migrated = IfSome (answered migrated) (λ answer. CountsRefused ind
 
 -- the reading stands where the indices ended the call
 abbrev IsEnded : Reading → Migrated → Type 0
-IsEnded reader migrated = IfSome (answered migrated) (λ answer. Ended {T = ℕ} index_faults (λ stop. StopsAt stop reader) answer)
+IsEnded reader migrated = IfSome (answered migrated) (λ answer. Ended index_faults (λ stop. StopsAt index_in stop reader) answer)
 
 pub returns-in-Done-clause-read : goal.returns-in-Done-clause-read
 returns-in-Done-clause-read c = λ text rest reader r few stops.

@@ -37,4 +37,4 @@ returns-clause-items g c =
     let start = short_steps (steps items 0) [] [] in
     let t = c.in-Some.ensures.told start
     (seen-is _ (Some items) begun.draft.now (draft_of start) (ap (λ x. (supply x).left) c.new-walker.ensures.same_indices ∙ e) (c.new-walker.ensures.same_draft ∙ c.requires.empty)) in
-    certificate-counts (supply after.indices.now).left after.draft.now _ t.0 c.in-Some.walked walked _ c.answer_of.result t.1 t.2 refl shown (search rules) _ _ counts ends.bad)
+    certificate-counts (supply after.indices.now).left after.draft.now _ t.0 c.in-Some.walked walked _ c.answer_of.result t.1 t.2 refl shown (search rules) _ _ counts (ends.halted _))

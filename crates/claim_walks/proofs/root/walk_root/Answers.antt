@@ -14,7 +14,7 @@ returns-then-not-is_done-clause-told g c =
     let R = g.W.Walker.rules in
     let V = g.W.Walker.sight in
     let v = c.args.claim.now.value in
-    before-stops R V _ _ _ c.args.claim.now.best v _ (g.W.Walker.seen c.walk_moves-before.new.walker) _ (not-shown R g.W.Walker.ending g.met.W.Walker.ends_short _ _ c.is_done.ensures c.if-not-is_done.true)
+    before-stops R V _ _ _ c.args.claim.now.best v g.met.W.Walker.carries_on _ (g.W.Walker.seen c.walk_moves-before.new.walker) _ (not-shown R g.W.Walker.ending g.met.W.Walker.ends_short _ _ c.is_done.ensures c.if-not-is_done.true)
     (before-is R V _ _ _ v _ _ _ _ (one-less v c.requires.claim.small) c.walk_moves-before.ensures.told)
 
 pub walk_child-high-requires-clause-can : goal.walk_child-high-requires-clause-can
@@ -27,7 +27,7 @@ returns-then-not-is_done-2-clause-told g c =
     let V = g.W.Walker.sight in
     let v = c.args.claim.now.value in
     let small : IsSmall 1000100 v = wider 1000064 1000100 v (omega arith) c.requires.claim.small in
-    high-stops R V _ _ _ _ _ _ _ _ _ _ (is-shown R g.W.Walker.ending _ _ c.is_done.ensures c.if-not-is_done.false)
+    high-stops R V _ _ _ _ _ g.met.W.Walker.carries_on _ _ _ _ _ (is-shown R g.W.Walker.ending _ _ c.is_done.ensures c.if-not-is_done.false)
     (before-is R V _ _ _ v _ _ _ _ (one-less v c.requires.claim.small) c.walk_moves-before.ensures.told)
     (not-shown R g.W.Walker.ending g.met.W.Walker.ends_short _ _ c.is_done-2.ensures c.if-not-is_done-2.true)
     (high-is R V _ _ _ _ _ _ _ _ _ c.walk_moves-before.ensures.game (neg-is v small) c.walk_child-high.ensures.told)
@@ -51,7 +51,7 @@ returns-then-not-is_done-3-clause-told g c =
     let V = g.W.Walker.sight in
     let v = c.args.claim.now.value in
     let small : IsSmall 1000100 v = wider 1000064 1000100 v (omega arith) c.requires.claim.small in
-    low-stops R V _ _ _ _ _ _ _ _ _ _ _ _ (is-shown R g.W.Walker.ending _ _ c.is_done.ensures c.if-not-is_done.false)
+    low-stops R V _ _ _ _ _ g.met.W.Walker.carries_on _ _ _ _ _ _ _ (is-shown R g.W.Walker.ending _ _ c.is_done.ensures c.if-not-is_done.false)
     (before-is R V _ _ _ v _ _ _ _ (one-less v c.requires.claim.small) c.walk_moves-before.ensures.told)
     (is-shown R g.W.Walker.ending _ _ c.is_done-2.ensures c.if-not-is_done-2.false)
     (high-is R V _ _ _ _ _ _ _ _ _ c.walk_moves-before.ensures.game (neg-is v small) c.walk_child-high.ensures.told)

@@ -41,7 +41,7 @@ walk_claim-returns-in-Shown-clause-told g t c =
     let x = c.in-AtLeast.least in
     let small : IsSmall 1000100 x = number-small c.args.limit x (AtLeast x) c.in-AtLeast.is refl c.requires.small in
     let same : to_z w32 (of_z w32 x) ≡ x = omega (arith, ints, small.low, small.high) in
-    claim-ends g.W.Walker.rules g.W.Walker.sight (g.G.Game.course c.args.game.now) _ c.args.depth c.args.limit x _ (g.W.Walker.seen c.args.walker.now) (g.W.Walker.seen c.take.new.self)
+    claim-ends g.W.Walker.rules g.W.Walker.sight g.met.W.Walker.carries_on (g.G.Game.course c.args.game.now) _ c.args.depth c.args.limit x _ (g.W.Walker.seen c.args.walker.now) (g.W.Walker.seen c.take.new.self)
     Shown c.in_default.ensures.leaf c.in-AtLeast.is c.in_default.ensures.same same c.in-Shown.ensures.told
 
 pub walk_claim-returns-in-Stops-clause-told : goal.walk_claim-returns-in-Stops-clause-told
@@ -49,7 +49,7 @@ walk_claim-returns-in-Stops-clause-told g t c =
     let x = c.in-AtLeast.least in
     let small : IsSmall 1000100 x = number-small c.args.limit x (AtLeast x) c.in-AtLeast.is refl c.requires.small in
     let same : to_z w32 (of_z w32 x) ≡ x = omega (arith, ints, small.low, small.high) in
-    claim-ends g.W.Walker.rules g.W.Walker.sight (g.G.Game.course c.args.game.now) _ c.args.depth c.args.limit x _ (g.W.Walker.seen c.args.walker.now) (g.W.Walker.seen c.take.new.self)
+    claim-ends g.W.Walker.rules g.W.Walker.sight g.met.W.Walker.carries_on (g.G.Game.course c.args.game.now) _ c.args.depth c.args.limit x _ (g.W.Walker.seen c.args.walker.now) (g.W.Walker.seen c.take.new.self)
     (g.W.Walker.ending c.in-Stops.stop) c.in_default.ensures.leaf c.in-AtLeast.is c.in_default.ensures.same same c.in-Stops.ensures.told
 
 pub walk_every-returns-clause-shown : goal.walk_every-returns-clause-shown
@@ -104,7 +104,7 @@ walk_below-returns-clause-true_ g t c =
 pub walk_below-returns-then-not-is_done-clause-told : goal.walk_below-returns-then-not-is_done-clause-told
 walk_below-returns-then-not-is_done-clause-told g t c =
     let R = g.W.Walker.rules in
-    below-stops R g.W.Walker.sight (g.G.Game.course c.args.game.now) _ c.args.depth c.args.least _ c.args.place c.in-Some.m (g.W.Walker.seen c.args.walker.now) (g.W.Walker.seen c.walk_child-walked.new.walker)
+    below-stops R g.W.Walker.sight g.met.W.Walker.carries_on (g.G.Game.course c.args.game.now) _ c.args.depth c.args.least _ c.args.place c.in-Some.m (g.W.Walker.seen c.args.walker.now) (g.W.Walker.seen c.walk_child-walked.new.walker)
     (ending_of R g.W.Walker.ending c.walk_child-walked.result) c.in-Some.ensures.game (neg-is _ c.requires.small) c.in-Some.ensures.move_
     (not-shown R g.W.Walker.ending g.met.W.Walker.ends_short _ _ c.is_done.ensures c.if-not-is_done.true) c.walk_child-walked.ensures.told
 
@@ -152,7 +152,7 @@ walk_moves-returns-then-not-is_done-clause-told g t c =
     let ending = ending_of R g.W.Walker.ending c.walk_child-walked.result in
     let now = g.W.Walker.seen c.walk_child-walked.new.walker in
     turn.told ending now
-    (turn-stops R g.W.Walker.sight start _ c.args.depth c.args.limit c.loop-i.i c.args.to c.get-m.result (g.W.Walker.seen c.loop-i.walker) now ending turn.game here
+    (turn-stops R g.W.Walker.sight g.met.W.Walker.carries_on start _ c.args.depth c.args.limit c.loop-i.i c.args.to c.get-m.result (g.W.Walker.seen c.loop-i.walker) now ending turn.game here
     c.loop-i-test.true (not-shown R g.W.Walker.ending g.met.W.Walker.ends_short _ _ c.is_done.ensures (search rules)) c.walk_child-walked.ensures.told)
 
 pub walk_moves-loop-i-preserved : goal.walk_moves-loop-i-preserved

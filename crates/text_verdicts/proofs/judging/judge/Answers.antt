@@ -11,4 +11,5 @@ returns g c = record {
   judged = λ text told. c.judge_lines.ensures.judged (lines text) (ahead_begin c.in-Ok.reader _ c.in-Ok.ensures ∙ ap (option_map lines) told);
   cause = c.judge_lines.ensures.cause;
   read = λ text told. c.judge_lines.ensures.read text (read-none text _ c.in-Ok.reader told c.in-Ok.ensures);
+  unread = λ text told e. c.judge_lines.ensures.unread (lines text) (ahead_begin c.in-Ok.reader _ c.in-Ok.ensures ∙ ap (option_map lines) told) text (read-none text _ c.in-Ok.reader told c.in-Ok.ensures) e;
 }

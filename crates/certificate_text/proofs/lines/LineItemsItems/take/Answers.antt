@@ -1,4 +1,4 @@
-use Rattle.std.proofs.Common.{ap}
+use Rattle.std.proofs.Common.{ap, arith, inl, inr, rules}
 use Rattle.std.specs.Prelude.{map}
 use Rattle.std.specs.Option.{option_map}
 use Rattle.certificate_text.proofs.TextLaws.{end-told, no-items}
@@ -28,3 +28,9 @@ returns-in-Failed-clause-known g c = λ input before. read-none-given c.next_lin
 
 pub returns-in-Full-clause-known : goal.returns-in-Full-clause-known
 returns-in-Full-clause-known g c = λ input before. read-none-given c.next_line.result _ _ _ _ c.next_line.ensures.fed c.next_line.ensures.counts.bound c.next_line.ensures.little (ap lines_given c.in-Full.is) input _
+
+pub returns-in-None-clause-met : goal.returns-in-None-clause-met
+returns-in-None-clause-met g c = inl (search rules)
+
+pub returns-in-TooLong-clause-met : goal.returns-in-TooLong-clause-met
+returns-in-TooLong-clause-met g c = inr (let long = c.next_line.ensures.too_long.0 c.in-TooLong.is in omega (arith, long))

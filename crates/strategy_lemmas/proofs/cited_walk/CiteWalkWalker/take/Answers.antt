@@ -8,7 +8,7 @@ use Rattle.strategy_lemmas.specs.declared.tokens.Token.TheVariants.{Index}
 use Rattle.claim_walks.specs.declared.items.ItemAnswer.TheVariants.{Item}
 use Rattle.claim_walks.specs.Items.{Takes}
 use Rattle.strategy_lemmas.proofs.CitedLaws.{serves-true}
-use Rattle.strategy_lemmas.proofs.CiteWalks.{index-took, test-is, cite-ends, same-bound}
+use Rattle.strategy_lemmas.proofs.CiteWalks.{index-took, unread-took, test-is, cite-ends, same-bound}
 use Rattle.strategy_lemmas.proofs.cited_walk.CiteWalkWalker.take.Goals as goal
 
 pub returns-in-Index-clause-told : goal.returns-in-Index-clause-told
@@ -36,3 +36,11 @@ pub returns-else-serves-clause-told : goal.returns-else-serves-clause-told
 returns-else-serves-clause-told g c =
     cite-ends (position (g.G.Game.course c.args.game.now)) c.key.result c.args.depth c.args.least _ (g.T.Items.supply c.args.self.now.tokens.now).left (g.T.Items.supply c.take.new.self).left c.args.self.now.taken c.saturating_add-self.result c.in-Cite.place
     _ c.args.self.now.lemmas.now false c.serves.result c.in-Cite.is c.in-Item.ensures.item c.saturating_add-self.ensures c.serves.ensures c.key.ensures.key (same-bound c.args.least c.requires.small) c.if-serves.false
+
+pub returns-in-Failed-clause-told : goal.returns-in-Failed-clause-told
+returns-in-Failed-clause-told g c =
+    unread-took (position (g.G.Game.course c.args.game.now)) c.args.depth c.args.least (g.T.Items.supply c.args.self.now.tokens.now).left (g.T.Items.supply c.take.new.self).left c.args.self.now.taken c.args.self.now.lemmas.now
+
+pub returns-in-Full-clause-told : goal.returns-in-Full-clause-told
+returns-in-Full-clause-told g c =
+    unread-took (position (g.G.Game.course c.args.game.now)) c.args.depth c.args.least (g.T.Items.supply c.args.self.now.tokens.now).left (g.T.Items.supply c.take.new.self).left c.args.self.now.taken c.args.self.now.lemmas.now
