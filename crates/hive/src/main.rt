@@ -11,6 +11,7 @@ ghost use Rattle.hive.specs.Complaints.{complaint};
 
 mod engines;
 mod machine_clock;
+mod patience;
 mod programs;
 mod streams;
 #[cfg(test)]
@@ -18,11 +19,13 @@ mod system_tests;
 #[cfg(test)]
 mod tests;
 
+use command_words::care_of;
 use hive_cli::{Status, run};
 use machine_clock::MachineClock;
 use programs::Programs;
 use std::env::Env;
 use std::io::ErrorKind;
+use std::os::fd::AsRawFd;
 use std::process::{ExitCode, OpenProcess, Processes};
 use std::thread::Threads;
 use std::{env, io, time};
@@ -65,7 +68,7 @@ fn run_on_streams<R: Input + Print + AllocGlobal + Threads + Sync + time::Clock 
 where
     R::Started: Send,
     <R::Started as OpenProcess>::Stdin: Send,
-    <R::Started as OpenProcess>::Stdout: Send,
+    <R::Started as OpenProcess>::Stdout: AsRawFd + Send,
     <R::Started as OpenProcess>::Stderr: Send,
     ensures usage { result ≡ Status.Usage → AreOfNoCommand words.now }
     ensures refused { AreOfNoCommand words.now → (result ≡ Status.Usage) ⊎
@@ -73,10 +76,13 @@ where
     ensures exact { AreOfNoCommand words.now → ¬ TakeOption (map string_bytes words.now) → result
         ≡ Status.Usage }
 {
+    let Ok(care) = care_of(rt.alloc(), words) else {
+        return Status::Memory;
+    };
     let mut input = Counted::new(rt.reader());
     let mut output = Counted::new(io::writer(rt));
     let mut clock = MachineClock::new(rt);
-    let mut spawner = Programs::new(rt, rt.alloc());
+    let mut spawner = Programs::new(rt, rt.alloc(), care.limit, care.quiet);
     let outcome = run(
         rt,
         rt.alloc(),

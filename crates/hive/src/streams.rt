@@ -2,9 +2,11 @@
 ghost use Rattle.std.specs.Prelude.{◌≡◌, ◌≤◌, None, length, IfOk};
 ghost use Rattle.io_edge.specs.Outside.{no_side};
 
+use crate::patience::Patient;
 use io_edge::{ReadAnswer, Sink, Source, WriteAnswer};
 use std::io;
 use std::io::{Read, Write};
+use std::time::Clock;
 
 /// A reader or a writer, and how many of its calls have failed.
 #[derive(Drop)]
@@ -16,7 +18,8 @@ pub struct Counted<T> {
 impl<T> Counted<T> {
     /// A stream of which no call has failed.
     pub fn new(stream: T) -> Self
-        ensures { result.faults ≡ 0 }
+        ensures faults { result.faults ≡ 0 }
+        ensures stream { result.stream ≡ stream }
     {
         Counted { stream, faults: 0 }
     }
@@ -26,6 +29,22 @@ impl<T> Counted<T> {
         ensures { result ≡ self.now.faults }
     {
         self.faults
+    }
+}
+
+impl<'a, R: Clock, S> Counted<Patient<'a, R, S>> {
+    /// The next read begins another answer.
+    pub fn begin_answer(&mut self)
+        ensures { self.new.faults ≡ self.old.faults }
+    {
+        self.stream.begin_answer();
+    }
+
+    /// From the next read on the pipe is read for this many milliseconds in all.
+    pub fn allow(&mut self, limit: u64)
+        ensures { self.new.faults ≡ self.old.faults }
+    {
+        self.stream.allow(limit);
     }
 }
 

@@ -26,7 +26,7 @@ fn a_clock_counts_milliseconds(rt: HostRuntime) {
 
 #[test]
 fn a_program_gets_its_words(rt: HostRuntime) -> Result<(), Fail> {
-    let mut programs = Programs::new(&rt, rt.alloc());
+    let mut programs = Programs::new(&rt, rt.alloc(), None, false);
     let words = [
         String::from_str(rt.alloc(), "sh")?,
         String::from_str(rt.alloc(), "-c")?,
@@ -55,7 +55,7 @@ fn a_program_gets_its_words(rt: HostRuntime) -> Result<(), Fail> {
 
 #[test]
 fn a_program_answers_and_is_let_go(rt: HostRuntime) -> Result<(), Fail> {
-    let mut programs = Programs::new(&rt, rt.alloc());
+    let mut programs = Programs::new(&rt, rt.alloc(), None, false);
     let words = [String::from_str(rt.alloc(), "cat")?];
     let Ok(mut engine) = programs.start(&words) else {
         assert!(rt; false, "a start that was to succeed");
@@ -64,14 +64,14 @@ fn a_program_answers_and_is_let_go(rt: HostRuntime) -> Result<(), Fail> {
     assert!(rt; write_all(&mut engine, b"ok\n".as_slice()));
     let mut buffer = [0u8; 8];
     assert_eq!(rt; engine.read(&mut buffer), ReadAnswer::Got(3));
-    assert_eq!(rt; &buffer[..3], b"ok\n".as_slice());
+    assert_eq!(rt; buffer.as_slice(), b"ok\n\0\0\0\0\0".as_slice());
     programs.close(engine);
     Ok(())
 }
 
 #[test]
 fn a_flood_ends(rt: HostRuntime) -> Result<(), Fail> {
-    let mut programs = Programs::new(&rt, rt.alloc());
+    let mut programs = Programs::new(&rt, rt.alloc(), None, false);
     let words = [String::from_str(rt.alloc(), "yes")?];
     match programs.start(&words) {
         Ok(engine) => programs.close(engine),
@@ -82,11 +82,28 @@ fn a_flood_ends(rt: HostRuntime) -> Result<(), Fail> {
 
 #[test]
 fn a_missing_program_is_refused(rt: HostRuntime) -> Result<(), Fail> {
-    let mut programs = Programs::new(&rt, rt.alloc());
+    let mut programs = Programs::new(&rt, rt.alloc(), None, false);
     let words = [String::from_str(rt.alloc(), "/no/such/program")?];
     match programs.start(&words) {
         Ok(_) => assert!(rt; false, "a start that was to fail"),
         Err(fault) => assert_eq!(rt; fault, StartFault::Failed),
     }
+    Ok(())
+}
+
+#[test]
+fn a_silent_program_is_given_up(rt: HostRuntime) -> Result<(), Fail> {
+    let mut programs = Programs::new(&rt, rt.alloc(), Some(100), false);
+    let words = [
+        String::from_str(rt.alloc(), "sleep")?,
+        String::from_str(rt.alloc(), "1000")?,
+    ];
+    let Ok(mut engine) = programs.start(&words) else {
+        assert!(rt; false, "a start that was to succeed");
+        return Ok(());
+    };
+    let mut buffer = [0u8; 8];
+    assert_eq!(rt; engine.read(&mut buffer), ReadAnswer::Failed);
+    programs.close(engine);
     Ok(())
 }

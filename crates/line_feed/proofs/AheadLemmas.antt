@@ -1,17 +1,19 @@
 -- What an answer does to the lines to come.
-use Rattle.std.proofs.Common.{◌≡◌, ◌≢◌, ◌<◌, ◌≤◌, ℕ, ◌+◌, Bool, true, false, List, [], ◌∷◌, ◌++◌, length, refl, ap, sym, ◌∙◌, arith, append_assoc, None, Some, if◌then◌else◌, ◌↔◌, inl, inr}
+use Rattle.std.proofs.Common.{◌≡◌, ◌≢◌, ◌<◌, ◌≤◌, ℕ, ◌+◌, Bool, true, false, List, [], ◌∷◌, ◌++◌, length, refl, ap, sym, ◌∙◌, arith, append_assoc, length-append, None, Some, if◌then◌else◌, ◌↔◌, inl, inr}
 use Rattle.std.specs.Bool.{MatchBool}
 use Rattle.std.specs.Option.{option_map}
 use Rattle.std.proofs.lemmas.List.{append-nil}
 use Rattle.std.proofs.lemmas.Bool.{cases_lt}
 use Rattle.io_edge.specs.Outside.{Told, in_front, IsAtEnd}
 use Rattle.hive_model.specs.Lines.{Line as OneLine, Text, TooLong as LongLine, line_parts, lines, whole_parts, whole_lines}
-use Rattle.line_feed.specs.Feed.{Reading, fresh, pending, SplitsOff, IsLastLine, Gives, Holds, Ends, Feeds, Takes, lf_after, input_limit}
+use Rattle.line_feed.specs.Feed.{Reading, fresh, pending, SplitsOff, IsLastLine, Gives, Holds, Ends, Feeds, FeedsShort, HoldsLong, Takes, lf_after, input_limit, AddsUp}
 use Rattle.hive_model.specs.Lines.{ToldLines, NoneAhead, LongAhead}
-use Rattle.line_feed.specs.Ahead.{ahead_of, whole_ahead_of, lines_left, whole_left, Advances}
+use Rattle.line_feed.specs.Ahead.{ahead_of, whole_ahead_of, lines_left, whole_left, Advances, AdvancesShort}
 use Rattle.line_feed.specs.declared.answers.LineAnswer.{LineAnswer}
 use Rattle.line_feed.specs.declared.answers.LineAnswer.TheVariants.{Line, TooLong, End, Failed, Full}
-use Rattle.line_feed.proofs.PartLemmas.{text_fits, long_passes, lines_long}
+use Rattle.line_feed.specs.declared.answers.ShortAnswer.{ShortAnswer}
+use Rattle.line_feed.specs.declared.answers.ShortAnswer.TheVariants.{Line as ShortLine, Long, End as ShortEnd, Failed as ShortFailed, Full as ShortFull}
+use Rattle.line_feed.proofs.PartLemmas.{text_fits, long_passes, lines_long, whole_lines-open}
 
 pub lines-nil : lines [] ≡ []
 unfolding lines line_parts
@@ -223,3 +225,57 @@ long_ahead old new r0 r1 fed = long_of (ahead_of new r1) (ahead_of old r0) (adva
 -- a reader that has finished is asked again
 pub whole_after_end : (r : Reading) (t : Told) → r.finished ≡ true → MatchBool r.finished (NoneAhead (whole_ahead_of r t)) (NoneAhead (whole_ahead_of r t) × NoneAhead (whole_ahead_of r t))
 whole_after_end r t e = let n = no_whole_after_end r t e in match_both r.finished n (n, n)
+
+-- what is held, and its end was not looked for, leaves the lines to come
+long_held : (old new : Reading) (bytes : List ℕ) (r0 r1 : Told) → r0 ≡ in_front bytes r1 → HoldsLong old bytes new → ahead_of new r1 ≡ ahead_of old r0
+unfolding ahead_of
+long_held old new bytes r0 r1 e h =
+    holds_as (lines_left old) (lines_left new) r0 r1 bytes e (λ left. held_left lines old new bytes left h.went_on h.goes_on (ap (λ held. lines (held ++ left)) (sym h.kept)))
+
+-- and the first of them is too long
+long_first : (r : Reading) (t : Told) → r.finished ≡ false → whole_lines r.part ≡ [] → 65536 < length r.part → LongAhead (ahead_of r t)
+long_first r None go none long = rw (ahead_untold r) tt
+long_first r (Some left) go none long =
+    let (more, e) = lines_long r.part (r.ahead ++ left) none long in
+    rw (ahead_told r left, left_open r.finished (lines (pending r ++ left)) go, append_assoc r.part r.ahead left) (more, e)
+
+-- what an answer that reads no further than a line may go does to the lines to come
+pub short_advances : (a : ShortAnswer) (old new : Reading) (r0 r1 : Told) → (bytes : List ℕ) × Takes r0 r1 old.taken new.taken bytes × FeedsShort a old bytes new r1
+    → AdvancesShort a new.last (ahead_of old r0) (ahead_of new r1)
+short_advances ShortLine old new r0 r1 (bytes, t, g) = advances Line old new r0 r1 (bytes, t, g)
+short_advances Long old new r0 r1 (bytes, t, h) =
+    let same = long_held old new bytes r0 r1 t.left h in
+    let front = h.front in
+    (rw (← same) (long_first new r1 h.goes_on (whole_lines-open new.part h.no_lf) (omega arith)), same)
+short_advances ShortEnd old new r0 r1 (bytes, t, g) = advances End old new r0 r1 (bytes, t, g)
+short_advances ShortFailed old new r0 r1 (bytes, t, (h, short, below)) = holds_ahead old new r0 r1 bytes t.left h
+short_advances ShortFull old new r0 r1 (bytes, t, (h, short, full)) = holds_ahead old new r0 r1 bytes t.left h
+
+-- a line that is given fits, and a call passes no more than it and its LF
+pub short_fits : (a : ShortAnswer) (old new : Reading) (r0 r1 : Told) → (bytes : List ℕ) × Takes r0 r1 old.taken new.taken bytes × FeedsShort a old bytes new r1 → a ≡ ShortLine → length new.last ≤ 65536
+short_fits ShortLine old new r0 r1 fed e = line_fits Line old new r0 r1 fed refl
+short_fits Long old new r0 r1 fed e = absurd (cc)
+short_fits ShortEnd old new r0 r1 fed e = absurd (cc)
+short_fits ShortFailed old new r0 r1 fed e = absurd (cc)
+short_fits ShortFull old new r0 r1 fed e = absurd (cc)
+
+pub short_passes : (a : ShortAnswer) (old new : Reading) (r0 r1 : Told) → (bytes : List ℕ) × Takes r0 r1 old.taken new.taken bytes × FeedsShort a old bytes new r1 → new.passed ≤ old.passed + 65537
+short_passes ShortLine old new r0 r1 (bytes, t, g) =
+    let (part, p) = g.passes in
+    let (short, less) = text_fits part new.last p.line in
+    let one = lf_after-length new.finished in
+    let c = p.counted in omega arith
+short_passes Long old new r0 r1 (bytes, t, h) = let s = h.same in omega arith
+short_passes ShortEnd old new r0 r1 (bytes, t, g) = let s = g.same in omega arith
+short_passes ShortFailed old new r0 r1 (bytes, t, (h, short, below)) = let s = h.same in omega arith
+short_passes ShortFull old new r0 r1 (bytes, t, (h, short, full)) = let s = h.same in omega arith
+
+-- a reader whose part is not too long is full near its limit
+pub short_full : (a : ShortAnswer) (old new : Reading) (r0 r1 : Told) → (bytes : List ℕ) × Takes r0 r1 old.taken new.taken bytes × FeedsShort a old bytes new r1 → AddsUp new → a ≡ ShortFull → input_limit ≤ new.passed + 65536
+short_full ShortFull old new r0 r1 (bytes, t, (h, short, full)) sums e =
+    let sum = length-append new.part new.ahead in
+    let exact = sums.exact (omega arith) in omega arith
+short_full ShortLine old new r0 r1 fed sums e = absurd (cc)
+short_full Long old new r0 r1 fed sums e = absurd (cc)
+short_full ShortEnd old new r0 r1 fed sums e = absurd (cc)
+short_full ShortFailed old new r0 r1 fed sums e = absurd (cc)

@@ -2,10 +2,12 @@
 use Rattle.std.specs.Prelude.{◌≡◌, ℕ, List, [], ◌∷◌, ◌++◌, if◌then◌else◌}
 use Rattle.std.specs.Option.{option_map}
 use Rattle.io_edge.specs.Outside.{Told}
-use Rattle.hive_model.specs.Lines.{Line as OneLine, Text, TooLong as LongLine, lines, whole_lines, ToldLines, NoneAhead}
+use Rattle.hive_model.specs.Lines.{Line as OneLine, Text, TooLong as LongLine, lines, whole_lines, ToldLines, NoneAhead, LongAhead}
 use Rattle.line_feed.specs.Feed.{Reading, pending}
 use Rattle.line_feed.specs.declared.answers.LineAnswer.{LineAnswer}
 use Rattle.line_feed.specs.declared.answers.LineAnswer.TheVariants.{Line, TooLong, End, Failed, Full}
+use Rattle.line_feed.specs.declared.answers.ShortAnswer.{ShortAnswer}
+use Rattle.line_feed.specs.declared.answers.ShortAnswer.TheVariants.{Line as ShortLine, Long, End as ShortEnd, Failed as ShortFailed, Full as ShortFull}
 
 -- the lines that a reader still gives where just these bytes come: none once it has met the end
 abbrev pub lines_left : Reading → List ℕ → List OneLine
@@ -31,3 +33,12 @@ Advances TooLong last old new = old ≡ option_map (λ left. LongLine ∷ left) 
 Advances End last old new = NoneAhead old × NoneAhead new
 Advances Failed last old new = new ≡ old
 Advances Full last old new = new ≡ old
+
+-- the same where no line is read further than it may go: one that is too long is the first of the
+-- lines to come, and stays it
+abbrev pub AdvancesShort : ShortAnswer → List ℕ → ToldLines → ToldLines → Type 0
+AdvancesShort ShortLine last old new = old ≡ option_map (λ left. Text last ∷ left) new
+AdvancesShort Long last old new = LongAhead old × (new ≡ old)
+AdvancesShort ShortEnd last old new = NoneAhead old × NoneAhead new
+AdvancesShort ShortFailed last old new = new ≡ old
+AdvancesShort ShortFull last old new = new ≡ old

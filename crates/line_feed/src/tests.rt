@@ -1,6 +1,6 @@
 //! Lines of streams in memory, in pieces of several sizes.
 
-use crate::{INPUT_LIMIT, LineAnswer, LineReader};
+use crate::{INPUT_LIMIT, LineAnswer, LineReader, ShortAnswer};
 use io_edge::MemSource;
 use std::alloc::Global;
 use std::test::Fail;
@@ -152,6 +152,31 @@ fn an_input_has_a_limit(rt: HostRuntime) -> Result<(), Fail> {
                 "{left} bytes before the limit, {input:?} in pieces of {pieces:?}"
             );
         }
+    }
+    Ok(())
+}
+
+#[test]
+fn a_long_line_is_told_before_its_end(rt: HostRuntime) -> Result<(), Fail> {
+    // so many letters behind a line; the read fails that follows the one of the last of them that
+    // counts
+    for (letters, failing_read, want) in [
+        (65_536, 18, ShortAnswer::Failed),
+        (65_537, 19, ShortAnswer::Long),
+        (70_000, 19, ShortAnswer::Long),
+    ] {
+        let mut input = Vec::from_slice(rt.alloc(), "ab\n".as_bytes())?;
+        for _ in 0..letters {
+            input.push(b'x')?;
+        }
+        let sizes = Vec::from_slice(rt.alloc(), &[3, letters])?;
+        let fails = Vec::from_slice(rt.alloc(), &[failing_read])?;
+        let mut source = MemSource::new(input, sizes, fails);
+        let mut reader = LineReader::new(rt.alloc())?;
+        assert_eq!(rt; reader.next_short_line(&mut source), ShortAnswer::Line);
+        assert_eq!(rt; reader.line(), "ab".as_bytes());
+        let answer = reader.next_short_line(&mut source);
+        assert_eq!(rt; answer, want, "{letters} letters");
     }
     Ok(())
 }

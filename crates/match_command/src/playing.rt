@@ -63,8 +63,8 @@ fn play_and_close<P: Spawner, C: Clock, G: Game + Drop>(
 /// verdict. Each engine that was started is closed before the call returns, whatever happens.
 ///
 /// A side forfeits for a late answer only at its turn, where it was asked with a time and answered
-/// after this and the margin: the moves played and the bytes sent are those of the match up to that
-/// reply.
+/// after this and the margin. Where the starter tells its programs, and counted no failure of one,
+/// the moves played and the bytes sent are those of the match up to that reply.
 ///
 /// A setup has a limit of 1 to 1,000 plies. It has a depth from 1 to 64, or a time of whole seconds
 /// below 100 hours and a margin of at most an hour. Each list of words has at least one.

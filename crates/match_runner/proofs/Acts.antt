@@ -97,16 +97,16 @@ gave_time Broke o n k g = absurd g
 gave_time (Reading x) o n k g = absurd g
 
 told_side : (s : Standing) (at : Colour) (o n : Side) → act_at s.stage ≡ SendAct at → n.ahead ≡ o.ahead → n.written ≡ behind o.written (line_at s s.stage) → OneSide s Sent at o n
-told_side s at o n e f g = record { feeds = feeds_send s.stage Sent at at o.ahead n.ahead e f; wrote = rw (sent_line s.stage s at e) g }
+told_side s at o n e f g = record { feeds = feeds_send s.stage Sent at at o.ahead n.ahead e f; stays = λ x. f; wrote = rw (sent_line s.stage s at e) g }
 
 quiet_side : (s : Standing) (at to : Colour) (o : Side) → act_at s.stage ≡ SendAct at → is_side at to ≡ false → OneSide s Sent to o o
-quiet_side s at to o e f = record { feeds = feeds_send s.stage Sent at to o.ahead o.ahead e refl; wrote = rw (not_sent s.stage s at to e f) (behind-nil o.written) }
+quiet_side s at to o e f = record { feeds = feeds_send s.stage Sent at to o.ahead o.ahead e refl; stays = λ x. refl; wrote = rw (not_sent s.stage s at to e f) (behind-nil o.written) }
 
-heard_side : (s : Standing) (h : Happening) (at : Colour) (o n : Side) → act_at s.stage ≡ ReadAct at → Gave h o.ahead n.ahead → n.written ≡ o.written → OneSide s h at o n
-heard_side s h at o n e g w = record { feeds = feeds_read s.stage h at o.ahead n.ahead e g; wrote = rw (read_sends s.stage s h at at e) (w ∙ behind-nil o.written) }
+heard_side : (s : Standing) (h : Happening) (at : Colour) (o n : Side) → act_at s.stage ≡ ReadAct at → Gave h o.ahead n.ahead → (h ≡ TooLong → n.ahead ≡ o.ahead) → n.written ≡ o.written → OneSide s h at o n
+heard_side s h at o n e g k w = record { feeds = feeds_read s.stage h at o.ahead n.ahead e g; stays = k; wrote = rw (read_sends s.stage s h at at e) (w ∙ behind-nil o.written) }
 
 still_side : (s : Standing) (h : Happening) (at to : Colour) (o : Side) → act_at s.stage ≡ ReadAct at → is_side at to ≡ false → OneSide s h to o o
-still_side s h at to o e f = record { feeds = feeds_other s.stage h at to o.ahead e f; wrote = rw (read_sends s.stage s h at to e) (behind-nil o.written) }
+still_side s h at to o e f = record { feeds = feeds_other s.stage h at to o.ahead e f; stays = λ x. refl; wrote = rw (read_sends s.stage s h at to e) (behind-nil o.written) }
 
 cut_none : (s : Standing) (to : Colour) (o n : Side) → n.written ≡ o.written → CutSide s to o n
 cut_none s to o n w = (0, w ∙ behind-nil o.written)
@@ -129,14 +129,14 @@ told_black Finished s t w b0 b k e side a g = absurd g
 told_black Memory s t w b0 b k e side a g = tt
 
 pub heard_white : (turn : Acted) (s t : Standing) (w0 w b : Side) (k : ℕ) → act_at s.stage ≡ ReadAct White → ((at : Colour) → turn ≡ ReadFault at → at ≡ White) → w.written ≡ w0.written → Hears turn s t w0.ahead w.ahead → Turns turn s t w0 w b b k k
-heard_white GoOn s t w0 w b k e side a (h, f, g) = (h, record { time = gave_time h w0.ahead w.ahead k g; next_is = f; fits = gave_fits s.stage h White w0.ahead w.ahead e g; sound = gave_sound h w0.ahead w.ahead g; white = heard_side s h White w0 w e g a; black = still_side s h White Black b e refl })
+heard_white GoOn s t w0 w b k e side a (h, f, g, stays) = (h, record { time = gave_time h w0.ahead w.ahead k g; next_is = f; fits = gave_fits s.stage h White w0.ahead w.ahead e g; sound = gave_sound h w0.ahead w.ahead g; white = heard_side s h White w0 w e g stays a; black = still_side s h White Black b e refl })
 heard_white (ReadFault at) s t w0 w b k e side a (f, g) = (e ∙ ap ReadAct (sym (side at refl)), record { next_is = f; fits = rw e refl; white = cut_none s White w0 w a; black = cut_none s Black b b refl }, refl)
 heard_white (WriteFault at) s t w0 w b k e side a g = absurd g
 heard_white Finished s t w0 w b k e side a g = absurd g
 heard_white Memory s t w0 w b k e side a g = tt
 
 pub heard_black : (turn : Acted) (s t : Standing) (w b0 b : Side) (k : ℕ) → act_at s.stage ≡ ReadAct Black → ((at : Colour) → turn ≡ ReadFault at → at ≡ Black) → b.written ≡ b0.written → Hears turn s t b0.ahead b.ahead → Turns turn s t w w b0 b k k
-heard_black GoOn s t w b0 b k e side a (h, f, g) = (h, record { time = gave_time h b0.ahead b.ahead k g; next_is = f; fits = gave_fits s.stage h Black b0.ahead b.ahead e g; sound = gave_sound h b0.ahead b.ahead g; white = still_side s h Black White w e refl; black = heard_side s h Black b0 b e g a })
+heard_black GoOn s t w b0 b k e side a (h, f, g, stays) = (h, record { time = gave_time h b0.ahead b.ahead k g; next_is = f; fits = gave_fits s.stage h Black b0.ahead b.ahead e g; sound = gave_sound h b0.ahead b.ahead g; white = still_side s h Black White w e refl; black = heard_side s h Black b0 b e g stays a })
 heard_black (ReadFault at) s t w b0 b k e side a (f, g) = (e ∙ ap ReadAct (sym (side at refl)), record { next_is = f; fits = rw e refl; white = cut_none s White w w refl; black = cut_none s Black b0 b a }, refl)
 heard_black (WriteFault at) s t w b0 b k e side a g = absurd g
 heard_black Finished s t w b0 b k e side a g = absurd g
@@ -157,7 +157,7 @@ clock_sends After s h to e = refl
 clock_sends FinishedStage s h to e = refl
 
 looked_side : (s : Standing) (h : Happening) (to : Colour) (o : Side) → act_at s.stage ≡ Clock → OneSide s h to o o
-looked_side s h to o e = record { feeds = feeds_clock s.stage h to o.ahead e; wrote = rw (clock_sends s.stage s h to e) (behind-nil o.written) }
+looked_side s h to o e = record { feeds = feeds_clock s.stage h to o.ahead e; stays = λ x. refl; wrote = rw (clock_sends s.stage s h to e) (behind-nil o.written) }
 
 pub looked : (turn : Acted) (s t : Standing) (w b : Side) (c0 c : ℕ) → act_at s.stage ≡ Clock → Looks turn s t c0 c → Turns turn s t w w b b c0 c
 looked GoOn s t w b c0 c e (f, g) = (Reading c, record { time = (g, refl); next_is = f; fits = rw e refl; sound = refl; white = looked_side s (Reading c) White w e; black = looked_side s (Reading c) Black b e })

@@ -1,17 +1,28 @@
 -- What a reader gives of the lines to come.
-use Rattle.std.proofs.Common.{◌≡◌, ◌↔◌, ◌<◌, ◌≤◌, ◌+◌, true, false, length, refl, arith}
+use Rattle.std.proofs.Common.{◌≡◌, ◌<◌, ◌≤◌, ◌+◌, ℕ, List, true, false, refl, arith}
 use Rattle.hive_model.specs.declared.pieces.Colour.{Colour}
-use Rattle.line_feed.specs.Feed.{Reading as Reader, lf_after}
-use Rattle.line_feed.specs.declared.answers.LineAnswer.TheVariants.{Line as LineGiven, TooLong as LineTooLong}
-use Rattle.line_feed.proofs.AheadLemmas.{passes_little}
+use Rattle.io_edge.specs.Outside.{Told}
+use Rattle.line_feed.specs.Feed.{Reading as Reader, Takes, FeedsShort, input_limit}
+use Rattle.line_feed.specs.declared.answers.ShortAnswer.TheVariants.{Full}
 use Rattle.match_core.specs.declared.answers.Stage.{Stage}
 use Rattle.match_core.specs.declared.answers.Stage.TheVariants.{Send, Read, Before, After, Finished}
 use Rattle.match_core.specs.declared.answers.Act.TheVariants.{Read as ReadAct}
 use Rattle.match_core.specs.Plays.{is_finished}
 use Rattle.match_core.specs.Standing.{Standing, TooLong, Ended, next, at_stage, act_at, Happening, Sent, Line, Broke, Reading}
 
-pub little : (old new : Reader) → (LineGiven ≡ LineTooLong) ↔ (old.passed + 65536 + length (lf_after new.finished) < new.passed) → new.passed ≤ old.passed + 65538
-little old new e = let k = passes_little LineGiven old new e (λ x. cc) in omega (arith, k)
+pub little : (before after : ℕ) → after ≤ before + 65537 → after ≤ before + 65538
+little before after h = omega arith
+
+-- a reader far from its limit is not full
+pub never_full : (old new : Reader) (r0 r1 : Told) → (bytes : List ℕ) × Takes r0 r1 old.taken new.taken bytes × FeedsShort Full old bytes new r1 → input_limit ≤ new.passed + 65536 → old.passed + 65536 < input_limit → ⊥
+never_full old new r0 r1 (bytes, t, (h, short, full)) near room = let same = h.same in omega arith
+
+-- another event is no line that is too long
+pub not_long : (bytes : List ℕ) {P : Type 0} → Line bytes ≡ TooLong → P
+not_long bytes e = absurd (cc)
+
+pub not_ended : {P : Type 0} → Ended ≡ TooLong → P
+not_ended e = absurd (cc)
 
 -- an event behind which nothing more is read of a side
 abbrev IsClosing : Happening → Type 0

@@ -11,7 +11,7 @@ use Rattle.match_core.specs.declared.answers.Stage.{Stage}
 use Rattle.match_core.specs.declared.answers.Stage.TheVariants.{Send, Read, Before, After, Finished as FinishedStage}
 use Rattle.match_core.specs.declared.answers.Act.{Act}
 use Rattle.match_core.specs.declared.answers.Act.TheVariants.{Send as SendAct, Read as ReadAct, Finish}
-use Rattle.match_core.specs.Standing.{Standing, Happening, start, match_after, next, after_all, act_at, answers}
+use Rattle.match_core.specs.Standing.{Standing, Happening, TooLong, start, match_after, next, after_all, act_at, answers}
 use Rattle.match_core.specs.Fairness.{Answering, sent, sent_at}
 use Rattle.match_core.specs.Plays.{joined, left, is_finished}
 use Rattle.match_core.specs.Keeps.{IsSetup}
@@ -21,7 +21,7 @@ use Rattle.match_core.proofs.Falls.{matches_near_their_end}
 use Rattle.match_core.proofs.Fair.{after_all-snoc}
 use Rattle.match_runner.specs.Wires.{Watch}
 use Rattle.match_runner.specs.Turns.{Side, OneSide, Goes, Breaks, KeepsAt, is_broke, is_clock, looks_at}
-use Rattle.match_runner.specs.Runs.{Cut, AreSound, KeepTime, looks, Served, Run, Ran}
+use Rattle.match_runner.specs.Runs.{Cut, AreSound, KeepTime, looks, JudgesAtOnce, Served, Run, Ran}
 use Rattle.match_runner.proofs.Acts.{behind-nil}
 
 pub joined-append : (xs ys : List (List ℕ)) → joined (xs ++ ys) ≡ joined xs ++ joined ys
@@ -35,6 +35,15 @@ sent-snoc (x ∷ hs) s h to = ap (λ z. sent_at s s.stage x to ++ z) (sent-snoc 
 pub feeds-snoc : (hs : List Happening) (s : Standing) (h : Happening) (to : Colour) (o m n : ToldLines) → Feeds s hs to o m → FeedsAt (after_all s hs).stage h to m n → Feeds s (hs ++ h ∷ []) to o n
 feeds-snoc [] s h to o m n e f = (n, subst (λ x. FeedsAt s.stage h to x n) e f, refl)
 feeds-snoc (x ∷ hs) s h to o m n (mid, f, g) k = (mid, f, feeds-snoc hs (next s x) h to mid m n g k)
+
+judged-snoc : (hs : List Happening) (s : Standing) (h : Happening) (to : Colour) (o m n : ToldLines) → JudgesAtOnce s hs to o m → FeedsAt (after_all s hs).stage h to m n → (h ≡ TooLong → n ≡ m) → JudgesAtOnce s (hs ++ h ∷ []) to o n
+judged-snoc [] s h to o m n e f k = (n, subst (λ x. FeedsAt s.stage h to x n) e f, subst (λ x. h ≡ TooLong → n ≡ x) e k, refl)
+judged-snoc (x ∷ hs) s h to o m n (mid, f, j, g) l k = (mid, f, j, judged-snoc hs (next s x) h to mid m n g l k)
+
+-- which lines the events took
+pub takes_lines : (hs : List Happening) (s : Standing) (to : Colour) (o n : ToldLines) → JudgesAtOnce s hs to o n → Feeds s hs to o n
+takes_lines [] s to o n e = e
+takes_lines (h ∷ hs) s to o n (mid, f, j, g) = (mid, f, takes_lines hs (next s h) to mid n g)
 
 pub answering-snoc : (hs : List Happening) (s : Standing) (h : Happening) → Answering s hs → IsTrue (answers (act_at (after_all s hs).stage) h) → Answering s (hs ++ h ∷ [])
 answering-snoc [] s h a w = (w, tt)
@@ -50,7 +59,7 @@ looks-snoc (x ∷ hs) s h = let e = looks-snoc hs (next s x) h in omega (arith, 
 
 served-snoc : (hs : List Happening) (s : Standing) (h : Happening) (to : Colour) (o m n : Side) → Served s hs to o m → OneSide (after_all s hs) h to m n → Served s (hs ++ h ∷ []) to o n
 served-snoc hs s h to o m n f g = record {
-  feeds = feeds-snoc hs s h to o.ahead m.ahead n.ahead f.feeds g.feeds;
+  feeds = judged-snoc hs s h to o.ahead m.ahead n.ahead f.feeds g.feeds g.stays;
   wrote =
       let x : joined (sent s (hs ++ h ∷ []) to) ≡ joined (sent s hs to) ++ joined (sent_at (after_all s hs) (after_all s hs).stage h to) = ap joined (sent-snoc hs s h to) ∙ joined-append (sent s hs to) _ in
       g.wrote ∙ (ap (λ z. behind z (joined (sent_at (after_all s hs) (after_all s hs).stage h to))) f.wrote ∙ (behind-behind o.written (joined (sent s hs to)) _ ∙ ap (behind o.written) (sym x)));

@@ -20,11 +20,12 @@ use Rattle.line_feed.proofs.AheadLemmas.{ahead_begin}
 use Rattle.match_core.specs.Keeps.{IsSetup}
 use Rattle.match_core.specs.declared.answers.Cause.TheVariants.{Late}
 use Rattle.match_core.proofs.Follows.{next_is}
+use Rattle.match_runner.proofs.Progress.{takes_lines}
 use Rattle.match_core.proofs.Fronts.{matches_are_of_their_lines}
 
 -- the lines that a side will say, where its link tells its bytes
 pub feeds_from : (setup : Setup) (hs : List Happening) (to : Colour) (rest written : Told) (now : Side) (bytes : List ℕ) → rest ≡ Some bytes → Served (start setup) hs to (side_of fresh rest written) now → Feeds (start setup) hs to (Some (lines bytes)) now.ahead
-feeds_from setup hs to rest written now bytes e served = subst (λ x. Feeds (start setup) hs to x now.ahead) (ap (ahead_of fresh) e ∙ ahead_begin fresh (Some bytes) refl) served.feeds
+feeds_from setup hs to rest written now bytes e served = subst (λ x. Feeds (start setup) hs to x now.ahead) (ap (ahead_of fresh) e ∙ ahead_begin fresh (Some bytes) refl) (takes_lines hs (start setup) to _ now.ahead served.feeds)
 
 late_stops : (hs : List Happening) (s x : Standing) (side : Colour) (m n : ℕ) → x ≡ forfeit s side (Late m n) → Answering x hs → (IsLate (after_all x hs).verdict → ⊥) → ⊥
 late_stops [] s x side m n e a f = f (rw e tt)

@@ -7,14 +7,14 @@ use Rattle.line_feed.specs.Feed.{Reading as Reader, HoldsLittle, fresh}
 use Rattle.match_core.specs.declared.answers.Setup.{Setup}
 use Rattle.match_core.specs.declared.answers.Stage.TheVariants.{After}
 use Rattle.match_core.specs.declared.answers.Act.TheVariants.{Send as SendAct, Read as ReadAct, Finish}
-use Rattle.hive_model.specs.Lines.{Line as Mark, lines}
+use Rattle.hive_model.specs.Lines.{Line as Mark, ToldLines, lines}
 use Rattle.match_core.specs.declared.answers.Cause.TheVariants.{NotAMove, Illegal, ErrLine, Flood, LongLine, Ended as EndedCause, Broke as BrokeCause, Late}
 use Rattle.match_core.specs.declared.answers.Verdict.{Verdict}
 use Rattle.match_core.specs.declared.answers.Verdict.TheVariants.{Rules, Limit, Forfeit}
-use Rattle.match_core.specs.Standing.{Standing, Happening, start, match_after, next, act_at}
+use Rattle.match_core.specs.Standing.{Standing, Happening, TooLong, start, match_after, next, act_at}
 use Rattle.match_core.specs.Fairness.{Answering, sent}
 use Rattle.match_core.specs.Plays.{joined, IsBounded, match_of, has_verdict}
-use Rattle.match_core.specs.Feeds.{Feeds, IsFront}
+use Rattle.match_core.specs.Feeds.{FeedsAt, IsFront}
 use Rattle.match_core.specs.Lates.{LatesAreLate}
 use Rattle.match_runner.specs.Wires.{HasFailed, Watch, Wire}
 use Rattle.match_runner.specs.Turns.{Side, Breaks, KeepsAt, is_broke, looks_at, side_of}
@@ -36,9 +36,17 @@ abbrev pub KeepTime : ℕ → List Happening → ℕ → Type 0
 KeepTime before [] now = now ≡ before
 KeepTime before (h ∷ hs) now = (mid : ℕ) × KeepsAt h before mid × KeepTime mid hs now
 
+-- all that happened took just these lines of a side, and one that is too long was judged and not
+-- passed over: it is still the first of the lines to come
+abbrev pub JudgesAtOnce : Standing → List Happening → Colour → ToldLines → ToldLines → Type 0
+JudgesAtOnce s [] to old new = new ≡ old
+JudgesAtOnce s (h ∷ hs) to old new =
+    (mid : ToldLines) × FeedsAt s.stage h to old mid × (h ≡ TooLong → mid ≡ old)
+    × JudgesAtOnce (next s h) hs to mid new
+
 -- what the events did at a side
 pub record Served (s : Standing) (hs : List Happening) (to : Colour) (old new : Side) : Type 0 where
-  pub feeds : Feeds s hs to old.ahead new.ahead
+  pub feeds : JudgesAtOnce s hs to old.ahead new.ahead
   pub wrote : new.written ≡ behind old.written (joined (sent s hs to))
 
 -- the match has come to this by these events

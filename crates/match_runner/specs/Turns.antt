@@ -31,9 +31,10 @@ Tells (ReadFault side) s t before after = ⊥
 Tells Finished s t before after = ⊥
 Tells Memory s t before after = Unit {0}
 
--- a line is read
+-- a line is read; one that is too long is judged, and not passed over
 abbrev pub Hears : Acted → Standing → Standing → ToldLines → ToldLines → Type 0
-Hears GoOn s t old new = (h : Happening) × (t ≡ next s h) × Gave h old new
+Hears GoOn s t old new =
+    (h : Happening) × (t ≡ next s h) × Gave h old new × (h ≡ TooLong → new ≡ old)
 Hears (ReadFault side) s t old new = (t ≡ next s Broke) × (new ≡ old)
 Hears (WriteFault side) s t old new = ⊥
 Hears Finished s t old new = ⊥
@@ -91,6 +92,7 @@ looks_at stage = if is_clock (act_at stage) then 1 else 0
 -- what an event does at a side
 pub record OneSide (s : Standing) (h : Happening) (to : Colour) (old new : Side) : Type 0 where
   pub feeds : FeedsAt s.stage h to old.ahead new.ahead
+  pub stays : h ≡ TooLong → new.ahead ≡ old.ahead
   pub wrote : new.written ≡ behind old.written (joined (sent_at s s.stage h to))
 
 -- a side has got a front of the line that was to be sent to it

@@ -10,7 +10,7 @@ ghost use Rattle.match_runner.specs.Turns.{Tells, Hears, Looks, Turns, Room, sid
 
 use hive_model::{Colour, Game};
 use io_edge::{Clock, Link, write_all};
-use line_feed::{LineAnswer, LineReader};
+use line_feed::{LineReader, ShortAnswer};
 use match_core::{Act, Event, Referee};
 
 /// What an act came to.
@@ -51,7 +51,8 @@ fn tell<L: Link, G: Game + Drop>(referee: &mut Referee<G>, link: &mut L, side: C
     }
 }
 
-/// Reads the next line of a reply.
+/// Reads the next line of a reply. One that is too long is judged as soon as that is certain, at
+/// its 65,537th byte: whatever follows, it is too long.
 fn listen<L: Link, G: Game + Drop>(
     referee: &mut Referee<G>,
     reader: &mut LineReader,
@@ -70,24 +71,24 @@ fn listen<L: Link, G: Game + Drop>(
     ensures cause { HasCause (result ≡ Acted.ReadFault side) (L.read_faults link.old)
         (L.read_faults link.new) }
 {
-    match reader.next_line(link) {
-        LineAnswer::Line => match referee.step(Event::Line, reader.line()) {
+    match reader.next_short_line(link) {
+        ShortAnswer::Line => match referee.step(Event::Line, reader.line()) {
             Ok(()) => Acted::GoOn,
             Err(_) => Acted::Memory,
         },
-        LineAnswer::TooLong => match referee.step(Event::TooLong, &[]) {
+        ShortAnswer::Long => match referee.step(Event::TooLong, &[]) {
             Ok(()) => Acted::GoOn,
             Err(_) => Acted::Memory,
         },
-        LineAnswer::End => match referee.step(Event::Ended, &[]) {
+        ShortAnswer::End => match referee.step(Event::Ended, &[]) {
             Ok(()) => Acted::GoOn,
             Err(_) => Acted::Memory,
         },
-        LineAnswer::Failed => match referee.step(Event::Broke, &[]) {
+        ShortAnswer::Failed => match referee.step(Event::Broke, &[]) {
             Ok(()) => Acted::ReadFault { side },
             Err(_) => Acted::Memory,
         },
-        LineAnswer::Full => match referee.step(Event::TooLong, &[]) {
+        ShortAnswer::Full => match referee.step(Event::TooLong, &[]) {
             Ok(()) => Acted::GoOn,
             Err(_) => Acted::Memory,
         },
