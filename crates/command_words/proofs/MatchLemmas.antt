@@ -2,24 +2,30 @@
 use Rattle.std.proofs.Common.{◌≡◌, ◌∙◌, ap, sym, refl, subst, ℕ, List, [], ◌∷◌, map, Bor, Option, None, Some, IfOk, IfSome, option_map}
 use Rattle.std.specs.Prelude.{Result, Ok, Err}
 use Rattle.option_words.specs.Options.{Item, value_at, value_of}
-use Rattle.command_words.specs.Matches.{Choices, match_options, match_values}
+use Rattle.match_core.specs.declared.answers.Level.{Level}
+use Rattle.command_words.specs.declared.care.Care.{Care}
+use Rattle.command_words.specs.Matches.{Choices, IsCareOf, match_choices, match_options, match_values}
 
 pub weaker : {A : Type 0} (o : Option A) (P Q : A → Type 0) → ((a : A) → P a → Q a) → IfSome o P → IfSome o Q
 weaker None P Q f h = tt
 weaker (Some a) P Q f h = f a h
 
--- the values are those at the eight places
-eight : (given : List (Option (List ℕ))) (items : List Item) → given ≡ map (value_of items) match_options
-    → given ≡ value_at given 0 ∷ (value_at given 1 ∷ (value_at given 2 ∷ (value_at given 3 ∷ (value_at given 4 ∷ (value_at given 5 ∷ (value_at given 6 ∷ (value_at given 7 ∷ [])))))))
-eight given items e =
-    subst (λ (g : List (Option (List ℕ))). g ≡ value_at g 0 ∷ (value_at g 1 ∷ (value_at g 2 ∷ (value_at g 3 ∷ (value_at g 4 ∷ (value_at g 5 ∷ (value_at g 6 ∷ (value_at g 7 ∷ [])))))))) (sym e) refl
+-- the values of the options, where it is not known that the first two are given
+abbrev match_values_of : Option (List ℕ) → Option (List ℕ) → Choices → List (Option (List ℕ))
+match_values_of white black c =
+    white ∷ (black ∷ (c.game_type ∷ (c.depth ∷ (c.time ∷ (c.margin ∷ (c.plies ∷ (c.repetition ∷ (c.patience ∷ (c.quiet ∷ [])))))))))
 
--- so they are these, where each place was read
-pub values_read : (given : List (Option (List ℕ))) (items : List Item) (white black : List ℕ) (choices : Choices) → given ≡ map (value_of items) match_options
-    → Some white ≡ value_at given 0 → Some black ≡ value_at given 1 → choices.game_type ≡ value_at given 2 → choices.depth ≡ value_at given 3 → choices.time ≡ value_at given 4 → choices.margin ≡ value_at given 5 → choices.plies ≡ value_at given 6 → choices.repetition ≡ value_at given 7
-    → given ≡ match_values white black choices
-values_read given items white black choices e w b t d h m n r =
-    eight given items e ∙ sym (λ j. w j ∷ (b j ∷ (t j ∷ (d j ∷ (h j ∷ (m j ∷ (n j ∷ (r j ∷ []))))))))
+-- the values are those at the ten places
+ten : (given : List (Option (List ℕ))) (items : List Item) → given ≡ map (value_of items) match_options
+    → given ≡ value_at given 0 ∷ (value_at given 1 ∷ (value_at given 2 ∷ (value_at given 3 ∷ (value_at given 4 ∷ (value_at given 5 ∷ (value_at given 6 ∷ (value_at given 7 ∷ (value_at given 8 ∷ (value_at given 9 ∷ [])))))))))
+ten given items e =
+    subst (λ (g : List (Option (List ℕ))). g ≡ value_at g 0 ∷ (value_at g 1 ∷ (value_at g 2 ∷ (value_at g 3 ∷ (value_at g 4 ∷ (value_at g 5 ∷ (value_at g 6 ∷ (value_at g 7 ∷ (value_at g 8 ∷ (value_at g 9 ∷ [])))))))))) (sym e) refl
+
+-- so they are these, where the first two were read
+pub values_read : (given : List (Option (List ℕ))) (items : List Item) (white black : List ℕ) → given ≡ map (value_of items) match_options
+    → Some white ≡ value_at given 0 → Some black ≡ value_at given 1 → given ≡ match_values white black (match_choices given)
+values_read given items white black e w b =
+    ten given items e ∙ sym (λ j. match_values_of (w j) (b j) (match_choices given))
 
 -- what is there at a place of such values
 pub value_read : (o : Option (Bor (List ℕ))) (r : Bor (List ℕ)) (v : Option (List ℕ)) → o ≡ Some r → option_map (λ t. t.now) o ≡ v → Some r.now ≡ v
@@ -32,3 +38,7 @@ weaker-ok (Err e) P Q f h = tt
 pub both-ok : {A E : Type 0} (r : Result A E) (P Q R : A → Type 0) → ((a : A) → P a → Q a → R a) → IfOk r P → IfOk r Q → IfOk r R
 both-ok (Ok a) P Q R f h k = f a h k
 both-ok (Err e) P Q R f h k = tt
+
+-- the same values ask for the same care
+pub cared : (p p' q q' : Option (List ℕ)) (level : Level) (care : Care) → p ≡ p' → q ≡ q' → IsCareOf p q level care → IsCareOf p' q' level care
+cared p p' q q' level care e f is = subst (λ r. IsCareOf p' r level care) f (subst (λ r. IsCareOf r q level care) e is)

@@ -6,7 +6,8 @@ use Rattle.std.specs.declared.alloc.Global.{Global}
 use Rattle.match_core.specs.declared.answers.Setup.{Setup}
 use Rattle.option_words.specs.Options.{Gives}
 use Rattle.cup_core.specs.Engines.{Engine}
-use Rattle.command_words.specs.Matches.{Choices, IsProgram, IsSetupOf, between_spaces}
+use Rattle.command_words.specs.declared.care.Care.{Care}
+use Rattle.command_words.specs.Matches.{Choices, IsCareOf, IsProgram, IsSetupOf, between_spaces}
 
 -- the texts between the semicolons (59) of a text
 abbrev pub program_texts : List ℕ → List (List ℕ)
@@ -25,16 +26,19 @@ pub record ArePrograms (text : List ℕ) : Type 0 where
   pub distinct : AreDistinct (program_texts text)
 
 abbrev pub cup_options : List (List ℕ)
-cup_options = codes "engines" ∷ (codes "type" ∷ (codes "depth" ∷ (codes "plies" ∷ [])))
+cup_options = codes "engines" ∷ (codes "type" ∷ (codes "depth" ∷ (codes "plies" ∷
+    (codes "patience" ∷ (codes "quiet" ∷ [])))))
 
 abbrev pub cup_values : List ℕ → Option (List ℕ) → Option (List ℕ) → Option (List ℕ)
-    → List (Option (List ℕ))
-cup_values engines game_type depth plies = Some engines ∷ (game_type ∷ (depth ∷ (plies ∷ [])))
+    → Option (List ℕ) → Option (List ℕ) → List (Option (List ℕ))
+cup_values engines game_type depth plies patience quiet =
+    Some engines ∷ (game_type ∷ (depth ∷ (plies ∷ (patience ∷ (quiet ∷ [])))))
 
 -- the options of a match that a cup has, too: it is played to a depth, and without the rule of
 -- third repetition
-abbrev pub cup_choices : Option (List ℕ) → Option (List ℕ) → Option (List ℕ) → Choices
-cup_choices game_type depth plies =
+abbrev pub cup_choices : Option (List ℕ) → Option (List ℕ) → Option (List ℕ)
+    → Option (List ℕ) → Option (List ℕ) → Choices
+cup_choices game_type depth plies patience quiet =
     record {
       game_type = game_type;
       depth = depth;
@@ -42,6 +46,8 @@ cup_choices game_type depth plies =
       margin = None;
       plies = plies;
       repetition = None;
+      patience = patience;
+      quiet = quiet;
     }
 
 -- the words are `cup` and its options, of which the programs are required, with these values
@@ -50,16 +56,26 @@ pub record CupOptions (words : List (String Global)) : Type 0 where
   pub game_type : Option (List ℕ)
   pub depth : Option (List ℕ)
   pub plies : Option (List ℕ)
+  pub patience : Option (List ℕ)
+  pub quiet : Option (List ℕ)
   pub give : Gives (map string_bytes words) (codes "cup") cup_options
-      (cup_values engines game_type depth plies)
+      (cup_values engines game_type depth plies patience quiet)
+
+-- what is chosen by these values
+abbrev pub chosen : {words : List (String Global)} → CupOptions words → Choices
+chosen o = cup_choices o.game_type o.depth o.plies o.patience o.quiet
 
 -- The words ask for a cup. Each game is played by the setup of a match to a depth, without the rule
 -- of third repetition.
 pub record AreCupWords (words : List (String Global)) (setup : Setup) : Type 0 where
   pub options : CupOptions words
   pub programs : ArePrograms options.engines
-  pub setup_is :
-      IsSetupOf (cup_choices options.game_type options.depth options.plies) setup
+  pub setup_is : IsSetupOf (chosen options) setup
+
+-- the words ask for a cup by this setup, and for this care of its engines
+abbrev pub AskForCupCare : List (String Global) → Setup → Care → Type 0
+AskForCupCare words setup care = (w : AreCupWords words setup)
+    × IsCareOf w.options.patience w.options.quiet setup.level care
 
 -- the program that a text names: the text, and its words, which stand between its spaces
 abbrev pub engine_of : List ℕ → Engine

@@ -1,5 +1,5 @@
 -- The words that ask for a match of two programs.
-use Rattle.std.specs.Prelude.{◌≡◌, ℕ, Bool, false, List, [], ◌∷◌, nat_eq, codes, map, string_bytes, Option, None, Some, option_map, if◌then◌else◌}
+use Rattle.std.specs.Prelude.{◌≡◌, ◌+◌, ℕ, Bool, false, List, [], ◌∷◌, nat_eq, codes, map, string_bytes, Option, None, Some, option_map, if◌then◌else◌}
 use Rattle.std.specs.declared.string.String.{String}
 use Rattle.std.specs.declared.alloc.Global.{Global}
 use Rattle.hive_model.specs.declared.pieces.GameType.{GameType}
@@ -7,7 +7,8 @@ use Rattle.hive_model.specs.Fields.{IsNumberText, IsTimeText, type_bytes}
 use Rattle.match_core.specs.declared.answers.Level.{Level}
 use Rattle.match_core.specs.declared.answers.Level.TheVariants.{Depth, Time}
 use Rattle.match_core.specs.declared.answers.Setup.{Setup}
-use Rattle.option_words.specs.Options.{Gives}
+use Rattle.option_words.specs.Options.{Gives, value_at}
+use Rattle.command_words.specs.declared.care.Care.{Care}
 use Rattle.command_words.specs.declared.setup.ChoiceTexts.{ChoiceTexts}
 
 -- A program and its words
@@ -59,6 +60,31 @@ IsLevelOf None (Some time) margin level =
     (budget : ℕ) × IsTimeText time budget × (level ≡ Time budget margin)
 IsLevelOf (Some depth) (Some time) margin level = ⊥
 
+-- the milliseconds that an engine has for a move, its margin counted; none at a depth
+abbrev pub time_of : Level → ℕ
+time_of (Depth depth) = 0
+time_of (Time budget margin) = budget + margin
+
+-- For how many milliseconds an answer is waited for where no patience is given: ten seconds longer
+-- than the time and its margin, and at a depth without end.
+abbrev pub usual_limit : Level → Option ℕ
+usual_limit (Depth depth) = None
+usual_limit (Time budget margin) = Some (budget + margin + 10000)
+
+-- for how many milliseconds an answer is waited for: by so much as a patience says, where one is
+-- given, longer than the time and its margin
+abbrev pub IsLimitOf : Option (List ℕ) → Level → Option ℕ → Type 0
+IsLimitOf None level limit = limit ≡ usual_limit level
+IsLimitOf (Some text) level limit =
+    (patience : ℕ) × IsTimeText text patience × (limit ≡ Some (time_of level + patience))
+
+-- The engines are waited for so long, and what they write on standard error is dropped where quiet
+-- is 1.
+pub record IsCareOf (patience quiet : Option (List ℕ)) (level : Level) (care : Care)
+    : Type 0 where
+  pub limit_is : IsLimitOf patience level care.limit
+  pub quiet_is : IsRuleOf quiet care.quiet
+
 -- the values of the options that have a default
 pub record Choices : Type 0 where
   pub game_type : Option (List ℕ)
@@ -67,6 +93,8 @@ pub record Choices : Type 0 where
   pub margin : Option (List ℕ)
   pub plies : Option (List ℕ)
   pub repetition : Option (List ℕ)
+  pub patience : Option (List ℕ)
+  pub quiet : Option (List ℕ)
 
 -- what a program's texts of these options choose
 abbrev pub choices_of : ChoiceTexts → Choices
@@ -77,10 +105,12 @@ choices_of texts = record {
   margin = option_map (λ t. t.now) texts.margin;
   plies = option_map (λ t. t.now) texts.plies;
   repetition = option_map (λ t. t.now) texts.repetition;
+  patience = option_map (λ t. t.now) texts.patience;
+  quiet = option_map (λ t. t.now) texts.quiet;
 }
 
 -- A match is played by this setup. The margin, a second where none is given, has its range where no
--- time is given, too.
+-- time is given, too. The options on the care for engines have values of their form.
 pub record IsSetupOf (choices : Choices) (setup : Setup) : Type 0 where
   pub kind : IsTypeOr choices.game_type setup.game_type
   pub margin : ℕ
@@ -88,18 +118,35 @@ pub record IsSetupOf (choices : Choices) (setup : Setup) : Type 0 where
   pub level : IsLevelOf choices.depth choices.time margin setup.level
   pub limit : IsNumberOr choices.plies 1 1000 400 setup.limit
   pub rule : IsRuleOf choices.repetition setup.repetition
+  pub care : Care
+  pub care_is : IsCareOf choices.patience choices.quiet setup.level care
 
 -- the options of a match, in the order in which their values are given
 abbrev pub match_options : List (List ℕ)
 match_options =
     codes "white" ∷ (codes "black" ∷ (codes "type" ∷ (codes "depth" ∷
-    (codes "time" ∷ (codes "margin" ∷ (codes "plies" ∷ (codes "repetition" ∷ [])))))))
+    (codes "time" ∷ (codes "margin" ∷ (codes "plies" ∷ (codes "repetition" ∷
+    (codes "patience" ∷ (codes "quiet" ∷ [])))))))))
 
 -- their values: the texts of the two programs, and what is chosen of the others
 abbrev pub match_values : List ℕ → List ℕ → Choices → List (Option (List ℕ))
 match_values white black choices =
     Some white ∷ (Some black ∷ (choices.game_type ∷ (choices.depth ∷
-    (choices.time ∷ (choices.margin ∷ (choices.plies ∷ (choices.repetition ∷ [])))))))
+    (choices.time ∷ (choices.margin ∷ (choices.plies ∷ (choices.repetition ∷
+    (choices.patience ∷ (choices.quiet ∷ [])))))))))
+
+-- what is chosen by such values
+abbrev pub match_choices : List (Option (List ℕ)) → Choices
+match_choices values = record {
+  game_type = value_at values 2;
+  depth = value_at values 3;
+  time = value_at values 4;
+  margin = value_at values 5;
+  plies = value_at values 6;
+  repetition = value_at values 7;
+  patience = value_at values 8;
+  quiet = value_at values 9;
+}
 
 -- `match` and its options, of which the programs of white and of black are required
 pub record AreMatchWords (words : List (String Global)) (setup : Setup) : Type 0 where
@@ -111,6 +158,11 @@ pub record AreMatchWords (words : List (String Global)) (setup : Setup) : Type 0
   pub white_is : IsProgram white
   pub black_is : IsProgram black
   pub setup_is : IsSetupOf choices setup
+
+-- the words ask for a match by this setup, and for this care of its engines
+abbrev pub AskForMatchCare : List (String Global) → Setup → Care → Type 0
+AskForMatchCare words setup care = (w : AreMatchWords words setup)
+    × IsCareOf w.choices.patience w.choices.quiet setup.level care
 
 -- The words ask for a match of these two programs: the words of white's program and of black's, the
 -- program's name first, are what stands between the spaces of the values of the options `white` and

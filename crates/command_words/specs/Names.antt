@@ -2,7 +2,7 @@
 use Rattle.std.specs.Prelude.{Bool, true, false, List, [], ◌∷◌, ℕ, Option, Some, codes}
 use Rattle.move_text.specs.Tables.{named_by}
 use Rattle.command_words.specs.declared.name.Name.{Name}
-use Rattle.command_words.specs.declared.name.Name.TheVariants.{Uhp, Replay, Count, Grow, Certify, Check, Solve, Verify, Match, Cup, Book, Migrate}
+use Rattle.command_words.specs.declared.name.Name.TheVariants.{Uhp, Replay, Count, Grow, Certify, Check, Solve, Verify, Match, Cup, Book, Migrate, Audit}
 
 -- the word that names a command
 abbrev pub name_text : Name → List ℕ
@@ -18,10 +18,11 @@ name_text Match = codes "match"
 name_text Cup = codes "cup"
 name_text Book = codes "book"
 name_text Migrate = codes "migrate"
+name_text Audit = codes "audit"
 
 abbrev pub names : List Name
 names = Uhp ∷ Replay ∷ Count ∷ Grow ∷ Certify ∷ Check ∷ Solve ∷ Verify ∷ Match ∷ Cup ∷ Book
-    ∷ Migrate ∷ []
+    ∷ Migrate ∷ Audit ∷ []
 
 -- the command that a word names
 abbrev pub name_at : List ℕ → Option Name
@@ -46,3 +47,4 @@ takes_option Match = true
 takes_option Cup = true
 takes_option Book = false
 takes_option Migrate = false
+takes_option Audit = true

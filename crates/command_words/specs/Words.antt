@@ -1,16 +1,18 @@
 -- The words of the command line, and what they ask for.
-use Rattle.std.specs.Prelude.{◌≡◌, ◌⊎◌, ℕ, ◌-◌, ◌^◌, ◌≤◌, Bool, List, [], ◌∷◌, map, codes, string_bytes, Option, Some, IfSome, IsTrue}
+use Rattle.std.specs.Prelude.{◌≡◌, ◌⊎◌, ℕ, ◌-◌, ◌^◌, ◌≤◌, Bool, List, [], ◌∷◌, map, codes, string_bytes, Option, None, Some, IfSome, IsTrue, false}
 use Rattle.std.specs.declared.string.String.{String}
 use Rattle.std.specs.declared.alloc.Global.{Global}
 use Rattle.hive_model.specs.Fields.{IsNumberText}
 use Rattle.match_core.specs.Keeps.{IsSetup}
 use Rattle.option_words.specs.Options.{GiveOne, Gives}
 use Rattle.command_words.specs.declared.asked.Asked.{Asked}
-use Rattle.command_words.specs.declared.asked.Asked.TheVariants.{Session, Replay, Count, Grow, Certify, Check, Solve, Verify, Match, Cup, Book, Migrate}
+use Rattle.command_words.specs.declared.asked.Asked.TheVariants.{Session, Replay, Count, Grow, Certify, Check, Solve, Verify, Match, Cup, Book, Migrate, Audit}
+use Rattle.command_words.specs.declared.care.Care.{Care}
 use Rattle.command_words.specs.declared.name.Name.{Name}
-use Rattle.command_words.specs.declared.name.Name.TheVariants.{Uhp, Replay as ReplayName, Count as CountName, Grow as GrowName, Certify as CertifyName, Check as CheckName, Solve as SolveName, Verify as VerifyName, Match as MatchName, Cup as CupName, Book as BookName, Migrate as MigrateName}
-use Rattle.command_words.specs.Cups.{AreCupWords}
-use Rattle.command_words.specs.Matches.{AreMatchWords, IsRuleOf}
+use Rattle.command_words.specs.declared.name.Name.TheVariants.{Uhp, Replay as ReplayName, Count as CountName, Grow as GrowName, Certify as CertifyName, Check as CheckName, Solve as SolveName, Verify as VerifyName, Match as MatchName, Cup as CupName, Book as BookName, Migrate as MigrateName, Audit as AuditName}
+use Rattle.command_words.specs.Audits.{AreAuditWords, AskForAuditCare}
+use Rattle.command_words.specs.Cups.{AreCupWords, AskForCupCare}
+use Rattle.command_words.specs.Matches.{AreMatchWords, AskForMatchCare, IsRuleOf}
 use Rattle.command_words.specs.Names.{name_text, named, takes_option}
 
 -- the name of a command, alone
@@ -61,6 +63,28 @@ Words words (Match setup) = AreMatchWords words setup
 Words words (Cup setup) = AreCupWords words setup
 Words words Book = AreAlone words BookName
 Words words Migrate = AreAlone words MigrateName
+Words words (Audit games seed plies game_type) = AreAuditWords words games seed plies game_type
+
+-- engines are waited for without end, and nothing that they write is dropped
+abbrev pub no_care : Care
+no_care = record { limit = None; quiet = false }
+
+-- the care for engines that the words of a match, a cup or an audit ask for; of other words there
+-- is none
+abbrev pub CaresFor : List (String Global) → Asked → Care → Type 0
+CaresFor words Session care = care ≡ no_care
+CaresFor words (Replay repetition) care = care ≡ no_care
+CaresFor words (Count plies) care = care ≡ no_care
+CaresFor words (Grow seed plies) care = care ≡ no_care
+CaresFor words (Certify depth) care = care ≡ no_care
+CaresFor words Check care = care ≡ no_care
+CaresFor words (Solve plies) care = care ≡ no_care
+CaresFor words Verify care = care ≡ no_care
+CaresFor words (Match setup) care = AskForMatchCare words setup care
+CaresFor words (Cup setup) care = AskForCupCare words setup care
+CaresFor words Book care = care ≡ no_care
+CaresFor words Migrate care = care ≡ no_care
+CaresFor words (Audit games seed plies game_type) care = AskForAuditCare words care
 
 -- the words ask for nothing that the program does
 abbrev pub AreOfNoCommand : List (String Global) → Type 0
@@ -80,6 +104,7 @@ name_of (Match setup) = MatchName
 name_of (Cup setup) = CupName
 name_of Book = BookName
 name_of Migrate = MigrateName
+name_of (Audit games seed plies game_type) = AuditName
 
 -- the words ask for what was found, if anything, and for nothing else by this name
 pub record Finds (words : List (String Global)) (name : Name) (found : Option Asked)
@@ -105,3 +130,5 @@ IsInRange (Match setup) = IsSetup setup
 IsInRange (Cup setup) = IsSetup setup
 IsInRange Book = Unit {0}
 IsInRange Migrate = Unit {0}
+IsInRange (Audit games seed plies game_type) =
+    (1 ≤ games) × (games ≤ 1000000) × (1 ≤ plies) × (plies ≤ 1000)

@@ -14,14 +14,25 @@ ghost use Rattle.std.specs.Prelude.{
 };
 ghost use Rattle.command_words.specs.declared.asked.Asked.{Asked};
 ghost use Rattle.command_words.specs.Names.{takes_option};
-ghost use Rattle.command_words.specs.Words.{Finds, IsInRange, TakeOption, Words, name_of};
+ghost use Rattle.command_words.specs.Words.{
+  AreOfNoCommand,
+  CaresFor,
+  Finds,
+  IsInRange,
+  TakeOption,
+  Words,
+  name_of,
+};
 
-use crate::cups::cup_of;
+use crate::audits::{audit_care, audit_of};
+use crate::care::Care;
+use crate::cups::{cup_care, cup_of};
 use crate::grown::growth_of;
-use crate::matched::match_of;
+use crate::matched::{match_care, match_of};
 use crate::name::{Name, named};
 use crate::numbered::number_of;
 use crate::replayed::replay_of;
+use hive_model::GameType;
 use match_core::Setup;
 use std::alloc::{AllocError, Global};
 
@@ -32,11 +43,16 @@ pub enum Asked {
     Session,
     /// The written form of each game of the input, where the rule of third repetition is switched
     /// on or off.
-    Replay { repetition: bool },
+    Replay {
+        repetition: bool,
+    },
     /// How many lists of so many legal moves and fewer there are: 1 to 8.
     Count(u32),
     /// The game that a number makes, of at most so many plies: 1 to 1,000.
-    Grow { seed: u64, plies: u32 },
+    Grow {
+        seed: u64,
+        plies: u32,
+    },
     /// A certificate of the best move, so many plies deep: 1 to 64.
     Certify(u32),
     /// A check of a certificate.
@@ -53,6 +69,15 @@ pub enum Asked {
     Book,
     /// A certificate made into one that cites what it showed before.
     Migrate,
+    /// An audit of the program that the words name: so many games, 1 to 1,000,000, whose moves are
+    /// drawn from a seed, each of at most so many plies, 1 to 1,000, and all of one type, where one
+    /// is given.
+    Audit {
+        games: u64,
+        seed: u64,
+        plies: u32,
+        game_type: Option<GameType>,
+    },
 }
 
 /// Whether the words are this one alone.
@@ -145,6 +170,19 @@ fn cup(alloc: Global, words: &[String]) -> Result<Option<Asked>, AllocError>
     Ok(cup_of(alloc, words)?.map(Asked::Cup))
 }
 
+/// An audit is asked for with its program, a number of games and a seed.
+fn audit(alloc: Global, words: &[String]) -> Result<Option<Asked>, AllocError>
+    ensures { IfOk result (Finds words.now Name.Audit) }
+{
+    let audit = audit_of(alloc, words)?;
+    Ok(audit.map(|one| Asked::Audit {
+        games: one.games,
+        seed: one.seed,
+        plies: one.plies,
+        game_type: one.game_type,
+    }))
+}
+
 /// What the words ask this command for.
 fn asked_by(alloc: Global, words: &[String], name: Name) -> Result<Option<Asked>, AllocError>
     ensures asked { IfOk result (Finds words.now name) }
@@ -163,12 +201,13 @@ fn asked_by(alloc: Global, words: &[String], name: Name) -> Result<Option<Asked>
         Name::Cup => cup(alloc, words),
         Name::Book => Ok(by_name(words, "book", Asked::Book)),
         Name::Migrate => Ok(by_name(words, "migrate", Asked::Migrate)),
+        Name::Audit => audit(alloc, words),
     }
 }
 
 /// What the words ask for, or none where they ask for nothing that the program does. An
 /// `AllocError` where memory runs out before that is known, and only where the first word is that
-/// of a command that takes an option.
+/// of a command that takes an option. No list of words has two answers (`words_have_one_answer`).
 pub fn asked_of(alloc: Global, words: &[String]) -> Result<Option<Asked>, AllocError>
     ensures asked { IfOk result (λ o. IfSome o (λ a. Words words.now a)) }
     ensures range { IfOk result (λ o. IfSome o (λ a. IsInRange a)) }
@@ -178,5 +217,40 @@ pub fn asked_of(alloc: Global, words: &[String]) -> Result<Option<Asked>, AllocE
     match named(words) {
         Some(name) => asked_by(alloc, words, name),
         None => Ok(None),
+    }
+}
+
+/// The care for its engines that is asked for. An `AllocError` where memory runs out.
+fn asked_care(alloc: Global, words: &[String], asked: Asked) -> Result<Care, AllocError>
+    requires asked { Words words.now asked }
+    requires range { IsInRange asked }
+    ensures care { IfOk result (CaresFor words.now asked) }
+{
+    match asked {
+        Asked::Match(setup) => match_care(alloc, words, setup),
+        Asked::Cup(setup) => cup_care(alloc, words, setup),
+        Asked::Audit { .. } => audit_care(alloc, words),
+        _ => Ok(Care {
+            limit: None,
+            quiet: false,
+        }),
+    }
+}
+
+/// The care for engines that the words ask for. Without end an engine is waited for where they ask
+/// for no match, cup or audit. An `AllocError` where memory runs out; where the words ask for
+/// nothing, only if the first is that of a command that takes an option.
+pub fn care_of(alloc: Global, words: &[String]) -> Result<Care, AllocError>
+    ensures care { IfOk result (λ care. (asked : Asked) → Words words.now asked
+        → CaresFor words.now asked care) }
+    ensures memory { AreOfNoCommand words.now
+        → OnErr result (TakeOption (map string_bytes words.now)) }
+{
+    match asked_of(alloc, words)? {
+        Some(asked) => asked_care(alloc, words, asked),
+        None => Ok(Care {
+            limit: None,
+            quiet: false,
+        }),
     }
 }

@@ -12,16 +12,19 @@ ghost use Rattle.std.specs.Prelude.{
   IsTrue,
 };
 ghost use Rattle.match_core.specs.declared.answers.Setup.{Setup as AnySetup};
+ghost use Rattle.match_core.specs.Keeps.{IsSetup};
 ghost use Rattle.command_words.specs.Cups.{
   AreCupWords,
   AreDistinct,
   ArePrograms,
+  AskForCupCare,
   AskForEngines,
   engine_of,
   program_texts,
 };
 ghost use Rattle.command_words.specs.Matches.{IsProgram};
 
+use crate::care::{Care, care_at};
 use crate::matched::is_program;
 use crate::program::words_of;
 use crate::setup::{ChoiceTexts, setup_of};
@@ -32,7 +35,7 @@ use option_words::options_of;
 use std::alloc::{AllocError, Global};
 
 /// The options of a cup, in the order in which their values are asked for.
-const OPTIONS: [&str; 4] = ["engines", "type", "depth", "plies"];
+const OPTIONS: [&str; 6] = ["engines", "type", "depth", "plies", "patience", "quiet"];
 
 /// The texts between the semicolons of a text, in order.
 fn texts_of(alloc: Global, text: &str) -> Result<Vec<&str>, AllocError>
@@ -95,7 +98,24 @@ pub(crate) fn cup_of(alloc: Global, words: &[String]) -> Result<Option<Setup>, A
         margin: None,
         plies: given.value(3),
         repetition: None,
+        patience: given.value(4),
+        quiet: given.value(5),
     }))
+}
+
+/// The care for its engines that the words of a cup ask for. An `AllocError` where memory runs out.
+pub(crate) fn cup_care(alloc: Global, words: &[String], setup: Setup) -> Result<Care, AllocError>
+    requires words { AreCupWords words.now setup }
+    requires setup { IsSetup setup }
+    ensures { IfOk result (λ care. AskForCupCare words.now setup care) }
+{
+    let Some(given) = options_of(alloc, words, "cup", &OPTIONS)? else {
+        unreachable!();
+    };
+    let Some(care) = care_at(given.value(4), given.value(5), setup.level) else {
+        unreachable!();
+    };
+    Ok(care)
 }
 
 /// The program that a text names.

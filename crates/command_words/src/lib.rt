@@ -2,8 +2,11 @@
 #![tactic(auto)]
 
 mod asked;
+mod audits;
+mod care;
 mod cups;
 mod grown;
+mod laws;
 mod matched;
 mod name;
 mod numbered;
@@ -11,8 +14,11 @@ mod program;
 mod replayed;
 mod setup;
 
-pub use asked::{Asked, asked_of};
+pub use asked::{Asked, asked_of, care_of};
+pub use audits::audited_of;
+pub use care::Care;
 pub use cups::engines_of;
+pub use laws::words_have_one_answer;
 pub use matched::{Programs, programs_of};
 pub use name::Name;
 

@@ -12,21 +12,26 @@ ghost use Rattle.std.specs.Prelude.{
   IsTrue,
 };
 ghost use Rattle.match_core.specs.declared.answers.Setup.{Setup as AnySetup};
+ghost use Rattle.match_core.specs.Keeps.{IsSetup};
 ghost use Rattle.command_words.specs.Matches.{
   AreMatchWords,
+  AskForMatchCare,
   AskForPrograms,
   IsProgram,
   between_spaces,
+  choices_of,
+  match_choices,
 };
 
+use crate::care::{Care, care_at};
 use crate::program::{begins_words, words_of};
 use crate::setup::{ChoiceTexts, setup_of};
 use match_core::Setup;
-use option_words::options_of;
+use option_words::{GivenOptions, options_of};
 use std::alloc::{AllocError, Global};
 
 /// The options of a match, in the order in which their values are asked for.
-const OPTIONS: [&str; 8] = [
+const OPTIONS: [&str; 10] = [
     "white",
     "black",
     "type",
@@ -35,6 +40,8 @@ const OPTIONS: [&str; 8] = [
     "margin",
     "plies",
     "repetition",
+    "patience",
+    "quiet",
 ];
 
 /// Whether a text is a program and its words.
@@ -42,6 +49,22 @@ pub(crate) fn is_program(text: &str) -> bool
     ensures { IsTrue result ↔ IsProgram text.now }
 {
     begins_words(text.as_bytes())
+}
+
+/// The texts of the options that have a default.
+fn choices_in<'a>(given: &GivenOptions<'a>) -> ChoiceTexts<'a>
+    ensures { choices_of result ≡ match_choices given.now }
+{
+    ChoiceTexts {
+        game_type: given.value(2),
+        depth: given.value(3),
+        time: given.value(4),
+        margin: given.value(5),
+        plies: given.value(6),
+        repetition: given.value(7),
+        patience: given.value(8),
+        quiet: given.value(9),
+    }
 }
 
 /// How the match is played that the words ask for: `match` and its options, of which the programs
@@ -66,14 +89,24 @@ pub(crate) fn match_of(alloc: Global, words: &[String]) -> Result<Option<Setup>,
     if !is_program(black) {
         return Ok(None);
     }
-    Ok(setup_of(ChoiceTexts {
-        game_type: given.value(2),
-        depth: given.value(3),
-        time: given.value(4),
-        margin: given.value(5),
-        plies: given.value(6),
-        repetition: given.value(7),
-    }))
+    Ok(setup_of(choices_in(&given)))
+}
+
+/// The care for its engines that the words of a match ask for. An `AllocError` where memory runs
+/// out.
+pub(crate) fn match_care(alloc: Global, words: &[String], setup: Setup) -> Result<Care, AllocError>
+    requires words { AreMatchWords words.now setup }
+    requires setup { IsSetup setup }
+    ensures { IfOk result (λ care. AskForMatchCare words.now setup care) }
+{
+    let Some(given) = options_of(alloc, words, "match", &OPTIONS)? else {
+        unreachable!();
+    };
+    let texts = choices_in(&given);
+    let Some(care) = care_at(texts.patience, texts.quiet, setup.level) else {
+        unreachable!();
+    };
+    Ok(care)
 }
 
 /// A program with its words for each side, each of one word at least.

@@ -17,6 +17,7 @@ pub enum Name {
     Cup,
     Book,
     Migrate,
+    Audit,
 }
 
 /// The command that a word names.
@@ -58,6 +59,9 @@ fn name_at(word: &str) -> Option<Name>
     }
     if word == "migrate" {
         return Some(Name::Migrate);
+    }
+    if word == "audit" {
+        return Some(Name::Audit);
     }
     None
 }

@@ -12,12 +12,13 @@ ghost use Rattle.command_words.specs.Matches.{
   choices_of,
 };
 
+use crate::care::care_at;
 use hive_model::GameType;
 use match_core::{Level, Setup};
 use move_text::{read_number, read_time, read_type};
 
 /// The number from `least` to `most` that a text is, or the default where there is no text.
-fn number_or(text: Option<&str>, least: u64, most: u64, default: u64) -> Option<u64>
+pub(crate) fn number_or(text: Option<&str>, least: u64, most: u64, default: u64) -> Option<u64>
     ensures found { IfSome result (λ n. IsNumberOr (option_map (λ t. t.now) text.entry) least most
         default n) }
     ensures only { (n : ℕ) → IsNumberOr (option_map (λ t. t.now) text.entry) least most default n
@@ -92,9 +93,12 @@ pub(crate) struct ChoiceTexts<'a> {
     pub(crate) margin: Option<&'a str>,
     pub(crate) plies: Option<&'a str>,
     pub(crate) repetition: Option<&'a str>,
+    pub(crate) patience: Option<&'a str>,
+    pub(crate) quiet: Option<&'a str>,
 }
 
-/// The setup of a match, of the texts of the options that have a default.
+/// The setup of a match, of the texts of the options that have a default. None where one of them is
+/// none of its option, those on the care for engines too.
 pub(crate) fn setup_of(texts: ChoiceTexts<'_>) -> Option<Setup>
     ensures found { IfSome result (λ s. IsSetupOf (choices_of texts.entry) s) }
     ensures only { (s : AnySetup) → IsSetupOf (choices_of texts.entry) s → result ≡ Some s }
@@ -104,6 +108,7 @@ pub(crate) fn setup_of(texts: ChoiceTexts<'_>) -> Option<Setup>
     let level = level_of(texts.depth, texts.time, margin)?;
     let limit = number_or(texts.plies, 1, 1000, 400)?;
     let repetition = rule_of(texts.repetition)?;
+    let _care = care_at(texts.patience, texts.quiet, level)?;
     Some(Setup {
         game_type,
         level,

@@ -1,4 +1,7 @@
 //! Words and what they ask for.
+mod audits;
+mod cares;
+
 use crate::{Asked, asked_of, engines_of, programs_of};
 use hive_model::GameType;
 use match_core::{Level, Setup};
@@ -85,7 +88,7 @@ const ALL: GameType = GameType {
 
 /// Options of a match behind those of its two programs, separated by `|`, and how it is played,
 /// where the rule of third repetition is off.
-const MATCHES: [(&str, GameType, Level, u32); 14] = [
+const MATCHES: [(&str, GameType, Level, u32); 15] = [
     ("", BASE, Level::Depth { depth: 2 }, 400),
     ("|--plies|1", BASE, Level::Depth { depth: 2 }, 1),
     ("|--plies=1000", BASE, Level::Depth { depth: 2 }, 1000),
@@ -93,6 +96,12 @@ const MATCHES: [(&str, GameType, Level, u32); 14] = [
     ("|--depth|64", BASE, Level::Depth { depth: 64 }, 400),
     ("|--margin|0", BASE, Level::Depth { depth: 2 }, 400),
     ("|--type|Base", BASE, Level::Depth { depth: 2 }, 400),
+    (
+        "|--quiet=0|--patience|00:00:00",
+        BASE,
+        Level::Depth { depth: 2 },
+        400,
+    ),
     ("|--type=Base+MLP", ALL, Level::Depth { depth: 2 }, 400),
     (
         "|--time|00:00:05",
@@ -153,7 +162,7 @@ const RULES: [(&str, bool); 4] = [
 ];
 
 /// Words, separated by `|`, that ask for no match.
-const NO_MATCHES: [&str; 25] = [
+const NO_MATCHES: [&str; 28] = [
     "match",
     "match|--white|a",
     "match|--black|b",
@@ -179,6 +188,9 @@ const NO_MATCHES: [&str; 25] = [
     "match|--white|a|--black|b|--repetition|2",
     "match|--white|a|--black|b|--repetition",
     "match|--white|a|--black|b|--repetition|1|--repetition|1",
+    "match|--white|a|--black|b|--patience|5",
+    "match|--white|a|--black|b|--time|00:00:05|--patience|00:60:00",
+    "match|--white|a|--black|b|--quiet|2",
 ];
 
 fn words_of(alloc: Global, text: &str, separator: char) -> Result<Vec<String>, Fail> {
@@ -300,7 +312,7 @@ const CUPS: [(&str, GameType, u32, u32); 8] = [
 ];
 
 /// Words, separated by `|`, that ask for no cup.
-const NO_CUPS: [&str; 28] = [
+const NO_CUPS: [&str; 30] = [
     "cup",
     "cup|--depth|2",
     "cup|--engines|a",
@@ -327,6 +339,8 @@ const NO_CUPS: [&str; 28] = [
     "cup|--engines|a;b|--repetition|0",
     "cup|--engines|a;b|--repetition|1",
     "cup|--engines|a;b|--engines|a;b",
+    "cup|--engines|a;b|--patience|5",
+    "cup|--engines|a;b|--quiet|2",
     "cup|--engines",
     "match|--engines|a;b",
 ];

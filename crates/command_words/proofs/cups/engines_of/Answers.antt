@@ -12,24 +12,24 @@ use Rattle.command_words.proofs.cups.engines_of.Goals as goal
 pub unreachable-requires : goal.unreachable-requires
 unreachable-requires c =
     let (s, w) = c.requires in
-    let asked = cup_values w.options.engines w.options.game_type w.options.depth w.options.plies in
+    let asked = cup_values w.options.engines w.options.game_type w.options.depth w.options.plies w.options.patience w.options.quiet in
     subst (λ o. MatchOption o ⊥ (λ given. given ≡ asked)) c.in_default.is (c.in_ok-given.ensures.only asked w.options.give)
 
 pub unreachable-requires-in_default-value : goal.unreachable-requires-in_default-value
 unreachable-requires-in_default-value c =
     let (s, w) = c.requires in
-    let asked = cup_values w.options.engines w.options.game_type w.options.depth w.options.plies in
+    let asked = cup_values w.options.engines w.options.game_type w.options.depth w.options.plies w.options.patience w.options.quiet in
     let values = subst (λ o. MatchOption o ⊥ (λ given. given ≡ asked)) c.in-Some.is (c.in_ok-given.ensures.only asked w.options.give) in
     none_given c.value.result w.options.engines c.in_default-value.is (c.value.ensures ∙ ap (λ given. value_at given 0) values)
 
 -- the texts that were read are those of the programs that the words ask for
 texts_read : {words : List (String Global)} {setup : Setup} (w : AreCupWords words setup) {found : Option (List (Option (List ℕ)))} {given : List (Option (List ℕ))}
     {value : Option (Bor (List ℕ))} {engines : Bor (List ℕ)} {texts : List (List ℕ)} → found ≡ Some given
-    → MatchOption found ⊥ (λ g. g ≡ cup_values w.options.engines w.options.game_type w.options.depth w.options.plies)
+    → MatchOption found ⊥ (λ g. g ≡ cup_values w.options.engines w.options.game_type w.options.depth w.options.plies w.options.patience w.options.quiet)
     → value ≡ Some engines → option_map (λ r. r.now) value ≡ value_at given 0
     → texts ≡ program_texts engines.now → texts ≡ program_texts w.options.engines
 texts_read w {value = value} {engines = engines} some is here at read =
-    let values = subst (λ o. MatchOption o ⊥ (λ g. g ≡ cup_values w.options.engines w.options.game_type w.options.depth w.options.plies)) some is in
+    let values = subst (λ o. MatchOption o ⊥ (λ g. g ≡ cup_values w.options.engines w.options.game_type w.options.depth w.options.plies w.options.patience w.options.quiet)) some is in
     read ∙ ap program_texts (some_given value engines w.options.engines here (at ∙ ap (λ g. value_at g 0) values))
 
 pub returns-clause-some : goal.returns-clause-some
@@ -53,6 +53,8 @@ returns-clause-engines c =
       game_type = value_at c.in-Some.given 1;
       depth = value_at c.in-Some.given 2;
       plies = value_at c.in-Some.given 3;
+      patience = value_at c.in-Some.given 4;
+      quiet = value_at c.in-Some.given 5;
       give = search rules;
     } in
     weaker-ok c.programs_of.result (λ e. e.items ≡ map engine_of (lent c.as_slice.result.now)) (λ e. AskForEngines c.args.words.now e.items) (λ e is. record {

@@ -1,8 +1,8 @@
-use Rattle.std.proofs.Common.{◌≡◌, ◌∙◌, ◌<◌, ap, refl, subst, length, map, codes, MatchOption}
+use Rattle.std.proofs.Common.{◌≡◌, ◌∙◌, ◌<◌, ap, subst, length, map, codes, MatchOption}
 use Rattle.std.specs.Prelude.{string_bytes}
 use Rattle.option_words.specs.Options.{Gives, value_at}
 use Rattle.command_words.specs.declared.matched.Programs.{Programs}
-use Rattle.command_words.specs.Matches.{AskForPrograms, Choices, between_spaces, match_options, match_values}
+use Rattle.command_words.specs.Matches.{AskForPrograms, Choices, between_spaces, match_choices, match_options, match_values}
 use Rattle.command_words.proofs.GivenLemmas.{none_given}
 use Rattle.command_words.proofs.MatchLemmas.{both-ok, value_read, values_read, weaker-ok}
 use Rattle.command_words.proofs.ProgramLaws.{words-some}
@@ -38,17 +38,10 @@ returns-clause-black c =
 pub returns-clause-programs : goal.returns-clause-programs
 returns-clause-programs c =
     let gives = rw c.in-Some.is at c.in_ok-given.ensures.values in
-    let choices : Choices = record {
-      game_type = value_at c.in-Some.given 2;
-      depth = value_at c.in-Some.given 3;
-      time = value_at c.in-Some.given 4;
-      margin = value_at c.in-Some.given 5;
-      plies = value_at c.in-Some.given 6;
-      repetition = value_at c.in-Some.given 7;
-    } in
+    let choices : Choices = match_choices c.in-Some.given in
     let white = value_read c.value.result c.in-Some-value.white _ c.in-Some-value.is c.value.ensures in
     let black = value_read c.value-2.result c.in-Some-value-2.black _ c.in-Some-value-2.is c.value-2.ensures in
-    let same = values_read c.in-Some.given gives.items c.in-Some-value.white.now c.in-Some-value-2.black.now choices gives.values_are white black refl refl refl refl refl refl in
+    let same = values_read c.in-Some.given gives.items c.in-Some-value.white.now c.in-Some-value-2.black.now gives.values_are white black in
     both-ok c.programs_in.result (λ (p : Programs). map string_bytes p.white.items ≡ between_spaces c.in-Some-value.white.now) (λ (p : Programs). map string_bytes p.black.items ≡ between_spaces c.in-Some-value-2.black.now)
     (λ (p : Programs). AskForPrograms c.args.words.now (map string_bytes p.white.items) (map string_bytes p.black.items)) (λ p w b. record {
       white_text = c.in-Some-value.white.now;

@@ -1,0 +1,150 @@
+-- What the audit of a program writes, plays, sends and counts, by the status with which it ends.
+use Rattle.std.specs.Prelude.{◌≡◌, ◌⊎◌, ℕ, ◌+◌, ◌<◌, true, List, [], ◌∷◌, length, take, Some, ◌==◌, if◌then◌else◌}
+use Rattle.io_edge.specs.Outside.{Told, ToldLists, Collects, HasCause, Rose, behind, with_last}
+use Rattle.io_edge.specs.Starts.{Engines}
+use Rattle.hive_model.specs.Lines.{Line as Mark, lines}
+use Rattle.command_runs.specs.declared.status.Status.{Status}
+use Rattle.command_runs.specs.declared.status.Status.TheVariants.{Done, Refused, Usage, ReadFault, WriteFault, SpawnFault, BadInput, Memory, InputFull}
+use Rattle.audit_core.specs.declared.plan.Plan.{Plan}
+use Rattle.audit_core.specs.declared.findings.Fault.TheVariants.{Broke}
+use Rattle.audit_core.specs.Standing.{Standing, start, is_ended, break_off}
+use Rattle.audit_core.specs.Audits.{after_all, audit_of, sent_in}
+
+-- What a run can change
+
+-- what was written, and what is told of the programs that are started
+pub record Scene : Type 0 where
+  pub written : Told
+  pub engines : Engines
+
+abbrev pub scene : Told → Engines → Scene
+scene written engines = record { written = written; engines = engines }
+
+-- What was played
+
+-- the audit is that of the lines of this program, and it got what is sent for them
+pub record IsWhole (plan : Plan) (bytes : List ℕ) (t : Standing) (before after : Engines)
+    : Type 0 where
+  pub audit : t ≡ audit_of plan (lines bytes)
+  pub gains : Collects before.sent after.sent (Some (sent_in plan (lines bytes)))
+
+-- the audit is that of these lines; or a call failed behind them, and was counted
+abbrev pub Hears : Plan → List Mark → Standing → Engines → Engines → Type 0
+Hears plan marks t before after =
+    (t ≡ audit_of plan marks)
+    ⊎ ((t ≡ break_off (after_all (start plan) marks) Broke)
+    × Rose before.engine_faults after.engine_faults)
+
+-- of the programs to come the first one was started, and no other; where no failure of it was
+-- counted, its audit is whole
+pub record StartsOneOf
+    (all : List (List ℕ)) (plan : Plan) (t : Standing) (before after : Engines) : Type 0 where
+  pub bytes : List ℕ
+  pub others : List (List ℕ)
+  pub first : all ≡ bytes ∷ others
+  pub left : after.to_come ≡ Some others
+  pub whole : ¬ Rose before.engine_faults after.engine_faults
+      → IsWhole plan bytes t before after
+
+-- an audit came to its end, and stands so, by some lines; and what its program says tells which
+pub record Played (plan : Plan) (t : Standing) (before after : Engines) : Type 0 where
+  pub over : is_ended t.stage ≡ true
+  pub heard : (marks : List Mark) × Hears plan marks t before after
+  pub programs : (all : List (List ℕ)) → before.to_come ≡ Some all
+      → StartsOneOf all plan t before after
+
+-- The run
+
+-- the text of an audit that came to its end was written
+pub record Tells (plan : Plan) (t : Standing) (before after : Scene) : Type 0 where
+  pub played : Played plan t before.engines after.engines
+  pub wrote : after.written ≡ behind before.written t.text
+
+-- of its text the first n bytes were written, and not all
+pub record TellsPart (plan : Plan) (t : Standing) (n : ℕ) (before after : Scene) : Type 0 where
+  pub played : Played plan t before.engines after.engines
+  pub cut : n < length t.text
+  pub wrote : after.written ≡ behind before.written (take n t.text)
+
+-- no program was started, and nothing was written
+pub record NotBegun (before after : Scene) : Type 0 where
+  pub written : after.written ≡ before.written
+  pub unsent : after.engines.sent ≡ before.engines.sent
+
+-- What was written and played where an audit ends with this status: `Done` says that there is no
+-- finding, and `Refused` that there are some. Where memory is wanting, or the program has written
+-- as many bytes as are read, nothing was written. Three statuses are not its own.
+abbrev pub AuditRun : Plan → Status → Scene → Scene → Type 0
+AuditRun plan Done before after =
+    (t : Standing) × (t.findings ≡ 0) × Tells plan t before after
+AuditRun plan Refused before after =
+    (t : Standing) × (0 < t.findings) × Tells plan t before after
+AuditRun plan WriteFault before after = (t : Standing) × (n : ℕ) × TellsPart plan t n before after
+AuditRun plan SpawnFault before after = NotBegun before after
+AuditRun plan Memory before after = after.written ≡ before.written
+AuditRun plan InputFull before after = after.written ≡ before.written
+AuditRun plan Usage before after = ⊥
+AuditRun plan ReadFault before after = ⊥
+AuditRun plan BadInput before after = ⊥
+
+-- the status of an audit with so many findings, whose text was written
+abbrev pub verdict_of : ℕ → Status
+verdict_of findings = if findings == 0 then Done else Refused
+
+-- What was started
+
+-- the program was started by its words
+abbrev pub IsStarted : List (List ℕ) → Engines → Engines → Type 0
+IsStarted words before after = after.started ≡ with_last before.started words
+
+-- the program that was started, by its words, where an audit ends with this status
+abbrev pub AuditStarts : Status → List (List ℕ) → Engines → Engines → Type 0
+AuditStarts Done words before after = IsStarted words before after
+AuditStarts Refused words before after = IsStarted words before after
+AuditStarts WriteFault words before after = IsStarted words before after
+AuditStarts InputFull words before after = IsStarted words before after
+AuditStarts SpawnFault words before after = after.started ≡ before.started
+AuditStarts Memory words before after =
+    IsStarted words before after ⊎ (after.started ≡ before.started)
+AuditStarts Usage words before after = ⊥
+AuditStarts ReadFault words before after = ⊥
+AuditStarts BadInput words before after = ⊥
+
+-- no program that was started is left open: where it is told, as many were closed as were taken
+-- from those to come
+pub record NoneIsOpen (before after : Engines) : Type 0 where
+  pub even : (coming later opened closed : List (List ℕ))
+      → before.to_come ≡ Some coming
+      → after.to_come ≡ Some later
+      → before.sent ≡ Some opened
+      → after.sent ≡ Some closed
+      → length coming + length opened ≡ length later + length closed
+
+-- No program is left open. It is `WriteFault` by a write that has failed and was counted, and
+-- `SpawnFault` by such a start.
+pub record EndsAudit
+    (status : Status) (writes_before writes_after : ℕ) (before after : Engines) : Type 0 where
+  pub closed : NoneIsOpen before after
+  pub writes : HasCause (status ≡ WriteFault) writes_before writes_after
+  pub starts : HasCause (status ≡ SpawnFault) before.start_faults after.start_faults
+
+-- On the way
+
+-- an audit came to its end over the link of a program that was started, which was closed
+pub record AuditedOver (plan : Plan) (t : Standing) (rest written : Told) (before after : Engines)
+    : Type 0 where
+  pub over : is_ended t.stage ≡ true
+  pub heard : (marks : List Mark) × Hears plan marks t before after
+  pub by_link : (bytes : List ℕ) → rest ≡ Some bytes → written ≡ Some []
+      → ¬ Rose before.engine_faults after.engine_faults
+      → IsWhole plan bytes t before after
+
+-- no program was started, and no start has failed
+pub record StartsNone (before after : Engines) : Type 0 where
+  pub starts : after.start_faults ≡ before.start_faults
+  pub to_come : after.to_come ≡ before.to_come
+  pub started : after.started ≡ before.started
+
+-- the failure of a program that was closed was counted
+pub record CountsFault (faults before after : ℕ) : Type 0 where
+  pub failed : 0 < faults → Rose before after

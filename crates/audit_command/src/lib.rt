@@ -1,0 +1,6 @@
+//! The audit of a program, from its start to the text that tells it.
+#![tactic(auto)]
+
+mod auditing;
+
+pub use auditing::audit_engine;

@@ -1,0 +1,5 @@
+pub mod Judged
+pub mod Found
+pub mod Picks
+pub mod Replies
+mod Undone

@@ -1,0 +1,51 @@
+-- Moves that are taken from lists.
+use Rattle.std.proofs.Common.{◌≡◌, ℕ, ◌+◌, ◌%◌, Bool, true, false, List, [], ◌∷◌, ◌++◌, length, take, get_or, ◌<◌, None, Some, refl, sym, ◌∙◌, ap, subst, add-one}
+use Rattle.std.specs.Prelude.{nat_eq, if◌then◌else◌}
+use Rattle.std.specs.declared.option.Option.{Option}
+use Rattle.std.specs.Option.{IfSome}
+use Rattle.std.specs.List.{slice_get}
+use Rattle.std.proofs.lemmas.Option.{slice_get_within, get_or_from_slice_get, slice_get-get_or}
+use Rattle.std.proofs.Math.Seq.{take-suc}
+use Rattle.hive_model.specs.declared.places.Move.{Move}
+use Rattle.hive_model.specs.Lists.{IsOn}
+use Rattle.hive_model.specs.Positions.{Position}
+use Rattle.hive_model.specs.Legal.{moves}
+use Rattle.hive_model.proofs.GetLemmas.{on-at}
+use Rattle.hive_model.proofs.Floods.{on_filter}
+use Rattle.grow_game.specs.Growing.{word, next_state}
+use Rattle.audit_core.specs.Drawing.{is_rare, rare_moves, picked_from, drawn_of}
+
+-- the moves before one place, and that one
+pub taken_next : (ms : List Move) (i : ℕ) (m : Move) → slice_get ms i ≡ Some m → take (i + 1) ms ≡ take i ms ++ m ∷ []
+taken_next ms i m here =
+    rw add-one (take-suc ms i m (slice_get_within ms i m here) ∙ ap (λ (k : Move). take i ms ++ k ∷ []) (get_or_from_slice_get ms i m m here))
+
+picked_at : (b : Bool) (rare all : List Move) (m : Move) → ((m : Move) → IsOn rare m → IsOn all m) → IsOn (if b then rare else all) m → IsOn all m
+picked_at true rare all m sub on = sub m on
+picked_at false rare all m sub on = on
+
+picked_on : (w : ℕ) (rare all : List Move) (m : Move) → ((m : Move) → IsOn rare m → IsOn all m) → IsOn (picked_from w rare all) m → IsOn all m
+picked_on w [] all m sub on = on
+picked_on w (x ∷ xs) all m sub on = picked_at (nat_eq (w % 2) 0) (x ∷ xs) all m sub on
+
+some_on : (ms : List Move) (i : ℕ) (o : Option Move) → slice_get ms i ≡ o → IfSome o (λ m. IsOn ms m)
+some_on ms i None e = tt
+some_on ms i (Some m) e = on-at ms i m e
+
+some_map : (o : Option Move) (P Q : Move → Type 0) → ((m : Move) → P m → Q m) → IfSome o P → IfSome o Q
+some_map None P Q f h = tt
+some_map (Some m) P Q f h = f m h
+
+-- what is drawn is a legal move
+pub drawn_legal : (state : ℕ) (p : Position) → IfSome (drawn_of state p) (λ m. IsOn (moves p) m)
+drawn_legal state p =
+    let pool : List Move = picked_from (word state) (rare_moves p) (moves p) in
+    some_map (drawn_of state p) (λ m. IsOn pool m) (λ m. IsOn (moves p) m) (λ m on. picked_on (word state) (rare_moves p) (moves p) m (λ k rare. (on_filter (is_rare p) (moves p) k rare).0) on)
+    (some_on pool (word (next_state state) % length pool) (drawn_of state p) refl)
+
+-- what stands at an index stands on the list
+pub item_on : (ms : List Move) (i : ℕ) (m : Move) → i < length ms → m ≡ get_or ms i m → IsOn ms m
+item_on ms i m less e = on-at ms i m (slice_get-get_or ms i m less ∙ ap (λ (k : Move). Some k) (sym e))
+
+pub same_drawn : (o : Option Move) (state : ℕ) (p : Position) → o ≡ drawn_of state p → IfSome o (λ m. IsOn (moves p) m)
+same_drawn o state p e = subst (λ o. IfSome o (λ m. IsOn (moves p) m)) (sym e) (drawn_legal state p)

@@ -1,0 +1,58 @@
+-- Where an audit finds something.
+use Rattle.std.specs.Prelude.{◌≡◌, ◌↔◌, ℕ, ◌-◌, ◌≤◌, Bool, true, false, List, [], ◌∷◌, ◌++◌, length, take, None}
+use Rattle.hive_model.specs.declared.pieces.GameType.{GameType}
+use Rattle.hive_model.specs.declared.places.Move.{Move}
+use Rattle.hive_model.specs.Positions.{Position}
+use Rattle.hive_model.specs.Lines.{Line as Mark, Text, TooLong}
+use Rattle.audit_core.specs.declared.plan.Plan.{Plan}
+use Rattle.audit_core.specs.declared.plan.Stage.{Stage}
+use Rattle.audit_core.specs.declared.plan.Stage.TheVariants.{Greeting, Beginning, Listing, Playing, Undoing, Reviewing, Over}
+use Rattle.audit_core.specs.Judging.{wrong_list, wrong_string, ListsMoves, TellsGame}
+use Rattle.audit_core.specs.Texts.{is_ok}
+use Rattle.audit_core.specs.Standing.{Standing, start, position_now, is_ended, reply_with}
+use Rattle.audit_core.specs.Audits.{step, audit_of}
+
+-- nothing is wrong with a list exactly where it lists the legal moves, and with a string exactly
+-- where it is that of the game
+pub record RepliesAreJudged : Type 0 where
+  pub lists : (t : GameType) (p : Position) (line : List ℕ)
+      → (wrong_list t p line ≡ None) ↔ ListsMoves t p line
+  pub strings : (t : GameType) (ms : List Move) (line : List ℕ)
+      → (wrong_string t ms line ≡ None) ↔ TellsGame t ms line
+
+-- a whole reply is what it is to be at its place: the game string of the game reached, or the list
+-- of the legal moves of its position; a greeting may be anything
+abbrev pub IsReply : Standing → Stage → List ℕ → Type 0
+IsReply s Greeting reply = Unit {0}
+IsReply s Beginning reply = TellsGame s.game_type s.moves reply
+IsReply s Listing reply = ListsMoves s.game_type (position_now s) reply
+IsReply s (Playing m) reply = TellsGame s.game_type (s.moves ++ m ∷ []) reply
+IsReply s (Undoing back) reply =
+    TellsGame s.game_type (take (length s.moves - back) s.moves) reply
+IsReply s Reviewing reply = ListsMoves s.game_type (position_now s) reply
+IsReply s Over reply = Unit {0}
+
+-- a line ends a reply that is what it is to be, or leaves the reply no longer than a line may be
+abbrev pub IsRightLine : Bool → Standing → List ℕ → Type 0
+IsRightLine true s line = IsReply s s.stage s.reply
+IsRightLine false s line = length (reply_with s s.stage line) ≤ 65536
+
+abbrev pub IsRight : Standing → Mark → Type 0
+IsRight s (Text line) = IsRightLine (is_ok line) s line
+IsRight s TooLong = ⊥
+
+-- whatever is read once the audit is over is left alone
+abbrev pub IsRightAt : Bool → Standing → Mark → Type 0
+IsRightAt true s mark = Unit {0}
+IsRightAt false s mark = IsRight s mark
+
+-- each reply is what it is to be, and the lines lead to the end of the audit
+abbrev pub AreRight : Standing → List Mark → Type 0
+AreRight s [] = is_ended s.stage ≡ true
+AreRight s (mark ∷ marks) = IsRightAt (is_ended s.stage) s mark × AreRight (step s mark) marks
+
+-- an audit finds nothing exactly where each reply is what it is to be, up to its end
+abbrev pub AuditsFindFaults : Type 0
+AuditsFindFaults =
+    (plan : Plan) (marks : List Mark) →
+    ((audit_of plan marks).findings ≡ 0) ↔ AreRight (start plan) marks

@@ -1,0 +1,86 @@
+-- What an engine is sent, and what is written of it.
+use Rattle.std.specs.Prelude.{ℕ, Bool, true, false, List, [], ◌∷◌, ◌++◌, length, map, codes, decimal, nat_lt, if◌then◌else◌}
+use Rattle.std.specs.Str.{bytes_eq}
+use Rattle.hive_model.specs.declared.pieces.GameType.{GameType}
+use Rattle.hive_model.specs.declared.places.Move.{Move}
+use Rattle.hive_model.specs.declared.places.Move.TheVariants.{Pass, To}
+use Rattle.hive_model.specs.Positions.{Position}
+use Rattle.hive_model.specs.Denotes.{text}
+use Rattle.hive_model.specs.Fields.{type_bytes}
+use Rattle.hive_model.specs.Strings.{string}
+use Rattle.audit_core.specs.declared.findings.Fault.{Fault}
+use Rattle.audit_core.specs.declared.findings.Fault.TheVariants.{Missing, Extra, Twice, Unreadable, NotTheGame, Ended, Broke}
+use Rattle.audit_core.specs.declared.findings.Finding.{Finding}
+
+-- What is sent
+
+-- a new game of this type
+abbrev pub begin_line : GameType → List ℕ
+begin_line t = codes "newgame " ++ (type_bytes t ++ 10 ∷ [])
+
+-- the legal moves are asked for
+abbrev pub list_line : List ℕ
+list_line = codes "validmoves\n"
+
+-- a move is played, which is made in this position
+abbrev pub play_line : Position → Move → List ℕ
+play_line p Pass = codes "pass\n"
+play_line p (To x q) = codes "play " ++ (text p.board (To x q) ++ 10 ∷ [])
+
+-- so many plies are taken back
+abbrev pub undo_line : ℕ → List ℕ
+undo_line plies = codes "undo " ++ (decimal plies ++ 10 ∷ [])
+
+-- What is read
+
+-- the line ends a reply
+abbrev pub is_ok : List ℕ → Bool
+is_ok line = bytes_eq line (codes "ok")
+
+-- a reply with one line more; an LF (10) stands between two lines
+abbrev pub with_line : Bool → List ℕ → List ℕ → List ℕ
+with_line false reply line = line
+with_line true reply line = reply ++ 10 ∷ line
+
+-- What is written
+
+-- a byte of an engine as it is written: each one outside 32 to 126 as a question mark (63)
+abbrev pub shown : ℕ → ℕ
+shown byte = if nat_lt byte 32 then 63 else (if nat_lt 126 byte then 63 else byte)
+
+-- a text of the engine, with a space (32) before it; nothing where it is empty
+abbrev pub text_behind : List ℕ → List ℕ
+text_behind [] = []
+text_behind (byte ∷ bytes) = 32 ∷ map shown (byte ∷ bytes)
+
+abbrev pub fault_word : Fault → List ℕ
+fault_word Missing = codes "missing"
+fault_word Extra = codes "extra"
+fault_word Twice = codes "twice"
+fault_word Unreadable = codes "unreadable"
+fault_word NotTheGame = codes "string"
+fault_word Ended = codes "ended"
+fault_word Broke = codes "broke"
+
+-- a number behind a word
+abbrev pub numbered : List ℕ → ℕ → List ℕ
+numbered word n = word ++ decimal n
+
+-- what is wrong, ended by LF
+abbrev pub finding_end : Finding → List ℕ
+finding_end f = 32 ∷ (fault_word f.fault ++ (text_behind f.text ++ 10 ∷ []))
+
+-- the line of a finding: the game's number, how many plies were played, its game string, and what
+-- is wrong
+abbrev pub finding_line : ℕ → GameType → List Move → Finding → List ℕ
+finding_line number t ms f =
+    numbered (codes "game ") number
+    ++ (numbered (codes " ply ") (length ms) ++ (32 ∷ (string t ms ++ finding_end f)))
+
+-- the last line
+abbrev pub last_line : ℕ → ℕ → ℕ → ℕ → List ℕ
+last_line games positions choices findings =
+    numbered (codes "audited ") games
+    ++ (numbered (codes " games ") positions
+    ++ (numbered (codes " positions ") choices
+    ++ (numbered (codes " moves, ") findings ++ codes " findings\n")))

@@ -1,0 +1,194 @@
+//! The auditor of an engine.
+ghost use Rattle.std.specs.Prelude.{◌≡◌, ◌≤◌, length, IfOk, OnOk};
+ghost use Rattle.hive_model.specs.Lines.{Text, TooLong};
+ghost use Rattle.audit_core.specs.Keeps.{IsPlan};
+ghost use Rattle.audit_core.specs.Standing.{
+  start,
+  line_at,
+  line_now,
+  sent,
+  at_mark,
+  is_ended,
+};
+
+mod games;
+mod replies;
+
+use crate::drawing::generator_of;
+use crate::findings::Fault;
+use crate::plan::{Plan, Stage};
+use crate::texts::{begin_line, copy_text, is_ok, play_line, undo_line};
+use hive_model::{Game, GameType, LineText, ReplyText};
+use rand_xoshiro::SplitMix64;
+use std::alloc::{AllocError, Global};
+use std::marker::Model;
+
+/// No expansion.
+const BASE: GameType = GameType {
+    mosquito: false,
+    ladybug: false,
+    pillbug: false,
+};
+
+/// An audit that is under way, as it stands after the lines that its engine has said.
+///
+/// The greeting is read, and then game after game is played: a new game is asked for; before each
+/// ply its legal moves; and then one of them, which is drawn, is played. Once the game has come to
+/// its end some of its plies, as many as are drawn, are taken back, and the legal moves there are
+/// asked for. Each reply ends by a line `ok`, and is judged. What is found wrong ends its game, and
+/// is told in a line.
+///
+/// After want of memory an auditor is of no further use. A count that would pass 2 to the power 64
+/// is told as want of memory.
+#[derive(Drop)]
+pub struct Auditor<G: Game> {
+    alloc: Global,
+    plan: Plan,
+    stage: Stage,
+    sending: bool,
+    ended: u64,
+    plays: GameType,
+    game: G,
+    generator: SplitMix64,
+    begun: bool,
+    reply: LineText,
+    text: ReplyText,
+    findings: u64,
+    positions: u64,
+    choices: u64,
+}
+
+impl<G: Game> Model for Auditor<G> {
+    ghost use Rattle.audit_core.specs.Standing.{Standing, standing};
+    ghost use Rattle.audit_core.specs.Keeps.{IsAuditor};
+
+    ghost Value = { Standing };
+
+    ghost view = { λ a. standing a.plan a.stage a.sending a.ended a.plays
+        (G.course a.game).game_type (G.course a.game).made a.generator a.begun a.reply a.text
+        a.findings a.positions a.choices };
+
+    ghost invariant = { λ a. IsAuditor a.plan a.stage (G.course a.game) a.reply };
+}
+
+impl<G: Game + Drop> Auditor<G> {
+    /// The auditor of an audit that begins.
+    ///
+    /// # Errors
+    ///
+    /// Want of memory.
+    pub fn new(alloc: Global, plan: Plan) -> Result<Auditor<G>, AllocError>
+        requires { IsPlan plan }
+        ensures { IfOk result (λ a. a ≡ start plan) }
+    {
+        let mut game = G::opening(alloc, BASE)?;
+        game.reserve(plan.plies)?;
+        Ok(Auditor {
+            alloc,
+            plan,
+            stage: Stage::Greeting,
+            sending: false,
+            ended: 0,
+            plays: BASE,
+            game,
+            generator: generator_of(plan.seed, 0),
+            begun: false,
+            reply: LineText::new(alloc),
+            text: ReplyText::new(alloc),
+            findings: 0,
+            positions: 0,
+            choices: 0,
+        })
+    }
+
+    /// Whether the audit is over: then no line is to be sent, and none to be read.
+    pub fn is_over(&self) -> bool
+        ensures { result ≡ is_ended self.now.stage }
+    {
+        match self.stage {
+            Stage::Over => true,
+            _ => false,
+        }
+    }
+
+    /// What is to be written so far.
+    pub fn text(&self) -> &[u8]
+        ensures { result.now ≡ self.now.text }
+    {
+        self.text.items()
+    }
+
+    /// How many findings there are.
+    pub fn findings(&self) -> u64
+        ensures { result ≡ self.now.findings }
+    {
+        self.findings
+    }
+
+    /// The line of the place that the audit has reached.
+    fn place_line(&self) -> Result<ReplyText, AllocError>
+        ensures { IfOk result (λ t. t ≡ line_at self.now self.now.stage) }
+    {
+        match self.stage {
+            Stage::Greeting => Ok(ReplyText::new(self.alloc)),
+            Stage::Beginning => begin_line(self.alloc, self.game.game_type()),
+            Stage::Listing => copy_text(self.alloc, b"validmoves\n"),
+            Stage::Playing { m } => play_line(self.alloc, &self.game, m),
+            Stage::Undoing { plies } => undo_line(self.alloc, plies),
+            Stage::Reviewing => copy_text(self.alloc, b"validmoves\n"),
+            Stage::Over => Ok(ReplyText::new(self.alloc)),
+        }
+    }
+
+    /// The line that is to be sent before the next one is read, its LF included; it is empty where
+    /// there is none.
+    ///
+    /// # Errors
+    ///
+    /// Want of memory.
+    pub fn line(&self) -> Result<ReplyText, AllocError>
+        ensures { IfOk result (λ t. t ≡ line_now self.now) }
+    {
+        if self.sending {
+            self.place_line()
+        } else {
+            Ok(ReplyText::new(self.alloc))
+        }
+    }
+
+    /// The line was sent.
+    pub fn sent(&mut self)
+        ensures { self.new ≡ sent self.old }
+    {
+        self.sending = false;
+    }
+
+    /// Moves on by a line of the engine, of at most 65,536 bytes, while the audit is not over.
+    ///
+    /// # Errors
+    ///
+    /// Want of memory.
+    #[tactic(auto, unfolding(crate::specs::Standing::at_mark))]
+    pub fn hear(&mut self, line: &[u8]) -> Result<(), AllocError>
+        requires { length line.now ≤ 65536 }
+        ensures { OnOk result (self.new ≡ at_mark self.old (Text line.now)) }
+    {
+        if is_ok(line) {
+            let reply = self.take_reply();
+            return self.reply_ends(reply.items());
+        }
+        self.keep(line)
+    }
+
+    /// Moves on by a line of the engine that is too long.
+    ///
+    /// # Errors
+    ///
+    /// Want of memory.
+    #[tactic(auto, unfolding(crate::specs::Standing::at_mark))]
+    pub fn pass_over(&mut self) -> Result<(), AllocError>
+        ensures { OnOk result (self.new ≡ at_mark self.old TooLong) }
+    {
+        self.break_off(Fault::Unreadable)
+    }
+}

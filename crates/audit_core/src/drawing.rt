@@ -1,0 +1,123 @@
+//! The moves of the games are drawn.
+ghost use Rattle.std.specs.Prelude.{◌≡◌, ◌≤◌, IfOk, OnOk};
+ghost use Rattle.std.specs.List.{filter};
+ghost use Rattle.hive_model.specs.Courses.{position};
+ghost use Rattle.hive_model.specs.Legal.{moves};
+ghost use Rattle.grow_game.specs.Growing.{drawn, next_state};
+ghost use Rattle.audit_core.specs.Drawing.{
+  is_rare,
+  picked_from,
+  rare_moves,
+  drawn_of,
+  state_after,
+  state_of,
+  undone_of,
+  type_of,
+};
+
+use hive_model::{Game, GameType, Kind, Move, MoveList, is_occupied};
+use rand_xoshiro::SplitMix64;
+use rand_xoshiro::rand_core::SeedableRng;
+use rand_xoshiro::rand_core::utils::NextWord;
+use std::alloc::{AllocError, Global};
+
+/// The generator with which a game begins, by the seed and the number of games before it.
+pub(crate) fn generator_of(seed: u64, number: u64) -> SplitMix64
+    ensures { result ≡ state_of seed number }
+{
+    SplitMix64::from_seed(seed.wrapping_add(number).to_le_bytes())
+}
+
+/// The type of a game, by the number of games before it.
+pub(crate) fn type_of(asked: Option<GameType>, plays: GameType, number: u64) -> GameType
+    ensures { result ≡ type_of asked plays number }
+{
+    match asked {
+        Some(game_type) => game_type,
+        None => GameType {
+            mosquito: plays.mosquito && number % 2 == 1,
+            ladybug: plays.ladybug && number / 2 % 2 == 1,
+            pillbug: plays.pillbug && number / 4 % 2 == 1,
+        },
+    }
+}
+
+/// Whether a move is rare: the pass, a move of a mosquito, a throw of a piece of the other side, or
+/// a move onto a piece.
+fn is_rare<G: Game>(game: &G, m: Move) -> bool
+    ensures { result ≡ is_rare (position (G.course game.now)) m }
+{
+    match m {
+        Move::Pass => true,
+        Move::To { piece, place } => {
+            piece.kind().is(Kind::Mosquito)
+                || !piece.colour().is(game.side())
+                || is_occupied(game, place)
+        }
+    }
+}
+
+/// The rare ones of these moves.
+fn rare_of<G: Game>(alloc: Global, game: &G, all: &[Move]) -> Result<MoveList, AllocError>
+    ensures { IfOk result (λ l. l ≡ filter (is_rare (position (G.course game.now))) all.now) }
+{
+    let mut rare = MoveList::new(alloc);
+    for m in all {
+        if is_rare(game, m.again()) {
+            rare.push(m.again())?;
+        }
+    }
+    Ok(rare)
+}
+
+/// The move that a word draws from a list, if the list has one.
+fn pick(all: &[Move], word: u64) -> Option<Move>
+    ensures { result ≡ drawn word all.now }
+{
+    if all.is_empty() {
+        return None;
+    }
+    let index = word % all.len() as u64;
+    all.get(index as usize).copied()
+}
+
+/// The list from which a move is drawn, by the first word.
+fn picked_from<'a>(word: u64, rare: &'a [Move], all: &'a [Move]) -> &'a [Move]
+    ensures { result.now ≡ picked_from word rare.now all.now }
+{
+    if rare.is_empty() || word % 2 != 0 {
+        all
+    } else {
+        rare
+    }
+}
+
+/// Draws one of the legal moves of a game by two words, if there is one.
+pub(crate) fn draw<G: Game>(
+    alloc: Global,
+    game: &G,
+    legal: &[Move],
+    generator: &mut SplitMix64,
+) -> Result<Option<Move>, AllocError>
+    requires { legal.now ≡ moves (position (G.course game.now)) }
+    ensures drawn { IfOk result (λ m. m
+        ≡ drawn_of generator.old (position (G.course game.now))) }
+    ensures state { OnOk result (generator.new ≡ state_after generator.old) }
+{
+    let rare = rare_of(alloc, game, legal)?;
+    let first = generator.next_word();
+    let second = generator.next_word();
+    Ok(pick(picked_from(first, rare.items(), legal), second))
+}
+
+/// Draws how many plies of a game of so many are taken back.
+pub(crate) fn draw_undone(generator: &mut SplitMix64, plies: u32) -> u32
+    requires { 1 ≤ plies }
+    ensures drawn { result ≡ undone_of generator.old plies }
+    ensures least { 1 ≤ result }
+    ensures most { result ≤ plies }
+    ensures state { generator.new ≡ next_state generator.old }
+{
+    let word = generator.next_word();
+    (word % u64::from(plies)) as u32 + 1
+}

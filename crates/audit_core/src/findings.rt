@@ -1,0 +1,38 @@
+//! What is found at an engine.
+use hive_model::{LineText, Move};
+
+/// What is wrong with a reply.
+#[derive(Clone, Copy, Debug, PartialEq, Eq)]
+pub enum Fault {
+    /// A legal move is not on the list.
+    Missing,
+    /// A move on the list is not legal.
+    Extra,
+    /// A move stands on the list twice.
+    Twice,
+    /// A part of the list is no move of the position, or a reply has more than 65,536 bytes.
+    Unreadable,
+    /// The reply is not the game string of the game.
+    NotTheGame,
+    /// The engine's output has ended within a reply.
+    Ended,
+    /// A read or a write has failed.
+    Broke,
+}
+
+/// What is wrong, and the text that shows it: the missing move as it is written, the part of the
+/// list as the engine wrote it, or its reply; empty where there is none.
+#[derive(Drop)]
+pub struct Finding {
+    pub fault: Fault,
+    pub text: LineText,
+}
+
+/// What is told of a part of a list.
+#[derive(Drop)]
+pub enum Judged {
+    /// It is wrong.
+    Wrong(Finding),
+    /// It is this move, and the list goes on.
+    Next(Move),
+}

@@ -1,0 +1,14 @@
+//! What holds of every audit, as the contract of a function that does nothing.
+ghost use Rattle.audit_core.specs.Laws.{AuditsFindFaults, RepliesAreJudged};
+
+/// Nothing is wrong with a list exactly where it lists the legal moves of its position, each once
+/// and no other; and with a string exactly where it is read as the game.
+pub fn replies_are_judged()
+    ensures { RepliesAreJudged }
+{}
+
+/// An audit finds nothing exactly where each reply up to its end is what it is to be: the list of
+/// the legal moves of the position reached, or the game string of the game reached.
+pub fn audits_find_faults()
+    ensures { AuditsFindFaults }
+{}

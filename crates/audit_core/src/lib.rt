@@ -1,0 +1,19 @@
+//! The audit of an engine: which games are played with it, and what is wrong with its replies.
+#![tactic(auto)]
+
+mod auditor;
+mod drawing;
+mod findings;
+mod judging;
+mod laws;
+mod lists;
+mod parts;
+mod plan;
+mod strings;
+mod texts;
+mod undoing;
+
+pub use auditor::Auditor;
+pub use findings::{Fault, Finding};
+pub use laws::{audits_find_faults, replies_are_judged};
+pub use plan::{Plan, Stage};

@@ -1,0 +1,36 @@
+//! What an audit is made by, and the places that it goes through.
+use hive_model::{GameType, Move};
+
+/// What an audit is made by.
+#[derive(Clone, Copy, Debug, PartialEq, Eq)]
+pub struct Plan {
+    /// How many games.
+    pub games: u64,
+    /// What the moves of the games are drawn by: game n, counted from 0, by the seed and n, added
+    /// up modulo 2 to the power 64.
+    pub seed: u64,
+    /// The most plies of a game, from 1 to 1,000.
+    pub plies: u32,
+    /// The type of all games. Where there is none, each of the eight types comes in turn, without
+    /// the expansions that the engine does not name in its greeting.
+    pub game_type: Option<GameType>,
+}
+
+/// The place that an audit has reached: which reply of the engine is read.
+#[derive(Clone, Copy, Debug, PartialEq, Eq)]
+pub enum Stage {
+    /// The greeting, which comes unasked.
+    Greeting,
+    /// That of `newgame`.
+    Beginning,
+    /// That of `validmoves`.
+    Listing,
+    /// That of this move, which is played.
+    Playing { m: Move },
+    /// That of `undo`, which takes so many plies back, 1 at least, at the end of a game.
+    Undoing { plies: u32 },
+    /// That of `validmoves` behind it.
+    Reviewing,
+    /// None: the audit is over.
+    Over,
+}

@@ -1,0 +1,214 @@
+//! The lines that are sent, and those that are written.
+ghost use Rattle.std.specs.Prelude.{◌≡◌, ◌≤◌, ◌++◌, length, map, decimal, IfOk, OnOk};
+ghost use Rattle.hive_model.specs.Courses.{position};
+ghost use Rattle.hive_model.specs.Lists.{IsOn};
+ghost use Rattle.hive_model.specs.Legal.{moves};
+ghost use Rattle.hive_model.specs.Denotes.{text};
+ghost use Rattle.audit_core.specs.Texts.{
+  begin_line,
+  play_line,
+  undo_line,
+  is_ok,
+  with_line,
+  shown,
+  text_behind,
+  fault_word,
+  numbered,
+  finding_end,
+  finding_line,
+  last_line,
+};
+
+use crate::findings::{Fault, Finding};
+use game_text::write_game;
+use hive_model::{Game, GameType, LineText, Move, ReplyText};
+use itoa::Buffer;
+use move_text::{type_text, write_move};
+use std::alloc::{AllocError, Global};
+
+/// A copy of these bytes.
+pub(crate) fn copy_text(alloc: Global, bytes: &[u8]) -> Result<LineText, AllocError>
+    ensures { IfOk result (λ t. t ≡ bytes.now) }
+{
+    let mut kept = LineText::new(alloc);
+    kept.push_all(bytes)?;
+    Ok(kept)
+}
+
+/// A text with one line more; an LF stands between two lines.
+pub(crate) fn text_with(
+    alloc: Global,
+    begun: bool,
+    text: &[u8],
+    line: &[u8],
+) -> Result<LineText, AllocError>
+    ensures { IfOk result (λ t. t ≡ with_line begun text.now line.now) }
+{
+    let mut kept = LineText::new(alloc);
+    if begun {
+        kept.push_all(text)?;
+        kept.push(b'\n')?;
+    }
+    kept.push_all(line)?;
+    Ok(kept)
+}
+
+/// The text of a legal move.
+pub(crate) fn move_text<G: Game>(alloc: Global, game: &G, m: Move) -> Result<LineText, AllocError>
+    requires { IsOn (moves (position (G.course game.now))) m }
+    ensures { IfOk result (λ t. t ≡ text (position (G.course game.now)).board m) }
+{
+    let _state = game.state();
+    copy_text(alloc, write_move(game, m).as_bytes())
+}
+
+/// The line that asks for a new game.
+pub(crate) fn begin_line(alloc: Global, game_type: GameType) -> Result<ReplyText, AllocError>
+    ensures { IfOk result (λ t. t ≡ begin_line game_type) }
+{
+    let mut line = ReplyText::new(alloc);
+    line.push_all(b"newgame ")?;
+    line.push_all(type_text(game_type).as_bytes())?;
+    line.push(b'\n')?;
+    Ok(line)
+}
+
+/// The line that plays a legal move.
+pub(crate) fn play_line<G: Game>(alloc: Global, game: &G, m: Move) -> Result<ReplyText, AllocError>
+    requires { IsOn (moves (position (G.course game.now))) m }
+    ensures { IfOk result (λ t. t ≡ play_line (position (G.course game.now)) m) }
+{
+    let mut line = ReplyText::new(alloc);
+    match m {
+        Move::Pass => line.push_all(b"pass\n")?,
+        Move::To { .. } => {
+            let text = move_text(alloc, game, m.again())?;
+            line.push_all(b"play ")?;
+            line.push_all(text.items())?;
+            line.push(b'\n')?;
+        }
+    }
+    Ok(line)
+}
+
+/// The line that takes so many plies back.
+pub(crate) fn undo_line(alloc: Global, plies: u32) -> Result<ReplyText, AllocError>
+    ensures { IfOk result (λ t. t ≡ undo_line plies) }
+{
+    let mut line = ReplyText::new(alloc);
+    line.push_all(b"undo ")?;
+    write_number(&mut line, u64::from(plies))?;
+    line.push(b'\n')?;
+    Ok(line)
+}
+
+/// Whether a line is `ok`.
+pub(crate) fn is_ok(line: &[u8]) -> bool
+    ensures { result ≡ is_ok line.now }
+{
+    line == b"ok".as_slice()
+}
+
+/// A byte of an engine as it is written.
+fn shown(byte: u8) -> u8
+    ensures { result ≡ shown byte }
+{
+    if byte < 32 || byte > 126 { b'?' } else { byte }
+}
+
+/// Appends the bytes of a text as they are written.
+fn write_shown(out: &mut ReplyText, bytes: &[u8]) -> Result<(), AllocError>
+    ensures { OnOk result (out.new ≡ out.old ++ map shown bytes.now) }
+{
+    for byte in bytes {
+        out.push(shown(*byte))?;
+    }
+    Ok(())
+}
+
+/// Appends a text of the engine behind a space, where it is not empty.
+fn write_behind(out: &mut ReplyText, bytes: &[u8]) -> Result<(), AllocError>
+    ensures { OnOk result (out.new ≡ out.old ++ text_behind bytes.now) }
+{
+    if bytes.is_empty() {
+        return Ok(());
+    }
+    out.push(b' ')?;
+    write_shown(out, bytes)
+}
+
+/// Appends a number.
+fn write_number(out: &mut ReplyText, number: u64) -> Result<(), AllocError>
+    ensures { OnOk result (out.new ≡ out.old ++ decimal number) }
+{
+    let mut buffer = Buffer::new();
+    out.push_all(buffer.format(number).as_bytes())
+}
+
+/// Appends a word, and a number behind it.
+fn write_numbered(out: &mut ReplyText, word: &[u8], number: u64) -> Result<(), AllocError>
+    ensures { OnOk result (out.new ≡ out.old ++ numbered word.now number) }
+{
+    out.push_all(word)?;
+    write_number(out, number)
+}
+
+/// Appends the word of a fault.
+fn write_word(out: &mut ReplyText, fault: Fault) -> Result<(), AllocError>
+    ensures { OnOk result (out.new ≡ out.old ++ fault_word fault) }
+{
+    match fault {
+        Fault::Missing => out.push_all(b"missing"),
+        Fault::Extra => out.push_all(b"extra"),
+        Fault::Twice => out.push_all(b"twice"),
+        Fault::Unreadable => out.push_all(b"unreadable"),
+        Fault::NotTheGame => out.push_all(b"string"),
+        Fault::Ended => out.push_all(b"ended"),
+        Fault::Broke => out.push_all(b"broke"),
+    }
+}
+
+/// Appends what is wrong, and an LF.
+fn write_end(out: &mut ReplyText, finding: &Finding) -> Result<(), AllocError>
+    ensures { OnOk result (out.new ≡ out.old ++ finding_end finding.now) }
+{
+    out.push(b' ')?;
+    write_word(out, finding.fault)?;
+    write_behind(out, finding.text.items())?;
+    out.push(b'\n')
+}
+
+/// Appends the line of a finding in the game of this number, counted from 1.
+pub(crate) fn write_finding<G: Game + Drop>(
+    alloc: Global,
+    out: &mut ReplyText,
+    number: u64,
+    game: &G,
+    finding: &Finding,
+) -> Result<(), AllocError>
+    ensures { let now = G.course game.now in OnOk result (out.new
+        ≡ out.old ++ finding_line number now.game_type now.made finding.now) }
+{
+    write_numbered(out, b"game ", number)?;
+    write_numbered(out, b" ply ", u64::from(game.plies()))?;
+    out.push(b' ')?;
+    write_game(alloc, game, out)?;
+    write_end(out, finding)
+}
+
+/// Appends the last line: how many games, lists that were right, moves on them, and findings.
+pub(crate) fn write_last(
+    out: &mut ReplyText,
+    games: u64,
+    positions: u64,
+    choices: u64,
+    findings: u64,
+) -> Result<(), AllocError>
+    ensures { OnOk result (out.new ≡ out.old ++ last_line games positions choices findings) }
+{
+    write_numbered(out, b"audited ", games)?;
+    write_numbered(out, b" games ", positions)?;
+    write_numbered(out, b" positions ", choices)?;
+    write_numbered(out, b" moves, ", findings)?;
+    out.push_all(b" findings\n")
+}

@@ -1,0 +1,178 @@
+//! The audit that the words ask for: its program, and how the games are made.
+ghost use Rattle.std.specs.Prelude.{
+  ◌≡◌,
+  ◌<◌,
+  ℕ,
+  MatchOption,
+  Option,
+  Some,
+  option_map,
+  length,
+  map,
+  string_bytes,
+  IfOk,
+  IfSome,
+};
+ghost use Rattle.hive_model.specs.declared.pieces.GameType.{GameType as AnyType};
+ghost use Rattle.command_words.specs.Audits.{
+  AreAuditWords,
+  AskForAuditCare,
+  AskForAudited,
+  AuditOptions,
+  ChooseAudit,
+  GiveAudit,
+  IsTypeGiven,
+  options_in,
+};
+
+use crate::care::{Care, care_at};
+use crate::matched::is_program;
+use crate::program::words_of;
+use crate::setup::number_or;
+use hive_model::GameType;
+use match_core::Level;
+use move_text::{read_number, read_type};
+use option_words::options_of;
+use std::alloc::{AllocError, Global};
+
+/// The options of an audit, in the order in which their values are asked for.
+const OPTIONS: [&str; 7] = [
+    "engine", "games", "seed", "plies", "type", "patience", "quiet",
+];
+
+/// No time is set for an answer, as in a match to a depth.
+const UNTIMED: Level = Level::Depth { depth: 1 };
+
+/// How the games of an audit are made.
+#[derive(Clone, Copy, Debug, PartialEq, Eq)]
+pub(crate) struct Audit {
+    pub(crate) games: u64,
+    pub(crate) seed: u64,
+    pub(crate) plies: u32,
+    pub(crate) game_type: Option<GameType>,
+}
+
+/// The texts of the options of an audit.
+#[derive(Clone, Copy)]
+pub(crate) struct AuditTexts<'a> {
+    pub(crate) engine: &'a str,
+    pub(crate) games: &'a str,
+    pub(crate) seed: &'a str,
+    pub(crate) plies: Option<&'a str>,
+    pub(crate) game_type: Option<&'a str>,
+    pub(crate) patience: Option<&'a str>,
+    pub(crate) quiet: Option<&'a str>,
+}
+
+/// The texts that the words give the options of an audit: `audit` and its options, of which the
+/// program, the games and the seed are required. None where they do not; an `AllocError` where
+/// memory runs out before that is known.
+fn texts_of<'a>(alloc: Global, words: &'a [String]) -> Result<Option<AuditTexts<'a>>, AllocError>
+    ensures found { IfOk result (λ o. IfSome o (λ t. GiveAudit words.now (options_in t))) }
+    ensures only { IfOk result (λ o. (given : AuditOptions) → GiveAudit words.now given
+        → MatchOption o ⊥ (λ t. options_in t ≡ given)) }
+{
+    let Some(given) = options_of(alloc, words, "audit", &OPTIONS)? else {
+        return Ok(None);
+    };
+    let Some(engine) = given.value(0) else {
+        return Ok(None);
+    };
+    let Some(games) = given.value(1) else {
+        return Ok(None);
+    };
+    let Some(seed) = given.value(2) else {
+        return Ok(None);
+    };
+    Ok(Some(AuditTexts {
+        engine,
+        games,
+        seed,
+        plies: given.value(3),
+        game_type: given.value(4),
+        patience: given.value(5),
+        quiet: given.value(6),
+    }))
+}
+
+/// The game type that is asked for, if any. None where a text is no game type.
+fn type_given(text: Option<&str>) -> Option<Option<GameType>>
+    ensures found { IfSome result (λ t. IsTypeGiven (option_map (λ t. t.now) text.entry) t) }
+    ensures only { (t : Option AnyType) → IsTypeGiven (option_map (λ t. t.now) text.entry) t
+        → result ≡ Some t }
+{
+    match text {
+        Some(text) => Some(Some(read_type(text.as_bytes())?)),
+        None => Some(None),
+    }
+}
+
+/// How the games are made that these texts choose. None where one of them is none of its option,
+/// those of the program and on the care for it too.
+fn audit_at(texts: AuditTexts<'_>) -> Option<Audit>
+    ensures found { IfSome result (λ a. ChooseAudit (options_in texts.entry) a.games a.seed a.plies
+        a.game_type) }
+    ensures only { (g s n : ℕ) (t : Option AnyType) → ChooseAudit (options_in texts.entry) g s n t
+        → result ≡ Some (record { games = g; seed = s; plies = n; game_type = t }) }
+{
+    if !is_program(texts.engine) {
+        return None;
+    }
+    let games = read_number(texts.games.as_bytes(), 1, 1_000_000)?;
+    let seed = read_number(texts.seed.as_bytes(), 0, u64::MAX)?;
+    let plies = number_or(texts.plies, 1, 1000, 80)?;
+    let game_type = type_given(texts.game_type)?;
+    let _care = care_at(texts.patience, texts.quiet, UNTIMED)?;
+    Some(Audit {
+        games,
+        seed,
+        plies: plies as u32,
+        game_type,
+    })
+}
+
+/// How the games of the audit are made that the words ask for. None where they ask for none; an
+/// `AllocError` where memory runs out before that is known.
+pub(crate) fn audit_of(alloc: Global, words: &[String]) -> Result<Option<Audit>, AllocError>
+    ensures found { IfOk result (λ o. IfSome o (λ a. AreAuditWords words.now a.games a.seed a.plies
+        a.game_type)) }
+    ensures only { IfOk result (λ o. (g s n : ℕ) (t : Option AnyType)
+        → AreAuditWords words.now g s n t
+        → o ≡ Some (record { games = g; seed = s; plies = n; game_type = t })) }
+{
+    match texts_of(alloc, words)? {
+        Some(texts) => Ok(audit_at(texts)),
+        None => Ok(None),
+    }
+}
+
+/// The care for its program that the words of an audit ask for. An `AllocError` where memory runs
+/// out.
+pub(crate) fn audit_care(alloc: Global, words: &[String]) -> Result<Care, AllocError>
+    requires { (g : ℕ) × (s : ℕ) × (n : ℕ) × (t : Option AnyType)
+        × AreAuditWords words.now g s n t }
+    ensures { IfOk result (λ care. AskForAuditCare words.now care) }
+{
+    let Some(texts) = texts_of(alloc, words)? else {
+        unreachable!();
+    };
+    let Some(care) = care_at(texts.patience, texts.quiet, UNTIMED) else {
+        unreachable!();
+    };
+    Ok(care)
+}
+
+/// The program of the audit that the words ask for: the words that its option gives, separated by
+/// single spaces, in order. An `AllocError` where memory runs out.
+pub fn audited_of(alloc: Global, words: &[String]) -> Result<Vec<String>, AllocError>
+    requires { (g : ℕ) × (s : ℕ) × (n : ℕ) × (t : Option AnyType)
+        × AreAuditWords words.now g s n t }
+    ensures some { IfOk result (λ program. 0 < length program.items) }
+    ensures program { IfOk result (λ program. AskForAudited words.now
+        (map string_bytes program.items)) }
+{
+    let Some(texts) = texts_of(alloc, words)? else {
+        unreachable!();
+    };
+    words_of(alloc, texts.engine)
+}

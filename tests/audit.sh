@@ -1,0 +1,6 @@
+#!/usr/bin/env bash
+# Audits by the built program: of itself, and of engines that are wrong in one rule each.
+set -eu
+top=$(cd "$(dirname "$0")/.." && pwd)
+"$top/hive" uhp </dev/null >/dev/null
+timeout 600 python3 "$top/tests/audit.py" "$top/crates/hive/out/hive"
