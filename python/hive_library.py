@@ -4,18 +4,18 @@
     hive.moves("Base")            # 'wS1;wB1;wA1;wG1;wQ' or so, as `validmoves` lists them
     hive.after("Base", "wS1")     # 'Base;InProgress;Black[1];wS1'
 
-Each method is the function of its name in c/hive_library.h, and answers its text; where there is none, it raises a HiveError, whose status
-is that of the header.
+Each method is the function of its name in c/hive_library.h, and answers its text; where the status is not 0, it raises a HiveError, whose
+status is that of the header.
 """
 import ctypes
 
 
 class HiveError(Exception):
-    """A call that puts no text: `status` is 1 to 15, as c/hive_library.h names them, but for 9."""
+    """A call that is not done: `status` is 1 to 15, as c/hive_library.h names them, but for 9, and `text` says why where there is a text."""
 
-    def __init__(self, name, status):
+    def __init__(self, name, status, text=""):
         super().__init__(f"{name}: {status}")
-        self.status = status
+        self.status, self.text = status, text
 
 
 class Hive:
@@ -38,7 +38,7 @@ class Hive:
             if status == 0:
                 return text.raw[: needed.value].decode("ascii")
             if status != 9:
-                raise HiveError(name, status)
+                raise HiveError(name, status, text.raw[: needed.value].decode("ascii"))
             room = needed.value
 
     def version(self):
@@ -60,3 +60,23 @@ class Hive:
     def best(self, line, depth):
         """The best move so many plies deep, from 1 to 64."""
         return self._call("best", line, depth)
+
+    def count(self, game, plies):
+        """For each number of plies from 1 to this, at most 8, how many lists of so many legal moves there are, a line each."""
+        return self._call("count", game, plies)
+
+    def certify(self, game, depth):
+        """The certificate of the best move so many plies deep, from 1 to 64."""
+        return self._call("certify", game, depth, room=1 << 20)
+
+    def check(self, certificate):
+        """`accepted`, where the certificate holds; else a HiveError, of status 1 or 6, whose text says why."""
+        return self._call("check", certificate)
+
+    def solve(self, game, plies):
+        """Whether the side to move can force a win within so many plies, from 1 to 16, and the indices that show it."""
+        return self._call("solve", game, plies, room=1 << 20)
+
+    def verify(self, solution):
+        """`accepted`, where the solution holds; else a HiveError, of status 1 or 6, whose text says why."""
+        return self._call("verify", solution)

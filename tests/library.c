@@ -48,6 +48,11 @@ static uint32_t call(const struct request *r, uint8_t *room, size_t room_length,
     if (!strcmp(r->name, "moves")) return hive_library_moves(r->text, r->length, room, room_length, needed);
     if (!strcmp(r->name, "after")) return hive_library_after(r->text, r->length, r->words, r->words_length, room, room_length, needed);
     if (!strcmp(r->name, "best")) return hive_library_best(r->text, r->length, r->number, room, room_length, needed);
+    if (!strcmp(r->name, "count")) return hive_library_count(r->text, r->length, r->number, room, room_length, needed);
+    if (!strcmp(r->name, "certify")) return hive_library_certify(r->text, r->length, r->number, room, room_length, needed);
+    if (!strcmp(r->name, "check")) return hive_library_check(r->text, r->length, room, room_length, needed);
+    if (!strcmp(r->name, "solve")) return hive_library_solve(r->text, r->length, r->number, room, room_length, needed);
+    if (!strcmp(r->name, "verify")) return hive_library_verify(r->text, r->length, room, room_length, needed);
     fail(r, "no such function");
     return 0;
 }
@@ -65,12 +70,18 @@ static int is_untouched(const uint8_t *room, size_t from, size_t length) {
     return 1;
 }
 
+/* Whether a text stands in the room. */
+static int is_put(const struct request *r, uint32_t status) {
+    int is_check = !strcmp(r->name, "check") || !strcmp(r->name, "verify");
+    return status == HIVE_DONE || status == HIVE_BAD_INPUT || (is_check && status == HIVE_REFUSED);
+}
+
 /* Answers a request, and looks at what a call leaves behind. */
 static uint32_t answer(const struct request *r, uint8_t *room, size_t length, size_t *needed) {
     *needed = 12345;
     uint32_t status = call(r, room, length, needed);
-    if (!is_untouched(room, status == HIVE_DONE ? *needed : 0, length)) fail(r, "the room was written to");
-    int is_known = status == HIVE_DONE || status == HIVE_ROOM_SHORT;
+    if (!is_untouched(room, is_put(r, status) ? *needed : 0, length)) fail(r, "the room was written to");
+    int is_known = is_put(r, status) || status == HIVE_ROOM_SHORT;
     if (is_known != (*needed > 0)) fail(r, "*needed is no length");
     if (held != 0) fail(r, "memory was not given back");
     return status;
@@ -80,10 +91,10 @@ static void tell(const struct request *r) {
     size_t needed, again;
     uint8_t *room = room_of(ROOM);
     uint32_t status = answer(r, room, ROOM, &needed);
-    printf("%u %zu\n%.*s\n", status, needed, status == HIVE_DONE ? (int)needed : 0, room);
-    if (status == HIVE_DONE) {
+    printf("%u %zu\n%.*s\n", status, needed, is_put(r, status) ? (int)needed : 0, room);
+    if (is_put(r, status)) {
         uint8_t *exact = room_of(needed), *tight = room_of(needed - 1);
-        if (answer(r, exact, needed, &again) != HIVE_DONE || again != needed || memcmp(exact, room, needed)) fail(r, "an exact room");
+        if (answer(r, exact, needed, &again) != status || again != needed || memcmp(exact, room, needed)) fail(r, "an exact room");
         if (answer(r, tight, needed - 1, &again) != HIVE_ROOM_SHORT || again != needed) fail(r, "a short room");
         free(exact);
         free(tight);
@@ -123,7 +134,7 @@ static void *work(void *kept) {
         size_t needed = 0;
         uint32_t status = call(r, room, ROOM, &needed);
         uint64_t sum = status;
-        for (size_t i = 0; status == HIVE_DONE && i < needed; i++) sum = sum * 31 + room[i];
+        for (size_t i = 0; is_put(r, status) && i < needed; i++) sum = sum * 31 + room[i];
         memcpy(texts, &sum, sizeof sum);
         texts += sizeof sum;
     }

@@ -24,6 +24,8 @@ WON = (
 )
 FULL = "Base;InProgress;White[2501];wS1;bS1 wS1-;wQ -wS1;bQ bS1-" + ";wQ /wS1;bQ bS1\\;wQ -wS1;bQ bS1-" * 1249
 BAD = ["", "Base+X", "Base;InProgress;White[2];wS1", "Base;Draw;White[1]", "Base;InProgress;Black[1];wQ", WON[:-1], "x" * 70000]
+NUMBERED = {"best": 64, "count": 8, "certify": 64, "solve": 16}  # functions that take a number, from 1 to this
+TELLING = {0, 1, 6}  # statuses with which a text may be put: with 1 *needed is 0 where there is none
 # what a session says before its reason, and the status of the library for it
 REFUSALS = [("invalidmove 1", 11), ("invalidmove 2", 12), ("invalidmove 3", 13), ("invalidmove 4", 14), ("err 8", 14), ("err 11", 15), ("err", 1)]
 
@@ -85,6 +87,35 @@ def pieces_of(program, lines):
             yield request, of_session(begun if begun.startswith("err") else reply)
 
 
+def altered(text, at, line):
+    """The text with another line in the place of one."""
+    lines = text.split("\n")
+    return "\n".join(lines[:at] + [line] + lines[at + 1 :])
+
+
+def claims_of(name, text):
+    """A certificate or solution, and texts made from it of which most do not hold."""
+    head = 5 if name == "check" else 4
+    lines = text.split("\n")
+    other = altered(text, 2, f"{lines[2].split()[0]} {3 - int(lines[2].split()[1])}")
+    return [text, other, text + "0\n", altered(text, head - 1, "answer yes" if name == "verify" else "value 1"),
+            "\n".join(lines[:head] + lines[head + 1 :]), altered(text, 1, lines[1][:-1]), altered(text, head, "x"), text[:-1]]
+
+
+def commands_of(program, games):
+    """The requests of the commands, and what the program's commands write and end with."""
+    for at, game in enumerate(games):
+        depth = 1 + at % 2
+        for name, option, number, check in [("count", "--plies", depth, ""), ("certify", "--depth", depth, "check"), ("solve", "--plies", depth, "verify")]:
+            status, text = program.run([name, option, str(number)], game)
+            yield (name, number, game, ""), (status, len(text), text)
+            if not check or status:
+                continue
+            for claim in claims_of(check, text)[: 8 if at % 8 == 0 else 2]:
+                status, line = program.run([check], claim)
+                yield (check, 0, claim, ""), (status, len(line), line)
+
+
 def packed(requests):
     parts = []
     for name, number, text, words in requests:
@@ -106,7 +137,7 @@ def answers(driver, requests):
     for _ in requests:
         end = text.index("\n", at)
         status, needed = map(int, text[at:end].split())
-        length = needed if status == 0 else 0
+        length = needed if status in TELLING else 0
         found.append((status, needed, text[end + 1 : end + 1 + length]))
         at = end + 2 + length
     return found
@@ -115,11 +146,11 @@ def answers(driver, requests):
 def in_python(hive, request):
     """What Python is answered: status and text."""
     name, number, text, words = request
-    given = ([] if name == "version" else [text]) + ([number] if name == "best" else []) + ([words] if name == "after" else [])
+    given = ([] if name == "version" else [text]) + ([number] if name in NUMBERED else []) + ([words] if name == "after" else [])
     try:
         return 0, getattr(hive, name)(*given)
     except hive_library.HiveError as error:
-        return error.status, ""
+        return error.status, error.text
 
 
 def compare(found, wanted, requests):
@@ -152,10 +183,14 @@ def main(path, folder, archive, compiler, sanitized=None):
     expect("the end of the session", engine.end(), 0)
     expect("game types", {game.split(";")[0] for game in games}, set(TYPES))
     pairs = list(pieces_of(program, games + ["Base", "Base+MLP", WON, FULL] + BAD))
-    pairs += [(("best", depth, "Base", ""), (2, 0, "")) for depth in (0, 65, (1 << 32) - 1)]
+    pairs += commands_of(program, games + ["Base\n", "Base+MLP\r\n", WON, FULL, "Base\nBase", "x" * 70000 + "\n"] + BAD)
+    pairs += [((name, number, "Base", ""), (2, 0, "")) for name, most in NUMBERED.items() for number in (0, most + 1, (1 << 32) - 1)]
     version = program.session(["info"])[0].removeprefix("id ")
     pairs.append((("version", 0, "", ""), (0, len(version), version)))
-    expect("statuses", {status for _, (status, _, _) in pairs}, {0, 1, 2, 11, 12, 13, 14, 15})
+    expect("statuses", {status for _, (status, _, _) in pairs}, {0, 1, 2, 6, 11, 12, 13, 14, 15})
+    for name in ("check", "verify"):
+        told = {(status, text.partition(" ")[0].strip()) for request, (status, _, text) in pairs if request[0] == name}
+        expect(f"answers of {name}", told, {(0, "accepted"), (1, "refused"), (6, "bad")})
     requests, wanted = [request for request, _ in pairs], [answer for _, answer in pairs]
     compare(answers(driver, requests), wanted, requests)
     print(f"library: {len(requests)} answers over {len(games)} games are those of the program")
@@ -163,11 +198,12 @@ def main(path, folder, archive, compiler, sanitized=None):
     for request, (status, _, text) in zip(requests, wanted):
         expect(f"in Python: {request[0]} {request[2][:200]!r}", in_python(hive, request), (status, text))
     print("library: Python has the same answers")
-    called(driver, "threads", requests[:600])
+    called(driver, "threads", requests[:: len(requests) // 600])
     print("library: four threads have the same answers")
     few = []
-    for name in ("written", "moves", "after", "best"):
-        few.append(next(request for request, (status, _, _) in pairs if request[0] == name and status == 0 and len(request[2]) > 4))
+    for name, wanted_status in [(name, 0) for name in ("written", "moves", "after", "best", "count", "certify", "check", "solve", "verify")] + [
+            ("count", 6), ("certify", 6), ("check", 1), ("check", 6), ("solve", 6), ("verify", 1), ("verify", 6)]:
+        few.append(next(request for request, (status, _, _) in pairs if request[0] == name and status == wanted_status and len(request[2]) > 4))
     for line in called(driver, "refuse", few).splitlines():
         print("library: %s: each of %s requests for memory was refused; %s answers are want of memory, and all was given back" % tuple(line.split()))
     if sanitized:

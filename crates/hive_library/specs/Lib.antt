@@ -1,3 +1,4 @@
 pub mod Rooms
+pub mod Runs
 pub mod Games
 pub mod Version

@@ -1,7 +1,7 @@
 -- What a call of the library leaves in the room that its caller lends, by what it answers.
 use Rattle.std.specs.Prelude.{◌≡◌, ◌⊎◌, ℕ, ◌<◌, List, ◌++◌, length, drop, Result, Ok, Err}
 use Rattle.hive_library.specs.declared.faults.Fault.{Fault}
-use Rattle.hive_library.specs.declared.faults.Fault.TheVariants.{NoGame, OutOfRange, Memory, Unreadable, NotInPlay, NotLegal, GameOver, FullGame}
+use Rattle.hive_library.specs.declared.faults.Fault.TheVariants.{NoGame, OutOfRange, Memory, TooLong, Unreadable, NotInPlay, NotLegal, GameOver, FullGame}
 
 -- the text stands at the front of the room, and what stood behind it still does; its length is told
 pub record IsPut (text before now : List ℕ) (told : ℕ) : Type 0 where
@@ -14,10 +14,15 @@ pub record IsShort (text before now : List ℕ) (told : ℕ) : Type 0 where
   pub short : length before < length text
   pub same : now ≡ before
 
--- the call ends with 0 and the text is in the room, or with 9 and the room is too short for it
+-- the call ends with this status and the text is in the room, or with 9 and the room is too short
+-- for it
+abbrev pub PutsAs : ℕ → List ℕ → ℕ → List ℕ → List ℕ → ℕ → Type 0
+PutsAs code text status before now told =
+    ((status ≡ code) × IsPut text before now told) ⊎ ((status ≡ 9) × IsShort text before now told)
+
+-- the same with 0
 abbrev pub Puts : List ℕ → ℕ → List ℕ → List ℕ → ℕ → Type 0
-Puts text status before now told =
-    ((status ≡ 0) × IsPut text before now told) ⊎ ((status ≡ 9) × IsShort text before now told)
+Puts text status before now told = PutsAs 0 text status before now told
 
 -- the call ends with this status, and no text: the room is as it was
 pub record Ends (code status : ℕ) (before now : List ℕ) (told : ℕ) : Type 0 where
@@ -30,6 +35,7 @@ abbrev pub code : Fault → ℕ
 code NoGame = 1
 code OutOfRange = 2
 code Memory = 7
+code TooLong = 8
 code Unreadable = 11
 code NotInPlay = 12
 code NotLegal = 13

@@ -15,6 +15,8 @@ pub enum Fault {
     OutOfRange,
     /// There was not enough memory.
     Memory,
+    /// The text has 1,099,511,627,776 bytes or more.
+    TooLong,
     /// The words are no move of the game's type.
     Unreadable,
     /// The piece that the words refer to is not in play.
@@ -46,6 +48,7 @@ impl Fault {
             Fault::NoGame => 1,
             Fault::OutOfRange => 2,
             Fault::Memory => 7,
+            Fault::TooLong => 8,
             Fault::Unreadable => 11,
             Fault::NotInPlay => 12,
             Fault::NotLegal => 13,

@@ -23,13 +23,13 @@ ghost use Rattle.hive_library.specs.Games.{
 };
 
 use crate::faults::Fault;
-use crate::lists::joined_moves;
 use command_runs::is_over;
 use deepening::Searcher;
 use game_text::{GameFault, Parsed, played, read_game, write_game_under};
 use hive_model::{Game, Move, MoveStack, ReplyText};
 use move_text::{MoveFault, read_move, write_move};
 use std::alloc::Global;
+use uhp_session::joined_moves;
 
 /// The greatest number of bytes of a line.
 const GREATEST_LINE: usize = 65536;

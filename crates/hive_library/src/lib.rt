@@ -2,8 +2,10 @@
 //! and tests all that it is given.
 #![tactic(auto)]
 
+mod commands;
 mod exports;
 mod faults;
 mod games;
-mod lists;
 mod rooms;
+mod runs;
+mod sources;

@@ -1,7 +1,7 @@
 //! The room that a caller lends for a text.
 
 ghost use Rattle.std.specs.Bool.{OnFalse, OnTrue};
-ghost use Rattle.hive_library.specs.Rooms.{Gives, IsPut, IsShort, Puts};
+ghost use Rattle.hive_library.specs.Rooms.{Gives, IsPut, IsShort, Puts, PutsAs};
 
 use crate::faults::Fault;
 use hive_model::ReplyText;
@@ -12,9 +12,10 @@ const DONE: u32 = 0;
 /// The room is too short for the text.
 const ROOM_SHORT: u32 = 9;
 
-/// Puts the text into the front of the room, if it goes there, and tells its length.
-pub(crate) fn put(text: &[u8], room: &mut [u8], needed: &mut usize) -> u32
-    ensures { Puts text.now result room.old room.new needed.new }
+/// Puts the text into the front of the room, if it goes there, and tells its length; the status is
+/// then this one.
+pub(crate) fn put_as(code: u32, text: &[u8], room: &mut [u8], needed: &mut usize) -> u32
+    ensures { PutsAs code text.now result room.old room.new needed.new }
 {
     let count = text.len();
     *needed = count;
@@ -23,7 +24,14 @@ pub(crate) fn put(text: &[u8], room: &mut [u8], needed: &mut usize) -> u32
     }
     let (front, _) = room.split_at_mut(count);
     front.copy_from_slice(text);
-    DONE
+    code
+}
+
+/// The same with the status that it was done.
+pub(crate) fn put(text: &[u8], room: &mut [u8], needed: &mut usize) -> u32
+    ensures { Puts text.now result room.old room.new needed.new }
+{
+    put_as(DONE, text, room, needed)
 }
 
 /// Gives the text, or tells why there is none.

@@ -16,6 +16,7 @@ pub use laws::{
     sessions_hold_games,
 };
 pub use lines::{LineIn, Reply};
+pub use lists::joined_moves;
 pub use session::Session;
 
 #[cfg(test)]

@@ -25,8 +25,13 @@ fn push_part(text: &mut ReplyText, is_first: bool, part: &[u8]) -> Result<(), Al
     text.push_all(part)
 }
 
-/// The moves of the first level, each in its one spelling on the board, joined by semicolons.
-pub(crate) fn joined_moves<B: Board>(
+/// The moves of the first level of a stack, each in its one spelling on the board, joined by
+/// semicolons.
+///
+/// # Errors
+///
+/// Want of memory.
+pub fn joined_moves<B: Board>(
     alloc: Global,
     board: &B,
     stack: &MoveStack,

@@ -271,8 +271,9 @@ impl<G: Game + Send + Drop> Session<G> {
     }
 
     /// The best move, so many plies deep. Several workers search it beside each other; each of them
-    /// has its share of the option Table, at least one entry. One worker goes on with the searcher
-    /// of the session.
+    /// has its share of the option Table, at least one entry, and the searcher that was kept is
+    /// dropped before, so that no more than these entries are kept at a time. One worker goes on with
+    /// the searcher of the session.
     fn best<R: Threads + Sync, T: Gate + Sync>(
         &mut self,
         rt: &R,
@@ -297,6 +298,7 @@ impl<G: Game + Send + Drop> Session<G> {
             return say(alloc, b"err 8 game over");
         }
         if team.workers > 1 {
+            self.searcher = None;
             return game.tell_best_by(rt, alloc, team, depth, gate);
         }
         let mut searcher = taken(&mut self.searcher, alloc, team.entries)?;
@@ -305,7 +307,8 @@ impl<G: Game + Send + Drop> Session<G> {
         reply
     }
 
-    /// The best move of the last depth that is completed within the budget, in milliseconds.
+    /// The best move of the last depth that is completed within the budget, in milliseconds. It is
+    /// one worker's, with the searcher of the session, which has the whole of the option Table.
     fn best_in<C: Clock>(
         &mut self,
         alloc: Global,
@@ -320,7 +323,7 @@ impl<G: Game + Send + Drop> Session<G> {
             (times (C.last clock.old) (C.readings clock.old) timed.old)
             (times (C.last clock.new) (C.readings clock.new) timed.new) }
     {
-        let entries = (self.table / self.workers).max(1);
+        let entries = self.table;
         let Some(game) = &mut self.game else {
             return say(alloc, b"err 3 no game");
         };

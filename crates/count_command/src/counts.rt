@@ -1,0 +1,107 @@
+//! How many lists of legal moves the game of the input can go on with.
+ghost use Rattle.std.specs.Prelude.{◌≡◌, ℕ, ◌<◌, ◌≤◌, false, length, take};
+ghost use Rattle.std.specs.Bool.{OnTrue, OnFalse};
+ghost use Rattle.io_edge.specs.Outside.{HasCause, behind};
+ghost use Rattle.hive_model.specs.Courses.{position};
+ghost use Rattle.command_runs.specs.Answered.{WritesAnswer};
+ghost use Rattle.command_runs.specs.Runs.{RunsAs, side_of};
+ghost use Rattle.count_command.specs.Count.{CountRun, count_line_of, count_text};
+
+use arrayvec::ArrayString;
+use command_runs::{Status, read_one_game, tell_none};
+use hive_model::{Game, MoveStack};
+use io_edge::{Sink, Source, write_all};
+use itoa::Buffer;
+use plain_search::count_lines;
+use std::alloc::Global;
+
+/// The line for a number of plies and a number of lists, its LF included.
+fn count_line(plies: u32, lists: u128) -> ArrayString<96>
+    ensures { result.bytes ≡ count_line_of plies lists }
+{
+    let mut line = ArrayString::new();
+    let mut buffer = Buffer::new();
+    line.push_str(buffer.format(plies));
+    line.push_str(" ");
+    line.push_str(buffer.format(lists));
+    line.push_str("\n");
+    line
+}
+
+/// Writes for each number of plies from 1 on its line as soon as it is known. The answer is whether
+/// all were written.
+fn write_counts<K: Sink, G: Game>(
+    game: &mut G,
+    plies: u32,
+    stack: &mut MoveStack,
+    output: &mut K,
+) -> bool
+    requires some { 1 ≤ plies }
+    requires few { plies ≤ 8 }
+    requires spare { plies ≤ (G.course game.old).spare }
+    requires room { plies ≤ stack.old.free }
+    ensures all { OnTrue result (K.written output.new
+        ≡ behind (K.written output.old) (count_text (position (G.course game.old)) plies)) }
+    ensures part { OnFalse result ((n : ℕ)
+        × (n < length (count_text (position (G.course game.old)) plies))
+        × (K.written output.new ≡ behind (K.written output.old)
+        (take n (count_text (position (G.course game.old)) plies)))) }
+    ensures cause { HasCause (result ≡ false) (K.write_faults output.old)
+        (K.write_faults output.new) }
+{
+    for n in 1..=plies {
+        let line = count_line(n, count_lines(game, n, stack));
+        if !write_all(output, line.as_str().as_bytes()) {
+            return false;
+        }
+    }
+    true
+}
+
+/// Writes the counts of a game.
+fn tell_counts<K: Sink, G: Game + Drop>(
+    alloc: Global,
+    mut game: G,
+    plies: u32,
+    output: &mut K,
+) -> Status
+    requires some { 1 ≤ plies }
+    requires few { plies ≤ 8 }
+    requires spare { plies ≤ (G.course game).spare }
+    ensures told { WritesAnswer (count_text (position (G.course game)) plies) result
+        (K.written output.old) (K.written output.new) }
+    ensures cause { HasCause (result ≡ Status.WriteFault) (K.write_faults output.old)
+        (K.write_faults output.new) }
+{
+    let Ok(mut stack) = MoveStack::new(alloc, plies) else {
+        return Status::Memory;
+    };
+    if write_counts(&mut game, plies, &mut stack, output) {
+        Status::Done
+    } else {
+        Status::WriteFault
+    }
+}
+
+/// Reads the one game of the input, and writes for each number of plies, from 1 to at most 8, how
+/// many lists of so many legal moves it can go on with: the number of plies, a space and the count,
+/// each on a line of its own, as soon as it is known. It is `Done` then. Where the input is not one
+/// game that is not over, one line that begins with `bad` says why, and it is `BadInput`. A read
+/// that fails, a full input and want of memory end the run with nothing written.
+pub fn count<S: Source, K: Sink, G: Game + Drop>(
+    alloc: Global,
+    plies: u32,
+    input: &mut S,
+    output: &mut K,
+) -> Status
+    requires some { 1 ≤ plies }
+    requires few { plies ≤ 8 }
+    ensures { RunsAs (CountRun plies) result
+        (side_of S.rest S.read_faults input.old) (side_of K.written K.write_faults output.old)
+        (side_of S.rest S.read_faults input.new) (side_of K.written K.write_faults output.new) }
+{
+    match read_one_game::<S, G>(alloc, input, plies) {
+        Ok(game) => tell_counts(alloc, game, plies, output),
+        Err(none) => tell_none(none, output),
+    }
+}
