@@ -2,5 +2,4 @@ pub mod TimeLemmas
 pub mod ReplyLemmas
 pub mod Progress
 pub mod DoneLaws
-pub mod CountLemmas
 pub mod RunLemmas

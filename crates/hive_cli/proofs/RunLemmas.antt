@@ -7,8 +7,9 @@ use Rattle.uhp_session.specs.Searches.{TakesNoTime, Times}
 use Rattle.hive_cli.specs.ServiceRun.{EndsAs}
 use Rattle.hive_cli.specs.Session.{session}
 use Rattle.hive_cli.specs.Replay.{replays}
-use Rattle.hive_cli.specs.Count.{CountRun}
-use Rattle.hive_cli.specs.Run.{RunOf, UsesSpawner, World, means_in}
+use Rattle.count_command.specs.Count.{CountRun}
+use Rattle.hive_cli.specs.Run.{RunOf, StartsAudited, UsesSpawner, World, audit_in, means_in, plan_of}
+use Rattle.command_words.specs.Audits.{AreAuditWords}
 use Rattle.command_words.specs.Cups.{AreCupWords, AskForEngines, engine_of, program_texts}
 use Rattle.command_words.specs.Matches.{AreMatchWords, AskForPrograms, IsLevelOf, between_spaces}
 use Rattle.cup_core.specs.Engines.{Engine}
@@ -24,7 +25,10 @@ use Rattle.match_core.specs.declared.answers.Setup.{Setup}
 use Rattle.command_runs.specs.declared.status.Status.{Status}
 use Rattle.command_runs.specs.declared.status.Status.TheVariants.{Usage, SpawnFault, Memory}
 use Rattle.command_words.specs.declared.asked.Asked.{Asked}
-use Rattle.command_words.specs.declared.asked.Asked.TheVariants.{Session, Replay, Count, Grow, Certify, Check, Solve, Verify, Match, Cup, Book, Migrate}
+use Rattle.command_words.specs.declared.asked.Asked.TheVariants.{Session, Replay, Count, Grow, Certify, Check, Solve, Verify, Match, Cup, Book, Migrate, Audit}
+use Rattle.audit_command.specs.Audit.{AuditRun}
+use Rattle.audit_command.proofs.Closing.{none_taken}
+use Rattle.hive_model.specs.declared.pieces.GameType.{GameType}
 use Rattle.book_command.specs.Runs.{BookRun}
 use Rattle.certificate_commands.specs.Certifying.{CertifyRun}
 use Rattle.certificate_commands.specs.Verdicts.{CheckRun}
@@ -51,8 +55,10 @@ never_usage words (Match setup) status before after run e =
     subst (λ s. MatchRun setup s (match_scene before.scene.sides.written (means_in before)) (match_scene after.scene.sides.written (means_in after))) e run.played
 never_usage words (Cup setup) status before after run e = let (engines, asked, played) = run.played in
     subst (λ s. CupRun engines setup s (cup_scene before.scene.sides.written before.engines) (cup_scene after.scene.sides.written after.engines)) e played
+never_usage words (Audit games seed plies game_type) status before after run e =
+    subst (λ s. AuditRun (plan_of games seed plies game_type) s (audit_in before) (audit_in after)) e run.audited
 
--- no run but a match and a cup starts a program
+-- no run but a match, a cup and an audit starts a program
 pub never_spawns : (words : List (String Global)) (asked : Asked) (status : Status) (before after : World) → ¬ UsesSpawner asked → RunOf words asked status before after → status ≡ SpawnFault → ⊥
 never_spawns words Session status before after alone run e = subst (λ s. EndsAs session s before.scene after.scene) e run.ends
 never_spawns words (Replay r) status before after alone (run, time) e = subst (λ s. EndsAs (replays r) s before.scene after.scene) e run.ends
@@ -66,6 +72,7 @@ never_spawns words Book status before after alone (run, time) e = subst (λ s. B
 never_spawns words Migrate status before after alone (run, time) e = subst (λ s. MigrateRun s before.scene.sides after.scene.sides) e run
 never_spawns words (Match setup) status before after alone run e = absurd (alone tt)
 never_spawns words (Cup setup) status before after alone run e = absurd (alone tt)
+never_spawns words (Audit games seed plies game_type) status before after alone run e = absurd (alone tt)
 
 no_time : (t : Times) → TakesNoTime t t
 no_time t = record { last = refl; readings = refl; timed = refl }
@@ -130,6 +137,20 @@ starved_cup words setup w asked = let (engines, asks) = asks_engines words setup
   untimed = no_time w.scene.times;
 }
 
+-- where memory was wanting before the program of an audit was started, it was not
+pub starved_audited : (words : List (String Global)) (g s n : ℕ) (t : Option GameType) (engines : Engines) → AreAuditWords words g s n t → StartsAudited words Memory engines engines
+starved_audited words g s n t engines h = (between_spaces h.options.engine, (h.options, h.give, refl), inr refl)
+
+-- an audit that wanted memory before its program was started
+starved_audit : (words : List (String Global)) (g s n : ℕ) (t : Option GameType) (w : World) → AreAuditWords words g s n t → RunOf words (Audit g s n t) Memory w w
+starved_audit words g s n t w asked = record {
+  audited = refl;
+  program = starved_audited words g s n t w.engines asked;
+  closed = none_taken w.engines w.engines refl refl;
+  unread = refl;
+  untimed = no_time w.scene.times;
+}
+
 starved_here : (words : List (String Global)) (asked : Asked) (w : World) → Words words asked → RunOf words asked Memory w w
 starved_here words Session w h = no_memory session w.scene w.scene refl (no_time w.scene.times)
 starved_here words (Replay r) w h = (no_memory (replays r) w.scene w.scene refl (no_time w.scene.times), no_time w.scene.times)
@@ -143,6 +164,7 @@ starved_here words Book w h = ((refl, unread w.scene.sides.rest), no_time w.scen
 starved_here words Migrate w h = (refl, no_time w.scene.times)
 starved_here words (Match setup) w h = starved_match words setup w h
 starved_here words (Cup setup) w h = starved_cup words setup w h
+starved_here words (Audit g s n t) w h = starved_audit words g s n t w h
 
 -- memory was wanting before anything was done
 pub starved : (words : List (String Global)) (asked : Asked) (w : World) (timed : List Timed) → Words words asked → timed ≡ w.scene.times.timed
@@ -153,17 +175,19 @@ starved words asked w timed h same = subst (λ (t : List Timed). RunOf words ask
 pub run_of : (words : List (String Global)) (did asked : Asked) (status : Status) (before after : World) → RunOf words did status before after → Some did ≡ Some asked → RunOf words asked status before after
 run_of words did asked status before after run e = subst (λ a. RunOf words a status before after) (same_Some _ _ e) run
 
--- what is neither a match nor a cup starts no program
-pub is_alone : (asked : Asked) → ((setup : Setup) → asked ≡ Match setup → ⊥) → ((setup : Setup) → asked ≡ Cup setup → ⊥) → ¬ UsesSpawner asked
-is_alone (Match setup) no_match no_cup uses = no_match setup refl
-is_alone (Cup setup) no_match no_cup uses = no_cup setup refl
-is_alone Session no_match no_cup uses = uses
-is_alone (Replay r) no_match no_cup uses = uses
-is_alone (Count plies) no_match no_cup uses = uses
-is_alone (Grow seed plies) no_match no_cup uses = uses
-is_alone (Certify depth) no_match no_cup uses = uses
-is_alone Check no_match no_cup uses = uses
-is_alone (Solve plies) no_match no_cup uses = uses
-is_alone Verify no_match no_cup uses = uses
-is_alone Book no_match no_cup uses = uses
-is_alone Migrate no_match no_cup uses = uses
+-- what is no match, cup or audit starts no program
+pub is_alone : (asked : Asked) → ((setup : Setup) → asked ≡ Match setup → ⊥) → ((setup : Setup) → asked ≡ Cup setup → ⊥)
+    → ((games seed plies : ℕ) (game_type : Option GameType) → asked ≡ Audit games seed plies game_type → ⊥) → ¬ UsesSpawner asked
+is_alone (Match setup) no_match no_cup no_audit uses = no_match setup refl
+is_alone (Cup setup) no_match no_cup no_audit uses = no_cup setup refl
+is_alone Session no_match no_cup no_audit uses = uses
+is_alone (Replay r) no_match no_cup no_audit uses = uses
+is_alone (Count plies) no_match no_cup no_audit uses = uses
+is_alone (Grow seed plies) no_match no_cup no_audit uses = uses
+is_alone (Certify depth) no_match no_cup no_audit uses = uses
+is_alone Check no_match no_cup no_audit uses = uses
+is_alone (Solve plies) no_match no_cup no_audit uses = uses
+is_alone Verify no_match no_cup no_audit uses = uses
+is_alone Book no_match no_cup no_audit uses = uses
+is_alone Migrate no_match no_cup no_audit uses = uses
+is_alone (Audit games seed plies game_type) no_match no_cup no_audit uses = no_audit games seed plies game_type refl

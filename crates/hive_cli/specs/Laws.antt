@@ -3,11 +3,9 @@ use Rattle.std.specs.Prelude.{◌≡◌, ◌⊎◌, ℕ, Bool, false, List, []}
 use Rattle.hive_model.specs.Lines.{Line, lines}
 use Rattle.hive_cli.specs.Service.{HasExit, last_of, output, searches}
 use Rattle.hive_cli.specs.ServiceRun.{Scene}
-use Rattle.hive_cli.specs.Count.{CountRun}
-use Rattle.command_runs.specs.OneGame.{AsksOne}
 use Rattle.hive_cli.specs.Replay.{ReplayRun, answers, replays, some_refused}
 use Rattle.hive_cli.specs.Session.{SessionRun}
-use Rattle.command_runs.specs.Served.{RunsAreDone, Served}
+use Rattle.command_runs.specs.Served.{Served}
 use Rattle.command_runs.specs.declared.status.Status.{Status}
 use Rattle.command_runs.specs.declared.status.Status.TheVariants.{Done, Memory}
 
@@ -26,10 +24,6 @@ ReplaysAreDone =
     → ReplayRun r status before after
     → (input : List ℕ) → Served status before.sides input → some_refused r (lines input) ≡ false
     → (status ≡ Done) ⊎ (status ≡ Memory)
-
--- The same of a count whose input is exactly one line, a game that is not over.
-abbrev pub CountsAreDone : Type 0
-CountsAreDone = (plies : ℕ) → RunsAreDone (CountRun plies) AsksOne
 
 -- what a replay makes of lines: it answers each of them, one after another, it has refused a line
 -- just where one of them is refused, none of them ends it, and none asks for a search, so that it

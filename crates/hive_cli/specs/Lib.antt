@@ -4,6 +4,5 @@ pub mod ServiceRun
 pub mod Rounds
 pub mod Session
 pub mod Replay
-pub mod Count
 pub mod Run
 pub mod Laws

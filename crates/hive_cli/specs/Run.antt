@@ -1,8 +1,11 @@
 -- What a run does, by what its words ask for and by the status with which it ends. A new command
 -- has a case here and in `Words`.
-use Rattle.std.specs.Prelude.{◌≡◌, ℕ, List}
+use Rattle.std.specs.Prelude.{◌≡◌, ℕ, List, Option}
 use Rattle.std.specs.declared.string.String.{String}
 use Rattle.std.specs.declared.alloc.Global.{Global}
+use Rattle.hive_model.specs.declared.pieces.GameType.{GameType}
+use Rattle.audit_core.specs.declared.plan.Plan.{Plan}
+use Rattle.audit_command.specs.Audit.{AuditRun, AuditStarts, NoneIsOpen as NoProgramIsOpen, Scene as AuditScene, scene as audit_scene}
 use Rattle.book_command.specs.Runs.{BookRun}
 use Rattle.certificate_commands.specs.Certifying.{CertifyRun}
 use Rattle.certificate_commands.specs.Verdicts.{CheckRun}
@@ -10,10 +13,11 @@ use Rattle.certificate_commands.specs.Migrating.{MigrateRun}
 use Rattle.command_runs.specs.Input.{Sides}
 use Rattle.command_runs.specs.declared.status.Status.{Status}
 use Rattle.command_words.specs.Words.{Words}
+use Rattle.command_words.specs.Audits.{AskForAudited}
 use Rattle.command_words.specs.Cups.{AskForEngines}
 use Rattle.command_words.specs.Matches.{AskForPrograms}
 use Rattle.command_words.specs.declared.asked.Asked.{Asked}
-use Rattle.command_words.specs.declared.asked.Asked.TheVariants.{Session, Replay, Count, Grow, Certify, Check, Solve, Verify, Match, Cup, Book, Migrate}
+use Rattle.command_words.specs.declared.asked.Asked.TheVariants.{Session, Replay, Count, Grow, Certify, Check, Solve, Verify, Match, Cup, Book, Migrate, Audit}
 use Rattle.cup_command.specs.Cup.{CupRun, Scene as CupScene, scene as cup_scene}
 use Rattle.cup_core.specs.Engines.{Engine}
 use Rattle.grow_command.specs.Runs.{GrowRun}
@@ -24,7 +28,7 @@ use Rattle.match_command.specs.Match.{MatchRun, MatchStarts, Means, NoneIsOpen, 
 use Rattle.match_core.specs.declared.answers.Setup.{Setup}
 use Rattle.hive_cli.specs.Session.{SessionRun}
 use Rattle.hive_cli.specs.Replay.{ReplayRun}
-use Rattle.hive_cli.specs.Count.{CountRun}
+use Rattle.count_command.specs.Count.{CountRun}
 use Rattle.hive_cli.specs.ServiceRun.{Scene}
 
 -- all that a run can change
@@ -90,6 +94,35 @@ pub record PlayedCup (words : List (String Global)) (setup : Setup) (status : St
   pub unread : after.scene.sides.rest ≡ before.scene.sides.rest
   pub untimed : Untimed before after
 
+-- what an audit is made by
+abbrev pub plan_of : ℕ → ℕ → ℕ → Option GameType → Plan
+plan_of games seed plies game_type = record {
+  games = games;
+  seed = seed;
+  plies = plies;
+  game_type = game_type;
+}
+
+-- the program of the audit that the words ask for was started, by its words
+abbrev pub StartsAudited : List (String Global) → Status → Engines → Engines → Type 0
+StartsAudited words status before after =
+    (program : List (List ℕ)) × AskForAudited words program
+    × AuditStarts status program before after
+
+-- what an audit writes to, and the program that it starts
+abbrev pub audit_in : World → AuditScene
+audit_in w = audit_scene w.scene.sides.written w.engines
+
+-- The program that the words name was audited, and the audit was told and ended with this status.
+-- The input was left alone, and no search was answered.
+pub record MadeAudit (words : List (String Global)) (plan : Plan) (status : Status)
+    (before after : World) : Type 0 where
+  pub audited : AuditRun plan status (audit_in before) (audit_in after)
+  pub program : StartsAudited words status before.engines after.engines
+  pub closed : NoProgramIsOpen before.engines after.engines
+  pub unread : after.scene.sides.rest ≡ before.scene.sides.rest
+  pub untimed : Untimed before after
+
 -- what a run whose words ask for this does where it ends with this status
 abbrev pub RunOf : List (String Global) → Asked → Status → World → World → Type 0
 RunOf words Session status before after = SessionRun status before.scene after.scene
@@ -113,6 +146,8 @@ RunOf words Book status before after =
     BookRun status before.scene.sides after.scene.sides × Untimed before after
 RunOf words Migrate status before after =
     MigrateRun status before.scene.sides after.scene.sides × Untimed before after
+RunOf words (Audit games seed plies game_type) status before after =
+    MadeAudit words (plan_of games seed plies game_type) status before after
 
 -- a run that is asked for this may read the clock: that of a session, for its searches, and a match
 abbrev pub UsesClock : Asked → Type 0
@@ -120,10 +155,11 @@ UsesClock Session = Unit {0}
 UsesClock (Match setup) = Unit {0}
 UsesClock _ = ⊥
 
--- a run that is asked for this may start programs: a match does, and a cup
+-- a run that is asked for this may start programs: a match does, a cup, and an audit
 abbrev pub UsesSpawner : Asked → Type 0
 UsesSpawner (Match setup) = Unit {0}
 UsesSpawner (Cup setup) = Unit {0}
+UsesSpawner (Audit games seed plies game_type) = Unit {0}
 UsesSpawner _ = ⊥
 
 -- whatever the words ask for, this is not so

@@ -1,10 +1,5 @@
 //! Laws of the definitions, as contracts of functions that do nothing.
-ghost use Rattle.hive_cli.specs.Laws.{
-  CountsAreDone,
-  ReplaysAnswerEachLine,
-  ReplaysAreDone,
-  SessionsAreDone,
-};
+ghost use Rattle.hive_cli.specs.Laws.{ReplaysAnswerEachLine, ReplaysAreDone, SessionsAreDone};
 
 /// A session whose input is shorter than 1,099,511,627,776 bytes ends with `Done`, or for want of
 /// memory, where neither the source nor the sink counted a fault.
@@ -16,12 +11,6 @@ pub fn sessions_are_done()
 /// `Done`, or for want of memory, where neither the source nor the sink counted a fault.
 pub fn replays_are_done()
     ensures { ReplaysAreDone }
-{}
-
-/// A count whose input is exactly one line, a game string of a game that is not over, ends with
-/// `Done`, or for want of memory, where neither the source nor the sink counted a fault.
-pub fn counts_are_done()
-    ensures { CountsAreDone }
 {}
 
 /// A replay writes the answer to each line, one after another, and no line ends it. It has refused

@@ -3,7 +3,6 @@
 #![tactic(auto)]
 
 mod answers;
-mod counts;
 mod laws;
 mod outcome;
 mod replays;
@@ -13,9 +12,6 @@ mod start;
 
 pub use command_runs::Status;
 pub use command_words::Asked;
-pub use laws::{counts_are_done, replays_answer_each_line, replays_are_done, sessions_are_done};
+pub use laws::{replays_answer_each_line, replays_are_done, sessions_are_done};
 pub use outcome::Outcome;
 pub use start::run;
-
-#[cfg(test)]
-mod tests;

@@ -3,8 +3,11 @@ ghost use Rattle.std.specs.Prelude.{◌≡◌, ◌⊎◌, [], map, string_bytes}
 ghost use Rattle.io_edge.specs.Outside.{HasCause};
 ghost use Rattle.io_edge.specs.Starts.{Engines};
 ghost use Rattle.command_words.specs.Words.{AreOfNoCommand, IsInRange, TakeOption, Words};
+ghost use Rattle.command_words.specs.Audits.{AreAuditWords};
 ghost use Rattle.command_words.specs.Cups.{AreCupWords};
 ghost use Rattle.command_words.specs.Matches.{AreMatchWords};
+ghost use Rattle.audit_core.specs.Keeps.{IsPlan};
+ghost use Rattle.audit_command.specs.Audit.{AuditRun, EndsAudit, scene as audit_scene};
 ghost use Rattle.cup_command.specs.Cup.{scene as cup_scene};
 ghost use Rattle.match_command.specs.Ends.{EndsRun};
 ghost use Rattle.match_command.specs.Match.{
@@ -19,6 +22,7 @@ ghost use Rattle.hive_cli.specs.Run.{
   Never,
   PlaysEngines,
   RunOf,
+  StartsAudited,
   StartsPrograms,
   UsesClock,
   UsesSpawner,
@@ -28,14 +32,16 @@ ghost use Rattle.hive_cli.specs.Run.{
 ghost use Rattle.hive_cli.specs.ServiceRun.{OverTime, scene};
 ghost use Rattle.command_words.specs.declared.asked.Asked.{Asked};
 
-use crate::counts::count;
 use crate::outcome::Outcome;
 use crate::replays::serve_replay;
 use crate::sessions::serve_session;
+use audit_command::audit_engine;
+use audit_core::Plan;
 use book_command::book;
 use certificate_commands::{certify, check, migrate};
 use command_runs::Status;
-use command_words::{Asked, asked_of, engines_of, programs_of};
+use command_words::{Asked, asked_of, audited_of, engines_of, programs_of};
+use count_command::count;
 use cup_command::play_cup;
 use cup_games::FreeCupGate;
 use fast_game::FastGame;
@@ -86,8 +92,9 @@ type Played = FastGame;
 /// is `Done` once one line was written, and else `BadInput`, as `count` is.
 ///
 /// The other commands are those of `grow_command`, `certificate_commands`, `win_commands`,
-/// `match_command` and `cup_command`, and do what is said there. Where the starter tells what was
-/// started, the programs of a match and of a cup are those that its words name.
+/// `match_command`, `cup_command` and `audit_command`, and do what is said there. Where the starter
+/// tells what was started, the programs of a match, of a cup and of an audit are those that its
+/// words name.
 ///
 /// Every other list of words is `Usage`; nothing is read or written. Where its first word is that
 /// of a command that takes an option, it is `Memory` where memory runs out before that is known.
@@ -204,6 +211,30 @@ fn cupped<R: Threads + Sync, K: Sink, P: Spawner, G: Game + Send + Drop>(
     )
 }
 
+/// Audits the program that the words name, by this plan.
+fn audited<K: Sink, P: Spawner, G: Game + Drop>(
+    alloc: Global,
+    words: &[String],
+    plan: Plan,
+    output: &mut K,
+    spawner: &mut P,
+) -> Status
+    requires words { AreAuditWords words.now plan.games plan.seed plan.plies plan.game_type }
+    requires plan { IsPlan plan }
+    ensures run { AuditRun plan result
+        (audit_scene (K.written output.old) (P.engines spawner.old))
+        (audit_scene (K.written output.new) (P.engines spawner.new)) }
+    ensures program { StartsAudited words.now result (P.engines spawner.old)
+        (P.engines spawner.new) }
+    ensures ends { EndsAudit result (K.write_faults output.old) (K.write_faults output.new)
+        (P.engines spawner.old) (P.engines spawner.new) }
+{
+    let Ok(program) = audited_of(alloc, words) else {
+        return Status::Memory;
+    };
+    audit_engine::<P, K, G>(alloc, program.as_slice(), plan, output, spawner)
+}
+
 /// Does what the words ask for.
 fn perform<R: Threads + Sync, S: Source, K: Sink, C: Clock, P: Spawner, G: Game + Send + Drop>(
     rt: &R,
@@ -239,13 +270,30 @@ fn perform<R: Threads + Sync, S: Source, K: Sink, C: Clock, P: Spawner, G: Game 
             status: cupped::<R, K, P, G>(rt, alloc, words, setup, output, spawner),
             timed,
         },
+        Asked::Audit {
+            games,
+            seed,
+            plies,
+            game_type,
+        } => {
+            let plan = Plan {
+                games,
+                seed,
+                plies,
+                game_type,
+            };
+            Outcome {
+                status: audited::<K, P, G>(alloc, words, plan, output, spawner),
+                timed,
+            }
+        }
         other => {
             perform_alone::<R, S, K, C, G>(rt, alloc, words, other, input, output, clock, timed)
         }
     }
 }
 
-/// Does what is asked for, if it is neither a match nor a cup.
+/// Does what is asked for, if it is no match, cup or audit.
 fn perform_alone<R: Threads + Sync, S: Source, K: Sink, C: Clock, G: Game + Send + Drop>(
     rt: &R,
     alloc: Global,
@@ -280,7 +328,7 @@ fn perform_alone<R: Threads + Sync, S: Source, K: Sink, C: Clock, G: Game + Send
         Asked::Verify => verify::<S, K, G>(alloc, input, output),
         Asked::Book => book::<S, K, G>(alloc, input, output),
         Asked::Migrate => migrate::<S, K, G>(alloc, input, output),
-        Asked::Match(_) | Asked::Cup(_) => unreachable!(),
+        Asked::Match(_) | Asked::Cup(_) | Asked::Audit { .. } => unreachable!(),
     };
     Outcome { status, timed }
 }

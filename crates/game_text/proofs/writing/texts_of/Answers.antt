@@ -1,4 +1,4 @@
-use Rattle.std.proofs.Common.{rules, ◌≡◌, ◌+◌, ◌<◌, length, ◌∷◌, ◌++◌, ◌∙◌, [], sym, refl, subst}
+use Rattle.std.proofs.Common.{arith, rules, ◌≡◌, ◌+◌, ◌<◌, length, ◌∷◌, ◌++◌, ◌∙◌, [], sym, refl, subst}
 use Rattle.hive_model.specs.Boards.{IsBoard}
 use Rattle.hive_model.specs.Denotes.{text}
 use Rattle.hive_model.specs.Courses.{position}
@@ -22,8 +22,10 @@ play-requires-clause-legal g c =
 pub loop-i-preserved : goal.loop-i-preserved
 loop-i-preserved g c =
     let board : g.G.Board.stacks c.loop-i.copy ≡ (position (g.G.Game.course c.loop-i.copy)).board = search rules in
-    let less : c.loop-i.i < length (g.G.Game.course c.args.game.now).made = search rules in
-    let pushed : c.push.new.self ≡ c.loop-i.texts ++ text (g.G.Board.stacks c.loop-i.copy) c.again.result ∷ [] = search rules in
+    let made = c.plies-plies.ensures.plies in
+    let more = c.loop-i-test.true in
+    let less : c.loop-i.i < length (g.G.Game.course c.args.game.now).made = omega (arith, made, more) in
+    let pushed : c.push.new.self ≡ c.loop-i.texts ++ text (g.G.Board.stacks c.loop-i.copy) c.again.result ∷ [] = c.in_ok-push.ensures.pushed in
     let more : c.push.new.self ≡ c.loop-i.texts ++ text (position (g.G.Game.course c.loop-i.copy)).board c.move_at-m.result ∷ [] = pushed ∙ (λ j. c.loop-i.texts ++ text (board j) (c.again.ensures j) ∷ []) in
     copy_on (g.G.Game.course c.args.game.now) (g.G.Game.course c.loop-i.copy) (g.G.Game.course c.play.new.self) c.loop-i.i (c.loop-i.i + 1) c.loop-i.texts c.push.new.self c.move_at-m.result c.loop-i.invariant c.move_at-m.ensures
     less c.play.ensures.moved refl more

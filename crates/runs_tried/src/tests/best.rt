@@ -1,7 +1,7 @@
 //! Best moves of worked games.
 
-use crate::Status;
 use crate::tests::{GREETING, Setting, expect_run, expect_session, joined, outcome_of};
+use hive_cli::Status;
 use hive_model::Timed;
 use io_edge::{MemSink, MemSource};
 use std::alloc::{AllocError, Global};

@@ -1,8 +1,7 @@
 //! Reads and writes that fail in the midst of a session.
 
-use crate::Status;
-use crate::service::Stop;
 use crate::tests::{GREETING, Setting, expect_run, expect_session, joined};
+use hive_cli::Status;
 use std::alloc::{AllocError, Global};
 use std::test::Fail;
 
@@ -186,20 +185,6 @@ fn a_read_fails_after_a_line(rt: HostRuntime) -> Result<(), Fail> {
         written.as_slice(),
     )?;
     Ok(())
-}
-
-#[test]
-fn each_stop_has_its_status(rt: HostRuntime) {
-    for (stop, status) in [
-        (Stop::ReadFailed, Status::ReadFault),
-        (Stop::WriteFailed, Status::WriteFault),
-        (Stop::NoMemory, Status::Memory),
-        (Stop::Full, Status::InputFull),
-    ] {
-        for refused in [false, true] {
-            assert_eq!(rt; stop.status(refused), status, "{stop:?}");
-        }
-    }
 }
 
 #[test]

@@ -1,7 +1,7 @@
 //! Worked games, each with all that is written for it.
 
-use crate::Status;
 use crate::tests::{Setting, expect_session, run_in_memory};
+use hive_cli::Status;
 use std::test::Fail;
 
 const EMPTY: &str = "Base;NotStarted;White[1]\nok\n";

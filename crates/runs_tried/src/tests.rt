@@ -1,4 +1,4 @@
-//! Sessions over sources and sinks in memory.
+//! Runs over sources and sinks in memory.
 
 mod best;
 mod commands;
@@ -14,7 +14,7 @@ mod replayed;
 mod turns;
 mod worked;
 
-use crate::{Outcome, Status, run};
+use hive_cli::{Outcome, Status, run};
 use io_edge::{MemSink, MemSource, MemSpawner, Sink, Source, StepClock};
 use std::alloc::{AllocError, Global};
 use std::process::Abort;

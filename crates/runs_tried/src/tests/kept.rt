@@ -1,8 +1,8 @@
 //! Lines that are refused leave no trace: what is asked after them is answered as in a session that
 //! never got them.
 
-use crate::Status;
 use crate::tests::{GREETING, Setting, expect_run, joined, run_in_memory};
+use hive_cli::Status;
 use std::alloc::{AllocError, Global};
 use std::process::Abort;
 use std::test::Fail;

@@ -1,7 +1,7 @@
 //! Each command by its words, once.
 
-use crate::Status;
 use crate::tests::{Setting, expect_run};
+use hive_cli::Status;
 use std::test::Fail;
 
 /// A certificate of the opening's best move, two plies deep.
@@ -75,6 +75,13 @@ fn each_command_answers(rt: HostRuntime) -> Result<(), Fail> {
             "",
         ),
         (["match", "--white", "a"].as_slice(), "", Status::Usage, ""),
+        (
+            ["audit", "--engine", "a", "--games", "1", "--seed", "0"].as_slice(),
+            "",
+            Status::SpawnFault,
+            "",
+        ),
+        (["audit", "--engine", "a"].as_slice(), "", Status::Usage, ""),
         (["migrate"].as_slice(), CERTIFICATE, Status::Done, CITING),
         (["check"].as_slice(), CITING, Status::Done, "accepted\n"),
         (

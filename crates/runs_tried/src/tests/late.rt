@@ -1,17 +1,12 @@
 //! Matches with a time, by the words that ask for them and the readings of a clock.
 
-use crate::tests::programs::link_of;
-use crate::{Status, run};
-use io_edge::{MemClock, MemSink, MemSource, MemSpawner};
+use crate::tests::programs::{run_over, sent};
+use hive_cli::Status;
+use io_edge::MemClock;
 use std::alloc::{AllocError, Global};
 use std::process::Abort;
 use std::test::Fail;
 use std::thread::Threads;
-
-/// A match of two programs that are asked with a second and a margin of 50 milliseconds.
-const WORDS: [&str; 9] = [
-    "match", "--white", "a", "--black", "b", "--time", "00:00:01", "--margin", "50",
-];
 
 /// White greets, begins, plays `wS1`, and hears of it and of black's move.
 const WHITE: &[u8] = b"id A\nok\nok\nwS1\nok\nok\nok\nwQ /wS1\nok\nok\n";
@@ -68,46 +63,23 @@ const CASES: [Case<'static>; 5] = [
     },
 ];
 
-/// What was sent to the closed link of this number, where there is one.
-fn sent(spawner: &MemSpawner, number: usize) -> &[u8] {
-    match spawner.closed().get(number) {
-        Some(link) => link.sent(),
-        None => b"none was closed".as_slice(),
-    }
-}
-
-/// Plays the match of a case, and compares all that comes of it.
+/// Plays the match of a case, in which both are asked with a second and a margin of 50
+/// milliseconds, and compares all that comes of it.
 fn expect_case<R: Threads + Sync + Abort>(
     rt: &R,
     alloc: Global,
     case: &Case<'_>,
 ) -> Result<(), AllocError> {
-    let mut words = Vec::new(alloc);
-    for word in WORDS {
-        words.push(String::from_str(alloc, word)?)?;
-    }
-    words.push(String::from_str(alloc, "--plies")?)?;
-    words.push(String::from_str(alloc, case.plies)?)?;
-    let mut links = Vec::new(alloc);
-    links.push(link_of(alloc, WHITE)?)?;
-    links.push(link_of(alloc, BLACK)?)?;
-    let mut input = MemSource::new(Vec::new(alloc), Vec::new(alloc), Vec::new(alloc));
-    let mut output = MemSink::new(alloc, Vec::new(alloc), Vec::new(alloc));
+    let words = [
+        "match", "--white", "a", "--black", "b", "--time", "00:00:01", "--margin", "50", "--plies",
+        case.plies,
+    ];
     let mut clock = MemClock::new(Vec::from_slice(alloc, case.readings)?);
-    let mut spawner = MemSpawner::new(alloc, links, Vec::new(alloc));
-    let outcome = run(
-        rt,
-        alloc,
-        words.as_slice(),
-        &mut input,
-        &mut output,
-        &mut clock,
-        &mut spawner,
-    );
-    assert_eq!(rt; outcome.status, Status::Done);
-    assert_eq!(rt; output.bytes(), case.written);
-    assert_eq!(rt; sent(&spawner, 0), case.to_white);
-    assert_eq!(rt; sent(&spawner, 1), case.to_black);
+    let played = run_over(rt, alloc, &words, &[WHITE, BLACK], 0, &mut clock)?;
+    assert_eq!(rt; played.status, Status::Done);
+    assert_eq!(rt; played.output.bytes(), case.written);
+    assert_eq!(rt; sent(&played, 0), case.to_white);
+    assert_eq!(rt; sent(&played, 1), case.to_black);
     Ok(())
 }
 

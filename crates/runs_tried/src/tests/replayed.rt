@@ -1,7 +1,7 @@
 //! Replays of a few lines.
 
-use crate::Status;
 use crate::tests::{Setting, expect_run};
+use hive_cli::Status;
 use std::test::Fail;
 
 /// A finished game, and a line that declares another state than that of its game.

@@ -1,7 +1,7 @@
 //! Counts of lists of legal moves, input that is no game to count, and words that ask for no count.
 
-use crate::Status;
 use crate::tests::{Setting, expect_run, joined};
+use hive_cli::Status;
 use std::alloc::{AllocError, Global};
 use std::process::Abort;
 use std::test::Fail;

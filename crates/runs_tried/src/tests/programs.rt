@@ -1,14 +1,13 @@
 //! Matches and cups by the words that ask for them, over programs that stand in memory.
 
-use crate::tests::Seen;
-use crate::{Status, run};
-use io_edge::{MemLink, MemSink, MemSource, MemSpawner, StepClock};
+use hive_cli::{Status, run};
+use io_edge::{Clock, MemLink, MemSink, MemSource, MemSpawner, StepClock};
 use std::alloc::{AllocError, Global};
 use std::test::Fail;
 use std::thread::Threads;
 
 /// A link that will say this.
-pub(crate) fn link_of(alloc: Global, text: &[u8]) -> Result<MemLink, AllocError> {
+fn link_of(alloc: Global, text: &[u8]) -> Result<MemLink, AllocError> {
     let source = MemSource::new(
         Vec::from_slice(alloc, text)?,
         Vec::new(alloc),
@@ -20,15 +19,32 @@ pub(crate) fn link_of(alloc: Global, text: &[u8]) -> Result<MemLink, AllocError>
     ))
 }
 
-/// Runs these words over programs that say this, in the order of their starts; the start of this
-/// number fails (0: none fails).
-fn run_over<R: Threads + Sync>(
+/// How a run over programs ended, what it wrote, and the starter with the closed links.
+#[derive(Drop)]
+pub(crate) struct Played {
+    pub(crate) status: Status,
+    pub(crate) output: MemSink,
+    spawner: MemSpawner,
+}
+
+/// What was sent to the closed link of this number, where there is one.
+pub(crate) fn sent(played: &Played, number: usize) -> &[u8] {
+    match played.spawner.closed().get(number) {
+        Some(link) => link.sent(),
+        None => b"none was closed".as_slice(),
+    }
+}
+
+/// Runs these words by this clock over programs that say this, in the order of their starts; the
+/// start of this number fails (0: none fails).
+pub(crate) fn run_over<R: Threads + Sync, C: Clock>(
     rt: &R,
     alloc: Global,
     words: &[&str],
     said: &[&[u8]],
     failing_start: u64,
-) -> Result<Seen, AllocError> {
+    clock: &mut C,
+) -> Result<Played, AllocError> {
     let mut owned = Vec::new(alloc);
     for word in words {
         owned.push(String::from_str(alloc, word)?)?;
@@ -39,7 +55,6 @@ fn run_over<R: Threads + Sync>(
     }
     let mut input = MemSource::new(Vec::new(alloc), Vec::new(alloc), Vec::new(alloc));
     let mut output = MemSink::new(alloc, Vec::new(alloc), Vec::new(alloc));
-    let mut clock = StepClock::new(0, 1);
     let mut spawner = MemSpawner::new(alloc, links, Vec::from_slice(alloc, &[failing_start])?);
     let outcome = run(
         rt,
@@ -47,12 +62,13 @@ fn run_over<R: Threads + Sync>(
         owned.as_slice(),
         &mut input,
         &mut output,
-        &mut clock,
+        clock,
         &mut spawner,
     );
-    Ok(Seen {
+    Ok(Played {
         status: outcome.status,
-        written: Vec::from_slice(alloc, output.bytes())?,
+        output,
+        spawner,
     })
 }
 
@@ -90,9 +106,10 @@ fn a_cup_is_asked_for_by_its_words(rt: HostRuntime) -> Result<(), Fail> {
             nothing,
         ),
     ] {
-        let seen = run_over(&rt, rt.alloc(), words, &SAID, failing_start)?;
-        assert_eq!(rt; seen.status, status);
-        assert_eq!(rt; seen.written.as_slice(), written);
+        let mut clock = StepClock::new(0, 1);
+        let played = run_over(&rt, rt.alloc(), words, &SAID, failing_start, &mut clock)?;
+        assert_eq!(rt; played.status, status);
+        assert_eq!(rt; played.output.bytes(), written);
     }
     Ok(())
 }
@@ -133,9 +150,54 @@ fn a_match_knows_the_rule_that_its_words_ask_for(rt: HostRuntime) -> Result<(), 
     let limited = ["match", "--white", "a", "--black", "b", "--plies", "12"].as_slice();
     for (words, written) in [(drawn, DRAWN), (limited, LIMITED)] {
         let said = [white.as_slice(), black.as_slice()];
-        let seen = run_over(&rt, rt.alloc(), words, &said, 0)?;
-        assert_eq!(rt; seen.status, Status::Done);
-        assert_eq!(rt; seen.written.as_slice(), written);
+        let mut clock = StepClock::new(0, 1);
+        let played = run_over(&rt, rt.alloc(), words, &said, 0, &mut clock)?;
+        assert_eq!(rt; played.status, Status::Done);
+        assert_eq!(rt; played.output.bytes(), written);
+    }
+    Ok(())
+}
+
+/// What white says that plays `wS1` and hears of it, and black that answers with a move that is not
+/// legal.
+const ILL_PLAYED: [&[u8]; 2] = [
+    b"id A\nok\nx\nok\nwS1\nok\nx\nok\n",
+    b"id B\nok\nx\nok\nx\nok\nbQ -wS1\nok\n",
+];
+
+#[test]
+fn a_match_is_asked_for_by_its_words(rt: HostRuntime) -> Result<(), Fail> {
+    let words = ["match", "--white", "w", "--black", "b", "--depth", "1"];
+    for (failing_start, status, written, to_white, to_black) in [
+        (
+            0,
+            Status::Done,
+            "Base;InProgress;Black[1];wS1\nforfeit black illegal bQ -wS1\n",
+            "newgame Base\nbestmove depth 1\nplay wS1\n",
+            "newgame Base\nplay wS1\nbestmove depth 1\n",
+        ),
+        (
+            1,
+            Status::SpawnFault,
+            "",
+            "none was closed",
+            "none was closed",
+        ),
+        (2, Status::SpawnFault, "", "", "none was closed"),
+    ] {
+        let mut clock = StepClock::new(0, 1);
+        let played = run_over(
+            &rt,
+            rt.alloc(),
+            &words,
+            &ILL_PLAYED,
+            failing_start,
+            &mut clock,
+        )?;
+        assert_eq!(rt; played.status, status);
+        assert_eq!(rt; played.output.bytes(), written.as_bytes());
+        assert_eq!(rt; sent(&played, 0), to_white.as_bytes());
+        assert_eq!(rt; sent(&played, 1), to_black.as_bytes());
     }
     Ok(())
 }

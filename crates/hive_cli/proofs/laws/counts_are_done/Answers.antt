@@ -1,6 +1,0 @@
-use Rattle.command_runs.proofs.GameRunLemmas.{game_run_done}
-use Rattle.hive_cli.specs.Count.{counts_of}
-use Rattle.hive_cli.proofs.laws.counts_are_done.Goals as goal
-
-pub returns : goal.returns
-returns c = λ plies. game_run_done (counts_of plies)
