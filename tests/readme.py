@@ -35,7 +35,7 @@ def commands(program, page, block):
     """Each command of a block, with what it writes up to the next one."""
     for part in re.split(r"^\$ ", "\n".join(block), flags=re.MULTILINE)[1:]:
         command, _, shown = part.partition("\n")
-        run = subprocess.run(["bash", "-c", command.replace("./hive", program)], stdout=subprocess.PIPE, stderr=subprocess.DEVNULL, text=True, timeout=120)
+        run = subprocess.run(["bash", "-c", command.replace("./hive", program)], cwd=TOP, stdout=subprocess.PIPE, stderr=subprocess.DEVNULL, text=True, timeout=120)
         expect(f"{page.name}: {command}", run.stdout.replace(program, "./hive").rstrip("\n"), shown.rstrip("\n"))
 
 
