@@ -5,7 +5,7 @@ use Rattle.std.proofs.lemmas.Bool.{cases_eq}
 use Rattle.std.proofs.lemmas.Option.{none-some, same_Some}
 use Rattle.std.proofs.Math.ListN.{length-set}
 use Rattle.hive_model.specs.declared.places.Place.{Place}
-use Rattle.hive_model.specs.Places.{IsWithin, is_place, origin}
+use Rattle.hive_model.specs.Places.{IsWithin, origin}
 use Rattle.hive_model.specs.Boards.{Stacks, stack_at, height_at, is_occupied, spot_of, put, lift, StandsAt, IsBoard}
 use Rattle.hive_model.proofs.PlaceLemmas.{cases_place, is_other_place}
 use Rattle.hive_model.proofs.GetLemmas.{get-set_same, get-set_other}
@@ -54,7 +54,7 @@ risen b p = record { place = p; height = height_at b p + 1 }
 abbrev sunk : Place → ℕ → Tower
 sunk p level = record { place = p; height = level }
 
-height_apart : (b : Stacks) (x : ℕ) (p q : Place) → q ≢ p → height_at (put b x p) q ≡ height_at b q
+pub height_apart : (b : Stacks) (x : ℕ) (p q : Place) → q ≢ p → height_at (put b x p) q ≡ height_at b q
 height_apart b x p q other = ap length (stack_at-put b x p q ∙ ap (λ t. cond t (stack_at b p ++ x ∷ []) (stack_at b q)) (is_other_place q p other))
 
 module _ (n : ℕ) (some : 0 < n) (b : Stacks) (is : IsBoard b) (x : ℕ) (p : Place) (small : x < 28) (inside : IsWithin 9000 p) (absent : spot_of b x ≡ None) (near : IsNearAll n b p) where

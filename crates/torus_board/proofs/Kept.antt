@@ -1,21 +1,26 @@
 -- What `put` and `lift` leave, in the terms of the code's reads and writes.
-use Rattle.std.proofs.Common.{◌≡◌, ℕ, suc, zero, inl, inr, ◌*◌, ◌+◌, ◌≤◌, ◌<◌, ◌∙◌, refl, ap, sym, false, true, cond, None, Some, Option, List, [], ◌∷◌, length, subst, slice_set, Bool, arith}
+use Rattle.std.proofs.Common.{◌≡◌, ◌≢◌, ℕ, suc, zero, inl, inr, ◌*◌, ◌+◌, ◌≤◌, ◌<◌, ◌∙◌, refl, ap, sym, false, true, cond, None, Some, Option, List, [], ◌∷◌, length, subst, slice_set, Bool, arith}
 use Rattle.std.specs.List.{list_all}
-use Rattle.std.specs.Prelude.{replicate, is_none, slice_get, is_some, unwrap_or, IsNone, IsTrue}
+use Rattle.std.specs.Prelude.{replicate, nat_eq, nat_lt, is_none, slice_get, is_some, unwrap_or, IsNone, IsTrue}
+use Rattle.std.proofs.lemmas.Bool.{lt-ltb}
 use Rattle.std.proofs.lemmas.Option.{none-some, same_Some}
 use Rattle.hive_model.specs.declared.places.Place.{Place}
 use Rattle.hive_model.specs.declared.places.Spot.{Spot}
-use Rattle.hive_model.specs.Boards.{Stacks, spot_of, is_on_top, is_top_spot, top_at, height_at, under_of, put, lift}
+use Rattle.hive_model.specs.Boards.{Stacks, spot_of, is_on_top, is_top_spot, top_at, height_at, is_occupied, under_of, put, lift}
 use Rattle.hive_model.specs.Spots.{Spots, IsSpots, HasSpot, board_of, height_by, spots_put, is_at}
 use Rattle.hive_model.proofs.SpotLemmas.{is_board, board_has, height_is, spots_put_is, board_of-put, spots_lift_is, board_of-lift, absent_is, on_top_is, spot_is, no_spots}
 use Rattle.hive_model.proofs.GetLemmas.{get_exists}
+use Rattle.hive_model.proofs.LiftLemmas as lifts
+use Rattle.hive_model.proofs.PlaceLemmas.{is_other_place}
 use Rattle.hive_model.specs.Spread.{IsNearAll, IsSpread}
 use Rattle.hive_model.specs.Places.{IsWithin, origin}
+use Rattle.torus_board.specs.declared.rings.Ring.{Ring}
 use Rattle.torus_board.specs.declared.towers.Tower.{Tower}
-use Rattle.torus_board.specs.Grid.{IsSide, IsGrid, IsHigh, IsLinked}
-use Rattle.torus_board.proofs.Heights.{high_put, high_lift, empty_high}
+use Rattle.torus_board.specs.Grid.{IsSide, IsGrid, IsHigh, IsLinked, IsRinged}
+use Rattle.torus_board.proofs.RingLaws.{empty_ringed}
+use Rattle.torus_board.proofs.Heights.{high_put, high_lift, empty_high, height_apart}
 use Rattle.residues.specs.Residues.{cell_of}
-use Rattle.torus_board.proofs.Cells.{grid_put, linked_put, spread_put, grid_lift, linked_lift, spread_lift, empty_grid, empty_spread}
+use Rattle.torus_board.proofs.Cells.{put_height, grid_put, linked_put, spread_put, grid_lift, linked_lift, spread_lift, empty_grid, empty_spread}
 
 -- a height is no more than the number of the pieces
 pub height_low : (s : Spots) (p : Place) → height_by s p ≤ length s
@@ -34,9 +39,22 @@ opened : (o : Option (Option Spot)) (t : Spot) → unwrap_or o None ≡ Some t �
 opened None t h = absurd (none-some _ h)
 opened (Some u) t h = ap Some h
 
--- the whole invariant of a grid
+some_height : (k : ℕ) → 0 < k → nat_lt 0 k ≡ true
+some_height k h = lt-ltb 0 k h
+
+-- the invariant of a grid, but for its rings
 abbrev pub Kept : ℕ → Spots → List (Option ℕ) → List (Option ℕ) → List Tower → Type 0
 Kept n s below cells towers = (32 ≤ n) × (n ≤ 128) × IsSpots s × IsLinked (board_of s) below × IsGrid n (board_of s) cells × IsSpread n (board_of s) × IsHigh n (board_of s) towers
+
+-- with its rings
+abbrev pub Whole : ℕ → Spots → List (Option ℕ) → List (Option ℕ) → List Tower → List Ring → Type 0
+Whole n s below cells towers rings = (32 ≤ n) × (n ≤ 128) × IsSpots s × IsLinked (board_of s) below × IsGrid n (board_of s) cells × IsSpread n (board_of s) × IsHigh n (board_of s) towers × IsRinged n (board_of s) rings
+
+pub but_rings : {n : ℕ} {s : Spots} {below cells : List (Option ℕ)} {towers : List Tower} {rings : List Ring} → Whole n s below cells towers rings → Kept n s below cells towers
+but_rings w = (w.0, w.1, w.2, w.3, w.4, w.5, w.6)
+
+pub and_rings : {n : ℕ} {s : Spots} {below cells : List (Option ℕ)} {towers : List Tower} {rings : List Ring} → Kept n s below cells towers → IsRinged n (board_of s) rings → Whole n s below cells towers rings
+and_rings k r = (k.0, k.1, k.2, k.3, k.4, k.5, k.6, r)
 
 module _ (n : ℕ) (s : Spots) (below cells : List (Option ℕ)) (towers : List Tower) (is : Kept n s below cells towers) (b : Stacks) (view : board_of s ≡ b) (x : ℕ) (small : x < 28) where
   some : 0 < n
@@ -78,6 +96,19 @@ module _ (n : ℕ) (s : Spots) (below cells : List (Option ℕ)) (towers : List 
                 (high_put n some (board_of s) (is_board s is.2) x p small within off close towers is.6))),
           )
 
+      -- all other places are as occupied as before
+      pub put_others : (q : Place) → q ≢ p → is_occupied (board_of (slice_set s j (Some (record { place = p; level = h })))) q ≡ is_occupied (board_of s) q
+      put_others q other = ap (λ c. is_occupied c q) (ap board_of written ∙ made) ∙ ap (nat_lt 0) (height_apart (board_of s) x p q other)
+
+      -- and so is this one, where it was occupied
+      pub put_above : nat_eq h 0 ≡ false → is_occupied (board_of (slice_set s j (Some (record { place = p; level = h })))) p ≡ is_occupied (board_of s) p
+      put_above high =
+          let above : h ≢ 0 = (λ e. let wrong : true ≡ false = sym (ap (λ k. nat_eq k 0) e) ∙ high in cc) in
+          ap (λ c. is_occupied c p) (ap board_of written ∙ made)
+          ∙ ap (nat_lt 0) (put_height (board_of s) x p (is_board s is.2) small within off)
+          ∙ some_height (height_at (board_of s) p + 1) (omega arith)
+          ∙ sym (some_height (height_at (board_of s) p) (omega (arith, above, height)))
+
       pub put_made : board_of (slice_set s j (Some (record { place = p; level = h }))) ≡ put b x p
       put_made = ap board_of written ∙ made ∙ ap (λ c. put c x p) view
 
@@ -115,6 +146,20 @@ module _ (n : ℕ) (s : Spots) (below cells : List (Option ℕ)) (towers : List 
             subst (λ c. IsHigh n c (sunk k)) (sym left) (subst (λ m. IsHigh n (lift (board_of s) x) (sunk m)) (sym at_k)
                 (high_lift n some (board_of s) (is_board s is.2) is.5 x t.place t.level (board_has s is.2 x t.place t.level stands) high towers is.6)),
           )
+
+      -- all other places are as occupied as before
+      pub lift_others : (q : Place) → q ≢ t.place → is_occupied (board_of (slice_set s j None)) q ≡ is_occupied (board_of s) q
+      lift_others q other = ap (λ c. is_occupied c q) (ap (λ m. board_of (slice_set s m None)) at_j ∙ left)
+          ∙ ap (nat_lt 0) (lifts.height_there (board_of s) (is_board s is.2) x t.place t.level (board_has s is.2 x t.place t.level stands) high q (is_other_place q t.place other))
+
+      -- and so is this one, where a piece is left
+      pub lift_above : nat_eq t.level 0 ≡ false → is_occupied (board_of (slice_set s j None)) t.place ≡ is_occupied (board_of s) t.place
+      lift_above level =
+          let above : t.level ≢ 0 = (λ e. let wrong : true ≡ false = sym (ap (λ k. nat_eq k 0) e) ∙ level in cc) in
+          ap (λ c. is_occupied c t.place) (ap (λ m. board_of (slice_set s m None)) at_j ∙ left)
+          ∙ ap (nat_lt 0) (lifts.height_here (board_of s) (is_board s is.2) x t.place t.level (board_has s is.2 x t.place t.level stands) high)
+          ∙ some_height t.level (omega (arith, above))
+          ∙ sym (some_height (height_at (board_of s) t.place) (omega (arith, high)))
 
       pub lift_made : board_of (slice_set s j None) ≡ lift b x
       lift_made = ap (λ m. board_of (slice_set s m None)) at_j ∙ left ∙ ap (λ c. lift c x) view
@@ -156,8 +201,8 @@ no_links below many none = record {
     all ((Some y) ∷ ys) x o e h = let wrong : false ≡ true = e in absurd (cc)
 
 pub new_kept : (n : ℕ) → IsSide n → (s : Spots) → length s ≡ 28 → list_all is_none s ≡ true → board_of s ≡ [] → (below : List (Option ℕ)) → length below ≡ 28 → list_all is_none below ≡ true
-    → (cells : List (Option ℕ)) → cells ≡ replicate (n * n) None → (towers : List Tower) → towers ≡ replicate (n * n) (record { place = origin; height = 0 }) → Kept n s below cells towers
-new_kept n side s many none empty below long free cells clear towers flat = (
+    → (cells : List (Option ℕ)) → cells ≡ replicate (n * n) None → (towers : List Tower) → towers ≡ replicate (n * n) (record { place = origin; height = 0 }) → (rings : List Ring) → rings ≡ replicate (n * n) (record { place = origin; mask = 0 }) → Whole n s below cells towers rings
+new_kept n side s many none empty below long free cells clear towers flat rings bare = (
   (side_small n side).0,
   (side_small n side).1,
   no_spots s none many,
@@ -165,4 +210,5 @@ new_kept n side s many none empty below long free cells clear towers flat = (
   subst (λ b. IsGrid n b cells) (sym empty) (empty_grid n cells (ap length clear ∙ length-replicate (n * n)) (λ i x h. none_in (n * n) i x (ap (λ (l : List (Option ℕ)). slice_get l i) (sym clear) ∙ h))),
   subst (IsSpread n) (sym empty) (empty_spread n),
   subst (λ b. IsHigh n b towers) (sym empty) (empty_high n towers flat),
+  subst (λ b. IsRinged n b rings) (sym empty) (empty_ringed n rings bare),
 )

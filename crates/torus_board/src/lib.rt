@@ -1,6 +1,7 @@
 //! A board on a wrapped grid.
 #![tactic(auto)]
 
+mod rings;
 mod towers;
 
 ghost use Rattle.std.specs.Prelude.{
@@ -37,8 +38,9 @@ ghost use Rattle.hive_model.specs.Spread.{IsSpread, IsNearAll};
 ghost use Rattle.residues.specs.Residues.{residue, cell_of};
 ghost use Rattle.torus_board.specs.Grid.{IsSide, IsGrid, IsLinked};
 
+use crate::rings::{Ring, mask_in, renew_round};
 use crate::towers::{Tower, height_in};
-use hive_model::{Board, Dir, GameBoard, Piece, Place, Spot};
+use hive_model::{Board, GameBoard, Piece, Place, Spot};
 use std::alloc::{AllocError, Global};
 use std::marker::Model;
 
@@ -46,6 +48,12 @@ use std::marker::Model;
 const NO_TOWER: Tower = Tower {
     place: Place { q: 0, r: 0 },
     height: 0,
+};
+
+/// The ring of a cell that was not written yet.
+const NO_RING: Ring = Ring {
+    place: Place { q: 0, r: 0 },
+    mask: 0,
 };
 
 /// A coordinate's residue.
@@ -142,14 +150,16 @@ fn top_in(
 
 /// A board of at most 28 pieces, seen as the finite map from places to the pieces there. It keeps
 /// where each piece stands and what is directly below it, and in grids of SIDE times SIDE cells the
-/// top piece of each place and its height, found by the residues of the place's coordinates. So
-/// every look-up is one read or two, and a place with the residues of another reads as empty.
+/// top piece of each place, its height and which of its neighbours are occupied, found by the
+/// residues of the place's coordinates. So every look-up is one read or two, and a place with the
+/// residues of another reads as empty.
 #[derive(Drop)]
 pub struct Torus<const SIDE: usize> {
     spots: [Option<Spot>; 28],
     below: [Option<Piece>; 28],
     cells: Vec<Option<Piece>>,
     towers: Vec<Tower>,
+    rings: Vec<Ring>,
 }
 
 impl<const SIDE: usize> Model for Torus<SIDE> {
@@ -157,7 +167,7 @@ impl<const SIDE: usize> Model for Torus<SIDE> {
     ghost use Rattle.hive_model.specs.Boards.{Stacks};
     ghost use Rattle.hive_model.specs.Spots.{board_of, IsSpots};
     ghost use Rattle.hive_model.specs.Spread.{IsSpread};
-    ghost use Rattle.torus_board.specs.Grid.{IsGrid, IsHigh, IsLinked};
+    ghost use Rattle.torus_board.specs.Grid.{IsGrid, IsHigh, IsLinked, IsRinged};
 
     ghost Value = { Stacks };
 
@@ -167,7 +177,8 @@ impl<const SIDE: usize> Model for Torus<SIDE> {
         × IsLinked (board_of a.spots) a.below
         × IsGrid SIDE (board_of a.spots) a.cells.items
         × IsSpread SIDE (board_of a.spots)
-        × IsHigh SIDE (board_of a.spots) a.towers.items };
+        × IsHigh SIDE (board_of a.spots) a.towers.items
+        × IsRinged SIDE (board_of a.spots) a.rings.items };
 }
 
 impl<const SIDE: usize> Board for Torus<SIDE> {
@@ -192,12 +203,7 @@ impl<const SIDE: usize> Board for Torus<SIDE> {
     }
 
     fn neighbours(&self, place: Place) -> u8 {
-        Dir::E.bit_if(self.height(place.step(Dir::E)) > 0)
-            + Dir::NE.bit_if(self.height(place.step(Dir::NE)) > 0)
-            + Dir::NW.bit_if(self.height(place.step(Dir::NW)) > 0)
-            + Dir::W.bit_if(self.height(place.step(Dir::W)) > 0)
-            + Dir::SW.bit_if(self.height(place.step(Dir::SW)) > 0)
-            + Dir::SE.bit_if(self.height(place.step(Dir::SE)) > 0)
+        mask_in(&self.rings, &self.towers, SIDE, place)
     }
 }
 
@@ -226,6 +232,7 @@ impl<const SIDE: usize> Torus<SIDE> {
             below: [None; 28],
             cells: vec![in alloc; None; SIDE * SIDE]?,
             towers: vec![in alloc; NO_TOWER; SIDE * SIDE]?,
+            rings: vec![in alloc; NO_RING; SIDE * SIDE]?,
         })
     }
 
@@ -247,6 +254,7 @@ impl<const SIDE: usize> Torus<SIDE> {
         };
         self.below[piece.index() as usize] = top;
         self.spots[piece.index() as usize] = Some(Spot { place, level });
+        renew_round(&mut self.rings, &self.towers, SIDE, place, level == 0);
     }
 
     /// Takes away a piece that is on top of its place, and answers that place.
@@ -267,6 +275,8 @@ impl<const SIDE: usize> Torus<SIDE> {
                 };
                 self.below[piece.index() as usize] = None;
                 self.spots[piece.index() as usize] = None;
+                let is_ground = spot.level == 0;
+                renew_round(&mut self.rings, &self.towers, SIDE, place, is_ground);
                 place
             }
             None => unreachable!(),
