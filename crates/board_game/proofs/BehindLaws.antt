@@ -33,17 +33,16 @@ turn_is t made m n side turn rest is_n is_side is_turn is_rest =
     position_is t (after_board p.board m) (made ++ m ∷ []) side turn rest (board_then p m ∙ ap (λ (q : Position). q.board) (sym more)) (is_side ∙ ap side_after long) (is_turn ∙ ap (λ (k : ℕ). k / 2 + 1) long)
     (is_rest ∙ rest_then p m ∙ ap (λ (q : Position). q.rest) (sym more)) ∙ more
 
-bound_is : (v w b : ℤ) (n : ℕ) → v ≤ℤ (w +ℤ pos n) → b ≡ (pos n -ℤ v) → neg_ℤ w ≤ℤ b
-bound_is v w b n low is = omega (arith, ints, low, is)
+bound_is : (u v w b : ℤ) (n : ℕ) → u ≤ℤ v → v ≤ℤ (w +ℤ pos n) → b ≡ (pos n -ℤ u) → neg_ℤ w ≤ℤ b
+bound_is u v w b n least low is = omega (arith, ints, least, low, is)
 
 -- what the other side loses at most is a bound of what the move gains
-pub most_is : (t : GameType) (made : List Move) (m : Move) (b : Stacks) (turn : Turn) (worth most : ℤ) → b ≡ (replay (opening t) made).board
+pub most_is : (t : GameType) (made : List Move) (m : Move) (b : Stacks) (turn : Turn) (least most : ℤ) → b ≡ (replay (opening t) made).board
     → position_of (after_board (replay (opening t) made).board m) turn ≡ after (replay (opening t) made) m
     → value (position_of (after_board b m) turn) 0 ≤ℤ (value (position_of (after_board b m) turn) 1 +ℤ pos (rest_weight turn.rest))
-    → worth ≡ value (after (replay (opening t) made) m) 0 → most ≡ (pos (rest_weight turn.rest) -ℤ worth)
+    → least ≤ℤ value (after (replay (opening t) made) m) 0 → most ≡ (pos (rest_weight turn.rest) -ℤ least)
     → reply_value (replay (opening t) made) 1 m ≤ℤ most
-most_is t made m b turn worth most board behind low is_worth is_most =
+most_is t made m b turn least most board behind low is_least is_most =
     let at : position_of (after_board b m) turn ≡ after (replay (opening t) made) m = ap (λ (c : Stacks). position_of (after_board c m) turn) board ∙ behind in
     let less = subst (λ (p : Position). value p 0 ≤ℤ (value p 1 +ℤ pos (rest_weight turn.rest))) at low in
-    let told = subst (λ (v : ℤ). v ≤ℤ (value (after (replay (opening t) made) m) 1 +ℤ pos (rest_weight turn.rest))) (sym is_worth) less in
-    bound_is worth (value (after (replay (opening t) made) m) 1) most (rest_weight turn.rest) told is_most
+    bound_is least (value (after (replay (opening t) made) m) 0) (value (after (replay (opening t) made) m) 1) most (rest_weight turn.rest) is_least less is_most

@@ -4,11 +4,12 @@ ghost use Rattle.std.specs.Prelude.{◌≡◌, refl};
 ghost use Rattle.hive_model.specs.Courses.{position};
 
 use crate::before::Before;
+use crate::in_hand::{Placements, is_plain_in_hand, note, noted};
 use crate::judging::{key_after, worth_after};
 use crate::listing::{count_after, is_legal_after, list_moves, state_of};
 use crate::making::{make, unmake};
 use crate::refuting::{reply_behind, turn_behind};
-use crate::telling::{ask, whole_of};
+use crate::telling::{ask, ask_least, whole_of};
 use crate::turns::{side_after, turn_after};
 use cut_keeper::CutKeeper;
 use hive_model::{
@@ -22,8 +23,8 @@ use std::marker::Model;
 /// A game on a board. To take a move back it keeps where the piece of each ply came from, and what
 /// it knew before it; the piece that rests is that of the last move. The keeper of the cut places
 /// stands for the board between any two calls, so that a question asks no walk. It has what was
-/// found of the board, and of the board without the piece that was asked for last, and of the quiet
-/// places the one that was found last.
+/// found of the board, and of the board without the piece that was asked for last, what was told of
+/// placements, and of the quiet places the one that was found last.
 #[derive(Drop)]
 pub struct BoardGame<B: GameBoard> {
     game_type: GameType,
@@ -34,6 +35,7 @@ pub struct BoardGame<B: GameBoard> {
     before: Vec<Before>,
     whole: Option<Base>,
     asked: Option<(Piece, Base)>,
+    placements: Placements,
     quiet: Option<Place>,
     spare: u32,
     count: u64,
@@ -46,6 +48,7 @@ impl<B: GameBoard> Model for BoardGame<B> {
     ghost use Rattle.one_hive.specs.Separating.{MarksSeparating};
     ghost use Rattle.board_game.specs.Kept.{AreKept};
     ghost use Rattle.board_game.specs.Asked.{IsAsked, IsWhole};
+    ghost use Rattle.board_game.specs.InHand.{ArePlaced};
     ghost use Rattle.hive_model.specs.Pieces.{other_side};
     ghost use Rattle.rule_laws.specs.Soundness.{side_after};
 
@@ -66,7 +69,9 @@ impl<B: GameBoard> Model for BoardGame<B> {
         × (vec_len g.before ≡ vec_len g.made)
         × (vec_len g.made + g.spare ≤ vec_capacity g.before)
         × IsAsked (B.stacks g.board) (other_side (side_after (vec_len g.made))) g.asked
-        × IsWhole (B.stacks g.board) (other_side (side_after (vec_len g.made))) g.whole };
+        × IsWhole (B.stacks g.board) (other_side (side_after (vec_len g.made))) g.whole
+        × ArePlaced (B.stacks g.board) (other_side (side_after (vec_len g.made)))
+        g.placements.items };
 }
 
 impl<B: GameBoard> Board for BoardGame<B> {
@@ -110,6 +115,7 @@ impl<B: GameBoard> Game for BoardGame<B> {
             before: Vec::new(alloc),
             whole: None,
             asked: None,
+            placements: Placements::new(),
             quiet: None,
             spare: 0,
             count: 0,
@@ -170,6 +176,7 @@ impl<B: GameBoard> Game for BoardGame<B> {
         let delta = self.keeper.delta();
         let whole = self.whole.take();
         let asked = self.asked.take();
+        self.placements.clear();
         let from = make(&mut self.board, &mut self.keeper, &m);
         let _ = self.made.push(m);
         let _ = self.from.push(from);
@@ -192,6 +199,7 @@ impl<B: GameBoard> Game for BoardGame<B> {
             self.keeper.back(before.delta);
             self.whole = before.whole;
             self.asked = before.asked;
+            self.placements.clear();
             self.spare += 1;
         }
     }
@@ -204,6 +212,12 @@ impl<B: GameBoard> Game for BoardGame<B> {
         let Move::To { piece, place } = m else {
             return None;
         };
+        let is_plain = is_plain_in_hand(&self.board, piece);
+        if is_plain {
+            if let Some(known) = noted(self.placements.as_slice(), place) {
+                return known.told;
+            }
+        }
         let side = side_after(self.made.len() as u32).other();
         let whole = whole_of(&self.board, &self.keeper, self.whole.take(), side);
         let (told, base) = ask(
@@ -217,15 +231,38 @@ impl<B: GameBoard> Game for BoardGame<B> {
         );
         self.whole = Some(whole);
         self.asked = Some((piece, base));
+        if is_plain {
+            note(&mut self.placements, place, told);
+        }
         told
+    }
+
+    fn least_after(&mut self, m: Move) -> Option<i32> {
+        let Move::To { piece, place } = m else {
+            return None;
+        };
+        let side = side_after(self.made.len() as u32).other();
+        let whole = whole_of(&self.board, &self.keeper, self.whole.take(), side);
+        let (least, base) = ask_least(
+            &self.board,
+            &self.keeper,
+            &whole,
+            self.asked.take(),
+            piece,
+            place,
+            side,
+        );
+        self.whole = Some(whole);
+        self.asked = Some((piece, base));
+        least
     }
 
     fn most_after(&mut self, m: Move) -> Option<i32> {
         let turn = turn_behind(self.game_type, &self.made, &m);
         let quiet = reply_behind(&mut self.board, &m, &turn, self.quiet)?;
         self.quiet = Some(quiet);
-        let worth = self.value_after(m)?;
-        Some(most_worth(&turn, worth))
+        let least = self.least_after(m)?;
+        most_worth(&turn, least)
     }
 
     fn key(&self) -> Key {

@@ -1,6 +1,6 @@
 //! What a move is worth, told from the board without its piece.
 
-ghost use Rattle.std.specs.Prelude.{◌≡◌, false, IfSome};
+ghost use Rattle.std.specs.Prelude.{◌≡◌, ◌≤ℤ◌, false, IfSome};
 ghost use Rattle.hive_model.specs.declared.pieces.Colour.TheVariants.{White, Black};
 ghost use Rattle.hive_model.specs.declared.places.Move.TheVariants.{To};
 ghost use Rattle.hive_model.specs.Boards.{without};
@@ -87,6 +87,29 @@ fn value_by<B: Board>(
     }
 }
 
+/// At least what that position is worth: what it is worth where that is told, else a bound where
+/// one is.
+fn least_by<B: Board>(
+    board: &B,
+    base: &Base,
+    piece: Piece,
+    place: Place,
+    side: Colour,
+) -> Option<i32>
+    requires found { IsFound (without (B.stacks board.now) piece) side base.now }
+    requires loose { CanBeTaken (B.stacks board.now) piece }
+    requires within { IsWithin 9000 place }
+    requires white { is_surrounded (B.stacks board.now) White ≡ false }
+    requires black { is_surrounded (B.stacks board.now) Black ≡ false }
+    ensures { (p : Position) → p.board ≡ B.stacks board.now → other_side p.side ≡ side → IfSome
+        result (λ v. v ≤ℤ value (after p (To piece place)) 0) }
+{
+    match board.spot(piece) {
+        Some(_) => base.least_after(&Lifted::new(board, piece), piece, place, side),
+        None => base.least_after(board, piece, place, side),
+    }
+}
+
 /// What is found of the board without the piece: what was found when this piece was asked for last,
 /// or else what is found now.
 fn known_or_found<B: Board>(
@@ -142,4 +165,33 @@ pub fn ask<B: Board>(
     let base = known_or_found(board, keeper, whole, asked, piece, side);
     let told = value_by(board, &base, piece, place, side);
     (told, base)
+}
+
+/// At least what that position is worth: what it is worth where that is told, else a bound where
+/// one is; and what was found for it.
+pub fn ask_least<B: Board>(
+    board: &B,
+    keeper: &CutKeeper,
+    whole: &Base,
+    asked: Option<(Piece, Base)>,
+    piece: Piece,
+    place: Place,
+    side: Colour,
+) -> (Option<i32>, Base)
+    requires whole { IsFound (B.stacks board.now) side whole.now }
+    requires asked { IsAsked (B.stacks board.now) side asked }
+    requires loose { CanBeTaken (B.stacks board.now) piece }
+    requires one_hive { OneHive (B.stacks board.now) }
+    requires left { OneHive (without (B.stacks board.now) piece) }
+    requires marks { MarksSeparating (B.stacks board.now) keeper.now }
+    requires within { IsWithin 9000 place }
+    requires white { is_surrounded (B.stacks board.now) White ≡ false }
+    requires black { is_surrounded (B.stacks board.now) Black ≡ false }
+    ensures found { IsFound (without (B.stacks board.now) piece) side result.1 }
+    ensures least { (p : Position) → p.board ≡ B.stacks board.now → other_side p.side ≡ side
+        → IfSome result.0 (λ v. v ≤ℤ value (after p (To piece place)) 0) }
+{
+    let base = known_or_found(board, keeper, whole, asked, piece, side);
+    let least = least_by(board, &base, piece, place, side);
+    (least, base)
 }

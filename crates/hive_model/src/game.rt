@@ -55,8 +55,8 @@ pub trait Game: Board + Sized {
         ensures empty { IfOk result (λ g. (course g).made ≡ []) }
         ensures unplayed { IfOk result (λ g. played g ≡ 0) };
 
-    /// Makes room for at least this many more plies; what room there is stays. Nothing else changes,
-    /// and nothing at all after want of memory.
+    /// Makes room for at least this many more plies; what room there is stays. Nothing else
+    /// changes, and nothing at all after want of memory.
     fn reserve(&mut self, plies: u32) -> Result<(), AllocError>
         requires { length (course self.old).made + plies ≤ 5064 }
         ensures room { OnOk result (plies ≤ (course self.new).spare) }
@@ -141,8 +141,8 @@ pub trait Game: Board + Sized {
         ensures same { course self.new ≡ course self.old }
         ensures count { played self.new ≡ played self.old };
 
-    /// What the position after a legal move is worth to its side to move with no ply left to search,
-    /// where that is told without making the move. The game is as before.
+    /// What the position after a legal move is worth to its side to move with no ply left to
+    /// search, where that is told without making the move. The game is as before.
     fn value_after(&mut self, m: Move) -> Option<i32>
         requires { IsOn (moves (position (course self.old))) m }
         ensures value { IfSome result (λ v. v
@@ -150,8 +150,17 @@ pub trait Game: Board + Sized {
         ensures same { course self.new ≡ course self.old }
         ensures count { played self.new ≡ played self.old };
 
-    /// At most what a legal move is worth to the side that makes it, with one ply of best play behind
-    /// it, where that is told without making the move. The game is as before.
+    /// At least what the position after a legal move is worth to its side to move with no ply left
+    /// to search, where a bound is told without making the move. The game is as before.
+    fn least_after(&mut self, m: Move) -> Option<i32>
+        requires { IsOn (moves (position (course self.old))) m }
+        ensures least { IfSome result (λ b. b
+            ≤ℤ value (after (position (course self.old)) m) 0) }
+        ensures same { course self.new ≡ course self.old }
+        ensures count { played self.new ≡ played self.old };
+
+    /// At most what a legal move is worth to the side that makes it, with one ply of best play
+    /// behind it, where that is told without making the move. The game is as before.
     fn most_after(&mut self, m: Move) -> Option<i32>
         requires { IsOn (moves (position (course self.old))) m }
         ensures most { IfSome result (λ b. reply_value (position (course self.old)) 1 m ≤ℤ b) }

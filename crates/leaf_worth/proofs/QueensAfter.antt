@@ -1,5 +1,5 @@
 -- The neighbours of the queens after a piece was put.
-use Rattle.std.proofs.Common.{◌≡◌, ◌≢◌, ℕ, ◌+◌, ◌<◌, Bool, true, false, cond, List, [], ◌∷◌, length, inl, inr, refl, sym, ◌∙◌, ap, arith, count_by}
+use Rattle.std.proofs.Common.{◌≡◌, ◌≢◌, ℕ, ◌+◌, ◌<◌, ◌≤◌, Bool, true, false, cond, List, [], ◌∷◌, length, inl, inr, refl, sym, ◌∙◌, ap, arith, count_by}
 use Rattle.std.specs.Prelude.{Some, None, nat_lt}
 use Rattle.std.specs.List.{list_all, filter}
 use Rattle.std.proofs.lemmas.Bool.{and_parts, and_from, false_from_ne_true}
@@ -62,6 +62,10 @@ count_all f (d ∷ ds) h = elim (f d) as (λ t. f d ≡ t → list_all f (d ∷ 
       absurd (omega (arith, h, a, none, few))
 ] refl
 
+-- as many as there are directions are all of them
+many_all : (f : Dir → Bool) (n : ℕ) → count_by f dirs ≡ n → 6 ≤ n → list_all f dirs ≡ true
+many_all f n count many = let few = count_by-le-length f dirs in count_all f dirs (omega (arith, count, many, few))
+
 few_not_all : (f : Dir → Bool) → count_by f dirs < 6 → list_all f dirs ≡ false
 few_not_all f few = false_from_ne_true _ (λ e. let all = all_count f dirs e in omega (arith, few, all))
 
@@ -95,6 +99,9 @@ module _ (b : Stacks) (is : IsBoard b) (x : ℕ) (p : Place) (low : x < 28) (ins
 
     pub own_open : n < 6 → is_surrounded (put b x p) side ≡ false
     own_open few = ap (is_surrounded_at (put b x p)) stands_there ∙ few_not_all (beside (put b x p) p) (let t = there in omega (arith, few, t))
+
+    pub own_closed : 6 ≤ n → is_surrounded (put b x p) side ≡ true
+    own_closed many = ap (is_surrounded_at (put b x p)) stands_there ∙ many_all (beside (put b x p) p) n there many
 
   module _ (other : x ≢ queen_of side) where
     stands_still : spot_of (put b x p) (queen_of side) ≡ spot_of b (queen_of side)
@@ -166,3 +173,8 @@ module _ (b : Stacks) (is : IsBoard b) (x : ℕ) (p : Place) (low : x < 28) (ins
 
         pub beside_open : (m : ℕ) → m ≡ count_by (beside b s.place) dirs → m + n < 6 → is_surrounded (put b x p) side ≡ false
         beside_open m round few = open_then (few_not_all (beside (put b x p) s.place) (let c = sum_there in omega (arith, c, round, few)))
+
+        pub beside_closed : (m : ℕ) → m ≡ count_by (beside b s.place) dirs → 6 ≤ m + n → is_surrounded (put b x p) side ≡ true
+        beside_closed m round many =
+            let c = sum_there in
+            ap (is_surrounded_at (put b x p)) (stands_still ∙ stands) ∙ many_all (beside (put b x p) s.place) (m + n) (omega (arith, c, round)) many

@@ -118,16 +118,16 @@ module _ (b : Stacks) (is : IsBoard b) (x : ℕ) (p : Place) (low : x < 28) (ins
       back : (s : Spot) → spot_of b y ≡ Some s → spot_of (put b x p) y ≡ Some s
       back s h = stands_spot_of (put b x p) is_after y s.place s.level (stands_put b x p y s.place s.level (spot_of_stands b y s h))
 
-  cut_same : (q : Place) → (IsCut (put b x p) q ↔ IsCut b q) → is_cut (put b x p) q ≡ is_cut b q
+  pub cut_same : (q : Place) → (IsCut (put b x p) q ↔ IsCut b q) → is_cut (put b x p) q ≡ is_cut b q
   cut_same q same =
       same_tests (is_cut (put b x p) q) (is_cut b q) (cut_from (put b x p) is_after q, from_cut (put b x p) is_after q)
       (λ e. same.1 (cut_from b is q e), λ h. from_cut b is q (same.0 h))
 
   -- the test of a free piece, where the piece is not the one that was put
-  free_then : (y : ℕ) → y ≢ x → is_free_piece (put b x p) (Some x) y ≡ is_uncut_top (put b x p) (spot_of b y)
+  pub free_then : (y : ℕ) → y ≢ x → is_free_piece (put b x p) (Some x) y ≡ is_uncut_top (put b x p) (spot_of b y)
   free_then y other = ap (λ t. not t && is_uncut_top (put b x p) (spot_of (put b x p) y)) (ne_eqb y x other) ∙ ap (is_uncut_top (put b x p)) (spot_same y other)
 
-  free_itself : is_free_piece (put b x p) (Some x) x ≡ is_free_piece b None x
+  pub free_itself : is_free_piece (put b x p) (Some x) x ≡ is_free_piece b None x
   free_itself = ap (λ t. not t && is_uncut_top (put b x p) (spot_of (put b x p) x)) (eq-eqb x x refl) ∙ sym (ap (is_uncut_top b) absent)
 
   free_elsewhere : (s : Spot) → s.place ≢ p → (IsCut (put b x p) s.place ↔ IsCut b s.place) → is_uncut_top (put b x p) (Some s) ≡ is_uncut_top b (Some s)
@@ -190,7 +190,7 @@ module _ (b : Stacks) (is : IsBoard b) (x : ℕ) (p : Place) (low : x < 28) (ins
 
   -- the place was empty
   module _ (empty : height_at b p ≡ 0) where
-    moved : (q : Place) → IsTrue (is_occupied b q) → q ≢ p
+    pub moved : (q : Place) → IsTrue (is_occupied b q) → q ≢ p
     moved q on same = let wrong : 0 < height_at b p = ltb-true 0 _ (ap (is_occupied b) (sym same) ∙ on) in omega (arith, wrong, empty)
 
     cut_by : (q : Place) → q ≢ p → (IsSeparating (put b x p) q ↔ IsSeparating b q) → IsCut (put b x p) q ↔ IsCut b q

@@ -1,6 +1,6 @@
 //! A board without one piece, looked at once for all places that the piece can go to.
 
-ghost use Rattle.std.specs.Prelude.{◌≡◌, false, IsNone, IsTrue, IfSome};
+ghost use Rattle.std.specs.Prelude.{◌≡◌, ◌≤ℤ◌, false, IsNone, IsTrue, IfSome};
 ghost use Rattle.hive_model.specs.declared.pieces.Colour.TheVariants.{White, Black};
 ghost use Rattle.hive_model.specs.declared.places.Move.TheVariants.{To};
 ghost use Rattle.hive_model.specs.Boards.{put, spot_of, without};
@@ -14,6 +14,7 @@ ghost use Rattle.hive_model.specs.Positions.{Position};
 ghost use Rattle.one_hive.specs.Separating.{MarksSeparating};
 ghost use Rattle.leaf_worth.specs.Bases.{IsFound};
 
+use crate::least_after::least_after_put;
 use crate::worth_after::{has_two_places, worth_after_put};
 use crate::worth_before::{worth_before_put, worth_resting};
 use cut_keeper::{CutKeeper, KeptCuts};
@@ -41,28 +42,11 @@ impl Model for Base {
 }
 
 impl Base {
-    /// What is found of the board with the keeper that stands for it, for the side that is to move
-    /// after the piece was put. Whether the board is one hive is not known.
-    pub fn of<B: Board>(board: &B, keeper: CutKeeper, side: Colour) -> Base
-        requires { MarksSeparating (B.stacks board.now) keeper }
-        ensures { IsFound (B.stacks board.now) side result }
-    {
-        Base::found(board, keeper, side, false)
-    }
-
-    /// The same of a board that is one hive.
+    /// What is found of the board, which is one hive, with the keeper that stands for it, for the
+    /// side that is to move after the piece was put.
     pub fn of_hive<B: Board>(board: &B, keeper: CutKeeper, side: Colour) -> Base
         requires marks { MarksSeparating (B.stacks board.now) keeper }
         requires one_hive { OneHive (B.stacks board.now) }
-        ensures { IsFound (B.stacks board.now) side result }
-    {
-        Base::found(board, keeper, side, true)
-    }
-
-    /// What is found of a board that is known to be one hive or not.
-    fn found<B: Board>(board: &B, keeper: CutKeeper, side: Colour, one: bool) -> Base
-        requires marks { MarksSeparating (B.stacks board.now) keeper }
-        requires one { IsTrue one → OneHive (B.stacks board.now) }
         ensures { IsFound (B.stacks board.now) side result }
     {
         let two = has_two_places(board);
@@ -71,7 +55,7 @@ impl Base {
             keeper,
             worth,
             two,
-            one,
+            one: true,
         }
     }
 
@@ -144,5 +128,30 @@ impl Base {
     {
         let known = KeptCuts::new(board, &self.keeper);
         worth_after_put(&known, self.worth, piece, place, side, self.two, self.one)
+    }
+    /// At least what a position is worth to its side to move that the piece leads to when it goes
+    /// to the place: what it is worth where that is told, and else a bound where one is. It is the
+    /// value with no ply left to search, so the game is not over there. The board is that of the
+    /// position before, without the piece, and no queen is surrounded on it.
+    pub fn least_after<B: Board>(
+        &self,
+        board: &B,
+        piece: Piece,
+        place: Place,
+        side: Colour,
+    ) -> Option<i32>
+        requires found { IsFound (B.stacks board.now) side self.now }
+        requires absent { IsNone (spot_of (B.stacks board.now) piece) }
+        requires within { IsWithin 9000 place }
+        requires white { is_surrounded (B.stacks board.now) White ≡ false }
+        requires black { is_surrounded (B.stacks board.now) Black ≡ false }
+        ensures { (p : Position) → without p.board piece ≡ B.stacks board.now → other_side p.side
+            ≡ side → IfSome result (λ v. v ≤ℤ value (after p (To piece place)) 0) }
+    {
+        let known = KeptCuts::new(board, &self.keeper);
+        match worth_after_put(&known, self.worth, piece, place, side, self.two, self.one) {
+            Some(worth) => Some(worth),
+            None => least_after_put(&known, self.worth, piece, place, side),
+        }
     }
 }

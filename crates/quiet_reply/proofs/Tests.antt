@@ -1,15 +1,12 @@
 -- What the tests of the code tell.
-use Rattle.std.proofs.Common.{◌≡◌, Bool, true, false, refl}
+use Rattle.std.proofs.Common.{◌≡◌, Bool, true, false, int_lt, refl, ap, ◌∙◌}
 use Rattle.std.specs.Prelude.{Option, Some, None, is_some, IfSome}
 use Rattle.hive_model.specs.declared.places.Place.{Place}
 use Rattle.hive_model.specs.Positions.{Position}
 use Rattle.hive_model.specs.declared.pieces.Kind.TheVariants.{Queen}
 use Rattle.hive_model.specs.Pieces.{kind_of}
-use Rattle.std.proofs.Common.{◌≢◌, ℕ, arith, ℤ, pos, ◌-ℤ◌, ◌≤ℤ◌, FitsSigned, to_z, of_z, w32}
-use Rattle.std.proofs.lemmas.Int.{ints}
-use Rattle.hive_model.specs.Minimax.{value}
-use Rattle.search_laws.specs.Laws.{IsSmall}
-use Rattle.search_laws.proofs.MinimaxLaws.{value-within}
+use Rattle.std.proofs.Common.{◌≢◌, ℕ, arith, ℤ, pos, negsuc, ◌-ℤ◌, ◌<ℤ◌, ◌≤ℤ◌, FitsSigned, to_z, of_z, w32}
+use Rattle.std.proofs.lemmas.Int.{ints, by_lt_z, to_z-of_z}
 use Rattle.hive_model.specs.declared.pieces.Colour.TheVariants.{White, Black}
 use Rattle.hive_model.specs.Legal.{state, state_from, is_over, is_over_state, is_surrounded}
 use Rattle.hand_rules.specs.Bringing.{MayBring}
@@ -38,15 +35,24 @@ reply_of p x q may no_queen quiet = record {
 abbrev difference : ℤ → ℤ → ℤ
 difference r v = to_z w32 (of_z w32 r) -ℤ to_z w32 (of_z w32 v)
 
-module _ (r v : ℤ) (n : ℕ) (p : Position) (is : r ≡ pos n) (few : r ≤ℤ pos 10) (worth : v ≡ value p 0) where
-  small : IsSmall 1000000 (value p 0)
-  small = value-within p 0
+not_less : (a b : ℤ) → int_lt a b ≡ false → b ≤ℤ a
+not_less a b same = by_lt_z a b (λ less. less_wrong a b same less) (λ most. most)
+  where
+    less_wrong : (c d : ℤ) → int_lt c d ≡ false → c <ℤ d → d ≤ℤ c
+    less_wrong c d e less = omega (arith, ints)
+
+module _ (r v : ℤ) (n : ℕ) (is : r ≡ pos n) (few : r ≤ℤ pos 10) (fits : FitsSigned w32 v) (some : int_lt (to_z w32 (of_z w32 v)) (negsuc 999999999) ≡ false) where
+  low : negsuc 999999999 ≤ℤ to_z w32 (of_z w32 v)
+  low = not_less _ _ some
 
   pub bound-fits : FitsSigned w32 (difference r v)
-  bound-fits = let low = small.low in let high = small.high in omega (arith, ints, low, high, worth, is, few)
+  bound-fits = let least = low in omega (arith, ints, least, is, few)
 
   pub bound-is : to_z w32 (of_z w32 (difference r v)) ≡ pos n -ℤ v
-  bound-is = let low = small.low in let high = small.high in omega (arith, ints, low, high, worth, is, few)
+  bound-is =
+      let least = low in
+      let sum : to_z w32 (of_z w32 (difference r v)) ≡ pos n -ℤ to_z w32 (of_z w32 v) = omega (arith, ints, least, is, few) in
+      sum ∙ ap (λ z. pos n -ℤ z) (to_z-of_z w32 v fits)
 
 -- Where no queen is surrounded the game goes on
 

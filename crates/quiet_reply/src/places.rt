@@ -24,8 +24,8 @@ fn is_inside(place: Place) -> bool
 /// Whether none of these neighbours stands between others.
 fn all_are_ends(mask: u8) -> bool
     requires { mask < 64 }
-    ensures { (b : Stacks) (p : AnyPlace) → mask ≡ ring_mask (ring (is_occupied b) p) → IsTrue result
-        → (d : AnyDir) → is_suspect (ring (is_occupied b) p) d ≡ false }
+    ensures { (b : Stacks) (p : AnyPlace) → mask ≡ ring_mask (ring (is_occupied b) p)
+        → IsTrue result → (d : AnyDir) → is_suspect (ring (is_occupied b) p) d ≡ false }
 {
     if is_suspect(mask, Dir::E) {
         return false;

@@ -1,18 +1,31 @@
 //! Quiet replies.
 
-ghost use Rattle.std.specs.Prelude.{◌≡◌, ◌≢◌, false, IfSome, IsTrue, pos, ◌+ℤ◌, ◌-ℤ◌, ◌≤ℤ◌};
+ghost use Rattle.std.specs.Prelude.{
+  ◌≡◌,
+  ◌≢◌,
+  None,
+  false,
+  IfSome,
+  IsTrue,
+  negsuc,
+  pos,
+  ◌+ℤ◌,
+  ◌-ℤ◌,
+  ◌<ℤ◌,
+  ◌≤ℤ◌,
+};
 ghost use Rattle.hive_model.specs.declared.pieces.Colour.TheVariants.{White, Black};
 ghost use Rattle.hive_model.specs.Legal.{is_surrounded};
 ghost use Rattle.hive_model.specs.declared.pieces.Kind.TheVariants.{Queen};
 ghost use Rattle.hive_model.specs.Pieces.{kind_of};
 ghost use Rattle.hive_model.specs.Minimax.{value};
-ghost use Rattle.hive_model.specs.Positions.{Position};
 ghost use Rattle.hand_rules.specs.Bringing.{MayBring};
 ghost use Rattle.legal_moves.specs.Going.{position_of};
 ghost use Rattle.quiet_reply.specs.Quiet.{rest_weight};
 
 use crate::places::find_quiet;
 use hand_rules::may_bring;
+use hive_eval::weight_of;
 use hive_model::{Board, Colour, Kind, Piece, Place, is_walled};
 use legal_moves::Turn;
 
@@ -50,7 +63,8 @@ fn is_open<B: Board>(board: &B, side: Colour) -> bool
 /// such reply is found, or the game is over.
 pub fn quiet_reply<B: Board>(board: &B, turn: &Turn, hint: Option<Place>) -> Option<Place>
     ensures { IfSome result (λ q. value (position_of (B.stacks board.now) turn.now) 0
-        ≤ℤ (value (position_of (B.stacks board.now) turn.now) 1 +ℤ pos (rest_weight turn.now.rest))) }
+        ≤ℤ (value (position_of (B.stacks board.now) turn.now) 1
+        +ℤ pos (rest_weight turn.now.rest))) }
 {
     if !is_open(board, Colour::White) {
         return None;
@@ -72,20 +86,19 @@ fn rest_weight(rest: &Option<Piece>) -> i32
     let Some(piece) = rest else {
         return 0;
     };
-    match piece.kind() {
-        Kind::Queen | Kind::Spider => 4,
-        Kind::Grasshopper => 6,
-        Kind::Beetle | Kind::Ladybug | Kind::Pillbug => 8,
-        Kind::Ant | Kind::Mosquito => 10,
-    }
+    weight_of(piece.kind())
 }
 
 /// At most what a move is worth to the side that made it with one ply behind it, where there is a
-/// quiet reply; `worth` is what the position after it is worth to its side to move with no ply
-/// left.
-pub fn most_worth(turn: &Turn, worth: i32) -> i32
-    requires { (p : Position) × (worth ≡ value p 0) }
-    ensures { result ≡ (pos (rest_weight turn.now.rest) -ℤ worth) }
+/// quiet reply; `least` is at least what the position after it is worth to its side to move with no
+/// ply left. None where that is below -1,000,000,000, as no worth is.
+pub fn most_worth(turn: &Turn, least: i32) -> Option<i32>
+    ensures most { IfSome result (λ b. b ≡ (pos (rest_weight turn.now.rest) -ℤ least)) }
+    ensures low { result ≡ None → least <ℤ negsuc 999999999 }
 {
-    rest_weight(&turn.rest) - worth
+    let weight = rest_weight(&turn.rest);
+    if least < -1_000_000_000 {
+        return None;
+    }
+    Some(weight - least)
 }

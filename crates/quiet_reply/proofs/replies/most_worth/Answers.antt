@@ -2,7 +2,7 @@ use Rattle.quiet_reply.proofs.Tests.{bound-fits, bound-is}
 use Rattle.quiet_reply.proofs.replies.most_worth.Goals as goal
 
 pub overflow_sub-result : goal.overflow_sub-result
-overflow_sub-result c = bound-fits c.rest_weight.result c.args.worth _ c.requires.0 c.rest_weight.ensures.weight c.rest_weight.ensures.most c.requires.1
+overflow_sub-result c = bound-fits c.rest_weight-weight.result c.args.least _ c.rest_weight-weight.ensures.weight c.rest_weight-weight.ensures.most c.ranges.least c.if-least-ltminus1000000000.false
 
-pub returns : goal.returns
-returns c = bound-is c.rest_weight.result c.args.worth _ c.requires.0 c.rest_weight.ensures.weight c.rest_weight.ensures.most c.requires.1
+pub returns-clause-most : goal.returns-clause-most
+returns-clause-most c = bound-is c.rest_weight-weight.result c.args.least _ c.rest_weight-weight.ensures.weight c.rest_weight-weight.ensures.most c.ranges.least c.if-least-ltminus1000000000.false

@@ -9,6 +9,7 @@ use Rattle.hive_model.specs.Courses.{position}
 use Rattle.one_hive.specs.Separating.{MarksSeparating}
 use Rattle.rule_laws.specs.Soundness.{side_after}
 use Rattle.board_game.specs.Asked.{IsAsked, IsWhole}
+use Rattle.board_game.specs.InHand.{ArePlaced}
 use Rattle.board_game.specs.Kept.{AreKept}
 use Rattle.board_game.specs.Replayed.{Played, CanMake, IsReplayed}
 use Rattle.board_game.proofs.PlyLaws.{can_make}
@@ -28,7 +29,8 @@ invariant_of-self g c =
     subst (λ (b : Stacks).
     IsReplayed i.game_type b i.made.items i.from.items × (vec_len i.made + i.spare ≤ 5064) × (vec_len i.from ≡ vec_len i.made) × (vec_len i.made + i.spare ≤ vec_capacity i.made) × (vec_len i.made + i.spare ≤ vec_capacity i.from)
     × MarksSeparating b i.keeper × AreKept (opening i.game_type) i.made.items i.before.items × (vec_len i.before ≡ vec_len i.made) × (vec_len i.made + i.spare ≤ vec_capacity i.before)
-    × IsAsked b (other_side (side_after (vec_len i.made))) i.asked × IsWhole b (other_side (side_after (vec_len i.made))) i.whole) (sym c.reply_behind.ensures.same) c.self.invariant
+    × IsAsked b (other_side (side_after (vec_len i.made))) i.asked × IsWhole b (other_side (side_after (vec_len i.made))) i.whole
+    × ArePlaced b (other_side (side_after (vec_len i.made))) i.placements.items) (sym c.reply_behind.ensures.same) c.self.invariant
 
 pub invariant_of-self-2 : goal.invariant_of-self-2
 invariant_of-self-2 g c =
@@ -36,4 +38,5 @@ invariant_of-self-2 g c =
     subst (λ (b : Stacks).
     IsReplayed i.game_type b i.made.items i.from.items × (vec_len i.made + i.spare ≤ 5064) × (vec_len i.from ≡ vec_len i.made) × (vec_len i.made + i.spare ≤ vec_capacity i.made) × (vec_len i.made + i.spare ≤ vec_capacity i.from)
     × MarksSeparating b i.keeper × AreKept (opening i.game_type) i.made.items i.before.items × (vec_len i.before ≡ vec_len i.made) × (vec_len i.made + i.spare ≤ vec_capacity i.before)
-    × IsAsked b (other_side (side_after (vec_len i.made))) i.asked × IsWhole b (other_side (side_after (vec_len i.made))) i.whole) (sym c.reply_behind.ensures.same) c.self.invariant
+    × IsAsked b (other_side (side_after (vec_len i.made))) i.asked × IsWhole b (other_side (side_after (vec_len i.made))) i.whole
+    × ArePlaced b (other_side (side_after (vec_len i.made))) i.placements.items) (sym c.reply_behind.ensures.same) c.self.invariant
