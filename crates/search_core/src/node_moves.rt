@@ -12,12 +12,14 @@ ghost use Rattle.hive_model.specs.Courses.{position};
 ghost use Rattle.search_laws.specs.Found.{IsFound, IsOpen};
 ghost use Rattle.search_laws.specs.Nodes.{HasRoom, IsNode, AreAsBefore};
 ghost use Rattle.search_laws.specs.Tries.{tried_cost};
-ghost use Rattle.ticker.specs.Ticks.{HasStopped, KeepsTime, IsInTime, CountsPlays};
-ghost use Rattle.search_core.specs.Times.{behind, sum_but};
+ghost use Rattle.ticker.specs.Ticks.{KeepsTime, IsInTime, CountsPlays};
+ghost use Rattle.search_core.specs.Times.{HasEnded, IsPaid, counted, with_saved};
 
-use crate::choice::{best_told, legal_choice, move_at, place_of};
-use crate::entries::{Tried, better};
-use crate::replies::reply;
+use crate::choice::{best_told, legal_choice, place_of};
+use crate::early::search_early;
+use crate::entries::Tried;
+use crate::purse::Purse;
+use crate::replies::reply_with;
 use hive_model::{Game, Move, MoveStack};
 use io_edge::Clock;
 use search_laws::Window;
@@ -34,6 +36,7 @@ pub(crate) fn search_moves<G: Game, C: Clock>(
     hint: Option<Move>,
     stack: &mut MoveStack,
     table: &mut ValueTable,
+    purse: &mut Purse,
     ticker: &mut Ticker,
     clock: &mut C,
 ) -> Option<Tried>
@@ -43,19 +46,23 @@ pub(crate) fn search_moves<G: Game, C: Clock>(
     ensures found { IfSome result (λ a. IsFound (value (position (G.course game.old)) depth) window
         a.value) }
     ensures before { AreAsBefore (G.course game.old) (G.course game.new) stack.old stack.new }
-    ensures stopped { result ≡ None → HasStopped ticker.old ticker.new (C.last clock.new) }
+    ensures ended { result ≡ None → HasEnded purse.new ticker.old ticker.new (C.last clock.old)
+        (C.last clock.new) }
     ensures in_time { IfSome result (λ a. IsInTime ticker.old (C.last clock.old)
         (C.last clock.new)) }
     ensures often { CountsPlays ticker.old ticker.new (C.readings clock.old)
         (C.readings clock.new) (G.played game.old) (G.played game.new) }
-    ensures time { KeepsTime ticker.old ticker.new (C.readings clock.old) (C.readings clock.new)
-        (C.last clock.old) (C.last clock.new) (nodes (position (G.course game.old)) depth) }
-    ensures played { G.played game.new ≤ G.played game.old + cost (position (G.course game.old))
-        depth window.alpha window.beta }
+    ensures time { KeepsTime (with_saved ticker.old purse.old) (with_saved ticker.new purse.new)
+        (C.readings clock.old) (C.readings clock.new) (C.last clock.old) (C.last clock.new)
+        (nodes (position (G.course game.old)) depth) }
+    ensures played { G.played game.new + purse.new.saved ≤ G.played game.old + purse.old.saved
+        + cost (position (G.course game.old)) depth window.alpha window.beta }
+    ensures paid { IsPaid purse.old purse.new (G.played game.old) (G.played game.new)
+        (counted ticker.old (C.readings clock.old)) (counted ticker.new (C.readings clock.new)) }
 {
     match legal_choice(hint, game, table) {
-        Some(m) => search_from(game, &m, depth, window, stack, table, ticker, clock),
-        None => search_listed(game, depth, window, stack, table, ticker, clock),
+        Some(m) => search_from(game, &m, depth, window, stack, table, purse, ticker, clock),
+        None => search_listed(game, depth, window, stack, table, purse, ticker, clock),
     }
 }
 
@@ -69,6 +76,7 @@ fn search_from<G: Game, C: Clock>(
     window: Window,
     stack: &mut MoveStack,
     table: &mut ValueTable,
+    purse: &mut Purse,
     ticker: &mut Ticker,
     clock: &mut C,
 ) -> Option<Tried>
@@ -79,23 +87,28 @@ fn search_from<G: Game, C: Clock>(
     ensures found { IfSome result (λ a. IsFound (value (position (G.course game.old)) depth) window
         a.value) }
     ensures before { AreAsBefore (G.course game.old) (G.course game.new) stack.old stack.new }
-    ensures stopped { result ≡ None → HasStopped ticker.old ticker.new (C.last clock.new) }
+    ensures ended { result ≡ None → HasEnded purse.new ticker.old ticker.new (C.last clock.old)
+        (C.last clock.new) }
     ensures in_time { IfSome result (λ a. IsInTime ticker.old (C.last clock.old)
         (C.last clock.new)) }
     ensures often { CountsPlays ticker.old ticker.new (C.readings clock.old)
         (C.readings clock.new) (G.played game.old) (G.played game.new) }
-    ensures time { KeepsTime ticker.old ticker.new (C.readings clock.old) (C.readings clock.new)
-        (C.last clock.old) (C.last clock.new) (nodes (position (G.course game.old)) depth) }
-    ensures played { G.played game.new ≤ G.played game.old + cost (position (G.course game.old))
-        depth window.alpha window.beta }
+    ensures time { KeepsTime (with_saved ticker.old purse.old) (with_saved ticker.new purse.new)
+        (C.readings clock.old) (C.readings clock.new) (C.last clock.old) (C.last clock.new)
+        (nodes (position (G.course game.old)) depth) }
+    ensures played { G.played game.new + purse.new.saved ≤ G.played game.old + purse.old.saved
+        + cost (position (G.course game.old)) depth window.alpha window.beta }
+    ensures paid { IsPaid purse.old purse.new (G.played game.old) (G.played game.new)
+        (counted ticker.old (C.readings clock.old)) (counted ticker.new (C.readings clock.new)) }
 {
-    let found = reply(
+    let found = reply_with(
         game,
         m.again(),
         depth - 1,
         window,
         stack,
         table,
+        purse,
         ticker,
         clock,
     )?;
@@ -110,7 +123,7 @@ fn search_from<G: Game, C: Clock>(
         alpha: window.alpha.max(found),
         beta: window.beta,
     };
-    search_others(game, m, depth, rest, stack, table, ticker, clock)
+    search_others(game, m, depth, rest, stack, table, purse, ticker, clock)
 }
 
 /// The same over the legal moves but for this one, which is worth no more than alpha.
@@ -122,6 +135,7 @@ fn search_others<G: Game, C: Clock>(
     window: Window,
     stack: &mut MoveStack,
     table: &mut ValueTable,
+    purse: &mut Purse,
     ticker: &mut Ticker,
     clock: &mut C,
 ) -> Option<Tried>
@@ -134,24 +148,28 @@ fn search_others<G: Game, C: Clock>(
     ensures found { IfSome result (λ a. IsFound (value (position (G.course game.old)) depth) window
         a.value) }
     ensures before { AreAsBefore (G.course game.old) (G.course game.new) stack.old stack.new }
-    ensures stopped { result ≡ None → HasStopped ticker.old ticker.new (C.last clock.new) }
+    ensures ended { result ≡ None → HasEnded purse.new ticker.old ticker.new (C.last clock.old)
+        (C.last clock.new) }
     ensures in_time { IfSome result (λ a. IsInTime ticker.old (C.last clock.old)
         (C.last clock.new)) }
     ensures often { CountsPlays ticker.old ticker.new (C.readings clock.old)
         (C.readings clock.new) (G.played game.old) (G.played game.new) }
-    ensures time { KeepsTime ticker.old ticker.new (C.readings clock.old) (C.readings clock.new)
-        (C.last clock.old) (C.last clock.new) (nodes (position (G.course game.old)) depth
+    ensures time { KeepsTime (with_saved ticker.old purse.old) (with_saved ticker.new purse.new)
+        (C.readings clock.old) (C.readings clock.new) (C.last clock.old) (C.last clock.new)
+        (nodes (position (G.course game.old)) depth
         - (1 + nodes (after (position (G.course game.old)) m.now) (depth - 1))) }
-    ensures played { G.played game.new ≤ G.played game.old
+    ensures played { G.played game.new + purse.new.saved ≤ G.played game.old + purse.old.saved
         + tries_cost (tried_cost (position (G.course game.old)) (depth - 1) window.beta)
         (reply_value (position (G.course game.old)) (depth - 1))
         window.alpha window.beta (moves (position (G.course game.old))) }
+    ensures paid { IsPaid purse.old purse.new (G.played game.old) (G.played game.new)
+        (counted ticker.old (C.readings clock.old)) (counted ticker.new (C.readings clock.new)) }
 {
     let level = stack.levels();
     game.list(stack);
     let place = place_of(stack, level, m);
-    let answer = search_rest(
-        game, level, depth, window, place, stack, table, ticker, clock,
+    let answer = search_early(
+        game, level, depth, window, place, stack, table, purse, ticker, clock,
     );
     stack.drop_level();
     answer
@@ -166,6 +184,7 @@ fn search_listed<G: Game, C: Clock>(
     window: Window,
     stack: &mut MoveStack,
     table: &mut ValueTable,
+    purse: &mut Purse,
     ticker: &mut Ticker,
     clock: &mut C,
 ) -> Option<Tried>
@@ -175,15 +194,19 @@ fn search_listed<G: Game, C: Clock>(
     ensures found { IfSome result (λ a. IsFound (value (position (G.course game.old)) depth) window
         a.value) }
     ensures before { AreAsBefore (G.course game.old) (G.course game.new) stack.old stack.new }
-    ensures stopped { result ≡ None → HasStopped ticker.old ticker.new (C.last clock.new) }
+    ensures ended { result ≡ None → HasEnded purse.new ticker.old ticker.new (C.last clock.old)
+        (C.last clock.new) }
     ensures in_time { IfSome result (λ a. IsInTime ticker.old (C.last clock.old)
         (C.last clock.new)) }
     ensures often { CountsPlays ticker.old ticker.new (C.readings clock.old)
         (C.readings clock.new) (G.played game.old) (G.played game.new) }
-    ensures time { KeepsTime ticker.old ticker.new (C.readings clock.old) (C.readings clock.new)
-        (C.last clock.old) (C.last clock.new) (nodes (position (G.course game.old)) depth) }
-    ensures played { G.played game.new ≤ G.played game.old + cost (position (G.course game.old))
-        depth window.alpha window.beta }
+    ensures time { KeepsTime (with_saved ticker.old purse.old) (with_saved ticker.new purse.new)
+        (C.readings clock.old) (C.readings clock.new) (C.last clock.old) (C.last clock.new)
+        (nodes (position (G.course game.old)) depth) }
+    ensures played { G.played game.new + purse.new.saved ≤ G.played game.old + purse.old.saved
+        + cost (position (G.course game.old)) depth window.alpha window.beta }
+    ensures paid { IsPaid purse.old purse.new (G.played game.old) (G.played game.new)
+        (counted ticker.old (C.readings clock.old)) (counted ticker.new (C.readings clock.new)) }
 {
     let level = stack.levels();
     game.list(stack);
@@ -192,7 +215,17 @@ fn search_listed<G: Game, C: Clock>(
     if let Some(first) = hint {
         if first < count {
             let m = stack.get(level, first);
-            let Some(found) = reply(game, m, depth - 1, window, stack, table, ticker, clock) else {
+            let Some(found) = reply_with(
+                game,
+                m,
+                depth - 1,
+                window,
+                stack,
+                table,
+                purse,
+                ticker,
+                clock,
+            ) else {
                 stack.drop_level();
                 return None;
             };
@@ -209,79 +242,16 @@ fn search_listed<G: Game, C: Clock>(
                 alpha: window.alpha.max(found),
                 beta: window.beta,
             };
-            let answer = search_rest(game, level, depth, rest, hint, stack, table, ticker, clock);
+            let answer = search_early(
+                game, level, depth, rest, hint, stack, table, purse, ticker, clock,
+            );
             stack.drop_level();
             return answer;
         }
     }
-    let answer = search_rest(
-        game, level, depth, window, None, stack, table, ticker, clock,
+    let answer = search_early(
+        game, level, depth, window, None, stack, table, purse, ticker, clock,
     );
     stack.drop_level();
     answer
-}
-
-/// The same over the moves of a level but for the one at the place `hint`, if there is one, which
-/// is worth no more than alpha.
-#[cycle(search)]
-fn search_rest<G: Game, C: Clock>(
-    game: &mut G,
-    level: u32,
-    depth: u32,
-    window: Window,
-    hint: Option<u32>,
-    stack: &mut MoveStack,
-    table: &mut ValueTable,
-    ticker: &mut Ticker,
-    clock: &mut C,
-) -> Option<Tried>
-    requires window { IsOpen window }
-    requires node { IsNode depth level (G.course game.old) stack.old }
-    requires hint { IfSome hint (λ i. (m : AnyMove)
-        → slice_get (moves (position (G.course game.old))) i ≡ Some m
-        → reply_value (position (G.course game.old)) (depth - 1) m ≤ℤ window.alpha) }
-    ensures found { IfSome result (λ a. IsFound (value (position (G.course game.old)) depth) window
-        a.value) }
-    ensures before { AreAsBefore (G.course game.old) (G.course game.new) stack.old stack.new }
-    ensures stopped { result ≡ None → HasStopped ticker.old ticker.new (C.last clock.new) }
-    ensures in_time { IfSome result (λ a. IsInTime ticker.old (C.last clock.old)
-        (C.last clock.new)) }
-    ensures often { CountsPlays ticker.old ticker.new (C.readings clock.old)
-        (C.readings clock.new) (G.played game.old) (G.played game.new) }
-    ensures time { KeepsTime ticker.old ticker.new (C.readings clock.old) (C.readings clock.new)
-        (C.last clock.old) (C.last clock.new)
-        (sum_but hint 0 (behind (position (G.course game.old)) (depth - 1))
-        (moves (position (G.course game.old)))) }
-    ensures played { G.played game.new ≤ G.played game.old
-        + tries_cost (tried_cost (position (G.course game.old)) (depth - 1) window.beta)
-        (reply_value (position (G.course game.old)) (depth - 1))
-        window.alpha window.beta (moves (position (G.course game.old))) }
-{
-    let count = stack.level_len(level);
-    let mut alpha = window.alpha;
-    let mut first = move_at(stack, level, hint);
-    for i in 0..count {
-        if hint == Some(i) {
-            continue;
-        }
-        let m = stack.get(level, i);
-        let inner = Window {
-            alpha,
-            beta: window.beta,
-        };
-        let found = reply(game, m, depth - 1, inner, stack, table, ticker, clock)?;
-        if found >= inner.beta {
-            table.note_cut(game.plies(), stack.get(level, i));
-            return Some(Tried {
-                value: found,
-                first: Some(stack.get(level, i)),
-            });
-        }
-        first = better(found > alpha, stack.get(level, i), first);
-        alpha = alpha.max(found);
-    }
-    Some(Tried {
-        value: alpha,
-        first,
-    })
 }

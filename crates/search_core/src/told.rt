@@ -10,17 +10,37 @@ ghost use Rattle.search_laws.specs.Found.{IsFound, IsOpen};
 use hive_model::{Game, Move};
 use search_laws::Window;
 
-/// What a legal move is worth to the side that makes it with no ply left behind it.
-fn told_leaf<G: Game>(game: &mut G, m: Move) -> Option<i32>
-    requires { IsOn (moves (position (G.course game.old))) m }
-    ensures worth { IfSome result (λ v. v ≡ reply_value (position (G.course game.old)) 0 m) }
+/// What a legal move is worth to the side that makes it with no ply left behind it, or at least
+/// that it is worth no more than the lower end of the window.
+fn told_leaf<G: Game>(game: &mut G, m: Move, window: Window) -> Option<i32>
+    requires window { IsOpen window }
+    requires legal { IsOn (moves (position (G.course game.old))) m }
+    ensures found { IfSome result (IsFound (reply_value (position (G.course game.old)) 0 m)
+        window) }
     ensures same { G.course game.new ≡ G.course game.old }
     ensures count { G.played game.new ≡ G.played game.old }
 {
-    match game.value_after(m) {
-        Some(worth) => Some(-worth),
-        None => None,
+    if let Some(worth) = game.value_after(m.again()) {
+        return Some(-worth);
     }
+    low_leaf(game, m, window)
+}
+
+/// At most what a legal move is worth with no ply left behind it, where this is no more than the
+/// lower end of the window.
+fn low_leaf<G: Game>(game: &mut G, m: Move, window: Window) -> Option<i32>
+    requires window { IsOpen window }
+    requires legal { IsOn (moves (position (G.course game.old))) m }
+    ensures found { IfSome result (IsFound (reply_value (position (G.course game.old)) 0 m)
+        window) }
+    ensures same { G.course game.new ≡ G.course game.old }
+    ensures count { G.played game.new ≡ G.played game.old }
+{
+    let least = game.least_after(m)?;
+    if least < -window.alpha {
+        return None;
+    }
+    Some(-least)
 }
 
 /// At most what a legal move is worth with one ply left behind it, where this is no more than the
@@ -28,12 +48,13 @@ fn told_leaf<G: Game>(game: &mut G, m: Move) -> Option<i32>
 fn told_bound<G: Game>(game: &mut G, m: Move, window: Window) -> Option<i32>
     requires window { IsOpen window }
     requires legal { IsOn (moves (position (G.course game.old))) m }
-    ensures found { IfSome result (IsFound (reply_value (position (G.course game.old)) 1 m) window) }
+    ensures found { IfSome result (IsFound (reply_value (position (G.course game.old)) 1 m)
+        window) }
     ensures same { G.course game.new ≡ G.course game.old }
     ensures count { G.played game.new ≡ G.played game.old }
 {
-    let worth = game.value_after(m.again())?;
-    if -worth > window.alpha {
+    let least = game.least_after(m.again())?;
+    if least < -window.alpha {
         return None;
     }
     let most = game.most_after(m)?;
@@ -45,8 +66,8 @@ fn told_bound<G: Game>(game: &mut G, m: Move, window: Window) -> Option<i32>
 }
 
 /// The answer of a search of a legal move in the window, with so many plies left behind it, where
-/// the game tells it without making the move: what it is worth where none is left, and a bound at
-/// or below the lower end where one is.
+/// the game tells it without making the move: what it is worth where none is left, or a bound at or
+/// below the lower end, and such a bound where one is.
 pub(crate) fn told_reply<G: Game>(game: &mut G, m: Move, depth: u32, window: Window) -> Option<i32>
     requires window { IsOpen window }
     requires legal { IsOn (moves (position (G.course game.old))) m }
@@ -56,7 +77,7 @@ pub(crate) fn told_reply<G: Game>(game: &mut G, m: Move, depth: u32, window: Win
     ensures count { G.played game.new ≡ G.played game.old }
 {
     match depth {
-        0 => told_leaf(game, m),
+        0 => told_leaf(game, m, window),
         1 => told_bound(game, m, window),
         _ => None,
     }
