@@ -1,8 +1,9 @@
 #!/usr/bin/env python3
-"""Matches and a cup of the built program against engines that stall: each ends soon after its limit, with its verdict, and no process is left.
+"""Matches and cups of the built program against engines that stall: each ends soon after its limit, with its verdict, and no process is left.
 
 Usage: stalls.py PROGRAM. Ends with status 0 where all is as expected.
 """
+import concurrent.futures
 import os
 import pathlib
 import signal
@@ -11,6 +12,7 @@ import sys
 import tempfile
 import threading
 import time
+import uuid
 
 from matches import check_cup, write_engine
 from viewer import expect
@@ -32,12 +34,15 @@ STALLS = {
     "sends lines without an end": (GREETS + "read -r line\nexec yes", "forfeit black flood 1001"),
     "complains without an end": (GREETS + "exec 3>&1\nexec yes >&2", "forfeit black broke"),
     "stops itself": (GREETS + "kill -STOP $$\nexec sleep 1000", "forfeit black broke"),
+    "leaves programs in a session of their own": (GREETS + "read -r line\nsetsid sh -c 'sleep 1000 & sleep 1001' >/dev/null 2>&1 </dev/null &\nexit 0", "forfeit black ended"),
     "sends a byte in a second": ("while :; do printf x\nsleep 1; done", "forfeit black broke"),
 }
 
-# The verdict on a line without an end, which waits for no limit, and what is left of an engine by its own doing.
+# The verdict on a line without an end, which waits for no limit.
 LONG = "longline"
-LEAVES = {"leaves a program that holds its output"}
+
+# How many cups run at once.
+CUPS_AT_ONCE = 4
 
 
 def session(leader):
@@ -54,10 +59,26 @@ def session(leader):
     return found
 
 
+def marked(mark):
+    """The processes that still run and have this variable in their environment."""
+    found = []
+    for entry in pathlib.Path("/proc").iterdir():
+        if entry.name.isdigit():
+            try:
+                variables = (entry / "environ").read_bytes().split(b"\0")
+            except OSError:
+                continue
+            if mark.encode("ascii") in variables:
+                found.append(int(entry.name))
+    return found
+
+
 def run(program, words):
     """The status, the lines and the seconds of a run, what it wrote on standard error, and the processes that are left."""
     began = time.monotonic()
-    child = subprocess.Popen([program] + words, stdout=subprocess.PIPE, stderr=subprocess.PIPE, start_new_session=True)
+    name = uuid.uuid4().hex
+    environment = dict(os.environ, TRIED=name)
+    child = subprocess.Popen([program] + words, stdout=subprocess.PIPE, stderr=subprocess.PIPE, start_new_session=True, env=environment)
     try:
         out, err = child.communicate(timeout=30)
     except subprocess.TimeoutExpired:
@@ -65,7 +86,7 @@ def run(program, words):
         return None, [], 30.0, b"", []
     took = time.monotonic() - began
     for _ in range(30):
-        left = session(child.pid)
+        left = marked(f"TRIED={name}")
         if not left:
             break
         time.sleep(0.1)
@@ -79,10 +100,14 @@ def try_match(program, engine, name, answers):
     answers[name] = run(program, words)
 
 
-def try_matches(program, folder):
+def write_engines(program, folder):
+    """Writes all engines, before one is started: a program cannot be started while another thread's child has its file open."""
+    bodies = enumerate(STALLS.items())
+    return {name: write_engine(folder, f"stall{number}", body.replace("PROGRAM", program)) for number, (name, (body, _)) in bodies}
+
+
+def try_matches(program, engines):
     answers = {}
-    # All are written before one is started: a program cannot be started while another thread's child has its file open.
-    engines = {name: write_engine(folder, f"stall{number}", body.replace("PROGRAM", program)) for number, (name, (body, _)) in enumerate(STALLS.items())}
     threads = [threading.Thread(target=try_match, args=(program, engine, name, answers)) for name, engine in engines.items()]
     for thread in threads:
         thread.start()
@@ -97,7 +122,7 @@ def try_matches(program, folder):
         if "LONG" in verdict:
             expect(f"an engine that {name} ends before the limit ({took:.1f} s)", took < LIMIT, True)
         expect(f"standard error where an engine {name}", err, b"")
-        expect(f"processes left where an engine {name}", len(left), 1 if name in LEAVES else 0)
+        expect(f"processes left where an engine {name}", left, [])
 
 
 def try_time(program, folder):
@@ -119,19 +144,37 @@ def try_missing(program, folder):
     expect(f"status and time where an engine is not there ({took:.1f} s)", (status, took <= GRACE, left), (5, True, []))
 
 
-def try_cup(program, folder):
-    """A cup of three engines, of which one is silent after some moves: it loses its games, and the others play theirs."""
-    silent = write_engine(folder, "fades", f"sed -u 5q | {program} uhp\nexec sleep 1000")
-    engines = [program + " uhp", silent, write_engine(folder, "other", f"exec {program} uhp")]
-    words = ["cup", "--engines", ";".join(engines), "--depth", "1", "--plies", "8", "--patience", f"00:00:0{LIMIT}"]
-    status, lines, took, _, left = run(program, words)
-    verdicts = check_cup("a cup with one that stalls", engines, (status, lines))
-    print(f"  {took:4.1f} s  a cup of three, one of them silent after some moves")
-    for (white, black), verdict in verdicts.items():
-        wanted = "limit 8" if 2 not in (white, black) else f"forfeit {'white' if white == 2 else 'black'} broke"
-        expect(f"verdict of {white} against {black}", verdict, wanted)
-    expect(f"a cup ends in time ({took:.1f} s)", took <= 6 * LIMIT + GRACE, True)
-    expect("processes left of a cup", left, [])
+def try_cup(program, other, name, engine):
+    """What comes of a cup of the program, an engine that stalls, and the program again."""
+    engines = [program + " uhp", engine, other]
+    words = ["cup", "--engines", ";".join(engines), "--depth", "1", "--plies", "8", "--patience", f"00:00:0{LIMIT}", "--quiet", "1"]
+    return name, engines, run(program, words)
+
+
+def try_cups(program, folder, engines):
+    """Cups of three engines, of which one stalls: it loses its games, and the others play theirs."""
+    other = write_engine(folder, "other", f"exec {program} uhp")
+    with concurrent.futures.ThreadPoolExecutor(CUPS_AT_ONCE) as pool:
+        answers = list(pool.map(lambda it: try_cup(program, other, *it), engines.items()))
+    for name, words, (status, lines, took, err, left) in answers:
+        verdicts = check_cup(f"a cup with one that {name}", words, (status, lines))
+        print(f"  {took:4.1f} s  a cup of three, one of which {name}")
+        lost = STALLS[name][1].replace("LONG", LONG)
+        for (white, black), verdict in verdicts.items():
+            wanted = "limit 8" if 2 not in (white, black) else lost.replace("black", "white" if white == 2 else "black")
+            expect(f"verdict of {white} against {black} in a cup with one that {name}", verdict, wanted)
+        expect(f"a cup with one that {name} ends in time ({took:.1f} s)", took <= 6 * LIMIT + GRACE, True)
+        expect(f"standard error of a cup with one that {name}", err, b"")
+        expect(f"processes left of a cup with one that {name}", left, [])
+
+
+def try_environment(program, folder):
+    """An engine has all of the environment of the program, and a mark."""
+    tells = write_engine(folder, "tells", "printf 'err %s %s %s\\nok\\n' \"$KEPT\" \"$WITH\" \"${#HIVE_ENGINE}\"")
+    environment = dict(os.environ, KEPT="it is", WITH="a=b")
+    words = ["match", "--white", tells, "--black", program + " uhp", "--depth", "1"]
+    done = subprocess.run([program] + words, stdout=subprocess.PIPE, env=environment, timeout=30)
+    expect("the environment of an engine", done.stdout.decode("ascii").split("\n")[1], "forfeit white err err it is a=b 32")
 
 
 def try_signal(program, folder):
@@ -157,9 +200,11 @@ if __name__ == "__main__":
     program = str(pathlib.Path(sys.argv[1]).resolve())
     with tempfile.TemporaryDirectory() as name:
         folder = pathlib.Path(name)
-        try_matches(program, folder)
+        engines = write_engines(program, folder)
+        try_matches(program, engines)
         try_time(program, folder)
         try_missing(program, folder)
-        try_cup(program, folder)
+        try_cups(program, folder, engines)
+        try_environment(program, folder)
         try_signal(program, folder)
     print("stalls: as expected")

@@ -28,8 +28,9 @@ const MOST_LOOKS: u32 = 2_000;
 /// Where the program is let go, its input is closed. What it still says is read and dropped, up to
 /// its end or to 1 MiB, so that a slow program can say its last line; then its output is closed, so
 /// that one that floods is stopped. It has two seconds in all until it has ended by itself. Then it
-/// is killed, and its end is waited for. A program that it has started itself is neither killed nor
-/// waited for.
+/// is killed, and its end is waited for. What it has started itself is left to [`Mark`].
+///
+/// [`Mark`]: crate::marks::Mark
 pub struct Engine<'a, R: Clock, P: OpenProcess + Drop>
 where
     P::Stdout: AsRawFd,
@@ -101,8 +102,16 @@ fn ends_before<R: Clock, P: OpenProcess>(rt: &R, child: &mut Child<P>, until: u6
     false
 }
 
+/// Waits until a program has ended by itself. At that moment it is killed.
+pub fn await_end<R: Clock, P: OpenProcess>(rt: &R, child: &mut Child<P>, until: u64) {
+    if !ends_before(rt, child, until) {
+        let _ = child.kill();
+    }
+    let _ = child.wait();
+}
+
 /// The moment at which the grace of a program is over that is let go now.
-fn end_of_grace<R: Clock>(rt: &R) -> u64 {
+pub fn end_of_grace<R: Clock>(rt: &R) -> u64 {
     match moment(rt) {
         Ok(now) => now.saturating_add(GRACE),
         Err(_) => 0,
@@ -125,10 +134,7 @@ where
         output.allow(GRACE);
         pass_over(&mut output);
         drop(output);
-        if !ends_before(rt, &mut child, until) {
-            let _ = child.kill();
-        }
-        let _ = child.wait();
+        await_end(rt, &mut child, until);
     }
 }
 

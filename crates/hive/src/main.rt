@@ -11,6 +11,7 @@ ghost use Rattle.hive.specs.Complaints.{complaint};
 
 mod engines;
 mod machine_clock;
+mod marks;
 mod patience;
 mod programs;
 mod streams;
@@ -27,6 +28,7 @@ use std::env::Env;
 use std::io::ErrorKind;
 use std::os::fd::AsRawFd;
 use std::process::{ExitCode, OpenProcess, Processes};
+use std::random::RandomSource;
 use std::thread::Threads;
 use std::{env, io, time};
 use streams::Counted;
@@ -61,10 +63,9 @@ fn words<R: Env + AllocGlobal>(rt: &R) -> Result<Vec<String>, Status> {
 }
 
 /// Runs over standard input and output, the machine's clock, and programs of the system.
-fn run_on_streams<R: Input + Print + AllocGlobal + Threads + Sync + time::Clock + Processes>(
-    rt: &R,
-    words: &[String],
-) -> Status
+fn run_on_streams<
+    R: Input + Print + AllocGlobal + Threads + Sync + time::Clock + Processes + RandomSource,
+>(rt: &R, words: &[String]) -> Status
 where
     R::Started: Send,
     <R::Started as OpenProcess>::Stdin: Send,

@@ -1,26 +1,32 @@
 //! The starting of programs by the system.
-ghost use Rattle.std.specs.Prelude.{◌≡◌, ◌<◌, None, length, IfOk};
+ghost use Rattle.std.specs.Prelude.{◌≡◌, ◌≢◌, ◌<◌, ℕ, List, None, Some, IfOk, codes, false, length, string_bytes};
+ghost use Rattle.std.specs.Process.{clears_env, command_var};
 
 use crate::engines::Engine;
+use crate::marks::Mark;
 use io_edge::{Spawner, StartFault};
-use std::alloc::Global;
+use std::alloc::{AllocError, Global};
 use std::io;
 use std::os::fd::AsRawFd;
 use std::process::{Command, OpenProcess, Processes, Stdio};
+use std::random::RandomSource;
 use std::time::Clock;
 
 /// What starts programs of the system. It tells neither their words nor what they say or are told.
-#[derive(Drop)]
-pub struct Programs<'a, R: Processes> {
+///
+/// Its programs have a mark in their environment. Where it is let go, after all of its programs,
+/// what they started themselves and left behind is ended by that mark.
+pub struct Programs<'a, R: Processes + Clock> {
     rt: &'a R,
     alloc: Global,
+    mark: Option<Mark>,
     limit: Option<u64>,
     quiet: bool,
     start_faults: u64,
     engine_faults: u64,
 }
 
-impl<'a, R: Processes> Programs<'a, R> {
+impl<'a, R: Processes + Clock> Programs<'a, R> {
     /// A starter of which no start has failed, and that has ended no program. An answer of each of
     /// its programs is read for at most this many milliseconds, if there is a limit. Where it is
     /// quiet, what they write on standard error is dropped.
@@ -33,12 +39,44 @@ impl<'a, R: Processes> Programs<'a, R> {
         Programs {
             rt,
             alloc,
+            mark: None,
             limit,
             quiet,
             start_faults: 0,
             engine_faults: 0,
         }
     }
+}
+
+impl<'a, R: Processes + Clock> Drop for Programs<'a, R> {
+    fn drop(self) {
+        let Self {
+            rt,
+            alloc,
+            mark,
+            limit: _,
+            quiet: _,
+            start_faults: _,
+            engine_faults: _,
+        } = self;
+        if let Some(mark) = mark {
+            // where nothing can be started, nothing more can be done
+            let _ = mark.sweep(rt, alloc);
+        }
+    }
+}
+
+/// The mark of a starter, which is made where it has none yet.
+fn mark_in<'m, R: RandomSource>(
+    rt: &R,
+    alloc: Global,
+    kept: &'m mut Option<Mark>,
+) -> io::Result<&'m Mark> {
+    let mark = match kept.take() {
+        Some(mark) => mark,
+        None => Mark::new(rt, alloc)?,
+    };
+    Ok(kept.insert(mark))
 }
 
 /// Where what a program writes on standard error goes.
@@ -50,10 +88,28 @@ fn errors_go(quiet: bool) -> Stdio {
     }
 }
 
-/// Starts the program that the first word names, with the others as its arguments, over pipes.
+/// The program that the first word names, to be started with the others as its arguments. Its
+/// environment is that of this process, but for this mark.
+fn command_of(alloc: Global, mark: &Mark, words: &[String]) -> Result<Command<Global>, AllocError>
+    requires { 0 < length words.now }
+    ensures inherits { IfOk result (λ c. clears_env c ≡ false) }
+    ensures marked { IfOk result (λ c. command_var c (codes "HIVE_ENGINE")
+        ≡ Some (Some (string_bytes mark.now.text))) }
+    ensures others { IfOk result (λ c. (name : List ℕ) → name ≢ codes "HIVE_ENGINE"
+        → command_var c name ≡ None) }
+{
+    let mut command = Command::new(alloc, words[0].as_str())?;
+    command.args(words[1..].iter())?;
+    mark.put_on(&mut command)?;
+    Ok(command)
+}
+
+/// Starts the program that the first word names, with the others as its arguments and this mark,
+/// over pipes.
 fn start_program<'a, R: Processes + Clock>(
     rt: &'a R,
     alloc: Global,
+    mark: &Mark,
     limit: Option<u64>,
     quiet: bool,
     words: &[String],
@@ -64,11 +120,7 @@ where
     ensures reads { IfOk result (λ e. e.output.faults ≡ 0) }
     ensures writes { IfOk result (λ e. e.input.faults ≡ 0) }
 {
-    let mut command = Command::new(alloc, words[0].as_str())?;
-    for word in words[1..].iter() {
-        command.arg(word.as_str())?;
-    }
-    let mut child = command
+    let mut child = command_of(alloc, mark, words)?
         .stdin(Stdio::piped())
         .stdout(Stdio::piped())
         .stderr(errors_go(quiet))
@@ -79,7 +131,7 @@ where
     }
 }
 
-impl<'a, R: Processes + Clock + Sync> Spawner for Programs<'a, R>
+impl<'a, R: Processes + Clock + RandomSource + Sync> Spawner for Programs<'a, R>
 where
     R::Started: Send,
     <R::Started as OpenProcess>::Stdin: Send,
@@ -97,7 +149,11 @@ where
     } };
 
     fn start(&mut self, words: &[String]) -> Result<Engine<'a, R, R::Started>, StartFault> {
-        match start_program(self.rt, self.alloc, self.limit, self.quiet, words) {
+        let started = match mark_in(self.rt, self.alloc, &mut self.mark) {
+            Ok(mark) => start_program(self.rt, self.alloc, mark, self.limit, self.quiet, words),
+            Err(error) => Err(error),
+        };
+        match started {
             Ok(engine) => Ok(engine),
             Err(error) if error.kind() == io::ErrorKind::OutOfMemory => Err(StartFault::Memory),
             Err(_) => {

@@ -1,4 +1,6 @@
 //! The adapters over the system itself.
+ghost use Rattle.std.specs.Prelude.{◌<◌, length};
+
 use crate::machine_clock::MachineClock;
 use crate::programs::Programs;
 use io_edge::{Clock, ReadAnswer, Source, Spawner, StartFault, write_all};
@@ -24,9 +26,40 @@ fn a_clock_counts_milliseconds(rt: HostRuntime) {
     assert!(rt; 60 <= passed && passed < 6_000, "{passed}");
 }
 
+/// The first 20 bytes that a program with these words says, or that it did not start. It and what
+/// it has started are let go.
+fn said_by(rt: &HostRuntime, words: &[String]) -> Result<String, Fail>
+    requires { 0 < length words.now }
+{
+    let mut programs = Programs::new(rt, rt.alloc(), None, false);
+    let mut said = String::new(rt.alloc());
+    let Ok(mut engine) = programs.start(words) else {
+        return Ok(String::from_str(rt.alloc(), "not started")?);
+    };
+    for _ in 0..20 {
+        let mut byte = [0u8; 1];
+        match engine.read(&mut byte) {
+            ReadAnswer::Got(_) => said.push(char::from(byte[0]))?,
+            ReadAnswer::End | ReadAnswer::Failed => break,
+        }
+    }
+    programs.close(engine);
+    Ok(said)
+}
+
+/// What the shell says with this program and this word.
+fn said_by_shell(rt: &HostRuntime, program: &str, word: &str) -> Result<String, Fail> {
+    let words = [
+        String::from_str(rt.alloc(), "sh")?,
+        String::from_str(rt.alloc(), "-c")?,
+        String::from_str(rt.alloc(), program)?,
+        String::from_str(rt.alloc(), word)?,
+    ];
+    said_by(rt, &words)
+}
+
 #[test]
 fn a_program_gets_its_words(rt: HostRuntime) -> Result<(), Fail> {
-    let mut programs = Programs::new(&rt, rt.alloc(), None, false);
     let words = [
         String::from_str(rt.alloc(), "sh")?,
         String::from_str(rt.alloc(), "-c")?,
@@ -36,20 +69,25 @@ fn a_program_gets_its_words(rt: HostRuntime) -> Result<(), Fail> {
         String::from_str(rt.alloc(), "")?,
         String::from_str(rt.alloc(), "a b")?,
     ];
-    let Ok(mut engine) = programs.start(&words) else {
-        assert!(rt; false, "a start that was to succeed");
-        return Ok(());
-    };
-    let mut said = Vec::new(rt.alloc());
-    for _ in 0..20 {
-        let mut byte = [0u8; 1];
-        match engine.read(&mut byte) {
-            ReadAnswer::Got(_) => said.push(byte[0])?,
-            ReadAnswer::End | ReadAnswer::Failed => break,
-        }
-    }
-    assert_eq!(rt; said.as_slice(), b"x,y,,a b,".as_slice());
-    programs.close(engine);
+    let said = said_by(&rt, &words)?;
+    assert_eq!(rt; said.as_str(), "x,y,,a b,");
+    Ok(())
+}
+
+#[test]
+fn a_program_gets_the_environment_and_a_mark(rt: HostRuntime) -> Result<(), Fail> {
+    let asks = "printf '%s,%s' \"${PATH:+there}\" \"${#HIVE_ENGINE}\"";
+    assert_eq!(rt; said_by_shell(&rt, asks, "")?.as_str(), "there,32");
+    Ok(())
+}
+
+#[test]
+fn what_a_program_leaves_behind_is_ended(rt: HostRuntime) -> Result<(), Fail> {
+    // it leaves the input and the output of the shell alone
+    let leaves = "sleep 1000 >/dev/null 2>&1 </dev/null & printf '%s' $!";
+    let left = said_by_shell(&rt, leaves, "")?;
+    let looks = "tr -d '\\0' </proc/$0/cmdline 2>/dev/null; printf .";
+    assert_eq!(rt; said_by_shell(&rt, looks, left.as_str())?.as_str(), ".");
     Ok(())
 }
 
