@@ -1,6 +1,6 @@
 -- What the lines of a text are worth as a certificate.
 use Rattle.std.proofs.Common.{arith}
-use Rattle.std.specs.Prelude.{ℕ, ◌+◌, ◌<◌, nat_eq, List, map, ℤ, Option, Result, Ok, Err, if◌then◌else◌}
+use Rattle.std.specs.Prelude.{ℕ, ◌+◌, ◌<◌, nat_eq, Bool, true, false, List, map, ℤ, Option, Result, Ok, Err, if◌then◌else◌}
 use Rattle.hive_model.specs.declared.places.Move.{Move}
 use Rattle.hive_model.specs.Positions.{Position, opening}
 use Rattle.hive_model.specs.Legal.{is_over}
@@ -10,7 +10,8 @@ use Rattle.move_text.specs.declared.faults.MoveFault.{MoveFault}
 use Rattle.move_text.specs.Moves.{move_of}
 use Rattle.claim_walks.specs.Walks.{Outcome}
 use Rattle.strategy_check.specs.declared.answers.Why.TheVariants.{NoSuchMove, BadIndex, LeafFails, TooShort, Rest}
-use Rattle.strategy_check.specs.Trace.{checked}
+use Rattle.strategy_check.specs.Trace.{Steps, checked}
+use Rattle.strategy_check.specs.declared.answers.Why.{Why}
 use Rattle.strategy_lemmas.specs.declared.tokens.Token.{Token}
 use Rattle.strategy_lemmas.specs.declared.tokens.WhyCited.{WhyCited}
 use Rattle.strategy_lemmas.specs.declared.tokens.WhyCited.TheVariants.{NoSuchMove as CitedNoMove, BadIndex as CitedBadIndex, BadCite as CitedBadCite, LeafFails as CitedLeafFails, TooShort as CitedTooShort, Rest as CitedRest}
@@ -23,9 +24,9 @@ use Rattle.command_runs.specs.Input.{Sides}
 use Rattle.command_runs.specs.declared.status.Status.{Status}
 use Rattle.text_verdicts.specs.declared.verdict.Verdict.{Verdict}
 use Rattle.text_verdicts.specs.declared.verdict.Verdict.TheVariants.{Refused, BadCite, GameOver}
-use Rattle.text_verdicts.specs.Verdicts.{of_walk, walk_verdict}
+use Rattle.text_verdicts.specs.Verdicts.{index_refusal, of_walk, walk_verdict}
 use Rattle.text_verdicts.specs.Judging.{text_verdict}
-use Rattle.text_verdicts.specs.Runs.{IsDecidedBehind, VerdictRun}
+use Rattle.text_verdicts.specs.Runs.{IsDecidedBehind, VerdictRun, not-yet}
 
 -- the position at the end of the game of a head
 abbrev pub end_of : Head → Position
@@ -92,3 +93,35 @@ why-decides head lines place CitedBadCite few = omega (arith, few)
 why-decides head lines place CitedLeafFails few = few
 why-decides head lines place CitedTooShort few = few
 why-decides head lines place CitedRest few = few
+
+-- what a claim is worth is never decided by lines of the head alone
+
+why-later : (n place : ℕ) (why : WhyCited) → n < 5 → IsDecidedBehind 5 (of_why place why) n
+why-later n place why less = why-decides 5 n place why (omega (arith, less))
+
+lines-later : (n : ℕ) (first : Bool) (o : Outcome Steps Why) (c : Outcome CitedSteps WhyCited)
+    → n < 5 → IsDecidedBehind 5 (if first then of_walk 5 o else of_cited 5 c) n
+lines-later n true o c less =
+    not-yet index_refusal 5 n o (λ place why. omega (arith, less)) less (omega arith)
+lines-later n false o c less =
+    not-yet of_why 5 n c (λ place why. why-later n place why less) less (omega arith)
+
+move-later : (n version : ℕ) (p : Position) (depth : ℕ) (m : Result Move MoveFault) (v : ℤ)
+    (rest : List Line) → n < 5 → IsDecidedBehind 5 (of_move version p depth m v rest) n
+move-later n version p depth (Ok m) v rest less =
+    lines-later n (nat_eq version 1) (checked p depth m v (map index_in rest))
+    (cited_checked p depth m v (map token_in rest)) less
+move-later n version p depth (Err fault) v rest less = omega (arith, less)
+
+claim-later : (n : ℕ) (over : Bool) (v : Verdict) → n < 5 → IsDecidedBehind 5 v n
+    → IsDecidedBehind 5 (if over then GameOver else v) n
+claim-later n true v less later = less
+claim-later n false v less later = later
+
+pub claim-not-yet : (head : Head) (rest : List Line) (n : ℕ) → n < 5
+    → IsDecidedBehind 5 (of_claim head rest) n
+claim-not-yet head rest n less =
+    let move = claimed_move head in
+    claim-later n (is_over (end_of head))
+    (of_move head.version (end_of head) head.depth move head.value rest) less
+    (move-later n head.version (end_of head) head.depth move head.value rest less)

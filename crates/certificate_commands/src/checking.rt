@@ -1,6 +1,6 @@
 //! Checks of certificates.
 
-ghost use Rattle.std.specs.Prelude.{◌≤◌, map, refl};
+ghost use Rattle.std.specs.Prelude.{◌≤◌, map};
 ghost use Rattle.hive_model.specs.Courses.{position};
 ghost use Rattle.certificate_text.specs.Text.{head_of, index_in};
 ghost use Rattle.certificate_text.specs.Heads.{IsHead};
@@ -9,6 +9,7 @@ ghost use Rattle.text_verdicts.specs.Judging.{JudgesAhead};
 ghost use Rattle.claim_walks.specs.Claims.{IsClaimOf};
 ghost use Rattle.certificate_commands.specs.Verdicts.{
   CheckRun,
+  claim-not-yet,
   of_claim,
   of_items,
   of_lines,
@@ -111,13 +112,13 @@ impl TextForm for Certificates {
 
     ghost head_lines = { 5 };
 
-    ghost has_lines = { refl };
-
     ghost head_of = { head_of 2 };
 
     ghost keeps = { IsHead 2 };
 
     ghost worth = { of_claim };
+
+    ghost not_yet = { claim-not-yet };
 
     fn read_head<S: Source, G: Game + Drop>(
         &self,

@@ -1,5 +1,5 @@
 -- What stands behind a word, and what the reading of one line answers.
-use Rattle.std.proofs.Common.{◌≡◌, ◌≢◌, ℕ, ◌+◌, List, [], ◌∷◌, ◌++◌, drop, length, refl, sym, ap, subst, arith, ◌∙◌, Option, Some, None, Bor}
+use Rattle.std.proofs.Common.{◌≡◌, ◌≢◌, ◌<◌, ℕ, ◌+◌, ◌-◌, List, [], ◌∷◌, ◌++◌, drop, length, refl, sym, ap, subst, arith, ◌∙◌, Option, Some, None, Bor}
 use Rattle.std.specs.Prelude.{codes, decimal, map, MatchOption, Result, Ok, Err, ℤ}
 use Rattle.std.specs.Option.{option_map}
 use Rattle.std.specs.Fmt.{signed_decimal}
@@ -9,7 +9,7 @@ use Rattle.hive_model.specs.Positions.{opening}
 use Rattle.hive_model.specs.Games.{replay}
 use Rattle.hive_model.specs.Denotes.{text}
 use Rattle.hive_model.specs.Strings.{string}
-use Rattle.hive_model.specs.Lines.{Line, ToldLines, NoneAhead}
+use Rattle.hive_model.specs.Lines.{Line, Text, TooLong, ToldLines, NoneAhead}
 use Rattle.io_edge.specs.Outside.{Told, in_front}
 use Rattle.line_feed.specs.Feed.{Reading, Takes}
 use Rattle.std.proofs.lemmas.List.{append_assoc, drop-drop, length-append}
@@ -17,12 +17,15 @@ use Rattle.line_feed.specs.Ahead.{ahead_of, lines_left}
 use Rattle.claim_walks.specs.Items.{IsAtEnd}
 use Rattle.game_text.specs.Turns.{behind_word}
 use Rattle.game_text.proofs.TurnLaws.{behind_is, is_behind}
+use Rattle.game_text.specs.Reading.{game_of}
+use Rattle.game_text.specs.declared.faults.GameFault.{GameFault}
 use Rattle.game_text.specs.declared.parsed.Parsed.{Parsed}
 use Rattle.certificate_text.specs.declared.head.Head.{Head}
 use Rattle.certificate_text.specs.declared.head.HeadFault.{HeadFault}
 use Rattle.certificate_text.specs.declared.head.HeadFault.TheVariants.{BadLine, BadGame, ReadFault, InputFull, Memory}
-use Rattle.certificate_text.specs.Text.{HeadRead, and_then, field_in, game_in, head_of, head_text, version_at, depth_at, move_at, value_at, written_line}
-use Rattle.certificate_text.specs.Heads.{Reads, in_all}
+use Rattle.certificate_text.specs.Text.{HeadRead, and_then, field_in, game_in, head_of, head_text, or_bad, or_bad_game, version_at, depth_at, move_at, value_at, written_line}
+use Rattle.certificate_text.specs.Heads.{BreaksOff, IsBehind, Reads, fault_line, in_all}
+use Rattle.certificate_text.specs.Taken.{HasRead}
 
 -- ---- words
 
@@ -69,6 +72,39 @@ ends-here f next head lines k n ReadFault before after last so part = tt
 ends-here f next head lines k n InputFull before after last so part = tt
 ends-here f next head lines k n Memory before after last so part = tt
 
+-- ---- where a read has failed
+
+behind-part : {A H : Type 0} (m i : ℕ) (o : Option A) (next : A → Result H HeadFault) → m < i → ((a : A) → IsBehind m (next a)) → IsBehind m (and_then (or_bad i o) next)
+behind-part m i None next less rest = less
+behind-part m i (Some a) next less rest = rest a
+
+-- the fault of a field is that of its line
+pub behind-field : {A H : Type 0} (m i : ℕ) (at : List ℕ → Option A) (ls : List Line) (next : A → Result H HeadFault) → m < i → ((a : A) → IsBehind m (next a)) → IsBehind m (and_then (field_in i at ls) next)
+behind-field m i at [] next less rest = less
+behind-field m i at (TooLong ∷ ls) next less rest = less
+behind-field m i at (Text line ∷ ls) next less rest = behind-part m i (at line) next less rest
+
+behind-read : {H : Type 0} (m : ℕ) (r : Result Parsed GameFault) (next : Parsed → Result H HeadFault) → m < 2 → ((g : Parsed) → IsBehind m (next g)) → IsBehind m (and_then (or_bad_game r) next)
+behind-read m (Ok g) next less rest = rest g
+behind-read m (Err fault) next less rest = less
+
+pub behind-game : {H : Type 0} (m : ℕ) (ls : List Line) (next : Parsed → Result H HeadFault) → m < 2 → ((g : Parsed) → IsBehind m (next g)) → IsBehind m (and_then (game_in ls) next)
+behind-game m [] next less rest = less
+behind-game m (TooLong ∷ ls) next less rest = less
+behind-game m (Text line ∷ ls) next less rest = behind-read m (game_of line) next less rest
+
+-- the reading of the line behind the first k has failed
+pub breaks-off : {H : Type 0} (k n last : ℕ) (head read : Result H HeadFault) (lines : List Line) (fault : HeadFault) (input : List ℕ) (rest : Told) (reader : Reading) (before : ToldLines) → last ≡ k + 1 → k < n →
+    GoesOn head lines k read before → HasRead input rest reader (fault_line last fault) → fault ≡ ReadFault → IsBehind k read → BreaksOff n head input rest reader
+breaks-off {H = H} k n last head read lines fault input rest reader before next less so r failed sound =
+    let there : fault_line last fault ≡ last - 1 = ap (fault_line last) failed in
+    let same : fault_line last fault ≡ k = omega (arith, there, next) in record {
+      lines = k;
+      fewer = less;
+      taken = subst (λ (m : ℕ). HasRead input rest reader m) same r;
+      sound = subst (λ (r : Result H HeadFault). IsBehind k r) (sym so.so) sound;
+    }
+
 -- ---- the head of a certificate
 
 abbrev pub head_is : ℕ → Parsed → ℕ → List ℕ → ℤ → Head
@@ -94,6 +130,23 @@ head-begins newest lines = refl
 pub begins : (newest : ℕ) (lines : List Line) (before : ToldLines) → before ≡ Some lines →
     GoesOn (head_of newest lines) lines 0 (and_then (field_in 1 (version_at newest) (drop 0 lines)) (λ v. after_version lines v)) before
 begins newest lines before told = record { told = told; so = head-begins newest lines }
+
+-- what is to be made of the lines behind the first so many is the fault of none of these
+
+pub behind-value : (m : ℕ) (lines : List Line) (v : ℕ) (g : Parsed) (d : ℕ) (t : List ℕ) → m < 5 → IsBehind m (after_text lines v g d t)
+behind-value m lines v g d t less = behind-field m 5 value_at (drop 4 lines) (λ x. Ok (head_is v g d t x)) less (λ x. tt)
+
+pub behind-text : (m : ℕ) (lines : List Line) (v : ℕ) (g : Parsed) (d : ℕ) → m < 4 → IsBehind m (after_depth lines v g d)
+behind-text m lines v g d less = behind-field m 4 move_at (drop 3 lines) (λ t. after_text lines v g d t) less (λ t. behind-value m lines v g d t (omega (arith, less)))
+
+pub behind-depth : (m : ℕ) (lines : List Line) (v : ℕ) (g : Parsed) → m < 3 → IsBehind m (after_game lines v g)
+behind-depth m lines v g less = behind-field m 3 depth_at (drop 2 lines) (λ d. after_depth lines v g d) less (λ d. behind-text m lines v g d (omega (arith, less)))
+
+pub behind-version : (m : ℕ) (lines : List Line) (v : ℕ) → m < 2 → IsBehind m (after_version lines v)
+behind-version m lines v less = behind-game m (drop 1 lines) (λ g. after_game lines v g) less (λ g. behind-depth m lines v g (omega (arith, less)))
+
+pub behind-none : (newest : ℕ) (lines : List Line) → IsBehind 0 (and_then (field_in 1 (version_at newest) (drop 0 lines)) (λ v. after_version lines v))
+behind-none newest lines = behind-field 0 1 (version_at newest) (drop 0 lines) (λ v. after_version lines v) (omega arith) (λ v. behind-version 0 lines v (omega arith))
 
 -- the head, as the code puts it together
 pub head-pushed : (t : GameType) (ms : List Move) (n d : ℕ) (m : Move) (v : ℤ) (start a b c e f h : List ℕ) → start ≡ [] → a ≡ start ++ written_line (codes "hive-certificate " ++ decimal n) → b ≡ a ++ string t ms →

@@ -77,6 +77,25 @@ Reads k (Err ReadFault) read lines later = ⊤
 Reads k (Err InputFull) read lines later = ⊤
 Reads k (Err Memory) read lines later = ⊤
 
+-- A head was read, or its first fault is one of its lines behind the first so many: none of these
+-- is at fault.
+abbrev pub IsBehind : {A : Type 0} → ℕ → Result A HeadFault → Type 0
+IsBehind n (Ok a) = ⊤
+IsBehind n (Err (BadLine k)) = n < k
+IsBehind n (Err (BadGame fault)) = n < 2
+IsBehind n (Err ReadFault) = ⊥
+IsBehind n (Err InputFull) = ⊥
+IsBehind n (Err Memory) = ⊥
+
+-- Where a read has failed within a head of so many lines, whose lines give this head or fault: of
+-- the input fewer lines were read than it has, and none of them is at fault.
+pub record BreaksOff {A : Type 0} (n : ℕ) (read : Result A HeadFault) (input : List ℕ)
+    (rest : Told) (reader : Reading) : Type 0 where
+  pub lines : ℕ
+  pub fewer : lines < n
+  pub taken : HasRead input rest reader lines
+  pub sound : IsBehind lines read
+
 -- the same of a whole head, which is five lines
 abbrev pub ReadsHead : HeadRead → HeadRead → List Line → ToldLines → Type 0
 ReadsHead = Reads 5

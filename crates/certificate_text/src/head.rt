@@ -1,13 +1,15 @@
 //! The head of a certificate.
 
-ghost use Rattle.std.specs.Prelude.{◌≡◌, ◌≢◌, ◌≤◌, List, length, Some, Err, IfOk};
+ghost use Rattle.std.specs.Prelude.{◌≡◌, ◌≢◌, ◌≤◌, ℕ, List, length, Some, Err, IfOk};
 ghost use Rattle.line_feed.specs.Ahead.{ahead_of};
 ghost use Rattle.hive_model.specs.Lines.{Line as AnyLine};
 ghost use Rattle.hive_model.specs.Games.{IsGame};
 ghost use Rattle.game_text.specs.Reading.{game_of};
 ghost use Rattle.game_text.specs.declared.faults.GameFault.{GameFault as AnyFault};
 ghost use Rattle.certificate_text.specs.Text.{field_in, game_in, head_of};
+ghost use Rattle.certificate_text.specs.Taken.{HasRead};
 ghost use Rattle.certificate_text.specs.Heads.{
+  BreaksOff,
   IsHead,
   Reads,
   ReadsGame,
@@ -162,6 +164,10 @@ pub fn read_head<G: Game + Drop, S: Source>(
 ) -> Result<Head, HeadFault>
     ensures told { (lines : List AnyLine) → ahead_of reader.old (S.rest source.old) ≡ Some lines
         → ReadsHead result (head_of newest lines) lines (ahead_of reader.new (S.rest source.new)) }
+    ensures unread { (lines : List AnyLine) → ahead_of reader.old (S.rest source.old) ≡ Some lines
+        → (text : List ℕ) → HasRead text (S.rest source.old) reader.old 0
+        → result ≡ Err HeadFault.ReadFault
+        → BreaksOff 5 (head_of newest lines) text (S.rest source.new) reader.new }
     ensures head { IfOk result (λ h. IsHead newest h) }
     ensures fault { (fault : AnyFault) → result ≡ Err (HeadFault.BadGame fault)
         → fault ≢ GameFault.Memory }

@@ -92,21 +92,6 @@ pub bad-read : (head lines line : ℕ) (input : List ℕ) (rest : Told) (reader 
 bad-read head lines line input rest reader is r =
     (r.given, given_were_read input r.fed refl r.within r.little, omega (arith, is, r.few, within-limit input rest reader (head + lines) r))
 
--- ---- what does not decide
-
--- no verdict is decided within the head but by a fault of it
-pub within-head : (head n : ℕ) (v : Verdict) → n < head → IsDecidedBehind head v n
-within-head head n Accepted less = tt
-within-head head n (Refused place why) less = omega (arith, less)
-within-head head n (BadCite place) less = omega (arith, less)
-within-head head n (BadLine k) less = inl less
-within-head head n (BadGame fault) less = less
-within-head head n GameOver less = less
-
--- where fewer lines were read than a head has
-pub head-unread : (head most : ℕ) (v : Verdict) (input : List ℕ) (rest : Told) (reader : Reading) → most < head → HasRead input rest reader most → IsUndecided head v input rest
-head-unread head most v input rest reader less r = (r.given, given_were_read input r.fed refl r.within r.little, within-head head (length r.given) v (omega (arith, r.few, less)))
-
 -- ---- a run
 
 -- the line of the verdict was written

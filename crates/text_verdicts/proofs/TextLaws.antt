@@ -1,5 +1,5 @@
 -- What is judged of a text by its head, and what a reader has read that is lent to a walk.
-use Rattle.std.proofs.Common.{◌≡◌, ◌<◌, ◌≤◌, ℕ, ◌+◌, ◌-◌, ◌^◌, min, Bool, true, false, List, drop, length, refl, sym, ap, subst, arith, inr}
+use Rattle.std.proofs.Common.{◌≡◌, ◌<◌, ◌≤◌, ℕ, ◌+◌, ◌-◌, ◌^◌, min, Bool, true, false, List, drop, length, refl, sym, ap, subst, arith}
 use Rattle.std.specs.Prelude.{Result, Ok, Err, if◌then◌else◌}
 use Rattle.io_edge.specs.Outside.{Told}
 use Rattle.hive_model.specs.Lines.{Line, ToldLines}
@@ -9,7 +9,7 @@ use Rattle.claim_walks.specs.Follows.{held}
 use Rattle.claim_walks.specs.Answers.{Faults, CountsUnread}
 use Rattle.certificate_text.specs.declared.head.HeadFault.{HeadFault}
 use Rattle.certificate_text.specs.declared.head.HeadFault.TheVariants.{BadLine as LineFault, BadGame as NoGame, ReadFault as NoRead, InputFull as IsFull, Memory as NoMemory}
-use Rattle.certificate_text.specs.Heads.{Reads}
+use Rattle.certificate_text.specs.Heads.{BreaksOff, IsBehind, Reads}
 use Rattle.certificate_text.specs.Taken.{HasRead}
 use Rattle.certificate_text.proofs.TakenLaws.{within-limit}
 use Rattle.command_runs.proofs.ReadLemmas.{given_were_read}
@@ -42,6 +42,24 @@ module _ {H : Type 0} (n : ℕ) (head_of : List Line → Result H HeadFault) (wo
       (let r : Result H HeadFault = Err fault in Reads n r (head_of ls) ls later) → Judges result (text_verdict n head_of worth ls)
   fault-judges ls fault result later e h = subst (λ (r : Result Verdict Unread). Judges r (text_verdict n head_of worth ls)) (sym e) (of-fault ls fault later h)
 
+  -- where a read has failed within a head
+  broken-at : ((head : H) (rest : List Line) (m : ℕ) → m < n → IsDecidedBehind n (worth head rest) m) → (r : Result H HeadFault) (rest : List Line) (lines m : ℕ) → lines < n → m ≤ lines → IsBehind lines r → IsDecidedBehind n (of_head worth r rest) m
+  broken-at not_yet (Ok head) rest lines m less few sound = not_yet head rest m (omega (arith, less, few))
+  broken-at not_yet (Err (LineFault k)) rest lines m less few sound = omega (arith, few, sound)
+  broken-at not_yet (Err (NoGame fault)) rest lines m less few sound = omega (arith, few, sound)
+  broken-at not_yet (Err NoRead) rest lines m less few sound = absurd sound
+  broken-at not_yet (Err IsFull) rest lines m less few sound = absurd sound
+  broken-at not_yet (Err NoMemory) rest lines m less few sound = absurd sound
+
+  pub broken-unread : ((head : H) (rest : List Line) (m : ℕ) → m < n → IsDecidedBehind n (worth head rest) m) → (ls : List Line) (text : List ℕ) (rest : Told) (reader : Reading) → BreaksOff n (head_of ls) text rest reader →
+      IsUndecided n (text_verdict n head_of worth ls) text rest
+  broken-unread not_yet ls text rest reader b =
+      let r = b.taken in (
+        r.given,
+        given_were_read text r.fed refl r.within r.little,
+        subst (λ (v : Verdict). IsDecidedBehind n v (length r.given)) (sym (verdict-is ls (head_of ls) refl)) (broken-at not_yet (head_of ls) (drop n ls) b.lines (length r.given) b.fewer r.few b.sound),
+      )
+
   -- no fault of a head is accepted
   pub never-fault : (fault : HeadFault) (rest : List Line) → (let r : Result H HeadFault = Err fault in of_head worth r rest ≡ Accepted) → ⊥
   never-fault (LineFault k) rest e = cc
@@ -67,7 +85,7 @@ module _ {S W : Type 0} (faults : Faults W) (refusal : ℕ → W → Verdict) (d
   walk-behind : (head lines n : ℕ) (o : Outcome S W) → CountsUnread faults o lines → n ≤ head + lines → n ≤ input_limit → IsDecidedBehind head (walk_verdict refusal head o) n
   walk-behind head lines n (Left s) less few within = tt
   walk-behind head lines n (Fault why k) less few within = decides head n (held k) why (omega (arith, less, few, within))
-  walk-behind head lines n (Halt k) less few within = inr (omega (arith, less, few, within))
+  walk-behind head lines n (Halt k) less few within = omega (arith, less, few, within)
 
   pub walk-unread : (head lines : ℕ) (o : Outcome S W) (text : List ℕ) (rest : Told) (reader : Reading) → CountsUnread faults o lines → HasRead text rest reader (head + lines) → IsUndecided head (walk_verdict refusal head o) text rest
   walk-unread head lines o text rest reader less r =

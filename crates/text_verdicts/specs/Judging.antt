@@ -6,7 +6,7 @@ use Rattle.line_feed.specs.Ahead.{ahead_of}
 use Rattle.line_feed.specs.Feed.{Reading}
 use Rattle.certificate_text.specs.declared.head.HeadFault.{HeadFault}
 use Rattle.certificate_text.specs.declared.head.HeadFault.TheVariants.{BadLine as LineFault, BadGame as NoGame, ReadFault as NoRead, InputFull as IsFull, Memory as NoMemory}
-use Rattle.certificate_text.specs.Heads.{Reads, TakesLines}
+use Rattle.certificate_text.specs.Heads.{BreaksOff, Reads, TakesLines}
 use Rattle.certificate_text.specs.Taken.{HasRead}
 use Rattle.command_runs.specs.Input.{WhereTold}
 use Rattle.text_verdicts.specs.declared.verdict.Verdict.{Verdict}
@@ -32,13 +32,17 @@ unfoldable pub text_verdict : {H : Type 0} → ℕ → (List Line → Result H H
 text_verdict n head_of worth ls = of_head worth (head_of ls) (drop n ls)
 
 -- What the reading of a head of so many lines answers: the head of the lines to come, where they
--- are told, or the first fault; and what it leaves behind.
+-- are told, or the first fault; and what it leaves behind. Where a read has failed, the lines that
+-- were read have no fault.
 pub record TakesHead {H : Type 0} (n : ℕ) (head_of : List Line → Result H HeadFault)
     (result : Result H HeadFault) (reader reader' : Reading) (source source' : Aside) : Type 0 where
   pub told : (ls : List Line) → ahead_of reader source.bytes ≡ Some ls
       → Reads n result (head_of ls) ls (ahead_of reader' source'.bytes)
   pub taken : TakesLines n n result reader reader' source.bytes source'.bytes source.faults
       source'.faults
+  pub unread : (ls : List Line) → ahead_of reader source.bytes ≡ Some ls → (text : List ℕ)
+      → HasRead text source.bytes reader 0 → result ≡ Err NoRead
+      → BreaksOff n (head_of ls) text source'.bytes reader'
 
 -- What is judged of the lines to come, where the head of a text has so many lines and so many lines
 -- were read at most: what the lines are worth, where they are told, unless the input could not be

@@ -1,9 +1,12 @@
 -- What a command that checks a text writes and reads, by the status with which it ends.
-use Rattle.std.specs.Prelude.{◌≡◌, ℕ, ◌+◌, ◌<◌, ◌≤◌, ◌⊎◌, ⊤, List, length, take}
+use Rattle.std.proofs.Common.{arith}
+use Rattle.std.specs.Prelude.{◌≡◌, ℕ, ◌+◌, ◌<◌, ◌≤◌, ◌^◌, ⊤, List, length, take}
 use Rattle.io_edge.specs.Outside.{Told, behind}
 use Rattle.hive_model.specs.Lines.{Line, lines}
 use Rattle.line_feed.specs.Feed.{input_limit}
 use Rattle.line_feed.specs.SoFar.{WasRead}
+use Rattle.claim_walks.specs.Walks.{Outcome, Left, Fault, Halt}
+use Rattle.claim_walks.specs.Follows.{held}
 use Rattle.strategy_check.specs.Checks.{looked_for}
 use Rattle.strategy_check.specs.declared.answers.Why.{Why}
 use Rattle.strategy_check.specs.declared.answers.Why.TheVariants.{NoSuchMove, BadIndex, LeafFails, TooShort, Rest}
@@ -12,7 +15,7 @@ use Rattle.command_runs.specs.declared.status.Status.{Status}
 use Rattle.command_runs.specs.declared.status.Status.TheVariants.{Done, Refused as IsRefused, Usage, ReadFault, WriteFault, SpawnFault, BadInput, Memory, InputFull}
 use Rattle.text_verdicts.specs.declared.verdict.Verdict.{Verdict}
 use Rattle.text_verdicts.specs.declared.verdict.Verdict.TheVariants.{Accepted, Refused, BadCite, BadLine, BadGame, GameOver}
-use Rattle.text_verdicts.specs.Verdicts.{verdict_line, status_of}
+use Rattle.text_verdicts.specs.Verdicts.{verdict_line, status_of, walk_verdict}
 
 -- what the lines of a text are worth
 abbrev pub Judgement : Type 0
@@ -61,15 +64,24 @@ TookLimit input rest =
 
 -- The lines that decide this verdict are more than so many, where a head has so many: the one
 -- behind those that were taken is one of them where an index is missing or left over. What is
--- accepted is decided by the end of the input alone. Each line of the head is one of them, even
--- behind a fault of the head.
+-- accepted is decided by the end of the input alone. A bad line is itself one of them, and a bad
+-- game stands on the second.
 abbrev pub IsDecidedBehind : ℕ → Verdict → ℕ → Type 0
 IsDecidedBehind head Accepted n = ⊤
 IsDecidedBehind head (Refused place why) n = n < head + place + looked_for why
 IsDecidedBehind head (BadCite place) n = n < head + place
-IsDecidedBehind head (BadLine k) n = (n < head) ⊎ (n < k)
-IsDecidedBehind head (BadGame fault) n = n < head
+IsDecidedBehind head (BadLine k) n = n < k
+IsDecidedBehind head (BadGame fault) n = n < 2
 IsDecidedBehind head GameOver n = n < head
+
+-- Of what the walk of the items behind a head is worth, fewer lines than the head has decide nothing,
+-- if they do not decide the refusals of the walk.
+pub not-yet : {S W : Type 0} (refusal : ℕ → W → Verdict) (head n : ℕ) (o : Outcome S W)
+    → ((place : ℕ) (why : W) → IsDecidedBehind head (refusal place why) n) → n < head
+    → head < 2 ^ 64 → IsDecidedBehind head (walk_verdict refusal head o) n
+not-yet refusal head n (Left s) refused less few = tt
+not-yet refusal head n (Fault why k) refused less few = refused (held k) why
+not-yet refusal head n (Halt k) refused less few = omega (arith, less, few)
 
 -- These first lines of the input were read, and at most a piece beyond them, and they do not decide
 -- the verdict.

@@ -1,10 +1,10 @@
 //! The check of a text, whatever its form.
 
-ghost use Rattle.std.specs.Prelude.{◌≡◌, ◌+◌, ◌-◌, ℕ, List, Result, IfOk};
+ghost use Rattle.std.specs.Prelude.{◌<◌, ℕ, List, Result, IfOk};
 ghost use Rattle.hive_model.specs.Lines.{Line as AnyLine};
 ghost use Rattle.certificate_text.specs.declared.head.HeadFault.{HeadFault as AnyFault};
 ghost use Rattle.command_runs.specs.Runs.{RunsAs, side_of};
-ghost use Rattle.text_verdicts.specs.Runs.{Judgement, VerdictRun};
+ghost use Rattle.text_verdicts.specs.Runs.{IsDecidedBehind, Judgement, VerdictRun};
 ghost use Rattle.text_verdicts.specs.Judging.{JudgesAhead, JudgesInput, TakesHead, text_verdict};
 
 use crate::told::tell_judged;
@@ -25,9 +25,6 @@ pub trait TextForm {
     /// How many lines a head has.
     ghost head_lines: { ℕ };
 
-    /// It has some.
-    ghost has_lines: { (head_lines - 1) + 1 ≡ head_lines };
-
     /// The head of the lines of a text, or the first fault of these lines.
     ghost head_of: { List AnyLine → Result Self.Head AnyFault };
 
@@ -36,6 +33,10 @@ pub trait TextForm {
 
     /// What the lines behind a head are worth.
     ghost worth: { Self.Head → Judgement };
+
+    /// It is never decided by lines of the head alone.
+    ghost not_yet: { (head : Self.Head) (ls : List AnyLine) (n : ℕ) → n < head_lines
+        → IsDecidedBehind head_lines (worth head ls) n };
 
     /// Reads the head, whose game is played on one of the kind G. No line behind the first fault is
     /// read.

@@ -1,5 +1,5 @@
 -- The head of a text, line by line.
-use Rattle.std.proofs.Common.{◌≡◌, ℕ, Bool, List, [], ◌∷◌, ◌++◌, drop, codes, decimal, refl, ap, ◌∙◌, Some}
+use Rattle.std.proofs.Common.{◌≡◌, ◌<◌, arith, ℕ, Bool, List, [], ◌∷◌, ◌++◌, drop, codes, decimal, refl, ap, ◌∙◌, Some}
 use Rattle.std.specs.Prelude.{Result, Ok}
 use Rattle.std.proofs.lemmas.List.{append_assoc}
 use Rattle.hive_model.specs.declared.pieces.GameType.{GameType}
@@ -8,8 +8,9 @@ use Rattle.hive_model.specs.Lines.{Line, ToldLines}
 use Rattle.hive_model.specs.Strings.{string}
 use Rattle.game_text.specs.declared.parsed.Parsed.{Parsed}
 use Rattle.certificate_text.specs.declared.head.HeadFault.{HeadFault}
+use Rattle.certificate_text.specs.Heads.{IsBehind}
 use Rattle.certificate_text.specs.Text.{and_then, field_in, game_in, written_line}
-use Rattle.certificate_text.proofs.TextLaws.{GoesOn}
+use Rattle.certificate_text.proofs.TextLaws.{GoesOn, behind-field, behind-game}
 use Rattle.win_commands.specs.declared.head.Head.{Head}
 use Rattle.win_commands.specs.Text.{answer_at, answer_word, head_text, plies_at, version_at}
 use Rattle.win_commands.specs.Verdicts.{head_of}
@@ -35,6 +36,20 @@ after_version lines version = and_then (game_in (drop 1 lines)) (after_game line
 pub begins : (lines : List Line) (before : ToldLines) → before ≡ Some lines → GoesOn (head_of lines) lines 0 (and_then (field_in 1 version_at (drop 0 lines)) (after_version lines)) before
 unfolding head_of
 begins lines before told = record { told = told; so = refl }
+
+-- what is to be made of the lines behind the first so many is the fault of none of these
+
+pub behind-answer : (m : ℕ) (lines : List Line) (game : Parsed) (plies : ℕ) → m < 4 → IsBehind m (after_plies lines game plies)
+behind-answer m lines game plies less = behind-field m 4 answer_at (drop 3 lines) (after_answer game plies) less (λ answer. tt)
+
+pub behind-plies : (m : ℕ) (lines : List Line) (game : Parsed) → m < 3 → IsBehind m (after_game lines game)
+behind-plies m lines game less = behind-field m 3 plies_at (drop 2 lines) (after_plies lines game) less (λ plies. behind-answer m lines game plies (omega (arith, less)))
+
+pub behind-version : (m : ℕ) (lines : List Line) (version : ℕ) → m < 2 → IsBehind m (after_version lines version)
+behind-version m lines version less = behind-game m (drop 1 lines) (after_game lines) less (λ game. behind-plies m lines game (omega (arith, less)))
+
+pub behind-none : (lines : List Line) → IsBehind 0 (and_then (field_in 1 version_at (drop 0 lines)) (after_version lines))
+behind-none lines = behind-field 0 1 version_at (drop 0 lines) (after_version lines) (omega arith) (λ version. behind-version 0 lines version (omega arith))
 
 -- ---- writing
 

@@ -1,18 +1,23 @@
 -- What the lines of a text are worth as a solution.
-use Rattle.std.specs.Prelude.{ℕ, ◌≤◌, Bool, List, length, map, drop, Option, Result, Ok, if◌then◌else◌}
+use Rattle.std.proofs.Common.{arith}
+use Rattle.std.specs.Prelude.{ℕ, ◌<◌, ◌≤◌, Bool, true, false, List, length, map, drop, Option, Result, Ok, if◌then◌else◌}
 use Rattle.hive_model.specs.Positions.{Position}
 use Rattle.hive_model.specs.Legal.{is_over}
 use Rattle.hive_model.specs.Games.{IsGame}
 use Rattle.hive_model.specs.Lines.{Line}
 use Rattle.certificate_text.specs.declared.head.HeadFault.{HeadFault}
 use Rattle.certificate_text.specs.Text.{and_then, field_in, game_in, index_in}
+use Rattle.claim_walks.specs.Walks.{Outcome}
+use Rattle.strategy_check.specs.Trace.{Steps}
+use Rattle.strategy_check.specs.declared.answers.Why.{Why}
 use Rattle.win_solver.specs.Solution.{solved}
 use Rattle.command_runs.specs.OneGame.{last_position}
 use Rattle.win_commands.specs.declared.head.Head.{Head}
 use Rattle.text_verdicts.specs.declared.verdict.Verdict.{Verdict}
 use Rattle.text_verdicts.specs.declared.verdict.Verdict.TheVariants.{GameOver}
 use Rattle.text_verdicts.specs.Judging.{text_verdict}
-use Rattle.text_verdicts.specs.Verdicts.{of_walk}
+use Rattle.text_verdicts.specs.Runs.{IsDecidedBehind, not-yet}
+use Rattle.text_verdicts.specs.Verdicts.{index_refusal, of_walk}
 use Rattle.win_commands.specs.Text.{version_at, plies_at, answer_at}
 
 -- The head
@@ -49,3 +54,17 @@ of_claim head rest =
 -- the verdict on the lines of a text
 abbrev pub verdict : List Line → Verdict
 verdict = text_verdict 4 head_of of_claim
+
+-- it is never decided by lines of the head alone
+
+claim-later : (n : ℕ) (over : Bool) (o : Outcome Steps Why) → n < 4
+    → IsDecidedBehind 4 (if over then GameOver else of_walk 4 o) n
+claim-later n true o less = less
+claim-later n false o less =
+    not-yet index_refusal 4 n o (λ place why. omega (arith, less)) less (omega arith)
+
+pub claim-not-yet : (head : Head) (rest : List Line) (n : ℕ) → n < 4
+    → IsDecidedBehind 4 (of_claim head rest) n
+claim-not-yet head rest n less =
+    let p = last_position head.game in
+    claim-later n (is_over p) (solved p head.plies p.side head.answer (map index_in rest)) less

@@ -1,9 +1,10 @@
 //! The head of a solution.
 
-ghost use Rattle.std.specs.Prelude.{◌≡◌, List, Some, IfOk};
+ghost use Rattle.std.specs.Prelude.{◌≡◌, ℕ, List, Some, Err, IfOk};
 ghost use Rattle.line_feed.specs.Ahead.{ahead_of};
 ghost use Rattle.hive_model.specs.Lines.{Line as AnyLine};
-ghost use Rattle.certificate_text.specs.Heads.{Reads, TakesLines};
+ghost use Rattle.certificate_text.specs.Heads.{BreaksOff, Reads, TakesLines};
+ghost use Rattle.certificate_text.specs.Taken.{HasRead};
 ghost use Rattle.win_commands.specs.Verdicts.{IsHead, head_of};
 
 use crate::fields::AnswerField;
@@ -31,6 +32,10 @@ pub(crate) fn read_head<G: Game + Drop, S: Source>(
 ) -> Result<Head, HeadFault>
     ensures told { (lines : List AnyLine) → ahead_of reader.old (S.rest source.old) ≡ Some lines
         → Reads 4 result (head_of lines) lines (ahead_of reader.new (S.rest source.new)) }
+    ensures unread { (lines : List AnyLine) → ahead_of reader.old (S.rest source.old) ≡ Some lines
+        → (text : List ℕ) → HasRead text (S.rest source.old) reader.old 0
+        → result ≡ Err HeadFault.ReadFault
+        → BreaksOff 4 (head_of lines) text (S.rest source.new) reader.new }
     ensures head { IfOk result IsHead }
     ensures taken { TakesLines 4 4 result reader.old reader.new (S.rest source.old)
         (S.rest source.new) (S.read_faults source.old) (S.read_faults source.new) }

@@ -1,12 +1,12 @@
 //! Checks of solutions.
 
-ghost use Rattle.std.specs.Prelude.{◌≤◌, map, refl};
+ghost use Rattle.std.specs.Prelude.{◌≤◌, map};
 ghost use Rattle.hive_model.specs.Minimax.{IsInner};
 ghost use Rattle.hive_model.specs.Courses.{position};
 ghost use Rattle.certificate_text.specs.Text.{index_in};
 ghost use Rattle.command_runs.specs.Runs.{RunsAs, side_of};
 ghost use Rattle.text_verdicts.specs.Judging.{JudgesAhead};
-ghost use Rattle.win_commands.specs.Verdicts.{IsHead, head_of, of_claim, of_items};
+ghost use Rattle.win_commands.specs.Verdicts.{IsHead, claim-not-yet, head_of, of_claim, of_items};
 ghost use Rattle.win_commands.specs.Runs.{VerifyRun};
 
 use crate::head::{Head, read_head};
@@ -89,13 +89,13 @@ impl TextForm for Solutions {
 
     ghost head_lines = { 4 };
 
-    ghost has_lines = { refl };
-
     ghost head_of = { head_of };
 
     ghost keeps = { IsHead };
 
     ghost worth = { of_claim };
+
+    ghost not_yet = { claim-not-yet };
 
     fn read_head<S: Source, G: Game + Drop>(
         &self,

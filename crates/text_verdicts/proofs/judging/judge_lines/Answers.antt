@@ -1,11 +1,9 @@
 -- What is judged of the lines to come, by whether they have a head.
-use Rattle.std.proofs.Common.{◌≡◌, ◌-◌, rules, ap, arith, drop, subst, sym}
+use Rattle.std.proofs.Common.{◌≡◌, rules, ap, arith, drop, subst, sym}
 use Rattle.std.specs.Prelude.{Ok, Err}
 use Rattle.text_verdicts.specs.declared.verdict.Verdict.{Verdict}
 use Rattle.text_verdicts.specs.Reading.{Judges}
-use Rattle.certificate_text.specs.Heads.{fault_line}
-use Rattle.text_verdicts.proofs.JudgeLaws.{head-unread}
-use Rattle.text_verdicts.proofs.TextLaws.{fault-judges, head-undecided, verdict-is}
+use Rattle.text_verdicts.proofs.TextLaws.{broken-unread, fault-judges, head-undecided, verdict-is}
 use Rattle.text_verdicts.proofs.judging.judge_lines.Goals as goal
 
 pub returns-in-Ok : goal.returns-in-Ok
@@ -30,7 +28,5 @@ returns-in-Err g c =
       read = λ text r. c.fault_verdict.ensures.read form.head_lines text _ _ (c.in-Err.ensures.takes.taken.read text 0 (omega arith) r) (λ e. c.in-Err.ensures.takes.taken.failed (ap Err e)) (λ e. c.in-Err.ensures.takes.taken.full (ap Err e));
       unread = λ left told text r e.
           let failed = c.fault_verdict.ensures.failed.0 e in
-          let some = g.F.TextForm.has_lines in
-          let last : fault_line form.head_lines c.in-Err.fault ≡ form.head_lines - 1 = ap (fault_line form.head_lines) failed in
-          head-unread form.head_lines (fault_line form.head_lines c.in-Err.fault) _ text _ _ (omega (arith, last, some)) (c.in-Err.ensures.takes.taken.read text 0 (omega arith) r);
+          broken-unread form.head_lines form.head_of form.worth form.not_yet left text _ _ (c.in-Err.ensures.takes.unread left told text r (ap Err failed));
     }
