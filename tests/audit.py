@@ -28,6 +28,8 @@ FOUND = {
     "beetles": (6, 80, "extra"),
     "mosquitoes": (6, 80, "extra"),
     "passes": (10, 120, "unreadable"),
+    "refusals": (1, 80, "accepted"),
+    "loads": (1, 80, "string"),
 }
 
 # How many games of the program itself are played, and of the engine whose rules are right.
@@ -111,14 +113,46 @@ def audit_game(ask, play, words, plies, counts):
         play.make(move)
         judge_string(play, reply)
     if play.texts:
-        back = words.next() % len(play.texts) + 1
-        reply = ask(f"undo {back}")
-        play.undo(back)
-        judge_string(play, reply)
-        position = play.position()
-        judge_list(position, ask("validmoves"))
-        counts["positions"] += 1
-        counts["moves"] += len(position.moves())
+        end_game(ask, play, words, counts)
+
+
+def count_list(ask, play, counts):
+    """Judges the list of legal moves of the position that is reached."""
+    position = play.position()
+    judge_list(position, ask("validmoves"))
+    counts["positions"] += 1
+    counts["moves"] += len(position.moves())
+
+
+def text_of_tried(position, move):
+    """The text of a move that may not be legal: the piece alone where its place touches nothing."""
+    try:
+        return position.text(move)
+    except AssertionError:
+        return move[0]
+
+
+def end_game(ask, play, words, counts):
+    """Takes plies back, tries a move that is not legal, and loads the whole game."""
+    whole = (list(play.positions), list(play.texts))
+    back = words.next() % len(play.texts) + 1
+    reply = ask(f"undo {back}")
+    play.undo(back)
+    judge_string(play, reply)
+    count_list(ask, play, counts)
+    position = play.position()
+    stale = [move for move in play.positions[max(0, len(play.texts) - 2)].moves() if move not in position.moves()]
+    word = words.next()
+    if stale:
+        move = stale[word % len(stale)]
+        text = text_of_tried(position, move)
+        if ask("pass" if move is None else "play " + text).split("\n")[0].split(" ")[0] not in ("err", "invalidmove"):
+            raise Found("accepted", text)
+        count_list(ask, play, counts)
+    play.positions, play.texts = whole
+    judge_string(play, ask(f"newgame {play.string()}"))
+    if not play.is_over():
+        count_list(ask, play, counts)
 
 
 def type_of(asked, plays, number):
@@ -128,7 +162,7 @@ def type_of(asked, plays, number):
     return "Base+" + letters if letters else "Base"
 
 
-def audit(ask, greeting, games, seed, plies=80, game_type=None):
+def audit(ask, greeting, games, seed, plies=80, game_type=None, stop=False):
     """The lines of an audit of an engine that is asked by this function, and whose output does not end."""
     plays = {letter for word, letter in [("Mosquito", "M"), ("Ladybug", "L"), ("Pillbug", "P")] if word in greeting.split(";")}
     counts, lines = {"positions": 0, "moves": 0}, []
@@ -138,6 +172,9 @@ def audit(ask, greeting, games, seed, plies=80, game_type=None):
             audit_game(ask, play, Words(seed + number), plies, counts)
         except Found as found:
             lines.append(f"game {number + 1} ply {len(play.texts)} {play.string()} {found.line}")
+            if stop:
+                games = number + 1
+                break
     return lines + [f"audited {games} games {counts['positions']} positions {counts['moves']} moves, {len(lines)} findings"]
 
 
@@ -190,6 +227,8 @@ def ask_for_less(program):
     broke = ended.replace("ended", "broke")
     expect("an engine that is silent", run(program, "sleep 1000", 3, more=["--patience", "00:00:01"]), (broke, 1))
     expect("no engine", run(program, "/no/such/engine", 3), ("", 5))
+    wanted = audit(asked(audit_engines.changed("queens")), GREETING, 3, 1, stop=True)
+    expect("the first finding ends the run", run(program, engine_named("queens"), 3, more=["--stop", "1"]), (text_of(wanted), 1))
 
 
 if __name__ == "__main__":

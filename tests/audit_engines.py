@@ -164,6 +164,29 @@ def the_state_is_late(rules):
     rules.Play.string = lambda self: ";".join([self.position().game_type, "InProgress" if self.texts else "NotStarted", self.turn()] + self.texts)
 
 
+def each_move_is_played(rules):
+    """A move that can be read is played, legal or not."""
+
+    def move(self, text):
+        self.play.make(self.play.position().read(text))
+        return [self.play.string()]
+
+    rules.Session.move = move
+
+
+def a_loaded_game_lacks_its_last_move(rules):
+    right = rules.Session.newgame
+
+    def newgame(self, text):
+        answer = right(self, text)
+        if self.play.texts:
+            self.play.undo(1)
+            answer = [self.play.string()]
+        return answer
+
+    rules.Session.newgame = newgame
+
+
 # The rule that is changed, by the name of the engine.
 WRONG = {
     "beetles": beetles_pass_gates,
@@ -176,6 +199,8 @@ WRONG = {
     "passes": there_is_no_pass,
     "fourth": a_queen_waits_for_turn_five,
     "states": the_state_is_late,
+    "refusals": each_move_is_played,
+    "loads": a_loaded_game_lacks_its_last_move,
     "none": lambda rules: None,
 }
 

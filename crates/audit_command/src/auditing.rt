@@ -78,11 +78,12 @@ fn tell<K: Sink, G: Game + Drop>(auditor: &Auditor<G>, output: &mut K) -> Status
 /// Audits a program: the one that the first word names, with the other words as its arguments.
 ///
 /// Games are played with it, whose moves are drawn from the seed. Before each ply it is asked for
-/// the legal moves, and is to list just these, each once, in any order and spelling; each of its
-/// other replies is to be the game string of the game. Each reply that is wrong is a finding: its
-/// line tells the game, counted from 1, how many plies were played, the game string and what is
-/// wrong, and ends the game. The last line counts games, lists that were right, the moves on them
-/// and findings. The program is closed before the call returns, whatever happens.
+/// the legal moves, and is to list just these, each once, in any order and spelling; a move that is
+/// not legal is tried once a game, which it is to refuse; each of its other replies is to be the
+/// game string of the game. Each reply that is wrong is a finding: its line tells the game, counted
+/// from 1, how many plies were played, the game string and what is wrong, and ends the game. The
+/// last line counts games, lists that were right, the moves on them and findings. The program is
+/// closed before the call returns, whatever happens.
 ///
 /// `Done` says that there is no finding, and `Refused` that there are some; the text was written.
 /// `WriteFault` says that a write has failed: of the text only a front, and not all, was written.

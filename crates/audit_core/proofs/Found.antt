@@ -8,13 +8,13 @@ use Rattle.hive_model.specs.Legal.{is_over}
 use Rattle.hive_model.specs.Lines.{Line as Mark, Text, TooLong}
 use Rattle.hive_model.specs.Strings.{parts}
 use Rattle.audit_core.specs.declared.plan.Stage.{Stage}
-use Rattle.audit_core.specs.declared.plan.Stage.TheVariants.{Greeting, Beginning, Listing, Playing, Undoing, Reviewing, Over}
+use Rattle.audit_core.specs.declared.plan.Stage.TheVariants.{Greeting, Beginning, Listing, Playing, Undoing, Reviewing, Trying, Relisting, Loading, Finishing, Over}
 use Rattle.audit_core.specs.declared.findings.Fault.TheVariants.{Unreadable, Ended}
 use Rattle.audit_core.specs.declared.findings.Finding.{Finding}
-use Rattle.audit_core.specs.Judging.{wrong_list, wrong_string, ListsMoves, TellsGame}
-use Rattle.audit_core.specs.Drawing.{drawn_of}
-use Rattle.audit_core.specs.Texts.{is_ok}
-use Rattle.audit_core.specs.Standing.{Standing, start, position_now, conclude, begin, next_game, end_game, note, found, break_off, go, go_or_find, go_back, close_game, list_or_end, play_drawn, count, advance, with_move, check_string, check_list, without_plies, check_undone, check_review, reply_ends, fresh, keep, reply_with, sent, at_mark, is_ended, named_in}
+use Rattle.audit_core.specs.Judging.{wrong_list, wrong_refusal, wrong_string, ListsMoves, TellsGame}
+use Rattle.audit_core.specs.Drawing.{drawn_of, tried_of}
+use Rattle.audit_core.specs.Texts.{is_ok, is_refusal}
+use Rattle.audit_core.specs.Standing.{Standing, start, position_now, conclude, begin, next_game, end_game, note, found, break_off, go, go_or_find, go_back, close_game, list_or_end, play_drawn, count, advance, with_move, check_string, check_list, without_plies, position_before, next_word, try_drawn, loaded, list_loaded, check_undone, check_review, check_tried, check_relisted, check_loaded, check_finish, reply_ends, fresh, keep, reply_with, sent, at_mark, is_ended, named_in}
 use Rattle.audit_core.specs.Audits.{step, after_all, close, audit_of}
 use Rattle.audit_core.specs.Laws.{IsReply, IsRightLine, IsRight, IsRightAt, AreRight, AuditsFindFaults}
 use Rattle.audit_core.proofs.Judged.{replies_are_judged}
@@ -30,8 +30,12 @@ next_at false s = refl
 next_keeps : (s : Standing) → (next_game s).findings ≡ s.findings
 next_keeps s = next_at (nat_le s.plan.games s.ended) s
 
+found_at : (b : Bool) (s : Standing) → (cond b (conclude s) (next_game s)).findings ≡ s.findings
+found_at true s = refl
+found_at false s = next_keeps s
+
 found_adds : (s : Standing) (f : Finding) → (found s f).findings ≡ s.findings + 1
-found_adds s f = next_keeps (end_game (note s f))
+found_adds s f = found_at s.plan.stop (end_game (note s f))
 
 close_at : (b : Bool) (s : Standing) → (cond b (next_game (end_game s)) (go_back s)).findings ≡ s.findings
 close_at true s = next_keeps (end_game s)
@@ -50,6 +54,17 @@ list_keeps s = list_at (is_over (position_now s) || nat_le s.plan.plies (length 
 drawn_keeps : (s : Standing) (m : Option Move) → (play_drawn s m).findings ≡ s.findings
 drawn_keeps s None = next_keeps (end_game s)
 drawn_keeps s (Some m) = refl
+
+tried_keeps : (s : Standing) (m : Option Move) → (try_drawn s m).findings ≡ s.findings
+tried_keeps s None = refl
+tried_keeps s (Some m) = refl
+
+loaded_at : (b : Bool) (s : Standing) → (cond b (next_game (end_game s)) (go s Finishing)).findings ≡ s.findings
+loaded_at true s = next_keeps (end_game s)
+loaded_at false s = refl
+
+loaded_keeps : (s : Standing) → (list_loaded s).findings ≡ s.findings
+loaded_keeps s = loaded_at (is_over (position_now s)) s
 
 -- A reply
 
@@ -75,6 +90,27 @@ undone_tells s reply =
 review_tells : (s : Standing) (reply : List ℕ) → Tells (ListsMoves s.game_type (position_now s) reply) s.findings (check_review s reply).findings
 review_tells s reply =
     let law = replies_are_judged.lists s.game_type (position_now s) reply in
+    let tried = tried_of s.state (position_before s) (position_now s) in
+    judged_at s (wrong_list s.game_type (position_now s) reply) (try_drawn (next_word (count s)) tried) (tried_keeps (next_word (count s)) tried) law.0 law.1
+
+refused_tells : (s : Standing) (m : Move) (reply : List ℕ) → Tells (is_refusal reply ≡ true) s.findings (check_tried s m reply).findings
+refused_tells s m reply =
+    let law = replies_are_judged.refusals (position_now s).board m reply in
+    judged_at s (wrong_refusal (position_now s).board m reply) (go s Relisting) refl law.0 law.1
+
+relisted_tells : (s : Standing) (reply : List ℕ) → Tells (ListsMoves s.game_type (position_now s) reply) s.findings (check_relisted s reply).findings
+relisted_tells s reply =
+    let law = replies_are_judged.lists s.game_type (position_now s) reply in
+    judged_at s (wrong_list s.game_type (position_now s) reply) (go (count s) Loading) refl law.0 law.1
+
+loaded_tells : (s : Standing) (reply : List ℕ) → Tells (TellsGame s.game_type s.moves reply) s.findings (check_loaded s reply).findings
+loaded_tells s reply =
+    let law = replies_are_judged.strings s.game_type s.moves reply in
+    judged_at s (wrong_string s.game_type s.moves reply) (list_loaded s) (loaded_keeps s) law.0 law.1
+
+finish_tells : (s : Standing) (reply : List ℕ) → Tells (ListsMoves s.game_type (position_now s) reply) s.findings (check_finish s reply).findings
+finish_tells s reply =
+    let law = replies_are_judged.lists s.game_type (position_now s) reply in
     judged_at s (wrong_list s.game_type (position_now s) reply) (next_game (end_game (count s))) (next_keeps (end_game (count s))) law.0 law.1
 
 reply_tells : (s : Standing) (stage : Stage) (reply : List ℕ) → Tells (IsReply s stage reply) s.findings (reply_ends s stage reply).findings
@@ -84,6 +120,10 @@ reply_tells s Listing reply = list_tells s reply
 reply_tells s (Playing m) reply = string_tells (with_move s m) reply
 reply_tells s (Undoing back) reply = undone_tells (without_plies s back) reply
 reply_tells s Reviewing reply = review_tells s reply
+reply_tells s (Trying m) reply = refused_tells s m reply
+reply_tells s Relisting reply = relisted_tells s reply
+reply_tells s Loading reply = loaded_tells (loaded s) reply
+reply_tells s Finishing reply = finish_tells s reply
 reply_tells s Over reply = inl (tt, refl)
 
 -- A line
@@ -100,6 +140,10 @@ fresh_tells s Listing = reply_tells (fresh (sent s)) Listing s.reply
 fresh_tells s (Playing m) = reply_tells (fresh (sent s)) (Playing m) s.reply
 fresh_tells s (Undoing back) = reply_tells (fresh (sent s)) (Undoing back) s.reply
 fresh_tells s Reviewing = reply_tells (fresh (sent s)) Reviewing s.reply
+fresh_tells s (Trying m) = reply_tells (fresh (sent s)) (Trying m) s.reply
+fresh_tells s Relisting = reply_tells (fresh (sent s)) Relisting s.reply
+fresh_tells s Loading = reply_tells (fresh (sent s)) Loading s.reply
+fresh_tells s Finishing = reply_tells (fresh (sent s)) Finishing s.reply
 fresh_tells s Over = reply_tells (fresh (sent s)) Over s.reply
 
 line_tells : (s : Standing) (line : List ℕ) (b : Bool) → Tells (IsRightLine b s line) s.findings (cond b (reply_ends (fresh (sent s)) s.stage s.reply) (keep (sent s) (reply_with (sent s) s.stage line))).findings

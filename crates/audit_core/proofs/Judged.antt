@@ -20,12 +20,13 @@ use Rattle.hive_model.proofs.RuleLaws.{any_has, has_any}
 use Rattle.move_text.specs.declared.faults.MoveFault.{MoveFault}
 use Rattle.move_text.specs.Moves.{move_of}
 use Rattle.game_text.specs.Reading.{game_of}
-use Rattle.audit_core.specs.declared.findings.Fault.TheVariants.{Missing, Extra, Twice, NotTheGame}
+use Rattle.audit_core.specs.declared.findings.Fault.TheVariants.{Missing, Extra, Twice, NotTheGame, Accepted}
 use Rattle.audit_core.specs.declared.findings.Finding.{Finding}
 use Rattle.audit_core.specs.declared.findings.Judged.{Judged}
 use Rattle.audit_core.specs.declared.findings.Judged.TheVariants.{Wrong, Next}
 use Rattle.audit_core.specs.Judging.{finding, has_move, first_missing, part_of, on_part, wrong_in, is_game, ListsNext, ListsRest}
 use Rattle.audit_core.specs.Laws.{RepliesAreJudged}
+use Rattle.audit_core.specs.Texts.{is_refusal}
 
 pub has_on : (ms : List Move) (m : Move) → has_move ms m ≡ true → IsOn ms m
 has_on ms m h = let r = any_has (is_move m) ms h in subst (IsOn ms) (is_move_same m r.0 r.2) r.1
@@ -106,6 +107,14 @@ string_right line true false e f = refl
 string_right line true true e f = absurd (cc)
 string_right line false b e f = absurd (cc)
 
+refused_none : (b : Stacks) (m : Move) (r : Bool) → (if r then None else Some (finding Accepted (text b m))) ≡ None → r ≡ true
+refused_none b m true e = refl
+refused_none b m false e = absurd (cc)
+
+refused_right : (b : Stacks) (m : Move) (r : Bool) → r ≡ true → (if r then None else Some (finding Accepted (text b m))) ≡ None
+refused_right b m true e = refl
+refused_right b m false e = absurd (cc)
+
 pub replies_are_judged : RepliesAreJudged
 replies_are_judged = record {
   lists = λ t p line. (rest_right t p [] (parts line), right_rest t p [] (parts line));
@@ -113,6 +122,7 @@ replies_are_judged = record {
     λ e. let r = string_none line (is_game t ms (game_of line)) (bytes_eq line (type_bytes t)) e in record { reads = r.0; whole = r.1 },
     λ g. string_right line (is_game t ms (game_of line)) (bytes_eq line (type_bytes t)) g.reads g.whole,
   );
+  refusals = λ b m line. (refused_none b m (is_refusal line), refused_right b m (is_refusal line));
 }
 
 -- For the loop over the parts

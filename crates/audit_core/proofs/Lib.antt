@@ -2,4 +2,4 @@ pub mod Judged
 pub mod Found
 pub mod Picks
 pub mod Replies
-mod Undone
+mod Forward

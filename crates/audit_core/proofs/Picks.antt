@@ -3,7 +3,7 @@ use Rattle.std.proofs.Common.{◌≡◌, ℕ, ◌+◌, ◌%◌, Bool, true, fals
 use Rattle.std.specs.Prelude.{nat_eq, if◌then◌else◌}
 use Rattle.std.specs.declared.option.Option.{Option}
 use Rattle.std.specs.Option.{IfSome}
-use Rattle.std.specs.List.{slice_get}
+use Rattle.std.specs.List.{filter, slice_get}
 use Rattle.std.proofs.lemmas.Option.{slice_get_within, get_or_from_slice_get, slice_get-get_or}
 use Rattle.std.proofs.Math.Seq.{take-suc}
 use Rattle.hive_model.specs.declared.places.Move.{Move}
@@ -12,7 +12,7 @@ use Rattle.hive_model.specs.Positions.{Position}
 use Rattle.hive_model.specs.Legal.{moves}
 use Rattle.hive_model.proofs.GetLemmas.{on-at}
 use Rattle.hive_model.proofs.Floods.{on_filter}
-use Rattle.grow_game.specs.Growing.{word, next_state}
+use Rattle.grow_game.specs.Growing.{drawn, word, next_state}
 use Rattle.audit_core.specs.Drawing.{is_rare, rare_moves, picked_from, drawn_of}
 
 -- the moves before one place, and that one
@@ -46,6 +46,12 @@ drawn_legal state p =
 -- what stands at an index stands on the list
 pub item_on : (ms : List Move) (i : ℕ) (m : Move) → i < length ms → m ≡ get_or ms i m → IsOn ms m
 item_on ms i m less e = on-at ms i m (slice_get-get_or ms i m less ∙ ap (λ (k : Move). Some k) (sym e))
+
+-- what is drawn from a list that was filtered stood on it
+pub drawn_near : (keeps : Move → Bool) (w : ℕ) (ms : List Move) (P : Move → Type 0) → ((m : Move) → IsOn ms m → P m) → IfSome (drawn w (filter keeps ms)) P
+drawn_near keeps w ms P near =
+    let pool : List Move = filter keeps ms in
+    some_map (drawn w pool) (λ m. IsOn pool m) P (λ m on. near m (on_filter keeps ms m on).0) (some_on pool (w % length pool) (drawn w pool) refl)
 
 pub same_drawn : (o : Option Move) (state : ℕ) (p : Position) → o ≡ drawn_of state p → IfSome o (λ m. IsOn (moves p) m)
 same_drawn o state p e = subst (λ o. IfSome o (λ m. IsOn (moves p) m)) (sym e) (drawn_legal state p)

@@ -10,6 +10,7 @@ use Rattle.hive_model.specs.Boards.{is_occupied}
 use Rattle.hive_model.specs.Positions.{Position}
 use Rattle.hive_model.specs.Legal.{moves}
 use Rattle.grow_game.specs.Growing.{seeded, word, next_state, drawn}
+use Rattle.audit_core.specs.Judging.{has_move}
 
 -- a move is rare: the pass, a move of a mosquito, a move of a piece of the other side (a throw),
 -- and a move onto a piece (a climb)
@@ -35,6 +36,14 @@ drawn_of state p =
 -- the generator after both
 abbrev pub state_after : ℕ → ℕ
 state_after state = next_state (next_state state)
+
+-- of the moves that were legal in a position before, those that are not legal now
+abbrev pub stale_moves : Position → Position → List Move
+stale_moves before now = filter (λ m. not (has_move (moves now) m)) (moves before)
+
+-- a word draws one of them, if there is one
+abbrev pub tried_of : ℕ → Position → Position → Option Move
+tried_of state before now = drawn (word state) (stale_moves before now)
 
 -- how many plies of a game of so many are taken back at its end: from 1 to all of them, by a word
 abbrev pub undone_of : ℕ → ℕ → ℕ

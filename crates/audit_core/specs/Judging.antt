@@ -18,10 +18,11 @@ use Rattle.game_text.specs.declared.faults.GameFault.{GameFault}
 use Rattle.game_text.specs.declared.parsed.Parsed.{Parsed}
 use Rattle.game_text.specs.Reading.{game_of}
 use Rattle.audit_core.specs.declared.findings.Fault.{Fault}
-use Rattle.audit_core.specs.declared.findings.Fault.TheVariants.{Missing, Extra, Twice, Unreadable, NotTheGame}
+use Rattle.audit_core.specs.declared.findings.Fault.TheVariants.{Missing, Extra, Twice, Unreadable, NotTheGame, Accepted}
 use Rattle.audit_core.specs.declared.findings.Finding.{Finding}
 use Rattle.audit_core.specs.declared.findings.Judged.{Judged}
 use Rattle.audit_core.specs.declared.findings.Judged.TheVariants.{Wrong, Next}
+use Rattle.audit_core.specs.Texts.{is_refusal}
 
 abbrev pub finding : Fault → List ℕ → Finding
 finding fault text = record { fault = fault; text = text }
@@ -88,6 +89,12 @@ wrong_string t ms line =
     if is_game t ms (game_of line) && not (bytes_eq line (type_bytes t))
     then None
     else Some (finding NotTheGame line)
+
+-- Refusals
+
+-- what is wrong with a reply to this move, which is not legal: it is no refusal
+abbrev pub wrong_refusal : Stacks → Move → List ℕ → Option Finding
+wrong_refusal b m reply = if is_refusal reply then None else Some (finding Accepted (text b m))
 
 -- What a reply is to be
 

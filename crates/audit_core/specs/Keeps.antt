@@ -1,19 +1,20 @@
 -- What an auditor keeps.
-use Rattle.std.specs.Prelude.{ℕ, ◌+◌, ◌<◌, ◌≤◌, List, length}
+use Rattle.std.specs.Prelude.{◌≡◌, ℕ, ◌+◌, ◌<◌, ◌≤◌, List, length}
 use Rattle.hive_model.specs.Courses.{Course, position}
 use Rattle.hive_model.specs.Lists.{IsOn}
 use Rattle.hive_model.specs.Legal.{moves}
+use Rattle.move_text.specs.Moves.{IsMoveWithin}
 use Rattle.audit_core.specs.declared.plan.Plan.{Plan}
 use Rattle.audit_core.specs.declared.plan.Stage.{Stage}
-use Rattle.audit_core.specs.declared.plan.Stage.TheVariants.{Greeting, Beginning, Listing, Playing, Undoing, Reviewing, Over}
+use Rattle.audit_core.specs.declared.plan.Stage.TheVariants.{Greeting, Beginning, Listing, Playing, Undoing, Reviewing, Trying, Relisting, Loading, Finishing, Over}
 
 -- a game has from 1 to 1,000 plies at most
 pub record IsPlan (plan : Plan) : Type 0 where
   pub some : 1 ≤ plan.plies
   pub few : plan.plies ≤ 1000
 
--- while moves are asked for one more may be made, a move to be played is legal, and as many plies
--- as are taken back were made
+-- while moves are asked for one more may be made, a move to be played is legal, as many plies as
+-- are taken back were made, and a move that is tried has a text
 abbrev pub FitsStage : Stage → Course → ℕ → Type 0
 FitsStage Greeting game plies = Unit {0}
 FitsStage Beginning game plies = Unit {0}
@@ -21,12 +22,19 @@ FitsStage Listing game plies = length game.made < plies
 FitsStage (Playing m) game plies = (length game.made < plies) × IsOn (moves (position game)) m
 FitsStage (Undoing back) game plies = (1 ≤ back) × (back ≤ length game.made)
 FitsStage Reviewing game plies = Unit {0}
+FitsStage (Trying m) game plies = IsMoveWithin m
+FitsStage Relisting game plies = Unit {0}
+FitsStage Loading game plies = Unit {0}
+FitsStage Finishing game plies = Unit {0}
 FitsStage Over game plies = Unit {0}
 
--- the game has room for all plies, and the reply is no longer than a line
-pub record IsAuditor (plan : Plan) (stage : Stage) (game : Course) (reply : List ℕ)
+-- the game and the whole game have room for all plies and are of one type, and the reply is no
+-- longer than a line
+pub record IsAuditor (plan : Plan) (stage : Stage) (game whole : Course) (reply : List ℕ)
     : Type 0 where
   pub is_plan : IsPlan plan
   pub spare : plan.plies ≤ length game.made + game.spare
+  pub whole_spare : plan.plies ≤ length whole.made + whole.spare
+  pub kind : whole.game_type ≡ game.game_type
   pub fits : FitsStage stage game plan.plies
   pub short : length reply ≤ 65536

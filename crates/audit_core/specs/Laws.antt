@@ -2,26 +2,30 @@
 use Rattle.std.specs.Prelude.{◌≡◌, ◌↔◌, ℕ, ◌-◌, ◌≤◌, Bool, true, false, List, [], ◌∷◌, ◌++◌, length, take, None}
 use Rattle.hive_model.specs.declared.pieces.GameType.{GameType}
 use Rattle.hive_model.specs.declared.places.Move.{Move}
+use Rattle.hive_model.specs.Boards.{Stacks}
 use Rattle.hive_model.specs.Positions.{Position}
 use Rattle.hive_model.specs.Lines.{Line as Mark, Text, TooLong}
 use Rattle.audit_core.specs.declared.plan.Plan.{Plan}
 use Rattle.audit_core.specs.declared.plan.Stage.{Stage}
-use Rattle.audit_core.specs.declared.plan.Stage.TheVariants.{Greeting, Beginning, Listing, Playing, Undoing, Reviewing, Over}
-use Rattle.audit_core.specs.Judging.{wrong_list, wrong_string, ListsMoves, TellsGame}
-use Rattle.audit_core.specs.Texts.{is_ok}
+use Rattle.audit_core.specs.declared.plan.Stage.TheVariants.{Greeting, Beginning, Listing, Playing, Undoing, Reviewing, Trying, Relisting, Loading, Finishing, Over}
+use Rattle.audit_core.specs.Judging.{wrong_list, wrong_refusal, wrong_string, ListsMoves, TellsGame}
+use Rattle.audit_core.specs.Texts.{is_ok, is_refusal}
 use Rattle.audit_core.specs.Standing.{Standing, start, position_now, is_ended, reply_with}
 use Rattle.audit_core.specs.Audits.{step, audit_of}
 
--- nothing is wrong with a list exactly where it lists the legal moves, and with a string exactly
--- where it is that of the game
+-- nothing is wrong with a list exactly where it lists the legal moves, with a string exactly where
+-- it is that of the game, and with the reply to a move that is not legal where it is a refusal
 pub record RepliesAreJudged : Type 0 where
   pub lists : (t : GameType) (p : Position) (line : List ℕ)
       → (wrong_list t p line ≡ None) ↔ ListsMoves t p line
   pub strings : (t : GameType) (ms : List Move) (line : List ℕ)
       → (wrong_string t ms line ≡ None) ↔ TellsGame t ms line
+  pub refusals : (b : Stacks) (m : Move) (line : List ℕ)
+      → (wrong_refusal b m line ≡ None) ↔ (is_refusal line ≡ true)
 
--- a whole reply is what it is to be at its place: the game string of the game reached, or the list
--- of the legal moves of its position; a greeting may be anything
+-- a whole reply is what it is to be at its place: the game string of the game reached, the list of
+-- the legal moves of its position, or a refusal of a move that is not legal; a greeting may be
+-- anything
 abbrev pub IsReply : Standing → Stage → List ℕ → Type 0
 IsReply s Greeting reply = Unit {0}
 IsReply s Beginning reply = TellsGame s.game_type s.moves reply
@@ -30,6 +34,10 @@ IsReply s (Playing m) reply = TellsGame s.game_type (s.moves ++ m ∷ []) reply
 IsReply s (Undoing back) reply =
     TellsGame s.game_type (take (length s.moves - back) s.moves) reply
 IsReply s Reviewing reply = ListsMoves s.game_type (position_now s) reply
+IsReply s (Trying m) reply = is_refusal reply ≡ true
+IsReply s Relisting reply = ListsMoves s.game_type (position_now s) reply
+IsReply s Loading reply = TellsGame s.game_type s.whole reply
+IsReply s Finishing reply = ListsMoves s.game_type (position_now s) reply
 IsReply s Over reply = Unit {0}
 
 -- a line ends a reply that is what it is to be, or leaves the reply no longer than a line may be

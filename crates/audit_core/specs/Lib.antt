@@ -1,6 +1,6 @@
-pub mod Drawing
-pub mod Judging
 pub mod Texts
+pub mod Judging
+pub mod Drawing
 pub mod Standing
 pub mod Keeps
 pub mod Audits

@@ -11,19 +11,19 @@ use Rattle.hive_model.specs.Lines.{Line as Mark, Text, TooLong}
 use Rattle.hive_model.specs.Strings.{parts}
 use Rattle.audit_core.specs.declared.plan.Plan.{Plan}
 use Rattle.audit_core.specs.declared.plan.Stage.{Stage}
-use Rattle.audit_core.specs.declared.plan.Stage.TheVariants.{Greeting, Beginning, Listing, Playing, Undoing, Reviewing, Over}
+use Rattle.audit_core.specs.declared.plan.Stage.TheVariants.{Greeting, Beginning, Listing, Playing, Undoing, Reviewing, Trying, Relisting, Loading, Finishing, Over}
 use Rattle.audit_core.specs.declared.findings.Fault.{Fault}
 use Rattle.audit_core.specs.declared.findings.Fault.TheVariants.{Unreadable}
 use Rattle.audit_core.specs.declared.findings.Finding.{Finding}
 use Rattle.grow_game.specs.Growing.{next_state}
-use Rattle.audit_core.specs.Drawing.{drawn_of, state_after, state_of, type_of, undone_of}
-use Rattle.audit_core.specs.Judging.{finding, wrong_list, wrong_string}
-use Rattle.audit_core.specs.Texts.{begin_line, list_line, play_line, undo_line, is_ok, with_line, finding_line, last_line}
+use Rattle.audit_core.specs.Drawing.{drawn_of, state_after, state_of, tried_of, type_of, undone_of}
+use Rattle.audit_core.specs.Judging.{finding, wrong_list, wrong_refusal, wrong_string}
+use Rattle.audit_core.specs.Texts.{begin_line, list_line, load_line, play_line, undo_line, is_ok, with_line, finding_line, last_line}
 
 -- An audit: the place that it has reached; whether the line of that place is still to be sent; how
--- many games have ended; which expansions the engine plays; the game at hand and the generator of
--- its moves; what was read of the reply at hand; what is to be written; and the counts of findings,
--- of lists that were right, and of the moves on them.
+-- many games have ended; which expansions the engine plays; the game at hand, its moves before some
+-- were taken back, and the generator of its moves; what was read of the reply at hand; what is to
+-- be written; and the counts of findings, of lists that were right, and of the moves on them.
 pub record Standing : Type 0 where
   pub plan : Plan
   pub stage : Stage
@@ -32,6 +32,7 @@ pub record Standing : Type 0 where
   pub plays : GameType
   pub game_type : GameType
   pub moves : List Move
+  pub whole : List Move
   pub state : ℕ
   pub begun : Bool
   pub reply : List ℕ
@@ -41,10 +42,10 @@ pub record Standing : Type 0 where
   pub choices : ℕ
 
 -- the audit that stands so
-abbrev pub standing : Plan → Stage → Bool → ℕ → GameType → GameType → List Move → ℕ → Bool → List ℕ
-    → List ℕ → ℕ → ℕ → ℕ → Standing
-standing plan stage sending ended plays game_type moves state begun reply text findings positions
-    choices = record {
+abbrev pub standing : Plan → Stage → Bool → ℕ → GameType → GameType → List Move → List Move → ℕ
+    → Bool → List ℕ → List ℕ → ℕ → ℕ → ℕ → Standing
+standing plan stage sending ended plays game_type moves whole state begun reply text findings
+    positions choices = record {
       plan = plan;
       stage = stage;
       sending = sending;
@@ -52,6 +53,7 @@ standing plan stage sending ended plays game_type moves state begun reply text f
       plays = plays;
       game_type = game_type;
       moves = moves;
+      whole = whole;
       state = state;
       begun = begun;
       reply = reply;
@@ -64,6 +66,10 @@ standing plan stage sending ended plays game_type moves state begun reply text f
 -- the position that the moves lead to
 abbrev pub position_now : Standing → Position
 position_now s = replay (opening s.game_type) s.moves
+
+-- the position two plies before, where the same side was to move
+abbrev pub position_before : Standing → Position
+position_before s = replay (opening s.game_type) (take (length s.moves - 2) s.moves)
 
 -- no expansion
 abbrev pub base_type : GameType
@@ -79,6 +85,7 @@ start plan = record {
   plays = base_type;
   game_type = base_type;
   moves = [];
+  whole = [];
   state = state_of plan.seed 0;
   begun = false;
   reply = [];
@@ -96,6 +103,10 @@ line_at s Listing = list_line
 line_at s (Playing m) = play_line (position_now s) m
 line_at s (Undoing back) = undo_line back
 line_at s Reviewing = list_line
+line_at s (Trying m) = play_line (position_now s) m
+line_at s Relisting = list_line
+line_at s Loading = load_line s.game_type s.whole
+line_at s Finishing = list_line
 line_at s Over = []
 
 -- the line that is still to be sent
@@ -121,6 +132,7 @@ begin s = record s {
   sending = true;
   game_type = type_of s.plan.game_type s.plays s.ended;
   moves = [];
+  whole = [];
   state = state_of s.plan.seed s.ended;
 }
 
@@ -139,9 +151,10 @@ note s f = record s {
   findings = s.findings + 1;
 }
 
--- a finding ends the game
+-- a finding ends its game, and the audit too where that stops at one
 abbrev pub found : Standing → Finding → Standing
-found s f = next_game (end_game (note s f))
+found s f =
+    cond s.plan.stop (conclude (end_game (note s f))) (next_game (end_game (note s f)))
 
 -- a finding ends the audit
 abbrev pub break_off : Standing → Fault → Standing
@@ -199,16 +212,57 @@ check_list s reply =
 
 -- so many plies were taken back, and what is read is the game string of what is left
 abbrev pub without_plies : Standing → ℕ → Standing
-without_plies s back =
-    record s { stage = Beginning; moves = take (length s.moves - back) s.moves }
+without_plies s back = record s {
+  stage = Beginning;
+  moves = take (length s.moves - back) s.moves;
+  whole = s.moves;
+}
 
 -- the reply to an undo is to be the game string; then the list is asked for
 abbrev pub check_undone : Standing → List ℕ → Standing
 check_undone s reply = go_or_find s (wrong_string s.game_type s.moves reply) (go s Reviewing)
 
--- the list there is to be that of the legal moves, and the game has ended
+-- a move was drawn that is tried
+abbrev pub next_word : Standing → Standing
+next_word s = record s { state = next_state s.state }
+
+-- a move is tried that is not legal; where there is none, the whole game is loaded
+abbrev pub try_drawn : Standing → Option Move → Standing
+try_drawn s None = go s Loading
+try_drawn s (Some m) = go s (Trying m)
+
+-- the list there is to be that of the legal moves; then a move is tried that was legal two plies
+-- before and is not now
 abbrev pub check_review : Standing → List ℕ → Standing
 check_review s reply =
+    go_or_find s (wrong_list s.game_type (position_now s) reply)
+    (try_drawn (next_word (count s)) (tried_of s.state (position_before s) (position_now s)))
+
+-- the reply to the move that is tried is to be a refusal; then the list is asked for
+abbrev pub check_tried : Standing → Move → List ℕ → Standing
+check_tried s m reply =
+    go_or_find s (wrong_refusal (position_now s).board m reply) (go s Relisting)
+
+-- the list is to be as before, and the whole game is loaded
+abbrev pub check_relisted : Standing → List ℕ → Standing
+check_relisted s reply =
+    go_or_find s (wrong_list s.game_type (position_now s) reply) (go (count s) Loading)
+
+-- the whole game stands again, and what is read is its game string
+abbrev pub loaded : Standing → Standing
+loaded s = record s { stage = Beginning; moves = s.whole; whole = s.moves }
+
+-- the list is asked for where the game goes on, and else it has ended
+abbrev pub list_loaded : Standing → Standing
+list_loaded s = cond (is_over (position_now s)) (next_game (end_game s)) (go s Finishing)
+
+-- the reply to the loading of the whole game is to be its game string
+abbrev pub check_loaded : Standing → List ℕ → Standing
+check_loaded s reply = go_or_find s (wrong_string s.game_type s.moves reply) (list_loaded s)
+
+-- the list there is to be that of the legal moves, and the game has ended
+abbrev pub check_finish : Standing → List ℕ → Standing
+check_finish s reply =
     go_or_find s (wrong_list s.game_type (position_now s) reply) (next_game (end_game (count s)))
 
 -- The expansions that a greeting names
@@ -237,6 +291,10 @@ reply_ends s Listing reply = check_list s reply
 reply_ends s (Playing m) reply = check_string (with_move s m) reply
 reply_ends s (Undoing back) reply = check_undone (without_plies s back) reply
 reply_ends s Reviewing reply = check_review s reply
+reply_ends s (Trying m) reply = check_tried s m reply
+reply_ends s Relisting reply = check_relisted s reply
+reply_ends s Loading reply = check_loaded (loaded s) reply
+reply_ends s Finishing reply = check_finish s reply
 reply_ends s Over reply = s
 
 -- one line more of a reply: it has at most 65,536 bytes
@@ -253,6 +311,10 @@ is_greeting Listing = false
 is_greeting (Playing m) = false
 is_greeting (Undoing back) = false
 is_greeting Reviewing = false
+is_greeting (Trying m) = false
+is_greeting Relisting = false
+is_greeting Loading = false
+is_greeting Finishing = false
 is_greeting Over = false
 
 -- of the greeting the last line is kept, and of another reply all lines
@@ -285,4 +347,8 @@ is_ended Listing = false
 is_ended (Playing m) = false
 is_ended (Undoing back) = false
 is_ended Reviewing = false
+is_ended (Trying m) = false
+is_ended Relisting = false
+is_ended Loading = false
+is_ended Finishing = false
 is_ended Over = true

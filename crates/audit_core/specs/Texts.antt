@@ -1,5 +1,6 @@
 -- What an engine is sent, and what is written of it.
-use Rattle.std.specs.Prelude.{ℕ, Bool, true, false, List, [], ◌∷◌, ◌++◌, length, map, codes, decimal, nat_lt, if◌then◌else◌}
+use Rattle.std.specs.Prelude.{ℕ, Bool, true, false, ◌||◌, nat_eq, List, [], ◌∷◌, ◌++◌, length, map, codes, decimal, nat_lt, if◌then◌else◌}
+use Rattle.std.specs.List.{starts_with}
 use Rattle.std.specs.Str.{bytes_eq}
 use Rattle.hive_model.specs.declared.pieces.GameType.{GameType}
 use Rattle.hive_model.specs.declared.places.Move.{Move}
@@ -9,7 +10,7 @@ use Rattle.hive_model.specs.Denotes.{text}
 use Rattle.hive_model.specs.Fields.{type_bytes}
 use Rattle.hive_model.specs.Strings.{string}
 use Rattle.audit_core.specs.declared.findings.Fault.{Fault}
-use Rattle.audit_core.specs.declared.findings.Fault.TheVariants.{Missing, Extra, Twice, Unreadable, NotTheGame, Ended, Broke}
+use Rattle.audit_core.specs.declared.findings.Fault.TheVariants.{Missing, Extra, Twice, Unreadable, NotTheGame, Accepted, Ended, Broke}
 use Rattle.audit_core.specs.declared.findings.Finding.{Finding}
 
 -- What is sent
@@ -17,6 +18,10 @@ use Rattle.audit_core.specs.declared.findings.Finding.{Finding}
 -- a new game of this type
 abbrev pub begin_line : GameType → List ℕ
 begin_line t = codes "newgame " ++ (type_bytes t ++ 10 ∷ [])
+
+-- a game is loaded by its game string
+abbrev pub load_line : GameType → List Move → List ℕ
+load_line t ms = codes "newgame " ++ (string t ms ++ 10 ∷ [])
 
 -- the legal moves are asked for
 abbrev pub list_line : List ℕ
@@ -36,6 +41,16 @@ undo_line plies = codes "undo " ++ (decimal plies ++ 10 ∷ [])
 -- the line ends a reply
 abbrev pub is_ok : List ℕ → Bool
 is_ok line = bytes_eq line (codes "ok")
+
+-- a reply is this word, or begins by it and a space (32) or an LF (10)
+abbrev pub begins_by : List ℕ → List ℕ → Bool
+begins_by word reply =
+    bytes_eq reply word
+    || (starts_with nat_eq reply (word ++ 32 ∷ []) || starts_with nat_eq reply (word ++ 10 ∷ []))
+
+-- a reply refuses what was sent: its first word is `err` or `invalidmove`
+abbrev pub is_refusal : List ℕ → Bool
+is_refusal reply = begins_by (codes "err") reply || begins_by (codes "invalidmove") reply
 
 -- a reply with one line more; an LF (10) stands between two lines
 abbrev pub with_line : Bool → List ℕ → List ℕ → List ℕ
@@ -59,6 +74,7 @@ fault_word Extra = codes "extra"
 fault_word Twice = codes "twice"
 fault_word Unreadable = codes "unreadable"
 fault_word NotTheGame = codes "string"
+fault_word Accepted = codes "accepted"
 fault_word Ended = codes "ended"
 fault_word Broke = codes "broke"
 

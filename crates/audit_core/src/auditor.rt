@@ -1,5 +1,5 @@
 //! The auditor of an engine.
-ghost use Rattle.std.specs.Prelude.{◌≡◌, ◌≤◌, length, IfOk, OnOk};
+ghost use Rattle.std.specs.Prelude.{◌≡◌, ◌≤◌, [], length, IfOk, OnOk};
 ghost use Rattle.hive_model.specs.Lines.{Text, TooLong};
 ghost use Rattle.audit_core.specs.Keeps.{IsPlan};
 ghost use Rattle.audit_core.specs.Standing.{
@@ -11,13 +11,14 @@ ghost use Rattle.audit_core.specs.Standing.{
   is_ended,
 };
 
+mod endings;
 mod games;
 mod replies;
 
 use crate::drawing::generator_of;
 use crate::findings::Fault;
 use crate::plan::{Plan, Stage};
-use crate::texts::{begin_line, copy_text, is_ok, play_line, undo_line};
+use crate::texts::{begin_line, copy_text, is_ok, load_line, play_line, try_line, undo_line};
 use hive_model::{Game, GameType, LineText, ReplyText};
 use rand_xoshiro::SplitMix64;
 use std::alloc::{AllocError, Global};
@@ -30,13 +31,27 @@ const BASE: GameType = GameType {
     pillbug: false,
 };
 
+/// A game of this type that begins, with room for so many plies.
+fn new_game<G: Game + Drop>(alloc: Global, game_type: GameType, plies: u32) -> Result<G, AllocError>
+    requires { plies ≤ 1000 }
+    ensures kind { IfOk result (λ g. (G.course g).game_type ≡ game_type) }
+    ensures empty { IfOk result (λ g. (G.course g).made ≡ []) }
+    ensures room { IfOk result (λ g. plies ≤ (G.course g).spare) }
+{
+    let mut game = G::opening(alloc, game_type)?;
+    game.reserve(plies)?;
+    Ok(game)
+}
+
 /// An audit that is under way, as it stands after the lines that its engine has said.
 ///
 /// The greeting is read, and then game after game is played: a new game is asked for; before each
 /// ply its legal moves; and then one of them, which is drawn, is played. Once the game has come to
 /// its end some of its plies, as many as are drawn, are taken back, and the legal moves there are
-/// asked for. Each reply ends by a line `ok`, and is judged. What is found wrong ends its game, and
-/// is told in a line.
+/// asked for. Then a move is tried that was legal two plies before and is not now, one that is
+/// drawn, if there is one; and the list is asked for again. At last the whole game is loaded by its
+/// game string, and its legal moves are asked for unless it is over. Each reply ends by a line
+/// `ok`, and is judged. What is found wrong ends its game, and is told in a line.
 ///
 /// After want of memory an auditor is of no further use. A count that would pass 2 to the power 64
 /// is told as want of memory.
@@ -49,6 +64,7 @@ pub struct Auditor<G: Game> {
     ended: u64,
     plays: GameType,
     game: G,
+    whole: G,
     generator: SplitMix64,
     begun: bool,
     reply: LineText,
@@ -65,10 +81,11 @@ impl<G: Game> Model for Auditor<G> {
     ghost Value = { Standing };
 
     ghost view = { λ a. standing a.plan a.stage a.sending a.ended a.plays
-        (G.course a.game).game_type (G.course a.game).made a.generator a.begun a.reply a.text
-        a.findings a.positions a.choices };
+        (G.course a.game).game_type (G.course a.game).made (G.course a.whole).made a.generator
+        a.begun a.reply a.text a.findings a.positions a.choices };
 
-    ghost invariant = { λ a. IsAuditor a.plan a.stage (G.course a.game) a.reply };
+    ghost invariant = { λ a. IsAuditor a.plan a.stage (G.course a.game) (G.course a.whole)
+        a.reply };
 }
 
 impl<G: Game + Drop> Auditor<G> {
@@ -81,8 +98,8 @@ impl<G: Game + Drop> Auditor<G> {
         requires { IsPlan plan }
         ensures { IfOk result (λ a. a ≡ start plan) }
     {
-        let mut game = G::opening(alloc, BASE)?;
-        game.reserve(plan.plies)?;
+        let game = new_game(alloc, BASE, plan.plies)?;
+        let whole = new_game(alloc, BASE, plan.plies)?;
         Ok(Auditor {
             alloc,
             plan,
@@ -91,6 +108,7 @@ impl<G: Game + Drop> Auditor<G> {
             ended: 0,
             plays: BASE,
             game,
+            whole,
             generator: generator_of(plan.seed, 0),
             begun: false,
             reply: LineText::new(alloc),
@@ -136,6 +154,10 @@ impl<G: Game + Drop> Auditor<G> {
             Stage::Playing { m } => play_line(self.alloc, &self.game, m),
             Stage::Undoing { plies } => undo_line(self.alloc, plies),
             Stage::Reviewing => copy_text(self.alloc, b"validmoves\n"),
+            Stage::Trying { m } => try_line(self.alloc, &self.game, m),
+            Stage::Relisting => copy_text(self.alloc, b"validmoves\n"),
+            Stage::Loading => load_line(self.alloc, &self.whole),
+            Stage::Finishing => copy_text(self.alloc, b"validmoves\n"),
             Stage::Over => Ok(ReplyText::new(self.alloc)),
         }
     }

@@ -1,8 +1,14 @@
 //! The moves of the games are drawn.
-ghost use Rattle.std.specs.Prelude.{◌≡◌, ◌≤◌, IfOk, OnOk};
+ghost use Rattle.std.specs.Prelude.{◌≡◌, ◌≤◌, ◌-◌, length, not, take, IfOk, IfSome, OnOk};
 ghost use Rattle.std.specs.List.{filter};
+ghost use Rattle.hive_model.specs.declared.places.Move.{Move as AnyMove};
 ghost use Rattle.hive_model.specs.Courses.{position};
+ghost use Rattle.hive_model.specs.Lists.{IsOn};
+ghost use Rattle.hive_model.specs.Games.{replay};
 ghost use Rattle.hive_model.specs.Legal.{moves};
+ghost use Rattle.hive_model.specs.Positions.{opening};
+ghost use Rattle.move_text.specs.Moves.{IsMoveWithin};
+ghost use Rattle.audit_core.specs.Judging.{has_move};
 ghost use Rattle.grow_game.specs.Growing.{drawn, next_state};
 ghost use Rattle.audit_core.specs.Drawing.{
   is_rare,
@@ -11,10 +17,14 @@ ghost use Rattle.audit_core.specs.Drawing.{
   drawn_of,
   state_after,
   state_of,
+  stale_moves,
+  tried_of,
   undone_of,
   type_of,
 };
 
+use crate::lists::{has_move, legal_moves};
+use crate::past::first_plies;
 use hive_model::{Game, GameType, Kind, Move, MoveList, is_occupied};
 use rand_xoshiro::SplitMix64;
 use rand_xoshiro::rand_core::SeedableRng;
@@ -108,6 +118,52 @@ pub(crate) fn draw<G: Game>(
     let first = generator.next_word();
     let second = generator.next_word();
     Ok(pick(picked_from(first, rare.items(), legal), second))
+}
+
+/// Those of the moves that are not on the other list.
+fn stale_of(alloc: Global, before: &[Move], now: &[Move]) -> Result<MoveList, AllocError>
+    ensures { IfOk result (λ l. l ≡ filter (λ m. not (has_move now.now m)) before.now) }
+{
+    let mut stale = MoveList::new(alloc);
+    for m in before {
+        if !has_move(now, m.again()) {
+            stale.push(m.again())?;
+        }
+    }
+    Ok(stale)
+}
+
+/// The legal moves of the position two plies before, whose destinations are near.
+fn moves_before<G: Game + Drop>(alloc: Global, game: &G) -> Result<MoveList, AllocError>
+    ensures listed { let now = G.course game.now in IfOk result (λ l. l ≡ moves
+        (replay (opening now.game_type) (take (length now.made - 2) now.made))) }
+    ensures near { IfOk result (λ l. (m : AnyMove) → IsOn l m → IsMoveWithin m) }
+{
+    let mut before = first_plies(alloc, game, game.plies().saturating_sub(2), 0)?;
+    before.is_sound();
+    legal_moves(alloc, &mut before)
+}
+
+/// Draws by a word one of the moves that were legal two plies before and are not now, if there is
+/// one.
+pub(crate) fn draw_tried<G: Game + Drop>(
+    alloc: Global,
+    game: &G,
+    legal: &[Move],
+    generator: &mut SplitMix64,
+) -> Result<Option<Move>, AllocError>
+    requires { legal.now ≡ moves (position (G.course game.now)) }
+    ensures drawn { let now = G.course game.now in IfOk result (λ m. m
+        ≡ tried_of generator.old
+        (replay (opening now.game_type) (take (length now.made - 2) now.made))
+        (position now)) }
+    ensures near { IfOk result (λ m. IfSome m (λ m. IsMoveWithin m)) }
+    ensures state { OnOk result (generator.new ≡ next_state generator.old) }
+{
+    let before = moves_before(alloc, game)?;
+    let stale = stale_of(alloc, before.items(), legal)?;
+    let word = generator.next_word();
+    Ok(pick(stale.items(), word))
 }
 
 /// Draws how many plies of a game of so many are taken back.

@@ -14,6 +14,8 @@ pub enum Fault {
     Unreadable,
     /// The reply is not the game string of the game.
     NotTheGame,
+    /// A move that is not legal is not refused.
+    Accepted,
     /// The engine's output has ended within a reply.
     Ended,
     /// A read or a write has failed.

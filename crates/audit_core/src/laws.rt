@@ -2,13 +2,15 @@
 ghost use Rattle.audit_core.specs.Laws.{AuditsFindFaults, RepliesAreJudged};
 
 /// Nothing is wrong with a list exactly where it lists the legal moves of its position, each once
-/// and no other; and with a string exactly where it is read as the game.
+/// and no other; with a string exactly where it is read as the game; and with the reply to a move
+/// that is not legal exactly where it is a refusal.
 pub fn replies_are_judged()
     ensures { RepliesAreJudged }
 {}
 
 /// An audit finds nothing exactly where each reply up to its end is what it is to be: the list of
-/// the legal moves of the position reached, or the game string of the game reached.
+/// the legal moves of the position reached, the game string of the game reached, or the refusal of
+/// a move that is not legal.
 pub fn audits_find_faults()
     ensures { AuditsFindFaults }
 {}

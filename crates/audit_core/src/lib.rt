@@ -8,10 +8,10 @@ mod judging;
 mod laws;
 mod lists;
 mod parts;
+mod past;
 mod plan;
 mod strings;
 mod texts;
-mod undoing;
 
 pub use auditor::Auditor;
 pub use findings::{Fault, Finding};

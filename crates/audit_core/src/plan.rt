@@ -14,6 +14,8 @@ pub struct Plan {
     /// The type of all games. Where there is none, each of the eight types comes in turn, without
     /// the expansions that the engine does not name in its greeting.
     pub game_type: Option<GameType>,
+    /// Whether the first finding ends the audit. Else it ends its game alone.
+    pub stop: bool,
 }
 
 /// The place that an audit has reached: which reply of the engine is read.
@@ -31,6 +33,14 @@ pub enum Stage {
     Undoing { plies: u32 },
     /// That of `validmoves` behind it.
     Reviewing,
+    /// That of this move, which is not legal.
+    Trying { m: Move },
+    /// That of `validmoves` behind it.
+    Relisting,
+    /// That of `newgame` with the game string of the whole game.
+    Loading,
+    /// That of `validmoves` behind it.
+    Finishing,
     /// None: the audit is over.
     Over,
 }

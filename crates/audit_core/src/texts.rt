@@ -1,14 +1,28 @@
 //! The lines that are sent, and those that are written.
-ghost use Rattle.std.specs.Prelude.{◌≡◌, ◌≤◌, ◌++◌, length, map, decimal, IfOk, OnOk};
+ghost use Rattle.std.specs.Prelude.{
+  ◌≡◌,
+  ◌≤◌,
+  ◌++◌,
+  length,
+  map,
+  codes,
+  decimal,
+  IfOk,
+  OnOk,
+};
 ghost use Rattle.hive_model.specs.Courses.{position};
 ghost use Rattle.hive_model.specs.Lists.{IsOn};
 ghost use Rattle.hive_model.specs.Legal.{moves};
 ghost use Rattle.hive_model.specs.Denotes.{text};
+ghost use Rattle.move_text.specs.Moves.{IsMoveWithin};
 ghost use Rattle.audit_core.specs.Texts.{
   begin_line,
+  begins_by,
   play_line,
   undo_line,
   is_ok,
+  is_refusal,
+  load_line,
   with_line,
   shown,
   text_behind,
@@ -62,6 +76,15 @@ pub(crate) fn move_text<G: Game>(alloc: Global, game: &G, m: Move) -> Result<Lin
     copy_text(alloc, write_move(game, m).as_bytes())
 }
 
+/// The text of a move whose destination is near.
+pub(crate) fn near_text<G: Game>(alloc: Global, game: &G, m: Move) -> Result<LineText, AllocError>
+    requires { IsMoveWithin m }
+    ensures { IfOk result (λ t. t ≡ text (position (G.course game.now)).board m) }
+{
+    let _state = game.state();
+    copy_text(alloc, write_move(game, m).as_bytes())
+}
+
 /// The line that asks for a new game.
 pub(crate) fn begin_line(alloc: Global, game_type: GameType) -> Result<ReplyText, AllocError>
     ensures { IfOk result (λ t. t ≡ begin_line game_type) }
@@ -91,6 +114,36 @@ pub(crate) fn play_line<G: Game>(alloc: Global, game: &G, m: Move) -> Result<Rep
     Ok(line)
 }
 
+/// The line that plays a move whose destination is near.
+pub(crate) fn try_line<G: Game>(alloc: Global, game: &G, m: Move) -> Result<ReplyText, AllocError>
+    requires { IsMoveWithin m }
+    ensures { IfOk result (λ t. t ≡ play_line (position (G.course game.now)) m) }
+{
+    let mut line = ReplyText::new(alloc);
+    match m {
+        Move::Pass => line.push_all(b"pass\n")?,
+        Move::To { .. } => {
+            let text = near_text(alloc, game, m.again())?;
+            line.push_all(b"play ")?;
+            line.push_all(text.items())?;
+            line.push(b'\n')?;
+        }
+    }
+    Ok(line)
+}
+
+/// The line that loads a game by its game string.
+pub(crate) fn load_line<G: Game + Drop>(alloc: Global, game: &G) -> Result<ReplyText, AllocError>
+    ensures { let now = G.course game.now in
+        IfOk result (λ t. t ≡ load_line now.game_type now.made) }
+{
+    let mut line = ReplyText::new(alloc);
+    line.push_all(b"newgame ")?;
+    write_game(alloc, game, &mut line)?;
+    line.push(b'\n')?;
+    Ok(line)
+}
+
 /// The line that takes so many plies back.
 pub(crate) fn undo_line(alloc: Global, plies: u32) -> Result<ReplyText, AllocError>
     ensures { IfOk result (λ t. t ≡ undo_line plies) }
@@ -107,6 +160,31 @@ pub(crate) fn is_ok(line: &[u8]) -> bool
     ensures { result ≡ is_ok line.now }
 {
     line == b"ok".as_slice()
+}
+
+/// Whether a reply begins by `err`.
+fn is_error(reply: &[u8]) -> bool
+    ensures { result ≡ begins_by (codes "err") reply.now }
+{
+    reply == b"err".as_slice()
+        || reply.starts_with(b"err ".as_slice())
+        || reply.starts_with(b"err\n".as_slice())
+}
+
+/// Whether a reply begins by `invalidmove`.
+fn is_invalid(reply: &[u8]) -> bool
+    ensures { result ≡ begins_by (codes "invalidmove") reply.now }
+{
+    reply == b"invalidmove".as_slice()
+        || reply.starts_with(b"invalidmove ".as_slice())
+        || reply.starts_with(b"invalidmove\n".as_slice())
+}
+
+/// Whether a reply refuses what was sent.
+pub(crate) fn is_refusal(reply: &[u8]) -> bool
+    ensures { result ≡ is_refusal reply.now }
+{
+    is_error(reply) || is_invalid(reply)
 }
 
 /// A byte of an engine as it is written.
@@ -163,6 +241,7 @@ fn write_word(out: &mut ReplyText, fault: Fault) -> Result<(), AllocError>
         Fault::Twice => out.push_all(b"twice"),
         Fault::Unreadable => out.push_all(b"unreadable"),
         Fault::NotTheGame => out.push_all(b"string"),
+        Fault::Accepted => out.push_all(b"accepted"),
         Fault::Ended => out.push_all(b"ended"),
         Fault::Broke => out.push_all(b"broke"),
     }

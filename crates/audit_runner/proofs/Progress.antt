@@ -6,20 +6,20 @@ use Rattle.std.specs.declared.result.Result.{Result}
 use Rattle.std.specs.Result.{IfOk}
 use Rattle.std.proofs.lemmas.Option.{same_Some}
 use Rattle.io_edge.specs.Outside.{Told, behind}
-use Rattle.hive_model.specs.Lines.{Line as Mark, ToldLines, NoneAhead, lines}
+use Rattle.hive_model.specs.Lines.{Line as Mark, TooLong, ToldLines, LongAhead, NoneAhead, lines}
 use Rattle.line_feed.specs.Feed.{Reading, fresh}
 use Rattle.line_feed.specs.Ahead.{ahead_of}
 use Rattle.line_feed.proofs.AheadLemmas.{ahead_begin}
 use Rattle.audit_core.specs.declared.plan.Plan.{Plan}
 use Rattle.audit_core.specs.declared.plan.Stage.{Stage}
-use Rattle.audit_core.specs.declared.plan.Stage.TheVariants.{Greeting, Beginning, Listing, Playing, Undoing, Reviewing, Over}
+use Rattle.audit_core.specs.declared.plan.Stage.TheVariants.{Greeting, Beginning, Listing, Playing, Undoing, Reviewing, Trying, Relisting, Loading, Finishing, Over}
 use Rattle.audit_core.specs.declared.findings.Fault.{Fault}
 use Rattle.audit_core.specs.declared.findings.Fault.TheVariants.{Ended, Broke}
 use Rattle.audit_core.specs.Standing.{Standing, start, sent, is_ended, break_off, line_at, line_now, at_mark}
 use Rattle.audit_core.specs.Audits.{step, after_all, close, audit_of, sent_over, sent_in}
 use Rattle.audit_runner.specs.Wires.{Wire, HasFailed}
 use Rattle.audit_runner.specs.Turns.{Turns}
-use Rattle.audit_runner.specs.declared.turns.Turned.TheVariants.{Heard, Ended as NoLine, ReadFault, WriteFault}
+use Rattle.audit_runner.specs.declared.turns.Turned.TheVariants.{Heard, Long, Ended as NoLine, ReadFault, WriteFault}
 use Rattle.audit_runner.specs.Runs.{IsAudit, IsFront, RanOver}
 
 -- these lines were read, and the bytes that go before them were written
@@ -92,6 +92,10 @@ line_over true s Listing e = absurd (cc)
 line_over true s (Playing m) e = absurd (cc)
 line_over true s (Undoing back) e = absurd (cc)
 line_over true s Reviewing e = absurd (cc)
+line_over true s (Trying m) e = absurd (cc)
+line_over true s Relisting e = absurd (cc)
+line_over true s Loading e = absurd (cc)
+line_over true s Finishing e = absurd (cc)
 
 no_line : (s : Standing) → is_ended s.stage ≡ true → line_now s ≡ []
 no_line s e = line_over s.sending s s.stage e
@@ -163,6 +167,22 @@ ran_over plan t a w0 w p o = record {
         sent = p.wrote ∙ ap (behind w0.written) (sent-all-over plan t p.marks f.0 p.here o ∙ ap (sent_in plan) (sym f.2));
       };
 }
+
+-- the lines behind one that is too long
+long_rest : (a : ToldLines) → LongAhead a → (b : ToldLines) × (a ≡ option_map (λ (left : List Mark). TooLong ∷ left) b)
+long_rest None h = (None, refl)
+long_rest (Some left) (more, e) = (Some more, ap (λ (r : List Mark). Some r) e)
+
+long-over : (s t : Standing) → is_ended s.stage ≡ false → t ≡ step s TooLong → is_ended t.stage ≡ true
+unfolding at_mark
+long-over s t o e = ap (λ (x : Standing). is_ended x.stage) (e ∙ ap (λ b. cond b s (at_mark (sent s) TooLong)) o)
+
+-- a line was too long
+pub ran_long : (plan : Plan) (s t : Standing) (a1 a2 : ToldLines) (w0 w : Wire) (w1 : Told) → Progress plan s (ahead_of fresh w0.rest) a1 w0.written w1 → is_ended s.stage ≡ false → Turns Long s t a1 a2 w1 w.written → RanOver plan t w0 w
+ran_long plan s t a1 a2 w0 w w1 p o (next, long, wrote) =
+    let behind_it = long_rest a1 long in
+    let q = progress_on plan s t (ahead_of fresh w0.rest) a1 behind_it.0 w0.written w1 w.written p (TooLong, next, behind_it.1, wrote) in
+    ran_over plan t behind_it.0 w0 w q (long-over s t o next)
 
 broken-over : (s t : Standing) (fault : Fault) → t ≡ break_off s fault → is_ended t.stage ≡ true
 broken-over s t fault e = ap (λ (x : Standing). is_ended x.stage) e

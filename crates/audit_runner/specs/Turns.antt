@@ -2,13 +2,13 @@
 use Rattle.std.specs.Prelude.{◌≡◌, ℕ, List, ◌∷◌, length, take, ◌<◌}
 use Rattle.std.specs.Option.{option_map}
 use Rattle.io_edge.specs.Outside.{Told, behind}
-use Rattle.hive_model.specs.Lines.{Line as Mark, ToldLines, NoneAhead}
+use Rattle.hive_model.specs.Lines.{Line as Mark, TooLong, ToldLines, LongAhead, NoneAhead}
 use Rattle.audit_core.specs.Standing.{Standing, line_now, sent, at_mark}
 use Rattle.audit_core.specs.Audits.{step}
 use Rattle.audit_runner.specs.declared.turns.Sending.{Sending}
 use Rattle.audit_runner.specs.declared.turns.Sending.TheVariants.{Sent, Broke, Memory as NoMemory}
 use Rattle.audit_runner.specs.declared.turns.Turned.{Turned}
-use Rattle.audit_runner.specs.declared.turns.Turned.TheVariants.{Heard, Ended, ReadFault, WriteFault, Memory, Full}
+use Rattle.audit_runner.specs.declared.turns.Turned.TheVariants.{Heard, Long, Ended, ReadFault, WriteFault, Memory, Full}
 
 -- the line that waits was sent, or of it a front
 abbrev pub Sends : Sending → Standing → Standing → Told → Told → Type 0
@@ -17,10 +17,11 @@ Sends Broke s t before after =
     (t ≡ s) × ((n : ℕ) × (n < length (line_now s)) × (after ≡ behind before (take n (line_now s))))
 Sends NoMemory s t before after = Unit {0}
 
--- a line was read
+-- a line was read; one that is too long stays the first of those to come
 abbrev pub Hears : Turned → Standing → Standing → ToldLines → ToldLines → Type 0
 Hears Heard s t old new =
     (mark : Mark) × (t ≡ at_mark s mark) × (old ≡ option_map (λ left. mark ∷ left) new)
+Hears Long s t old new = (t ≡ at_mark s TooLong) × LongAhead old
 Hears Ended s t old new = (t ≡ s) × NoneAhead old
 Hears ReadFault s t old new = (t ≡ s) × (new ≡ old)
 Hears WriteFault s t old new = ⊥
@@ -33,6 +34,8 @@ abbrev pub Turns : Turned → Standing → Standing → ToldLines → ToldLines 
 Turns Heard s t old new before after =
     (mark : Mark) × (t ≡ step s mark) × (old ≡ option_map (λ left. mark ∷ left) new)
     × (after ≡ behind before (line_now s))
+Turns Long s t old new before after =
+    (t ≡ step s TooLong) × LongAhead old × (after ≡ behind before (line_now s))
 Turns Ended s t old new before after =
     (t ≡ sent s) × NoneAhead old × (after ≡ behind before (line_now s))
 Turns ReadFault s t old new before after =

@@ -68,6 +68,7 @@ pub fn run_audit<L: Link, G: Game + Drop>(
         }
         match turn(&mut auditor, &mut reader, link) {
             Turned::Heard => {}
+            Turned::Long => return Ok(auditor),
             Turned::Ended => return broken(auditor, Fault::Ended),
             Turned::ReadFault => return broken(auditor, Fault::Broke),
             Turned::WriteFault => return broken(auditor, Fault::Broke),

@@ -9,7 +9,7 @@ ghost use Rattle.audit_runner.specs.Turns.{Sends, Hears, Turns};
 use audit_core::Auditor;
 use hive_model::Game;
 use io_edge::{Link, write_all};
-use line_feed::{LineAnswer, LineReader};
+use line_feed::{LineReader, ShortAnswer};
 
 /// What the sending of a line came to.
 #[derive(Clone, Copy, Debug, PartialEq, Eq)]
@@ -25,8 +25,10 @@ pub(crate) enum Sending {
 /// What a turn came to.
 #[derive(Clone, Copy, Debug, PartialEq, Eq)]
 pub(crate) enum Turned {
-    /// A line was read, or passed over where it is too long.
+    /// A line was read.
     Heard,
+    /// A line is too long: its 65,537th byte was read.
+    Long,
     /// No line is left.
     Ended,
     /// A read failed.
@@ -61,7 +63,8 @@ fn send<L: Link, G: Game + Drop>(auditor: &mut Auditor<G>, link: &mut L) -> Send
     }
 }
 
-/// Reads the next line.
+/// Reads the next line. One that is too long is judged as soon as that is certain, at its 65,537th
+/// byte: whatever follows, it is too long.
 fn listen<L: Link, G: Game + Drop>(
     auditor: &mut Auditor<G>,
     reader: &mut LineReader,
@@ -76,18 +79,18 @@ fn listen<L: Link, G: Game + Drop>(
     ensures cause { HasCause (result ≡ Turned.ReadFault) (L.read_faults link.old)
         (L.read_faults link.new) }
 {
-    match reader.next_line(link) {
-        LineAnswer::Line => match auditor.hear(reader.line()) {
+    match reader.next_short_line(link) {
+        ShortAnswer::Line => match auditor.hear(reader.line()) {
             Ok(()) => Turned::Heard,
             Err(_) => Turned::Memory,
         },
-        LineAnswer::TooLong => match auditor.pass_over() {
-            Ok(()) => Turned::Heard,
+        ShortAnswer::Long => match auditor.pass_over() {
+            Ok(()) => Turned::Long,
             Err(_) => Turned::Memory,
         },
-        LineAnswer::End => Turned::Ended,
-        LineAnswer::Failed => Turned::ReadFault,
-        LineAnswer::Full => Turned::Full,
+        ShortAnswer::End => Turned::Ended,
+        ShortAnswer::Failed => Turned::ReadFault,
+        ShortAnswer::Full => Turned::Full,
     }
 }
 

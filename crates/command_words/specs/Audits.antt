@@ -1,5 +1,5 @@
 -- The words that ask for an audit of a program.
-use Rattle.std.specs.Prelude.{◌≡◌, ℕ, ◌-◌, ◌^◌, List, [], ◌∷◌, codes, map, string_bytes, Option, None, Some, option_map}
+use Rattle.std.specs.Prelude.{◌≡◌, ℕ, Bool, ◌-◌, ◌^◌, List, [], ◌∷◌, codes, map, string_bytes, Option, None, Some, option_map}
 use Rattle.std.specs.declared.string.String.{String}
 use Rattle.std.specs.declared.alloc.Global.{Global}
 use Rattle.hive_model.specs.declared.pieces.GameType.{GameType}
@@ -9,7 +9,7 @@ use Rattle.match_core.specs.declared.answers.Level.TheVariants.{Depth}
 use Rattle.option_words.specs.Options.{Gives}
 use Rattle.command_words.specs.declared.audits.AuditTexts.{AuditTexts}
 use Rattle.command_words.specs.declared.care.Care.{Care}
-use Rattle.command_words.specs.Matches.{IsCareOf, IsNumberOr, IsProgram, between_spaces}
+use Rattle.command_words.specs.Matches.{IsCareOf, IsNumberOr, IsProgram, IsRuleOf, between_spaces}
 
 -- a game type, or none where none is given
 abbrev pub IsTypeGiven : Option (List ℕ) → Option GameType → Type 0
@@ -32,6 +32,7 @@ pub record AuditOptions : Type 0 where
   pub game_type : Option (List ℕ)
   pub patience : Option (List ℕ)
   pub quiet : Option (List ℕ)
+  pub stop : Option (List ℕ)
 
 -- a program's texts of these options
 abbrev pub options_in : AuditTexts → AuditOptions
@@ -43,18 +44,19 @@ options_in texts = record {
   game_type = option_map (λ t. t.now) texts.game_type;
   patience = option_map (λ t. t.now) texts.patience;
   quiet = option_map (λ t. t.now) texts.quiet;
+  stop = option_map (λ t. t.now) texts.stop;
 }
 
 -- the options of an audit, in the order in which their values are given
 abbrev pub audit_options : List (List ℕ)
 audit_options =
     codes "engine" ∷ (codes "games" ∷ (codes "seed" ∷ (codes "plies" ∷
-    (codes "type" ∷ (codes "patience" ∷ (codes "quiet" ∷ []))))))
+    (codes "type" ∷ (codes "patience" ∷ (codes "quiet" ∷ (codes "stop" ∷ [])))))))
 
 abbrev pub audit_values : AuditOptions → List (Option (List ℕ))
 audit_values o =
     Some o.engine ∷ (Some o.games ∷ (Some o.seed ∷ (o.plies ∷
-    (o.game_type ∷ (o.patience ∷ (o.quiet ∷ []))))))
+    (o.game_type ∷ (o.patience ∷ (o.quiet ∷ (o.stop ∷ [])))))))
 
 -- the words are `audit` and its options, with these values
 abbrev pub GiveAudit : List (String Global) → AuditOptions → Type 0
@@ -63,23 +65,24 @@ GiveAudit words options =
 
 -- The options have values of their form: from 1 to 1,000,000 games, whose moves are drawn from a
 -- seed, any number below 2 to the power 64; from 1 to 1,000 plies a game, 80 where none are given;
--- and one type for all games, or none.
+-- one type for all games, or none; and whether the first finding ends the audit, by 1.
 pub record ChooseAudit (options : AuditOptions) (games seed plies : ℕ)
-    (game_type : Option GameType) : Type 0 where
+    (game_type : Option GameType) (stop : Bool) : Type 0 where
   pub program : IsProgram options.engine
   pub games_are : IsNumberText options.games 1 1000000 games
   pub seed_is : IsNumberText options.seed 0 (2 ^ 64 - 1) seed
   pub plies_are : IsNumberOr options.plies 1 1000 80 plies
   pub kind : IsTypeGiven options.game_type game_type
+  pub stop_is : IsRuleOf options.stop stop
   pub care : Care
   pub care_is : IsCareOf options.patience options.quiet untimed care
 
 -- `audit` and its options, of which the program, the games and the seed are required
 pub record AreAuditWords (words : List (String Global)) (games seed plies : ℕ)
-    (game_type : Option GameType) : Type 0 where
+    (game_type : Option GameType) (stop : Bool) : Type 0 where
   pub options : AuditOptions
   pub give : GiveAudit words options
-  pub choose : ChooseAudit options games seed plies game_type
+  pub choose : ChooseAudit options games seed plies game_type stop
 
 -- the words are `audit` and options, and ask for this care of the program
 abbrev pub AskForAuditCare : List (String Global) → Care → Type 0

@@ -3,6 +3,7 @@ ghost use Rattle.std.specs.Prelude.{
   ◌≡◌,
   ◌<◌,
   ℕ,
+  Bool,
   MatchOption,
   Option,
   Some,
@@ -28,7 +29,7 @@ ghost use Rattle.command_words.specs.Audits.{
 use crate::care::{Care, care_at};
 use crate::matched::is_program;
 use crate::program::words_of;
-use crate::setup::number_or;
+use crate::setup::{number_or, rule_of};
 use hive_model::GameType;
 use match_core::Level;
 use move_text::{read_number, read_type};
@@ -36,8 +37,8 @@ use option_words::options_of;
 use std::alloc::{AllocError, Global};
 
 /// The options of an audit, in the order in which their values are asked for.
-const OPTIONS: [&str; 7] = [
-    "engine", "games", "seed", "plies", "type", "patience", "quiet",
+const OPTIONS: [&str; 8] = [
+    "engine", "games", "seed", "plies", "type", "patience", "quiet", "stop",
 ];
 
 /// No time is set for an answer, as in a match to a depth.
@@ -50,6 +51,7 @@ pub(crate) struct Audit {
     pub(crate) seed: u64,
     pub(crate) plies: u32,
     pub(crate) game_type: Option<GameType>,
+    pub(crate) stop: bool,
 }
 
 /// The texts of the options of an audit.
@@ -62,6 +64,7 @@ pub(crate) struct AuditTexts<'a> {
     pub(crate) game_type: Option<&'a str>,
     pub(crate) patience: Option<&'a str>,
     pub(crate) quiet: Option<&'a str>,
+    pub(crate) stop: Option<&'a str>,
 }
 
 /// The texts that the words give the options of an audit: `audit` and its options, of which the
@@ -92,6 +95,7 @@ fn texts_of<'a>(alloc: Global, words: &'a [String]) -> Result<Option<AuditTexts<
         game_type: given.value(4),
         patience: given.value(5),
         quiet: given.value(6),
+        stop: given.value(7),
     }))
 }
 
@@ -111,9 +115,10 @@ fn type_given(text: Option<&str>) -> Option<Option<GameType>>
 /// those of the program and on the care for it too.
 fn audit_at(texts: AuditTexts<'_>) -> Option<Audit>
     ensures found { IfSome result (λ a. ChooseAudit (options_in texts.entry) a.games a.seed a.plies
-        a.game_type) }
-    ensures only { (g s n : ℕ) (t : Option AnyType) → ChooseAudit (options_in texts.entry) g s n t
-        → result ≡ Some (record { games = g; seed = s; plies = n; game_type = t }) }
+        a.game_type a.stop) }
+    ensures only { (g s n : ℕ) (t : Option AnyType) (r : Bool)
+        → ChooseAudit (options_in texts.entry) g s n t r
+        → result ≡ Some (record { games = g; seed = s; plies = n; game_type = t; stop = r }) }
 {
     if !is_program(texts.engine) {
         return None;
@@ -122,12 +127,14 @@ fn audit_at(texts: AuditTexts<'_>) -> Option<Audit>
     let seed = read_number(texts.seed.as_bytes(), 0, u64::MAX)?;
     let plies = number_or(texts.plies, 1, 1000, 80)?;
     let game_type = type_given(texts.game_type)?;
+    let stop = rule_of(texts.stop)?;
     let _care = care_at(texts.patience, texts.quiet, UNTIMED)?;
     Some(Audit {
         games,
         seed,
         plies: plies as u32,
         game_type,
+        stop,
     })
 }
 
@@ -135,10 +142,10 @@ fn audit_at(texts: AuditTexts<'_>) -> Option<Audit>
 /// `AllocError` where memory runs out before that is known.
 pub(crate) fn audit_of(alloc: Global, words: &[String]) -> Result<Option<Audit>, AllocError>
     ensures found { IfOk result (λ o. IfSome o (λ a. AreAuditWords words.now a.games a.seed a.plies
-        a.game_type)) }
-    ensures only { IfOk result (λ o. (g s n : ℕ) (t : Option AnyType)
-        → AreAuditWords words.now g s n t
-        → o ≡ Some (record { games = g; seed = s; plies = n; game_type = t })) }
+        a.game_type a.stop)) }
+    ensures only { IfOk result (λ o. (g s n : ℕ) (t : Option AnyType) (r : Bool)
+        → AreAuditWords words.now g s n t r
+        → o ≡ Some (record { games = g; seed = s; plies = n; game_type = t; stop = r })) }
 {
     match texts_of(alloc, words)? {
         Some(texts) => Ok(audit_at(texts)),
@@ -149,8 +156,8 @@ pub(crate) fn audit_of(alloc: Global, words: &[String]) -> Result<Option<Audit>,
 /// The care for its program that the words of an audit ask for. An `AllocError` where memory runs
 /// out.
 pub(crate) fn audit_care(alloc: Global, words: &[String]) -> Result<Care, AllocError>
-    requires { (g : ℕ) × (s : ℕ) × (n : ℕ) × (t : Option AnyType)
-        × AreAuditWords words.now g s n t }
+    requires { (g : ℕ) × (s : ℕ) × (n : ℕ) × (t : Option AnyType) × (r : Bool)
+        × AreAuditWords words.now g s n t r }
     ensures { IfOk result (λ care. AskForAuditCare words.now care) }
 {
     let Some(texts) = texts_of(alloc, words)? else {
@@ -165,8 +172,8 @@ pub(crate) fn audit_care(alloc: Global, words: &[String]) -> Result<Care, AllocE
 /// The program of the audit that the words ask for: the words that its option gives, separated by
 /// single spaces, in order. An `AllocError` where memory runs out.
 pub fn audited_of(alloc: Global, words: &[String]) -> Result<Vec<String>, AllocError>
-    requires { (g : ℕ) × (s : ℕ) × (n : ℕ) × (t : Option AnyType)
-        × AreAuditWords words.now g s n t }
+    requires { (g : ℕ) × (s : ℕ) × (n : ℕ) × (t : Option AnyType) × (r : Bool)
+        × AreAuditWords words.now g s n t r }
     ensures some { IfOk result (λ program. 0 < length program.items) }
     ensures program { IfOk result (λ program. AskForAudited words.now
         (map string_bytes program.items)) }

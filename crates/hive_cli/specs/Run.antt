@@ -1,6 +1,6 @@
 -- What a run does, by what its words ask for and by the status with which it ends. A new command
 -- has a case here and in `Words`.
-use Rattle.std.specs.Prelude.{◌≡◌, ℕ, List, Option}
+use Rattle.std.specs.Prelude.{◌≡◌, ℕ, Bool, List, Option}
 use Rattle.std.specs.declared.string.String.{String}
 use Rattle.std.specs.declared.alloc.Global.{Global}
 use Rattle.hive_model.specs.declared.pieces.GameType.{GameType}
@@ -95,12 +95,13 @@ pub record PlayedCup (words : List (String Global)) (setup : Setup) (status : St
   pub untimed : Untimed before after
 
 -- what an audit is made by
-abbrev pub plan_of : ℕ → ℕ → ℕ → Option GameType → Plan
-plan_of games seed plies game_type = record {
+abbrev pub plan_of : ℕ → ℕ → ℕ → Option GameType → Bool → Plan
+plan_of games seed plies game_type stop = record {
   games = games;
   seed = seed;
   plies = plies;
   game_type = game_type;
+  stop = stop;
 }
 
 -- the program of the audit that the words ask for was started, by its words
@@ -146,8 +147,8 @@ RunOf words Book status before after =
     BookRun status before.scene.sides after.scene.sides × Untimed before after
 RunOf words Migrate status before after =
     MigrateRun status before.scene.sides after.scene.sides × Untimed before after
-RunOf words (Audit games seed plies game_type) status before after =
-    MadeAudit words (plan_of games seed plies game_type) status before after
+RunOf words (Audit games seed plies game_type stop) status before after =
+    MadeAudit words (plan_of games seed plies game_type stop) status before after
 
 -- a run that is asked for this may read the clock: that of a session, for its searches, and a match
 abbrev pub UsesClock : Asked → Type 0
@@ -159,7 +160,7 @@ UsesClock _ = ⊥
 abbrev pub UsesSpawner : Asked → Type 0
 UsesSpawner (Match setup) = Unit {0}
 UsesSpawner (Cup setup) = Unit {0}
-UsesSpawner (Audit games seed plies game_type) = Unit {0}
+UsesSpawner (Audit games seed plies game_type stop) = Unit {0}
 UsesSpawner _ = ⊥
 
 -- whatever the words ask for, this is not so

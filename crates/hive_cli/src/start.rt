@@ -219,7 +219,8 @@ fn audited<K: Sink, P: Spawner, G: Game + Drop>(
     output: &mut K,
     spawner: &mut P,
 ) -> Status
-    requires words { AreAuditWords words.now plan.games plan.seed plan.plies plan.game_type }
+    requires words { AreAuditWords words.now plan.games plan.seed plan.plies plan.game_type
+        plan.stop }
     requires plan { IsPlan plan }
     ensures run { AuditRun plan result
         (audit_scene (K.written output.old) (P.engines spawner.old))
@@ -275,12 +276,14 @@ fn perform<R: Threads + Sync, S: Source, K: Sink, C: Clock, P: Spawner, G: Game 
             seed,
             plies,
             game_type,
+            stop,
         } => {
             let plan = Plan {
                 games,
                 seed,
                 plies,
                 game_type,
+                stop,
             };
             Outcome {
                 status: audited::<K, P, G>(alloc, words, plan, output, spawner),

@@ -12,7 +12,7 @@ ghost use Rattle.audit_core.specs.Standing.{
   list_or_end,
 };
 
-use super::Auditor;
+use super::{Auditor, new_game};
 use crate::drawing::{draw_undone, generator_of, type_of};
 use crate::findings::{Fault, Finding};
 use crate::plan::Stage;
@@ -51,9 +51,10 @@ impl<G: Game + Drop> Auditor<G> {
         ensures { OnOk result (self.new ≡ begin self.old) }
     {
         let game_type = type_of(self.plan.game_type, self.plays, self.ended);
-        let mut game = G::opening(self.alloc, game_type)?;
-        game.reserve(self.plan.plies)?;
+        let game = new_game(self.alloc, game_type, self.plan.plies)?;
+        let whole = new_game(self.alloc, game_type, self.plan.plies)?;
         self.game = game;
+        self.whole = whole;
         self.generator = generator_of(self.plan.seed, self.ended);
         self.stage = Stage::Beginning;
         self.sending = true;
@@ -88,12 +89,24 @@ impl<G: Game + Drop> Auditor<G> {
         write_finding(self.alloc, &mut self.text, number, &self.game, finding)
     }
 
-    /// A finding ends the game.
+    /// A game has ended, and the audit with it.
+    fn end_audit(&mut self) -> Result<(), AllocError>
+        ensures { OnOk result (self.new ≡ conclude (end_game self.old)) }
+    {
+        self.ended = raised(self.ended, 1)?;
+        self.conclude()
+    }
+
+    /// A finding ends its game, and the audit too where that stops at one.
     pub(super) fn found(&mut self, finding: &Finding) -> Result<(), AllocError>
         ensures { OnOk result (self.new ≡ found self.old finding.now) }
     {
         self.note(finding)?;
-        self.end_game()
+        if self.plan.stop {
+            self.end_audit()
+        } else {
+            self.end_game()
+        }
     }
 
     /// What is wrong with the engine's output ends the audit: a fault that no text shows.
@@ -107,8 +120,7 @@ impl<G: Game + Drop> Auditor<G> {
         let text = LineText::new(self.alloc);
         let finding = Finding { fault, text };
         self.note(&finding)?;
-        self.ended = raised(self.ended, 1)?;
-        self.conclude()
+        self.end_audit()
     }
 
     /// The game has come to its end: some of its plies are to be taken back, where it has any.

@@ -6,8 +6,6 @@ ghost use Rattle.audit_core.specs.Judging.{wrong_list};
 ghost use Rattle.audit_core.specs.Drawing.{drawn_of};
 ghost use Rattle.audit_core.specs.Standing.{
   position_now,
-  next_game,
-  end_game,
   fresh,
   count,
   advance,
@@ -15,9 +13,6 @@ ghost use Rattle.audit_core.specs.Standing.{
   with_move,
   check_string,
   check_list,
-  without_plies,
-  check_undone,
-  check_review,
   greet,
   reply_ends,
   keep,
@@ -35,7 +30,6 @@ use crate::parts::named_in;
 use crate::plan::Stage;
 use crate::strings::wrong_string;
 use crate::texts::text_with;
-use crate::undoing::undo_plies;
 use hive_model::{Game, LineText, Move, MoveList};
 use std::alloc::{AllocError, Global};
 
@@ -70,7 +64,7 @@ impl<G: Game + Drop> Auditor<G> {
     }
 
     /// The legal moves.
-    fn list_legal(&mut self) -> Result<MoveList, AllocError>
+    pub(super) fn list_legal(&mut self) -> Result<MoveList, AllocError>
         ensures listed { IfOk result (λ l. l ≡ moves (position_now self.new)) }
         ensures same { self.new ≡ self.old }
     {
@@ -78,7 +72,11 @@ impl<G: Game + Drop> Auditor<G> {
     }
 
     /// What is wrong with a reply as the list of the legal moves.
-    fn wrong_list(&self, legal: &[Move], reply: &[u8]) -> Result<Option<Finding>, AllocError>
+    pub(super) fn wrong_list(
+        &self,
+        legal: &[Move],
+        reply: &[u8],
+    ) -> Result<Option<Finding>, AllocError>
         requires legal { legal.now ≡ moves (position_now self.now) }
         requires short { length reply.now ≤ 65536 }
         ensures { IfOk result (λ o. o
@@ -88,7 +86,7 @@ impl<G: Game + Drop> Auditor<G> {
     }
 
     /// A list was right.
-    fn count(&mut self, legal: &[Move]) -> Result<(), AllocError>
+    pub(super) fn count(&mut self, legal: &[Move]) -> Result<(), AllocError>
         requires { legal.now ≡ moves (position_now self.old) }
         ensures { OnOk result (self.new ≡ count self.old) }
     {
@@ -167,62 +165,6 @@ impl<G: Game + Drop> Auditor<G> {
         self.check_string(reply)
     }
 
-    /// Takes so many plies back.
-    fn take_back(&mut self, plies: u32)
-        requires { self.old.stage ≡ Stage.Undoing plies }
-        ensures { self.new ≡ without_plies self.old plies }
-    {
-        undo_plies(&mut self.game, plies);
-        self.stage = Stage::Beginning;
-    }
-
-    /// The reply is to be the game string behind an undo, and then the list is asked for.
-    fn check_undone(&mut self, reply: &[u8]) -> Result<(), AllocError>
-        requires { length reply.now ≤ 65536 }
-        ensures { OnOk result (self.new ≡ check_undone self.old reply.now) }
-    {
-        match wrong_string(self.alloc, &self.game, reply)? {
-            None => {
-                self.stage = Stage::Reviewing;
-                self.sending = true;
-                Ok(())
-            }
-            Some(finding) => self.found(&finding),
-        }
-    }
-
-    /// The plies were taken back, and the reply is to be the game string.
-    fn check_undo(&mut self, plies: u32, reply: &[u8]) -> Result<(), AllocError>
-        requires short { length reply.now ≤ 65536 }
-        requires stage { self.old.stage ≡ Stage.Undoing plies }
-        ensures { OnOk result (self.new
-            ≡ check_undone (without_plies self.old plies) reply.now) }
-    {
-        self.take_back(plies);
-        self.check_undone(reply)
-    }
-
-    /// A list was right: it is counted, and the game has ended.
-    fn end_reviewed(&mut self, legal: &[Move]) -> Result<(), AllocError>
-        requires { legal.now ≡ moves (position_now self.old) }
-        ensures { OnOk result (self.new ≡ next_game (end_game (count self.old))) }
-    {
-        self.count(legal)?;
-        self.end_game()
-    }
-
-    /// The reply is to be the list of the legal moves behind an undo.
-    fn check_review(&mut self, reply: &[u8]) -> Result<(), AllocError>
-        requires { length reply.now ≤ 65536 }
-        ensures { OnOk result (self.new ≡ check_review self.old reply.now) }
-    {
-        let legal = self.list_legal()?;
-        match self.wrong_list(legal.items(), reply)? {
-            None => self.end_reviewed(legal.items()),
-            Some(finding) => self.found(&finding),
-        }
-    }
-
     /// The greeting names the expansions that the engine plays.
     fn greet(&mut self, reply: &[u8]) -> Result<(), AllocError>
         ensures { OnOk result (self.new ≡ greet self.old reply.now) }
@@ -243,6 +185,10 @@ impl<G: Game + Drop> Auditor<G> {
             Stage::Playing { m } => self.check_move(m, reply),
             Stage::Undoing { plies } => self.check_undo(plies, reply),
             Stage::Reviewing => self.check_review(reply),
+            Stage::Trying { m } => self.check_tried(m, reply),
+            Stage::Relisting => self.check_relisted(reply),
+            Stage::Loading => self.check_load(reply),
+            Stage::Finishing => self.check_finish(reply),
             Stage::Over => Ok(()),
         }
     }
@@ -258,6 +204,10 @@ impl<G: Game + Drop> Auditor<G> {
             | Stage::Playing { m: _ }
             | Stage::Undoing { plies: _ }
             | Stage::Reviewing
+            | Stage::Trying { m: _ }
+            | Stage::Relisting
+            | Stage::Loading
+            | Stage::Finishing
             | Stage::Over => false,
         }
     }

@@ -5,15 +5,16 @@ use hive_model::GameType;
 use std::test::Fail;
 
 /// Options of an audit of the program `a`, separated by `|`, and how its games are made.
-const AUDITS: [(&str, u64, u64, u32, Option<GameType>); 6] = [
-    ("--games|1|--seed|0", 1, 0, 80, None),
-    ("--seed=7|--games=1000000", 1_000_000, 7, 80, None),
+const AUDITS: [(&str, u64, u64, u32, Option<GameType>, bool); 8] = [
+    ("--games|1|--seed|0", 1, 0, 80, None, false),
+    ("--seed=7|--games=1000000", 1_000_000, 7, 80, None, false),
     (
         "--games|2|--seed|18446744073709551615|--plies|1",
         2,
         u64::MAX,
         1,
         None,
+        false,
     ),
     (
         "--plies=1000|--type|Base|--games=200|--seed=1",
@@ -21,19 +22,30 @@ const AUDITS: [(&str, u64, u64, u32, Option<GameType>); 6] = [
         1,
         1000,
         Some(BASE),
+        false,
     ),
-    ("--type=Base+MLP|--seed|3|--games|9", 9, 3, 80, Some(ALL)),
+    (
+        "--type=Base+MLP|--seed|3|--games|9",
+        9,
+        3,
+        80,
+        Some(ALL),
+        false,
+    ),
     (
         "--quiet|1|--patience|00:00:05|--games|1|--seed|0",
         1,
         0,
         80,
         None,
+        false,
     ),
+    ("--stop|1|--games|1|--seed|0", 1, 0, 80, None, true),
+    ("--games|1|--stop=0|--seed|0", 1, 0, 80, None, false),
 ];
 
 /// Words, separated by `|`, that ask for no audit.
-const NO_AUDITS: [&str; 20] = [
+const NO_AUDITS: [&str; 22] = [
     "audit",
     "audit|--engine|a",
     "audit|--engine|a|--games|1",
@@ -54,12 +66,14 @@ const NO_AUDITS: [&str; 20] = [
     "audit|--engine|a  b|--games|1|--seed|1",
     "audit|--engine||--games|1|--seed|1",
     "audit|--engine|a|--games|1|--seed|1|x",
+    "audit|--engine|a|--games|1|--seed|1|--stop",
+    "audit|--engine|a|--games|1|--seed|1|--stop|2",
 ];
 
 #[test]
 fn audits_are_asked_for(rt: HostRuntime) -> Result<(), Fail> {
     let alloc = rt.alloc();
-    for (options, games, seed, plies, game_type) in AUDITS {
+    for (options, games, seed, plies, game_type, stop) in AUDITS {
         let text = format!(in alloc; "audit|--engine|a|{options}")?;
         let words = words_of(alloc, text.as_str(), '|')?;
         let audit = Asked::Audit {
@@ -67,6 +81,7 @@ fn audits_are_asked_for(rt: HostRuntime) -> Result<(), Fail> {
             seed,
             plies,
             game_type,
+            stop,
         };
         let asked = asked_of(alloc, words.as_slice())?;
         assert_eq!(rt; asked, Some(audit), "at {options}");

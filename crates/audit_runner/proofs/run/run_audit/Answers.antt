@@ -6,7 +6,7 @@ use Rattle.audit_core.specs.declared.findings.Fault.TheVariants.{Ended, Broke}
 use Rattle.audit_core.specs.Standing.{Standing, is_ended, break_off}
 use Rattle.audit_runner.specs.Wires.{Wire, wire}
 use Rattle.audit_runner.specs.Runs.{RanOver}
-use Rattle.audit_runner.proofs.Progress.{progress_begin, progress_on, ran_over, ran_out, ran_unread, ran_unsent, ok_map}
+use Rattle.audit_runner.proofs.Progress.{progress_begin, progress_on, ran_long, ran_over, ran_out, ran_unread, ran_unsent, ok_map}
 use Rattle.audit_runner.proofs.run.run_audit.Goals as goal
 
 pub turns-init : goal.turns-init
@@ -33,6 +33,14 @@ returns-then-is_over g c =
     let w0 : Wire = wire (g.L.Source.rest c.args.link.now) (g.L.Sink.written c.args.link.now) (g.L.Source.read_faults c.args.link.now) (g.L.Sink.write_faults c.args.link.now) in
     let w : Wire = wire (g.L.Source.rest c.turns.link) (g.L.Sink.written c.turns.link) (g.L.Source.read_faults c.turns.link) (g.L.Sink.write_faults c.turns.link) in
     ran_over c.args.plan c.turns.auditor (ahead_of c.turns.reader (g.L.Source.rest c.turns.link)) w0 w c.turns.invariant.progress (sym c.is_over.ensures ∙ c.if-is_over.true)
+
+pub returns-in-Long : goal.returns-in-Long
+returns-in-Long g c =
+    let w0 : Wire = wire (g.L.Source.rest c.args.link.now) (g.L.Sink.written c.args.link.now) (g.L.Source.read_faults c.args.link.now) (g.L.Sink.write_faults c.args.link.now) in
+    let n = c.turn.new in
+    let w : Wire = wire (g.L.Source.rest n.link) (g.L.Sink.written n.link) (g.L.Source.read_faults n.link) (g.L.Sink.write_faults n.link) in
+    let goes_on : is_ended (c.turns.auditor).stage ≡ false = sym c.is_over.ensures ∙ c.if-is_over.false in
+    ran_long c.args.plan c.turns.auditor n.auditor (ahead_of c.turns.reader (g.L.Source.rest c.turns.link)) (ahead_of n.reader (g.L.Source.rest n.link)) w0 w (g.L.Sink.written c.turns.link) c.turns.invariant.progress goes_on c.in-Long.ensures.turns
 
 pub returns-in-Ended : goal.returns-in-Ended
 returns-in-Ended g c =

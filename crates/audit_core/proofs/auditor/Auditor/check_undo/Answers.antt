@@ -9,4 +9,4 @@ returns g c =
     let s1 : Standing = c.take_back.new.self in
     let s2 : Standing = c.check_undone.new.self in
     on_ok c.check_undone.result (s2 ≡ check_undone s1 c.args.reply.now) (s2 ≡ check_undone (without_plies s0 c.args.plies) c.args.reply.now)
-    (λ e. e ∙ ap (λ (s : Standing). check_undone s c.args.reply.now) c.take_back.ensures) c.check_undone.ensures
+    (λ e. e ∙ ap (λ (s : Standing). check_undone s c.args.reply.now) c.in_ok-take_back.ensures) c.check_undone.ensures

@@ -1,7 +1,7 @@
 use Rattle.std.proofs.Common.{◌≡◌, ◌∙◌, ap}
 use Rattle.audit_core.specs.Standing.{Standing, count, end_game, next_game}
 use Rattle.audit_core.proofs.Replies.{on_ok}
-use Rattle.audit_core.proofs.auditor.Auditor.end_reviewed.Goals as goal
+use Rattle.audit_core.proofs.auditor.Auditor.end_listed.Goals as goal
 
 pub returns : goal.returns
 returns g c =
