@@ -4,6 +4,7 @@ mod best;
 mod commands;
 mod counted;
 mod faults;
+mod fronts;
 mod kept;
 mod late;
 mod lists;

@@ -5,7 +5,7 @@ use hive_cli::Status;
 use std::test::Fail;
 
 /// A certificate of the opening's best move, two plies deep.
-const CERTIFICATE: &str =
+pub(crate) const CERTIFICATE: &str =
     "hive-certificate 1\nBase;NotStarted;White[1]\ndepth 2\nmove wA1\nvalue 10\n0\n0\n0\n0\n";
 
 /// The same in the version that may cite what was shown before.

@@ -146,7 +146,10 @@ fn refused_lines_of_a_short_game_leave_no_trace(rt: HostRuntime) -> Result<(), F
             before: &[""],
             refused: &[
                 ("play wS1\n", "err 3 no game"),
+                ("pass\n", "err 3 no game"),
                 ("undo\n", "err 3 no game"),
+                ("validmoves\n", "err 3 no game"),
+                ("bestmove depth 1\n", "err 3 no game"),
                 ("newgame Base+PM\n", "err 4 malformed part 1"),
             ],
             asked: all,
