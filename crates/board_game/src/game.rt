@@ -9,7 +9,7 @@ use crate::judging::{key_after, worth_after};
 use crate::listing::{count_after, is_legal_after, list_moves, state_of};
 use crate::making::{make, unmake};
 use crate::refuting::{reply_behind, turn_behind};
-use crate::telling::{ask, ask_least, whole_of};
+use crate::telling::{find_base, find_whole, least_by, value_by};
 use crate::turns::{side_after, turn_after};
 use cut_keeper::CutKeeper;
 use hive_model::{
@@ -219,18 +219,18 @@ impl<B: GameBoard> Game for BoardGame<B> {
             }
         }
         let side = side_after(self.made.len() as u32).other();
-        let whole = whole_of(&self.board, &self.keeper, self.whole.take(), side);
-        let (told, base) = ask(
+        find_whole(&self.board, &self.keeper, &mut self.whole, side);
+        let whole = self.whole.as_ref()?;
+        find_base(
             &self.board,
             &self.keeper,
-            &whole,
-            self.asked.take(),
+            whole,
+            &mut self.asked,
             piece,
-            place,
             side,
         );
-        self.whole = Some(whole);
-        self.asked = Some((piece, base));
+        let (_, base) = self.asked.as_ref()?;
+        let told = value_by(&self.board, base, piece, place, side);
         if is_plain {
             note(&mut self.placements, place, told);
         }
@@ -242,19 +242,18 @@ impl<B: GameBoard> Game for BoardGame<B> {
             return None;
         };
         let side = side_after(self.made.len() as u32).other();
-        let whole = whole_of(&self.board, &self.keeper, self.whole.take(), side);
-        let (least, base) = ask_least(
+        find_whole(&self.board, &self.keeper, &mut self.whole, side);
+        let whole = self.whole.as_ref()?;
+        find_base(
             &self.board,
             &self.keeper,
-            &whole,
-            self.asked.take(),
+            whole,
+            &mut self.asked,
             piece,
-            place,
             side,
         );
-        self.whole = Some(whole);
-        self.asked = Some((piece, base));
-        least
+        let (_, base) = self.asked.as_ref()?;
+        least_by(&self.board, base, piece, place, side)
     }
 
     fn most_after(&mut self, m: Move) -> Option<i32> {

@@ -1,6 +1,7 @@
 //! What a move is worth, told from the board without its piece.
 
-ghost use Rattle.std.specs.Prelude.{◌≡◌, ◌≤ℤ◌, false, IfSome};
+ghost use Rattle.std.specs.Prelude.{◌≡◌, ◌≤ℤ◌, false, IfSome, IsTrue};
+ghost use Rattle.std.specs.Option.{IsSomeAnd};
 ghost use Rattle.hive_model.specs.declared.pieces.Colour.TheVariants.{White, Black};
 ghost use Rattle.hive_model.specs.declared.places.Move.TheVariants.{To};
 ghost use Rattle.hive_model.specs.Boards.{without};
@@ -20,17 +21,16 @@ use cut_keeper::{CutKeeper, removed_uncounted};
 use hive_model::{Board, Colour, Lifted, Piece, Place};
 use leaf_worth::Base;
 
-/// What is found of the whole board, which is one hive: what was found before, or else what is
-/// found now. The keeper stands for the board.
-pub fn whole_of<B: Board>(board: &B, keeper: &CutKeeper, known: Option<Base>, side: Colour) -> Base
+/// Finds what is known of the whole board, which is one hive, unless it was found before. The
+/// keeper stands for the board.
+pub fn find_whole<B: Board>(board: &B, keeper: &CutKeeper, known: &mut Option<Base>, side: Colour)
     requires marks { MarksSeparating (B.stacks board.now) keeper.now }
     requires one_hive { OneHive (B.stacks board.now) }
-    requires known { IsWhole (B.stacks board.now) side known }
-    ensures { IsFound (B.stacks board.now) side result }
+    requires known { IsWhole (B.stacks board.now) side known.old }
+    ensures { IsSomeAnd known.new (IsFound (B.stacks board.now) side) }
 {
-    match known {
-        Some(whole) => whole,
-        None => Base::of_hive(board, keeper.again(), side),
+    if known.is_none() {
+        *known = Some(Base::of_hive(board, keeper.again(), side));
     }
 }
 
@@ -66,7 +66,7 @@ fn base_without<B: Board>(
 
 /// What the position is worth to its side to move that the piece leads to when it goes to the place
 /// from the hand or from where it is on top, where that is told.
-fn value_by<B: Board>(
+pub fn value_by<B: Board>(
     board: &B,
     base: &Base,
     piece: Piece,
@@ -89,7 +89,7 @@ fn value_by<B: Board>(
 
 /// At least what that position is worth: what it is worth where that is told, else a bound where
 /// one is.
-fn least_by<B: Board>(
+pub fn least_by<B: Board>(
     board: &B,
     base: &Base,
     piece: Piece,
@@ -110,88 +110,39 @@ fn least_by<B: Board>(
     }
 }
 
-/// What is found of the board without the piece: what was found when this piece was asked for last,
-/// or else what is found now.
-fn known_or_found<B: Board>(
-    board: &B,
-    keeper: &CutKeeper,
-    whole: &Base,
-    asked: Option<(Piece, Base)>,
-    piece: Piece,
-    side: Colour,
-) -> Base
-    requires loose { CanBeTaken (B.stacks board.now) piece }
-    requires one_hive { OneHive (B.stacks board.now) }
-    requires left { OneHive (without (B.stacks board.now) piece) }
-    requires marks { MarksSeparating (B.stacks board.now) keeper.now }
-    requires whole { IsFound (B.stacks board.now) side whole.now }
-    requires white { is_surrounded (B.stacks board.now) White ≡ false }
-    requires black { is_surrounded (B.stacks board.now) Black ≡ false }
-    requires asked { IsAsked (B.stacks board.now) side asked }
-    ensures { IsFound (without (B.stacks board.now) piece) side result }
+/// Whether this piece was asked for last.
+fn is_asked(asked: &Option<(Piece, Base)>, piece: Piece) -> bool
+    ensures { IsTrue result → IsSomeAnd asked.now (λ a. a.0 ≡ piece) }
 {
-    if let Some((other, base)) = asked {
-        if other == piece {
-            return base;
-        }
+    match asked {
+        Some((other, _)) => *other == piece,
+        None => false,
     }
-    base_without(board, keeper, whole, piece, side)
 }
 
-/// What the position is worth to its side to move that the piece leads to when it goes to the place
-/// from the hand or from where it is on top, where that is told; and what was found for it.
-pub fn ask<B: Board>(
+/// Finds what is known of the board without the piece, by what was found of the whole board, unless
+/// this piece was asked for last. The keeper stands for the board, which is one hive with the piece
+/// and without it, and on which no queen is surrounded.
+pub fn find_base<B: Board>(
     board: &B,
     keeper: &CutKeeper,
     whole: &Base,
-    asked: Option<(Piece, Base)>,
+    asked: &mut Option<(Piece, Base)>,
     piece: Piece,
-    place: Place,
     side: Colour,
-) -> (Option<i32>, Base)
+)
     requires whole { IsFound (B.stacks board.now) side whole.now }
-    requires asked { IsAsked (B.stacks board.now) side asked }
+    requires asked { IsAsked (B.stacks board.now) side asked.old }
     requires loose { CanBeTaken (B.stacks board.now) piece }
     requires one_hive { OneHive (B.stacks board.now) }
     requires left { OneHive (without (B.stacks board.now) piece) }
     requires marks { MarksSeparating (B.stacks board.now) keeper.now }
-    requires within { IsWithin 9000 place }
     requires white { is_surrounded (B.stacks board.now) White ≡ false }
     requires black { is_surrounded (B.stacks board.now) Black ≡ false }
-    ensures found { IsFound (without (B.stacks board.now) piece) side result.1 }
-    ensures value { (p : Position) → p.board ≡ B.stacks board.now → other_side p.side ≡ side
-        → IfSome result.0 (λ v. v ≡ value (after p (To piece place)) 0) }
+    ensures { IsSomeAnd asked.new (λ a. (a.0 ≡ piece)
+        × IsFound (without (B.stacks board.now) piece) side a.1) }
 {
-    let base = known_or_found(board, keeper, whole, asked, piece, side);
-    let told = value_by(board, &base, piece, place, side);
-    (told, base)
-}
-
-/// At least what that position is worth: what it is worth where that is told, else a bound where
-/// one is; and what was found for it.
-pub fn ask_least<B: Board>(
-    board: &B,
-    keeper: &CutKeeper,
-    whole: &Base,
-    asked: Option<(Piece, Base)>,
-    piece: Piece,
-    place: Place,
-    side: Colour,
-) -> (Option<i32>, Base)
-    requires whole { IsFound (B.stacks board.now) side whole.now }
-    requires asked { IsAsked (B.stacks board.now) side asked }
-    requires loose { CanBeTaken (B.stacks board.now) piece }
-    requires one_hive { OneHive (B.stacks board.now) }
-    requires left { OneHive (without (B.stacks board.now) piece) }
-    requires marks { MarksSeparating (B.stacks board.now) keeper.now }
-    requires within { IsWithin 9000 place }
-    requires white { is_surrounded (B.stacks board.now) White ≡ false }
-    requires black { is_surrounded (B.stacks board.now) Black ≡ false }
-    ensures found { IsFound (without (B.stacks board.now) piece) side result.1 }
-    ensures least { (p : Position) → p.board ≡ B.stacks board.now → other_side p.side ≡ side
-        → IfSome result.0 (λ v. v ≤ℤ value (after p (To piece place)) 0) }
-{
-    let base = known_or_found(board, keeper, whole, asked, piece, side);
-    let least = least_by(board, &base, piece, place, side);
-    (least, base)
+    if !is_asked(asked, piece) {
+        *asked = Some((piece, base_without(board, keeper, whole, piece, side)));
+    }
 }

@@ -1,5 +1,5 @@
 -- Two boards that differ in one piece that rests alone.
-use Rattle.std.proofs.Common.{◌≡◌, ◌≢◌, ◌↔◌, List, [], ◌∷◌, length, ℕ, ◌+◌, ◌<◌, Bool, true, false, not, ◌&&◌, inl, inr, refl, sym, ◌∙◌, ap, subst, arith, if◌then◌else◌, ℤ, pos, ◌+ℤ◌, ◌-ℤ◌, ◌*ℤ◌, sum_by}
+use Rattle.std.proofs.Common.{◌≡◌, ◌≢◌, length, ℕ, ◌+◌, Bool, false, not, ◌&&◌, inl, inr, refl, sym, ◌∙◌, ap, subst, if◌then◌else◌, ℤ, pos, ◌+ℤ◌, ◌-ℤ◌, ◌*ℤ◌, sum_by}
 use Rattle.std.specs.Prelude.{Option, Some, None, unwrap_or, IsTrue, nat_eq, nat_lt}
 use Rattle.std.specs.List.{list_all, filter}
 use Rattle.std.proofs.lemmas.Bool.{eq-eqb, ne_eqb}
@@ -7,14 +7,13 @@ use Rattle.hive_model.specs.declared.pieces.Colour.{Colour}
 use Rattle.hive_model.specs.declared.pieces.Colour.TheVariants.{White, Black}
 use Rattle.hive_model.specs.declared.places.Place.{Place}
 use Rattle.hive_model.specs.declared.places.Spot.{Spot}
-use Rattle.hive_model.specs.declared.places.Dir.{Dir}
 use Rattle.hive_model.specs.declared.places.Move.TheVariants.{To}
 use Rattle.hive_model.specs.Pieces.{kind_of, colour_of, is_colour, other_side, all_pieces, queen_of}
 use Rattle.hive_model.specs.Places.{step, dirs, neighbours, IsWithin}
 use Rattle.hive_model.specs.Positions.{Position, is_piece}
 use Rattle.hive_model.specs.Boards.{Stacks, IsBoard, height_at, is_occupied, spot_of, put, without, without_at}
 use Rattle.hive_model.specs.Hive.{OneHiveOn, IsCut, is_cut, except}
-use Rattle.hive_model.specs.Evaluation.{weight_of, is_uncut_top, is_free_piece, counted, free_weight, occupied_round, round_queen, evaluation}
+use Rattle.hive_model.specs.Evaluation.{weight_of, is_uncut_top, is_free_piece, free_weight, occupied_round, round_queen, evaluation}
 use Rattle.hive_model.specs.Legal.{is_surrounded_at, is_surrounded, state_from, state}
 use Rattle.hive_model.specs.Games.{after}
 use Rattle.hive_model.specs.Minimax.{end_value, value}

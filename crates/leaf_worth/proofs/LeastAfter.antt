@@ -1,10 +1,10 @@
 -- At least what the board is worth after a piece was put beside two others.
-use Rattle.std.proofs.Common.{◌≡◌, ◌≢◌, ◌↔◌, ℕ, zero, suc, ◌+◌, ◌*◌, ◌<◌, ◌≤◌, Bool, true, false, not, ◌&&◌, ◌⊎◌, inl, inr, List, [], ◌∷◌, ◌++◌, length, refl, sym, ◌∙◌, ap, subst, arith, if◌then◌else◌, ℤ, pos, negsuc, ◌+ℤ◌, ◌-ℤ◌, ◌*ℤ◌, ◌≤ℤ◌, sum_by, count_ones, count_by, FitsSigned, nat_abs, to_z, of_z, w32}
+use Rattle.std.proofs.Common.{◌≡◌, ◌≢◌, ◌↔◌, ℕ, zero, suc, ◌+◌, ◌*◌, ◌<◌, ◌≤◌, Bool, true, false, not, ◌&&◌, inl, inr, List, [], ◌∷◌, ◌++◌, refl, sym, ◌∙◌, ap, subst, arith, if◌then◌else◌, ℤ, pos, negsuc, ◌+ℤ◌, ◌-ℤ◌, ◌*ℤ◌, ◌≤ℤ◌, sum_by, count_ones, count_by, FitsSigned, nat_abs, to_z, of_z, w32}
 use Rattle.std.specs.Prelude.{Option, Some, None, IsTrue, nat_eq}
 use Rattle.std.specs.List.{list_any}
 use Rattle.std.proofs.lemmas.Int.{ints}
-use Rattle.std.proofs.lemmas.Bool.{eqb-true, eq-eqb, ne_eqb, and_parts, false_from_ne_true}
-use Rattle.std.proofs.lemmas.List.Sums.{sum_by-cons}
+use Rattle.std.proofs.lemmas.Bool.{eqb-true, eq-eqb, ne_eqb, false_from_ne_true}
+use Rattle.std.proofs.lemmas.List.Sums.{sum_by-cons, sum_by-append, sum_by_push}
 use Rattle.hive_model.specs.declared.pieces.Colour.{Colour}
 use Rattle.hive_model.specs.declared.pieces.Colour.TheVariants.{White, Black}
 use Rattle.hive_model.specs.declared.places.Place.{Place}
@@ -12,10 +12,10 @@ use Rattle.hive_model.specs.declared.places.Spot.{Spot}
 use Rattle.hive_model.specs.declared.places.Dir.{Dir}
 use Rattle.hive_model.specs.declared.places.Dir.TheVariants.{E, NE, NW, W, SW, SE}
 use Rattle.hive_model.specs.Lists.{count_from}
-use Rattle.hive_model.specs.Pieces.{kind_of, colour_of, is_colour, other_side, all_pieces}
+use Rattle.hive_model.specs.Pieces.{kind_of, colour_of, is_colour, side_of, other_side, all_pieces}
 use Rattle.hive_model.specs.Places.{step, dirs, IsWithin}
 use Rattle.hive_model.specs.Boards.{Stacks, height_at, is_occupied, spot_of, put, IsBoard}
-use Rattle.hive_model.specs.Hive.{IsCut, IsSeparating, is_cut, are_neighbours}
+use Rattle.hive_model.specs.Hive.{IsCut, IsSeparating, is_cut}
 use Rattle.hive_model.specs.Evaluation.{weight_of, is_uncut_top, is_free_piece, counted, free_weight, round_queen, evaluation}
 use Rattle.hive_model.specs.Legal.{is_surrounded}
 use Rattle.hive_model.specs.Neighbours.{bit_of, ring, ring_mask, weight}
@@ -28,9 +28,9 @@ use Rattle.arc_law.proofs.ArcBoards.{raised_put, arc_but_one, another_beside, ar
 use Rattle.arc_table.specs.Masks.{arcs}
 use Rattle.cut_keeper.proofs.RingLaws.{another_from, arc_mask}
 use Rattle.hive_eval.proofs.MaskLaws.{ones_count}
-use Rattle.hive_eval.proofs.SmallLaws.{evaluation-small, weight-few, sum-more}
-use Rattle.leaf_worth.specs.Held.{HasNoBound, arc_of, arc_place, is_near, is_held_at, held_by, held_weight, more_round, least_worth}
-use Rattle.leaf_worth.proofs.SpotsAfter.{same_tests, cases_number, is_after, moved, cut_same, free_then, free_itself}
+use Rattle.hive_eval.proofs.SmallLaws.{evaluation-small, weight-few}
+use Rattle.leaf_worth.specs.Held.{HasNoBound, arc_of, arc_place, is_near, is_held_at, held_by, held_weight, least_worth}
+use Rattle.leaf_worth.proofs.SpotsAfter.{same_tests, cases_number, no_and, is_after, moved, cut_same, free_then, free_itself}
 
 -- Sums
 
@@ -197,59 +197,87 @@ module _ (b : Stacks) (is : IsBoard b) (x : ℕ) (p : Place) (low : x < 28) (ins
           → (((pos 40 *ℤ (pos r -ℤ pos q) +ℤ (pos f -ℤ pos g)) +ℤ pos 40 *ℤ ((pos s -ℤ pos r) -ℤ (pos t -ℤ pos q))) -ℤ pos n) ≤ℤ (pos 40 *ℤ (pos s -ℤ pos t) +ℤ (pos h -ℤ pos k))
       whole r q s t f g h k n own other = omega (arith, ints, own, other)
 
--- The weights of the first held pieces
+-- The weights of the first held pieces of a side
 
-module _ (b : Stacks) (near : Option Place) (c : Colour) where
-  held_few : (x : ℕ) → held_by b near c x ≤ 10
-  held_few x =
+count_more : (first n : ℕ) → count_from first (n + 1) ≡ count_from first n ++ (first + n) ∷ []
+count_more first zero = let e : first ≡ first + 0 = omega arith in ap (λ (x : ℕ). x ∷ []) e
+count_more first (suc n) =
+    let next : suc n + 1 ≡ suc (n + 1) = omega arith in
+    let e : first + 1 + n ≡ first + suc n = omega arith in
+    ap (count_from first) next ∙ ap (λ (xs : List ℕ). first ∷ xs) (count_more (first + 1) n ∙ ap (λ (x : ℕ). count_from (first + 1) n ++ x ∷ []) e)
+
+module _ (b : Stacks) (near : Option Place) where
+  held_few : (c : Colour) (x : ℕ) → held_by b near c x ≤ 10
+  held_few c x =
       elim (is_colour (colour_of x) c && is_held_at b near (spot_of b x)) as (λ (t : Bool). (if t then weight_of (kind_of x) else 0) ≤ 10) [
         | true ↦ weight-few (kind_of x)
         | false ↦ omega arith
       ]
 
-  -- so much do the held pieces before one weigh
-  abbrev pub IsHeldSum : ℕ → ℕ → Type 0
-  IsHeldSum n z = (z ≡ sum_by (held_by b near c) (count_from 0 n)) × (z ≤ n * 10)
+  -- the pieces of the other side weigh nothing for this one
+  side_sum : (c : Colour) → sum_by (held_by b near c) (count_from (side_of c) 14) ≡ held_weight b near c
+  side_sum White =
+      let halves : held_weight b near White ≡ sum_by (held_by b near White) (count_from 0 14) + sum_by (held_by b near White) (count_from 14 14) =
+      sum_by-append (held_by b near White) (count_from 0 14) (count_from 14 14) in
+      let none : sum_by (held_by b near White) (count_from 14 14) ≡ 0 = refl in
+      omega (arith, halves, none)
+  side_sum Black =
+      let halves : held_weight b near Black ≡ sum_by (held_by b near Black) (count_from 0 14) + sum_by (held_by b near Black) (count_from 14 14) =
+      sum_by-append (held_by b near Black) (count_from 0 14) (count_from 14 14) in
+      let none : sum_by (held_by b near Black) (count_from 0 14) ≡ 0 = refl in
+      omega (arith, halves, none)
 
-  pub none_held : IsHeldSum 0 0
-  none_held = (refl, omega arith)
+  module _ (c : Colour) where
+    -- so much do the side's held pieces before one weigh
+    abbrev pub IsHeldSum : ℕ → ℕ → Type 0
+    IsHeldSum n z = (z ≡ sum_by (held_by b near c) (count_from (side_of c) n)) × (z ≤ n * 10)
 
-  pub next_held : (n z x w : ℕ) → IsHeldSum n z → x ≡ n → w ≡ held_by b near c x → IsHeldSum (n + 1) (z + w)
-  next_held n z x w is same worth =
-      let here : w ≡ held_by b near c n = worth ∙ ap (held_by b near c) same in
-      let sum = sum-more (held_by b near c) n in
-      let few = held_few n in
-      let before = is.0 in
-      let most = is.1 in
-      (omega (arith, before, here, sum), omega (arith, most, here, few))
+    pub none_held : IsHeldSum 0 0
+    none_held = (refl, omega arith)
 
-  pub all_held : (n z : ℕ) → IsHeldSum n z → 28 ≤ n → n ≤ 28 → (z ≡ held_weight b near c) × (z ≤ 280)
-  all_held n z is past end =
-      let all : n ≡ 28 = omega (arith, past, end) in
-      let most = is.1 in
-      (subst (λ k. z ≡ sum_by (held_by b near c) (count_from 0 k)) all is.0, omega (arith, most, all))
+    pub next_held : (n z first x w : ℕ) → IsHeldSum n z → first ≡ side_of c → x ≡ first + n → w ≡ held_by b near c x → IsHeldSum (n + 1) (z + w)
+    next_held n z first x w is start same worth =
+        let at : x ≡ side_of c + n = same ∙ ap (λ (k : ℕ). k + n) start in
+        let here : w ≡ held_by b near c (side_of c + n) = worth ∙ ap (held_by b near c) at in
+        let sum : sum_by (held_by b near c) (count_from (side_of c) (n + 1)) ≡ sum_by (held_by b near c) (count_from (side_of c) n) + held_by b near c (side_of c + n) =
+        ap (sum_by (held_by b near c)) (count_more (side_of c) n) ∙ sum_by_push (held_by b near c) (count_from (side_of c) n) (side_of c + n) in
+        let few = held_few c (side_of c + n) in
+        let before = is.0 in
+        let most = is.1 in
+        (omega (arith, before, here, sum), omega (arith, most, here, few))
+
+    pub all_held : (n z : ℕ) → IsHeldSum n z → 14 ≤ n → n ≤ 14 → (z ≡ held_weight b near c) × (z ≤ 280)
+    all_held n z is past end =
+        let all : n ≡ 14 = omega (arith, past, end) in
+        let most = is.1 in
+        (subst (λ k. z ≡ sum_by (held_by b near c) (count_from (side_of c) k)) all is.0 ∙ side_sum c, omega (arith, most, all))
 
 -- What is held where a piece stands, as the code tests it
 
-module _ (b : Stacks) (is : IsBoard b) (near : Option Place) (c : Colour) (x : ℕ) (s : Spot) (stands : spot_of b x ≡ Some s) (own : is_colour (colour_of x) c ≡ true) (r : Bool) (cut : IsTrue r ↔ IsCut b s.place) where
-  held_there : held_by b near c x ≡ (if r && is_near near s.place then weight_of (kind_of x) else 0)
+and_true : (t : Bool) → (t && true) ≡ t
+and_true true = refl
+and_true false = refl
+
+module _ (b : Stacks) (near : Option Place) (c : Colour) (x : ℕ) (s : Spot) (stands : spot_of b x ≡ Some s) (own : is_colour (colour_of x) c ≡ true) (n : Bool) (is_n : n ≡ is_near near s.place) where
+  held_there : held_by b near c x ≡ (if is_cut b s.place && n then weight_of (kind_of x) else 0)
   held_there =
-      let tested : r ≡ is_cut b s.place = same_tests r (is_cut b s.place) cut (cut_from b is s.place, from_cut b is s.place) in
       ap (λ (o : Option Spot). if is_colour (colour_of x) c && is_held_at b near o then weight_of (kind_of x) else 0) stands
       ∙ ap (λ (t : Bool). if t && (is_cut b s.place && is_near near s.place) then weight_of (kind_of x) else 0) own
-      ∙ ap (λ (t : Bool). if t && is_near near s.place then weight_of (kind_of x) else 0) (sym tested)
+      ∙ ap (λ (t : Bool). if is_cut b s.place && t then weight_of (kind_of x) else 0) (sym is_n)
 
-  pub held_uncut : r ≡ false → 0 ≡ held_by b near c x
-  held_uncut e = sym (held_there ∙ ap (λ (t : Bool). if t && is_near near s.place then weight_of (kind_of x) else 0) e)
+  pub held_afar : n ≡ false → 0 ≡ held_by b near c x
+  held_afar e = sym (held_there ∙ ap (λ (t : Bool). if t then weight_of (kind_of x) else 0) (ap (λ (t : Bool). is_cut b s.place && t) e ∙ no_and (is_cut b s.place)))
 
-  module _ (on_cut : r ≡ true) (n : Bool) (is_n : n ≡ is_near near s.place) where
-    held_if : held_by b near c x ≡ (if n then weight_of (kind_of x) else 0)
-    held_if = held_there ∙ ap (λ (t : Bool). if t && is_near near s.place then weight_of (kind_of x) else 0) on_cut ∙ ap (λ (t : Bool). if t then weight_of (kind_of x) else 0) (sym is_n)
+  module _ (is : IsBoard b) (by : n ≡ true) (r : Bool) (cut : IsTrue r ↔ IsCut b s.place) where
+    held_if : held_by b near c x ≡ (if r then weight_of (kind_of x) else 0)
+    held_if =
+        let tested : r ≡ is_cut b s.place = same_tests r (is_cut b s.place) cut (cut_from b is s.place, from_cut b is s.place) in
+        held_there ∙ ap (λ (t : Bool). if t then weight_of (kind_of x) else 0) (ap (λ (t : Bool). is_cut b s.place && t) by ∙ and_true (is_cut b s.place) ∙ sym tested)
 
-    pub held_afar : n ≡ false → 0 ≡ held_by b near c x
-    held_afar e = sym (held_if ∙ ap (λ (t : Bool). if t then weight_of (kind_of x) else 0) e)
+    pub held_uncut : r ≡ false → 0 ≡ held_by b near c x
+    held_uncut e = sym (held_if ∙ ap (λ (t : Bool). if t then weight_of (kind_of x) else 0) e)
 
-    pub held_near : n ≡ true → (w : ℤ) → w ≡ pos (weight_of (kind_of x)) → w ≤ℤ pos 10 → nat_abs (to_z w32 (of_z w32 w)) ≡ held_by b near c x
+    pub held_near : r ≡ true → (w : ℤ) → w ≡ pos (weight_of (kind_of x)) → w ≤ℤ pos 10 → nat_abs (to_z w32 (of_z w32 w)) ≡ held_by b near c x
     held_near e w weighs few =
         let same : to_z w32 (of_z w32 w) ≡ pos (weight_of (kind_of x)) = omega (arith, ints, weighs, few) in
         ap nat_abs same ∙ sym (held_if ∙ ap (λ (t : Bool). if t then weight_of (kind_of x) else 0) e)

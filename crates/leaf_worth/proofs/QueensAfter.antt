@@ -1,5 +1,5 @@
 -- The neighbours of the queens after a piece was put.
-use Rattle.std.proofs.Common.{◌≡◌, ◌≢◌, ℕ, ◌+◌, ◌<◌, ◌≤◌, Bool, true, false, cond, List, [], ◌∷◌, length, inl, inr, refl, sym, ◌∙◌, ap, arith, count_by}
+use Rattle.std.proofs.Common.{◌≡◌, ◌≢◌, ℕ, zero, suc, ◌+◌, ◌<◌, ◌≤◌, Bool, true, false, cond, List, [], ◌∷◌, length, ◌⊎◌, inl, inr, refl, sym, ◌∙◌, ap, arith, count_by}
 use Rattle.std.specs.Prelude.{Some, None, nat_lt}
 use Rattle.std.specs.List.{list_all, filter}
 use Rattle.std.proofs.lemmas.Bool.{and_parts, and_from, false_from_ne_true}
@@ -10,6 +10,7 @@ use Rattle.hive_model.specs.declared.places.Spot.{Spot}
 use Rattle.hive_model.specs.declared.places.Dir.{Dir}
 use Rattle.hive_model.specs.Pieces.{queen_of}
 use Rattle.hive_model.specs.Places.{step, dirs, neighbours, is_place, IsWithin}
+use Rattle.hive_model.specs.Hive.{are_neighbours}
 use Rattle.hive_model.specs.Boards.{Stacks, height_at, is_occupied, spot_of, put, IsBoard}
 use Rattle.hive_model.specs.Evaluation.{occupied_round, round_queen}
 use Rattle.hive_model.specs.Legal.{is_surrounded_at, is_surrounded}
@@ -18,6 +19,7 @@ use Rattle.hive_model.proofs.ReachLaws.{step_moves}
 use Rattle.hive_model.proofs.KeepLaws.{taken}
 use Rattle.arc_law.proofs.ArcBoards.{raised_put}
 use Rattle.cut_keeper.proofs.ChangeLaws.{same_occupied}
+use Rattle.leaf_worth.proofs.NextLaws.{none_leads}
 use Rattle.leaf_worth.proofs.SpotsAfter.{spot_new, spot_same, is_after}
 
 -- Counts
@@ -71,6 +73,10 @@ few_not_all f few = false_from_ne_true _ (λ e. let all = all_count f dirs e in 
 
 same_not_all : (f g : Dir → Bool) → count_by f dirs ≡ count_by g dirs → list_all g dirs ≡ false → list_all f dirs ≡ false
 same_not_all f g same not_g = false_from_ne_true _ (λ e. let wrong : false ≡ true = sym not_g ∙ count_all g dirs (sym same ∙ all_count f dirs e) in cc)
+
+empty_or_not : (n : ℕ) → (n ≡ 0) ⊎ (0 < n)
+empty_or_not zero = inl refl
+empty_or_not (suc n) = inr (omega arith)
 
 -- which neighbours of a place are occupied
 abbrev pub beside : Stacks → Place → Dir → Bool
@@ -178,3 +184,17 @@ module _ (b : Stacks) (is : IsBoard b) (x : ℕ) (p : Place) (low : x < 28) (ins
         beside_closed m round many =
             let c = sum_there in
             ap (is_surrounded_at (put b x p)) (stands_still ∙ stands) ∙ many_all (beside (put b x p) s.place) (m + n) (omega (arith, c, round)) many
+
+      -- no direction leads from her to the place, which is empty or not
+      module _ (afar : are_neighbours s.place p ≡ false) where
+        pub afar_more : round_queen (put b x p) side ≡ round_queen b side + 0
+        afar_more = elim (empty_or_not (height_at b p)) [
+          | inl empty ↦ beside_more empty 0 (none_leads s.place p afar)
+          | inr some ↦ above_more some
+        ]
+
+        pub afar_open : is_surrounded b side ≡ false → is_surrounded (put b x p) side ≡ false
+        afar_open was = elim (empty_or_not (height_at b p)) [
+          | inl empty ↦ apart_open empty 0 (none_leads s.place p afar) refl was
+          | inr some ↦ above_open some was
+        ]

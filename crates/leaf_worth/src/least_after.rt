@@ -19,7 +19,6 @@ ghost use Rattle.std.specs.Prelude.{
 ghost use Rattle.hive_model.specs.declared.pieces.Colour.TheVariants.{White, Black};
 ghost use Rattle.hive_model.specs.Boards.{put, spot_of};
 ghost use Rattle.hive_model.specs.Evaluation.{evaluation};
-ghost use Rattle.hive_model.specs.Hive.{are_neighbours};
 ghost use Rattle.hive_model.specs.Legal.{is_surrounded};
 ghost use Rattle.hive_model.specs.Places.{IsWithin};
 ghost use Rattle.leaf_worth.specs.Held.{
@@ -31,22 +30,11 @@ ghost use Rattle.leaf_worth.specs.Held.{
   least_worth,
 };
 
+use crate::beside::are_neighbours;
 use crate::queens_after::more_round;
 use arc_table::arcs;
 use hive_eval::weight_of;
-use hive_model::{Board, Colour, Cuts, Dir, Piece, Place};
-
-/// Whether a direction leads from one place to the other.
-fn are_neighbours(place: Place, other: Place) -> bool
-    requires { IsWithin 10000 place }
-    ensures { result ≡ are_neighbours place other }
-{
-    Dir::ALL.iter().any(
-        |dir| -> bool
-            requires { IsWithin 10000 place }
-        { place.step(*dir).is(other) },
-    )
-}
+use hive_model::{Board, Colour, Cuts, Piece, Place};
 
 /// Whether the place is beside the one that is named; where none is, each place passes.
 fn is_near(near: &Option<Place>, other: Place) -> bool
@@ -71,24 +59,25 @@ fn held_by<B: Cuts>(board: &B, near: &Option<Place>, side: Colour, piece: Piece)
     let Some(spot) = board.spot(piece) else {
         return 0;
     };
-    if !board.is_cut(spot.place) {
+    if !is_near(near, spot.place) {
         return 0;
     }
-    if !is_near(near, spot.place) {
+    if !board.is_cut(spot.place) {
         return 0;
     }
     weight_of(piece.kind()) as u32
 }
 
-/// What the side's held pieces weigh together.
+/// What the side's held pieces weigh together: they are among its 14 pieces.
 fn held_weight<B: Cuts>(board: &B, near: &Option<Place>, side: Colour) -> u32
     requires { IfSome near.now (IsWithin 10000) }
     ensures weight { result ≡ held_weight (B.stacks board.now) near.now side }
     ensures few { result ≤ 280 }
 {
+    let first = side.first();
     let mut weight = 0u32;
-    for x in 0..28u8 {
-        weight += held_by(board, near, side, Piece::at(x));
+    for x in 0..14u8 {
+        weight += held_by(board, near, side, Piece::at(first + x));
     }
     weight
 }

@@ -6,6 +6,7 @@ ghost use Rattle.hive_model.specs.declared.places.Dir.{Dir};
 ghost use Rattle.hive_model.specs.Boards.{IsBoard, is_occupied, top_at};
 ghost use Rattle.hive_model.specs.Hive.{OneHive, OneHiveOn, IsSeparating};
 ghost use Rattle.hive_model.specs.Lists.{IsOn};
+ghost use Rattle.hive_model.specs.Neighbours.{ring, ring_mask};
 ghost use Rattle.hive_model.specs.Places.{IsWithin, step};
 ghost use Rattle.one_hive.specs.Visits.{IsSet};
 ghost use Rattle.one_hive.specs.Walks.{others, AreMarked, Joined};
@@ -14,24 +15,41 @@ use crate::hives::is_one_without;
 use crate::marked::mark_top;
 use crate::marks::Marks;
 use crate::met::{Met, met_first, spread};
-use crate::separating::neighbour_of;
+use crate::separating::dir_amid;
 use crate::steps::Steps;
+use gates::has_dir;
 use hive_model::{Board, Dir, Piece, Place};
 use std::sync::ledger::Ledger;
 
-/// Marks of the pieces on top of the neighbours of a place.
-fn tops_beside<B: Board>(board: &B, place: Place) -> Marks
-    requires { IsWithin 9500 place }
+/// Marks the piece on top of the neighbour in this direction, if one is. The mask of the occupied
+/// neighbours is at hand: an empty one is not looked at.
+fn mark_toward<B: Board>(board: &B, place: Place, dir: Dir, taken: u8, marks: &mut Marks)
+    requires within { IsWithin 9500 place }
+    requires taken { taken ≡ ring_mask (ring (is_occupied (B.stacks board.now)) place) }
+    ensures { (x : ℕ) → IsSet marks.new x
+        ↔ ((top_at (B.stacks board.now) (step place dir) ≡ Some x) ⊎ IsSet marks.old x) }
+{
+    if !has_dir(taken, dir) {
+        return;
+    }
+    mark_top(board, place.step(dir), marks);
+}
+
+/// Marks of the pieces on top of the neighbours of a place, where the mask of the occupied ones is
+/// at hand.
+fn tops_beside<B: Board>(board: &B, place: Place, taken: u8) -> Marks
+    requires within { IsWithin 9500 place }
+    requires taken { taken ≡ ring_mask (ring (is_occupied (B.stacks board.now)) place) }
     ensures { (x : ℕ) → IsSet result x
         ↔ ((d : Dir) × (top_at (B.stacks board.now) (step place d) ≡ Some x)) }
 {
     let mut marks = Marks::new();
-    mark_top(board, place.step(Dir::E), &mut marks);
-    mark_top(board, place.step(Dir::NE), &mut marks);
-    mark_top(board, place.step(Dir::NW), &mut marks);
-    mark_top(board, place.step(Dir::W), &mut marks);
-    mark_top(board, place.step(Dir::SW), &mut marks);
-    mark_top(board, place.step(Dir::SE), &mut marks);
+    mark_toward(board, place, Dir::E, taken, &mut marks);
+    mark_toward(board, place, Dir::NE, taken, &mut marks);
+    mark_toward(board, place, Dir::NW, taken, &mut marks);
+    mark_toward(board, place, Dir::W, taken, &mut marks);
+    mark_toward(board, place, Dir::SW, taken, &mut marks);
+    mark_toward(board, place, Dir::SE, taken, &mut marks);
     marks
 }
 
@@ -87,9 +105,10 @@ pub fn walk_parts<B: Board, L: Ledger>(board: &B, place: Place, steps: &mut Step
 {
     steps.tick();
     let _spot = board.spot(Piece::at(0));
-    match neighbour_of(board, place) {
+    let taken = board.neighbours(place);
+    match dir_amid(taken) {
         Some(dir) => {
-            let beside = tops_beside(board, place);
+            let beside = tops_beside(board, place, taken);
             !is_one_round(board, place, place.step(dir), &beside)
         }
         None => !is_one_without(board, Some(place)),

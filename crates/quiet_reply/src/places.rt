@@ -69,25 +69,10 @@ fn are_apart(from: Place, to: Place) -> bool
     requires { IsWithin 10000 from }
     ensures { IsTrue result → (d : AnyDir) → step from d ≢ to }
 {
-    if from.step(Dir::E).is(to) {
-        return false;
+    match from.towards(to) {
+        Some(_) => false,
+        None => true,
     }
-    if from.step(Dir::NE).is(to) {
-        return false;
-    }
-    if from.step(Dir::NW).is(to) {
-        return false;
-    }
-    if from.step(Dir::W).is(to) {
-        return false;
-    }
-    if from.step(Dir::SW).is(to) {
-        return false;
-    }
-    if from.step(Dir::SE).is(to) {
-        return false;
-    }
-    true
 }
 
 /// Whether the side's queen is in hand or on no neighbour of the place.

@@ -1,8 +1,8 @@
 -- What `put` and `lift` leave, in the terms of the code's reads and writes.
-use Rattle.std.proofs.Common.{◌≡◌, ◌≢◌, ℕ, suc, zero, inl, inr, ◌*◌, ◌+◌, ◌≤◌, ◌<◌, ◌∙◌, refl, ap, sym, false, true, cond, None, Some, Option, List, [], ◌∷◌, length, subst, slice_set, Bool, arith}
+use Rattle.std.proofs.Common.{◌≡◌, ◌≢◌, ℕ, suc, zero, inl, inr, ◌*◌, ◌+◌, ◌≤◌, ◌<◌, ◌∙◌, refl, ap, sym, false, true, not, cond, None, Some, Option, List, [], ◌∷◌, length, subst, slice_set, Bool, arith}
 use Rattle.std.specs.List.{list_all}
-use Rattle.std.specs.Prelude.{replicate, nat_eq, nat_lt, is_none, slice_get, is_some, unwrap_or, IsNone, IsTrue}
-use Rattle.std.proofs.lemmas.Bool.{lt-ltb}
+use Rattle.std.specs.Prelude.{replicate, nat_eq, nat_lt, if◌then◌else◌, is_none, slice_get, is_some, unwrap_or, IsNone, IsTrue}
+use Rattle.std.proofs.lemmas.Bool.{eqb-true, lt-ltb}
 use Rattle.std.proofs.lemmas.Option.{none-some, same_Some}
 use Rattle.hive_model.specs.declared.places.Place.{Place}
 use Rattle.hive_model.specs.declared.places.Spot.{Spot}
@@ -16,11 +16,11 @@ use Rattle.hive_model.specs.Spread.{IsNearAll, IsSpread}
 use Rattle.hive_model.specs.Places.{IsWithin, origin}
 use Rattle.torus_board.specs.declared.rings.Ring.{Ring}
 use Rattle.torus_board.specs.declared.towers.Tower.{Tower}
-use Rattle.torus_board.specs.Grid.{IsSide, IsGrid, IsHigh, IsLinked, IsRinged}
+use Rattle.torus_board.specs.Grid.{IsSide, HasTowers, IsLinked, IsRinged, IsTurned}
 use Rattle.torus_board.proofs.RingLaws.{empty_ringed}
-use Rattle.torus_board.proofs.Heights.{high_put, high_lift, empty_high, height_apart}
+use Rattle.torus_board.proofs.TowerLaws.{tower_of, towers_put, towers_lift, empty_towers, height_apart}
 use Rattle.residues.specs.Residues.{cell_of}
-use Rattle.torus_board.proofs.Cells.{put_height, grid_put, linked_put, spread_put, grid_lift, linked_lift, spread_lift, empty_grid, empty_spread}
+use Rattle.torus_board.proofs.Links.{put_height, linked_put, spread_put, linked_lift, spread_lift, empty_spread}
 
 -- a height is no more than the number of the pieces
 pub height_low : (s : Spots) (p : Place) → height_by s p ≤ length s
@@ -42,21 +42,40 @@ opened (Some u) t h = ap Some h
 some_height : (k : ℕ) → 0 < k → nat_lt 0 k ≡ true
 some_height k h = lt-ltb 0 k h
 
+some_number : (h : ℕ) → nat_eq h 0 ≡ false → 0 < h
+some_number h high = let above : h ≢ 0 = (λ e. let wrong : true ≡ false = sym (ap (λ k. nat_eq k 0) e) ∙ high in cc) in omega (arith, above)
+
+-- a place that is occupied now, and had this height
+was_low : (h k : ℕ) → h ≡ k → (if nat_eq h 0 then not (nat_lt 0 k) else nat_lt 0 k) ≡ true
+was_low h k e = at (nat_eq h 0) refl
+  where
+    at : (t : Bool) → nat_eq h 0 ≡ t → (if t then not (nat_lt 0 k) else nat_lt 0 k) ≡ true
+    at true low = ap (λ j. not (nat_lt 0 j)) (sym e ∙ eqb-true h 0 low)
+    at false high = some_height k (subst (λ j. 0 < j) e (some_number h high))
+
+-- a place that was occupied, and has this height
+now_low : (h : ℕ) (t : Bool) → t ≡ true → nat_lt 0 h ≡ (if nat_eq h 0 then not t else t)
+now_low h t on = at (nat_eq h 0) refl
+  where
+    at : (u : Bool) → nat_eq h 0 ≡ u → nat_lt 0 h ≡ (if u then not t else t)
+    at true low = ap (nat_lt 0) (eqb-true h 0 low) ∙ sym (ap not on)
+    at false high = some_height h (some_number h high) ∙ sym on
+
 -- the invariant of a grid, but for its rings
-abbrev pub Kept : ℕ → Spots → List (Option ℕ) → List (Option ℕ) → List Tower → Type 0
-Kept n s below cells towers = (32 ≤ n) × (n ≤ 128) × IsSpots s × IsLinked (board_of s) below × IsGrid n (board_of s) cells × IsSpread n (board_of s) × IsHigh n (board_of s) towers
+abbrev pub Kept : ℕ → Spots → List (Option ℕ) → List Tower → Type 0
+Kept n s below towers = (32 ≤ n) × (n ≤ 128) × IsSpots s × IsLinked (board_of s) below × IsSpread n (board_of s) × HasTowers n (board_of s) towers
 
 -- with its rings
-abbrev pub Whole : ℕ → Spots → List (Option ℕ) → List (Option ℕ) → List Tower → List Ring → Type 0
-Whole n s below cells towers rings = (32 ≤ n) × (n ≤ 128) × IsSpots s × IsLinked (board_of s) below × IsGrid n (board_of s) cells × IsSpread n (board_of s) × IsHigh n (board_of s) towers × IsRinged n (board_of s) rings
+abbrev pub Whole : ℕ → Spots → List (Option ℕ) → List Tower → List Ring → Type 0
+Whole n s below towers rings = (32 ≤ n) × (n ≤ 128) × IsSpots s × IsLinked (board_of s) below × IsSpread n (board_of s) × HasTowers n (board_of s) towers × IsRinged n (board_of s) rings
 
-pub but_rings : {n : ℕ} {s : Spots} {below cells : List (Option ℕ)} {towers : List Tower} {rings : List Ring} → Whole n s below cells towers rings → Kept n s below cells towers
-but_rings w = (w.0, w.1, w.2, w.3, w.4, w.5, w.6)
+pub but_rings : {n : ℕ} {s : Spots} {below : List (Option ℕ)} {towers : List Tower} {rings : List Ring} → Whole n s below towers rings → Kept n s below towers
+but_rings w = (w.0, w.1, w.2, w.3, w.4, w.5)
 
-pub and_rings : {n : ℕ} {s : Spots} {below cells : List (Option ℕ)} {towers : List Tower} {rings : List Ring} → Kept n s below cells towers → IsRinged n (board_of s) rings → Whole n s below cells towers rings
-and_rings k r = (k.0, k.1, k.2, k.3, k.4, k.5, k.6, r)
+pub and_rings : {n : ℕ} {s : Spots} {below : List (Option ℕ)} {towers : List Tower} {rings : List Ring} → Kept n s below towers → IsRinged n (board_of s) rings → Whole n s below towers rings
+and_rings k r = (k.0, k.1, k.2, k.3, k.4, k.5, r)
 
-module _ (n : ℕ) (s : Spots) (below cells : List (Option ℕ)) (towers : List Tower) (is : Kept n s below cells towers) (b : Stacks) (view : board_of s ≡ b) (x : ℕ) (small : x < 28) where
+module _ (n : ℕ) (s : Spots) (below : List (Option ℕ)) (towers : List Tower) (is : Kept n s below towers) (b : Stacks) (view : board_of s ≡ b) (x : ℕ) (small : x < 28) where
   some : 0 < n
   some = let wide = is.0 in omega (arith, wide)
 
@@ -79,35 +98,35 @@ module _ (n : ℕ) (s : Spots) (below cells : List (Option ℕ)) (towers : List 
       written = (λ m. slice_set s (at_j m) (Some (record { place = p; level = height m }))) ∙ ap (λ l. slice_set s x (Some (record { place = p; level = l }))) (sym (height_is s is.2 p))
 
       abbrev risen : ℕ → ℕ → List Tower
-      risen c l = slice_set towers c (record { place = p; height = l + 1 })
+      risen c l = slice_set towers c (tower_of p (l + 1) (Some x))
 
-      pub put_kept : Kept n (slice_set s j (Some (record { place = p; level = h }))) (slice_set below i top) (slice_set cells k (Some x)) (risen k h)
+      pub put_kept : Kept n (slice_set s j (Some (record { place = p; level = h }))) (slice_set below i top) (risen k h)
       put_kept =
-          subst (λ u. Kept n u (slice_set below i top) (slice_set cells k (Some x)) (risen k h)) (sym written) (
+          subst (λ u. Kept n u (slice_set below i top) (risen k h)) (sym written) (
             is.0,
             is.1,
             spots_put_is s is.2 x p free within,
             subst (λ c. IsLinked c (slice_set below i top)) (sym made) (subst (λ m. IsLinked (put (board_of s) x p) (slice_set below m top)) (sym at_i) (subst (λ t. IsLinked (put (board_of s) x p) (slice_set below x t)) (sym top_is)
                 (linked_put n some (board_of s) (is_board s is.2) x p small within off close below is.3))),
-            subst (λ c. IsGrid n c (slice_set cells k (Some x))) (sym made) (subst (λ m. IsGrid n (put (board_of s) x p) (slice_set cells m (Some x))) (sym at_k)
-                (grid_put n some (board_of s) (is_board s is.2) x p small within off close cells is.4)),
-            subst (IsSpread n) (sym made) (spread_put n some (board_of s) (is_board s is.2) x p small within off close is.5),
-            subst (λ c. IsHigh n c (risen k h)) (sym made) (subst (λ m. IsHigh n (put (board_of s) x p) (risen m h)) (sym at_k) (subst (λ l. IsHigh n (put (board_of s) x p) (risen (cell_of n p) l)) (sym height)
-                (high_put n some (board_of s) (is_board s is.2) x p small within off close towers is.6))),
+            subst (IsSpread n) (sym made) (spread_put n some (board_of s) (is_board s is.2) x p small within off close is.4),
+            subst (λ c. HasTowers n c (risen k h)) (sym made) (subst (λ m. HasTowers n (put (board_of s) x p) (risen m h)) (sym at_k) (subst (λ l. HasTowers n (put (board_of s) x p) (risen (cell_of n p) l)) (sym height)
+                (towers_put n some (board_of s) (is_board s is.2) x p small within off close towers is.5))),
           )
 
-      -- all other places are as occupied as before
-      pub put_others : (q : Place) → q ≢ p → is_occupied (board_of (slice_set s j (Some (record { place = p; level = h })))) q ≡ is_occupied (board_of s) q
+      put_others : (q : Place) → q ≢ p → is_occupied (board_of (slice_set s j (Some (record { place = p; level = h })))) q ≡ is_occupied (board_of s) q
       put_others q other = ap (λ c. is_occupied c q) (ap board_of written ∙ made) ∙ ap (nat_lt 0) (height_apart (board_of s) x p q other)
 
-      -- and so is this one, where it was occupied
-      pub put_above : nat_eq h 0 ≡ false → is_occupied (board_of (slice_set s j (Some (record { place = p; level = h })))) p ≡ is_occupied (board_of s) p
-      put_above high =
-          let above : h ≢ 0 = (λ e. let wrong : true ≡ false = sym (ap (λ k. nat_eq k 0) e) ∙ high in cc) in
-          ap (λ c. is_occupied c p) (ap board_of written ∙ made)
+      put_on : is_occupied (board_of (slice_set s j (Some (record { place = p; level = h })))) p ≡ true
+      put_on = ap (λ c. is_occupied c p) (ap board_of written ∙ made)
           ∙ ap (nat_lt 0) (put_height (board_of s) x p (is_board s is.2) small within off)
           ∙ some_height (height_at (board_of s) p + 1) (omega arith)
-          ∙ sym (some_height (height_at (board_of s) p) (omega (arith, above, height)))
+
+      -- the place came to be occupied where it was not, and no other did
+      pub put_turned : IsTurned (board_of s) (board_of (slice_set s j (Some (record { place = p; level = h })))) p (nat_eq h 0)
+      put_turned = record {
+        here = put_on ∙ sym (was_low h (height_at (board_of s) p) height);
+        there = put_others;
+      }
 
       pub put_made : board_of (slice_set s j (Some (record { place = p; level = h }))) ≡ put b x p
       put_made = ap board_of written ∙ made ∙ ap (λ c. put c x p) view
@@ -129,37 +148,34 @@ module _ (n : ℕ) (s : Spots) (below cells : List (Option ℕ)) (towers : List 
       under : o ≡ under_of (board_of s) x
       under = same_Some _ _ (sym o_is ∙ is.3.links x small)
 
-      abbrev sunk : ℕ → List Tower
-      sunk c = slice_set towers c (record { place = t.place; height = t.level })
+      abbrev sunk : ℕ → Option ℕ → List Tower
+      sunk c u = slice_set towers c (tower_of t.place t.level u)
 
-      pub lift_kept : Kept n (slice_set s j None) (slice_set below i None) (slice_set cells k o) (sunk k)
+      pub lift_kept : Kept n (slice_set s j None) (slice_set below i None) (sunk k o)
       lift_kept =
-          subst (λ m. Kept n (slice_set s m None) (slice_set below i None) (slice_set cells k o) (sunk k)) (sym at_j) (
+          subst (λ m. Kept n (slice_set s m None) (slice_set below i None) (sunk k o)) (sym at_j) (
             is.0,
             is.1,
             spots_lift_is s is.2 x t.place t.level stands top_here,
             subst (λ c. IsLinked c (slice_set below i None)) (sym left) (subst (λ m. IsLinked (lift (board_of s) x) (slice_set below m None)) (sym at_i)
-                (linked_lift n some (board_of s) (is_board s is.2) is.5 x t.place t.level (board_has s is.2 x t.place t.level stands) high below small is.3)),
-            subst (λ c. IsGrid n c (slice_set cells k o)) (sym left) (subst (λ m. IsGrid n (lift (board_of s) x) (slice_set cells m o)) (sym at_k) (subst (λ u. IsGrid n (lift (board_of s) x) (slice_set cells (cell_of n t.place) u)) (sym under)
-                (grid_lift n some (board_of s) (is_board s is.2) is.5 x t.place t.level (board_has s is.2 x t.place t.level stands) high cells is.4))),
-            subst (IsSpread n) (sym left) (spread_lift n some (board_of s) (is_board s is.2) is.5 x t.place t.level (board_has s is.2 x t.place t.level stands) high),
-            subst (λ c. IsHigh n c (sunk k)) (sym left) (subst (λ m. IsHigh n (lift (board_of s) x) (sunk m)) (sym at_k)
-                (high_lift n some (board_of s) (is_board s is.2) is.5 x t.place t.level (board_has s is.2 x t.place t.level stands) high towers is.6)),
+                (linked_lift n some (board_of s) (is_board s is.2) is.4 x t.place t.level (board_has s is.2 x t.place t.level stands) high below small is.3)),
+            subst (IsSpread n) (sym left) (spread_lift n some (board_of s) (is_board s is.2) is.4 x t.place t.level (board_has s is.2 x t.place t.level stands) high),
+            subst (λ c. HasTowers n c (sunk k o)) (sym left) (subst (λ m. HasTowers n (lift (board_of s) x) (sunk m o)) (sym at_k) (subst (λ u. HasTowers n (lift (board_of s) x) (sunk (cell_of n t.place) u)) (sym under)
+                (towers_lift n some (board_of s) (is_board s is.2) is.4 x t.place t.level (board_has s is.2 x t.place t.level stands) high towers is.5))),
           )
 
-      -- all other places are as occupied as before
-      pub lift_others : (q : Place) → q ≢ t.place → is_occupied (board_of (slice_set s j None)) q ≡ is_occupied (board_of s) q
+      lift_others : (q : Place) → q ≢ t.place → is_occupied (board_of (slice_set s j None)) q ≡ is_occupied (board_of s) q
       lift_others q other = ap (λ c. is_occupied c q) (ap (λ m. board_of (slice_set s m None)) at_j ∙ left)
           ∙ ap (nat_lt 0) (lifts.height_there (board_of s) (is_board s is.2) x t.place t.level (board_has s is.2 x t.place t.level stands) high q (is_other_place q t.place other))
 
-      -- and so is this one, where a piece is left
-      pub lift_above : nat_eq t.level 0 ≡ false → is_occupied (board_of (slice_set s j None)) t.place ≡ is_occupied (board_of s) t.place
-      lift_above level =
-          let above : t.level ≢ 0 = (λ e. let wrong : true ≡ false = sym (ap (λ k. nat_eq k 0) e) ∙ level in cc) in
-          ap (λ c. is_occupied c t.place) (ap (λ m. board_of (slice_set s m None)) at_j ∙ left)
-          ∙ ap (nat_lt 0) (lifts.height_here (board_of s) (is_board s is.2) x t.place t.level (board_has s is.2 x t.place t.level stands) high)
-          ∙ some_height t.level (omega (arith, above))
-          ∙ sym (some_height (height_at (board_of s) t.place) (omega (arith, high)))
+      -- the place came to be empty where no piece is left, and no other did
+      pub lift_turned : IsTurned (board_of s) (board_of (slice_set s j None)) t.place (nat_eq t.level 0)
+      lift_turned = record {
+        here = ap (λ c. is_occupied c t.place) (ap (λ m. board_of (slice_set s m None)) at_j ∙ left)
+            ∙ ap (nat_lt 0) (lifts.height_here (board_of s) (is_board s is.2) x t.place t.level (board_has s is.2 x t.place t.level stands) high)
+            ∙ now_low t.level (nat_lt 0 (height_at (board_of s) t.place)) (some_height (height_at (board_of s) t.place) (omega (arith, high)));
+        there = lift_others;
+      }
 
       pub lift_made : board_of (slice_set s j None) ≡ lift b x
       lift_made = ap (λ m. board_of (slice_set s m None)) at_j ∙ left ∙ ap (λ c. lift c x) view
@@ -177,15 +193,6 @@ side_small n (inl e) = (omega (arith, e), omega (arith, e))
 side_small n (inr (inl e)) = (omega (arith, e), omega (arith, e))
 side_small n (inr (inr e)) = (omega (arith, e), omega (arith, e))
 
-none_in : (k i x : ℕ) → slice_get (replicate {A = Option ℕ} k None) i ≡ Some (Some x) → ⊥
-none_in zero i x h = none-some _ h
-none_in (suc k) zero x h = none-some _ (same_Some _ _ h)
-none_in (suc k) (suc i) x h = none_in k i x h
-
-length-replicate : (k : ℕ) → length (replicate {A = Option ℕ} k None) ≡ k
-length-replicate zero = refl
-length-replicate (suc k) = ap suc (length-replicate k)
-
 no_links : (below : List (Option ℕ)) → length below ≡ 28 → list_all is_none below ≡ true → IsLinked [] below
 no_links below many none = record {
   many = many;
@@ -201,14 +208,13 @@ no_links below many none = record {
     all ((Some y) ∷ ys) x o e h = let wrong : false ≡ true = e in absurd (cc)
 
 pub new_kept : (n : ℕ) → IsSide n → (s : Spots) → length s ≡ 28 → list_all is_none s ≡ true → board_of s ≡ [] → (below : List (Option ℕ)) → length below ≡ 28 → list_all is_none below ≡ true
-    → (cells : List (Option ℕ)) → cells ≡ replicate (n * n) None → (towers : List Tower) → towers ≡ replicate (n * n) (record { place = origin; height = 0 }) → (rings : List Ring) → rings ≡ replicate (n * n) (record { place = origin; mask = 0 }) → Whole n s below cells towers rings
-new_kept n side s many none empty below long free cells clear towers flat rings bare = (
+    → (towers : List Tower) → towers ≡ replicate (n * n) (tower_of origin 0 None) → (rings : List Ring) → rings ≡ replicate (n * n) (record { place = origin; mask = 0 }) → Whole n s below towers rings
+new_kept n side s many none empty below long free towers flat rings bare = (
   (side_small n side).0,
   (side_small n side).1,
   no_spots s none many,
   subst (λ b. IsLinked b below) (sym empty) (no_links below long free),
-  subst (λ b. IsGrid n b cells) (sym empty) (empty_grid n cells (ap length clear ∙ length-replicate (n * n)) (λ i x h. none_in (n * n) i x (ap (λ (l : List (Option ℕ)). slice_get l i) (sym clear) ∙ h))),
   subst (IsSpread n) (sym empty) (empty_spread n),
-  subst (λ b. IsHigh n b towers) (sym empty) (empty_high n towers flat),
+  subst (λ b. HasTowers n b towers) (sym empty) (empty_towers n towers flat),
   subst (λ b. IsRinged n b rings) (sym empty) (empty_ringed n rings bare),
 )

@@ -1,4 +1,5 @@
-pub mod Cells
+pub mod Links
 pub mod Kept
-pub mod Heights
+pub mod TowerLaws
 pub mod RingLaws
+pub mod Turns

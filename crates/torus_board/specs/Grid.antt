@@ -1,5 +1,6 @@
--- The cells of a wrapped grid, and the links downward, of a board.
-use Rattle.std.specs.Prelude.{◌≡◌, ℕ, ◌*◌, ◌<◌, IsTrue, List, length, Option, Some, slice_get, ◌⊎◌}
+-- The towers and rings of a wrapped grid, and the links downward, of a board.
+use Rattle.std.specs.Prelude.{◌≡◌, ◌≢◌, ℕ, ◌*◌, ◌<◌, ◌⊎◌, Bool, not, if◌then◌else◌, IsTrue}
+use Rattle.std.specs.Prelude.{List, length, Option, Some, slice_get}
 use Rattle.hive_model.specs.declared.places.Place.{Place}
 use Rattle.hive_model.specs.Boards.{Stacks, height_at, is_occupied, top_at, under_of}
 use Rattle.hive_model.specs.Neighbours.{ring, ring_mask}
@@ -11,28 +12,33 @@ use Rattle.torus_board.specs.declared.towers.Tower.{Tower}
 abbrev pub IsSide : ℕ → Type 0
 IsSide n = (n ≡ 32) ⊎ ((n ≡ 64) ⊎ (n ≡ 128))
 
--- the cell of each occupied place has its top piece, and each other cell has none
-pub record IsGrid (n : ℕ) (b : Stacks) (cells : List (Option ℕ)) : Type 0 where
-  pub many : length cells ≡ n * n
-  pub tops : (p : Place) (x : ℕ) → top_at b p ≡ Some x
-      → slice_get cells (cell_of n p) ≡ Some (Some x)
-  pub own : (i x : ℕ) → slice_get cells i ≡ Some (Some x)
-      → (p : Place) × (top_at b p ≡ Some x) × (cell_of n p ≡ i)
+-- the tower of a place
+abbrev pub tower_at : Stacks → Place → Tower
+tower_at b p = record { place = p; height = height_at b p; top = top_at b p }
 
--- the cell of each occupied place has its height, and each other cell has none
-pub record IsHigh (n : ℕ) (b : Stacks) (towers : List Tower) : Type 0 where
+-- the cell of each occupied place has its tower, and a cell that was written for a place of its own
+-- has the tower of that place
+pub record HasTowers (n : ℕ) (b : Stacks) (towers : List Tower) : Type 0 where
   pub many : length towers ≡ n * n
-  pub heights : (p : Place) → IsTrue (is_occupied b p)
-      → slice_get towers (cell_of n p) ≡ Some (record { place = p; height = height_at b p })
-  pub own : (i : ℕ) (t : Tower) → slice_get towers i ≡ Some t → 0 < t.height
-      → (height_at b t.place ≡ t.height) × (cell_of n t.place ≡ i)
+  pub here : (p : Place) → IsTrue (is_occupied b p)
+      → slice_get towers (cell_of n p) ≡ Some (tower_at b p)
+  pub own : (p : Place) (t : Tower) → slice_get towers (cell_of n p) ≡ Some t → t.place ≡ p
+      → t ≡ tower_at b p
+
+-- the cell of a place was written for it last, and has this mask
+abbrev pub HasMask : ℕ → List Ring → Place → ℕ → Type 0
+HasMask n rings p m = slice_get rings (cell_of n p) ≡ Some (record { place = p; mask = m })
 
 -- a cell that was written for a place tells which neighbours of that place are occupied
 pub record IsRinged (n : ℕ) (b : Stacks) (rings : List Ring) : Type 0 where
   pub many : length rings ≡ n * n
-  pub masks : (p : Place) (m : ℕ)
-      → slice_get rings (cell_of n p) ≡ Some (record { place = p; mask = m })
-      → m ≡ ring_mask (ring (is_occupied b) p)
+  pub masks : (p : Place) (m : ℕ) → HasMask n rings p m → m ≡ ring_mask (ring (is_occupied b) p)
+
+-- from the first board to the second no place but this one came to be occupied or empty, and this
+-- one did where it changes
+pub record IsTurned (b c : Stacks) (p : Place) (changes : Bool) : Type 0 where
+  pub here : is_occupied c p ≡ (if changes then not (is_occupied b p) else is_occupied b p)
+  pub there : (q : Place) → q ≢ p → is_occupied c q ≡ is_occupied b q
 
 -- each piece has the piece directly below it, if there is one
 pub record IsLinked (b : Stacks) (below : List (Option ℕ)) : Type 0 where

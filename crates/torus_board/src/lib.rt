@@ -6,7 +6,6 @@ mod towers;
 
 ghost use Rattle.std.specs.Prelude.{
   ◌≡◌,
-  ◌+◌,
   ◌*◌,
   ◌<◌,
   ◌≤◌,
@@ -15,18 +14,12 @@ ghost use Rattle.std.specs.Prelude.{
   IfOk,
   IfSome,
   Some,
-  None,
-  unwrap_or,
-  option_map,
   slice_get,
-  length,
   [],
 };
 ghost use Rattle.hive_model.specs.Boards.{
   Stacks,
   IsBoard,
-  height_at,
-  top_at,
   spot_of,
   put,
   lift,
@@ -36,10 +29,10 @@ ghost use Rattle.hive_model.specs.Places.{IsWithin};
 ghost use Rattle.hive_model.specs.Spots.{board_of, IsSpots};
 ghost use Rattle.hive_model.specs.Spread.{IsSpread, IsNearAll};
 ghost use Rattle.residues.specs.Residues.{residue, cell_of};
-ghost use Rattle.torus_board.specs.Grid.{IsSide, IsGrid, IsLinked};
+ghost use Rattle.torus_board.specs.Grid.{IsSide, IsLinked};
 
 use crate::rings::{Ring, mask_in, renew_round};
-use crate::towers::{Tower, height_in};
+use crate::towers::{Tower, height_in, top_in, tower_in};
 use hive_model::{Board, GameBoard, Piece, Place, Spot};
 use std::alloc::{AllocError, Global};
 use std::marker::Model;
@@ -48,6 +41,7 @@ use std::marker::Model;
 const NO_TOWER: Tower = Tower {
     place: Place { q: 0, r: 0 },
     height: 0,
+    top: None,
 };
 
 /// The ring of a cell that was not written yet.
@@ -76,14 +70,6 @@ fn index_in(side: usize, place: Place) -> usize
     side * residue(place.q, side) + residue(place.r, side)
 }
 
-/// The piece that a cell has.
-fn cell_in(cells: &[Option<Piece>], index: usize) -> Option<Piece>
-    requires { index < length cells.now }
-    ensures { slice_get cells.now index ≡ Some result }
-{
-    cells[index]
-}
-
 /// Where the piece stands.
 fn spot_in(spots: &[Option<Spot>; 28], piece: Piece) -> Option<Spot>
     requires { IsSpots spots.now }
@@ -100,64 +86,15 @@ fn under_in(below: &[Option<Piece>; 28], piece: Piece) -> Option<Piece>
     below[piece.index() as usize]
 }
 
-/// The piece of the place's cell, and its level, where it stands on the place that was asked.
-fn highest_in(
-    spots: &[Option<Spot>; 28],
-    cells: &[Option<Piece>],
-    side: usize,
-    place: Place,
-) -> Option<(Piece, u8)>
-    requires small { side ≤ 128 }
-    requires some { 0 < side }
-    requires spots { IsSpots spots.now }
-    requires grid { IsGrid side (board_of spots.now) cells.now }
-    ensures top { option_map (λ h. h.0) result ≡ top_at (board_of spots.now) place }
-    ensures height { unwrap_or (option_map (λ h. h.1 + 1) result) 0
-        ≡ height_at (board_of spots.now) place }
-{
-    match cell_in(cells, index_in(side, place)) {
-        Some(piece) => match spot_in(spots, piece) {
-            Some(spot) => {
-                if place.is(spot.place) {
-                    Some((piece, spot.level))
-                } else {
-                    None
-                }
-            }
-            None => None,
-        },
-        None => None,
-    }
-}
-
-fn top_in(
-    spots: &[Option<Spot>; 28],
-    cells: &[Option<Piece>],
-    side: usize,
-    place: Place,
-) -> Option<Piece>
-    requires small { side ≤ 128 }
-    requires some { 0 < side }
-    requires spots { IsSpots spots.now }
-    requires grid { IsGrid side (board_of spots.now) cells.now }
-    ensures { result ≡ top_at (board_of spots.now) place }
-{
-    match highest_in(spots, cells, side, place) {
-        Some((piece, _)) => Some(piece),
-        None => None,
-    }
-}
-
 /// A board of at most 28 pieces, seen as the finite map from places to the pieces there. It keeps
-/// where each piece stands and what is directly below it, and in grids of SIDE times SIDE cells the
-/// top piece of each place, its height and which of its neighbours are occupied, found by the
-/// residues of the place's coordinates. So every look-up is one read or two, and a place with the
-/// residues of another reads as empty.
+/// where each piece stands and what is directly below it, and in two grids of SIDE times SIDE cells
+/// the height of each place, its top piece and which of its neighbours are occupied, found by the
+/// residues of the place's coordinates. So a place's height and top piece are one read, and a place
+/// with the residues of another reads as empty.
 #[derive(Drop)]
 pub struct Torus<const SIDE: usize> {
     spots: [Option<Spot>; 28],
     below: [Option<Piece>; 28],
-    cells: Vec<Option<Piece>>,
     towers: Vec<Tower>,
     rings: Vec<Ring>,
 }
@@ -167,7 +104,7 @@ impl<const SIDE: usize> Model for Torus<SIDE> {
     ghost use Rattle.hive_model.specs.Boards.{Stacks};
     ghost use Rattle.hive_model.specs.Spots.{board_of, IsSpots};
     ghost use Rattle.hive_model.specs.Spread.{IsSpread};
-    ghost use Rattle.torus_board.specs.Grid.{IsGrid, IsHigh, IsLinked, IsRinged};
+    ghost use Rattle.torus_board.specs.Grid.{HasTowers, IsLinked, IsRinged};
 
     ghost Value = { Stacks };
 
@@ -175,9 +112,8 @@ impl<const SIDE: usize> Model for Torus<SIDE> {
 
     ghost invariant = { λ a. (32 ≤ SIDE) × (SIDE ≤ 128) × IsSpots a.spots
         × IsLinked (board_of a.spots) a.below
-        × IsGrid SIDE (board_of a.spots) a.cells.items
         × IsSpread SIDE (board_of a.spots)
-        × IsHigh SIDE (board_of a.spots) a.towers.items
+        × HasTowers SIDE (board_of a.spots) a.towers.items
         × IsRinged SIDE (board_of a.spots) a.rings.items };
 }
 
@@ -187,7 +123,7 @@ impl<const SIDE: usize> Board for Torus<SIDE> {
     ghost stacks = { λ b. b };
 
     fn top(&self, place: Place) -> Option<Piece> {
-        top_in(&self.spots, &self.cells, SIDE, place)
+        top_in(&self.towers, SIDE, place)
     }
 
     fn height(&self, place: Place) -> u8 {
@@ -230,7 +166,6 @@ impl<const SIDE: usize> Torus<SIDE> {
         Ok(Torus {
             spots: [None; 28],
             below: [None; 28],
-            cells: vec![in alloc; None; SIDE * SIDE]?,
             towers: vec![in alloc; NO_TOWER; SIDE * SIDE]?,
             rings: vec![in alloc; NO_RING; SIDE * SIDE]?,
         })
@@ -244,15 +179,15 @@ impl<const SIDE: usize> Torus<SIDE> {
         requires near { IsNearAll SIDE self.old place }
         ensures { self.new ≡ put self.old piece place }
     {
-        let level = self.height(place);
-        let top = top_in(&self.spots, &self.cells, SIDE, place);
+        let last = tower_in(&self.towers, SIDE, place);
+        let level = last.height;
         let index = index_in(SIDE, place);
-        self.cells[index] = Some(piece);
         self.towers[index] = Tower {
             place,
             height: level + 1,
+            top: Some(piece),
         };
-        self.below[piece.index() as usize] = top;
+        self.below[piece.index() as usize] = last.top;
         self.spots[piece.index() as usize] = Some(Spot { place, level });
         renew_round(&mut self.rings, &self.towers, SIDE, place, level == 0);
     }
@@ -268,10 +203,10 @@ impl<const SIDE: usize> Torus<SIDE> {
                 let place = spot.place;
                 let index = index_in(SIDE, place);
                 let below = under_in(&self.below, piece);
-                self.cells[index] = below;
                 self.towers[index] = Tower {
                     place,
                     height: spot.level,
+                    top: below,
                 };
                 self.below[piece.index() as usize] = None;
                 self.spots[piece.index() as usize] = None;

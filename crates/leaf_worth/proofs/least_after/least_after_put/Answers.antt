@@ -1,4 +1,4 @@
-use Rattle.std.proofs.Common.{◌≡◌, false, ◌<◌, ◌∙◌, ℤ, ◌≤ℤ◌, inl, inr, refl, sym, subst}
+use Rattle.std.proofs.Common.{◌≡◌, false, ◌<◌, ℤ, ◌≤ℤ◌, inl, inr, refl, sym, subst}
 use Rattle.std.specs.Prelude.{Some}
 use Rattle.std.proofs.lemmas.Bool.{lt-ltb}
 use Rattle.hive_model.specs.declared.pieces.Colour.TheVariants.{White, Black}

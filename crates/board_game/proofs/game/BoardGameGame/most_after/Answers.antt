@@ -1,27 +1,21 @@
-use Rattle.std.proofs.Common.{◌≡◌, ◌<◌, ◌+◌, ◌≤◌, length, sym, ◌∙◌, ap, subst, arith, pos, ◌+ℤ◌, ◌≤ℤ◌}
+use Rattle.std.proofs.Common.{◌≡◌, ◌+◌, ◌≤◌, sym, subst}
 use Rattle.std.specs.Prelude.{vec_len, vec_capacity}
-use Rattle.hive_model.specs.Lists.{IsOn}
-use Rattle.hive_model.specs.Legal.{moves}
 use Rattle.hive_model.specs.Boards.{Stacks}
 use Rattle.hive_model.specs.Pieces.{other_side}
 use Rattle.hive_model.specs.Positions.{opening}
-use Rattle.hive_model.specs.Courses.{position}
 use Rattle.one_hive.specs.Separating.{MarksSeparating}
 use Rattle.rule_laws.specs.Soundness.{side_after}
 use Rattle.board_game.specs.Asked.{IsAsked, IsWhole}
 use Rattle.board_game.specs.InHand.{ArePlaced}
 use Rattle.board_game.specs.Kept.{AreKept}
-use Rattle.board_game.specs.Replayed.{Played, CanMake, IsReplayed}
-use Rattle.board_game.proofs.PlyLaws.{can_make}
+use Rattle.board_game.specs.Replayed.{IsReplayed}
+use Rattle.board_game.proofs.AskLaws.{may_make}
 use Rattle.board_game.proofs.game.BoardGameGame.most_after.Goals as goal
 
 pub reply_behind-requires : goal.reply_behind-requires
 reply_behind-requires g c =
     let i = c.self.inside in
-    let few = c.self.invariant.0.few in
-    let low : length i.made.items < 9000 = omega (arith, few) in
-    let legal = subst (λ (s : Played). IsOn (moves (position s.course)) c.args.m) (sym c.self.view_is) c.requires in
-    subst (λ b. CanMake b c.args.m) (sym c.self.invariant.0.board_is) (can_make i.game_type i.made.items c.args.m c.self.invariant.0.game low legal)
+    may_make i.game_type (g.B.Board.stacks i.board) i.made.items i.from.items i.spare i.count c.args.self.now c.args.m c.self.invariant.0 c.self.view_is c.requires
 
 pub invariant_of-self : goal.invariant_of-self
 invariant_of-self g c =

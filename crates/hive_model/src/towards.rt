@@ -1,0 +1,60 @@
+//! In which direction one place is beside another.
+
+ghost use Rattle.std.specs.Prelude.{◌≡◌, ◌≢◌, None, IfSome, IsTrue};
+ghost use Rattle.hive_model.specs.declared.places.Dir.{Dir as AnyDir};
+ghost use Rattle.hive_model.specs.Places.{IsWithin, step};
+
+use crate::places::{Dir, Place};
+
+/// Whether the other place differs by more than 1 in a coordinate. No direction leads there then.
+fn is_far(from: Place, to: Place) -> bool
+    requires { IsWithin 10000 from }
+    ensures { IsTrue result → (d : AnyDir) → step from d ≢ to }
+{
+    if to.q > from.q + 1 {
+        return true;
+    }
+    if to.q < from.q - 1 {
+        return true;
+    }
+    if to.r > from.r + 1 {
+        return true;
+    }
+    if to.r < from.r - 1 {
+        return true;
+    }
+    false
+}
+
+impl Place {
+    /// The direction in which the other place is the neighbour of this one, if it is. Both
+    /// coordinates of this one lie between -10,000 and 10,000.
+    pub fn towards(self, other: Place) -> Option<Dir>
+        requires { IsWithin 10000 self }
+        ensures some { IfSome result (λ d. step self d ≡ other) }
+        ensures none { result ≡ None → (d : AnyDir) → step self d ≢ other }
+    {
+        if is_far(self, other) {
+            return None;
+        }
+        if self.step(Dir::E).is(other) {
+            return Some(Dir::E);
+        }
+        if self.step(Dir::NE).is(other) {
+            return Some(Dir::NE);
+        }
+        if self.step(Dir::NW).is(other) {
+            return Some(Dir::NW);
+        }
+        if self.step(Dir::W).is(other) {
+            return Some(Dir::W);
+        }
+        if self.step(Dir::SW).is(other) {
+            return Some(Dir::SW);
+        }
+        if self.step(Dir::SE).is(other) {
+            return Some(Dir::SE);
+        }
+        None
+    }
+}
