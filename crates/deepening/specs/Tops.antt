@@ -23,6 +23,11 @@ pub record IsTimed (given before after : ℕ) (told : Timed) : Type 0 where
   pub order : told.started ≤ told.stopped
   pub stopped : told.stopped ≡ after
 
+-- Each reading of the clock but the last came before the time was over, or is no later than the
+-- first. Readings do not go back, so the one before the last says it for all.
+abbrev pub IsStoppedInTime : ℕ → ℕ → ℕ → Type 0
+IsStoppedInTime given started previous = started < previous → previous < started + given
+
 -- after depth 1 the clock was read at least once for each 256 plays, where the count of readings
 -- and that of plays stand below their end, that of a u64
 abbrev pub IsWatched : Position → ℕ → ℕ → ℕ → ℕ → Type 0

@@ -68,7 +68,8 @@ pub(crate) fn best_reply<G: Game, C: Clock>(
     requires early { has_come ticker.old.deadline (C.last clock.old) ≡ false }
     ensures top { IfSome result (λ b. IsTop (position (G.course game.old)) depth b) }
     ensures before { AreAsBefore (G.course game.old) (G.course game.new) stack.old stack.new }
-    ensures stopped { result ≡ None → HasStopped ticker.old ticker.new (C.last clock.new) }
+    ensures stopped { result ≡ None → HasStopped ticker.old ticker.new (C.last clock.old)
+        (C.last clock.new) (C.previous clock.new) }
     ensures in_time { IfSome result (λ b. IsInTime ticker.old (C.last clock.old)
         (C.last clock.new)) }
     ensures often { CountsPlays ticker.old ticker.new (C.readings clock.old)
@@ -112,7 +113,8 @@ fn try_all<G: Game, C: Clock>(
     requires node { IsNode depth level (G.course game.old) stack.old }
     ensures top { IfSome result (λ b. IsTop (position (G.course game.old)) depth b) }
     ensures before { AreAsBefore (G.course game.old) (G.course game.new) stack.old stack.new }
-    ensures stopped { result ≡ None → HasStopped ticker.old ticker.new (C.last clock.new) }
+    ensures stopped { result ≡ None → HasStopped ticker.old ticker.new (C.last clock.old)
+        (C.last clock.new) (C.previous clock.new) }
     ensures in_time { IfSome result (λ b. IsInTime ticker.old (C.last clock.old)
         (C.last clock.new)) }
     ensures often { CountsPlays ticker.old ticker.new (C.readings clock.old)
@@ -163,7 +165,8 @@ fn try_in_turn<G: Game, C: Clock>(
         → reply_value (position (G.course game.old)) (depth - 1) m ≡ begun.worth) }
     ensures top { IfSome result (λ b. IsTop (position (G.course game.old)) depth b) }
     ensures before { AreAsBefore (G.course game.old) (G.course game.new) stack.old stack.new }
-    ensures stopped { result ≡ None → HasStopped ticker.old ticker.new (C.last clock.new) }
+    ensures stopped { result ≡ None → HasStopped ticker.old ticker.new (C.last clock.old)
+        (C.last clock.new) (C.previous clock.new) }
     ensures in_time { IfSome result (λ b. IsInTime ticker.old (C.last clock.old)
         (C.last clock.new)) }
     ensures often { CountsPlays ticker.old ticker.new (C.readings clock.old)
@@ -228,7 +231,8 @@ fn worth_of<G: Game, C: Clock>(
     ensures found { IfSome result (λ v. IsFound (reply_value (position (G.course game.old)) depth m)
         window v) }
     ensures before { AreAsBefore (G.course game.old) (G.course game.new) stack.old stack.new }
-    ensures stopped { result ≡ None → HasStopped ticker.old ticker.new (C.last clock.new) }
+    ensures stopped { result ≡ None → HasStopped ticker.old ticker.new (C.last clock.old)
+        (C.last clock.new) (C.previous clock.new) }
     ensures in_time { IfSome result (λ v. IsInTime ticker.old (C.last clock.old)
         (C.last clock.new)) }
     ensures often { CountsPlays ticker.old ticker.new (C.readings clock.old)

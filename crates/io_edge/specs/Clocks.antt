@@ -16,18 +16,21 @@ pub record TellsTime (moment : ℕ) (last_before last_now readings_before readin
 abbrev pub last_moment : ℕ
 last_moment = 2 ^ 62 - 1
 
--- a clock that goes by steps: the reading to come, the step, the last reading, and how often it was
--- read
+-- a clock that goes by steps: the reading to come, the step, the last reading, the one before it,
+-- and how often it was read
 pub record StepState : Type 0 where
   pub next : ℕ
   pub step : ℕ
   pub last : ℕ
+  pub previous : ℕ
   pub readings : ℕ
 
--- a clock over a list: the readings to come, the last reading, and how often it was read
+-- a clock over a list: the readings to come, the last reading, the one before it, and how often it
+-- was read
 pub record ClockState : Type 0 where
   pub coming : List ℕ
   pub last : ℕ
+  pub previous : ℕ
   pub readings : ℕ
 
 -- the reading after one: the first of the list, cut to the greatest reading, yet never an earlier

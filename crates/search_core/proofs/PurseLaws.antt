@@ -95,12 +95,20 @@ time-empty t u a b r0 r1 l0 l1 n none k = record { deadline = k.deadline; later 
 
 -- ---- how a search ends
 
-pub ended-not_early : (a : Purse) (t u : Ticks) (l0 l1 : ℕ) → a.early ≡ false → HasEnded a t u l0 l1 → HasStopped t u l1
-ended-not_early a t u l0 l1 e x = x.stopped (ap (λ s. s && nat_eq a.saved 0) e)
+pub ended-not_early : (a : Purse) (t u : Ticks) (l0 l1 b1 : ℕ) → a.early ≡ false → HasEnded a t u l0 l1 b1 → HasStopped t u l0 l1 b1
+ended-not_early a t u l0 l1 b1 e x = x.stopped (ap (λ s. s && nat_eq a.saved 0) e)
 
-pub ended-then : (a : Purse) (t u v : Ticks) (l0 l1 l2 : ℕ) → u.deadline ≡ t.deadline → IsInTime t l0 l1 → HasEnded a u v l1 l2 → HasEnded a t v l0 l2
-ended-then a t u v l0 l1 l2 same x y = record {
-  stopped = λ e. let s = y.stopped e in record { come = ap (λ d. has_come d l2) (sym same) ∙ s.come; latest = s.latest };
+-- a search that stopped after the time was kept so far
+pub stopped-then : (t u v : Ticks) (l0 l1 l2 b2 : ℕ) → u.deadline ≡ t.deadline → IsInTime t l0 l1 → HasStopped u v l1 l2 b2 → HasStopped t v l0 l2 b2
+stopped-then t u v l0 l1 l2 b2 same x s = record {
+  come = ap (λ d. has_come d l2) (sym same) ∙ s.come;
+  latest = s.latest;
+  before = in_time-then t u l0 l1 b2 same x s.before;
+}
+
+pub ended-then : (a : Purse) (t u v : Ticks) (l0 l1 l2 b2 : ℕ) → u.deadline ≡ t.deadline → IsInTime t l0 l1 → HasEnded a u v l1 l2 b2 → HasEnded a t v l0 l2 b2
+ended-then a t u v l0 l1 l2 b2 same x y = record {
+  stopped = λ e. stopped-then t u v l0 l1 l2 b2 same x (y.stopped e);
   spent = λ e. in_time-then t u l0 l1 l2 same x (y.spent e);
 }
 

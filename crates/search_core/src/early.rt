@@ -56,7 +56,7 @@ pub(crate) fn search_early<G: Game, C: Clock>(
         a.value) }
     ensures before { AreAsBefore (G.course game.old) (G.course game.new) stack.old stack.new }
     ensures ended { result ≡ None → HasEnded purse.new ticker.old ticker.new (C.last clock.old)
-        (C.last clock.new) }
+        (C.last clock.new) (C.previous clock.new) }
     ensures in_time { IfSome result (λ a. IsInTime ticker.old (C.last clock.old)
         (C.last clock.new)) }
     ensures often { CountsPlays ticker.old ticker.new (C.readings clock.old)
@@ -145,7 +145,7 @@ fn try_early<G: Game, C: Clock>(
         e.value e.place) }
     ensures before { AreAsBefore (G.course game.old) (G.course game.new) stack.old stack.new }
     ensures ended { result ≡ None → HasEnded purse.new ticker.old ticker.new (C.last clock.old)
-        (C.last clock.new) }
+        (C.last clock.new) (C.previous clock.new) }
     ensures in_time { IfSome result (λ a. IsInTime ticker.old (C.last clock.old)
         (C.last clock.new)) }
     ensures often { CountsPlays ticker.old ticker.new (C.readings clock.old)

@@ -47,7 +47,7 @@ pub(crate) fn search_moves<G: Game, C: Clock>(
         a.value) }
     ensures before { AreAsBefore (G.course game.old) (G.course game.new) stack.old stack.new }
     ensures ended { result ≡ None → HasEnded purse.new ticker.old ticker.new (C.last clock.old)
-        (C.last clock.new) }
+        (C.last clock.new) (C.previous clock.new) }
     ensures in_time { IfSome result (λ a. IsInTime ticker.old (C.last clock.old)
         (C.last clock.new)) }
     ensures often { CountsPlays ticker.old ticker.new (C.readings clock.old)
@@ -88,7 +88,7 @@ fn search_from<G: Game, C: Clock>(
         a.value) }
     ensures before { AreAsBefore (G.course game.old) (G.course game.new) stack.old stack.new }
     ensures ended { result ≡ None → HasEnded purse.new ticker.old ticker.new (C.last clock.old)
-        (C.last clock.new) }
+        (C.last clock.new) (C.previous clock.new) }
     ensures in_time { IfSome result (λ a. IsInTime ticker.old (C.last clock.old)
         (C.last clock.new)) }
     ensures often { CountsPlays ticker.old ticker.new (C.readings clock.old)
@@ -149,7 +149,7 @@ fn search_others<G: Game, C: Clock>(
         a.value) }
     ensures before { AreAsBefore (G.course game.old) (G.course game.new) stack.old stack.new }
     ensures ended { result ≡ None → HasEnded purse.new ticker.old ticker.new (C.last clock.old)
-        (C.last clock.new) }
+        (C.last clock.new) (C.previous clock.new) }
     ensures in_time { IfSome result (λ a. IsInTime ticker.old (C.last clock.old)
         (C.last clock.new)) }
     ensures often { CountsPlays ticker.old ticker.new (C.readings clock.old)
@@ -195,7 +195,7 @@ fn search_listed<G: Game, C: Clock>(
         a.value) }
     ensures before { AreAsBefore (G.course game.old) (G.course game.new) stack.old stack.new }
     ensures ended { result ≡ None → HasEnded purse.new ticker.old ticker.new (C.last clock.old)
-        (C.last clock.new) }
+        (C.last clock.new) (C.previous clock.new) }
     ensures in_time { IfSome result (λ a. IsInTime ticker.old (C.last clock.old)
         (C.last clock.new)) }
     ensures often { CountsPlays ticker.old ticker.new (C.readings clock.old)

@@ -48,7 +48,7 @@ pub(crate) fn search_with<G: Game, C: Clock>(
     ensures paid { IsPaid purse.old purse.new (G.played game.old) (G.played game.new)
         (counted ticker.old (C.readings clock.old)) (counted ticker.new (C.readings clock.new)) }
     ensures ended { result ≡ Found.Stopped → HasEnded purse.new ticker.old ticker.new
-        (C.last clock.old) (C.last clock.new) }
+        (C.last clock.old) (C.last clock.new) (C.previous clock.new) }
     ensures in_time { IfFound result (λ v. IsInTime ticker.old (C.last clock.old)
         (C.last clock.new)) }
     ensures often { CountsPlays ticker.old ticker.new (C.readings clock.old)

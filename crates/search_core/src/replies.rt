@@ -38,7 +38,8 @@ pub fn reply<G: Game, C: Clock>(
     ensures found { IfSome result (λ v. IsFound (reply_value (position (G.course game.old)) depth m)
         window v) }
     ensures before { AreAsBefore (G.course game.old) (G.course game.new) stack.old stack.new }
-    ensures stopped { result ≡ None → HasStopped ticker.old ticker.new (C.last clock.new) }
+    ensures stopped { result ≡ None → HasStopped ticker.old ticker.new (C.last clock.old)
+        (C.last clock.new) (C.previous clock.new) }
     ensures in_time { IfSome result (λ v. IsInTime ticker.old (C.last clock.old)
         (C.last clock.new)) }
     ensures often { CountsPlays ticker.old ticker.new (C.readings clock.old)
@@ -76,7 +77,7 @@ pub(crate) fn reply_with<G: Game, C: Clock>(
         window v) }
     ensures before { AreAsBefore (G.course game.old) (G.course game.new) stack.old stack.new }
     ensures ended { result ≡ None → HasEnded purse.new ticker.old ticker.new (C.last clock.old)
-        (C.last clock.new) }
+        (C.last clock.new) (C.previous clock.new) }
     ensures in_time { IfSome result (λ v. IsInTime ticker.old (C.last clock.old)
         (C.last clock.new)) }
     ensures often { CountsPlays ticker.old ticker.new (C.readings clock.old)
@@ -117,7 +118,7 @@ fn play_reply<G: Game, C: Clock>(
         window v) }
     ensures before { AreAsBefore (G.course game.old) (G.course game.new) stack.old stack.new }
     ensures ended { result ≡ None → HasEnded purse.new ticker.old ticker.new (C.last clock.old)
-        (C.last clock.new) }
+        (C.last clock.new) (C.previous clock.new) }
     ensures in_time { IfSome result (λ v. IsInTime ticker.old (C.last clock.old)
         (C.last clock.new)) }
     ensures often { CountsPlays ticker.old ticker.new (C.readings clock.old)

@@ -18,8 +18,10 @@ use std::test::Fail;
 use std::thread::Threads;
 
 /// A game that white wins by one move.
-const ONE_MOVE_WINS: &str =
-    "Base;InProgress;White[7];wS1;bS1 wS1-;wQ /wS1;bQ bS1-;wQ /bS1;bQ wQ-;wG1 -wS1;bG1 bS1-;wB1 /wQ;bB1 bQ-;wA1 -wB1;bA1 /bB1";
+const ONE_MOVE_WINS: &str = concat!(
+    "Base;InProgress;White[7];wS1;bS1 wS1-;wQ /wS1;bQ bS1-;wQ /bS1;bQ wQ-;wG1 -wS1;",
+    "bG1 bS1-;wB1 /wQ;bB1 bQ-;wA1 -wB1;bA1 /bB1",
+);
 
 /// How often a worker that waits for another looks at its flag.
 const LOOKS: u32 = 1_000_000_000;

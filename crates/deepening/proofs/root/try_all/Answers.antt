@@ -7,6 +7,7 @@ use Rattle.search_laws.proofs.HintLaws.{reply-low}
 use Rattle.search_laws.proofs.RootLaws.{small-value}
 use Rattle.search_core.proofs.TimeLaws.{if-some, one-time, both-time, rest-time}
 use Rattle.deepening.proofs.RootStops.{first-known, reply-least, turns-within, first-then-turns, first-alone, known-here, turns-here}
+use Rattle.search_core.proofs.PurseLaws.{stopped-then}
 use Rattle.search_core.proofs.CountLaws.{in_time-then, counts-then}
 use Rattle.deepening.proofs.root.try_all.Goals as goal
 
@@ -87,3 +88,7 @@ returns-then-first-level_len-clause-in_time g c =
 pub returns-then-first-level_len-clause-often : goal.returns-then-first-level_len-clause-often
 returns-then-first-level_len-clause-often g c =
     counts-then _ _ _ _ _ _ _ _ _ c.reply.ensures.time.deadline c.reply.ensures.often c.try_in_turn.ensures.often
+
+pub returns-then-first-level_len-clause-stopped : goal.returns-then-first-level_len-clause-stopped
+returns-then-first-level_len-clause-stopped g c = λ none.
+    stopped-then _ _ _ _ _ _ _ c.reply.ensures.time.deadline c.in_ok-worth.ensures.in_time (c.try_in_turn.ensures.stopped none)

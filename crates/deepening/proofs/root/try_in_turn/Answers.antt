@@ -13,6 +13,7 @@ use Rattle.search_laws.specs.declared.window.Window.{Window}
 use Rattle.search_laws.proofs.NodeLaws.{node-reply, before-then}
 use Rattle.search_laws.proofs.HintLaws.{here-in}
 use Rattle.search_core.proofs.TimeLaws.{keeps-none, keeps-more, less}
+use Rattle.search_core.proofs.PurseLaws.{stopped-then}
 use Rattle.search_core.proofs.CountLaws.{in_time-none, in_time-then, counts-none, counts-then}
 use Rattle.deepening.proofs.RootStops.{root-from, root-alpha, known-at, turns-begin, turns-end, turns-stop, turn-left_of, known-time}
 use Rattle.search_laws.proofs.RootLaws.{Tried, tried, tried-more, tried-less, root-best, root-end, root-value, small-value}
@@ -142,3 +143,7 @@ returns-clause-played g c = turns-end _ _ _ _ _ _ c.loop-i.invariant.plays
 pub returns-in_err-found-clause-often : goal.returns-in_err-found-clause-often
 returns-in_err-found-clause-often g c =
     counts-then _ _ _ _ _ _ _ _ _ c.loop-i.invariant.time.deadline c.loop-i.invariant.often c.worth_of.ensures.often
+
+pub returns-in_err-found-clause-stopped : goal.returns-in_err-found-clause-stopped
+returns-in_err-found-clause-stopped g c = λ _.
+    stopped-then _ _ _ _ _ _ _ c.loop-i.invariant.time.deadline c.loop-i.invariant.in_time (c.worth_of.ensures.stopped c.in_err-found.was)

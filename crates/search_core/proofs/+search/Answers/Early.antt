@@ -22,7 +22,7 @@ use Rattle.search_core.proofs.+search.Goals as goal
 
 pub early::search_early-returns-clause-ended : goal.early::search_early-returns-clause-ended
 early::search_early-returns-clause-ended g t c = λ none.
-    ended-then _ _ _ _ _ _ _ (c.try_early-2.ensures.time.deadline ∙ c.try_early.ensures.time.deadline) (in_time-then _ _ _ _ _ c.try_early.ensures.time.deadline c.in_ok-one.ensures.in_time c.in_ok-two.ensures.in_time) (c.search_rest.ensures.ended none)
+    ended-then _ _ _ _ _ _ _ _ (c.try_early-2.ensures.time.deadline ∙ c.try_early.ensures.time.deadline) (in_time-then _ _ _ _ _ c.try_early.ensures.time.deadline c.in_ok-one.ensures.in_time c.in_ok-two.ensures.in_time) (c.search_rest.ensures.ended none)
 
 pub early::search_early-returns-clause-found : goal.early::search_early-returns-clause-found
 early::search_early-returns-clause-found g t c =
@@ -109,7 +109,7 @@ early::search_early-returns-clause-time g t c =
 
 pub early::search_early-returns-in_err-two-clause-ended : goal.early::search_early-returns-in_err-two-clause-ended
 early::search_early-returns-in_err-two-clause-ended g t c = λ _.
-    ended-then _ _ _ _ _ _ _ c.try_early.ensures.time.deadline c.in_ok-one.ensures.in_time (c.try_early-2.ensures.ended c.in_err-two.was)
+    ended-then _ _ _ _ _ _ _ _ c.try_early.ensures.time.deadline c.in_ok-one.ensures.in_time (c.try_early-2.ensures.ended c.in_err-two.was)
 
 pub early::search_early-returns-in_err-two-clause-often : goal.early::search_early-returns-in_err-two-clause-often
 early::search_early-returns-in_err-two-clause-often g t c =

@@ -369,14 +369,14 @@ node_moves::search_listed-returns-clause-often g t c =
 
 pub node_moves::search_from-returns-clause-ended : goal.node_moves::search_from-returns-clause-ended
 node_moves::search_from-returns-clause-ended g t c = λ none.
-    ended-then _ _ _ _ _ _ _ c.reply_with.ensures.time.deadline c.in_ok-found.ensures.in_time (c.search_others.ensures.ended none)
+    ended-then _ _ _ _ _ _ _ _ c.reply_with.ensures.time.deadline c.in_ok-found.ensures.in_time (c.search_others.ensures.ended none)
 
 pub node_moves::search_from-returns-clause-paid : goal.node_moves::search_from-returns-clause-paid
 node_moves::search_from-returns-clause-paid g t c = paid-then _ _ _ _ _ _ _ _ _ c.reply_with.ensures.paid c.search_others.ensures.paid
 
 pub node_moves::search_listed-returns-then-first-count-clause-ended : goal.node_moves::search_listed-returns-then-first-count-clause-ended
 node_moves::search_listed-returns-then-first-count-clause-ended g t c = λ none.
-    ended-then _ _ _ _ _ _ _ c.reply_with.ensures.time.deadline c.in-Some-reply_with.ensures.in_time (c.search_early-answer.ensures.ended none)
+    ended-then _ _ _ _ _ _ _ _ c.reply_with.ensures.time.deadline c.in-Some-reply_with.ensures.in_time (c.search_early-answer.ensures.ended none)
 
 pub node_moves::search_listed-returns-then-first-count-clause-paid : goal.node_moves::search_listed-returns-then-first-count-clause-paid
 node_moves::search_listed-returns-then-first-count-clause-paid g t c =

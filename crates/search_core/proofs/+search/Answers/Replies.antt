@@ -103,7 +103,7 @@ replies::play_reply-returns-in-Found-clause-paid g t c =
 
 pub replies::play_reply-returns-in-Stopped-clause-ended : goal.replies::play_reply-returns-in-Stopped-clause-ended
 replies::play_reply-returns-in-Stopped-clause-ended g t c = λ _.
-    ended-then _ _ _ _ _ _ _ c.tick.ensures.time.deadline
+    ended-then _ _ _ _ _ _ _ _ c.tick.ensures.time.deadline
     (in_time-tick _ _ _ c.tick.result _ (search rules) refl (λ e. (c.tick.ensures.read e).2) (λ e. (c.tick.ensures.unread e).1)) (c.search_with-found.ensures.ended c.in-Stopped.is)
 
 pub replies::play_reply-returns-in-Stopped-clause-paid : goal.replies::play_reply-returns-in-Stopped-clause-paid

@@ -202,7 +202,7 @@ rest::search_rest-loop-i-preserved-then-eq-3 g t c =
 
 pub rest::search_rest-returns-in_err-found-clause-ended : goal.rest::search_rest-returns-in_err-found-clause-ended
 rest::search_rest-returns-in_err-found-clause-ended g t c = λ _.
-    ended-then _ _ _ _ _ _ _ c.loop-i.invariant.time.deadline c.loop-i.invariant.in_time (c.reply_with.ensures.ended c.in_err-found.was)
+    ended-then _ _ _ _ _ _ _ _ c.loop-i.invariant.time.deadline c.loop-i.invariant.in_time (c.reply_with.ensures.ended c.in_err-found.was)
 
 pub rest::search_rest-returns-then-found-inner-clause-paid : goal.rest::search_rest-returns-then-found-inner-clause-paid
 rest::search_rest-returns-then-found-inner-clause-paid g t c =
