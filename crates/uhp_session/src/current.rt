@@ -15,6 +15,7 @@ ghost use Rattle.std.specs.Prelude.{
   codes,
   Some,
   IfOk,
+  IfSome,
   OnOk,
   OnErr,
   IsTrue,
@@ -40,7 +41,7 @@ ghost use Rattle.uhp_session.specs.Answers.{
   best_text,
 };
 ghost use Rattle.uhp_session.specs.Searches.{HasTold, times};
-ghost use Rattle.uhp_session.specs.Teams.{IsTeam};
+ghost use Rattle.uhp_session.specs.Teams.{AreSearchersOf, IsTeam};
 
 use crate::lines::Reply;
 use crate::lists::joined_moves;
@@ -354,26 +355,31 @@ impl<G: Game + Drop> Current<G> {
 }
 
 impl<G: Game + Send + Drop> Current<G> {
-    /// The best move, found by a team, and `ok`. The game is as before, after want of memory too.
+    /// The best move, found by a team, with its searchers that are kept or with new ones, and `ok`.
+    /// They are kept afterwards; after want of memory none may be.
     pub(crate) fn tell_best_by<R: Threads + Sync, T: Gate + Sync>(
         &self,
         rt: &R,
         alloc: Global,
         team: Team,
+        kept: &mut Option<Vec<Searcher>>,
         depth: u32,
         gate: &T,
     ) -> Result<Reply, AllocError>
         requires goes_on { is_over (reached self.now) ≡ false }
         requires team { IsTeam team.workers team.entries }
+        requires kept { IfSome kept.old (λ ns. AreSearchersOf team.workers ns.items) }
         requires some { 1 ≤ depth }
         requires deep { depth ≤ 64 }
-        ensures { IfOk result (λ r. text_of r
+        ensures reply { IfOk result (λ r. text_of r
             ≡ Some (ended (best_text self.now depth ∷ (codes "ok" ∷ [])))) }
+        ensures kept { IfSome kept.new (λ ns. AreSearchersOf team.workers ns.items) }
     {
         let _state = self.game.state();
         let moves = first_moves(alloc, &self.game, self.game.plies())?;
         let game_type = self.game.game_type();
-        let found = best_by::<R, G, T>(rt, alloc, game_type, moves.items(), team, depth, gate)?;
+        let made = moves.items();
+        let found = best_by::<R, G, T>(rt, alloc, game_type, made, team, kept, depth, gate)?;
         self.tell_move(alloc, found)
     }
 }

@@ -37,11 +37,13 @@ pub struct Session<G: Game> {
     workers: u32,
     repetition: bool,
     searcher: Option<Searcher>,
+    team: Option<Vec<Searcher>>,
 }
 
 impl<G: Game> Model for Session<G> {
     ghost use Rattle.std.specs.Prelude.{◌≡◌, ◌≤◌, IfSome};
     ghost use Rattle.uhp_session.specs.Answers.{State};
+    ghost use Rattle.uhp_session.specs.Teams.{AreSearchersOf};
 
     ghost Value = { State };
 
@@ -53,7 +55,8 @@ impl<G: Game> Model for Session<G> {
     } };
 
     ghost invariant = { λ s. (1 ≤ s.table) × (s.table ≤ 1048576) × (1 ≤ s.workers)
-        × (s.workers ≤ 16) × IfSome s.searcher (λ n. n ≡ 64) };
+        × (s.workers ≤ 16) × IfSome s.searcher (λ n. n ≡ 64)
+        × IfSome s.team (λ ns. AreSearchersOf s.workers ns.items) };
 }
 
 impl<G: Game + Send + Drop> Session<G> {
@@ -67,6 +70,7 @@ impl<G: Game + Send + Drop> Session<G> {
             workers: 1,
             repetition: false,
             searcher: None,
+            team: None,
         }
     }
 
@@ -270,10 +274,11 @@ impl<G: Game + Send + Drop> Session<G> {
         game.tell_moves(alloc)
     }
 
-    /// The best move, so many plies deep. Several workers search it beside each other; each of them
-    /// has its share of the option Table, at least one entry, and the searcher that was kept is
-    /// dropped before, so that no more than these entries are kept at a time. One worker goes on with
-    /// the searcher of the session.
+    /// The best move, so many plies deep. Several workers search it beside each other, and go on
+    /// with the searchers of the session's team, each of which has its share of the option Table, at
+    /// least one entry. One worker goes on with the searcher of the session, which has the whole of
+    /// it. Where one of the two begins, what is kept of the other is dropped before, so that no more
+    /// than these entries are kept at a time.
     fn best<R: Threads + Sync, T: Gate + Sync>(
         &mut self,
         rt: &R,
@@ -299,8 +304,9 @@ impl<G: Game + Send + Drop> Session<G> {
         }
         if team.workers > 1 {
             self.searcher = None;
-            return game.tell_best_by(rt, alloc, team, depth, gate);
+            return game.tell_best_by(rt, alloc, team, &mut self.team, depth, gate);
         }
+        self.team = None;
         let mut searcher = taken(&mut self.searcher, alloc, team.entries)?;
         let reply = game.tell_best(alloc, &mut searcher, depth);
         self.searcher = Some(searcher);
@@ -308,7 +314,8 @@ impl<G: Game + Send + Drop> Session<G> {
     }
 
     /// The best move of the last depth that is completed within the budget, in milliseconds. It is
-    /// one worker's, with the searcher of the session, which has the whole of the option Table.
+    /// one worker's, with the searcher of the session, which has the whole of the option Table; the
+    /// searchers of a team are dropped before.
     fn best_in<C: Clock>(
         &mut self,
         alloc: Global,
@@ -330,6 +337,7 @@ impl<G: Game + Send + Drop> Session<G> {
         if game.is_over() {
             return say(alloc, b"err 8 game over");
         }
+        self.team = None;
         let mut searcher = taken(&mut self.searcher, alloc, entries)?;
         let reply = game.tell_best_in(alloc, &mut searcher, budget, clock, timed);
         self.searcher = Some(searcher);

@@ -1,21 +1,21 @@
-//! A session with two workers.
+//! Sessions with two workers.
 
 use crate::{LineIn, Reply, Session};
 use hive_model::TimedList;
 use io_edge::StepClock;
 use plain_game::PlainGame;
-use root_share::Gate;
+use root_share::{FreeGate, Gate};
 use std::alloc::{AllocError, Global};
 use std::sync::atomic::{AtomicBool, Ordering};
 use std::test::Fail;
 use std::thread::Threads;
 
-/// The lines of a session in which one move wins.
-const LINES: [&str; 3] = [
-    "options set Workers 2",
-    "newgame Base;InProgress;White[7];wS1;bS1 wS1-;wQ /wS1;bQ bS1-;wQ /bS1;bQ wQ-;wG1 -wS1;bG1 bS1-;wB1 /wQ;bB1 bQ-;wA1 -wB1;bA1 /bB1",
-    "bestmove depth 1",
-];
+/// A session has two workers from here on.
+const WORKERS: &str = "options set Workers 2";
+
+/// A game begins in which one move wins.
+const GAME: &str =
+    "newgame Base;InProgress;White[7];wS1;bS1 wS1-;wQ /wS1;bQ bS1-;wQ /bS1;bQ wQ-;wG1 -wS1;bG1 bS1-;wB1 /wQ;bB1 bQ-;wA1 -wB1;bA1 /bB1";
 
 /// How often a worker looks for the other.
 const LOOKS: u32 = 1_000_000_000;
@@ -43,17 +43,18 @@ impl Gate for Meeting {
     }
 }
 
-/// The reply to the last of the lines, with this gate.
+/// The reply to the last of the lines of one session, with this gate.
 fn last_reply<R: Threads + Sync, T: Gate + Sync>(
     rt: &R,
     alloc: Global,
+    lines: &[&str],
     gate: &T,
 ) -> Result<Reply, AllocError> {
     let mut session: Session<PlainGame> = Session::new();
     let mut clock = StepClock::new(0, 1);
     let mut timed = TimedList::new(alloc);
     let mut reply = Reply::Exit;
-    for line in LINES {
+    for line in lines {
         if line.len() > 65_536 {
             return Ok(Reply::Exit);
         }
@@ -69,11 +70,39 @@ fn two_workers_meet(rt: HostRuntime) -> Result<(), Fail> {
         here: [AtomicBool::new(false), AtomicBool::new(false)],
         saw: [AtomicBool::new(false), AtomicBool::new(false)],
     };
-    let Reply::Text(text) = last_reply(&rt, rt.alloc(), &gate)? else {
+    let lines = [WORKERS, GAME, "bestmove depth 1"];
+    let Reply::Text(text) = last_reply(&rt, rt.alloc(), &lines, &gate)? else {
         return Err(Fail::from("a reply"));
     };
     assert_eq!(rt; text.items(), b"wA1 wB1-\nok\n".as_slice());
     assert!(rt; gate.saw[0].load(Ordering::SeqCst));
     assert!(rt; gate.saw[1].load(Ordering::SeqCst));
+    Ok(())
+}
+
+/// The second of two searches goes on with the searchers of the first.
+#[test]
+fn a_team_that_goes_on_answers_as_a_new_one(rt: HostRuntime) -> Result<(), Fail> {
+    let alloc = rt.alloc();
+    let same = [WORKERS, GAME, "bestmove depth 1", "bestmove depth 1"];
+    let Reply::Text(again) = last_reply(&rt, alloc, &same, &FreeGate)? else {
+        return Err(Fail::from("a reply"));
+    };
+    assert_eq!(rt; again.items(), b"wA1 wB1-\nok\n".as_slice());
+    let on = [
+        WORKERS,
+        GAME,
+        "bestmove depth 2",
+        "undo 1",
+        "bestmove depth 2",
+    ];
+    let Reply::Text(went_on) = last_reply(&rt, alloc, &on, &FreeGate)? else {
+        return Err(Fail::from("a reply"));
+    };
+    let fresh = [WORKERS, GAME, "undo 1", "bestmove depth 2"];
+    let Reply::Text(new) = last_reply(&rt, alloc, &fresh, &FreeGate)? else {
+        return Err(Fail::from("a reply"));
+    };
+    assert_eq!(rt; went_on.items(), new.items());
     Ok(())
 }

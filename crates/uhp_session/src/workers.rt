@@ -1,14 +1,15 @@
-//! What searches for a session: several workers, each with a game of its own, or the searcher that
-//! the session keeps.
+//! What searches for a session: the searcher of one worker, or those of a team, whose workers have
+//! a game of their own each. The session keeps either between its commands.
 
-ghost use Rattle.std.specs.Prelude.{◌≡◌, ◌≤◌, false, length, None, Some, IfOk, IfSome};
+ghost use Rattle.std.specs.Prelude.{◌≡◌, ◌≤◌, false, [], length, None, Some, IfOk, IfSome};
+ghost use Rattle.std.specs.Prelude.{OnOk};
 ghost use Rattle.std.specs.List.{All};
 ghost use Rattle.hive_model.specs.Positions.{opening};
 ghost use Rattle.hive_model.specs.Games.{IsGame, replay};
 ghost use Rattle.hive_model.specs.Legal.{is_over};
 ghost use Rattle.hive_model.specs.Minimax.{best};
 ghost use Rattle.root_share.specs.Answer.{IsGameOf};
-ghost use Rattle.uhp_session.specs.Teams.{IsTeam};
+ghost use Rattle.uhp_session.specs.Teams.{IsTeam, AreSearchersOf};
 
 use deepening::Searcher;
 use game_text::played;
@@ -24,42 +25,86 @@ pub(crate) struct Team {
     pub(crate) entries: u32,
 }
 
-/// The workers of a team, each with a game of these moves and a searcher for this depth.
-fn workers_at<G: Game + Drop>(
+/// New searchers for a team, one for each of its workers.
+fn searchers_of(alloc: Global, team: Team) -> Result<Vec<Searcher>, AllocError>
+    requires { IsTeam team.workers team.entries }
+    ensures { IfOk result (λ ns. AreSearchersOf team.workers ns.items) }
+{
+    let mut searchers = Vec::new(alloc);
+    for _made in 0..team.workers {
+        searchers.push(Searcher::prepare(alloc, team.entries, 64)?)?;
+    }
+    Ok(searchers)
+}
+
+/// The searchers of this team that are kept, or new ones. None are kept afterwards.
+fn team_taken(
+    kept: &mut Option<Vec<Searcher>>,
+    alloc: Global,
+    team: Team,
+) -> Result<Vec<Searcher>, AllocError>
+    requires team { IsTeam team.workers team.entries }
+    requires kept { IfSome kept.old (λ ns. AreSearchersOf team.workers ns.items) }
+    ensures taken { IfOk result (λ ns. AreSearchersOf team.workers ns.items) }
+    ensures none { kept.new ≡ None }
+{
+    match kept.take() {
+        Some(searchers) => Ok(searchers),
+        None => searchers_of(alloc, team),
+    }
+}
+
+/// A worker for each of the searchers, which are taken from the list, with a game of these moves.
+fn workers_with<G: Game + Drop>(
     alloc: Global,
     game_type: GameType,
     moves: &[Move],
-    team: Team,
+    searchers: &mut Vec<Searcher>,
     depth: u32,
 ) -> Result<Vec<Worker<G>>, AllocError>
     requires game { IsGame game_type moves.now }
     requires short { length moves.now ≤ 5000 }
-    requires entries { 1 ≤ team.entries }
-    requires large { team.entries ≤ 1048576 }
-    requires some { 1 ≤ depth }
     requires deep { depth ≤ 64 }
-    ensures count { IfOk result (λ ws. length ws.items ≡ team.workers) }
+    requires prepared { All (λ n. n ≡ 64) searchers.old.items }
+    ensures count { IfOk result (λ ws. length ws.items ≡ length searchers.old.items) }
     ensures games { IfOk result (λ ws. All (λ w. IsGameOf game_type moves.now depth
         (G.course w.game)) ws.items) }
-    ensures searchers { IfOk result (λ ws. All (λ w. depth ≤ w.searcher) ws.items) }
+    ensures prepared { IfOk result (λ ws. All (λ w. w.searcher ≡ 64) ws.items) }
+    ensures none { OnOk result (searchers.new.items ≡ []) }
 {
     let mut workers = Vec::new(alloc);
-    for _made in 0..team.workers {
+    while let Some(searcher) = searchers.pop() {
         let game = played(alloc, game_type, moves, depth)?;
-        let searcher = Searcher::prepare(alloc, team.entries, depth)?;
         workers.push(Worker { game, searcher })?;
     }
     Ok(workers)
 }
 
+/// Gives the searchers of the workers back to the list that they were taken from.
+fn give_back<G: Game + Drop>(
+    workers: &mut Vec<Worker<G>>,
+    searchers: &mut Vec<Searcher>,
+) -> Result<(), AllocError>
+    requires prepared { All (λ w. w.searcher ≡ 64) workers.old.items }
+    requires none { searchers.old.items ≡ [] }
+    ensures { OnOk result (AreSearchersOf (length workers.old.items) searchers.new.items) }
+{
+    while let Some(worker) = workers.pop() {
+        searchers.push(worker.searcher)?;
+    }
+    Ok(())
+}
+
 /// The first legal move of the game of this type and these moves that is worth most, so many plies
-/// deep, found by a team.
+/// deep, found by a team, with its searchers that are kept or with new ones. They are kept
+/// afterwards; after want of memory none may be.
 pub(crate) fn best_by<R: Threads + Sync, G: Game + Send + Drop, T: Gate + Sync>(
     rt: &R,
     alloc: Global,
     game_type: GameType,
     moves: &[Move],
     team: Team,
+    kept: &mut Option<Vec<Searcher>>,
     depth: u32,
     gate: &T,
 ) -> Result<Move, AllocError>
@@ -67,12 +112,18 @@ pub(crate) fn best_by<R: Threads + Sync, G: Game + Send + Drop, T: Gate + Sync>(
     requires short { length moves.now ≤ 5000 }
     requires goes_on { is_over (replay (opening game_type) moves.now) ≡ false }
     requires team { IsTeam team.workers team.entries }
+    requires kept { IfSome kept.old (λ ns. AreSearchersOf team.workers ns.items) }
     requires some { 1 ≤ depth }
     requires deep { depth ≤ 64 }
-    ensures { IfOk result (λ m. best (replay (opening game_type) moves.now) depth ≡ Some m) }
+    ensures best { IfOk result
+        (λ m. best (replay (opening game_type) moves.now) depth ≡ Some m) }
+    ensures kept { IfSome kept.new (λ ns. AreSearchersOf team.workers ns.items) }
 {
-    let mut workers: Vec<Worker<G>> = workers_at(alloc, game_type, moves, team, depth)?;
+    let mut searchers = team_taken(kept, alloc, team)?;
+    let mut workers: Vec<Worker<G>> = workers_with(alloc, game_type, moves, &mut searchers, depth)?;
     let found = best_shared(rt, alloc, &mut workers, depth, gate)?;
+    give_back(&mut workers, &mut searchers)?;
+    *kept = Some(searchers);
     Ok(found.best)
 }
 

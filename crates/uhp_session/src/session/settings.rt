@@ -35,7 +35,7 @@ impl<G: Game + Send + Drop> Session<G> {
         }
     }
 
-    /// The option has this value from now on. A searcher serves the values it was made for.
+    /// The option has this value from now on. Searchers serve the values they were made for.
     fn keep(&mut self, setting: Setting)
         requires { IsSetting setting }
         ensures { self.new ≡ with_setting self.old setting }
@@ -44,10 +44,12 @@ impl<G: Game + Send + Drop> Session<G> {
             Setting::Table(entries) => {
                 self.table = entries;
                 self.searcher = None;
+                self.team = None;
             }
             Setting::Workers(workers) => {
                 self.workers = workers;
                 self.searcher = None;
+                self.team = None;
             }
             Setting::Repetition(on) => self.repetition = on,
         }

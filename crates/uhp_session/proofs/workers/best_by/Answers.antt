@@ -1,10 +1,10 @@
-use Rattle.std.proofs.Common.{◌≡◌, ℕ, ◌≤◌, List, Some, map, length, false, subst, sym}
+use Rattle.std.proofs.Common.{◌≡◌, ℕ, ◌≤◌, List, Some, drop, map, length, false, subst, sym}
 use Rattle.std.specs.List.{All}
 use Rattle.root_share.specs.Answer.{IsGameOf}
 use Rattle.root_share.proofs.EqualLaws.{each-image, equal-games, all-spare}
 use Rattle.hive_model.specs.Legal.{is_over}
 use Rattle.hive_model.specs.Minimax.{best}
-use Rattle.uhp_session.proofs.TeamLaws.{root-is}
+use Rattle.uhp_session.proofs.TeamLaws.{all-deep, back-prepared, root-is}
 use Rattle.uhp_session.proofs.workers.best_by.Goals as goal
 
 each : {A B : Type 0} (xs : List A) (f : A → B) (P : B → Type 0) → All (λ x. P (f x)) xs → All P (map f xs)
@@ -24,18 +24,26 @@ best_shared-requires-clause-spare g c κs within =
 
 pub best_shared-requires-clause-prepared : goal.best_shared-requires-clause-prepared
 best_shared-requires-clause-prepared g c κs within =
-    each c.deref_mut.result.now (λ w. w.searcher) (λ (n : ℕ). c.args.depth ≤ n) (rw c.deref_mut.ensures.value c.in_ok-workers.ensures.searchers)
+    let ws = c.deref_mut.result.now in
+    each ws (λ w. w.searcher) (λ (n : ℕ). c.args.depth ≤ n) (all-deep ws (λ w. w.searcher) c.args.depth c.requires.deep (rw c.deref_mut.ensures.value c.in_ok-workers.ensures.prepared))
 
 pub best_shared-requires-clause-goes_on : goal.best_shared-requires-clause-goes_on
 best_shared-requires-clause-goes_on g c κs within =
     let ws = c.deref_mut.result.now in
-    let some : 1 ≤ length ws = rw c.deref_mut.ensures.value (rw c.in_ok-workers.ensures.count c.requires.team.workers) in
+    let some : 1 ≤ length ws = rw c.deref_mut.ensures.value (rw c.in_ok-workers.ensures.count (rw c.in_ok-searchers.ensures.taken.count c.requires.team.workers)) in
     let root = root-is c.args.game_type c.args.moves.now c.args.depth ws (λ w. g.G.Game.course w.game) some (rw c.deref_mut.ensures.value c.in_ok-workers.ensures.games) in
     subst (λ p. is_over p ≡ false) (sym root) c.requires.goes_on
 
-pub returns : goal.returns
-returns g c =
+pub give_back-requires-clause-prepared : goal.give_back-requires-clause-prepared
+give_back-requires-clause-prepared g c =
     let ws = c.deref_mut.result.now in
-    let some : 1 ≤ length ws = rw c.deref_mut.ensures.value (rw c.in_ok-workers.ensures.count c.requires.team.workers) in
+    let now = c.best_shared.new.workers in
+    back-prepared ws now (drop (length now) c.in_ok-workers.workers.items) (λ w. w.searcher) c.in_ok-workers.workers.len
+    c.in_ok-found.ensures.searchers c.deref_mut.ensures.len (rw c.deref_mut.ensures.value c.in_ok-workers.ensures.prepared)
+
+pub returns-clause-best : goal.returns-clause-best
+returns-clause-best g c =
+    let ws = c.deref_mut.result.now in
+    let some : 1 ≤ length ws = rw c.deref_mut.ensures.value (rw c.in_ok-workers.ensures.count (rw c.in_ok-searchers.ensures.taken.count c.requires.team.workers)) in
     let root = root-is c.args.game_type c.args.moves.now c.args.depth ws (λ w. g.G.Game.course w.game) some (rw c.deref_mut.ensures.value c.in_ok-workers.ensures.games) in
     subst (λ p. best p c.args.depth ≡ Some c.in_ok-found.found.best) root c.in_ok-found.ensures.first
