@@ -1,6 +1,6 @@
 #!/usr/bin/env python3
 """Audits by the built program, compared with those of a plain auditor over reference.py: of the program itself, and of the engines of
-audit_engines.py, each of which is wrong in one rule and is found.
+audit_engines.py, each of which is wrong in one rule and is found; and what is told of engines that stall, leave or do not read.
 
 Usage: audit.py PROGRAM. Ends with status 0 where each text is the same, byte for byte, and each wrong engine is found in its game.
 """
@@ -27,7 +27,7 @@ FOUND = {
     "resting": (5, 80, "extra"),
     "beetles": (6, 80, "extra"),
     "mosquitoes": (6, 80, "extra"),
-    "passes": (10, 120, "unreadable"),
+    "passes": (10, 80, "unreadable"),
     "refusals": (1, 80, "accepted"),
     "loads": (1, 80, "string"),
 }
@@ -67,6 +67,27 @@ def is_rare(position, move):
     return move is None or move[0][1] == "M" or move[0][0] != position.side or move[1] in position.board
 
 
+def is_siege(seed):
+    return (seed & MASK) // 8 % 2 == 1
+
+
+def is_sought(position, move):
+    """In a siege white closes in on black's queen, and black moves what is on the board."""
+    if move is None:
+        return True
+    if position.side == "b":
+        return reference.where(position.board, move[0]) is not None
+    queen = reference.where(position.board, "bQ")
+    is_beside = queen is not None and move[1] in reference.neighbours(queen)
+    return is_beside or move[1] in position.board and reference.top(position.board, move[1])[0] == "b"
+
+
+def choices_of(position, siege, word):
+    """The legal moves of which one is drawn."""
+    wanted = [move for move in position.moves() if (is_sought if siege else is_rare)(position, move)]
+    return wanted if wanted and (siege or word % 2 == 0) else position.moves()
+
+
 def judge_list(position, line):
     """Finds what is wrong with a line as the list of the legal moves."""
     listed = []
@@ -96,8 +117,9 @@ def judge_string(play, line):
         raise Found("string", line)
 
 
-def audit_game(ask, play, words, plies, counts):
-    """Plays a game with an engine, and finds what is wrong with its first wrong reply."""
+def audit_game(ask, play, seed, plies, counts):
+    """Plays a game of its own seed with an engine, and finds what is wrong with its first wrong reply."""
+    words = Words(seed)
     judge_string(play, ask(f"newgame {play.position().game_type}"))
     while not play.is_over() and len(play.texts) < plies:
         position = play.position()
@@ -105,8 +127,7 @@ def audit_game(ask, play, words, plies, counts):
         counts["positions"] += 1
         counts["moves"] += len(position.moves())
         first, second = words.next(), words.next()
-        rare = [move for move in position.moves() if is_rare(position, move)]
-        choices = rare if rare and first % 2 == 0 else position.moves()
+        choices = choices_of(position, is_siege(seed), first)
         move = choices[second % len(choices)]
         line = "pass" if move is None else "play " + position.text(move)
         reply = ask(line)
@@ -169,7 +190,7 @@ def audit(ask, greeting, games, seed, plies=80, game_type=None, stop=False):
     for number in range(games):
         play = reference.Play(type_of(game_type, plays, number))
         try:
-            audit_game(ask, play, Words(seed + number), plies, counts)
+            audit_game(ask, play, seed + number, plies, counts)
         except Found as found:
             lines.append(f"game {number + 1} ply {len(play.texts)} {play.string()} {found.line}")
             if stop:
@@ -219,13 +240,18 @@ def pass_right_engines(program):
 
 
 def ask_for_less(program):
-    """One type, few plies, an engine that says nothing, and one that is not there."""
+    """One type, few plies, engines that say nothing, stall or do not read, and one that is not there."""
     wanted = audit(asked(reference), GREETING, 9, 1, plies=5, game_type="Base+P")
     expect("nine short games", run(program, f"{program} uhp", 9, more=["--plies", "5", "--type", "Base+P"]), (text_of(wanted), 0))
     ended = "game 1 ply 0 Base;NotStarted;White[1] ended\naudited 1 games 0 positions 0 moves, 1 findings\n"
     expect("an engine that says nothing", run(program, "true", 3), (ended, 1))
+    late = ended.replace("ended", "late")
+    expect("an engine that is silent", run(program, "sleep 1000", 3, more=["--patience", "00:00:01"]), (late, 1))
+    listed = late.replace("0 positions 0 moves", "1 positions 4 moves")
+    expect("an engine that stalls at a move", run(program, engine_named("stalls"), 3, more=["--patience", "00:00:05"]), (listed, 1))
     broke = ended.replace("ended", "broke")
-    expect("an engine that is silent", run(program, "sleep 1000", 3, more=["--patience", "00:00:01"]), (broke, 1))
+    expect("an engine that reads nothing", run(program, engine_named("deaf"), 3), (broke, 1))
+    expect("the same with a patience", run(program, engine_named("deaf"), 3, more=["--patience", "00:00:05"]), (broke, 1))
     expect("no engine", run(program, "/no/such/engine", 3), ("", 5))
     wanted = audit(asked(audit_engines.changed("queens")), GREETING, 3, 1, stop=True)
     expect("the first finding ends the run", run(program, engine_named("queens"), 3, more=["--stop", "1"]), (text_of(wanted), 1))

@@ -1,5 +1,5 @@
 #!/usr/bin/env bash
-# Audits by the built program: of itself, and of engines that are wrong in one rule each.
+# Audits by the built program: of itself, of engines that are wrong in one rule each, and of some that stall or do not read.
 set -eu
 top=$(cd "$(dirname "$0")/.." && pwd)
 "$top/hive" uhp </dev/null >/dev/null

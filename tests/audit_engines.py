@@ -1,11 +1,14 @@
 #!/usr/bin/env python3
-"""Engines whose rules are those of reference.py but for one: they speak the Universal Hive Protocol, to be audited.
+"""Engines whose rules are those of reference.py but for one, or which stall or do not read: they speak the Universal Hive Protocol, to be
+audited.
 
-Usage: audit_engines.py NAME, of the names in WRONG, or `none`, whose rules are right.
+Usage: audit_engines.py NAME, of the names in WRONG, of which the rules of `none` are right.
 """
 import importlib.util
+import os
 import pathlib
 import sys
+import time
 
 REFERENCE = pathlib.Path(__file__).resolve().parent / "reference.py"
 
@@ -187,7 +190,17 @@ def a_loaded_game_lacks_its_last_move(rules):
     rules.Session.newgame = newgame
 
 
-# The rule that is changed, by the name of the engine.
+def it_stalls_at_a_move(rules):
+    """No move that is played is answered."""
+    rules.Session.move = lambda self, text: time.sleep(1000)
+
+
+def it_reads_nothing(rules):
+    """The input is closed before the greeting is written."""
+    os.close(0)
+
+
+# What is changed, by the name of the engine.
 WRONG = {
     "beetles": beetles_pass_gates,
     "ants": ants_enter_holes,
@@ -201,6 +214,8 @@ WRONG = {
     "states": the_state_is_late,
     "refusals": each_move_is_played,
     "loads": a_loaded_game_lacks_its_last_move,
+    "stalls": it_stalls_at_a_move,
+    "deaf": it_reads_nothing,
     "none": lambda rules: None,
 }
 

@@ -8,16 +8,15 @@ use Rattle.std.proofs.lemmas.Option.{same_Some}
 use Rattle.std.proofs.lemmas.Bool.{eqb-true}
 use Rattle.io_edge.specs.Outside.{Told, ToldLists, Collects, HasCause, Rose, Starts, behind}
 use Rattle.io_edge.specs.Starts.{Engines}
-use Rattle.hive_model.specs.Lines.{lines}
+use Rattle.hive_model.specs.Lines.{Line as Mark, lines}
 use Rattle.command_runs.specs.Answered.{WritesAs}
 use Rattle.command_runs.specs.declared.status.Status.{Status}
 use Rattle.command_runs.specs.declared.status.Status.TheVariants.{Done, Refused, WriteFault, SpawnFault}
 use Rattle.audit_core.specs.declared.plan.Plan.{Plan}
-use Rattle.audit_core.specs.declared.findings.Fault.TheVariants.{Broke}
-use Rattle.audit_core.specs.Standing.{Standing, start, break_off}
-use Rattle.audit_core.specs.Audits.{after_all, audit_of, sent_in}
+use Rattle.audit_core.specs.Standing.{Standing}
+use Rattle.audit_core.specs.Audits.{sent_in}
 use Rattle.audit_runner.specs.Wires.{HasFailed, Wire}
-use Rattle.audit_runner.specs.Runs.{RanOver}
+use Rattle.audit_runner.specs.Runs.{Ends, RanOver}
 use Rattle.audit_command.specs.Audit.{AuditRun, AuditStarts, AuditedOver, CountsFault, Hears, IsStarted, IsWhole, NoneIsOpen, Played, Scene, StartsOneOf, scene, verdict_of}
 
 -- a link that has failed has counted it
@@ -29,6 +28,12 @@ failed w0 w a b (inr r) = elim r.higher [ inl x ↦ omega (arith, x) | inr x ↦
 from_none : (old new : Told) (bytes : List ℕ) → old ≡ Some [] → new ≡ behind old bytes → new ≡ Some bytes
 from_none old new bytes e f = f ∙ ap (λ o. behind o bytes) e
 
+-- what was heard, once the failures of the link are counted
+heard_of : (plan : Plan) (marks : List Mark) (t : Standing) (w0 w : Wire) (before after : Engines) → (HasFailed w0 w → Rose before.engine_faults after.engine_faults) → Ends plan marks t w0 w → Hears plan marks t before after
+heard_of plan marks t w0 w before after counted (inl e) = inl e
+heard_of plan marks t w0 w before after counted (inr (inl (e, rose))) = inr (inl e, counted (inl rose))
+heard_of plan marks t w0 w before after counted (inr (inr (e, rose))) = inr (inr e, counted (inr rose))
+
 -- the audit that was run, once the program is closed
 pub audited_over : (plan : Plan) (t : Standing) (w0 w : Wire) (before after : Engines) → w0.reads ≡ 0 → w0.writes ≡ 0 → RanOver plan t w0 w
     → CountsFault (w.reads + w.writes) before.engine_faults after.engine_faults → Collects before.sent after.sent w.written → AuditedOver plan t w0.rest w0.written before after
@@ -36,7 +41,7 @@ audited_over plan t w0 w before after r0 s0 ran counts closes =
     let counted : HasFailed w0 w → Rose before.engine_faults after.engine_faults = λ x. counts.failed (failed w0 w r0 s0 x) in
     record {
       over = ran.over;
-      heard = (ran.marks, elim ran.ends as (λ _. Hears plan ran.marks t before after) [ inl e ↦ inl e | inr b ↦ inr (b.0, counted b.1) ]);
+      heard = (ran.marks, heard_of plan ran.marks t w0 w before after counted ran.ends);
       by_link = λ bytes e f calm.
           let m = ran.told bytes e (λ x. calm (counted x)) in record {
             audit = m.audit;
@@ -56,12 +61,17 @@ told_start None now rest written all starts e = absurd (cc)
 told_start (Some xs) None rest written all starts e = absurd starts
 told_start (Some xs) (Some ys) rest written all (bytes, xe, r, w) e = (bytes, ys, sym (same_Some _ _ e) ∙ xe, refl, r, w)
 
+-- the same from before the program was started
+heard_from : (plan : Plan) (marks : List Mark) (t : Standing) (between before after : Engines) → between.engine_faults ≡ before.engine_faults → Hears plan marks t between after → Hears plan marks t before after
+heard_from plan marks t between before after faults (inl e) = inl e
+heard_from plan marks t between before after faults (inr (e, rose)) = inr (e, subst (λ n. Rose n after.engine_faults) faults rose)
+
 -- the audit from before its program was started
 pub played_from : (plan : Plan) (t : Standing) (rest written : Told) (before between after : Engines) → Starts before.to_come between.to_come rest written → after.to_come ≡ between.to_come
     → between.sent ≡ before.sent → between.engine_faults ≡ before.engine_faults → AuditedOver plan t rest written between after → Played plan t before after
 played_from plan t rest written before between after starts stays sent faults a = record {
   over = a.over;
-  heard = (a.heard.0, subst (λ n. (t ≡ audit_of plan a.heard.0) ⊎ ((t ≡ break_off (after_all (start plan) a.heard.0) Broke) × Rose n after.engine_faults)) faults a.heard.1);
+  heard = (a.heard.0, heard_from plan a.heard.0 t between before after faults a.heard.1);
   programs = λ all e.
       let s = told_start before.to_come between.to_come rest written all starts e in record {
         bytes = s.0;

@@ -7,8 +7,9 @@ use Rattle.command_runs.specs.declared.status.Status.{Status}
 use Rattle.command_runs.specs.declared.status.Status.TheVariants.{Done, Refused, Usage, ReadFault, WriteFault, SpawnFault, BadInput, Memory, InputFull}
 use Rattle.audit_core.specs.declared.plan.Plan.{Plan}
 use Rattle.audit_core.specs.declared.findings.Fault.TheVariants.{Broke}
-use Rattle.audit_core.specs.Standing.{Standing, start, is_ended, break_off}
-use Rattle.audit_core.specs.Audits.{after_all, audit_of, sent_in}
+use Rattle.audit_core.specs.Standing.{Standing, is_ended}
+use Rattle.audit_core.specs.Audits.{audit_of, sent_in}
+use Rattle.audit_runner.specs.Runs.{broken_off, unread}
 
 -- What a run can change
 
@@ -28,11 +29,12 @@ pub record IsWhole (plan : Plan) (bytes : List ℕ) (t : Standing) (before after
   pub audit : t ≡ audit_of plan (lines bytes)
   pub gains : Collects before.sent after.sent (Some (sent_in plan (lines bytes)))
 
--- the audit is that of these lines; or a call failed behind them, and was counted
+-- the audit is that of these lines; or behind them a read failed, or a write, which is told as
+-- broke, and the failure was counted
 abbrev pub Hears : Plan → List Mark → Standing → Engines → Engines → Type 0
 Hears plan marks t before after =
     (t ≡ audit_of plan marks)
-    ⊎ ((t ≡ break_off (after_all (start plan) marks) Broke)
+    ⊎ (((t ≡ broken_off plan marks (unread plan)) ⊎ (t ≡ broken_off plan marks Broke))
     × Rose before.engine_faults after.engine_faults)
 
 -- of the programs to come the first one was started, and no other; where no failure of it was

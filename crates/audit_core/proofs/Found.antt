@@ -12,9 +12,9 @@ use Rattle.audit_core.specs.declared.plan.Stage.TheVariants.{Greeting, Beginning
 use Rattle.audit_core.specs.declared.findings.Fault.TheVariants.{Unreadable, Ended}
 use Rattle.audit_core.specs.declared.findings.Finding.{Finding}
 use Rattle.audit_core.specs.Judging.{wrong_list, wrong_refusal, wrong_string, ListsMoves, TellsGame}
-use Rattle.audit_core.specs.Drawing.{drawn_of, tried_of}
+use Rattle.audit_core.specs.Drawing.{tried_of}
 use Rattle.audit_core.specs.Texts.{is_ok, is_refusal}
-use Rattle.audit_core.specs.Standing.{Standing, start, position_now, conclude, begin, next_game, end_game, note, found, break_off, go, go_or_find, go_back, close_game, list_or_end, play_drawn, count, advance, with_move, check_string, check_list, without_plies, position_before, next_word, try_drawn, loaded, list_loaded, check_undone, check_review, check_tried, check_relisted, check_loaded, check_finish, reply_ends, fresh, keep, reply_with, sent, at_mark, is_ended, named_in}
+use Rattle.audit_core.specs.Standing.{Standing, drawn_now, start, position_now, conclude, begin, next_game, end_game, note, found, break_off, go, go_or_find, go_back, close_game, list_or_end, play_drawn, count, advance, with_move, check_string, check_list, without_plies, position_before, next_word, try_drawn, loaded, list_loaded, check_undone, check_review, check_tried, check_relisted, check_loaded, check_finish, reply_ends, fresh, keep, reply_with, sent, at_mark, is_ended, named_in}
 use Rattle.audit_core.specs.Audits.{step, after_all, close, audit_of}
 use Rattle.audit_core.specs.Laws.{IsReply, IsRightLine, IsRight, IsRightAt, AreRight, AuditsFindFaults}
 use Rattle.audit_core.proofs.Judged.{replies_are_judged}
@@ -80,7 +80,7 @@ string_tells s reply =
 list_tells : (s : Standing) (reply : List ℕ) → Tells (ListsMoves s.game_type (position_now s) reply) s.findings (check_list s reply).findings
 list_tells s reply =
     let law = replies_are_judged.lists s.game_type (position_now s) reply in
-    judged_at s (wrong_list s.game_type (position_now s) reply) (play_drawn (advance (count s)) (drawn_of s.state (position_now s))) (drawn_keeps (advance (count s)) (drawn_of s.state (position_now s))) law.0 law.1
+    judged_at s (wrong_list s.game_type (position_now s) reply) (play_drawn (advance (count s)) (drawn_now s)) (drawn_keeps (advance (count s)) (drawn_now s)) law.0 law.1
 
 undone_tells : (s : Standing) (reply : List ℕ) → Tells (TellsGame s.game_type s.moves reply) s.findings (check_undone s reply).findings
 undone_tells s reply =

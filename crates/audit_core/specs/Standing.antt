@@ -16,7 +16,7 @@ use Rattle.audit_core.specs.declared.findings.Fault.{Fault}
 use Rattle.audit_core.specs.declared.findings.Fault.TheVariants.{Unreadable}
 use Rattle.audit_core.specs.declared.findings.Finding.{Finding}
 use Rattle.grow_game.specs.Growing.{next_state}
-use Rattle.audit_core.specs.Drawing.{drawn_of, state_after, state_of, tried_of, type_of, undone_of}
+use Rattle.audit_core.specs.Drawing.{drawn_of, is_siege, state_after, state_of, tried_of, type_of, undone_of}
 use Rattle.audit_core.specs.Judging.{finding, wrong_list, wrong_refusal, wrong_string}
 use Rattle.audit_core.specs.Texts.{begin_line, list_line, load_line, play_line, undo_line, is_ok, with_line, finding_line, last_line}
 
@@ -70,6 +70,10 @@ position_now s = replay (opening s.game_type) s.moves
 -- the position two plies before, where the same side was to move
 abbrev pub position_before : Standing → Position
 position_before s = replay (opening s.game_type) (take (length s.moves - 2) s.moves)
+
+-- the move that is drawn in the game at hand, if there is one
+abbrev pub drawn_now : Standing → Option Move
+drawn_now s = drawn_of (is_siege s.plan.seed s.ended) s.state (position_now s)
 
 -- no expansion
 abbrev pub base_type : GameType
@@ -208,7 +212,7 @@ check_string s reply = go_or_find s (wrong_string s.game_type s.moves reply) (li
 abbrev pub check_list : Standing → List ℕ → Standing
 check_list s reply =
     go_or_find s (wrong_list s.game_type (position_now s) reply)
-    (play_drawn (advance (count s)) (drawn_of s.state (position_now s)))
+    (play_drawn (advance (count s)) (drawn_now s))
 
 -- so many plies were taken back, and what is read is the game string of what is left
 abbrev pub without_plies : Standing → ℕ → Standing

@@ -10,7 +10,7 @@ use Rattle.hive_model.specs.Denotes.{text}
 use Rattle.hive_model.specs.Fields.{type_bytes}
 use Rattle.hive_model.specs.Strings.{string}
 use Rattle.audit_core.specs.declared.findings.Fault.{Fault}
-use Rattle.audit_core.specs.declared.findings.Fault.TheVariants.{Missing, Extra, Twice, Unreadable, NotTheGame, Accepted, Ended, Broke}
+use Rattle.audit_core.specs.declared.findings.Fault.TheVariants.{Missing, Extra, Twice, Unreadable, NotTheGame, Accepted, Ended, Late, Broke}
 use Rattle.audit_core.specs.declared.findings.Finding.{Finding}
 
 -- What is sent
@@ -76,6 +76,7 @@ fault_word Unreadable = codes "unreadable"
 fault_word NotTheGame = codes "string"
 fault_word Accepted = codes "accepted"
 fault_word Ended = codes "ended"
+fault_word Late = codes "late"
 fault_word Broke = codes "broke"
 
 -- a number behind a word

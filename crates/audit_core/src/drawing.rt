@@ -12,8 +12,8 @@ ghost use Rattle.audit_core.specs.Judging.{has_move};
 ghost use Rattle.grow_game.specs.Growing.{drawn, next_state};
 ghost use Rattle.audit_core.specs.Drawing.{
   is_rare,
+  is_wanted,
   picked_from,
-  rare_moves,
   drawn_of,
   state_after,
   state_of,
@@ -25,6 +25,7 @@ ghost use Rattle.audit_core.specs.Drawing.{
 
 use crate::lists::{has_move, legal_moves};
 use crate::past::first_plies;
+use crate::sieges::is_sought;
 use hive_model::{Game, GameType, Kind, Move, MoveList, is_occupied};
 use rand_xoshiro::SplitMix64;
 use rand_xoshiro::rand_core::SeedableRng;
@@ -67,17 +68,34 @@ fn is_rare<G: Game>(game: &G, m: Move) -> bool
     }
 }
 
-/// The rare ones of these moves.
-fn rare_of<G: Game>(alloc: Global, game: &G, all: &[Move]) -> Result<MoveList, AllocError>
-    ensures { IfOk result (λ l. l ≡ filter (is_rare (position (G.course game.now))) all.now) }
+/// Whether a game leans to a move: in a siege it is one that is sought, and else one that is rare.
+fn is_wanted<G: Game>(game: &G, siege: bool, m: Move) -> bool
+    ensures { result ≡ is_wanted siege (position (G.course game.now)) m }
 {
-    let mut rare = MoveList::new(alloc);
+    if siege {
+        is_sought(game, m)
+    } else {
+        is_rare(game, m)
+    }
+}
+
+/// Those of these moves to which a game leans.
+fn wanted_of<G: Game>(
+    alloc: Global,
+    game: &G,
+    siege: bool,
+    all: &[Move],
+) -> Result<MoveList, AllocError>
+    ensures { IfOk result (λ l. l
+        ≡ filter (is_wanted siege (position (G.course game.now))) all.now) }
+{
+    let mut wanted = MoveList::new(alloc);
     for m in all {
-        if is_rare(game, m.again()) {
-            rare.push(m.again())?;
+        if is_wanted(game, siege, m.again()) {
+            wanted.push(m.again())?;
         }
     }
-    Ok(rare)
+    Ok(wanted)
 }
 
 /// The move that a word draws from a list, if the list has one.
@@ -92,13 +110,13 @@ fn pick(all: &[Move], word: u64) -> Option<Move>
 }
 
 /// The list from which a move is drawn, by the first word.
-fn picked_from<'a>(word: u64, rare: &'a [Move], all: &'a [Move]) -> &'a [Move]
-    ensures { result.now ≡ picked_from word rare.now all.now }
+fn picked_from<'a>(siege: bool, word: u64, wanted: &'a [Move], all: &'a [Move]) -> &'a [Move]
+    ensures { result.now ≡ picked_from siege word wanted.now all.now }
 {
-    if rare.is_empty() || word % 2 != 0 {
-        all
+    if !wanted.is_empty() && (siege || word % 2 == 0) {
+        wanted
     } else {
-        rare
+        all
     }
 }
 
@@ -106,18 +124,19 @@ fn picked_from<'a>(word: u64, rare: &'a [Move], all: &'a [Move]) -> &'a [Move]
 pub(crate) fn draw<G: Game>(
     alloc: Global,
     game: &G,
+    siege: bool,
     legal: &[Move],
     generator: &mut SplitMix64,
 ) -> Result<Option<Move>, AllocError>
     requires { legal.now ≡ moves (position (G.course game.now)) }
     ensures drawn { IfOk result (λ m. m
-        ≡ drawn_of generator.old (position (G.course game.now))) }
+        ≡ drawn_of siege generator.old (position (G.course game.now))) }
     ensures state { OnOk result (generator.new ≡ state_after generator.old) }
 {
-    let rare = rare_of(alloc, game, legal)?;
+    let wanted = wanted_of(alloc, game, siege, legal)?;
     let first = generator.next_word();
     let second = generator.next_word();
-    Ok(pick(picked_from(first, rare.items(), legal), second))
+    Ok(pick(picked_from(siege, first, wanted.items(), legal), second))
 }
 
 /// Those of the moves that are not on the other list.

@@ -18,7 +18,9 @@ pub enum Fault {
     Accepted,
     /// The engine's output has ended within a reply.
     Ended,
-    /// A read or a write has failed.
+    /// A read has failed, where an answer is waited for no longer than some limit.
+    Late,
+    /// A read has failed, where an answer is waited for without end, or a write has.
     Broke,
 }
 

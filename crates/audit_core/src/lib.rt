@@ -10,6 +10,7 @@ mod lists;
 mod parts;
 mod past;
 mod plan;
+mod sieges;
 mod strings;
 mod texts;
 

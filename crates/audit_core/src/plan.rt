@@ -16,6 +16,8 @@ pub struct Plan {
     pub game_type: Option<GameType>,
     /// Whether the first finding ends the audit. Else it ends its game alone.
     pub stop: bool,
+    /// Whether an answer is waited for no longer than a limit. Else it is waited for without end.
+    pub patient: bool,
 }
 
 /// The place that an audit has reached: which reply of the engine is read.

@@ -243,6 +243,7 @@ fn write_word(out: &mut ReplyText, fault: Fault) -> Result<(), AllocError>
         Fault::NotTheGame => out.push_all(b"string"),
         Fault::Accepted => out.push_all(b"accepted"),
         Fault::Ended => out.push_all(b"ended"),
+        Fault::Late => out.push_all(b"late"),
         Fault::Broke => out.push_all(b"broke"),
     }
 }

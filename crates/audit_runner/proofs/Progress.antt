@@ -5,7 +5,7 @@ use Rattle.std.specs.Option.{option_map}
 use Rattle.std.specs.declared.result.Result.{Result}
 use Rattle.std.specs.Result.{IfOk}
 use Rattle.std.proofs.lemmas.Option.{same_Some}
-use Rattle.io_edge.specs.Outside.{Told, behind}
+use Rattle.io_edge.specs.Outside.{Told, Rose, behind}
 use Rattle.hive_model.specs.Lines.{Line as Mark, TooLong, ToldLines, LongAhead, NoneAhead, lines}
 use Rattle.line_feed.specs.Feed.{Reading, fresh}
 use Rattle.line_feed.specs.Ahead.{ahead_of}
@@ -17,10 +17,10 @@ use Rattle.audit_core.specs.declared.findings.Fault.{Fault}
 use Rattle.audit_core.specs.declared.findings.Fault.TheVariants.{Ended, Broke}
 use Rattle.audit_core.specs.Standing.{Standing, start, sent, is_ended, break_off, line_at, line_now, at_mark}
 use Rattle.audit_core.specs.Audits.{step, after_all, close, audit_of, sent_over, sent_in}
-use Rattle.audit_runner.specs.Wires.{Wire, HasFailed}
+use Rattle.audit_runner.specs.Wires.{Wire}
 use Rattle.audit_runner.specs.Turns.{Turns}
 use Rattle.audit_runner.specs.declared.turns.Turned.TheVariants.{Heard, Long, Ended as NoLine, ReadFault, WriteFault}
-use Rattle.audit_runner.specs.Runs.{IsAudit, IsFront, RanOver}
+use Rattle.audit_runner.specs.Runs.{IsAudit, IsFront, RanOver, unread}
 
 -- these lines were read, and the bytes that go before them were written
 pub record Progress (plan : Plan) (s : Standing) (ahead0 ahead : ToldLines) (w0 w : Told)
@@ -221,14 +221,14 @@ ran_out plan s u t a1 a2 w0 w w1 p o (next, none, wrote) e =
     }
 
 -- a read failed
-pub ran_unread : (plan : Plan) (s u t : Standing) (a1 a2 : ToldLines) (w0 w : Wire) (w1 : Told) → Progress plan s (ahead_of fresh w0.rest) a1 w0.written w1 → Turns ReadFault s u a1 a2 w1 w.written → t ≡ break_off u Broke → HasFailed w0 w → RanOver plan t w0 w
-ran_unread plan s u t a1 a2 w0 w w1 p (next, same, wrote) e failed = record {
-  over = broken-over u t Broke e;
+pub ran_unread : (plan : Plan) (s u t : Standing) (a1 a2 : ToldLines) (w0 w : Wire) (w1 : Told) → Progress plan s (ahead_of fresh w0.rest) a1 w0.written w1 → Turns ReadFault s u a1 a2 w1 w.written → t ≡ break_off u (unread plan) → Rose w0.reads w.reads → RanOver plan t w0 w
+ran_unread plan s u t a1 a2 w0 w w1 p (next, same, wrote) e rose = record {
+  over = broken-over u t (unread plan) e;
   marks = p.marks;
   first = λ bytes f. let x = first_of plan s a1 w0.written w1 w0.rest p bytes f in (x.0, x.2);
-  ends = inr (e ∙ (ap (λ (x : Standing). break_off x Broke) next ∙ ap (λ (x : Standing). break_off x Broke) p.here), failed);
+  ends = inr (inl (e ∙ (ap (λ (x : Standing). break_off x (unread plan)) next ∙ ap (λ (x : Standing). break_off x (unread plan)) p.here), rose));
   sent = (length (sent_in plan p.marks), sent-last plan s p.marks w0.written w1 w.written p.here p.wrote wrote ∙ ap (behind w0.written) (sym (take-all (sent_in plan p.marks))));
-  told = λ bytes f calm. absurd (calm failed);
+  told = λ bytes f calm. absurd (calm (inl rose));
 }
 
 take-behind : (xs ys : List ℕ) (n : ℕ) → take (length xs + n) (xs ++ ys) ≡ xs ++ take n ys
@@ -246,14 +246,14 @@ sent-front plan s marks w0 w1 w2 n e f g = (
 )
 
 -- a write failed
-pub ran_unsent : (plan : Plan) (s u t : Standing) (a1 a2 : ToldLines) (w0 w : Wire) (w1 : Told) → Progress plan s (ahead_of fresh w0.rest) a1 w0.written w1 → Turns WriteFault s u a1 a2 w1 w.written → t ≡ break_off u Broke → HasFailed w0 w → RanOver plan t w0 w
-ran_unsent plan s u t a1 a2 w0 w w1 p (next, same, (n, low, wrote)) e failed = record {
+pub ran_unsent : (plan : Plan) (s u t : Standing) (a1 a2 : ToldLines) (w0 w : Wire) (w1 : Told) → Progress plan s (ahead_of fresh w0.rest) a1 w0.written w1 → Turns WriteFault s u a1 a2 w1 w.written → t ≡ break_off u Broke → Rose w0.writes w.writes → RanOver plan t w0 w
+ran_unsent plan s u t a1 a2 w0 w w1 p (next, same, (n, low, wrote)) e rose = record {
   over = broken-over u t Broke e;
   marks = p.marks;
   first = λ bytes f. let x = first_of plan s a1 w0.written w1 w0.rest p bytes f in (x.0, x.2);
-  ends = inr (e ∙ (ap (λ (x : Standing). break_off x Broke) next ∙ ap (λ (x : Standing). break_off x Broke) p.here), failed);
+  ends = inr (inr (e ∙ (ap (λ (x : Standing). break_off x Broke) next ∙ ap (λ (x : Standing). break_off x Broke) p.here), rose));
   sent = sent-front plan s p.marks w0.written w1 w.written n p.here p.wrote wrote;
-  told = λ bytes f calm. absurd (calm failed);
+  told = λ bytes f calm. absurd (calm (inr rose));
 }
 
 -- what a run answers

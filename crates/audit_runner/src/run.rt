@@ -3,7 +3,7 @@ ghost use Rattle.std.specs.Prelude.{◌≡◌, IfOk};
 ghost use Rattle.audit_core.specs.Standing.{break_off};
 ghost use Rattle.audit_core.specs.Keeps.{IsPlan};
 ghost use Rattle.audit_runner.specs.Wires.{wire};
-ghost use Rattle.audit_runner.specs.Runs.{RanOver};
+ghost use Rattle.audit_runner.specs.Runs.{RanOver, unread};
 
 use crate::turns::{Turned, turn};
 use audit_core::{Auditor, Fault, Plan};
@@ -37,13 +37,24 @@ fn broken<G: Game + Drop>(mut auditor: Auditor<G>, fault: Fault) -> Result<Audit
     }
 }
 
+/// What a read that has failed is told as.
+fn unread(plan: Plan) -> Fault
+    ensures { result ≡ unread plan }
+{
+    if plan.patient {
+        Fault::Late
+    } else {
+        Fault::Broke
+    }
+}
+
 /// Runs an audit of one engine to its end: sends the lines of the auditor, and gives it those of
 /// the engine. The auditor that is answered is over.
 ///
 /// What is to be written is that of the audit of the engine's lines; where a read or a write failed
-/// it is that of the lines that were read before, and the finding `broke`. Where the link tells its
-/// bytes and no call failed, what was sent and what is to be written are those of the audit of its
-/// lines.
+/// it is that of the lines that were read before, and a finding: `late` where a read failed and an
+/// answer is waited for no longer than some limit, and else `broke`. Where the link tells its bytes
+/// and no call failed, what was sent and what is to be written are those of the audit of its lines.
 ///
 /// # Errors
 ///
@@ -70,7 +81,7 @@ pub fn run_audit<L: Link, G: Game + Drop>(
             Turned::Heard => {}
             Turned::Long => return Ok(auditor),
             Turned::Ended => return broken(auditor, Fault::Ended),
-            Turned::ReadFault => return broken(auditor, Fault::Broke),
+            Turned::ReadFault => return broken(auditor, unread(plan)),
             Turned::WriteFault => return broken(auditor, Fault::Broke),
             Turned::Memory => return Err(Halt::Memory),
             Turned::Full => return Err(Halt::Full),

@@ -20,4 +20,4 @@ named_first words (Match setup) w = ap named w.give.ask.begin
 named_first words (Cup setup) w = ap named w.options.give.ask.begin
 named_first words Book e = ap named e
 named_first words Migrate e = ap named e
-named_first words (Audit games seed plies game_type stop) w = ap named w.give.ask.begin
+named_first words (Audit games seed plies game_type stop patient) w = ap named w.give.ask.begin

@@ -1,5 +1,5 @@
 -- The words that ask for an audit of a program.
-use Rattle.std.specs.Prelude.{◌≡◌, ℕ, Bool, ◌-◌, ◌^◌, List, [], ◌∷◌, codes, map, string_bytes, Option, None, Some, option_map}
+use Rattle.std.specs.Prelude.{◌≡◌, ℕ, Bool, ◌-◌, ◌^◌, List, [], ◌∷◌, codes, map, string_bytes, Option, None, Some, is_some, option_map}
 use Rattle.std.specs.declared.string.String.{String}
 use Rattle.std.specs.declared.alloc.Global.{Global}
 use Rattle.hive_model.specs.declared.pieces.GameType.{GameType}
@@ -65,9 +65,10 @@ GiveAudit words options =
 
 -- The options have values of their form: from 1 to 1,000,000 games, whose moves are drawn from a
 -- seed, any number below 2 to the power 64; from 1 to 1,000 plies a game, 80 where none are given;
--- one type for all games, or none; and whether the first finding ends the audit, by 1.
+-- one type for all games, or none; and whether the first finding ends the audit, by 1. The audit is
+-- patient where the program is waited for just so long.
 pub record ChooseAudit (options : AuditOptions) (games seed plies : ℕ)
-    (game_type : Option GameType) (stop : Bool) : Type 0 where
+    (game_type : Option GameType) (stop patient : Bool) : Type 0 where
   pub program : IsProgram options.engine
   pub games_are : IsNumberText options.games 1 1000000 games
   pub seed_is : IsNumberText options.seed 0 (2 ^ 64 - 1) seed
@@ -76,13 +77,14 @@ pub record ChooseAudit (options : AuditOptions) (games seed plies : ℕ)
   pub stop_is : IsRuleOf options.stop stop
   pub care : Care
   pub care_is : IsCareOf options.patience options.quiet untimed care
+  pub patient_is : patient ≡ is_some care.limit
 
 -- `audit` and its options, of which the program, the games and the seed are required
 pub record AreAuditWords (words : List (String Global)) (games seed plies : ℕ)
-    (game_type : Option GameType) (stop : Bool) : Type 0 where
+    (game_type : Option GameType) (stop patient : Bool) : Type 0 where
   pub options : AuditOptions
   pub give : GiveAudit words options
-  pub choose : ChooseAudit options games seed plies game_type stop
+  pub choose : ChooseAudit options games seed plies game_type stop patient
 
 -- the words are `audit` and options, and ask for this care of the program
 abbrev pub AskForAuditCare : List (String Global) → Care → Type 0

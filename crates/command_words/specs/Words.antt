@@ -63,8 +63,8 @@ Words words (Match setup) = AreMatchWords words setup
 Words words (Cup setup) = AreCupWords words setup
 Words words Book = AreAlone words BookName
 Words words Migrate = AreAlone words MigrateName
-Words words (Audit games seed plies game_type stop) =
-    AreAuditWords words games seed plies game_type stop
+Words words (Audit games seed plies game_type stop patient) =
+    AreAuditWords words games seed plies game_type stop patient
 
 -- engines are waited for without end, and nothing that they write is dropped
 abbrev pub no_care : Care
@@ -85,7 +85,7 @@ CaresFor words (Match setup) care = AskForMatchCare words setup care
 CaresFor words (Cup setup) care = AskForCupCare words setup care
 CaresFor words Book care = care ≡ no_care
 CaresFor words Migrate care = care ≡ no_care
-CaresFor words (Audit games seed plies game_type stop) care = AskForAuditCare words care
+CaresFor words (Audit games seed plies game_type stop patient) care = AskForAuditCare words care
 
 -- the words ask for nothing that the program does
 abbrev pub AreOfNoCommand : List (String Global) → Type 0
@@ -105,7 +105,7 @@ name_of (Match setup) = MatchName
 name_of (Cup setup) = CupName
 name_of Book = BookName
 name_of Migrate = MigrateName
-name_of (Audit games seed plies game_type stop) = AuditName
+name_of (Audit games seed plies game_type stop patient) = AuditName
 
 -- the words ask for what was found, if anything, and for nothing else by this name
 pub record Finds (words : List (String Global)) (name : Name) (found : Option Asked)
@@ -131,5 +131,5 @@ IsInRange (Match setup) = IsSetup setup
 IsInRange (Cup setup) = IsSetup setup
 IsInRange Book = Unit {0}
 IsInRange Migrate = Unit {0}
-IsInRange (Audit games seed plies game_type stop) =
+IsInRange (Audit games seed plies game_type stop patient) =
     (1 ≤ games) × (games ≤ 1000000) × (1 ≤ plies) × (plies ≤ 1000)

@@ -71,13 +71,15 @@ pub enum Asked {
     Migrate,
     /// An audit of the program that the words name: so many games, 1 to 1,000,000, whose moves are
     /// drawn from a seed, each of at most so many plies, 1 to 1,000, and all of one type, where one
-    /// is given; up to the first finding or whatever is found.
+    /// is given; up to the first finding or whatever is found; and where it is patient, the program
+    /// is waited for just so long as its care says.
     Audit {
         games: u64,
         seed: u64,
         plies: u32,
         game_type: Option<GameType>,
         stop: bool,
+        patient: bool,
     },
 }
 
@@ -182,6 +184,7 @@ fn audit(alloc: Global, words: &[String]) -> Result<Option<Asked>, AllocError>
         plies: one.plies,
         game_type: one.game_type,
         stop: one.stop,
+        patient: one.patient,
     }))
 }
 

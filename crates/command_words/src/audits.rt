@@ -52,6 +52,7 @@ pub(crate) struct Audit {
     pub(crate) plies: u32,
     pub(crate) game_type: Option<GameType>,
     pub(crate) stop: bool,
+    pub(crate) patient: bool,
 }
 
 /// The texts of the options of an audit.
@@ -115,10 +116,17 @@ fn type_given(text: Option<&str>) -> Option<Option<GameType>>
 /// those of the program and on the care for it too.
 fn audit_at(texts: AuditTexts<'_>) -> Option<Audit>
     ensures found { IfSome result (λ a. ChooseAudit (options_in texts.entry) a.games a.seed a.plies
-        a.game_type a.stop) }
-    ensures only { (g s n : ℕ) (t : Option AnyType) (r : Bool)
-        → ChooseAudit (options_in texts.entry) g s n t r
-        → result ≡ Some (record { games = g; seed = s; plies = n; game_type = t; stop = r }) }
+        a.game_type a.stop a.patient) }
+    ensures only { (g s n : ℕ) (t : Option AnyType) (r p : Bool)
+        → ChooseAudit (options_in texts.entry) g s n t r p
+        → result ≡ Some (record {
+          games = g;
+          seed = s;
+          plies = n;
+          game_type = t;
+          stop = r;
+          patient = p;
+        }) }
 {
     if !is_program(texts.engine) {
         return None;
@@ -128,13 +136,14 @@ fn audit_at(texts: AuditTexts<'_>) -> Option<Audit>
     let plies = number_or(texts.plies, 1, 1000, 80)?;
     let game_type = type_given(texts.game_type)?;
     let stop = rule_of(texts.stop)?;
-    let _care = care_at(texts.patience, texts.quiet, UNTIMED)?;
+    let care = care_at(texts.patience, texts.quiet, UNTIMED)?;
     Some(Audit {
         games,
         seed,
         plies: plies as u32,
         game_type,
         stop,
+        patient: care.limit.is_some(),
     })
 }
 
@@ -142,10 +151,17 @@ fn audit_at(texts: AuditTexts<'_>) -> Option<Audit>
 /// `AllocError` where memory runs out before that is known.
 pub(crate) fn audit_of(alloc: Global, words: &[String]) -> Result<Option<Audit>, AllocError>
     ensures found { IfOk result (λ o. IfSome o (λ a. AreAuditWords words.now a.games a.seed a.plies
-        a.game_type a.stop)) }
-    ensures only { IfOk result (λ o. (g s n : ℕ) (t : Option AnyType) (r : Bool)
-        → AreAuditWords words.now g s n t r
-        → o ≡ Some (record { games = g; seed = s; plies = n; game_type = t; stop = r })) }
+        a.game_type a.stop a.patient)) }
+    ensures only { IfOk result (λ o. (g s n : ℕ) (t : Option AnyType) (r p : Bool)
+        → AreAuditWords words.now g s n t r p
+        → o ≡ Some (record {
+          games = g;
+          seed = s;
+          plies = n;
+          game_type = t;
+          stop = r;
+          patient = p;
+        })) }
 {
     match texts_of(alloc, words)? {
         Some(texts) => Ok(audit_at(texts)),
@@ -156,8 +172,8 @@ pub(crate) fn audit_of(alloc: Global, words: &[String]) -> Result<Option<Audit>,
 /// The care for its program that the words of an audit ask for. An `AllocError` where memory runs
 /// out.
 pub(crate) fn audit_care(alloc: Global, words: &[String]) -> Result<Care, AllocError>
-    requires { (g : ℕ) × (s : ℕ) × (n : ℕ) × (t : Option AnyType) × (r : Bool)
-        × AreAuditWords words.now g s n t r }
+    requires { (g : ℕ) × (s : ℕ) × (n : ℕ) × (t : Option AnyType) × (r : Bool) × (p : Bool)
+        × AreAuditWords words.now g s n t r p }
     ensures { IfOk result (λ care. AskForAuditCare words.now care) }
 {
     let Some(texts) = texts_of(alloc, words)? else {
@@ -172,8 +188,8 @@ pub(crate) fn audit_care(alloc: Global, words: &[String]) -> Result<Care, AllocE
 /// The program of the audit that the words ask for: the words that its option gives, separated by
 /// single spaces, in order. An `AllocError` where memory runs out.
 pub fn audited_of(alloc: Global, words: &[String]) -> Result<Vec<String>, AllocError>
-    requires { (g : ℕ) × (s : ℕ) × (n : ℕ) × (t : Option AnyType) × (r : Bool)
-        × AreAuditWords words.now g s n t r }
+    requires { (g : ℕ) × (s : ℕ) × (n : ℕ) × (t : Option AnyType) × (r : Bool) × (p : Bool)
+        × AreAuditWords words.now g s n t r p }
     ensures some { IfOk result (λ program. 0 < length program.items) }
     ensures program { IfOk result (λ program. AskForAudited words.now
         (map string_bytes program.items)) }

@@ -2,9 +2,11 @@
 //! tell its bytes.
 ghost use Rattle.std.specs.Prelude.{◌≡◌, ◌<◌, ◌+◌, ◌↔◌, IsTrue, None, refl};
 
+use crate::games::GameCount;
 use crate::patience::{Patient, moment};
 use crate::streams::Counted;
 use io_edge::{Link, ReadAnswer, Sink, Source, WriteAnswer};
+use std::io::Eprint;
 use std::os::fd::AsRawFd;
 use std::process::{Child, OpenProcess};
 use std::thread::sleep;
@@ -31,7 +33,7 @@ const MOST_LOOKS: u32 = 2_000;
 /// is killed, and its end is waited for. What it has started itself is left to [`Mark`].
 ///
 /// [`Mark`]: crate::marks::Mark
-pub struct Engine<'a, R: Clock, P: OpenProcess + Drop>
+pub struct Engine<'a, R: Clock + Eprint, P: OpenProcess + Drop>
 where
     P::Stdout: AsRawFd,
 {
@@ -39,20 +41,22 @@ where
     child: Child<P>,
     input: Counted<P::Stdin>,
     output: Counted<Patient<'a, R, P::Stdout>>,
+    games: GameCount,
 }
 
-impl<'a, R: Clock, P: OpenProcess + Drop> Engine<'a, R, P>
+impl<'a, R: Clock + Eprint, P: OpenProcess + Drop> Engine<'a, R, P>
 where
     P::Stdout: AsRawFd,
 {
     /// A program with the ends of its pipes, of which an answer is read for at most this many
-    /// milliseconds.
+    /// milliseconds. The games that it is asked for are counted.
     pub fn new(
         rt: &'a R,
         child: Child<P>,
         input: P::Stdin,
         output: P::Stdout,
         limit: Option<u64>,
+        games: GameCount,
     ) -> Self
         ensures reads { result.output.faults ≡ 0 }
         ensures writes { result.input.faults ≡ 0 }
@@ -63,6 +67,7 @@ where
             child,
             input: Counted::new(input),
             output: Counted::new(Patient::new(rt, output, limit)),
+            games,
         }
     }
 
@@ -118,7 +123,7 @@ pub fn end_of_grace<R: Clock>(rt: &R) -> u64 {
     }
 }
 
-impl<'a, R: Clock, P: OpenProcess + Drop> Drop for Engine<'a, R, P>
+impl<'a, R: Clock + Eprint, P: OpenProcess + Drop> Drop for Engine<'a, R, P>
 where
     P::Stdout: AsRawFd,
 {
@@ -128,7 +133,9 @@ where
             mut child,
             input,
             mut output,
+            games,
         } = self;
+        games.end(rt);
         drop(input);
         let until = end_of_grace(rt);
         output.allow(GRACE);
@@ -138,7 +145,7 @@ where
     }
 }
 
-impl<'a, R: Clock, P: OpenProcess + Drop> Source for Engine<'a, R, P>
+impl<'a, R: Clock + Eprint, P: OpenProcess + Drop> Source for Engine<'a, R, P>
 where
     P::Stdout: AsRawFd,
 {
@@ -153,7 +160,7 @@ where
     }
 }
 
-impl<'a, R: Clock, P: OpenProcess + Drop> Sink for Engine<'a, R, P>
+impl<'a, R: Clock + Eprint, P: OpenProcess + Drop> Sink for Engine<'a, R, P>
 where
     P::Stdout: AsRawFd,
 {
@@ -165,11 +172,12 @@ where
 
     fn write(&mut self, bytes: &[u8]) -> WriteAnswer {
         self.output.begin_answer();
+        self.games.note(self.rt, bytes);
         self.input.write(bytes)
     }
 }
 
-impl<'a, R: Clock, P: OpenProcess + Drop> Link for Engine<'a, R, P>
+impl<'a, R: Clock + Eprint, P: OpenProcess + Drop> Link for Engine<'a, R, P>
 where
     P::Stdout: AsRawFd,
 {

@@ -10,6 +10,7 @@ ghost use Rattle.command_words.specs.Words.{AreOfNoCommand, TakeOption};
 ghost use Rattle.hive.specs.Complaints.{complaint};
 
 mod engines;
+mod games;
 mod machine_clock;
 mod marks;
 mod patience;
@@ -21,11 +22,12 @@ mod system_tests;
 mod tests;
 
 use command_words::care_of;
+use games::are_counted;
 use hive_cli::{Status, run};
 use machine_clock::MachineClock;
 use programs::Programs;
 use std::env::Env;
-use std::io::ErrorKind;
+use std::io::{Eprint, ErrorKind};
 use std::os::fd::AsRawFd;
 use std::process::{ExitCode, OpenProcess, Processes};
 use std::random::RandomSource;
@@ -64,7 +66,15 @@ fn words<R: Env + AllocGlobal>(rt: &R) -> Result<Vec<String>, Status> {
 
 /// Runs over standard input and output, the machine's clock, and programs of the system.
 fn run_on_streams<
-    R: Input + Print + AllocGlobal + Threads + Sync + time::Clock + Processes + RandomSource,
+    R: Input
+        + Print
+        + Eprint
+        + AllocGlobal
+        + Threads
+        + Sync
+        + time::Clock
+        + Processes
+        + RandomSource,
 >(rt: &R, words: &[String]) -> Status
 where
     R::Started: Send,
@@ -83,7 +93,8 @@ where
     let mut input = Counted::new(rt.reader());
     let mut output = Counted::new(io::writer(rt));
     let mut clock = MachineClock::new(rt);
-    let mut spawner = Programs::new(rt, rt.alloc(), care.limit, care.quiet);
+    let counts_games = are_counted(words);
+    let mut spawner = Programs::new(rt, rt.alloc(), care.limit, care.quiet, counts_games);
     let outcome = run(
         rt,
         rt.alloc(),

@@ -3,10 +3,11 @@ ghost use Rattle.std.specs.Prelude.{◌≡◌, ◌≢◌, ◌<◌, ℕ, List, No
 ghost use Rattle.std.specs.Process.{clears_env, command_var};
 
 use crate::engines::Engine;
+use crate::games::GameCount;
 use crate::marks::Mark;
 use io_edge::{Spawner, StartFault};
 use std::alloc::{AllocError, Global};
-use std::io;
+use std::io::{self, Eprint};
 use std::os::fd::AsRawFd;
 use std::process::{Command, OpenProcess, Processes, Stdio};
 use std::random::RandomSource;
@@ -22,6 +23,7 @@ pub struct Programs<'a, R: Processes + Clock> {
     mark: Option<Mark>,
     limit: Option<u64>,
     quiet: bool,
+    counts_games: bool,
     start_faults: u64,
     engine_faults: u64,
 }
@@ -29,8 +31,15 @@ pub struct Programs<'a, R: Processes + Clock> {
 impl<'a, R: Processes + Clock> Programs<'a, R> {
     /// A starter of which no start has failed, and that has ended no program. An answer of each of
     /// its programs is read for at most this many milliseconds, if there is a limit. Where it is
-    /// quiet, what they write on standard error is dropped.
-    pub fn new(rt: &'a R, alloc: Global, limit: Option<u64>, quiet: bool) -> Self
+    /// quiet, what they write on standard error is dropped. The games that they are asked for may
+    /// be counted on standard error.
+    pub fn new(
+        rt: &'a R,
+        alloc: Global,
+        limit: Option<u64>,
+        quiet: bool,
+        counts_games: bool,
+    ) -> Self
         ensures limit { result.limit ≡ limit }
         ensures quiet { result.quiet ≡ quiet }
         ensures starts { result.start_faults ≡ 0 }
@@ -42,6 +51,7 @@ impl<'a, R: Processes + Clock> Programs<'a, R> {
             mark: None,
             limit,
             quiet,
+            counts_games,
             start_faults: 0,
             engine_faults: 0,
         }
@@ -56,6 +66,7 @@ impl<'a, R: Processes + Clock> Drop for Programs<'a, R> {
             mark,
             limit: _,
             quiet: _,
+            counts_games: _,
             start_faults: _,
             engine_faults: _,
         } = self;
@@ -106,12 +117,13 @@ fn command_of(alloc: Global, mark: &Mark, words: &[String]) -> Result<Command<Gl
 
 /// Starts the program that the first word names, with the others as its arguments and this mark,
 /// over pipes.
-fn start_program<'a, R: Processes + Clock>(
+fn start_program<'a, R: Processes + Clock + Eprint>(
     rt: &'a R,
     alloc: Global,
     mark: &Mark,
     limit: Option<u64>,
     quiet: bool,
+    counts_games: bool,
     words: &[String],
 ) -> io::Result<Engine<'a, R, R::Started>>
 where
@@ -126,12 +138,15 @@ where
         .stderr(errors_go(quiet))
         .spawn(rt)?;
     match (child.stdin.take(), child.stdout.take()) {
-        (Some(input), Some(output)) => Ok(Engine::new(rt, child, input, output, limit)),
+        (Some(input), Some(output)) => {
+            let games = GameCount::new(counts_games);
+            Ok(Engine::new(rt, child, input, output, limit, games))
+        }
         _ => Err(io::Error::from(io::ErrorKind::BrokenPipe)),
     }
 }
 
-impl<'a, R: Processes + Clock + RandomSource + Sync> Spawner for Programs<'a, R>
+impl<'a, R: Processes + Clock + RandomSource + Eprint + Sync> Spawner for Programs<'a, R>
 where
     R::Started: Send,
     <R::Started as OpenProcess>::Stdin: Send,
@@ -150,7 +165,15 @@ where
 
     fn start(&mut self, words: &[String]) -> Result<Engine<'a, R, R::Started>, StartFault> {
         let started = match mark_in(self.rt, self.alloc, &mut self.mark) {
-            Ok(mark) => start_program(self.rt, self.alloc, mark, self.limit, self.quiet, words),
+            Ok(mark) => start_program(
+                self.rt,
+                self.alloc,
+                mark,
+                self.limit,
+                self.quiet,
+                self.counts_games,
+                words,
+            ),
             Err(error) => Err(error),
         };
         match started {

@@ -31,7 +31,7 @@ fn a_clock_counts_milliseconds(rt: HostRuntime) {
 fn said_by(rt: &HostRuntime, words: &[String]) -> Result<String, Fail>
     requires { 0 < length words.now }
 {
-    let mut programs = Programs::new(rt, rt.alloc(), None, false);
+    let mut programs = Programs::new(rt, rt.alloc(), None, false, false);
     let mut said = String::new(rt.alloc());
     let Ok(mut engine) = programs.start(words) else {
         return Ok(String::from_str(rt.alloc(), "not started")?);
@@ -93,7 +93,7 @@ fn what_a_program_leaves_behind_is_ended(rt: HostRuntime) -> Result<(), Fail> {
 
 #[test]
 fn a_program_answers_and_is_let_go(rt: HostRuntime) -> Result<(), Fail> {
-    let mut programs = Programs::new(&rt, rt.alloc(), None, false);
+    let mut programs = Programs::new(&rt, rt.alloc(), None, false, false);
     let words = [String::from_str(rt.alloc(), "cat")?];
     let Ok(mut engine) = programs.start(&words) else {
         assert!(rt; false, "a start that was to succeed");
@@ -109,7 +109,7 @@ fn a_program_answers_and_is_let_go(rt: HostRuntime) -> Result<(), Fail> {
 
 #[test]
 fn a_flood_ends(rt: HostRuntime) -> Result<(), Fail> {
-    let mut programs = Programs::new(&rt, rt.alloc(), None, false);
+    let mut programs = Programs::new(&rt, rt.alloc(), None, false, false);
     let words = [String::from_str(rt.alloc(), "yes")?];
     match programs.start(&words) {
         Ok(engine) => programs.close(engine),
@@ -120,7 +120,7 @@ fn a_flood_ends(rt: HostRuntime) -> Result<(), Fail> {
 
 #[test]
 fn a_missing_program_is_refused(rt: HostRuntime) -> Result<(), Fail> {
-    let mut programs = Programs::new(&rt, rt.alloc(), None, false);
+    let mut programs = Programs::new(&rt, rt.alloc(), None, false, false);
     let words = [String::from_str(rt.alloc(), "/no/such/program")?];
     match programs.start(&words) {
         Ok(_) => assert!(rt; false, "a start that was to fail"),
@@ -131,7 +131,7 @@ fn a_missing_program_is_refused(rt: HostRuntime) -> Result<(), Fail> {
 
 #[test]
 fn a_silent_program_is_given_up(rt: HostRuntime) -> Result<(), Fail> {
-    let mut programs = Programs::new(&rt, rt.alloc(), Some(100), false);
+    let mut programs = Programs::new(&rt, rt.alloc(), Some(100), false, false);
     let words = [
         String::from_str(rt.alloc(), "sleep")?,
         String::from_str(rt.alloc(), "1000")?,

@@ -2,6 +2,7 @@
 ghost use Rattle.std.specs.Prelude.{◌≤◌, IfOk};
 
 use crate::complaint;
+use crate::games::begins_game;
 use crate::streams::Counted;
 use hive_cli::Status;
 use io_edge::{ReadAnswer, Sink, Source, WriteAnswer};
@@ -88,4 +89,11 @@ fn each_end_has_its_number_and_its_line(rt: HostRuntime) {
         assert_eq!(rt; status.code(), number, "{status:?}");
         assert_eq!(rt; complaint(status), line, "{status:?}");
     }
+}
+
+#[test]
+fn a_game_begins_where_a_type_is_asked_for(rt: HostRuntime) {
+    assert!(rt; begins_game(b"newgame Base+MLP\n"));
+    assert!(rt; !begins_game(b"newgame Base;InProgress;Black[1];wS1\n"));
+    assert!(rt; !begins_game(b"play wS1\n"));
 }

@@ -55,8 +55,8 @@ never_usage words (Match setup) status before after run e =
     subst (λ s. MatchRun setup s (match_scene before.scene.sides.written (means_in before)) (match_scene after.scene.sides.written (means_in after))) e run.played
 never_usage words (Cup setup) status before after run e = let (engines, asked, played) = run.played in
     subst (λ s. CupRun engines setup s (cup_scene before.scene.sides.written before.engines) (cup_scene after.scene.sides.written after.engines)) e played
-never_usage words (Audit games seed plies game_type stop) status before after run e =
-    subst (λ s. AuditRun (plan_of games seed plies game_type stop) s (audit_in before) (audit_in after)) e run.audited
+never_usage words (Audit games seed plies game_type stop patient) status before after run e =
+    subst (λ s. AuditRun (plan_of games seed plies game_type stop patient) s (audit_in before) (audit_in after)) e run.audited
 
 -- no run but a match, a cup and an audit starts a program
 pub never_spawns : (words : List (String Global)) (asked : Asked) (status : Status) (before after : World) → ¬ UsesSpawner asked → RunOf words asked status before after → status ≡ SpawnFault → ⊥
@@ -72,7 +72,7 @@ never_spawns words Book status before after alone (run, time) e = subst (λ s. B
 never_spawns words Migrate status before after alone (run, time) e = subst (λ s. MigrateRun s before.scene.sides after.scene.sides) e run
 never_spawns words (Match setup) status before after alone run e = absurd (alone tt)
 never_spawns words (Cup setup) status before after alone run e = absurd (alone tt)
-never_spawns words (Audit games seed plies game_type stop) status before after alone run e = absurd (alone tt)
+never_spawns words (Audit games seed plies game_type stop patient) status before after alone run e = absurd (alone tt)
 
 no_time : (t : Times) → TakesNoTime t t
 no_time t = record { last = refl; readings = refl; timed = refl }
@@ -138,14 +138,14 @@ starved_cup words setup w asked = let (engines, asks) = asks_engines words setup
 }
 
 -- where memory was wanting before the program of an audit was started, it was not
-pub starved_audited : (words : List (String Global)) (g s n : ℕ) (t : Option GameType) (r : Bool) (engines : Engines) → AreAuditWords words g s n t r → StartsAudited words Memory engines engines
-starved_audited words g s n t r engines h = (between_spaces h.options.engine, (h.options, h.give, refl), inr refl)
+pub starved_audited : (words : List (String Global)) (g s n : ℕ) (t : Option GameType) (r p : Bool) (engines : Engines) → AreAuditWords words g s n t r p → StartsAudited words Memory engines engines
+starved_audited words g s n t r p engines h = (between_spaces h.options.engine, (h.options, h.give, refl), inr refl)
 
 -- an audit that wanted memory before its program was started
-starved_audit : (words : List (String Global)) (g s n : ℕ) (t : Option GameType) (r : Bool) (w : World) → AreAuditWords words g s n t r → RunOf words (Audit g s n t r) Memory w w
-starved_audit words g s n t r w asked = record {
+starved_audit : (words : List (String Global)) (g s n : ℕ) (t : Option GameType) (r p : Bool) (w : World) → AreAuditWords words g s n t r p → RunOf words (Audit g s n t r p) Memory w w
+starved_audit words g s n t r p w asked = record {
   audited = refl;
-  program = starved_audited words g s n t r w.engines asked;
+  program = starved_audited words g s n t r p w.engines asked;
   closed = none_taken w.engines w.engines refl refl;
   unread = refl;
   untimed = no_time w.scene.times;
@@ -164,7 +164,7 @@ starved_here words Book w h = ((refl, unread w.scene.sides.rest), no_time w.scen
 starved_here words Migrate w h = (refl, no_time w.scene.times)
 starved_here words (Match setup) w h = starved_match words setup w h
 starved_here words (Cup setup) w h = starved_cup words setup w h
-starved_here words (Audit g s n t r) w h = starved_audit words g s n t r w h
+starved_here words (Audit g s n t r p) w h = starved_audit words g s n t r p w h
 
 -- memory was wanting before anything was done
 pub starved : (words : List (String Global)) (asked : Asked) (w : World) (timed : List Timed) → Words words asked → timed ≡ w.scene.times.timed
@@ -177,7 +177,7 @@ run_of words did asked status before after run e = subst (λ a. RunOf words a st
 
 -- what is no match, cup or audit starts no program
 pub is_alone : (asked : Asked) → ((setup : Setup) → asked ≡ Match setup → ⊥) → ((setup : Setup) → asked ≡ Cup setup → ⊥)
-    → ((games seed plies : ℕ) (game_type : Option GameType) (stop : Bool) → asked ≡ Audit games seed plies game_type stop → ⊥) → ¬ UsesSpawner asked
+    → ((games seed plies : ℕ) (game_type : Option GameType) (stop patient : Bool) → asked ≡ Audit games seed plies game_type stop patient → ⊥) → ¬ UsesSpawner asked
 is_alone (Match setup) no_match no_cup no_audit uses = no_match setup refl
 is_alone (Cup setup) no_match no_cup no_audit uses = no_cup setup refl
 is_alone Session no_match no_cup no_audit uses = uses
@@ -190,4 +190,4 @@ is_alone (Solve plies) no_match no_cup no_audit uses = uses
 is_alone Verify no_match no_cup no_audit uses = uses
 is_alone Book no_match no_cup no_audit uses = uses
 is_alone Migrate no_match no_cup no_audit uses = uses
-is_alone (Audit games seed plies game_type stop) no_match no_cup no_audit uses = no_audit games seed plies game_type stop refl
+is_alone (Audit games seed plies game_type stop patient) no_match no_cup no_audit uses = no_audit games seed plies game_type stop patient refl

@@ -95,13 +95,14 @@ pub record PlayedCup (words : List (String Global)) (setup : Setup) (status : St
   pub untimed : Untimed before after
 
 -- what an audit is made by
-abbrev pub plan_of : ℕ → ℕ → ℕ → Option GameType → Bool → Plan
-plan_of games seed plies game_type stop = record {
+abbrev pub plan_of : ℕ → ℕ → ℕ → Option GameType → Bool → Bool → Plan
+plan_of games seed plies game_type stop patient = record {
   games = games;
   seed = seed;
   plies = plies;
   game_type = game_type;
   stop = stop;
+  patient = patient;
 }
 
 -- the program of the audit that the words ask for was started, by its words
@@ -147,8 +148,8 @@ RunOf words Book status before after =
     BookRun status before.scene.sides after.scene.sides × Untimed before after
 RunOf words Migrate status before after =
     MigrateRun status before.scene.sides after.scene.sides × Untimed before after
-RunOf words (Audit games seed plies game_type stop) status before after =
-    MadeAudit words (plan_of games seed plies game_type stop) status before after
+RunOf words (Audit games seed plies game_type stop patient) status before after =
+    MadeAudit words (plan_of games seed plies game_type stop patient) status before after
 
 -- a run that is asked for this may read the clock: that of a session, for its searches, and a match
 abbrev pub UsesClock : Asked → Type 0
@@ -160,7 +161,7 @@ UsesClock _ = ⊥
 abbrev pub UsesSpawner : Asked → Type 0
 UsesSpawner (Match setup) = Unit {0}
 UsesSpawner (Cup setup) = Unit {0}
-UsesSpawner (Audit games seed plies game_type stop) = Unit {0}
+UsesSpawner (Audit games seed plies game_type stop patient) = Unit {0}
 UsesSpawner _ = ⊥
 
 -- whatever the words ask for, this is not so

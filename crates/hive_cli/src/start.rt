@@ -220,7 +220,7 @@ fn audited<K: Sink, P: Spawner, G: Game + Drop>(
     spawner: &mut P,
 ) -> Status
     requires words { AreAuditWords words.now plan.games plan.seed plan.plies plan.game_type
-        plan.stop }
+        plan.stop plan.patient }
     requires plan { IsPlan plan }
     ensures run { AuditRun plan result
         (audit_scene (K.written output.old) (P.engines spawner.old))
@@ -277,6 +277,7 @@ fn perform<R: Threads + Sync, S: Source, K: Sink, C: Clock, P: Spawner, G: Game 
             plies,
             game_type,
             stop,
+            patient,
         } => {
             let plan = Plan {
                 games,
@@ -284,6 +285,7 @@ fn perform<R: Threads + Sync, S: Source, K: Sink, C: Clock, P: Spawner, G: Game 
                 plies,
                 game_type,
                 stop,
+                patient,
             };
             Outcome {
                 status: audited::<K, P, G>(alloc, words, plan, output, spawner),

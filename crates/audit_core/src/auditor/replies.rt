@@ -3,9 +3,9 @@ ghost use Rattle.std.specs.Prelude.{◌≡◌, ◌<◌, ◌≤◌, [], length, I
 ghost use Rattle.hive_model.specs.Legal.{moves};
 ghost use Rattle.hive_model.specs.Lists.{IsOn};
 ghost use Rattle.audit_core.specs.Judging.{wrong_list};
-ghost use Rattle.audit_core.specs.Drawing.{drawn_of};
 ghost use Rattle.audit_core.specs.Standing.{
   position_now,
+  drawn_now,
   fresh,
   count,
   advance,
@@ -28,6 +28,7 @@ use crate::judging::wrong_list;
 use crate::lists::legal_moves;
 use crate::parts::named_in;
 use crate::plan::Stage;
+use crate::sieges::is_siege;
 use crate::strings::wrong_string;
 use crate::texts::text_with;
 use hive_model::{Game, LineText, Move, MoveList};
@@ -98,11 +99,11 @@ impl<G: Game + Drop> Auditor<G> {
     /// Draws one of the legal moves, if there is one.
     fn draw(&mut self, legal: &[Move]) -> Result<Option<Move>, AllocError>
         requires { legal.now ≡ moves (position_now self.old) }
-        ensures drawn { IfOk result (λ o. o
-            ≡ drawn_of self.old.state (position_now self.old)) }
+        ensures drawn { IfOk result (λ o. o ≡ drawn_now self.old) }
         ensures state { OnOk result (self.new ≡ advance self.old) }
     {
-        draw(self.alloc, &self.game, legal, &mut self.generator)
+        let siege = is_siege(self.plan.seed, self.ended);
+        draw(self.alloc, &self.game, siege, legal, &mut self.generator)
     }
 
     /// The move that was drawn is to be played.
@@ -125,8 +126,8 @@ impl<G: Game + Drop> Auditor<G> {
     fn draw_from(&mut self, legal: &[Move]) -> Result<(), AllocError>
         requires legal { legal.now ≡ moves (position_now self.old) }
         requires more { length self.old.moves < self.old.plan.plies }
-        ensures { OnOk result (self.new ≡ play_drawn (advance (count self.old))
-            (drawn_of self.old.state (position_now self.old))) }
+        ensures { OnOk result (self.new
+            ≡ play_drawn (advance (count self.old)) (drawn_now self.old)) }
     {
         self.count(legal)?;
         let drawn = self.draw(legal)?;

@@ -5,15 +5,24 @@ use hive_model::GameType;
 use std::test::Fail;
 
 /// Options of an audit of the program `a`, separated by `|`, and how its games are made.
-const AUDITS: [(&str, u64, u64, u32, Option<GameType>, bool); 8] = [
-    ("--games|1|--seed|0", 1, 0, 80, None, false),
-    ("--seed=7|--games=1000000", 1_000_000, 7, 80, None, false),
+const AUDITS: [(&str, u64, u64, u32, Option<GameType>, bool, bool); 8] = [
+    ("--games|1|--seed|0", 1, 0, 80, None, false, false),
+    (
+        "--seed=7|--games=1000000",
+        1_000_000,
+        7,
+        80,
+        None,
+        false,
+        false,
+    ),
     (
         "--games|2|--seed|18446744073709551615|--plies|1",
         2,
         u64::MAX,
         1,
         None,
+        false,
         false,
     ),
     (
@@ -23,6 +32,7 @@ const AUDITS: [(&str, u64, u64, u32, Option<GameType>, bool); 8] = [
         1000,
         Some(BASE),
         false,
+        false,
     ),
     (
         "--type=Base+MLP|--seed|3|--games|9",
@@ -30,6 +40,7 @@ const AUDITS: [(&str, u64, u64, u32, Option<GameType>, bool); 8] = [
         3,
         80,
         Some(ALL),
+        false,
         false,
     ),
     (
@@ -39,9 +50,10 @@ const AUDITS: [(&str, u64, u64, u32, Option<GameType>, bool); 8] = [
         80,
         None,
         false,
+        true,
     ),
-    ("--stop|1|--games|1|--seed|0", 1, 0, 80, None, true),
-    ("--games|1|--stop=0|--seed|0", 1, 0, 80, None, false),
+    ("--stop|1|--games|1|--seed|0", 1, 0, 80, None, true, false),
+    ("--games|1|--stop=0|--seed|0", 1, 0, 80, None, false, false),
 ];
 
 /// Words, separated by `|`, that ask for no audit.
@@ -73,7 +85,7 @@ const NO_AUDITS: [&str; 22] = [
 #[test]
 fn audits_are_asked_for(rt: HostRuntime) -> Result<(), Fail> {
     let alloc = rt.alloc();
-    for (options, games, seed, plies, game_type, stop) in AUDITS {
+    for (options, games, seed, plies, game_type, stop, patient) in AUDITS {
         let text = format!(in alloc; "audit|--engine|a|{options}")?;
         let words = words_of(alloc, text.as_str(), '|')?;
         let audit = Asked::Audit {
@@ -82,6 +94,7 @@ fn audits_are_asked_for(rt: HostRuntime) -> Result<(), Fail> {
             plies,
             game_type,
             stop,
+            patient,
         };
         let asked = asked_of(alloc, words.as_slice())?;
         assert_eq!(rt; asked, Some(audit), "at {options}");

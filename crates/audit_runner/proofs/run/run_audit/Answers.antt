@@ -1,5 +1,5 @@
 -- The loop over the lines.
-use Rattle.std.proofs.Common.{◌≡◌, refl, sym, ◌∙◌, subst, inl, inr, false}
+use Rattle.std.proofs.Common.{◌≡◌, refl, sym, ◌∙◌, ap, subst, false}
 use Rattle.io_edge.specs.Outside.{Rose}
 use Rattle.line_feed.specs.Ahead.{ahead_of}
 use Rattle.audit_core.specs.declared.findings.Fault.TheVariants.{Ended, Broke}
@@ -62,8 +62,8 @@ returns-in-ReadFault g c =
     let s : Standing = c.turns.auditor in
     let u : Standing = n.auditor in
     let rose : Rose w0.reads w.reads = subst (λ k. Rose k w.reads) c.turns.invariant.reads (c.in-ReadFault.ensures.reads.rose refl) in
-    ok_map c.broken-in-ReadFault.result (λ t. t ≡ break_off u Broke) (λ t. RanOver c.args.plan t w0 w)
-    (λ t e. ran_unread c.args.plan s u t (ahead_of c.turns.reader (g.L.Source.rest c.turns.link)) (ahead_of n.reader (g.L.Source.rest n.link)) w0 w (g.L.Sink.written c.turns.link) c.turns.invariant.progress c.in-ReadFault.ensures.turns e (inl rose))
+    ok_map c.broken-in-ReadFault.result (λ t. t ≡ break_off u c.unread.result) (λ t. RanOver c.args.plan t w0 w)
+    (λ t e. ran_unread c.args.plan s u t (ahead_of c.turns.reader (g.L.Source.rest c.turns.link)) (ahead_of n.reader (g.L.Source.rest n.link)) w0 w (g.L.Sink.written c.turns.link) c.turns.invariant.progress c.in-ReadFault.ensures.turns (e ∙ ap (break_off u) c.unread.ensures) rose)
     c.broken-in-ReadFault.ensures
 
 pub returns-in-WriteFault : goal.returns-in-WriteFault
@@ -75,5 +75,5 @@ returns-in-WriteFault g c =
     let u : Standing = n.auditor in
     let rose : Rose w0.writes w.writes = subst (λ k. Rose k w.writes) c.turns.invariant.writes (c.in-WriteFault.ensures.writes.rose refl) in
     ok_map c.broken-in-WriteFault.result (λ t. t ≡ break_off u Broke) (λ t. RanOver c.args.plan t w0 w)
-    (λ t e. ran_unsent c.args.plan s u t (ahead_of c.turns.reader (g.L.Source.rest c.turns.link)) (ahead_of n.reader (g.L.Source.rest n.link)) w0 w (g.L.Sink.written c.turns.link) c.turns.invariant.progress c.in-WriteFault.ensures.turns e (inr rose))
+    (λ t e. ran_unsent c.args.plan s u t (ahead_of c.turns.reader (g.L.Source.rest c.turns.link)) (ahead_of n.reader (g.L.Source.rest n.link)) w0 w (g.L.Sink.written c.turns.link) c.turns.invariant.progress c.in-WriteFault.ensures.turns e rose)
     c.broken-in-WriteFault.ensures

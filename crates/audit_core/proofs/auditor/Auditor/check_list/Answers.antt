@@ -1,6 +1,5 @@
 use Rattle.std.proofs.Common.{◌≡◌, ◌<◌, length, sym, subst}
-use Rattle.audit_core.specs.Drawing.{drawn_of}
-use Rattle.audit_core.specs.Standing.{Standing, position_now, advance, count, play_drawn, found, check_list}
+use Rattle.audit_core.specs.Standing.{Standing, drawn_now, advance, count, play_drawn, found, check_list}
 use Rattle.audit_core.proofs.Replies.{on_ok, list_none, list_some}
 use Rattle.audit_core.proofs.auditor.Auditor.check_list.Goals as goal
 
@@ -12,7 +11,7 @@ returns-in-None g c =
     let s0 : Standing = c.args.self.now in
     let s1 : Standing = c.list_legal.new.self in
     let s2 : Standing = c.draw_from.new.self in
-    on_ok c.draw_from.result (s2 ≡ play_drawn (advance (count s1)) (drawn_of s1.state (position_now s1))) (s2 ≡ check_list s0 c.args.reply.now)
+    on_ok c.draw_from.result (s2 ≡ play_drawn (advance (count s1)) (drawn_now s1)) (s2 ≡ check_list s0 c.args.reply.now)
     (list_none s0 s1 s2 c.in_ok-wrong_list.field-0 c.args.reply.now c.in_ok-legal.ensures.same c.in_ok-wrong_list.ensures c.in-None.is) c.draw_from.ensures
 
 pub returns : goal.returns
