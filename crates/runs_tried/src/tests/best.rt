@@ -11,8 +11,10 @@ use std::thread::Threads;
 const EMPTY: &str = "Base;NotStarted;White[1]\nok\n";
 
 /// The moves of a game in which white's next move can surround the black queen.
-const BEFORE_THE_WIN: &str =
-    "wS1;bS1 wS1-;wQ /wS1;bQ bS1-;wQ /bS1;bQ wQ-;wG1 -wS1;bG1 bS1-;wB1 /wQ;bB1 bQ-;wA1 -wB1;bA1 /bB1";
+const BEFORE_THE_WIN: &str = concat!(
+    "wS1;bS1 wS1-;wQ /wS1;bQ bS1-;wQ /bS1;bQ wQ-;wG1 -wS1;bG1 bS1-;wB1 /wQ;bB1 bQ-;",
+    "wA1 -wB1;bA1 /bB1",
+);
 
 #[test]
 fn the_first_of_equal_moves_is_named(rt: HostRuntime) -> Result<(), Fail> {

@@ -11,8 +11,10 @@ use std::thread::Threads;
 const COUNTS: &str = "1 4\n2 96\n3 1440\n4 21600\n";
 
 /// A finished game.
-const DRAW: &str =
-    "Base;Draw;Black[7];wS1;bS1 wS1-;wQ /wS1;bQ bS1-;wQ wS1\\;bQ bS1\\;wG1 -wQ;bG1 bS1-;wB1 wG1\\;bB1 bQ-;wA1 -wB1;bA1 bQ\\;wA1 wQ\\\n";
+const DRAW: &str = concat!(
+    "Base;Draw;Black[7];wS1;bS1 wS1-;wQ /wS1;bQ bS1-;wQ wS1\\;bQ bS1\\;wG1 -wQ;",
+    "bG1 bS1-;wB1 wG1\\;bB1 bQ-;wA1 -wB1;bA1 bQ\\;wA1 wQ\\\n",
+);
 
 /// A run, in which no call fails, that asks for counts of up to two plies.
 fn expect_counts<R: Threads + Sync + Abort>(

@@ -196,8 +196,10 @@ fn a_line_that_is_too_long_leaves_no_trace(rt: HostRuntime) -> Result<(), Fail> 
 }
 
 /// A game that ends in a draw, but for its last move.
-const BEFORE_A_DRAW: &str =
-    "wS1;bS1 wS1-;wQ /wS1;bQ bS1-;wQ /bS1;bQ wQ-;wG1 -wQ;bG1 bS1-;wB1 /wQ;bB1 bQ-;wA1 -wB1;bA1 /bB1";
+const BEFORE_A_DRAW: &str = concat!(
+    "wS1;bS1 wS1-;wQ /wS1;bQ bS1-;wQ /bS1;bQ wQ-;wG1 -wQ;bG1 bS1-;wB1 /wQ;bB1 bQ-;",
+    "wA1 -wB1;bA1 /bB1",
+);
 
 /// A game in which black has no move but to pass.
 const PASSING: &str =

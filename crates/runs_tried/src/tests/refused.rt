@@ -25,7 +25,10 @@ fn a_line_that_is_no_command_is_refused(rt: HostRuntime) -> Result<(), Fail> {
         let lines = [line, "options\n"];
         let replies = [
             reply,
-            "\nok\nTable;int;65536;65536;1;1048576\nWorkers;int;1;1;1;16\nRepetition;int;0;0;0;1\nok\n",
+            concat!(
+                "\nok\nTable;int;65536;65536;1;1048576\nWorkers;int;1;1;1;16\nRepetition;int;0;0;",
+                "0;1\nok\n",
+            ),
         ];
         expect_session(&rt, rt.alloc(), &lines, &replies)?;
     }

@@ -146,8 +146,10 @@ fn a_drawn_game_goes_on_where_its_last_move_is_taken_back(rt: HostRuntime) -> Re
 
 #[test]
 fn passes_are_positions_too(rt: HostRuntime) -> Result<(), Fail> {
-    let front =
-        "wB1;bS1 wB1-;wQ \\wB1;bQ bS1-;wQ wB1/;bQ bS1\\;wB1 bS1;bQ wB1-;wB2 /wB1;bQ wB2-;wB2 bQ;pass";
+    let front = concat!(
+        "wB1;bS1 wB1-;wQ \\wB1;bQ bS1-;wQ wB1/;bQ bS1\\;wB1 bS1;bQ wB1-;wB2 /wB1;bQ wB2-;",
+        "wB2 bQ;pass",
+    );
     let round = ";wQ wB1/;pass;wQ \\wB1;pass";
     let lines = [
         ON,

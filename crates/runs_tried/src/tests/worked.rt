@@ -145,8 +145,10 @@ fn a_side_without_a_move_passes(rt: HostRuntime) -> Result<(), Fail> {
 
 #[test]
 fn a_draw_is_written_in_one_way(rt: HostRuntime) -> Result<(), Fail> {
-    let moves =
-        "wS1;bS1 wS1-;wQ /wS1;bQ bS1-;wQ /bS1;bQ wQ-;wG1 -wQ;bG1 bS1-;wB1 /wQ;bB1 bQ-;wA1 -wB1;bA1 /bB1";
+    let moves = concat!(
+        "wS1;bS1 wS1-;wQ /wS1;bQ bS1-;wQ /bS1;bQ wQ-;wG1 -wQ;bG1 bS1-;wB1 /wQ;bB1 bQ-;",
+        "wA1 -wB1;bA1 /bB1",
+    );
     let lines = [
         "newgame Base;Draw;Black[7];wS1;bS1 wS1-;wQ /wS1;bQ bS1-;wQ wS1\\;bQ bS1\\;",
         "wG1 -wQ;bG1 bS1-;wB1 wG1\\;bB1 bQ-;wA1 -wB1;bA1 bQ\\;wA1 wQ\\\n",
