@@ -1,0 +1,14 @@
+pub mod Eachs
+pub mod SumLaws
+pub mod Numbers
+pub mod Results
+pub mod Tallies
+pub mod Notes
+pub mod GridLemmas
+pub mod Flats
+pub mod PairLemmas
+pub mod Games
+pub mod Fair
+pub mod Orders
+pub mod Places
+pub mod Totals

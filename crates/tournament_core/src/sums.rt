@@ -1,0 +1,88 @@
+//! What an engine comes to, by a tally.
+
+ghost use Rattle.std.specs.Prelude.{◌≡◌, ◌*◌, ◌≤◌, ◌^◌, List};
+ghost use Rattle.std.specs.List.{count_by, sum_by};
+ghost use Rattle.tournament_core.specs.Schedules.{IsEngine, numbers};
+ghost use Rattle.tournament_core.specs.Ends.{Played, points, beaten};
+ghost use Rattle.tournament_core.specs.Counts.{IsTallyOf, count_at};
+
+use crate::tally::Tally;
+
+/// How many games an engine won.
+pub(crate) fn wins_of(tally: &Tally, engine: u32) -> u64
+    requires engine { IsEngine tally.now.engines engine }
+    ensures sum { result
+        ≡ sum_by (λ other. count_at tally.now.wins engine other) (numbers tally.now.engines) }
+    ensures few { result ≤ 2 ^ 49 }
+{
+    let mut sum = 0;
+    for other in 1..tally.engines() + 1 {
+        sum += tally.wins(engine, other);
+    }
+    sum
+}
+
+/// How many games an engine lost.
+pub(crate) fn losses_of(tally: &Tally, engine: u32) -> u64
+    requires engine { IsEngine tally.now.engines engine }
+    ensures sum { result
+        ≡ sum_by (λ other. count_at tally.now.wins other engine) (numbers tally.now.engines) }
+    ensures few { result ≤ 2 ^ 49 }
+{
+    let mut sum = 0;
+    for other in 1..tally.engines() + 1 {
+        sum += tally.wins(other, engine);
+    }
+    sum
+}
+
+/// How many games an engine drew.
+pub(crate) fn draws_of(tally: &Tally, engine: u32) -> u64
+    requires engine { IsEngine tally.now.engines engine }
+    ensures sum { result
+        ≡ sum_by (λ other. count_at tally.now.draws engine other) (numbers tally.now.engines) }
+    ensures few { result ≤ 2 ^ 49 }
+{
+    let mut sum = 0;
+    for other in 1..tally.engines() + 1 {
+        sum += tally.draws(engine, other);
+    }
+    sum
+}
+
+/// How many games an engine lost by forfeit.
+pub(crate) fn forfeits_of(tally: &Tally, engine: u32) -> u64
+    requires engine { IsEngine tally.now.engines engine }
+    ensures sum { result
+        ≡ sum_by (λ other. count_at tally.now.forfeits engine other) (numbers tally.now.engines) }
+    ensures few { result ≤ 2 ^ 49 }
+{
+    let mut sum = 0;
+    for other in 1..tally.engines() + 1 {
+        sum += tally.forfeits(engine, other);
+    }
+    sum
+}
+
+/// The points of an engine.
+pub(crate) fn points_of(tally: &Tally, engine: u32) -> u64
+    requires engine { IsEngine tally.now.engines engine }
+    ensures points { (games : List Played) → IsTallyOf games tally.now
+        → result ≡ points games engine }
+    ensures few { result ≤ 2 ^ 51 }
+{
+    2 * wins_of(tally, engine) + draws_of(tally, engine)
+}
+
+/// The points that the losers of the games that an engine won have in all, for each such game.
+pub(crate) fn beaten_of(tally: &Tally, engine: u32) -> u128
+    requires engine { IsEngine tally.now.engines engine }
+    ensures { (games : List Played) → IsTallyOf games tally.now → result ≡ beaten games engine }
+{
+    let mut sum = 0;
+    for other in 1..tally.engines() + 1 {
+        let wins = tally.wins(engine, other);
+        sum += u128::from(wins) * u128::from(points_of(tally, other));
+    }
+    sum
+}
