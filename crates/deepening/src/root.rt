@@ -82,7 +82,7 @@ pub(crate) fn best_reply<G: Game, C: Clock>(
     let key = game.key();
     let level = stack.levels();
     game.list(stack);
-    let hint = root_choice(&key, game, table, stack, level);
+    let hint = root_choice(&key, game, depth, table, stack, level);
     let found = try_all(game, level, depth, hint, stack, table, ticker, clock);
     stack.drop_level();
     let best = found?;
