@@ -6,7 +6,7 @@ use Rattle.hive_model.specs.declared.places.Move.{Move}
 use Rattle.hive_model.specs.declared.places.Move.TheVariants.{Pass, To}
 use Rattle.hive_model.specs.declared.places.State.{State}
 use Rattle.hive_model.specs.declared.places.State.TheVariants.{NotStarted, InProgress, Draw, WhiteWins, BlackWins}
-use Rattle.hive_model.specs.Places.{place_cmp, origin}
+use Rattle.hive_model.specs.Places.{place_cmp, origin, IsWithin}
 use Rattle.hive_model.specs.Boards.{Stacks, stack_at}
 use Rattle.hive_model.specs.Positions.{Position}
 use Rattle.symmetry.specs.Images.{moved_by}
@@ -36,6 +36,11 @@ pub record Alike (p r : Position) (s : ℕ) (t : Place) : Type 0 where
 abbrev pub move_by : ℕ → Place → Move → Move
 move_by s t Pass = Pass
 move_by s t (To x q) = To x (moved_by s t q)
+
+-- the piece goes to a place that lies in the plane or one step beyond its edge
+abbrev pub IsPlaced : Move → Type 0
+IsPlaced Pass = Unit {0}
+IsPlaced (To x q) = IsWithin 9001 q
 
 -- the state, where a game that has not started counts as one in progress
 abbrev pub started_state : State → State

@@ -1,17 +1,20 @@
 -- The laws of symmetry.
-use Rattle.std.specs.Prelude.{◌≡◌, ℕ, IsTrue, ◌↔◌}
+use Rattle.std.specs.Prelude.{◌≡◌, ℕ, ◌+◌, ◌≤◌, ◌<◌, List, IsTrue, ◌↔◌}
 use Rattle.hive_model.specs.declared.places.Place.{Place}
 use Rattle.hive_model.specs.declared.places.Move.{Move}
 use Rattle.hive_model.specs.Lists.{IsOn}
-use Rattle.hive_model.specs.Boards.{Stacks, IsBoard}
+use Rattle.hive_model.specs.Boards.{Stacks, IsBoard, StandsWithin}
 use Rattle.hive_model.specs.Positions.{Position}
 use Rattle.hive_model.specs.Legal.{IsLegal, moves, state}
 use Rattle.hive_model.specs.Games.{after}
+use Rattle.hive_model.specs.Minimax.{lines}
 use Rattle.symmetry.specs.Images.{IsIsometry, moved_by}
 use Rattle.hive_model.specs.Keys.{KeyParts, key}
 use Rattle.symmetry.specs.Shifts.{IsShift, shift_between}
 use Rattle.symmetry.specs.Takes.{TakesMove, takes_move}
-use Rattle.symmetry.specs.Alike.{IsImage, board_by, Alike, move_by, started_state}
+use Rattle.symmetry.specs.declared.own.OwnSymmetry.{OwnSymmetry}
+use Rattle.symmetry.specs.Own.{AreOwn}
+use Rattle.symmetry.specs.Alike.{IsImage, board_by, Alike, move_by, IsPlaced, started_state}
 
 -- each symmetry, followed by a shift, keeps neighbours
 abbrev pub SymmetriesAreIsometries : Type 0
@@ -72,3 +75,33 @@ abbrev pub TakesAreTested : Type 0
 TakesAreTested =
     (p : Position) (m : Move) (r : Position) (n : Move) → IsBoard p.board → IsBoard r.board
     → IsTrue (takes_move (key p) m (key r) n) ↔ TakesMove p m r n
+
+-- a legal move leads to a place in the plane or one step beyond its edge
+abbrev pub LegalMovesArePlaced : Type 0
+LegalMovesArePlaced = (p : Position) (m : Move) → IsBoard p.board → IsOn (moves p) m → IsPlaced m
+
+-- Lists of legal moves. So that each of them ends in the plane, no piece stands further out than
+-- there are plies left to its edge.
+
+-- positions that are alike have as many of n moves
+abbrev pub AlikePositionsHaveAsManyLines : Type 0
+AlikePositionsHaveAsManyLines =
+    (p r : Position) (s : ℕ) (t : Place) → IsBoard p.board → IsBoard r.board → Alike p r s t
+    → (k n : ℕ) → StandsWithin k p.board → StandsWithin k r.board → k + n ≤ 9000
+    → lines p n ≡ lines r n
+
+-- as many of n moves go on behind a legal move as behind one that it is taken to
+abbrev pub TakenMovesHaveAsManyLines : Type 0
+TakenMovesHaveAsManyLines =
+    (p : Position) (m : Move) (r : Position) (o : Move) → IsBoard p.board → IsBoard r.board
+    → TakesMove p m r o → IsOn (moves p) m
+    → (k n : ℕ) → StandsWithin k p.board → StandsWithin k r.board → k + n < 9000
+    → lines (after p m) n ≡ lines (after r o) n
+
+-- as many go on behind a legal move as behind its image by a symmetry of the position
+abbrev pub OwnImagesHaveAsManyLines : Type 0
+OwnImagesHaveAsManyLines =
+    (p : Position) (own : List OwnSymmetry) (o : OwnSymmetry) (m : Move) → IsBoard p.board
+    → AreOwn (key p) own → IsOn own o → IsOn (moves p) m
+    → (k n : ℕ) → StandsWithin k p.board → k + n < 9000
+    → lines (after p m) n ≡ lines (after p (move_by o.symmetry o.shift m)) n

@@ -4,6 +4,8 @@ ghost use Rattle.symmetry.specs.Laws.{SymmetriesAreIsometries, MovesStayApart, M
 ghost use Rattle.symmetry.specs.Laws.{ImagesAreBoards, LegalMovesAreAlike, ListedMovesAreAlike};
 ghost use Rattle.symmetry.specs.Laws.{AfterIsAlike, StatesAreAlike, ShiftIsOnly, ShiftIsTested};
 ghost use Rattle.symmetry.specs.Laws.{TakesAreTested};
+ghost use Rattle.symmetry.specs.Laws.{AlikePositionsHaveAsManyLines, TakenMovesHaveAsManyLines};
+ghost use Rattle.symmetry.specs.Laws.{OwnImagesHaveAsManyLines, LegalMovesArePlaced};
 
 /// Each of the twelve symmetries, followed by a shift, is a map of the places that can be taken
 /// back and that keeps neighbours. So moves and their images are paired one to one.
@@ -48,4 +50,18 @@ pub fn shift_is_only()
 /// them.
 pub fn takes_are_tested()
     ensures { TakesAreTested }
+{}
+
+/// From positions that are alike as many lists of so many legal moves go on, and as many behind a
+/// move as behind its image. So it is enough to count behind one of the moves that a symmetry of a
+/// position takes to each other.
+pub fn lines_are_alike()
+    ensures positions { AlikePositionsHaveAsManyLines }
+    ensures moves { TakenMovesHaveAsManyLines }
+    ensures own { OwnImagesHaveAsManyLines }
+{}
+
+/// Every legal move leads to a place that each symmetry has an image of.
+pub fn legal_moves_are_placed()
+    ensures { LegalMovesArePlaced }
 {}

@@ -1,7 +1,7 @@
 //! Where symmetries take places, and boards that are alike.
 
-use crate::{Symmetry, alike};
-use hive_model::{Board, Colour, GameType, Key, Piece, Place};
+use crate::{Symmetry, alike, own_symmetries};
+use hive_model::{Board, Colour, GameType, Key, Move, Piece, Place};
 use stack_board::PlainBoard;
 use std::alloc::{AllocError, Global};
 use std::test::Fail;
@@ -75,5 +75,44 @@ fn shifts(rt: HostRuntime) -> Result<(), Fail> {
     assert_eq!(rt; shift(&line, &other, 1), None);
     assert_eq!(rt; shift(&line, &stacked, 1), None);
     assert_eq!(rt; shift(&line, &line, 0), Some((0, 0)));
+    Ok(())
+}
+
+/// How many symmetries but the identity a board has, on which the first pieces stand on these
+/// places.
+fn own_count(alloc: Global, places: &[(i32, i32)]) -> Result<usize, AllocError> {
+    let key = key_on(alloc, places)?;
+    Ok(own_symmetries(&key).len())
+}
+
+#[test]
+fn own(rt: HostRuntime) -> Result<(), Fail> {
+    assert_eq!(rt; own_count(rt.alloc(), &[])?, 11);
+    assert_eq!(rt; own_count(rt.alloc(), &[(2, 3)])?, 11);
+    assert_eq!(rt; own_count(rt.alloc(), &[(2, 3), (2, 3)])?, 11);
+    assert_eq!(rt; own_count(rt.alloc(), &[(0, 0), (1, 0)])?, 1);
+    assert_eq!(rt; own_count(rt.alloc(), &[(0, 0), (1, 0), (2, 0)])?, 1);
+    assert_eq!(rt; own_count(rt.alloc(), &[(0, 0), (1, 0), (0, 1)])?, 0);
+    Ok(())
+}
+
+/// Beside a row of two the places on its two sides are one another's images.
+#[test]
+fn images(rt: HostRuntime) -> Result<(), Fail> {
+    let key = key_on(rt.alloc(), &[(3, 0), (4, 0)])?;
+    let piece = Piece::at(5);
+    for symmetry in own_symmetries(&key).as_slice() {
+        let place = Place { q: 4, r: -1 };
+        let image = symmetry.image_of(Move::To { piece, place });
+        let below = Place { q: 3, r: 1 };
+        assert_eq!(rt;
+            image,
+            Move::To {
+                piece,
+                place: below
+            }
+        );
+        assert_eq!(rt; symmetry.image_of(Move::Pass), Move::Pass);
+    }
     Ok(())
 }
