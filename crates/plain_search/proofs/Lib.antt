@@ -2,3 +2,9 @@ pub mod FewMoves
 pub mod PlySteps
 pub mod CountSteps
 pub mod WorthSteps
+pub mod LikeBoards
+pub mod LikeReach
+pub mod LikePositions
+pub mod PlacedLaws
+pub mod ReplySteps
+pub mod ImageSteps

@@ -5,8 +5,12 @@ ghost use Rattle.hive_model.specs.Games.{after};
 ghost use Rattle.hive_model.specs.Minimax.{lines};
 ghost use Rattle.hive_model.specs.Courses.{position};
 ghost use Rattle.search_laws.specs.Nodes.{HasRoom, CanReply, AreAsBefore};
+ghost use Rattle.plain_search.specs.Known.{AreKnown, AreSymmetriesOf};
 
+use crate::images::{KnownLines, known_count, note, symmetries_of};
+use crate::replies::lines_of_two;
 use hive_model::{Game, Move, MoveStack};
+use symmetry::OwnSymmetry;
 
 /// How many lists of so many legal moves, at most 8, the game can go on with. The last ply of them
 /// is counted, neither listed nor played. The game and the stack are as before.
@@ -40,16 +44,54 @@ fn lines_from<G: Game>(game: &mut G, plies: u32, stack: &mut MoveStack) -> u128
         let count = game.count_moves();
         return count as u128;
     }
+    if plies == 2 {
+        return lines_of_two(game, stack);
+    }
+    let own = symmetries_of(game);
     let level = stack.levels();
     game.list(stack);
     let count = stack.level_len(level);
+    let mut known = KnownLines::new();
     let mut total = 0;
     for i in 0..count {
         let m = stack.get(level, i);
-        total += lines_behind(game, m, plies - 1, stack);
+        total += lines_once(game, m, plies - 1, stack, own.as_slice(), &mut known);
     }
     stack.drop_level();
     total
+}
+
+/// `lines_behind`, where it is known already how many lists go on behind some moves. As many go on
+/// behind a move that a symmetry of the position takes to one of these, so that it is not played.
+#[cycle(count)]
+fn lines_once<G: Game>(
+    game: &mut G,
+    m: Move,
+    plies: u32,
+    stack: &mut MoveStack,
+    own: &[OwnSymmetry],
+    known: &mut KnownLines,
+) -> u128
+    requires deep { plies < 8 }
+    requires few { length (position (G.course game.old)).board + 2 * plies + 2 ≤ 44 }
+    requires can { CanReply m plies (G.course game.old) stack.old }
+    requires own { AreSymmetriesOf (position (G.course game.old)) own.now }
+    requires known { AreKnown (position (G.course game.old)) plies known.old.items }
+    ensures count { result ≡ lines (after (position (G.course game.old)) m) plies }
+    ensures before { AreAsBefore (G.course game.old) (G.course game.new) stack.old stack.new }
+    ensures known { AreKnown (position (G.course game.old)) plies known.new.items }
+{
+    if own.is_empty() {
+        return lines_behind(game, m, plies, stack);
+    }
+    game.is_sound();
+    let _few = game.plies();
+    if let Some(count) = known_count(own, known.as_slice(), &m) {
+        return count;
+    }
+    let count = lines_behind(game, m.again(), plies, stack);
+    note(known, m, count);
+    count
 }
 
 /// How many lists of so many legal moves the game can go on with behind this legal one.

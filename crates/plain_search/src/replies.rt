@@ -1,0 +1,175 @@
+//! How many lists of two legal moves there are. Placements on one place that have the same replies
+//! are counted once.
+
+ghost use Rattle.std.specs.Prelude.{
+  ◌≡◌,
+  ◌⊎◌,
+  ℕ,
+  ◌+◌,
+  ◌≤◌,
+  Some,
+  IsTrue,
+  IfSome,
+  length,
+  slice_get,
+};
+ghost use Rattle.std.specs.Option.{ForSome};
+ghost use Rattle.hive_model.specs.Lists.{IsOn};
+ghost use Rattle.hive_model.specs.Places.{IsWithin};
+ghost use Rattle.hive_model.specs.Legal.{moves};
+ghost use Rattle.hive_model.specs.Games.{after};
+ghost use Rattle.hive_model.specs.Minimax.{lines};
+ghost use Rattle.hive_model.specs.Courses.{position};
+ghost use Rattle.search_laws.specs.Nodes.{HasRoom, AreAsBefore};
+ghost use Rattle.plain_search.specs.declared.replies.Counted.{Counted as AnyCounted};
+ghost use Rattle.plain_search.specs.Replies.{their_mosquito, IsPlainPlacement, AreCounted};
+
+use arrayvec::ArrayVec;
+use hive_model::{Game, Kind, Move, MoveStack, Piece, Place};
+
+/// How many replies there are to a placement of any piece but a queen on the place.
+#[derive(Clone, Copy, Default)]
+struct Counted {
+    place: Place,
+    replies: u32,
+}
+
+/// What was counted in one position. Where there are more places, the first of them are known.
+type CountedPlaces = ArrayVec<Counted, 64>;
+
+/// How many lists of two legal moves the game can go on with. The game and the stack are as before.
+pub fn lines_of_two<G: Game>(game: &mut G, stack: &mut MoveStack) -> u128
+    requires few { length (position (G.course game.old)).board + 4 ≤ 44 }
+    requires room { HasRoom 2 (G.course game.old) stack.old }
+    ensures count { result ≡ lines (position (G.course game.old)) 2 }
+    ensures before { AreAsBefore (G.course game.old) (G.course game.new) stack.old stack.new }
+{
+    let level = stack.levels();
+    game.list(stack);
+    let count = stack.level_len(level);
+    let mosquito = their_mosquito(game);
+    let mut counted = CountedPlaces::new();
+    let mut total = 0;
+    for i in 0..count {
+        let m = stack.get(level, i);
+        total += replies_to(game, m, mosquito, &mut counted) as u128;
+    }
+    stack.drop_level();
+    total
+}
+
+/// Where the mosquito of the side that is not to move stands, if it is on the board.
+fn their_mosquito<G: Game>(game: &G) -> Option<Place>
+    ensures place { result ≡ their_mosquito (position (G.course game.now)) }
+    ensures within { IfSome result (λ r. IsWithin 9000 r) }
+{
+    let Some(mosquito) = Piece::new(game.side().other(), Kind::Mosquito, 0) else {
+        return None;
+    };
+    let Some(spot) = game.spot(mosquito) else {
+        return None;
+    };
+    Some(spot.place)
+}
+
+/// How many replies a legal move has. The game is as before.
+fn replies_to<G: Game>(
+    game: &mut G,
+    m: Move,
+    mosquito: Option<Place>,
+    counted: &mut CountedPlaces,
+) -> u32
+    requires legal { IsOn (moves (position (G.course game.old))) m }
+    requires spare { 1 ≤ (G.course game.old).spare }
+    requires mosquito { mosquito ≡ their_mosquito (position (G.course game.old)) }
+    requires within { ForSome mosquito (λ r. IsWithin 9000 r) }
+    requires known { AreCounted (position (G.course game.old)) counted.old.items }
+    ensures count { result ≡ length (moves (after (position (G.course game.old)) m)) }
+    ensures game { G.course game.new ≡ G.course game.old }
+    ensures known { AreCounted (position (G.course game.old)) counted.new.items }
+{
+    if let Move::To { piece, place } = m {
+        if is_plain(game, piece, place, mosquito) {
+            return replies_to_plain(game, piece, place, counted);
+        }
+    }
+    replies_after(game, m)
+}
+
+/// Whether the piece is in hand and no queen, and the place not beside the other side's mosquito.
+fn is_plain<G: Game>(game: &G, piece: Piece, place: Place, mosquito: Option<Place>) -> bool
+    requires mosquito { mosquito ≡ their_mosquito (position (G.course game.now)) }
+    requires within { ForSome mosquito (λ r. IsWithin 9000 r) }
+    ensures { IsTrue result → IsPlainPlacement (position (G.course game.now)) piece place }
+{
+    if piece.kind().is(Kind::Queen) {
+        return false;
+    }
+    if game.spot(piece).is_some() {
+        return false;
+    }
+    let Some(from) = mosquito else {
+        return true;
+    };
+    from.towards(place).is_none()
+}
+
+/// How many replies a plain placement has: as many as another on the place that was counted.
+fn replies_to_plain<G: Game>(
+    game: &mut G,
+    piece: Piece,
+    place: Place,
+    counted: &mut CountedPlaces,
+) -> u32
+    requires legal { IsOn (moves (position (G.course game.old))) (Move.To piece place) }
+    requires spare { 1 ≤ (G.course game.old).spare }
+    requires plain { IsPlainPlacement (position (G.course game.old)) piece place }
+    requires known { AreCounted (position (G.course game.old)) counted.old.items }
+    ensures count { result ≡ length (moves (after (position (G.course game.old))
+        (Move.To piece place))) }
+    ensures game { G.course game.new ≡ G.course game.old }
+    ensures known { AreCounted (position (G.course game.old)) counted.new.items }
+{
+    if let Some(replies) = replies_known(counted.as_slice(), place) {
+        return replies;
+    }
+    game.is_sound();
+    let replies = replies_after(game, Move::To { piece, place });
+    note(counted, place, replies);
+    replies
+}
+
+/// How many replies were counted to a placement on the place, if any were.
+fn replies_known(counted: &[Counted], place: Place) -> Option<u32>
+    ensures { IfSome result (λ n. (i : ℕ) × (slice_get counted.now i
+        ≡ Some (record { place = place; replies = n }))) }
+{
+    for known in counted {
+        if known.place.is(place) {
+            return Some(known.replies);
+        }
+    }
+    None
+}
+
+/// Notes how many replies there are to a placement on the place, if there is room.
+fn note(counted: &mut CountedPlaces, place: Place, replies: u32)
+    ensures { (i : ℕ) (e : AnyCounted) → slice_get counted.new.items i ≡ Some e
+        → (slice_get counted.old.items i ≡ Some e)
+        ⊎ (e ≡ record { place = place; replies = replies }) }
+{
+    let _ = counted.try_push(Counted { place, replies });
+}
+
+/// How many replies a legal move has, counted behind it.
+fn replies_after<G: Game>(game: &mut G, m: Move) -> u32
+    requires legal { IsOn (moves (position (G.course game.old))) m }
+    requires spare { 1 ≤ (G.course game.old).spare }
+    ensures count { result ≡ length (moves (after (position (G.course game.old)) m)) }
+    ensures game { G.course game.new ≡ G.course game.old }
+{
+    game.play(m);
+    let replies = game.count_moves();
+    game.undo();
+    replies
+}
