@@ -8,7 +8,7 @@ use Rattle.hive_model.specs.declared.places.Place.{Place}
 use Rattle.hive_model.specs.declared.places.Dir.{Dir}
 use Rattle.hive_model.specs.Lists.{IsOn, IsPath}
 use Rattle.hive_model.specs.Places.{place_cmp, step, IsWithin}
-use Rattle.hive_model.specs.Boards.{Stacks, height_at, is_occupied}
+use Rattle.hive_model.specs.Boards.{Stacks, IsBoard, height_at, is_occupied}
 use Rattle.hive_model.specs.Near.{placed_by, with_place}
 use Rattle.hive_model.specs.Steps.{GroundStep}
 use Rattle.hive_model.proofs.PlaceLemmas.{exact_places, cases_place}
@@ -152,6 +152,10 @@ module _ (b : Stacks) (s : Place) (found work : List Place) (n : ℕ) (list : Is
     gained = λ q (apart, (way, path)). follow s way q (inl refl) apart path;
     only = λ q on. inr (h.ways q on);
   }
+
+-- no places are places at the hive
+pub none_around : (b : Stacks) (xs : List Place) → IsBoard b → xs ≡ [] → IsAround b xs
+none_around b xs is none = subst (IsAround b) (sym none) (record { sound = is; in_order = tt; near = λ q on. absurd on })
 
 -- there are at most as many places at the hive as a list has room for
 pub found_few : (b : Stacks) (found : List Place) → IsAround b found → length found ≤ 196

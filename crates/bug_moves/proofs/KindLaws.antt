@@ -1,5 +1,5 @@
 -- A list that gained what a kind's ways lead to is its reach.
-use Rattle.std.proofs.Common.{◌≡◌, ◌≢◌, List, [], ◌⊎◌, inl, inr, sym, subst}
+use Rattle.std.proofs.Common.{◌≡◌, ◌≢◌, ℕ, Bool, true, List, [], ◌⊎◌, inl, inr, sym, ◌∙◌, subst}
 use Rattle.hive_model.specs.declared.pieces.Kind.{Kind}
 use Rattle.hive_model.specs.declared.pieces.Kind.TheVariants.{Queen, Beetle, Grasshopper, Pillbug, Spider, Ant, Ladybug}
 use Rattle.hive_model.specs.declared.places.Place.{Place}
@@ -9,6 +9,9 @@ use Rattle.hive_model.specs.Reach.{Reach}
 use Rattle.hive_model.specs.Steps.{GroundStep}
 use Rattle.bug_moves.specs.Adding.{Gains}
 use Rattle.bug_moves.specs.Ways.{Toward, BeetleStep, HopAlong, InSome, FirstToward, UpToward}
+use Rattle.hive_model.specs.Pieces.{is_kind}
+use Rattle.hive_model.proofs.PieceLaws.{same_kind}
+use Rattle.bug_moves.specs.Counts.{AreMany}
 use Rattle.bug_moves.specs.Walks.{AntWay}
 use Rattle.hive_model.proofs.PlaceListLaws.{all_same}
 use Rattle.hive_model.proofs.ReachLaws.{ground_moves}
@@ -53,3 +56,7 @@ ants k b p xs ys e none h = reach_listed k Ant b p (AntWay b p) xs ys e none h (
 
 pub ladybugs : (k : Kind) (b : Stacks) (p : Place) (xs ys : List Place) → k ≡ Ladybug → xs ≡ [] → Gains b (InSome (UpToward b p)) xs ys → AreAll (Reach k b p) ys
 ladybugs k b p xs ys e none h = reach_listed k Ladybug b p (InSome (UpToward b p)) xs ys e none h (over_from_up b p) (up_from_over b p)
+
+-- a bug comes to as many places as an ant, if it is one
+pub ants_counted : (k : Kind) (b : Stacks) (p : Place) (n : ℕ) (answer : Bool) → answer ≡ is_kind k Ant → answer ≡ true → AreMany (AntWay b p) n → AreMany (Reach k b p) n
+ants_counted k b p n answer says is h = subst (λ i. AreMany (Reach i b p) n) (sym (same_kind k Ant (sym says ∙ is))) h

@@ -8,3 +8,4 @@ pub mod FoundLaws
 pub mod TrailLaws
 pub mod RowLaws
 pub mod TakenLaws
+pub mod CountLaws

@@ -2,3 +2,4 @@ pub mod Adding
 pub mod Ways
 pub mod Walks
 pub mod Trails
+pub mod Counts

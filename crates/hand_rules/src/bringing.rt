@@ -6,11 +6,12 @@ ghost use Rattle.hive_model.specs.declared.places.Move.TheVariants.{To};
 ghost use Rattle.hive_model.specs.Placement.{IsLeastInHand, MayPlace};
 ghost use Rattle.hive_model.specs.PlaceLists.{AreAll};
 ghost use Rattle.hive_model.specs.Stack.{without_level};
+ghost use Rattle.bug_moves.specs.Counts.{AreMany};
 ghost use Rattle.hand_rules.specs.Listing.{last_level, ListsAll};
 ghost use Rattle.hand_rules.specs.Bringing.{MayBring, CanBring, IsPlacementMove, position_awake};
 
 use crate::hands::{in_hand, next_of};
-use crate::open_places::placement_places;
+use crate::open_places::{count_placement_places, placement_places};
 use hive_model::{Board, Colour, GameType, Kind, Move, MoveStack, Piece, Place, PlaceList};
 
 /// Whether the piece is in hand, and none of its kind and colour with a smaller number is.
@@ -76,6 +77,23 @@ pub fn bring_places<B: Board>(
     if can_bring(game_type, board, colour, turn) {
         placement_places(board, colour, out);
     }
+}
+
+/// At how many places a piece of this colour may be placed, if the side may bring any piece into
+/// play in its turn of this number, and else 0.
+pub fn count_bring_places<B: Board>(
+    game_type: GameType,
+    board: &B,
+    colour: Colour,
+    turn: u32,
+) -> usize
+    ensures { CanBring game_type (B.stacks board.now) colour turn
+        → AreMany (MayPlace (B.stacks board.now) colour) result }
+{
+    if can_bring(game_type, board, colour, turn) {
+        return count_placement_places(board, colour);
+    }
+    0
 }
 
 /// Puts the piece's move to each of the places at the end of the last level, in their order.

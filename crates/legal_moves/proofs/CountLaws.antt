@@ -3,13 +3,14 @@ use Rattle.std.proofs.Common.{◌≡◌, ℕ, ◌+◌, ◌*◌, ◌≤◌, ◌<�
 use Rattle.std.proofs.lemmas.List.{length-map}
 use Rattle.hive_model.specs.declared.places.Place.{Place}
 use Rattle.hive_model.specs.declared.places.Move.{Move}
-use Rattle.hive_model.specs.declared.places.Move.TheVariants.{Pass, To}
+use Rattle.hive_model.specs.declared.places.Move.TheVariants.{To}
 use Rattle.hive_model.specs.Lists.{IsOn}
 use Rattle.hive_model.specs.Boards.{IsBoard}
 use Rattle.hive_model.specs.Positions.{Position}
 use Rattle.hive_model.specs.Legal.{LegalPair, is_over, moves}
 use Rattle.hand_rules.proofs.PairLaws.{none_listed, with_piece}
-use Rattle.legal_moves.specs.Counting.{AreMany, PairsAreMany, one_level}
+use Rattle.bug_moves.specs.Counts.{AreMany}
+use Rattle.legal_moves.specs.Counting.{PairsAreMany, one_level}
 use Rattle.legal_moves.proofs.Listed.{no_pairs, all_pairs}
 
 module _ (May : ℕ → Place → Type 0) where

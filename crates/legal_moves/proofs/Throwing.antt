@@ -1,6 +1,6 @@
 -- Where a piece is thrown, and how many places a piece of the board can go to.
 use Rattle.std.proofs.Common.{◌≡◌, ◌↔◌, ℕ, ◌≤◌, ◌<◌, Bool, true, false, not, ◌||◌, List, [], ◌∷◌, length, ◌⊎◌, inl, inr, refl, sym, ◌∙◌, ap, subst, arith}
-use Rattle.std.specs.Prelude.{Option, IsTrue, nat_eq}
+use Rattle.std.specs.Prelude.{Option, None, Some, IsTrue, nat_eq}
 use Rattle.std.specs.List.{list_all}
 use Rattle.std.proofs.lemmas.Bool.{lt-ltb, ltb-true, eqb-true, or_cases, not-true}
 use Rattle.hive_model.specs.declared.pieces.Colour.{Colour}
@@ -24,8 +24,10 @@ use Rattle.hive_model.proofs.RuleLaws.{all_at}
 use Rattle.hive_model.proofs.NearLaws.{near_neighbour, near_place}
 use Rattle.hive_model.proofs.LegalLaws.{near_legal, from_legal_pair}
 use Rattle.hive_model.proofs.CountLaws.{rising_distinct, distinct_short, near_few}
-use Rattle.pillbug_throws.specs.Throwing.{ThrowsTo}
-use Rattle.legal_moves.specs.Going.{ThrownBy, IsGoal, AreGoals, HaveRoom}
+use Rattle.bug_moves.specs.Counts.{AreMany}
+use Rattle.bug_moves.proofs.CountLaws.{none_many, same_many}
+use Rattle.pillbug_throws.specs.Throwing.{ThrowsFrom, ThrowsTo, StandsLoose}
+use Rattle.legal_moves.specs.Going.{ThrownBy, CanLift, IsThrowable, IsGoal, AreGoals, HaveRoom, IsMoved}
 use Rattle.legal_moves.proofs.Walking.{same_spot, stands_there, moves_apart}
 
 -- Goals
@@ -146,6 +148,42 @@ both_throw p x y1 y2 xs ys zs e1 e2 one two q = (
     ]
   ],
 )
+
+-- Who can be thrown
+
+module _ (b : Stacks) (rest : Option ℕ) (y x : ℕ) where
+  -- a piece that may throw from nowhere lifts none
+  pub none_lifted : ThrowsFrom b rest y None → ¬ CanLift b rest y x
+  none_lifted none (t, is, _) = none t is
+
+  -- a piece that may throw from there lifts what is loose beside it
+  pub lifted_from : (o : Spot) → ThrowsFrom b rest y (Some o) → StandsLoose b rest o.place x ↔ CanLift b rest y x
+  lifted_from o by = (
+    λ loose. (o, by, loose),
+    λ (t, is, loose). subst (λ (u : Spot). StandsLoose b rest u.place x) (same_spot (spot_of b y) t o is.stands by.stands) loose,
+  )
+
+  -- what is thrown is lifted
+  thrown_lifted : (q : Place) → ThrownBy b rest y x q → CanLift b rest y x
+  thrown_lifted q (t, is, (a, h)) = (t, is, (a, h.stands, record { alone = h.alone; awake = h.awake; beside = h.beside; not_cut = h.not_cut }))
+
+-- what nobody can lift is not thrown
+pub no_throw : (p : Position) (x : ℕ) → (¬ IsThrowable p x) → (q : Place) → ¬ Throw p x q
+no_throw p x none q h = none (elim (throw_by p x q h) [
+  | inl one ↦ inl (thrown_lifted p.board p.rest (piece_of p.side Pillbug 0) x q one)
+  | inr two ↦ inr (thrown_lifted p.board p.rest (piece_of p.side Mosquito 0) x q two)
+])
+
+-- nothing is moved where the queen is not in play
+pub none_moved : (p : Position) (x : ℕ) → is_in_play p.board (queen_of p.side) ≡ false → AreMany (IsMoved p x) 0
+none_moved p x out = none_many (IsMoved p x) (λ q h. let wrong : true ≡ false = sym h.0 ∙ out in cc)
+
+-- where nothing is thrown, what is moved walks
+pub walks_alone : (p : Position) (x n : ℕ) → is_in_play p.board (queen_of p.side) ≡ true → ((q : Place) → ¬ Throw p x q) → AreMany (Walk p x) n → AreMany (IsMoved p x) n
+walks_alone p x n queen none = same_many (Walk p x) (IsMoved p x) n (λ q. (
+  λ walk. (queen, inl walk),
+  λ h. elim h.1 [ inl walk ↦ walk | inr throw ↦ absurd (none q throw) ],
+))
 
 pub walk_goals : (p : Position) → IsBoard p.board → IsTrue (is_in_play p.board (queen_of p.side)) → (x : ℕ) (ys : List Place) → AreAll (Walk p x) ys → AreGoals p.board x ys
 walk_goals p is queen x ys walks = record { in_order = walks.in_order; goals = λ q on. walk_goal p is queen x q ((walks.exact q).0 on) }

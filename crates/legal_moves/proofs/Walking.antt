@@ -17,6 +17,7 @@ use Rattle.hive_model.specs.Positions.{Position}
 use Rattle.hive_model.proofs.GetLemmas.{get_within}
 use Rattle.hive_model.proofs.BoardLemmas.{spot_of_stands, stands_occupied}
 use Rattle.hive_model.proofs.PlaceListLaws.{all_same}
+use Rattle.bug_moves.specs.Counts.{AreMany}
 use Rattle.legal_moves.specs.Going.{Goes}
 
 pub same_spot : (o : Option Spot) (s t : Spot) → o ≡ Some s → o ≡ Some t → s ≡ t
@@ -92,6 +93,14 @@ module _ (b c : Stacks) (x : ℕ) (s : Spot) (stands : spot_of b x ≡ Some s) (
   pub goes_itself : (k : Kind) → k ≡ kind_of x → k ≢ Mosquito → AreAll (Reach k c s.place) ys → AreAll (Goes b x) ys
   goes_itself k e other h = goes_as (subst (λ j. AreAll (MovesAs j c s.place) ys) e
       (all_same (Reach k c s.place) (MovesAs k c s.place) ys (λ q. let law = as_itself k c s.place q other in (law.1, law.0)) h))
+
+-- so many places are as many
+module _ (b c : Stacks) (x : ℕ) (s : Spot) (stands : spot_of b x ≡ Some s) (lifted : c ≡ lift b x) (n : ℕ) where
+  pub mosquito_many : kind_of x ≡ Mosquito → AreMany (Copies c s.place) n → AreMany (Goes b x) n
+  mosquito_many e h = record { places = h.places; all = goes_mosquito b c x s stands lifted h.places e h.all; few = h.few; many = h.many }
+
+  pub itself_many : (k : Kind) → k ≡ kind_of x → k ≢ Mosquito → AreMany (Reach k c s.place) n → AreMany (Goes b x) n
+  itself_many k e other h = record { places = h.places; all = goes_itself b c x s stands lifted h.places k e other h.all; few = h.few; many = h.many }
 
 -- Walks
 

@@ -1,17 +1,9 @@
 -- How many legal moves there are.
-use Rattle.std.specs.Prelude.{◌≡◌, ℕ, ◌≤◌, List, [], ◌∷◌, length}
+use Rattle.std.specs.Prelude.{◌≡◌, ℕ, List, [], ◌∷◌, length}
 use Rattle.hive_model.specs.declared.places.Place.{Place}
 use Rattle.hive_model.specs.declared.places.Move.{Move}
-use Rattle.hive_model.specs.PlaceLists.{AreAll}
 use Rattle.hive_model.specs.Stack.{Levels}
-use Rattle.hand_rules.specs.Listing.{IsPairBelow, ListsBelow}
-
--- so many places meet May
-pub record AreMany (May : Place → Type 0) (n : ℕ) : Type 0 where
-  pub places : List Place
-  pub all : AreAll May places
-  pub few : length places ≤ 196
-  pub many : length places ≡ n
+use Rattle.hand_rules.specs.Listing.{ListsBelow}
 
 -- one level, which holds these moves
 abbrev pub one_level : List Move → Levels

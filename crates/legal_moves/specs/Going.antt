@@ -14,7 +14,7 @@ use Rattle.hive_model.specs.Positions.{Position}
 use Rattle.hive_model.specs.Throws.{IsThrower, ThrowOver, Throw}
 use Rattle.hive_model.specs.Legal.{Walk}
 use Rattle.hive_model.specs.declared.pieces.Kind.TheVariants.{Mosquito, Pillbug}
-use Rattle.pillbug_throws.specs.Throwing.{ThrowsFrom}
+use Rattle.pillbug_throws.specs.Throwing.{ThrowsFrom, StandsLoose}
 use Rattle.legal_moves.specs.declared.turns.Turn.{Turn}
 use Rattle.legal_moves.specs.declared.turns.Throwers.{Throwers}
 
@@ -35,6 +35,16 @@ Goes b x q = (from : Spot) × (spot_of b x ≡ Some from) × MovesAs (kind_of x)
 abbrev pub ThrownBy : Stacks → Option ℕ → ℕ → ℕ → Place → Type 0
 ThrownBy b rest y x q =
     (t : Spot) × IsThrower b rest y t × ((a : Spot) × ThrowOver b rest t.place x a q)
+
+-- this piece can lift that one over itself
+abbrev pub CanLift : Stacks → Option ℕ → ℕ → ℕ → Type 0
+CanLift b rest y x = (t : Spot) × IsThrower b rest y t × StandsLoose b rest t.place x
+
+-- the pillbug or the mosquito of the side to move can lift the piece
+abbrev pub IsThrowable : Position → ℕ → Type 0
+IsThrowable p x =
+    CanLift p.board p.rest (piece_of p.side Pillbug 0) x
+    ⊎ CanLift p.board p.rest (piece_of p.side Mosquito 0) x
 
 -- these are the spots from which the pillbug and the mosquito of the side to move may throw
 pub record AreThrowers (p : Position) (t : Throwers) : Type 0 where

@@ -1,43 +1,39 @@
 //! How many legal moves there are.
 
 ghost use Rattle.std.specs.Prelude.{◌≡◌, length};
-ghost use Rattle.hive_model.specs.PlaceLists.{AreAll};
 ghost use Rattle.hive_model.specs.Boards.{IsBoard};
 ghost use Rattle.hive_model.specs.Placement.{MayPlace};
 ghost use Rattle.hive_model.specs.Legal.{is_over, moves, LegalPair};
 ghost use Rattle.hand_rules.specs.Bringing.{CanBring};
-ghost use Rattle.legal_moves.specs.Counting.{AreMany, PairsAreMany};
+ghost use Rattle.bug_moves.specs.Counts.{AreMany};
+ghost use Rattle.legal_moves.specs.Counting.{PairsAreMany};
 ghost use Rattle.legal_moves.specs.Going.{AreThrowers, position_of};
 
-use crate::throws::{find_throwers, moved_places};
+use crate::throws::{count_moved, find_throwers};
 use crate::turns::{Throwers, Turn};
-use hand_rules::{bring_places, may_bring};
+use hand_rules::{count_bring_places, may_bring};
 use hive_model::{Board, Cuts, Piece, PlaceList};
 
-/// To how many places the piece may go. `open_places` are the places where the side may place, if
-/// it may bring any piece, and `places` is a list to write on.
+/// To how many places the piece may go. `open_places` is the number of places where the side may
+/// place, if it may bring any piece, and `places` is a list to write on.
 fn count_piece<B: Cuts>(
     board: &B,
     turn: &Turn,
     throwers: &Throwers,
-    open_places: &PlaceList,
+    open_places: usize,
     piece: Piece,
     places: &mut PlaceList,
-) -> u32
+) -> usize
     requires board { IsBoard (B.stacks board.now) }
     requires throwers { AreThrowers (position_of (B.stacks board.now) turn.now) throwers.now }
     requires places { CanBring turn.now.game_type (B.stacks board.now) turn.now.side turn.now.number
-        → AreAll (MayPlace (B.stacks board.now) turn.now.side) open_places.now.items }
+        → AreMany (MayPlace (B.stacks board.now) turn.now.side) open_places }
     ensures { AreMany (LegalPair (position_of (B.stacks board.now) turn.now) piece) result }
 {
     if may_bring(turn.game_type, board, turn.side, turn.number, piece) {
-        let free = open_places.len();
-        return free as u32;
+        return open_places;
     }
-    places.clear();
-    moved_places(board, turn, throwers, piece, places);
-    let many = places.len();
-    many as u32
+    count_moved(board, turn, throwers, piece, places)
 }
 
 /// How many legal moves of pieces there are. Where several kinds may be placed, their places are
@@ -46,26 +42,13 @@ fn count_pairs<B: Cuts>(board: &B, turn: &Turn) -> u32
     requires { IsBoard (B.stacks board.now) }
     ensures { PairsAreMany (LegalPair (position_of (B.stacks board.now) turn.now)) 28 result }
 {
-    let mut open_places = PlaceList::new();
-    bring_places(
-        turn.game_type,
-        board,
-        turn.side,
-        turn.number,
-        &mut open_places,
-    );
+    let open_places = count_bring_places(turn.game_type, board, turn.side, turn.number);
     let throwers = find_throwers(board, turn);
     let mut places = PlaceList::new();
     let mut count = 0u32;
     for x in 0..28u8 {
-        count += count_piece(
-            board,
-            turn,
-            &throwers,
-            &open_places,
-            Piece::at(x),
-            &mut places,
-        );
+        let piece = Piece::at(x);
+        count += count_piece(board, turn, &throwers, open_places, piece, &mut places) as u32;
     }
     count
 }

@@ -7,12 +7,21 @@ ghost use Rattle.hive_model.specs.PlaceLists.{AreAll};
 ghost use Rattle.hive_model.specs.Boards.{IsBoard, is_in_play};
 ghost use Rattle.hive_model.specs.declared.places.Spot.{Spot};
 ghost use Rattle.hive_model.specs.Throws.{IsThrower, Throw};
+ghost use Rattle.bug_moves.specs.Counts.{AreMany};
 ghost use Rattle.pillbug_throws.specs.Throwing.{ThrowsFrom};
-ghost use Rattle.legal_moves.specs.Going.{ThrownBy, AreThrowers, AreGoals, IsMoved, position_of};
+ghost use Rattle.legal_moves.specs.Going.{
+  ThrownBy,
+  CanLift,
+  IsThrowable,
+  AreThrowers,
+  AreGoals,
+  IsMoved,
+  position_of,
+};
 
 use crate::merging::add_all;
 use crate::turns::{Throwers, Turn, again, is_in_play, mosquito_of, pillbug_of};
-use crate::walks::{is_walk, walks};
+use crate::walks::{count_walks, is_walk, walks};
 use hive_model::{Board, Cuts, Piece, Place, PlaceList, Spot, has_place};
 use pillbug_throws::{may_be_thrown, throwing_spot, throws};
 
@@ -118,6 +127,76 @@ pub fn moved_places<B: Cuts>(
     }
     walks(board, turn, piece, out);
     add_all_throws(board, turn, throwers, piece, out);
+}
+
+/// Whether the one piece can lift the other over itself. `over` is where the first may throw from.
+fn can_lift<B: Cuts>(
+    board: &B,
+    turn: &Turn,
+    thrower: Piece,
+    over: Option<Spot>,
+    piece: Piece,
+) -> bool
+    requires board { IsBoard (B.stacks board.now) }
+    requires over { ThrowsFrom (B.stacks board.now) turn.now.rest thrower over }
+    ensures { IsTrue result ↔ CanLift (B.stacks board.now) turn.now.rest thrower piece }
+{
+    let Some(over) = over else {
+        return false;
+    };
+    may_be_thrown(board, over.place, piece, again(&turn.rest))
+}
+
+/// Whether a thrower of the side to move can lift the piece. No other piece is thrown.
+fn is_throwable<B: Cuts>(board: &B, turn: &Turn, throwers: &Throwers, piece: Piece) -> bool
+    requires board { IsBoard (B.stacks board.now) }
+    requires throwers { AreThrowers (position_of (B.stacks board.now) turn.now) throwers.now }
+    ensures { IsTrue result ↔ IsThrowable (position_of (B.stacks board.now) turn.now) piece }
+{
+    if can_lift(board, turn, pillbug_of(turn.side), throwers.pillbug, piece) {
+        return true;
+    }
+    can_lift(
+        board,
+        turn,
+        mosquito_of(turn.side),
+        throwers.mosquito,
+        piece,
+    )
+}
+
+/// To how many places a piece of the board goes by its own rule or is thrown: as many as
+/// `moved_places` lists. `places` is a list to write on.
+pub fn count_moved<B: Cuts>(
+    board: &B,
+    turn: &Turn,
+    throwers: &Throwers,
+    piece: Piece,
+    places: &mut PlaceList,
+) -> usize
+    requires board { IsBoard (B.stacks board.now) }
+    requires throwers { AreThrowers (position_of (B.stacks board.now) turn.now) throwers.now }
+    ensures { AreMany (IsMoved (position_of (B.stacks board.now) turn.now) piece) result }
+{
+    if !is_throwable(board, turn, throwers, piece) {
+        return count_unthrown(board, turn, piece, places);
+    }
+    places.clear();
+    moved_places(board, turn, throwers, piece, places);
+    places.len()
+}
+
+/// The same for a piece that nobody throws.
+fn count_unthrown<B: Cuts>(board: &B, turn: &Turn, piece: Piece, places: &mut PlaceList) -> usize
+    requires board { IsBoard (B.stacks board.now) }
+    requires unthrown { (q : Place)
+        → ¬ Throw (position_of (B.stacks board.now) turn.now) piece q }
+    ensures { AreMany (IsMoved (position_of (B.stacks board.now) turn.now) piece) result }
+{
+    if !is_in_play(board, turn.side.queen()) {
+        return 0;
+    }
+    count_walks(board, turn, piece, places)
 }
 
 /// Whether the one piece, which may throw, throws the other to the place.

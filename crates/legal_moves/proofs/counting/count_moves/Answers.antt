@@ -1,4 +1,4 @@
-use Rattle.std.proofs.Common.{◌<◌, length, sym, ◌∙◌, ap, arith}
+use Rattle.std.proofs.Common.{length, sym, ◌∙◌, ap, arith}
 use Rattle.hive_model.proofs.MoveLaws.{over_moves}
 use Rattle.legal_moves.specs.Going.{position_of}
 use Rattle.legal_moves.proofs.CountLaws.{one_pass, many_moves}

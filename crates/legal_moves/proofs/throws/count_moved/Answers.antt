@@ -1,0 +1,17 @@
+use Rattle.std.proofs.Common.{sym, arith}
+use Rattle.std.proofs.lemmas.Bool.{iff_false}
+use Rattle.legal_moves.specs.Going.{position_of}
+use Rattle.legal_moves.proofs.Throwing.{no_throw}
+use Rattle.legal_moves.proofs.throws.count_moved.Goals as goal
+
+pub count_unthrown-requires-clause-unthrown : goal.count_unthrown-requires-clause-unthrown
+count_unthrown-requires-clause-unthrown g c =
+    no_throw (position_of (g.B.Board.stacks c.args.board.now) c.args.turn.now) c.args.piece (iff_false c.is_throwable.ensures c.if-not-is_throwable.true)
+
+pub returns : goal.returns
+returns g c = record {
+  places = c.moved_places.new.out.items;
+  all = c.moved_places.ensures;
+  few = (let v = c.len.ensures.value in let f = c.len.ensures.fits in omega (arith, v, f));
+  many = sym c.len.ensures.value;
+}
