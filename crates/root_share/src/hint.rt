@@ -1,7 +1,7 @@
 //! Which of its children a worker begins with. Any choice is right; a good one raises the bound
 //! early, for all workers.
 
-ghost use Rattle.std.specs.Prelude.{◌≡◌, ◌<◌, [], ◌∷◌};
+ghost use Rattle.std.specs.Prelude.{◌≡◌, ◌≢◌, ℕ, ◌%◌, ◌<◌, [], ◌∷◌, length, MatchOption};
 ghost use Rattle.hive_model.specs.Legal.{moves};
 ghost use Rattle.hive_model.specs.Courses.{position};
 
@@ -9,12 +9,7 @@ use hive_model::{Game, MoveStack};
 
 /// The first place of a child of this part that is worth most, of those whose worth the game tells
 /// without making the move. The game is as before, and nothing is played.
-pub(crate) fn best_told<G: Game>(
-    game: &mut G,
-    root: &MoveStack,
-    part: u32,
-    parts: u32,
-) -> Option<u32>
+fn best_told<G: Game>(game: &mut G, root: &MoveStack, part: u32, parts: u32) -> Option<u32>
     requires listed { root.now.lists ≡ moves (position (G.course game.old)) ∷ [] }
     requires parts { 0 < parts }
     ensures same { G.course game.new ≡ G.course game.old }
@@ -35,4 +30,33 @@ pub(crate) fn best_told<G: Game>(
         }
     }
     best
+}
+
+/// The child of this part that a worker begins with: the one that looks best, where the game tells
+/// of one, and else the first. None where the part has no child. The game is as before, and nothing
+/// is played.
+pub(crate) fn first_child<G: Game>(
+    game: &mut G,
+    root: &MoveStack,
+    part: u32,
+    parts: u32,
+) -> Option<u32>
+    requires listed { root.now.lists ≡ moves (position (G.course game.old)) ∷ [] }
+    requires parts { 0 < parts }
+    ensures own { let count = length (moves (position (G.course game.old))) in
+        MatchOption result ((i : ℕ) → i < count → i % parts ≢ part)
+        (λ i. (i < count) × (i % parts ≡ part)) }
+    ensures same { G.course game.new ≡ G.course game.old }
+    ensures count { G.played game.new ≡ G.played game.old }
+{
+    let count = root.level_len(0);
+    if let Some(child) = best_told(game, root, part, parts) {
+        if child < count && child % parts == part {
+            return Some(child);
+        }
+    }
+    if part < parts && part < count {
+        return Some(part);
+    }
+    None
 }

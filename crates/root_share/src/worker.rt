@@ -1,20 +1,23 @@
 //! What one worker does.
 
-ghost use Rattle.std.specs.Prelude.{◌≡◌, ◌+◌, ◌-◌, ◌%◌, ◌<◌, ◌≤◌, [], ◌∷◌, slice_get, Some, pos};
-ghost use Rattle.std.specs.Prelude.{negsuc, ◌-ℤ◌, ◌≤ℤ◌, ◌<ℤ◌};
+ghost use Rattle.std.specs.Prelude.{◌≡◌, ◌+◌, ◌-◌, ◌%◌, ◌<◌, ◌≤◌, [], ◌∷◌, length, slice_get};
+ghost use Rattle.std.specs.Prelude.{Some, pos, negsuc, ◌-ℤ◌, ◌≤ℤ◌, ◌<ℤ◌};
 ghost use Rattle.hive_model.specs.Lists.{IsOn};
 ghost use Rattle.hive_model.specs.Legal.{moves};
 ghost use Rattle.hive_model.specs.Games.{after};
-ghost use Rattle.hive_model.specs.Minimax.{value, reply_value};
+ghost use Rattle.hive_model.specs.Minimax.{value, reply_value, IsInner};
 ghost use Rattle.hive_model.specs.Costs.{cost, share};
 ghost use Rattle.hive_model.specs.Courses.{position};
 ghost use Rattle.root_share.specs.Word.{IsSeat};
 ghost use Rattle.root_share.specs.Answer.{IsAnswer, IsKnown, turns_share};
 ghost use Rattle.root_share.specs.Ready.{IsReady};
 
+use crate::behind::value_behind;
+use crate::beside::run_beside;
 use crate::candidate::{Candidate, better};
 use crate::gate::Gate;
-use crate::hint::best_told;
+use crate::hint::first_child;
+use crate::win::look_for_win;
 use crate::word::{BoundSeat, Word, look, raise};
 use deepening::Searcher;
 use hive_model::{Game, Move, MoveStack};
@@ -29,7 +32,7 @@ pub struct Worker<G> {
 
 /// What the search of a child shows: its value where that is at least the bound, and else that it
 /// is below.
-fn child_worth<G: Game>(worker: &mut Worker<G>, m: Move, depth: u32, bound: i32) -> i32
+fn value_searched<G: Game>(worker: &mut Worker<G>, m: Move, depth: u32, bound: i32) -> i32
     requires legal { IsOn (moves (position (G.course worker.old.game))) m }
     requires deep { depth < 64 }
     requires spare { depth < (G.course worker.old.game).spare }
@@ -57,8 +60,106 @@ fn child_worth<G: Game>(worker: &mut Worker<G>, m: Move, depth: u32, bound: i32)
     -found
 }
 
-/// Takes a child: the gate, the bound, the search, and the raise. It is an answer where its value is
-/// found.
+/// What a child is worth where that is at least the bound, and else a number below the bound. Where
+/// only a child that ends the game could be worth the bound, it is played and not searched.
+fn child_worth<G: Game>(worker: &mut Worker<G>, m: Move, depth: u32, bound: i32) -> i32
+    requires legal { IsOn (moves (position (G.course worker.old.game))) m }
+    requires deep { depth < 64 }
+    requires spare { depth < (G.course worker.old.game).spare }
+    requires prepared { depth ≤ worker.old.searcher }
+    requires low { negsuc 1000089 ≤ℤ bound }
+    requires high { bound ≤ℤ pos 1000064 }
+    ensures exact { bound ≤ℤ result → result
+        ≡ reply_value (position (G.course worker.old.game)) depth m }
+    ensures below { result <ℤ bound →
+        reply_value (position (G.course worker.old.game)) depth m <ℤ bound }
+    ensures game { G.course worker.new.game ≡ G.course worker.old.game }
+    ensures searcher { worker.new.searcher ≡ worker.old.searcher }
+    ensures played { G.played worker.new.game
+        ≤ G.played worker.old.game
+        + (1 + cost (after (position (G.course worker.old.game)) m) depth (negsuc 1000099)
+        (pos 1 -ℤ bound)) }
+{
+    if bound >= 1_000_000 + depth as i32 {
+        return value_behind(&mut worker.game, m, depth, bound);
+    }
+    value_searched(worker, m, depth, bound)
+}
+
+/// Closes a child whose worth was found where that is at least the bound: the bound is raised to it,
+/// and the child is an answer.
+pub(crate) fn settle<G: Game>(
+    word: &Word<G>,
+    m: Move,
+    depth: u32,
+    child: u32,
+    bound: i32,
+    worth: i32,
+    seat: &mut BoundSeat,
+) -> Option<Candidate>
+    requires seat { IsSeat word.now.table_id seat.old }
+    requires inner { IsInner seat.old.me.0.root depth }
+    requires agreed { seat.old.me.0.depth ≡ depth }
+    requires deep { depth ≤ 64 }
+    requires here { slice_get (moves seat.old.me.0.root) child ≡ Some m }
+    requires stands { seat.old.me.0.top ≡ bound }
+    requires most { bound ≤ℤ value seat.old.me.0.root depth }
+    requires exact { bound ≤ℤ worth → worth
+        ≡ reply_value seat.old.me.0.root (depth - 1) m }
+    requires below { worth <ℤ bound → reply_value seat.old.me.0.root (depth - 1) m <ℤ bound }
+    ensures seat { IsSeat word.now.table_id seat.new }
+    ensures root { seat.new.me.0.root ≡ seat.old.me.0.root }
+    ensures depth { seat.new.me.0.depth ≡ depth }
+    ensures answer { IsAnswer seat.old.me.0.root depth (λ i. i ≡ child) result }
+    ensures top { (bound ≤ℤ seat.new.me.0.top)
+        × (reply_value seat.old.me.0.root (depth - 1) m ≤ℤ seat.new.me.0.top) }
+{
+    if worth < bound {
+        return None;
+    }
+    raise(word, seat, worth);
+    Some(Candidate {
+        child,
+        value: worth,
+    })
+}
+
+/// Finds what a child is worth, where the bound stands so high, and raises the bound to it. It is
+/// an answer where its value is found.
+pub(crate) fn close_child<G: Game>(
+    word: &Word<G>,
+    m: Move,
+    depth: u32,
+    child: u32,
+    bound: i32,
+    seat: &mut BoundSeat,
+    worker: &mut Worker<G>,
+) -> Option<Candidate>
+    requires seat { IsSeat word.now.table_id seat.old }
+    requires ready { IsReady seat.old.me.0.root seat.old.me.0.depth depth (G.course worker.old.game)
+        worker.old.searcher }
+    requires here { slice_get (moves seat.old.me.0.root) child ≡ Some m }
+    requires stands { seat.old.me.0.top ≡ bound }
+    requires most { bound ≤ℤ value seat.old.me.0.root depth }
+    ensures seat { IsSeat word.now.table_id seat.new }
+    ensures root { seat.new.me.0.root ≡ seat.old.me.0.root }
+    ensures depth { seat.new.me.0.depth ≡ depth }
+    ensures answer { IsAnswer seat.old.me.0.root depth (λ i. i ≡ child) result }
+    ensures top { (bound ≤ℤ seat.new.me.0.top)
+        × (reply_value seat.old.me.0.root (depth - 1) m ≤ℤ seat.new.me.0.top) }
+    ensures game { G.course worker.new.game ≡ G.course worker.old.game }
+    ensures searcher { worker.new.searcher ≡ worker.old.searcher }
+    ensures played { G.played worker.new.game
+        ≤ G.played worker.old.game
+        + (1 + cost (after seat.old.me.0.root m) (depth - 1) (negsuc 1000099)
+        (pos 1 -ℤ bound)) }
+{
+    let worth = child_worth(worker, m.again(), depth - 1, bound);
+    settle(word, m, depth, child, bound, worth, seat)
+}
+
+/// Takes a child: the gate, the bound, what it is worth, and the raise. It is an answer where its
+/// value is found.
 fn try_child<G: Game, T: Gate>(
     word: &Word<G>,
     gate: &T,
@@ -88,27 +189,57 @@ fn try_child<G: Game, T: Gate>(
 {
     gate.before_child(part, child);
     let bound = look(word, seat);
-    let worth = child_worth(worker, m, depth - 1, bound);
-    if worth < bound {
-        return None;
-    }
-    raise(word, seat, worth);
-    Some(Candidate {
-        child,
-        value: worth,
-    })
+    close_child(word, m, depth, child, bound, seat, worker)
+}
+
+/// Takes the child that a worker begins with: as any other one, but that before it is searched, and
+/// after the gate, the move of the root that seems to win at once is played, if the bound is lower
+/// than such a win.
+fn try_first<G: Game, T: Gate>(
+    word: &Word<G>,
+    gate: &T,
+    root: &MoveStack,
+    m: Move,
+    depth: u32,
+    part: u32,
+    child: u32,
+    seat: &mut BoundSeat,
+    worker: &mut Worker<G>,
+) -> Option<Candidate>
+    requires seat { IsSeat word.now.table_id seat.old }
+    requires ready { IsReady seat.old.me.0.root seat.old.me.0.depth depth (G.course worker.old.game)
+        worker.old.searcher }
+    requires listed { root.now.lists ≡ moves seat.old.me.0.root ∷ [] }
+    requires here { slice_get (moves seat.old.me.0.root) child ≡ Some m }
+    ensures seat { IsSeat word.now.table_id seat.new }
+    ensures root { seat.new.me.0.root ≡ seat.old.me.0.root }
+    ensures depth { seat.new.me.0.depth ≡ depth }
+    ensures answer { IsAnswer seat.old.me.0.root depth (λ i. i ≡ child) result }
+    ensures top { (seat.old.me.0.top ≤ℤ seat.new.me.0.top)
+        × (reply_value seat.old.me.0.root (depth - 1) m ≤ℤ seat.new.me.0.top) }
+    ensures game { G.course worker.new.game ≡ G.course worker.old.game }
+    ensures searcher { worker.new.searcher ≡ worker.old.searcher }
+    ensures played { G.played worker.new.game
+        ≤ G.played worker.old.game
+        + (2 + cost (after seat.old.me.0.root m) (depth - 1) (negsuc 1000099)
+        (pos 1 -ℤ seat.old.me.0.top)) }
+{
+    gate.before_child(part, child);
+    let bound = look_for_win(word, root, depth, seat, worker);
+    close_child(word, m, depth, child, bound, seat, worker)
 }
 
 /// Tries the children whose place leaves this part when divided by the parts, in their order, but
-/// for the one at the place `tried`, if there is one: what that is worth the seat knows.
-fn run_in_turn<G: Game, T: Gate>(
+/// for the one at the place `tried`, if the list reaches so far: what that is worth the seat knows,
+/// and its turn costs nothing.
+pub(crate) fn run_in_turn<G: Game, T: Gate>(
     word: &Word<G>,
     gate: &T,
     root: &MoveStack,
     depth: u32,
     part: u32,
     parts: u32,
-    tried: Option<u32>,
+    tried: u32,
     seat: &mut BoundSeat,
     worker: &mut Worker<G>,
 ) -> Option<Candidate>
@@ -117,15 +248,18 @@ fn run_in_turn<G: Game, T: Gate>(
         worker.old.searcher }
     requires listed { root.now.lists ≡ moves seat.old.me.0.root ∷ [] }
     requires parts { 0 < parts }
+    requires mine { tried < length (moves seat.old.me.0.root) → tried % parts ≡ part }
     requires known { IsKnown seat.old.me.0.root depth seat.old.me.0.top tried }
     ensures seat { IsSeat word.now.table_id seat.new }
     ensures root { seat.new.me.0.root ≡ seat.old.me.0.root }
     ensures depth { seat.new.me.0.depth ≡ depth }
     ensures answer { IsAnswer seat.old.me.0.root depth
-        (λ i. (i % parts ≡ part) × ¬ (tried ≡ Some i)) result }
+        (λ i. (i % parts ≡ part) × ¬ (i ≡ tried)) result }
     ensures game { G.course worker.new.game ≡ G.course worker.old.game }
     ensures searcher { worker.new.searcher ≡ worker.old.searcher }
     ensures played { G.played worker.new.game
+        ≤ G.played worker.old.game + turns_share seat.old.me.0.root depth part parts }
+    ensures spared { tried < length (moves seat.old.me.0.root) → G.played worker.new.game + 1
         ≤ G.played worker.old.game + turns_share seat.old.me.0.root depth part parts }
 {
     let count = root.level_len(0);
@@ -134,7 +268,7 @@ fn run_in_turn<G: Game, T: Gate>(
         if child % parts != part {
             continue;
         }
-        if tried == Some(child) {
+        if child == tried {
             continue;
         }
         let m = root.get(0, child);
@@ -144,8 +278,45 @@ fn run_in_turn<G: Game, T: Gate>(
     found
 }
 
+/// Tries each child of a part: first this one, and before it the move of the root that seems to win
+/// at once, whoever's child that is; then the others in their order.
+fn run_ahead<G: Game, T: Gate>(
+    word: &Word<G>,
+    gate: &T,
+    root: &MoveStack,
+    depth: u32,
+    part: u32,
+    parts: u32,
+    first: u32,
+    seat: &mut BoundSeat,
+    worker: &mut Worker<G>,
+) -> Option<Candidate>
+    requires seat { IsSeat word.now.table_id seat.old }
+    requires ready { IsReady seat.old.me.0.root seat.old.me.0.depth depth (G.course worker.old.game)
+        worker.old.searcher }
+    requires listed { root.now.lists ≡ moves seat.old.me.0.root ∷ [] }
+    requires parts { 0 < parts }
+    requires mine { first % parts ≡ part }
+    requires place { first < length (moves seat.old.me.0.root) }
+    ensures seat { IsSeat word.now.table_id seat.new }
+    ensures root { seat.new.me.0.root ≡ seat.old.me.0.root }
+    ensures depth { seat.new.me.0.depth ≡ depth }
+    ensures answer { IsAnswer seat.old.me.0.root depth (λ i. i % parts ≡ part) result }
+    ensures game { G.course worker.new.game ≡ G.course worker.old.game }
+    ensures searcher { worker.new.searcher ≡ worker.old.searcher }
+    ensures played { G.played worker.new.game
+        ≤ G.played worker.old.game + share seat.old.me.0.root depth part parts }
+{
+    let m = root.get(0, first);
+    let one = try_first(word, gate, root, m, depth, part, first, seat, worker);
+    let others = run_in_turn(word, gate, root, depth, part, parts, first, seat, worker);
+    better(one, others)
+}
+
 /// Tries each child whose place leaves this part when divided by the parts: first the one that
-/// looks best, if the game tells of one, and then the others in their order.
+/// looks best, and then the others in their order. The worker that has the one that looks best of
+/// all learns before whether a move of the root wins at once; the others leave their first one for
+/// later where the bound is raised meanwhile.
 pub fn run_one<G: Game, T: Gate>(
     word: &Word<G>,
     gate: &T,
@@ -170,14 +341,11 @@ pub fn run_one<G: Game, T: Gate>(
     ensures played { G.played worker.new.game
         ≤ G.played worker.old.game + share seat.old.me.0.root depth part parts }
 {
-    let hint = best_told(&mut worker.game, root, part, parts);
-    if let Some(first) = hint {
-        if first < root.level_len(0) && first % parts == part {
-            let m = root.get(0, first);
-            let one = try_child(word, gate, m, depth, part, first, seat, worker);
-            let others = run_in_turn(word, gate, root, depth, part, parts, hint, seat, worker);
-            return better(one, others);
-        }
+    let Some(first) = first_child(&mut worker.game, root, part, parts) else {
+        return None;
+    };
+    if parts == 1 || first_child(&mut worker.game, root, 0, 1) == Some(first) {
+        return run_ahead(word, gate, root, depth, part, parts, first, seat, worker);
     }
-    run_in_turn(word, gate, root, depth, part, parts, None, seat, worker)
+    run_beside(word, gate, root, depth, part, parts, first, seat, worker)
 }

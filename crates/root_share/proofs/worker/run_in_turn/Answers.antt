@@ -1,10 +1,11 @@
 use Rattle.std.proofs.Common.{◌≡◌, Some, refl, sym, ap, ◌∙◌, arith}
+use Rattle.std.specs.List.{slice_get}
 use Rattle.hive_model.specs.Legal.{moves}
 use Rattle.hive_model.specs.Courses.{Course, position}
 use Rattle.root_share.proofs.AnswerLaws.{answer-start, answer-other, answer-next, answer-end}
 use Rattle.root_share.proofs.ChildLaws.{count-is, get-is, some-move}
-use Rattle.root_share.proofs.ReadyLaws.{known-still, tried-here}
-use Rattle.root_share.proofs.PlaysLaws.{plays-start, plays-step, plays-other, plays-known, plays-end}
+use Rattle.root_share.proofs.ReadyLaws.{known-still}
+use Rattle.root_share.proofs.PlaysLaws.{plays-start, plays-step, plays-other, plays-spared, plays-known, plays-end, plays-more, other-before, next-before}
 use Rattle.root_share.proofs.worker.run_in_turn.Goals as goal
 
 pub loop-child-init : goal.loop-child-init
@@ -17,6 +18,7 @@ loop-child-init g c = record {
   game = refl;
   searcher = refl;
   plays = plays-start _ _ _ _ _ _ c.requires.seat.least;
+  spared = λ h. absurd (omega (arith, h));
 }
 
 pub loop-child-preserved-then-child-parts : goal.loop-child-preserved-then-child-parts
@@ -32,13 +34,16 @@ loop-child-preserved-then-child-parts g c =
       game = turn.game;
       searcher = turn.searcher;
       plays = plays-other _ _ _ _ _ m.0 _ _ _ _ m.1 c.if-child-parts.true turn.plays;
+      spared = λ h. plays-other _ _ _ _ _ m.0 _ _ _ _ m.1 c.if-child-parts.true (turn.spared (other-before c.args.tried c.loop-child.child c.args.part c.args.parts h (c.requires.mine (omega (arith, h, c.loop-child-test.true, count-is (moves c.args.seat.now.me.0.root) c.args.root.now c.level_len-count.result c.requires.listed c.level_len-count.ensures))) c.if-child-parts.true));
     }
 
-pub loop-child-preserved-then-eq : goal.loop-child-preserved-then-eq
-loop-child-preserved-then-eq g c =
+pub loop-child-preserved-then-child-tried : goal.loop-child-preserved-then-child-tried
+loop-child-preserved-then-child-tried g c =
     let turn = c.loop-child.invariant in
-    let m = some-move (moves c.args.seat.now.me.0.root) c.loop-child.child (omega (arith, c.loop-child-test.true, count-is (moves c.args.seat.now.me.0.root) c.args.root.now c.level_len-count.result c.requires.listed c.level_len-count.ensures)) in
-    let here : c.args.tried ≡ Some c.loop-child.child = tried-here c.args.tried c.loop-child.child (sym c.if-eq.true ∙ c.eq.ensures) in
+    let p = c.args.seat.now.me.0.root in
+    let m = some-move (moves p) c.loop-child.child (omega (arith, c.loop-child-test.true, count-is (moves p) c.args.root.now c.level_len-count.result c.requires.listed c.level_len-count.ensures)) in
+    let here : c.loop-child.child ≡ c.args.tried = c.if-child-tried.true in
+    let there : slice_get (moves p) c.args.tried ≡ Some m.0 = rw (← here) m.1 in
     record {
       seat = turn.seat;
       root = turn.root;
@@ -47,7 +52,8 @@ loop-child-preserved-then-eq g c =
       answer = answer-other _ _ _ _ _ _ _ (λ mine not. not here) turn.answer;
       game = turn.game;
       searcher = turn.searcher;
-      plays = plays-known _ _ _ _ _ m.0 _ _ _ _ m.1 c.if-child-parts.false (turn.known c.loop-child.child m.0 here m.1) turn.plays;
+      plays = plays-known _ _ _ _ _ m.0 _ _ _ _ m.1 c.if-child-parts.false (turn.known m.0 there) turn.plays;
+      spared = λ h. plays-spared _ _ _ _ _ m.0 _ _ _ _ m.1 c.if-child-parts.false (turn.known m.0 there) turn.plays;
     }
 
 pub loop-child-preserved : goal.loop-child-preserved
@@ -66,6 +72,8 @@ loop-child-preserved g c =
       searcher = made.searcher ∙ turn.searcher;
       plays = plays-step p c.args.depth c.args.part c.args.parts c.loop-child.child c.get-m.result c.loop-child.seat.me.0.top _ _ _ _ _ here c.if-child-parts.false turn.plays
           (rw turn.root at made.played) made.top.0 (rw turn.root at made.top.1);
+      spared = λ h. plays-step p c.args.depth c.args.part c.args.parts c.loop-child.child c.get-m.result c.loop-child.seat.me.0.top _ _ _ _ _ here c.if-child-parts.false
+          (turn.spared (next-before c.args.tried c.loop-child.child h c.if-child-tried.false)) (plays-more _ _ _ (rw turn.root at made.played)) made.top.0 (rw turn.root at made.top.1);
     }
 
 pub returns-clause-answer : goal.returns-clause-answer
@@ -73,6 +81,11 @@ returns-clause-answer g c = answer-end _ _ _ _ _ _ _ (omega (arith, c.loop-child
 
 pub returns-clause-played : goal.returns-clause-played
 returns-clause-played g c = plays-end _ _ _ _ _ _ _ _ c.loop-child.invariant.plays
+
+pub returns-clause-spared : goal.returns-clause-spared
+returns-clause-spared g c = λ here.
+    let past = count-is (moves c.args.seat.now.me.0.root) c.args.root.now c.level_len-count.result c.requires.listed c.level_len-count.ensures in
+    plays-end _ _ _ _ _ _ _ _ (c.loop-child.invariant.spared (omega (arith, c.loop-child-test.false, past, here)))
 
 pub try_child-answer-requires-clause-ready : goal.try_child-answer-requires-clause-ready
 try_child-answer-requires-clause-ready g c =

@@ -1,0 +1,52 @@
+//! Children that are played and not searched.
+
+ghost use Rattle.std.specs.Prelude.{◌≡◌, ◌+◌, ◌<◌, ◌≤◌, false, pos, ◌≤ℤ◌, ◌<ℤ◌, MatchOption};
+ghost use Rattle.hive_model.specs.Lists.{IsOn};
+ghost use Rattle.hive_model.specs.Legal.{moves, is_over};
+ghost use Rattle.hive_model.specs.Games.{after};
+ghost use Rattle.hive_model.specs.Minimax.{reply_value};
+ghost use Rattle.hive_model.specs.Courses.{position};
+
+use hive_model::{Game, Move};
+use search_laws::end_value;
+
+/// What a legal move is worth to the side that makes it, with so many plies behind it, where it
+/// ends the game; none where the game goes on. It is played and taken back.
+pub(crate) fn end_behind<G: Game>(game: &mut G, m: Move, depth: u32) -> Option<i32>
+    requires legal { IsOn (moves (position (G.course game.old))) m }
+    requires deep { depth ≤ 64 }
+    requires spare { 1 ≤ (G.course game.old).spare }
+    ensures worth { MatchOption result (is_over (after (position (G.course game.old)) m) ≡ false)
+        (λ v. v ≡ reply_value (position (G.course game.old)) depth m) }
+    ensures game { G.course game.new ≡ G.course game.old }
+    ensures played { G.played game.new ≤ G.played game.old + 1 }
+{
+    game.play(m);
+    let end = end_value(game.state(), game.side(), depth);
+    game.undo();
+    match end {
+        Some(worth) => Some(-worth),
+        None => None,
+    }
+}
+
+/// What a legal move is worth where that is at least the bound, and else a number below the bound,
+/// which is no less than what a move is worth that wins at once. Where the game goes on behind the
+/// move it is worth less.
+pub(crate) fn value_behind<G: Game>(game: &mut G, m: Move, depth: u32, bound: i32) -> i32
+    requires legal { IsOn (moves (position (G.course game.old))) m }
+    requires deep { depth < 64 }
+    requires spare { 1 ≤ (G.course game.old).spare }
+    requires least { pos (1000000 + depth) ≤ℤ bound }
+    ensures exact { bound ≤ℤ result → result
+        ≡ reply_value (position (G.course game.old)) depth m }
+    ensures below { result <ℤ bound →
+        reply_value (position (G.course game.old)) depth m <ℤ bound }
+    ensures game { G.course game.new ≡ G.course game.old }
+    ensures played { G.played game.new ≤ G.played game.old + 1 }
+{
+    match end_behind(game, m, depth) {
+        Some(worth) => worth,
+        None => bound - 1,
+    }
+}

@@ -1,0 +1,83 @@
+//! A clock that strikes once the shared bound was raised.
+
+ghost use Rattle.std.specs.Prelude.{◌≡◌, ◌<◌, ◌≤◌, ◌+◌, ◌^◌};
+ghost use Rattle.io_edge.specs.Clocks.{TellsTime};
+ghost use Rattle.root_share.specs.Word.{IsSeat};
+
+use crate::word::{BoundSeat, Word, look};
+use hive_model::Game;
+use io_edge::Clock;
+use std::marker::Model;
+
+/// When a bell strikes: the first reading of it after the bound was raised.
+pub(crate) const STRIKE: u64 = 1;
+
+/// A clock over the bound that workers share. It stands at 0 until it is read while the bound is
+/// higher than when the bell was made, and at `STRIKE` from then on.
+#[derive(Drop)]
+pub(crate) struct Bell<'a, G: Game> {
+    word: &'a Word<G>,
+    seat: BoundSeat,
+    bound: i32,
+    last: u64,
+    previous: u64,
+    readings: u64,
+}
+
+impl<'a, G: Game> Model for Bell<'a, G> {
+    ghost use Rattle.std.specs.Prelude.{◌≤◌};
+    ghost use Rattle.root_share.specs.Bells.{Strokes};
+    ghost use Rattle.root_share.specs.Word.{IsSeat};
+
+    ghost Value = { Strokes };
+
+    ghost view = { λ b. record {
+      last = b.last;
+      previous = b.previous;
+      readings = b.readings;
+    } };
+
+    ghost invariant = { λ b. IsSeat b.word.now.table_id b.seat × (b.seat.me.0.depth ≤ 64)
+        × (b.last ≤ 1) };
+}
+
+impl<'a, G: Game> Bell<'a, G> {
+    /// A bell that has not struck, for a bound that stands so high.
+    pub(crate) fn new(word: &'a Word<G>, seat: BoundSeat, bound: i32) -> Bell<'a, G>
+        requires seat { IsSeat word.now.table_id seat }
+        requires deep { seat.me.0.depth ≤ 64 }
+        ensures { result ≡ record { last = 0; previous = 0; readings = 0 } }
+    {
+        Bell {
+            word,
+            seat,
+            bound,
+            last: 0,
+            previous: 0,
+            readings: 0,
+        }
+    }
+}
+
+impl<G: Game> Clock for Bell<'_, G> {
+    ghost last = { λ b. b.last };
+
+    ghost previous = { λ b. b.previous };
+
+    ghost readings = { λ b. b.readings };
+
+    /// `STRIKE` where the bound is higher than when the bell was made, or was at a reading before.
+    fn now(&mut self) -> u64
+        ensures time { TellsTime result self.old.last self.new.last self.old.readings
+            self.new.readings }
+        ensures previous { self.new.previous ≡ self.old.last }
+    {
+        let bound = look(self.word, &mut self.seat);
+        self.previous = self.last;
+        if bound > self.bound {
+            self.last = STRIKE;
+        }
+        self.readings = self.readings.saturating_add(1);
+        self.last
+    }
+}

@@ -1,0 +1,70 @@
+//! A win that a worker learns of before it searches.
+
+ghost use Rattle.std.specs.Prelude.{◌≡◌, ◌+◌, ◌≤◌, [], ◌∷◌, ◌≤ℤ◌, IfSome};
+ghost use Rattle.hive_model.specs.Legal.{moves};
+ghost use Rattle.hive_model.specs.Minimax.{value};
+ghost use Rattle.hive_model.specs.Courses.{position};
+ghost use Rattle.root_share.specs.Word.{IsSeat, IsReply, known};
+ghost use Rattle.root_share.specs.Ready.{IsReady};
+
+use crate::behind::end_behind;
+use crate::word::{BoundSeat, Word, look, raise};
+use crate::worker::Worker;
+use hive_model::{Game, MoveStack};
+use search_core::likely_win;
+
+/// What the move of a root is worth that seems to win at once, where the root has one and it ends
+/// the game. It is played and taken back.
+fn likely_end<G: Game>(game: &mut G, root: &MoveStack, depth: u32) -> Option<i32>
+    requires some { 1 ≤ depth }
+    requires deep { depth ≤ 64 }
+    requires spare { 1 ≤ (G.course game.old).spare }
+    requires listed { root.now.lists ≡ moves (position (G.course game.old)) ∷ [] }
+    ensures reply { IfSome result (IsReply (position (G.course game.old)) depth) }
+    ensures game { G.course game.new ≡ G.course game.old }
+    ensures played { G.played game.new ≤ G.played game.old + 1 }
+{
+    let Some(place) = likely_win(game, root, 0) else {
+        return None;
+    };
+    if place >= root.level_len(0) {
+        return None;
+    }
+    end_behind(game, root.get(0, place), depth - 1)
+}
+
+/// The bound as it stands; where it is lower than a win at once, the move of the root that seems to
+/// win is played and taken back, whoever's child it is, and the bound is raised if it ends the game
+/// and is worth more. At most that one move is played.
+pub(crate) fn look_for_win<G: Game>(
+    word: &Word<G>,
+    root: &MoveStack,
+    depth: u32,
+    seat: &mut BoundSeat,
+    worker: &mut Worker<G>,
+) -> i32
+    requires seat { IsSeat word.now.table_id seat.old }
+    requires ready { IsReady seat.old.me.0.root seat.old.me.0.depth depth (G.course worker.old.game)
+        worker.old.searcher }
+    requires listed { root.now.lists ≡ moves seat.old.me.0.root ∷ [] }
+    ensures seat { IsSeat word.now.table_id seat.new }
+    ensures view { seat.new.me.0 ≡ known seat.old.me.0.root depth result }
+    ensures grows { seat.old.me.0.top ≤ℤ result }
+    ensures most { result ≤ℤ value seat.old.me.0.root depth }
+    ensures game { G.course worker.new.game ≡ G.course worker.old.game }
+    ensures searcher { worker.new.searcher ≡ worker.old.searcher }
+    ensures played { G.played worker.new.game ≤ G.played worker.old.game + 1 }
+{
+    let bound = look(word, seat);
+    if bound >= 1_000_000 + (depth - 1) as i32 {
+        return bound;
+    }
+    let Some(worth) = likely_end(&mut worker.game, root, depth) else {
+        return bound;
+    };
+    if worth <= bound {
+        return bound;
+    }
+    raise(word, seat, worth);
+    worth
+}
