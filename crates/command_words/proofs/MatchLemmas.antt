@@ -11,21 +11,21 @@ weaker None P Q f h = tt
 weaker (Some a) P Q f h = f a h
 
 -- the values of the options, where it is not known that the first two are given
-abbrev match_values_of : Option (List ℕ) → Option (List ℕ) → Choices → List (Option (List ℕ))
-match_values_of white black c =
-    white ∷ (black ∷ (c.game_type ∷ (c.depth ∷ (c.time ∷ (c.margin ∷ (c.plies ∷ (c.repetition ∷ (c.patience ∷ (c.quiet ∷ [])))))))))
+abbrev match_values_of : Option (List ℕ) → Option (List ℕ) → Choices → Option (List ℕ) → List (Option (List ℕ))
+match_values_of white black c from =
+    white ∷ (black ∷ (c.game_type ∷ (c.depth ∷ (c.time ∷ (c.margin ∷ (c.plies ∷ (c.repetition ∷ (c.patience ∷ (c.quiet ∷ (from ∷ []))))))))))
 
--- the values are those at the ten places
-ten : (given : List (Option (List ℕ))) (items : List Item) → given ≡ map (value_of items) match_options
-    → given ≡ value_at given 0 ∷ (value_at given 1 ∷ (value_at given 2 ∷ (value_at given 3 ∷ (value_at given 4 ∷ (value_at given 5 ∷ (value_at given 6 ∷ (value_at given 7 ∷ (value_at given 8 ∷ (value_at given 9 ∷ [])))))))))
-ten given items e =
-    subst (λ (g : List (Option (List ℕ))). g ≡ value_at g 0 ∷ (value_at g 1 ∷ (value_at g 2 ∷ (value_at g 3 ∷ (value_at g 4 ∷ (value_at g 5 ∷ (value_at g 6 ∷ (value_at g 7 ∷ (value_at g 8 ∷ (value_at g 9 ∷ [])))))))))) (sym e) refl
+-- the values are those at the eleven places
+eleven : (given : List (Option (List ℕ))) (items : List Item) → given ≡ map (value_of items) match_options
+    → given ≡ match_values_of (value_at given 0) (value_at given 1) (match_choices given) (value_at given 10)
+eleven given items e =
+    subst (λ (g : List (Option (List ℕ))). g ≡ match_values_of (value_at g 0) (value_at g 1) (match_choices g) (value_at g 10)) (sym e) refl
 
 -- so they are these, where the first two were read
 pub values_read : (given : List (Option (List ℕ))) (items : List Item) (white black : List ℕ) → given ≡ map (value_of items) match_options
-    → Some white ≡ value_at given 0 → Some black ≡ value_at given 1 → given ≡ match_values white black (match_choices given)
+    → Some white ≡ value_at given 0 → Some black ≡ value_at given 1 → given ≡ match_values white black (match_choices given) (value_at given 10)
 values_read given items white black e w b =
-    ten given items e ∙ sym (λ j. match_values_of (w j) (b j) (match_choices given))
+    eleven given items e ∙ sym (λ j. match_values_of (w j) (b j) (match_choices given) (value_at given 10))
 
 -- what is there at a place of such values
 pub value_read : (o : Option (Bor (List ℕ))) (r : Bor (List ℕ)) (v : Option (List ℕ)) → o ≡ Some r → option_map (λ t. t.now) o ≡ v → Some r.now ≡ v

@@ -1,5 +1,5 @@
 -- The words that ask for a match of two programs.
-use Rattle.std.specs.Prelude.{◌≡◌, ◌+◌, ℕ, Bool, false, List, [], ◌∷◌, nat_eq, codes, map, string_bytes, Option, None, Some, option_map, if◌then◌else◌}
+use Rattle.std.specs.Prelude.{◌≡◌, ◌+◌, ℕ, Bool, false, List, [], ◌∷◌, nat_eq, codes, map, string_bytes, Option, None, Some, option_map, IsTrue, if◌then◌else◌}
 use Rattle.std.specs.declared.string.String.{String}
 use Rattle.std.specs.declared.alloc.Global.{Global}
 use Rattle.hive_model.specs.declared.pieces.GameType.{GameType}
@@ -48,7 +48,7 @@ abbrev pub IsTypeOr : Option (List ℕ) → GameType → Type 0
 IsTypeOr None t = t ≡ record { mosquito = false; ladybug = false; pillbug = false }
 IsTypeOr (Some text) t = text ≡ type_bytes t
 
--- the rule of third repetition: 1 switches it on, 0 leaves it off, as does no value
+-- what 1 switches on, as the rule of third repetition; 0 leaves it off, as does no value
 abbrev pub IsRuleOf : Option (List ℕ) → Bool → Type 0
 IsRuleOf text r = (n : ℕ) × IsNumberOr text 0 1 0 n × (r ≡ nat_eq n 1)
 
@@ -126,14 +126,15 @@ abbrev pub match_options : List (List ℕ)
 match_options =
     codes "white" ∷ (codes "black" ∷ (codes "type" ∷ (codes "depth" ∷
     (codes "time" ∷ (codes "margin" ∷ (codes "plies" ∷ (codes "repetition" ∷
-    (codes "patience" ∷ (codes "quiet" ∷ [])))))))))
+    (codes "patience" ∷ (codes "quiet" ∷ (codes "from" ∷ []))))))))))
 
--- their values: the texts of the two programs, and what is chosen of the others
-abbrev pub match_values : List ℕ → List ℕ → Choices → List (Option (List ℕ))
-match_values white black choices =
+-- their values: the texts of the two programs, what is chosen of the others, and whether the match
+-- begins with a game that is given
+abbrev pub match_values : List ℕ → List ℕ → Choices → Option (List ℕ) → List (Option (List ℕ))
+match_values white black choices from =
     Some white ∷ (Some black ∷ (choices.game_type ∷ (choices.depth ∷
     (choices.time ∷ (choices.margin ∷ (choices.plies ∷ (choices.repetition ∷
-    (choices.patience ∷ (choices.quiet ∷ [])))))))))
+    (choices.patience ∷ (choices.quiet ∷ (from ∷ []))))))))))
 
 -- what is chosen by such values
 abbrev pub match_choices : List (Option (List ℕ)) → Choices
@@ -148,20 +149,30 @@ match_choices values = record {
   quiet = value_at values 9;
 }
 
+-- What a match is asked for by: its setup, and whether it begins with a game that is given, by 1.
+-- Then no type is chosen, since the match is of the type of this game.
+pub record IsMatchOf (choices : Choices) (from_text : Option (List ℕ)) (setup : Setup)
+    (from : Bool) : Type 0 where
+  pub from_is : IsRuleOf from_text from
+  pub untyped : IsTrue from → choices.game_type ≡ None
+  pub setup_is : IsSetupOf choices setup
+
 -- `match` and its options, of which the programs of white and of black are required
-pub record AreMatchWords (words : List (String Global)) (setup : Setup) : Type 0 where
+pub record AreMatchWords (words : List (String Global)) (setup : Setup) (from : Bool)
+    : Type 0 where
   pub white : List ℕ
   pub black : List ℕ
   pub choices : Choices
+  pub from_text : Option (List ℕ)
   pub give : Gives (map string_bytes words) (codes "match") match_options
-      (match_values white black choices)
+      (match_values white black choices from_text)
   pub white_is : IsProgram white
   pub black_is : IsProgram black
-  pub setup_is : IsSetupOf choices setup
+  pub match_is : IsMatchOf choices from_text setup from
 
 -- the words ask for a match by this setup, and for this care of its engines
-abbrev pub AskForMatchCare : List (String Global) → Setup → Care → Type 0
-AskForMatchCare words setup care = (w : AreMatchWords words setup)
+abbrev pub AskForMatchCare : List (String Global) → Setup → Bool → Care → Type 0
+AskForMatchCare words setup from care = (w : AreMatchWords words setup from)
     × IsCareOf w.choices.patience w.choices.quiet setup.level care
 
 -- The words ask for a match of these two programs: the words of white's program and of black's, the
@@ -172,7 +183,8 @@ pub record AskForPrograms (words : List (String Global))
   pub white_text : List ℕ
   pub black_text : List ℕ
   pub choices : Choices
+  pub from_text : Option (List ℕ)
   pub give : Gives (map string_bytes words) (codes "match") match_options
-      (match_values white_text black_text choices)
+      (match_values white_text black_text choices from_text)
   pub white_is : white ≡ between_spaces white_text
   pub black_is : black ≡ between_spaces black_text

@@ -61,8 +61,12 @@ pub enum Asked {
     Solve(u32),
     /// A check of such a proof.
     Verify,
-    /// A match of the two programs that the words name, played so.
-    Match(Setup),
+    /// A match of the two programs that the words name, played so, from the opening or from a game
+    /// that is given. Then it is of the type of this game.
+    Match {
+        setup: Setup,
+        from: bool,
+    },
     /// A cup of the programs that the words name, each game played so.
     Cup(Setup),
     /// The move of a position that was made most often in played games.
@@ -163,7 +167,11 @@ fn grow(alloc: Global, words: &[String]) -> Result<Option<Asked>, AllocError>
 fn matched(alloc: Global, words: &[String]) -> Result<Option<Asked>, AllocError>
     ensures { IfOk result (Finds words.now Name.Match) }
 {
-    Ok(match_of(alloc, words)?.map(Asked::Match))
+    let found = match_of(alloc, words)?;
+    Ok(found.map(|one| Asked::Match {
+        setup: one.setup,
+        from: one.from,
+    }))
 }
 
 /// A cup is asked for with its programs.
@@ -232,7 +240,7 @@ fn asked_care(alloc: Global, words: &[String], asked: Asked) -> Result<Care, All
     ensures care { IfOk result (CaresFor words.now asked) }
 {
     match asked {
-        Asked::Match(setup) => match_care(alloc, words, setup),
+        Asked::Match { setup, from } => match_care(alloc, words, setup, from),
         Asked::Cup(setup) => cup_care(alloc, words, setup),
         Asked::Audit { .. } => audit_care(alloc, words),
         _ => Ok(Care {

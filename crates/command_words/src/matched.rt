@@ -3,9 +3,11 @@ ghost use Rattle.std.specs.Prelude.{
   ◌≡◌,
   ◌<◌,
   ◌↔◌,
+  Bool,
   Some,
   length,
   map,
+  option_map,
   string_bytes,
   IfOk,
   IfSome,
@@ -17,6 +19,7 @@ ghost use Rattle.command_words.specs.Matches.{
   AreMatchWords,
   AskForMatchCare,
   AskForPrograms,
+  IsMatchOf,
   IsProgram,
   between_spaces,
   choices_of,
@@ -25,13 +28,13 @@ ghost use Rattle.command_words.specs.Matches.{
 
 use crate::care::{Care, care_at};
 use crate::program::{begins_words, words_of};
-use crate::setup::{ChoiceTexts, setup_of};
+use crate::setup::{ChoiceTexts, rule_of, setup_of};
 use match_core::Setup;
 use option_words::{GivenOptions, options_of};
 use std::alloc::{AllocError, Global};
 
 /// The options of a match, in the order in which their values are asked for.
-const OPTIONS: [&str; 10] = [
+const OPTIONS: [&str; 11] = [
     "white",
     "black",
     "type",
@@ -42,6 +45,7 @@ const OPTIONS: [&str; 10] = [
     "repetition",
     "patience",
     "quiet",
+    "from",
 ];
 
 /// Whether a text is a program and its words.
@@ -67,12 +71,38 @@ fn choices_in<'a>(given: &GivenOptions<'a>) -> ChoiceTexts<'a>
     }
 }
 
+/// How a match is asked for.
+#[derive(Clone, Copy)]
+pub(crate) struct MatchAsked {
+    pub(crate) setup: Setup,
+    /// Whether it begins with a game that is given, in place of the opening.
+    pub(crate) from: bool,
+}
+
+/// How a match is asked for by the texts of its options that have a default. None where one of them
+/// is none of its option, and where a type is given for a match whose game is given.
+fn match_in(texts: ChoiceTexts<'_>, from: Option<&str>) -> Option<MatchAsked>
+    ensures found { IfSome result (λ m. IsMatchOf (choices_of texts.entry)
+        (option_map (λ t. t.now) from.entry) m.setup m.from) }
+    ensures only { (s : AnySetup) (f : Bool) → IsMatchOf (choices_of texts.entry)
+        (option_map (λ t. t.now) from.entry) s f
+        → result ≡ Some (record { setup = s; from = f }) }
+{
+    let from = rule_of(from)?;
+    if from && texts.game_type.is_some() {
+        return None;
+    }
+    let setup = setup_of(texts)?;
+    Some(MatchAsked { setup, from })
+}
+
 /// How the match is played that the words ask for: `match` and its options, of which the programs
 /// of white and of black are required. None where they ask for none; an `AllocError` where memory
 /// runs out before that is known.
-pub(crate) fn match_of(alloc: Global, words: &[String]) -> Result<Option<Setup>, AllocError>
-    ensures found { IfOk result (λ o. IfSome o (λ s. AreMatchWords words.now s)) }
-    ensures only { IfOk result (λ o. (s : AnySetup) → AreMatchWords words.now s → o ≡ Some s) }
+pub(crate) fn match_of(alloc: Global, words: &[String]) -> Result<Option<MatchAsked>, AllocError>
+    ensures found { IfOk result (λ o. IfSome o (λ m. AreMatchWords words.now m.setup m.from)) }
+    ensures only { IfOk result (λ o. (s : AnySetup) (f : Bool) → AreMatchWords words.now s f
+        → o ≡ Some (record { setup = s; from = f })) }
 {
     let Some(given) = options_of(alloc, words, "match", &OPTIONS)? else {
         return Ok(None);
@@ -89,15 +119,20 @@ pub(crate) fn match_of(alloc: Global, words: &[String]) -> Result<Option<Setup>,
     if !is_program(black) {
         return Ok(None);
     }
-    Ok(setup_of(choices_in(&given)))
+    Ok(match_in(choices_in(&given), given.value(10)))
 }
 
 /// The care for its engines that the words of a match ask for. An `AllocError` where memory runs
 /// out.
-pub(crate) fn match_care(alloc: Global, words: &[String], setup: Setup) -> Result<Care, AllocError>
-    requires words { AreMatchWords words.now setup }
+pub(crate) fn match_care(
+    alloc: Global,
+    words: &[String],
+    setup: Setup,
+    from: bool,
+) -> Result<Care, AllocError>
+    requires words { AreMatchWords words.now setup from }
     requires setup { IsSetup setup }
-    ensures { IfOk result (λ care. AskForMatchCare words.now setup care) }
+    ensures { IfOk result (λ care. AskForMatchCare words.now setup from care) }
 {
     let Some(given) = options_of(alloc, words, "match", &OPTIONS)? else {
         unreachable!();
@@ -129,7 +164,7 @@ fn programs_in(alloc: Global, white: &str, black: &str) -> Result<Programs, Allo
 /// The programs of the match that the words ask for: for each side the words that its option gives,
 /// separated by single spaces, in order.
 pub fn programs_of(alloc: Global, words: &[String]) -> Result<Programs, AllocError>
-    requires { (setup : AnySetup) × AreMatchWords words.now setup }
+    requires { (setup : AnySetup) × (from : Bool) × AreMatchWords words.now setup from }
     ensures white { IfOk result (λ p. 0 < length p.white.items) }
     ensures black { IfOk result (λ p. 0 < length p.black.items) }
     ensures programs { IfOk result (λ p. AskForPrograms words.now (map string_bytes p.white.items)

@@ -30,8 +30,8 @@ pub(crate) fn number_or(text: Option<&str>, least: u64, most: u64, default: u64)
     }
 }
 
-/// Whether the rule of third repetition is switched on: by the text `1`, and neither by `0` nor
-/// where there is no text. None at any other text.
+/// Whether something is switched on, as the rule of third repetition: by the text `1`, and neither
+/// by `0` nor where there is no text. None at any other text.
 pub(crate) fn rule_of(text: Option<&str>) -> Option<bool>
     ensures found { IfSome result (λ r. IsRuleOf (option_map (λ t. t.now) text.entry) r) }
     ensures only { (r : Bool) → IsRuleOf (option_map (λ t. t.now) text.entry) r → result ≡ Some r }

@@ -9,6 +9,7 @@ use Rattle.command_runs.specs.Answered.{WritesAs}
 use Rattle.command_runs.specs.declared.status.Status.{Status}
 use Rattle.command_runs.specs.declared.status.Status.TheVariants.{Done}
 use Rattle.match_core.specs.declared.answers.Setup.{Setup}
+use Rattle.match_core.specs.Setups.{setup_plain}
 use Rattle.match_core.specs.Standing.{Standing}
 use Rattle.cup_core.specs.declared.pairing.Pairing.{Pairing}
 use Rattle.cup_core.specs.declared.standing.Standing.{Standing as Place}
@@ -58,7 +59,7 @@ of-setup setup [] (new ∷ news) ends ran = absurd ran
 of-setup setup (old ∷ olds) [] ends ran = absurd ran
 of-setup setup (old ∷ olds) (new ∷ news) [] ran = absurd ran
 of-setup setup (old ∷ olds) (new ∷ news) (t ∷ ends) ran =
-    All-cons (IsOf setup) new news (λ u e. let same : t ≡ u = cc in subst (λ x. x.setup ≡ setup) same ran.1.links.same) (of-setup setup olds news ends ran.3)
+    All-cons (IsOf setup) new news (λ u e. let same : t ≡ u = cc in subst (λ x. x.setup ≡ setup_plain setup) same ran.1.links.same) (of-setup setup olds news ends ran.3)
 
 pub of-setup-all : (setup : Setup) (olds news : List Job) → AllZip IsPlayed olds news → All (IsReady setup) olds → All (IsOf setup) news
 of-setup-all setup olds news all ready = of-setup setup olds news (ends_of news) (ran-all setup olds news all ready)

@@ -10,6 +10,7 @@ use Rattle.hive_model.specs.declared.pieces.Colour.TheVariants.{White, Black}
 use Rattle.io_edge.specs.Outside.{Told, ToldLists, Rose, behind}
 use Rattle.io_edge.specs.Starts.{Engines}
 use Rattle.match_core.specs.declared.answers.Setup.{Setup}
+use Rattle.match_core.specs.Setups.{setup_plain}
 use Rattle.match_core.specs.declared.answers.Verdict.{Verdict}
 use Rattle.match_core.specs.Standing.{Standing}
 use Rattle.match_core.specs.Feeds.{IsFront}
@@ -91,8 +92,8 @@ game-played setup old new t told r =
       moves = f.moves;
       verdict = verdict-of _ t.verdict old.white_link new.white_link old.black_link new.black_link r.in_time (r.links.verdict white black told.white.rest told.black.rest);
       sent = record {
-        white_got = got-front old.white_link.written new.white_link.written (sent_in setup white black White) told.white.written f.to_white;
-        black_got = got-front old.black_link.written new.black_link.written (sent_in setup white black Black) told.black.written f.to_black;
+        white_got = got-front old.white_link.written new.white_link.written (sent_in (setup_plain setup) white black White) told.white.written f.to_white;
+        black_got = got-front old.black_link.written new.black_link.written (sent_in (setup_plain setup) white black Black) told.black.written f.to_black;
       };
       whole = λ e.
           let none = neither (has_failed new.white_link) (has_failed new.black_link) e in
@@ -101,8 +102,8 @@ game-played setup old new t told r =
             moves = m.moves;
             verdict = m.verdict;
             sent = record {
-              white_got = got-all old.white_link.written new.white_link.written (sent_in setup white black White) told.white.written m.to_white;
-              black_got = got-all old.black_link.written new.black_link.written (sent_in setup white black Black) told.black.written m.to_black;
+              white_got = got-all old.white_link.written new.white_link.written (sent_in (setup_plain setup) white black White) told.white.written m.to_white;
+              black_got = got-all old.black_link.written new.black_link.written (sent_in (setup_plain setup) white black Black) told.black.written m.to_black;
             };
           };
     }
@@ -201,8 +202,8 @@ all-wrote setup (old ∷ olds) (new ∷ news) (t ∷ ends) ran told =
     let white = bytes_of old.white_link.rest in
     let black = bytes_of old.black_link.rest in
     let f = ran.1.links.front white black told.0.white.rest told.0.black.rest in (
-      got-told old.white_link.written new.white_link.written (sent_in setup white black White) told.0.white.written f.to_white,
-      (got-told old.black_link.written new.black_link.written (sent_in setup white black Black) told.0.black.written f.to_black, all-wrote setup olds news ends ran.3 told.1),
+      got-told old.white_link.written new.white_link.written (sent_in (setup_plain setup) white black White) told.0.white.written f.to_white,
+      (got-told old.black_link.written new.black_link.written (sent_in (setup_plain setup) white black Black) told.0.black.written f.to_black, all-wrote setup olds news ends ran.3 told.1),
     )
 
 -- What was counted

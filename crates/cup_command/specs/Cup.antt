@@ -8,6 +8,7 @@ use Rattle.hive_model.specs.Lists.{IsOn}
 use Rattle.command_runs.specs.declared.status.Status.{Status}
 use Rattle.command_runs.specs.declared.status.Status.TheVariants.{Done, Refused, Usage, ReadFault, WriteFault, SpawnFault, BadInput, Memory, InputFull}
 use Rattle.match_core.specs.declared.answers.Setup.{Setup}
+use Rattle.match_core.specs.Setups.{setup_plain}
 use Rattle.match_core.specs.declared.answers.Verdict.{Verdict}
 use Rattle.match_core.specs.Standing.{Standing}
 use Rattle.match_core.specs.Feeds.{IsFront}
@@ -77,18 +78,22 @@ exceptions games = sum_by (λ g. if g.excepted then 1 else 0) games
 
 -- moves, verdict and bytes sent are those of the match of the two programs
 pub record IsTheirs (setup : Setup) (t : Standing) (game : Heard) : Type 0 where
-  pub moves : t.moves ≡ (end_of setup game.white_says game.black_says).moves
-  pub verdict : t.verdict ≡ (end_of setup game.white_says game.black_says).verdict
-  pub sent : AreSent setup game.white_says game.black_says game.white_got game.black_got
+  pub moves : t.moves ≡ (end_of (setup_plain setup) game.white_says game.black_says).moves
+  pub verdict : t.verdict ≡ (end_of (setup_plain setup) game.white_says game.black_says).verdict
+  pub sent : AreSent (setup_plain setup) game.white_says game.black_says
+      game.white_got game.black_got
 
 -- a game was played: its moves and the bytes sent are the first ones of the match of its two
 -- programs, and its verdict is that of the match, or a side broke; in a game that is not excepted
 -- all are those of the match
 pub record IsGame (setup : Setup) (t : Standing) (game : Heard) : Type 0 where
-  pub moves : IsFront t.moves (end_of setup game.white_says game.black_says).moves
+  pub moves : IsFront t.moves
+      (end_of (setup_plain setup) game.white_says game.black_says).moves
   pub verdict :
-      (t.verdict ≡ (end_of setup game.white_says game.black_says).verdict) ⊎ IsBroke t.verdict
-  pub sent : AreFronts setup game.white_says game.black_says game.white_got game.black_got
+      (t.verdict ≡ (end_of (setup_plain setup) game.white_says game.black_says).verdict)
+      ⊎ IsBroke t.verdict
+  pub sent : AreFronts (setup_plain setup) game.white_says game.black_says
+      game.white_got game.black_got
   pub whole : game.excepted ≡ false → IsTheirs setup t game
 
 -- where it is told after the run what was sent, it gained just these
@@ -118,10 +123,10 @@ pub record PlayedBy
 -- a game was played by this setup to a verdict, which is not that an answer was late: what happened
 -- in it answers the acts that were to come
 pub record IsEnded (setup : Setup) (t : Standing) : Type 0 where
-  pub same : t.setup ≡ setup
+  pub same : t.setup ≡ setup_plain setup
   pub judged : IsJudged t
   pub in_time : ¬ IsLate t.verdict
-  pub course : HasCourse setup t
+  pub course : HasCourse (setup_plain setup) t
 
 -- all games of a cup were played to these ends, over programs that were started in their order;
 -- where a side broke, a program was counted that had failed

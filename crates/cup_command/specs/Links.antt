@@ -4,6 +4,7 @@ use Rattle.std.specs.List.{flat_map, sum_by}
 use Rattle.io_edge.specs.Outside.{ToldLists, Starts, Collects, one_more}
 use Rattle.io_edge.specs.Starts.{Engines}
 use Rattle.match_core.specs.declared.answers.Setup.{Setup}
+use Rattle.match_core.specs.Setups.{setup_plain}
 use Rattle.match_core.specs.Standing.{Standing}
 use Rattle.cup_core.specs.declared.pairing.Pairing.{Pairing}
 use Rattle.match_runner.specs.Wires.{IsFresh, Wire}
@@ -87,7 +88,7 @@ pub record GivesUp
 
 -- the game was not played, or it was played by this setup
 abbrev pub IsOf : Setup → Job → Type 0
-IsOf setup job = (t : Standing) → job.referee ≡ Some t → t.setup ≡ setup
+IsOf setup job = (t : Standing) → job.referee ≡ Some t → t.setup ≡ setup_plain setup
 
 -- the lines of a game, where it was played
 abbrev pub ended_text : Setup → Pairing → Option Standing → List ℕ

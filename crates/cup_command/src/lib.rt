@@ -9,6 +9,3 @@ mod texts;
 
 pub use laws::cups_are_done;
 pub use playing::play_cup;
-
-#[cfg(test)]
-mod tests;

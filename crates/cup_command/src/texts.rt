@@ -4,6 +4,7 @@ ghost use Rattle.std.specs.List.{All, flat_map, zip};
 ghost use Rattle.cup_core.specs.Cup.{pairings};
 ghost use Rattle.cup_core.specs.declared.standing.Standing.{Standing as AnyPlace};
 ghost use Rattle.cup_games.specs.Played.{AreStandingsOf, HasVerdict, pairing};
+ghost use Rattle.match_core.specs.Setups.{setup_plain};
 ghost use Rattle.match_command.specs.Texts.{shown};
 ghost use Rattle.cup_command.specs.Links.{IsOf, ended_text, jobs_text};
 ghost use Rattle.cup_command.specs.Texts.{
@@ -41,7 +42,7 @@ fn write_moves<G: Game + Drop>(
     game: Pairing,
     referee: &Referee<G>,
 ) -> Result<(), AllocError>
-    requires { referee.now.setup ≡ setup }
+    requires { referee.now.setup ≡ setup_plain setup }
     ensures { OnOk result (out.new ≡ out.old ++ moves_line setup game referee.now) }
 {
     out.push_all(b"game ")?;

@@ -8,7 +8,7 @@ use Rattle.hive_model.specs.declared.places.Move.{Move}
 use Rattle.hive_model.specs.Legal.{is_over_state}
 use Rattle.hive_model.specs.Courses.{is_listed}
 use Rattle.move_text.specs.declared.faults.MoveFault.{MoveFault}
-use Rattle.match_core.specs.declared.answers.Setup.{Setup}
+use Rattle.match_core.specs.Setups.{FullSetup}
 use Rattle.match_core.specs.declared.answers.Level.{Level}
 use Rattle.match_core.specs.declared.answers.Level.TheVariants.{Depth, Time}
 use Rattle.match_core.specs.declared.answers.Task.{Task}
@@ -78,7 +78,7 @@ ends_reply : (s : Standing) (job : Task) (side : Colour) → InTime s → InTime
 ends_reply s Greet White t = record { depth = t.depth; place = tt; verdict = t.verdict }
 ends_reply s Greet Black t = record { depth = t.depth; place = tt; verdict = t.verdict }
 ends_reply s Begin White t = record { depth = t.depth; place = tt; verdict = t.verdict }
-ends_reply s Begin Black t = asks s t
+ends_reply s Begin Black t = decides s t
 ends_reply s Ask side t = answers_as s s.setup.level t.depth t
 ends_reply s (Tell m) White t = record { depth = t.depth; place = tt; verdict = t.verdict }
 ends_reply s (Tell m) Black t = decides s t
@@ -118,16 +118,16 @@ stays_on : (hs : List Happening) (s : Standing) → InTime s → InTime (after_a
 stays_on [] s t = t
 stays_on (h ∷ hs) s t = stays_on hs (next s h) (stays s h t)
 
-starts : (setup : Setup) → IsDepth setup.level → InTime (start setup)
+starts : (setup : FullSetup) → IsDepth setup.level → InTime (start setup)
 starts setup d = record { depth = d; place = tt; verdict = λ x. x }
 
-comes : (setup : Setup) (s : Standing) (w0 w b0 b : Side) (r0 r : Watch) → IsDepth setup.level → Run setup s w0 w b0 b r0 r → InTime s
+comes : (setup : FullSetup) (s : Standing) (w0 w b0 b : Side) (r0 r : Watch) → IsDepth setup.level → Run setup s w0 w b0 b r0 r → InTime s
 comes setup s w0 w b0 b r0 r d run = subst InTime (sym run.1.here) (stays_on run.0 (start setup) (starts setup d))
 
-breaks : (side : Colour) (setup : Setup) (t : Standing) (w0 w b0 b : Side) (r0 r : Watch) → IsDepth setup.level → Cut side setup t w0 w b0 b r0 r → InTime t
+breaks : (side : Colour) (setup : FullSetup) (t : Standing) (w0 w b0 b : Side) (r0 r : Watch) → IsDepth setup.level → Cut side setup t w0 w b0 b r0 r → InTime t
 breaks side setup t w0 w b0 b r0 r d cut = subst InTime (sym cut.4.next_is) (stays cut.0 Broke (comes setup cut.0 w0 cut.1 b0 cut.2 r0 r d cut.3))
 
 -- a match to a depth that was run never ends by a late answer
-pub never-late : (setup : Setup) (t : Standing) (w0 w b0 b : Side) (r0 r : Watch) (white black : Type 0) → IsDepth setup.level → Ran setup t w0 w b0 b r0 r white black → IsLate t.verdict → ⊥
+pub never-late : (setup : FullSetup) (t : Standing) (w0 w b0 b : Side) (r0 r : Watch) (white black : Type 0) → IsDepth setup.level → Ran setup t w0 w b0 b r0 r white black → IsLate t.verdict → ⊥
 never-late setup t w0 w b0 b r0 r white black d ran =
     (by_end setup t w0 w b0 b r0 r (InTime t) ran (λ whole. comes setup t w0 w b0 b r0 r d whole.0) (λ side cut. breaks side setup t w0 w b0 b r0 r d cut)).verdict

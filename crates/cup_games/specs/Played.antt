@@ -3,6 +3,7 @@ use Rattle.std.specs.Prelude.{◌≡◌, ◌≢◌, ◌⊎◌, ℕ, List, map, O
 use Rattle.match_core.specs.declared.answers.Level.{Level}
 use Rattle.match_core.specs.declared.answers.Level.TheVariants.{Depth, Time}
 use Rattle.match_core.specs.declared.answers.Setup.{Setup}
+use Rattle.match_core.specs.Setups.{setup_plain}
 use Rattle.match_core.specs.declared.answers.Verdict.{Verdict}
 use Rattle.match_core.specs.Keeps.{IsSetup}
 use Rattle.match_core.specs.Standing.{Standing}
@@ -47,7 +48,7 @@ pub record IsJob (white black : ℕ) (setup : Setup) : Type 0 where
 -- the match of these two links was run by the referee, and its verdict is never a late answer
 pub record IsRefereed (setup : Setup) (r : Standing)
     (white0 white black0 black : Wire) : Type 0 where
-  pub links : RanLinks setup r white0 white black0 black
+  pub links : RanLinks (setup_plain setup) r white0 white black0 black
   pub in_time : ¬ IsLate r.verdict
 
 -- the same engines, and the same setup

@@ -10,6 +10,3 @@ pub use gate::{CupGate, FreeCupGate};
 pub use job::CupJob;
 pub use ranking::standings;
 pub use run::run_cup;
-
-#[cfg(test)]
-mod tests;

@@ -1,6 +1,6 @@
 -- How a run ends, by what is asked for.
-use Rattle.std.proofs.Common.{◌≡◌, ◌+◌, ◌∙◌, ℕ, List, length, map, ap, sym, refl, subst, Some, inl, inr, String, Global, Bool}
-use Rattle.io_edge.specs.Outside.{ToldLists}
+use Rattle.std.proofs.Common.{◌≡◌, ◌+◌, ◌∙◌, ℕ, List, length, map, ap, sym, refl, subst, arith, Some, inl, inr, String, Global, Bool, true, false}
+use Rattle.io_edge.specs.Outside.{HasCause, Told, ToldLists}
 use Rattle.io_edge.specs.Starts.{Engines}
 use Rattle.hive_model.specs.declared.answers.Timed.{Timed}
 use Rattle.uhp_session.specs.Searches.{TakesNoTime, Times}
@@ -8,7 +8,7 @@ use Rattle.hive_cli.specs.ServiceRun.{EndsAs}
 use Rattle.hive_cli.specs.Session.{session}
 use Rattle.hive_cli.specs.Replay.{replays}
 use Rattle.count_command.specs.Count.{CountRun}
-use Rattle.hive_cli.specs.Run.{RunOf, StartsAudited, UsesSpawner, World, audit_in, means_in, plan_of}
+use Rattle.hive_cli.specs.Run.{RunOf, PlaysMatch, StartsAudited, UsesSpawner, World, audit_in, match_in, plan_of}
 use Rattle.command_words.specs.Audits.{AreAuditWords}
 use Rattle.command_words.specs.Cups.{AreCupWords, AskForEngines, engine_of, program_texts}
 use Rattle.command_words.specs.Matches.{AreMatchWords, AskForPrograms, IsLevelOf, between_spaces}
@@ -20,10 +20,16 @@ use Rattle.std.proofs.lemmas.Option.{same_Some}
 use Rattle.command_words.specs.Words.{Words}
 use Rattle.cup_command.proofs.Early.{early-none}
 use Rattle.cup_command.specs.Cup.{CupRun, scene as cup_scene}
-use Rattle.match_command.specs.Match.{MatchRun, MatchStarts, NoneIsOpen, scene as match_scene}
+use Rattle.match_command.specs.Match.{MatchRun, MatchStarts, NoneIsOpen, Scene as MatchScene}
+use Rattle.match_command.specs.Reads.{ReadMatchRun, ReadScene, read_scene, typed}
 use Rattle.match_core.specs.declared.answers.Setup.{Setup}
+use Rattle.match_core.specs.Setups.{FullSetup, setup_from, setup_plain}
+use Rattle.command_runs.specs.Answered.{TellsNone}
+use Rattle.command_runs.specs.declared.no_game.NoGame.{NoGame}
+use Rattle.command_runs.specs.declared.no_game.NoGame.TheVariants.{Bad, ReadFault as NoRead, InputFull as TooMuch, Memory as NoMemory}
+use Rattle.command_runs.proofs.WrittenLemmas.{ends_so}
 use Rattle.command_runs.specs.declared.status.Status.{Status}
-use Rattle.command_runs.specs.declared.status.Status.TheVariants.{Usage, SpawnFault, Memory}
+use Rattle.command_runs.specs.declared.status.Status.TheVariants.{Usage, ReadFault, SpawnFault, BadInput, Memory}
 use Rattle.command_words.specs.declared.asked.Asked.{Asked}
 use Rattle.command_words.specs.declared.asked.Asked.TheVariants.{Session, Replay, Count, Grow, Certify, Check, Solve, Verify, Match, Cup, Book, Migrate, Audit}
 use Rattle.audit_command.specs.Audit.{AuditRun}
@@ -39,6 +45,18 @@ use Rattle.book_command.proofs.StartLaws.{unread}
 use Rattle.command_runs.proofs.OneGameLemmas.{none_read}
 use Rattle.hive_cli.proofs.Progress.{no_memory}
 
+-- what tells that no game was read is no faulty command line
+none_usage : (none : NoGame) (status : Status) (w0 w : Told) → TellsNone none status w0 w → status ≡ Usage → ⊥
+none_usage (Bad text) status w0 w told e = ends_so text BadInput Usage status w0 w told (λ d. cc) (λ d. cc) e
+none_usage NoRead status w0 w (is, same) e = cc
+none_usage TooMuch status w0 w (is, same) e = cc
+none_usage NoMemory status w0 w (is, same) e = cc
+
+read_usage : (setup : Setup) (white black : List (List ℕ)) (status : Status) (before after : ReadScene) → ReadMatchRun setup white black status before after → status ≡ Usage → ⊥
+read_usage setup white black status before after (inl (game, begun)) e =
+    subst (λ s. MatchRun (setup_from (typed setup game.game_type) game.moves) s before.scene after.scene) e begun.played
+read_usage setup white black status before after (inr (none, read)) e = none_usage none status before.scene.written after.scene.written read.told e
+
 -- a run that is asked for is no faulty command line
 pub never_usage : (words : List (String Global)) (asked : Asked) (status : Status) (before after : World) → RunOf words asked status before after → status ≡ Usage → ⊥
 never_usage words Session status before after run e = subst (λ s. EndsAs session s before.scene after.scene) e run.ends
@@ -51,8 +69,10 @@ never_usage words (Solve plies) status before after (run, time) e = subst (λ s.
 never_usage words Verify status before after (run, time) e = subst (λ s. VerifyRun s before.scene.sides after.scene.sides) e run
 never_usage words Book status before after (run, time) e = subst (λ s. BookRun s before.scene.sides after.scene.sides) e run
 never_usage words Migrate status before after (run, time) e = subst (λ s. MigrateRun s before.scene.sides after.scene.sides) e run
-never_usage words (Match setup) status before after run e =
-    subst (λ s. MatchRun setup s (match_scene before.scene.sides.written (means_in before)) (match_scene after.scene.sides.written (means_in after))) e run.played
+never_usage words (Match setup false) status before after run e =
+    subst (λ s. MatchRun (setup_plain setup) s (match_in before).scene (match_in after).scene) e run.played.played
+never_usage words (Match setup true) status before after run e = let (white, black, asked, read) = run.played in
+    read_usage setup white black status (match_in before) (match_in after) read e
 never_usage words (Cup setup) status before after run e = let (engines, asked, played) = run.played in
     subst (λ s. CupRun engines setup s (cup_scene before.scene.sides.written before.engines) (cup_scene after.scene.sides.written after.engines)) e played
 never_usage words (Audit games seed plies game_type stop patient) status before after run e =
@@ -70,7 +90,7 @@ never_spawns words (Solve plies) status before after alone (run, time) e = subst
 never_spawns words Verify status before after alone (run, time) e = subst (λ s. VerifyRun s before.scene.sides after.scene.sides) e run
 never_spawns words Book status before after alone (run, time) e = subst (λ s. BookRun s before.scene.sides after.scene.sides) e run
 never_spawns words Migrate status before after alone (run, time) e = subst (λ s. MigrateRun s before.scene.sides after.scene.sides) e run
-never_spawns words (Match setup) status before after alone run e = absurd (alone tt)
+never_spawns words (Match setup from) status before after alone run e = absurd (alone tt)
 never_spawns words (Cup setup) status before after alone run e = absurd (alone tt)
 never_spawns words (Audit games seed plies game_type stop patient) status before after alone run e = absurd (alone tt)
 
@@ -85,23 +105,59 @@ none_open : (e : Engines) → NoneIsOpen e e
 none_open e coming later opened closed a b c d = ap (λ xs. length xs + length opened) (same_told e.to_come a b) ∙ ap (λ xs. length later + length xs) (same_told e.sent c d)
 
 -- the words of a match ask for the programs that its options give
-pub asks_programs : (words : List (String Global)) (setup : Setup) → AreMatchWords words setup → (white : List (List ℕ)) × (black : List (List ℕ)) × AskForPrograms words white black
-asks_programs words setup h = (
+pub asks_programs : (words : List (String Global)) (setup : Setup) (from : Bool) → AreMatchWords words setup from → (white : List (List ℕ)) × (black : List (List ℕ)) × AskForPrograms words white black
+asks_programs words setup from h = (
   between_spaces h.white,
   between_spaces h.black,
   record {
     white_text = h.white;
     black_text = h.black;
     choices = h.choices;
+    from_text = h.from_text;
     give = h.give;
     white_is = refl;
     black_is = refl;
   },
 )
 
--- where memory was wanting before a program was started, none was
-pub starved_starts : (words : List (String Global)) (setup : Setup) (engines : Engines) → AreMatchWords words setup → (white : List (List ℕ)) × (black : List (List ℕ)) × AskForPrograms words white black × MatchStarts Memory white black engines engines
-starved_starts words setup engines h = let (white, black, asked) = asks_programs words setup h in (white, black, asked, inr (inl refl))
+-- the same programs are asked for
+named : (words : List (String Global)) (white black ws bs : List (List ℕ)) → AskForPrograms words ws bs → white ≡ ws → black ≡ bs → AskForPrograms words white black
+named words white black ws bs asks w b = subst (λ x. AskForPrograms words x black) (sym w) (subst (λ x. AskForPrograms words ws x) (sym b) asks)
+
+-- a match that wanted memory before the input was read and before a program was started
+pub starved_plays : (words : List (String Global)) (setup : Setup) (from : Bool) (w : ReadScene) → AreMatchWords words setup from → PlaysMatch words setup from Memory w w
+starved_plays words setup false w h = let (white, black, asked) = asks_programs words setup false h in record {
+  played = refl;
+  programs = (white, black, asked, inr (inl refl));
+  unread = refl;
+}
+starved_plays words setup true w h = let (white, black, asked) = asks_programs words setup true h in (
+  white,
+  black,
+  asked,
+  inr (NoMemory, record { shown = λ input told. none_read input w.rest told; told = (refl, refl); still = refl }),
+)
+
+-- a match from the opening does not end by a read that has failed
+pub plain_reads : (setup : FullSetup) (status : Status) (before after : MatchScene) (n : ℕ) → MatchRun setup status before after → HasCause (status ≡ ReadFault) n n
+plain_reads setup status before after n run = record {
+  later = omega arith;
+  rose = λ e. absurd (subst (λ s. MatchRun setup s before after) e run);
+  same = λ no. refl;
+}
+
+-- the match that was played is the one that the words ask for
+pub plays_read : (words : List (String Global)) (setup : Setup) (from : Bool) (white black ws bs : List (List ℕ)) (status : Status) (before after : ReadScene) → from ≡ true → AskForPrograms words ws bs → white ≡ ws → black ≡ bs
+    → ReadMatchRun setup white black status before after → PlaysMatch words setup from status before after
+plays_read words setup from white black ws bs status before after is asks w b run = subst (λ f. PlaysMatch words setup f status before after) (sym is) (white, black, named words white black ws bs asks w b, run)
+
+pub plays_plain : (words : List (String Global)) (setup : Setup) (from : Bool) (white black ws bs : List (List ℕ)) (status : Status) (rest : Told) (before after : MatchScene) → from ≡ false → AskForPrograms words ws bs → white ≡ ws → black ≡ bs
+    → MatchRun (setup_plain setup) status before after → MatchStarts status white black before.means.engines after.means.engines → PlaysMatch words setup from status (read_scene rest before) (read_scene rest after)
+plays_plain words setup from white black ws bs status rest before after is asks w b run starts = subst (λ f. PlaysMatch words setup f status (read_scene rest before) (read_scene rest after)) (sym is) (record {
+  played = run;
+  programs = (white, black, named words white black ws bs asks w b, starts);
+  unread = refl;
+})
 
 -- the words of a cup ask for the engines that its option gives
 pub asks_engines : (words : List (String Global)) (setup : Setup) → AreCupWords words setup → (engines : List Engine) × AskForEngines words engines
@@ -118,13 +174,11 @@ level_is_depth (Some text) margin level (n, is, e) = subst IsDepth (sym e) tt
 pub cup_depth : (words : List (String Global)) (setup : Setup) → AreCupWords words setup → IsDepth setup.level
 cup_depth words setup h = level_is_depth h.options.depth h.setup_is.margin setup.level h.setup_is.level
 
--- a match that wanted memory before a program was started
-starved_match : (words : List (String Global)) (setup : Setup) (w : World) → AreMatchWords words setup → RunOf words (Match setup) Memory w w
-starved_match words setup w asked = record {
-  played = refl;
-  programs = starved_starts words setup w.engines asked;
+-- a match that wanted memory before anything was done
+starved_match : (words : List (String Global)) (setup : Setup) (from : Bool) (w : World) → AreMatchWords words setup from → RunOf words (Match setup from) Memory w w
+starved_match words setup from w asked = record {
+  played = starved_plays words setup from (match_in w) asked;
   closed = none_open w.engines;
-  unread = refl;
   timed = refl;
 }
 
@@ -162,7 +216,7 @@ starved_here words (Solve plies) w h = ((refl, λ input told. none_read input w.
 starved_here words Verify w h = (refl, no_time w.scene.times)
 starved_here words Book w h = ((refl, unread w.scene.sides.rest), no_time w.scene.times)
 starved_here words Migrate w h = (refl, no_time w.scene.times)
-starved_here words (Match setup) w h = starved_match words setup w h
+starved_here words (Match setup from) w h = starved_match words setup from w h
 starved_here words (Cup setup) w h = starved_cup words setup w h
 starved_here words (Audit g s n t r p) w h = starved_audit words g s n t r p w h
 
@@ -176,9 +230,9 @@ pub run_of : (words : List (String Global)) (did asked : Asked) (status : Status
 run_of words did asked status before after run e = subst (λ a. RunOf words a status before after) (same_Some _ _ e) run
 
 -- what is no match, cup or audit starts no program
-pub is_alone : (asked : Asked) → ((setup : Setup) → asked ≡ Match setup → ⊥) → ((setup : Setup) → asked ≡ Cup setup → ⊥)
+pub is_alone : (asked : Asked) → ((setup : Setup) (from : Bool) → asked ≡ Match setup from → ⊥) → ((setup : Setup) → asked ≡ Cup setup → ⊥)
     → ((games seed plies : ℕ) (game_type : Option GameType) (stop patient : Bool) → asked ≡ Audit games seed plies game_type stop patient → ⊥) → ¬ UsesSpawner asked
-is_alone (Match setup) no_match no_cup no_audit uses = no_match setup refl
+is_alone (Match setup from) no_match no_cup no_audit uses = no_match setup from refl
 is_alone (Cup setup) no_match no_cup no_audit uses = no_cup setup refl
 is_alone Session no_match no_cup no_audit uses = uses
 is_alone (Replay r) no_match no_cup no_audit uses = uses

@@ -1,6 +1,6 @@
 -- What a run does, by what its words ask for and by the status with which it ends. A new command
 -- has a case here and in `Words`.
-use Rattle.std.specs.Prelude.{◌≡◌, ℕ, Bool, List, Option}
+use Rattle.std.specs.Prelude.{◌≡◌, ℕ, Bool, true, false, List, Option}
 use Rattle.std.specs.declared.string.String.{String}
 use Rattle.std.specs.declared.alloc.Global.{Global}
 use Rattle.hive_model.specs.declared.pieces.GameType.{GameType}
@@ -25,7 +25,9 @@ use Rattle.uhp_session.specs.Searches.{TakesNoTime}
 use Rattle.win_commands.specs.Runs.{SolveRun, VerifyRun}
 use Rattle.io_edge.specs.Starts.{Engines}
 use Rattle.match_command.specs.Match.{MatchRun, MatchStarts, Means, NoneIsOpen, means, scene as match_scene}
+use Rattle.match_command.specs.Reads.{ReadMatchRun, ReadScene, read_scene}
 use Rattle.match_core.specs.declared.answers.Setup.{Setup}
+use Rattle.match_core.specs.Setups.{setup_plain}
 use Rattle.hive_cli.specs.Session.{SessionRun}
 use Rattle.hive_cli.specs.Replay.{ReplayRun}
 use Rattle.count_command.specs.Count.{CountRun}
@@ -60,17 +62,36 @@ StartsPrograms words status before after =
     (white : List (List ℕ)) × (black : List (List ℕ)) × AskForPrograms words white black
     × MatchStarts status white black before after
 
--- A match was played, told and ended with this status. The input was left alone, and no search was
--- answered.
-pub record PlayedMatch (words : List (String Global)) (setup : Setup) (status : Status)
-    (before after : World) : Type 0 where
-  pub played :
-      MatchRun setup status
-      (match_scene before.scene.sides.written (means_in before))
-      (match_scene after.scene.sides.written (means_in after))
-  pub programs : StartsPrograms words status before.engines after.engines
+-- what a match reads, writes and is played with
+abbrev pub match_in : World → ReadScene
+match_in w = read_scene w.scene.sides.rest (match_scene w.scene.sides.written (means_in w))
+
+-- A match was played from the opening, told and ended with this status. The input was left alone.
+pub record PlaysPlain (words : List (String Global)) (setup : Setup) (status : Status)
+    (before after : ReadScene) : Type 0 where
+  pub played : MatchRun (setup_plain setup) status before.scene after.scene
+  pub programs :
+      StartsPrograms words status before.scene.means.engines after.scene.means.engines
+  pub unread : after.rest ≡ before.rest
+
+-- A match of the programs that the words ask for was played from the game of the input, or there
+-- was none, and it ended with this status.
+abbrev pub PlaysRead : List (String Global) → Setup → Status → ReadScene → ReadScene → Type 0
+PlaysRead words setup status before after =
+    (white : List (List ℕ)) × (black : List (List ℕ)) × AskForPrograms words white black
+    × ReadMatchRun setup white black status before after
+
+-- the match that the words ask for, by whether it begins with a game that is given
+abbrev pub PlaysMatch : List (String Global) → Setup → Bool → Status → ReadScene → ReadScene
+    → Type 0
+PlaysMatch words setup false status before after = PlaysPlain words setup status before after
+PlaysMatch words setup true status before after = PlaysRead words setup status before after
+
+-- A match was played, told and ended with this status. No search was answered.
+pub record PlayedMatch (words : List (String Global)) (setup : Setup) (from : Bool)
+    (status : Status) (before after : World) : Type 0 where
+  pub played : PlaysMatch words setup from status (match_in before) (match_in after)
   pub closed : NoneIsOpen before.engines after.engines
-  pub unread : after.scene.sides.rest ≡ before.scene.sides.rest
   pub timed : after.scene.times.timed ≡ before.scene.times.timed
 
 -- no search for a time was answered, and the clock was left alone
@@ -142,7 +163,8 @@ RunOf words (Solve plies) status before after =
     SolveRun plies status before.scene.sides after.scene.sides × Untimed before after
 RunOf words Verify status before after =
     VerifyRun status before.scene.sides after.scene.sides × Untimed before after
-RunOf words (Match setup) status before after = PlayedMatch words setup status before after
+RunOf words (Match setup from) status before after =
+    PlayedMatch words setup from status before after
 RunOf words (Cup setup) status before after = PlayedCup words setup status before after
 RunOf words Book status before after =
     BookRun status before.scene.sides after.scene.sides × Untimed before after
@@ -154,12 +176,12 @@ RunOf words (Audit games seed plies game_type stop patient) status before after 
 -- a run that is asked for this may read the clock: that of a session, for its searches, and a match
 abbrev pub UsesClock : Asked → Type 0
 UsesClock Session = Unit {0}
-UsesClock (Match setup) = Unit {0}
+UsesClock (Match setup from) = Unit {0}
 UsesClock _ = ⊥
 
 -- a run that is asked for this may start programs: a match does, a cup, and an audit
 abbrev pub UsesSpawner : Asked → Type 0
-UsesSpawner (Match setup) = Unit {0}
+UsesSpawner (Match setup from) = Unit {0}
 UsesSpawner (Cup setup) = Unit {0}
 UsesSpawner (Audit games seed plies game_type stop patient) = Unit {0}
 UsesSpawner _ = ⊥

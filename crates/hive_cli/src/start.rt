@@ -10,20 +10,17 @@ ghost use Rattle.audit_core.specs.Keeps.{IsPlan};
 ghost use Rattle.audit_command.specs.Audit.{AuditRun, EndsAudit, scene as audit_scene};
 ghost use Rattle.cup_command.specs.Cup.{scene as cup_scene};
 ghost use Rattle.match_command.specs.Ends.{EndsRun};
-ghost use Rattle.match_command.specs.Match.{
-  MatchRun,
-  means,
-  scene as match_scene,
-};
+ghost use Rattle.match_command.specs.Match.{means, scene as match_scene};
+ghost use Rattle.match_command.specs.Reads.{read_scene};
 ghost use Rattle.match_core.specs.Keeps.{IsSetup};
 ghost use Rattle.command_runs.specs.Runs.{RunsAs, side_of};
 ghost use Rattle.uhp_session.specs.Searches.{times};
 ghost use Rattle.hive_cli.specs.Run.{
   Never,
   PlaysEngines,
+  PlaysMatch,
   RunOf,
   StartsAudited,
-  StartsPrograms,
   UsesClock,
   UsesSpawner,
   WithEngines,
@@ -48,7 +45,7 @@ use fast_game::FastGame;
 use grow_command::grow;
 use hive_model::{Game, TimedList};
 use io_edge::{Clock, Sink, Source, Spawner};
-use match_command::play_match;
+use match_command::{play_match, play_read_match};
 use match_core::Setup;
 use std::alloc::Global;
 use std::thread::Threads;
@@ -92,9 +89,10 @@ type Played = FastGame;
 /// is `Done` once one line was written, and else `BadInput`, as `count` is.
 ///
 /// The other commands are those of `grow_command`, `certificate_commands`, `win_commands`,
-/// `match_command`, `cup_command` and `audit_command`, and do what is said there. Where the starter
-/// tells what was started, the programs of a match, of a cup and of an audit are those that its
-/// words name.
+/// `match_command`, `cup_command` and `audit_command`, and do what is said there. With `--from 1` a
+/// match reads the game that it begins with, as `count` reads its game, before it starts a program;
+/// without it a match leaves the input alone. Where the starter tells what was started, the
+/// programs of a match, of a cup and of an audit are those that its words name.
 ///
 /// Every other list of words is `Usage`; nothing is read or written. Where its first word is that
 /// of a command that takes an option, it is `Memory` where memory runs out before that is known.
@@ -145,39 +143,40 @@ pub fn run<R: Threads + Sync, S: Source, K: Sink, C: Clock, P: Spawner>(
     }
 }
 
-/// Plays the match that the words ask for, by this setup.
-fn matched<K: Sink, C: Clock, P: Spawner, G: Game + Drop>(
+/// Plays the match that the words ask for, by this setup, from the opening or from the game of the
+/// input.
+fn matched<S: Source, K: Sink, C: Clock, P: Spawner, G: Game + Drop>(
     alloc: Global,
     words: &[String],
     setup: Setup,
+    from: bool,
+    input: &mut S,
     output: &mut K,
     clock: &mut C,
     spawner: &mut P,
 ) -> Status
-    requires words { AreMatchWords words.now setup }
+    requires words { AreMatchWords words.now setup from }
     requires setup { IsSetup setup }
-    ensures run { MatchRun setup result
-        (match_scene (K.written output.old)
-        (means (C.last clock.old) (C.readings clock.old) (P.engines spawner.old)))
-        (match_scene (K.written output.new)
-        (means (C.last clock.new) (C.readings clock.new) (P.engines spawner.new))) }
-    ensures programs { StartsPrograms words.now result (P.engines spawner.old)
-        (P.engines spawner.new) }
+    ensures run { PlaysMatch words.now setup from result
+        (read_scene (S.rest input.old) (match_scene (K.written output.old)
+        (means (C.last clock.old) (C.readings clock.old) (P.engines spawner.old))))
+        (read_scene (S.rest input.new) (match_scene (K.written output.new)
+        (means (C.last clock.new) (C.readings clock.new) (P.engines spawner.new)))) }
     ensures ends { EndsRun result (K.write_faults output.old) (K.write_faults output.new)
         (P.engines spawner.old) (P.engines spawner.new) }
+    ensures reads { HasCause (result ≡ Status.ReadFault) (S.read_faults input.old)
+        (S.read_faults input.new) }
 {
     let Ok(programs) = programs_of(alloc, words) else {
         return Status::Memory;
     };
-    play_match::<P, K, C, G>(
-        alloc,
-        programs.white.as_slice(),
-        programs.black.as_slice(),
-        setup,
-        output,
-        clock,
-        spawner,
-    )
+    let white = programs.white.as_slice();
+    let black = programs.black.as_slice();
+    if from {
+        play_read_match::<S, P, K, C, G>(alloc, white, black, setup, input, output, clock, spawner)
+    } else {
+        play_match::<P, K, C, G>(alloc, white, black, setup, output, clock, spawner)
+    }
 }
 
 /// Plays the cup that the words ask for, each game by this setup.
@@ -263,8 +262,10 @@ fn perform<R: Threads + Sync, S: Source, K: Sink, C: Clock, P: Spawner, G: Game 
     ensures spawner { ¬ UsesSpawner asked → spawner.new ≡ spawner.old }
 {
     match asked {
-        Asked::Match(setup) => Outcome {
-            status: matched::<K, C, P, G>(alloc, words, setup, output, clock, spawner),
+        Asked::Match { setup, from } => Outcome {
+            status: matched::<S, K, C, P, G>(
+                alloc, words, setup, from, input, output, clock, spawner,
+            ),
             timed,
         },
         Asked::Cup(setup) => Outcome {
@@ -333,7 +334,7 @@ fn perform_alone<R: Threads + Sync, S: Source, K: Sink, C: Clock, G: Game + Send
         Asked::Verify => verify::<S, K, G>(alloc, input, output),
         Asked::Book => book::<S, K, G>(alloc, input, output),
         Asked::Migrate => migrate::<S, K, G>(alloc, input, output),
-        Asked::Match(_) | Asked::Cup(_) | Asked::Audit { .. } => unreachable!(),
+        Asked::Match { .. } | Asked::Cup(_) | Asked::Audit { .. } => unreachable!(),
     };
     Outcome { status, timed }
 }

@@ -7,7 +7,7 @@ use Rattle.std.proofs.lemmas.Option.{same_Some}
 use Rattle.io_edge.specs.Outside.{Told, ToldLists, Rose, behind}
 use Rattle.io_edge.specs.Starts.{Engines}
 use Rattle.hive_model.specs.declared.pieces.Colour.TheVariants.{White, Black}
-use Rattle.match_core.specs.declared.answers.Setup.{Setup}
+use Rattle.match_core.specs.Setups.{FullSetup, setup_of}
 use Rattle.match_core.specs.declared.answers.Verdict.{Verdict}
 use Rattle.hive_model.specs.Lines.{lines}
 use Rattle.match_core.specs.Standing.{Happening, Standing, start}
@@ -53,25 +53,25 @@ gains_of (Some before) (Some after) w b x y claim (Some mid, (p, pe, pm), (q, qe
 from_none : (old new : Told) (bytes : List ℕ) → old ≡ Some [] → new ≡ behind old bytes → new ≡ Some bytes
 from_none old new bytes e f = f ∙ ap (λ o. behind o bytes) e
 
-parts_gained : (setup : Setup) (white black : List ℕ) (before after : ToldLists) (w0 w b0 b : Told) → ClosesTwo before after w b → w0 ≡ Some [] → b0 ≡ Some []
+parts_gained : (setup : FullSetup) (white black : List ℕ) (before after : ToldLists) (w0 w b0 b : Told) → ClosesTwo before after w b → w0 ≡ Some [] → b0 ≡ Some []
     → IsFrontSent w0 w (sent_in setup white black White) → IsFrontSent b0 b (sent_in setup white black Black) → Gains before after (AreFronts setup white black)
 parts_gained setup white black before after w0 w b0 b closes e f (x, xe, xf) (y, ye, yf) =
     gains_of before after w b x y (AreFronts setup white black) closes (from_none w0 w x e xe) (from_none b0 b y f ye) (record { white_got = xf; black_got = yf })
 
-all_gained : (setup : Setup) (white black : List ℕ) (before after : ToldLists) (w0 w b0 b : Told) → ClosesTwo before after w b → w0 ≡ Some [] → b0 ≡ Some []
+all_gained : (setup : FullSetup) (white black : List ℕ) (before after : ToldLists) (w0 w b0 b : Told) → ClosesTwo before after w b → w0 ≡ Some [] → b0 ≡ Some []
     → w ≡ behind w0 (sent_in setup white black White) → b ≡ behind b0 (sent_in setup white black Black) → Gains before after (AreSent setup white black)
 all_gained setup white black before after w0 w b0 b closes e f x y =
     gains_of before after w b (sent_in setup white black White) (sent_in setup white black Black) (AreSent setup white black) closes (from_none w0 w (sent_in setup white black White) e x) (from_none b0 b (sent_in setup white black Black) f y)
     (record { white_got = refl; black_got = refl })
 
-some_gained : (setup : Setup) (hs : List Happening) (before after : ToldLists) (w0 w b0 b : Told) → ClosesTwo before after w b → w0 ≡ Some [] → b0 ≡ Some []
+some_gained : (setup : FullSetup) (hs : List Happening) (before after : ToldLists) (w0 w b0 b : Told) → ClosesTwo before after w b → w0 ≡ Some [] → b0 ≡ Some []
     → w ≡ behind w0 (joined (sent (start setup) hs White)) → b ≡ behind b0 (joined (sent (start setup) hs Black)) → Gains before after (AreSentBy setup hs)
 some_gained setup hs before after w0 w b0 b closes e f x y =
     let to_white = joined (sent (start setup) hs White) in
     let to_black = joined (sent (start setup) hs Black) in
     gains_of before after w b to_white to_black (AreSentBy setup hs) closes (from_none w0 w to_white e x) (from_none b0 b to_black f y) (record { white_got = refl; black_got = refl })
 
-up_to : (setup : Setup) (t : Standing) (white black : List ℕ) (w0 w b0 b : Told) (before after : Means) → ClosesTwo before.engines.sent after.engines.sent w b → w0 ≡ Some [] → b0 ≡ Some []
+up_to : (setup : FullSetup) (t : Standing) (white black : List ℕ) (w0 w b0 b : Told) (before after : Means) → ClosesTwo before.engines.sent after.engines.sent w b → w0 ≡ Some [] → b0 ≡ Some []
     → IsUpToReplyBy setup (lines white) (lines black) t w0 w b0 b → IsUpToReply setup white black t before after
 up_to setup t white black w0 w b0 b before after closes e f m = record {
   hs = m.hs;
@@ -93,7 +93,7 @@ verdict_part full v w0 w b0 b before after white black (inr (inr (inr x))) = inr
 -- The match
 
 -- by the links' bytes
-played_by_links : (setup : Setup) (t : Standing) (w0 w b0 b : Wire) (r0 r : Watch) (before after : Engines) → RanLinks setup t w0 w b0 b
+played_by_links : (setup : FullSetup) (t : Standing) (w0 w b0 b : Wire) (r0 r : Watch) (before after : Engines) → RanLinks setup t w0 w b0 b
     → (HasFailed w0 w → Rose before.engine_faults after.engine_faults) → (HasFailed b0 b → Rose before.engine_faults after.engine_faults) → ClosesTwo before.sent after.sent w.written b.written
     → (white black : List ℕ) → w0.rest ≡ Some white → b0.rest ≡ Some black → w0.written ≡ Some [] → b0.written ≡ Some []
     → IsPlayedBy setup white black t (means r0.last r0.readings before) (means r.last r.readings after)
@@ -116,7 +116,7 @@ played_by_links setup t w0 w b0 b r0 r before after ran white_counted black_coun
 }
 
 -- the match that was run, once both links are closed
-pub played_over : (setup : Setup) (t : Standing) (w0 w b0 b : Wire) (r0 r : Watch) (before after : Engines) → IsFresh w0.reads w0.writes → IsFresh b0.reads b0.writes → RanOver setup t w0 w b0 b r0 r
+pub played_over : (setup : FullSetup) (t : Standing) (w0 w b0 b : Wire) (r0 r : Watch) (before after : Engines) → IsFresh w0.reads w0.writes → IsFresh b0.reads b0.writes → RanOver setup t w0 w b0 b r0 r
     → CountsEither (w.reads + w.writes) (b.reads + b.writes) before.engine_faults after.engine_faults → ClosesTwo before.sent after.sent w.written b.written
     → PlayedOver setup t w0 b0 (means r0.last r0.readings before) (means r.last r.readings after)
 played_over setup t w0 w b0 b r0 r before after wf bf ran counts closes =
@@ -136,7 +136,7 @@ played_over setup t w0 w b0 b r0 r before after wf bf ran counts closes =
     }
 
 -- the text tells the match that was played
-pub told_match : {X : Type 0} (o : Result (List ℕ) X) (setup : Setup) (t : Standing) (w b : Wire) (before after : Means) → IfOk o (λ text. text ≡ match_text setup t) → PlayedOver setup t w b before after
-    → IfOk o (λ text. (t : Standing) × (text ≡ match_text setup t) × PlayedOver setup t w b before after)
+pub told_match : {X : Type 0} (o : Result (List ℕ) X) (setup : FullSetup) (t : Standing) (w b : Wire) (before after : Means) → IfOk o (λ text. text ≡ match_text (setup_of setup) t) → PlayedOver setup t w b before after
+    → IfOk o (λ text. (t : Standing) × (text ≡ match_text (setup_of setup) t) × PlayedOver setup t w b before after)
 told_match (Ok text) setup t w b before after e p = (t, e, p)
 told_match (Err x) setup t w b before after e p = tt

@@ -4,14 +4,14 @@ use Rattle.io_edge.specs.Outside.{HasCause, Rose}
 use Rattle.command_runs.specs.Served.{NoFault}
 use Rattle.command_runs.specs.declared.status.Status.{Status}
 use Rattle.command_runs.specs.declared.status.Status.TheVariants.{Done, WriteFault, SpawnFault, Memory}
-use Rattle.match_core.specs.declared.answers.Setup.{Setup}
+use Rattle.match_core.specs.Setups.{FullSetup}
 use Rattle.match_command.specs.Match.{MatchRun, Scene}
 
 -- Where no write to the output failed and no start did, a match of two programs is done, unless
 -- memory is wanting.
 abbrev pub MatchesAreDone : Type 0
 MatchesAreDone =
-    (setup : Setup) (status : Status) (before after : Scene)
+    (setup : FullSetup) (status : Status) (before after : Scene)
     → MatchRun setup status before after
     → NoFault (status ≡ WriteFault)
     → HasCause (status ≡ SpawnFault) before.means.engines.start_faults

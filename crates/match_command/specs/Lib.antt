@@ -1,5 +1,6 @@
 pub mod Texts
 pub mod Match
 pub mod Ends
+pub mod Reads
 pub mod Wires
 pub mod Laws

@@ -1,5 +1,5 @@
 -- What a match of two programs writes, plays, sends and counts, by the status with which it ends.
-use Rattle.std.specs.Prelude.{◌≡◌, ◌⊎◌, ℕ, ◌+◌, ◌*◌, ◌<◌, ◌≤◌, List, [], ◌∷◌, ◌++◌, length, take, Option, Some, None}
+use Rattle.std.specs.Prelude.{◌≡◌, ◌⊎◌, ℕ, ◌+◌, ◌-◌, ◌*◌, ◌<◌, ◌≤◌, List, [], ◌∷◌, ◌++◌, length, take, Option, Some, None}
 use Rattle.io_edge.specs.Outside.{Told, ToldLists, Collects, Rose, behind, with_last}
 use Rattle.io_edge.specs.Starts.{Engines}
 use Rattle.hive_model.specs.declared.pieces.Colour.{Colour}
@@ -7,7 +7,7 @@ use Rattle.hive_model.specs.declared.pieces.Colour.TheVariants.{White, Black}
 use Rattle.hive_model.specs.Lines.{lines}
 use Rattle.command_runs.specs.declared.status.Status.{Status}
 use Rattle.command_runs.specs.declared.status.Status.TheVariants.{Done, Refused, Usage, ReadFault, WriteFault, SpawnFault, BadInput, Memory, InputFull}
-use Rattle.match_core.specs.declared.answers.Setup.{Setup}
+use Rattle.match_core.specs.Setups.{FullSetup, setup_of}
 use Rattle.match_core.specs.declared.answers.Stage.TheVariants.{After}
 use Rattle.match_core.specs.declared.answers.Cause.TheVariants.{Broke}
 use Rattle.match_core.specs.declared.answers.Verdict.{Verdict}
@@ -43,11 +43,11 @@ scene written means = record { written = written; means = means }
 -- The match of two programs
 
 -- how it stands at its end where they say this
-abbrev pub end_of : Setup → List ℕ → List ℕ → Standing
+abbrev pub end_of : FullSetup → List ℕ → List ℕ → Standing
 end_of setup white black = match_after setup (match_of setup (lines white) (lines black))
 
 -- the bytes that are sent to a side in it
-abbrev pub sent_in : Setup → List ℕ → List ℕ → Colour → List ℕ
+abbrev pub sent_in : FullSetup → List ℕ → List ℕ → Colour → List ℕ
 sent_in setup white black side =
     joined (sent (start setup) (match_of setup (lines white) (lines black)) side)
 
@@ -69,17 +69,17 @@ Gains (Some before) (Some after) claim =
     × claim white black
 
 -- what each program got is all that it is sent in their match
-pub record AreSent (setup : Setup) (white black to_white to_black : List ℕ) : Type 0 where
+pub record AreSent (setup : FullSetup) (white black to_white to_black : List ℕ) : Type 0 where
   pub white_got : to_white ≡ sent_in setup white black White
   pub black_got : to_black ≡ sent_in setup white black Black
 
 -- what each program got is a front of what it is sent in their match
-pub record AreFronts (setup : Setup) (white black to_white to_black : List ℕ) : Type 0 where
+pub record AreFronts (setup : FullSetup) (white black to_white to_black : List ℕ) : Type 0 where
   pub white_got : IsFront to_white (sent_in setup white black White)
   pub black_got : IsFront to_black (sent_in setup white black Black)
 
 -- what each program got is all that these events send it
-pub record AreSentBy (setup : Setup) (hs : List Happening) (to_white to_black : List ℕ)
+pub record AreSentBy (setup : FullSetup) (hs : List Happening) (to_white to_black : List ℕ)
     : Type 0 where
   pub white_got : to_white ≡ joined (sent (start setup) hs White)
   pub black_got : to_black ≡ joined (sent (start setup) hs Black)
@@ -87,7 +87,7 @@ pub record AreSentBy (setup : Setup) (hs : List Happening) (to_white to_black : 
 -- moves and bytes sent are those of the match of these programs up to a reply: its last line was
 -- read, and next the clock is read
 pub record IsUpToReply
-    (setup : Setup) (white black : List ℕ) (t : Standing) (before after : Means) : Type 0 where
+    (setup : FullSetup) (white black : List ℕ) (t : Standing) (before after : Means) : Type 0 where
   pub hs : List Happening
   pub front : IsFront hs (match_of setup (lines white) (lines black))
   pub replied : (match_after setup hs).stage ≡ After
@@ -96,7 +96,7 @@ pub record IsUpToReply
 
 -- moves, verdict and bytes sent are those of the match of these programs
 pub record IsWhole
-    (setup : Setup) (white black : List ℕ) (t : Standing) (before after : Means) : Type 0 where
+    (setup : FullSetup) (white black : List ℕ) (t : Standing) (before after : Means) : Type 0 where
   pub moves : t.moves ≡ (end_of setup white black).moves
   pub verdict : t.verdict ≡ (end_of setup white black).verdict
   pub gains : Gains before.engines.sent after.engines.sent (AreSent setup white black)
@@ -111,7 +111,7 @@ IsVerdict full verdict before after =
 -- moves and bytes sent are the first ones of the match of these programs, and the verdict is its
 -- verdict, or an answer was late, or a side broke
 pub record IsPart
-    (setup : Setup) (white black : List ℕ) (t : Standing) (before after : Means) : Type 0 where
+    (setup : FullSetup) (white black : List ℕ) (t : Standing) (before after : Means) : Type 0 where
   pub moves : IsFront t.moves (end_of setup white black).moves
   pub verdict : IsVerdict (end_of setup white black).verdict t.verdict before after
   pub gains : Gains before.engines.sent after.engines.sent (AreFronts setup white black)
@@ -120,7 +120,7 @@ pub record IsPart
 -- program's failure was counted it is the whole of it, or the match up to a reply whose answer was
 -- late.
 pub record IsPlayedBy
-    (setup : Setup) (white black : List ℕ) (t : Standing) (before after : Means) : Type 0 where
+    (setup : FullSetup) (white black : List ℕ) (t : Standing) (before after : Means) : Type 0 where
   pub part : IsPart setup white black t before after
   pub whole :
       ¬ Rose before.engines.engine_faults after.engines.engine_faults
@@ -134,7 +134,7 @@ pub record IsPlayedBy
 -- of the programs to come the first two were started, as white and as black, and played; no others
 -- were started
 pub record StartsTwoOf
-    (all : List (List ℕ)) (setup : Setup) (t : Standing) (before after : Means) : Type 0 where
+    (all : List (List ℕ)) (setup : FullSetup) (t : Standing) (before after : Means) : Type 0 where
   pub white : List ℕ
   pub black : List ℕ
   pub others : List (List ℕ)
@@ -146,17 +146,18 @@ pub record StartsTwoOf
 -- answers the acts that were to come, by readings of the clock in their order. A side forfeits for
 -- a late answer only at its turn, where it was asked with a time and answered after this and the
 -- margin.
-pub record PlayedOut (setup : Setup) (t : Standing) (before after : Means) : Type 0 where
+pub record PlayedOut (setup : FullSetup) (t : Standing) (before after : Means) : Type 0 where
   pub judged : IsJudged t
   pub same : t.setup ≡ setup
-  pub readings : after.readings ≤ before.readings + (2 * length t.moves + 2)
+  pub readings : after.readings
+      ≤ before.readings + (2 * (length t.moves - length setup.begin) + 2)
   pub late : LateIn t.verdict before.last after.last
   pub lates : LatesAreLate t
   pub course : HasTimedCourse setup t before.last after.last
   pub broke : IsBroke t.verdict → Rose before.engines.engine_faults after.engines.engine_faults
 
 -- a match was played to its verdict, and stands so; and what its programs say tells what was played
-pub record Played (setup : Setup) (t : Standing) (before after : Means) : Type 0 where
+pub record Played (setup : FullSetup) (t : Standing) (before after : Means) : Type 0 where
   pub out : PlayedOut setup t before after
   pub programs :
       (all : List (List ℕ))
@@ -166,15 +167,16 @@ pub record Played (setup : Setup) (t : Standing) (before after : Means) : Type 0
 -- The run
 
 -- the two lines of a match that was played were written
-pub record Tells (setup : Setup) (t : Standing) (before after : Scene) : Type 0 where
+pub record Tells (setup : FullSetup) (t : Standing) (before after : Scene) : Type 0 where
   pub played : Played setup t before.means after.means
-  pub wrote : after.written ≡ behind before.written (match_text setup t)
+  pub wrote : after.written ≡ behind before.written (match_text (setup_of setup) t)
 
 -- of the two lines of a match that was played the first n bytes were written, and not all
-pub record TellsPart (setup : Setup) (t : Standing) (n : ℕ) (before after : Scene) : Type 0 where
+pub record TellsPart (setup : FullSetup) (t : Standing) (n : ℕ) (before after : Scene)
+    : Type 0 where
   pub played : Played setup t before.means after.means
-  pub cut : n < length (match_text setup t)
-  pub wrote : after.written ≡ behind before.written (take n (match_text setup t))
+  pub cut : n < length (match_text (setup_of setup) t)
+  pub wrote : after.written ≡ behind before.written (take n (match_text (setup_of setup) t))
 
 -- where it is told what was to come, no program got a byte: none was closed, or one to which
 -- nothing was written
@@ -193,7 +195,7 @@ pub record NotBegun (before after : Scene) : Type 0 where
 
 -- What was written and played where a match of two programs ends with this status. Where memory is
 -- wanting nothing was written. Five statuses are not its own.
-abbrev pub MatchRun : Setup → Status → Scene → Scene → Type 0
+abbrev pub MatchRun : FullSetup → Status → Scene → Scene → Type 0
 MatchRun setup Done before after = (t : Standing) × Tells setup t before after
 MatchRun setup WriteFault before after = (t : Standing) × (n : ℕ) × TellsPart setup t n before after
 MatchRun setup SpawnFault before after = NotBegun before after

@@ -4,11 +4,10 @@
 mod engines;
 mod laws;
 mod playing;
+mod reads;
 mod texts;
 
 pub use laws::matches_are_done;
-pub use playing::play_match;
+pub use playing::{play_match, play_match_from};
+pub use reads::play_read_match;
 pub use texts::{write_ending, write_number, write_shown};
-
-#[cfg(test)]
-mod tests;

@@ -1,6 +1,7 @@
 //! The command: both programs are started, the match is played, and its two lines are written.
 ghost use Rattle.std.specs.Prelude.{◌≡◌, ◌<◌, ◌≤◌, length, map, string_bytes, IfOk};
 ghost use Rattle.io_edge.specs.Outside.{Told};
+ghost use Rattle.match_core.specs.Setups.{setup_from, setup_plain};
 ghost use Rattle.match_core.specs.Keeps.{IsSetup};
 ghost use Rattle.match_core.specs.Standing.{Standing};
 ghost use Rattle.match_runner.specs.Wires.{wire, IsFresh};
@@ -15,25 +16,27 @@ use command_runs::{Status, end_with};
 use hive_model::{Game, ReplyText};
 use io_edge::{Clock, Sink, Spawner, StartFault};
 use match_core::{Referee, Setup};
-use match_runner::run_match;
+use match_runner::run_match_from;
 use std::alloc::{AllocError, Global};
 
-/// Plays a match of two programs that were started, and closes both, white's first: the two lines
-/// that tell it.
+/// Plays a match of two programs that were started, from a game under way, and closes both, white's
+/// first: the two lines that tell it.
 fn play_and_close<P: Spawner, C: Clock, G: Game + Drop>(
     alloc: Global,
     mut white: P::Engine,
     mut black: P::Engine,
     setup: Setup,
+    game: G,
     clock: &mut C,
     spawner: &mut P,
 ) -> Result<ReplyText, AllocError>
     requires setup { IsSetup setup }
+    requires kind { (G.course game).game_type ≡ setup.game_type }
     requires white_fresh { IsFresh (P.Engine.read_faults white) (P.Engine.write_faults white) }
     requires black_fresh { IsFresh (P.Engine.read_faults black) (P.Engine.write_faults black) }
     ensures played { IfOk result (λ text. (t : Standing)
         × (text ≡ match_text setup t)
-        × PlayedOver setup t
+        × PlayedOver (setup_from setup (G.course game).made) t
         (wire (P.Engine.rest white) (P.Engine.written white)
         (P.Engine.read_faults white) (P.Engine.write_faults white))
         (wire (P.Engine.rest black) (P.Engine.written black)
@@ -45,8 +48,8 @@ fn play_and_close<P: Spawner, C: Clock, G: Game + Drop>(
     ensures none_started { StartsNone (P.engines spawner.old) (P.engines spawner.new) }
     ensures later { C.last clock.old ≤ C.last clock.new }
 {
-    let referee: Result<Referee<G>, AllocError> = run_match(
-        alloc, &mut white, &mut black, clock, setup,
+    let referee: Result<Referee<G>, AllocError> = run_match_from(
+        alloc, &mut white, &mut black, clock, setup, game,
     );
     close_both(white, black, spawner);
     match referee {
@@ -55,12 +58,48 @@ fn play_and_close<P: Spawner, C: Clock, G: Game + Drop>(
     }
 }
 
-/// Plays a match of two programs and tells it.
+/// Plays a match of two programs from the opening, and tells it, as `play_match_from` does from a
+/// game under way. `Memory` may also say that there was none for the opening: then no program was
+/// started.
+pub fn play_match<P: Spawner, K: Sink, C: Clock, G: Game + Drop>(
+    alloc: Global,
+    white: &[String],
+    black: &[String],
+    setup: Setup,
+    output: &mut K,
+    clock: &mut C,
+    spawner: &mut P,
+) -> Status
+    requires setup { IsSetup setup }
+    requires white_some { 0 < length white.now }
+    requires black_some { 0 < length black.now }
+    ensures run { MatchRun (setup_plain setup) result
+        (scene (K.written output.old)
+        (means (C.last clock.old) (C.readings clock.old) (P.engines spawner.old)))
+        (scene (K.written output.new)
+        (means (C.last clock.new) (C.readings clock.new) (P.engines spawner.new))) }
+    ensures ends { EndsRun result (K.write_faults output.old) (K.write_faults output.new)
+        (P.engines spawner.old) (P.engines spawner.new) }
+    ensures started { MatchStarts result
+        (map string_bytes white.now) (map string_bytes black.now)
+        (P.engines spawner.old) (P.engines spawner.new) }
+    ensures later { C.last clock.old ≤ C.last clock.new }
+{
+    let Ok(game) = G::opening(alloc, setup.game_type) else {
+        return Status::Memory;
+    };
+    play_match_from(alloc, white, black, setup, game, output, clock, spawner)
+}
+
+/// Plays a match of two programs from a game under way, whose type is that of the setup, and tells
+/// it.
 ///
 /// White's program is started, then black's: each is the one that the first word names, with the
-/// other words as its arguments. The match is run to its verdict, white's engine is closed, then
-/// black's, and two lines are written: the game string of the moves that were played, and the
-/// verdict. Each engine that was started is closed before the call returns, whatever happens.
+/// other words as its arguments. Both are told the game to begin, and the match is run to its
+/// verdict, which comes at once where the game is over or has as many plies as the limit or more.
+/// White's engine is closed, then black's, and two lines are written: the game string of the moves
+/// that were given and of those that were played, and the verdict. Each engine that was started is
+/// closed before the call returns, whatever happens.
 ///
 /// A side forfeits for a late answer only at its turn, where it was asked with a time and answered
 /// after this and the margin. Where the starter tells its programs, and counted no failure of one,
@@ -76,19 +115,21 @@ fn play_and_close<P: Spawner, C: Clock, G: Game + Drop>(
 /// Where the starter tells what was started, it tells white's words and then black's of a match
 /// that was played. Behind `SpawnFault` it tells nothing more than before, or white's words alone,
 /// and behind `Memory` one of all three.
-pub fn play_match<P: Spawner, K: Sink, C: Clock, G: Game + Drop>(
+pub fn play_match_from<P: Spawner, K: Sink, C: Clock, G: Game + Drop>(
     alloc: Global,
     white: &[String],
     black: &[String],
     setup: Setup,
+    game: G,
     output: &mut K,
     clock: &mut C,
     spawner: &mut P,
 ) -> Status
     requires setup { IsSetup setup }
+    requires kind { (G.course game).game_type ≡ setup.game_type }
     requires white_some { 0 < length white.now }
     requires black_some { 0 < length black.now }
-    ensures run { MatchRun setup result
+    ensures run { MatchRun (setup_from setup (G.course game).made) result
         (scene (K.written output.old)
         (means (C.last clock.old) (C.readings clock.old) (P.engines spawner.old)))
         (scene (K.written output.new)
@@ -102,8 +143,9 @@ pub fn play_match<P: Spawner, K: Sink, C: Clock, G: Game + Drop>(
 {
     match start_both(white, black, spawner) {
         Ok((white, black)) => {
-            let Ok(text) = play_and_close::<P, C, G>(alloc, white, black, setup, clock, spawner)
-            else {
+            let Ok(text) = play_and_close::<P, C, G>(
+                alloc, white, black, setup, game, clock, spawner,
+            ) else {
                 return Status::Memory;
             };
             end_with(text.items(), Status::Done, output)

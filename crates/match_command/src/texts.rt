@@ -136,7 +136,7 @@ pub(crate) fn tell_match<G: Game + Drop>(
     setup: Setup,
     referee: &Referee<G>,
 ) -> Result<ReplyText, AllocError>
-    requires { referee.now.setup ≡ setup }
+    requires { referee.now.setup.game_type ≡ setup.game_type }
     ensures { IfOk result (λ text. text ≡ match_text setup referee.now) }
 {
     let mut text = ReplyText::new(alloc);

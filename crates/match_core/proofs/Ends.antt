@@ -1,24 +1,24 @@
 -- Every match ends, with a verdict; and what its moves are.
-use Rattle.std.proofs.Common.{◌≡◌, inl, inr, ◌≤◌, ℕ, zero, suc, true, false, List, [], ◌∷◌, ◌++◌, length, refl, ap, sym, ◌∙◌, IsTrue, arith}
+use Rattle.std.proofs.Common.{◌≡◌, inl, inr, ◌≤◌, ℕ, ◌+◌, zero, suc, true, false, List, [], ◌∷◌, ◌++◌, length, refl, ap, sym, ◌∙◌, IsTrue, arith}
 use Rattle.hive_model.specs.declared.pieces.Colour.{Colour}
 use Rattle.hive_model.specs.declared.pieces.Colour.TheVariants.{White, Black}
 use Rattle.hive_model.specs.Lines.{Line as Mark, Text, TooLong as LongMark}
 use Rattle.hive_model.specs.Boards.{IsBoard}
 use Rattle.move_text.proofs.MoveLaws.{denotes_of}
 use Rattle.rule_laws.proofs.Games.{games_sound}
-use Rattle.match_core.specs.declared.answers.Setup.{Setup}
+use Rattle.match_core.specs.Setups.{FullSetup}
 use Rattle.match_core.specs.declared.answers.Task.{Task}
 use Rattle.match_core.specs.declared.answers.Task.TheVariants.{Greet, Begin, Ask, Tell}
 use Rattle.match_core.specs.declared.answers.Stage.{Stage}
 use Rattle.match_core.specs.declared.answers.Stage.TheVariants.{Send, Read, Before, After, Finished}
 use Rattle.match_core.specs.declared.answers.Act.TheVariants.{Read as ReadAct}
-use Rattle.match_core.specs.Keeps.{IsSetup, HasNext}
+use Rattle.match_core.specs.Keeps.{IsFullSetup, HasNext}
 use Rattle.match_core.specs.Texts.{read_of}
 use Rattle.match_core.specs.Standing.{Standing, Happening, start, match_after, next, after_all, act_at, answers, position_now}
 use Rattle.match_core.specs.Fairness.{Answering, Reply, nothing_heard, heard, first_of, MovesOn, MatchesAreFair}
 use Rattle.match_core.specs.Plays.{left, IsBounded, IsPliesAt, given, reply_to, left_of_white, left_of_black, is_finished, happens, match_of, MatchesEnd, MatchesAreJudged}
 use Rattle.match_core.proofs.Fair.{reads, ReadsOn}
-use Rattle.match_core.proofs.Tells.{fair}
+use Rattle.match_core.proofs.Tells.{fair, plain_fair}
 use Rattle.match_core.proofs.Falls.{matches_near_their_end}
 use Rattle.match_core.proofs.Follows.{open_at, finish_is, happens_none, happens_more, bounded_start}
 
@@ -73,33 +73,34 @@ matches_are_judged setup hs is a =
     let b = bounded_along hs (start setup) (bounded_start setup is) a in
     let over = finish_is (match_after setup hs).stage in (λ e. sym b.judged ∙ over.0 e, λ e. over.1 (b.judged ∙ e))
 
-next_few : (job : Task) (plies limit : ℕ) → HasNext job plies limit → plies ≤ limit
-next_few Greet plies limit h = omega (arith, h)
-next_few Begin plies limit h = omega (arith, h)
-next_few Ask plies limit h = omega (arith, h)
-next_few (Tell m) plies limit h = h
+next_few : (job : Task) (given plies limit : ℕ) → HasNext job given plies limit → plies ≤ given + limit
+next_few Greet given plies limit h = omega (arith, h)
+next_few Begin given plies limit h = omega (arith, h)
+next_few Ask given plies limit h = omega (arith, h)
+next_few (Tell m) given plies limit h = omega (arith, h)
 
-open_few : (stage : Stage) (plies limit : ℕ) → IsPliesAt stage plies limit → is_finished stage ≡ false → plies ≤ limit
-open_few (Send job side) plies limit h e = next_few job plies limit h
-open_few (Read job side) plies limit h e = next_few job plies limit h
-open_few Before plies limit h e = omega (arith, h)
-open_few After plies limit h e = omega (arith, h)
-open_few Finished plies limit h e = absurd (cc)
+open_few : (stage : Stage) (given plies limit : ℕ) → IsPliesAt stage given plies limit → is_finished stage ≡ false → plies ≤ given + limit
+open_few (Send job side) given plies limit h e = next_few job given plies limit h
+open_few (Read job side) given plies limit h e = next_few job given plies limit h
+open_few Before given plies limit h e = omega (arith, h)
+open_few After given plies limit h e = omega (arith, h)
+open_few Finished given plies limit h e = absurd (cc)
 
 accepts : (s t : Standing) (reply : Reply) → IsBoard (position_now s).board → ReadsOn s t reply → MovesOn s t reply
 unfolding read_of
 accepts s t reply board (inl e) = inl e
 accepts s t reply board (inr (m, e, r)) = inr (m, e, record { side = r.side; denotes = denotes_of s.setup.game_type (position_now s).board (first_of reply.lines) m board r.denotes; legal = r.legal })
 
-read : (setup : Setup) (hs : List Happening) (h : Happening) → IsSetup setup → Answering (start setup) (hs ++ h ∷ [])
+read : (setup : FullSetup) (hs : List Happening) (h : Happening) → IsFullSetup setup → Answering (start setup) (hs ++ h ∷ [])
     → MovesOn (match_after setup hs) (match_after setup (hs ++ h ∷ [])) (heard (start setup) nothing_heard (hs ++ h ∷ [])).last
 read setup hs h is a =
-    let r = reads setup hs h a in
+    let r = reads setup hs h is.begin.game a in
     let b = bounded_along hs (start setup) (bounded_start setup is) r.fits in
-    let few : length (match_after setup hs).moves ≤ (match_after setup hs).setup.limit = open_few (match_after setup hs).stage _ _ b.plies (open_at (match_after setup hs).stage h r.answered) in
-    let limit : (match_after setup hs).setup.limit ≡ setup.limit = ap (λ (x : Setup). x.limit) r.same in
-    let low : length (match_after setup hs).moves ≤ 9000 = let k = is.few in omega (arith, few, limit, k) in
+    let few : length (match_after setup hs).moves ≤ length (match_after setup hs).setup.begin + (match_after setup hs).setup.limit = open_few (match_after setup hs).stage _ _ _ b.plies (open_at (match_after setup hs).stage h r.answered) in
+    let limit : (match_after setup hs).setup.limit ≡ setup.limit = ap (λ (x : FullSetup). x.limit) r.same in
+    let given : length (match_after setup hs).setup.begin ≡ length setup.begin = ap (λ (x : FullSetup). length x.begin) r.same in
+    let low : length (match_after setup hs).moves ≤ 9000 = let k = is.plain.few in let j = is.begin.few in omega (arith, few, limit, given, k, j) in
     accepts (match_after setup hs) (match_after setup (hs ++ h ∷ [])) (heard (start setup) nothing_heard (hs ++ h ∷ [])).last (games_sound (match_after setup hs).setup.game_type (match_after setup hs).moves r.legal low).0.board r.moves
 
 pub matches_are_fair : MatchesAreFair
-matches_are_fair = record { fair = fair; read = read }
+matches_are_fair = record { fair = fair; plain = plain_fair; read = read }

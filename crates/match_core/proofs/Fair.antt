@@ -1,5 +1,5 @@
 -- Every match is fair: what holds at each place of it.
-use Rattle.std.proofs.Common.{◌≡◌, ◌⊎◌, ◌+◌, inl, inr, ℕ, Bool, true, false, cond, List, [], ◌∷◌, ◌++◌, length, refl, ap, sym, ◌∙◌, append_assoc, None, Some, IsTrue, unwrap_or, Result, Ok, Err}
+use Rattle.std.proofs.Common.{◌≡◌, ◌⊎◌, inl, inr, ℕ, Bool, true, false, cond, List, [], ◌∷◌, ◌++◌, length, refl, ap, sym, ◌∙◌, append_assoc, None, Some, IsTrue, unwrap_or, Result, Ok, Err}
 use Rattle.std.specs.declared.option.Option.{Option}
 use Rattle.std.proofs.lemmas.List.{append-nil}
 use Rattle.std.specs.Prelude.{nat_le}
@@ -9,15 +9,12 @@ use Rattle.hive_model.specs.declared.places.Move.{Move}
 use Rattle.hive_model.specs.Lists.{IsOn}
 use Rattle.hive_model.specs.Positions.{Position, opening}
 use Rattle.hive_model.specs.Games.{after, replay, AreLegal}
-use Rattle.hive_model.specs.Legal.{state, is_over_state, moves as legal_moves}
-use Rattle.hive_model.specs.Keys.{KeyParts, key}
-use Rattle.hive_model.specs.Repetition.{same_board, count_same, keys, times, ends_as, outcome_under, StandsUnder}
-use Rattle.hive_model.specs.declared.pieces.GameType.{GameType}
-use Rattle.hive_model.proofs.StandLaws.{stands_by_moves}
+use Rattle.hive_model.specs.Legal.{is_over_state, moves as legal_moves}
+use Rattle.hive_model.specs.Repetition.{outcome_under}
 use Rattle.hive_model.specs.Courses.{is_listed}
 use Rattle.move_text.specs.declared.faults.MoveFault.{MoveFault}
 use Rattle.hive_model.proofs.ListedLaws.{listed_on}
-use Rattle.match_core.specs.declared.answers.Setup.{Setup}
+use Rattle.match_core.specs.Setups.{FullSetup}
 use Rattle.match_core.specs.declared.answers.Level.{Level}
 use Rattle.match_core.specs.declared.answers.Level.TheVariants.{Depth, Time}
 use Rattle.match_core.specs.declared.answers.Task.{Task}
@@ -30,7 +27,8 @@ use Rattle.match_core.specs.declared.answers.Verdict.TheVariants.{Rules, Limit, 
 use Rattle.match_core.specs.Replies.{is_ok, is_error}
 use Rattle.match_core.specs.Texts.{read_of}
 use Rattle.match_core.specs.Standing.{Standing, Happening, Sent, Line, TooLong, Ended, Broke, Reading as ClockReading, start, match_after, next, after_all, act_at, answers, position_now, go, finish, ask, judge, judge_read, decide, accept, first_line, at_stage, is_late, keep, reply_ends, hear, question, forfeit, answered, outcome_of}
-use Rattle.match_core.specs.Fairness.{Answering, told_at, told, WasTold, Reply, Heard, nothing_heard, heard_at, heard, first_of}
+use Rattle.match_core.specs.Fairness.{Answering, told_at, told, WasTold, Reply, Heard, nothing_heard, heard_at, heard, first_of, StandsFrom}
+use Rattle.match_core.proofs.Stands.{stands_none, stands_more}
 
 -- a move is accepted: it is legal, and is read from the first line of the last whole reply, which the side to move gave
 pub record IsRead (s : Standing) (reply : Reply) (m : Move) : Type 0 where
@@ -90,22 +88,24 @@ HeardAt Before s k = k.begun ≡ []
 HeardAt After s k = (k.begun ≡ []) × (s.first ≡ first_option k.last.lines) × (k.last.side ≡ (position_now s).side)
 HeardAt Finished s k = Unit {0}
 
--- the moves are a legal game, and none follows the end of the game
-pub record Plays (setup : Setup) (moves : List Move) : Type 0 where
+-- the moves are a legal game, which begins with those given, and none of the others follows the end of the game
+pub record Plays (setup : FullSetup) (moves : List Move) : Type 0 where
   pub legal : AreLegal (opening setup.game_type) moves
-  pub stands : StandsUnder setup.repetition setup.game_type moves
+  pub stands : StandsFrom setup moves
+  pub made : List Move
+  pub split : moves ≡ setup.begin ++ made
 
--- the game is not over, but where a move is told it may be
-abbrev pub IsOpen : Setup → List Move → Type 0
+-- the game is not over, but it may be where it has just begun or a move is told
+abbrev pub IsOpen : FullSetup → List Move → Type 0
 IsOpen setup moves = is_over_state (outcome_under setup.repetition setup.game_type moves) ≡ false
 
-abbrev pub OpenFor : Task → Setup → List Move → Type 0
-OpenFor Greet setup moves = IsOpen setup moves
-OpenFor Begin setup moves = IsOpen setup moves
+abbrev pub OpenFor : Task → FullSetup → List Move → Type 0
+OpenFor Greet setup moves = Unit {0}
+OpenFor Begin setup moves = Unit {0}
 OpenFor Ask setup moves = IsOpen setup moves
 OpenFor (Tell m) setup moves = Unit {0}
 
-abbrev pub OpenAt : Stage → Setup → List Move → Type 0
+abbrev pub OpenAt : Stage → FullSetup → List Move → Type 0
 OpenAt (Send job side) setup moves = OpenFor job setup moves
 OpenAt (Read job side) setup moves = OpenFor job setup moves
 OpenAt Before setup moves = IsOpen setup moves
@@ -185,10 +185,12 @@ legal_more : (p : Position) (ms : List Move) (m : Move) → AreLegal p ms → Is
 legal_more p [] m a h = (h, tt)
 legal_more p (x ∷ ms) m a h = (a.0, legal_more (after p x) ms m a.1 h)
 
-plays_more : (setup : Setup) (ms : List Move) (m : Move) → Plays setup ms → IsOpen setup ms → IsOn (legal_moves (replay (opening setup.game_type) ms)) m → Plays setup (ms ++ m ∷ [])
+plays_more : (setup : FullSetup) (ms : List Move) (m : Move) → Plays setup ms → IsOpen setup ms → IsOn (legal_moves (replay (opening setup.game_type) ms)) m → Plays setup (ms ++ m ∷ [])
 plays_more setup ms m plays yet on = record {
   legal = legal_more (opening setup.game_type) ms m plays.legal on;
-  stands = (stands_by_moves setup.repetition setup.game_type ms m).1 (record { before = plays.stands; open_yet = yet });
+  stands = stands_more setup plays.made ms m plays.split plays.stands yet;
+  made = plays.made ++ m ∷ [];
+  split = ap (λ (z : List Move). z ++ m ∷ []) plays.split ∙ append_assoc setup.begin plays.made (m ∷ []);
 }
 
 first-of : (o : Option (List ℕ)) (lines : List (List ℕ)) → o ≡ first_option lines → unwrap_or o [] ≡ first_of lines
@@ -222,7 +224,7 @@ ends_reply : (s : Standing) (job : Task) (side : Colour) (lines : List (List ℕ
 ends_reply s Greet White lines tw tb legal yet t f a = record { good = record { legal = legal; yet = yet; told = t; heard = (refl, tt) }; moves = inl refl; same = refl }
 ends_reply s Greet Black lines tw tb legal yet t f a = record { good = record { legal = legal; yet = yet; told = t; heard = (refl, tt) }; moves = inl refl; same = refl }
 ends_reply s Begin White lines tw tb legal yet t f a = record { good = record { legal = legal; yet = yet; told = t; heard = (refl, tt) }; moves = inl refl; same = refl }
-ends_reply s Begin Black lines tw tb legal yet t f a = asks s _ tw tb (record { legal = legal; both = t; begun = refl }) yet
+ends_reply s Begin Black lines tw tb legal yet t f a = decides s _ tw tb (record { legal = legal; both = t; begun = refl })
 ends_reply s Ask side lines tw tb legal yet t f a = answers_at s s.setup.level _ tw tb (record { legal = legal; both = t; begun = refl }) yet f a
 ends_reply s (Tell m) White lines tw tb legal yet t f a = record { good = record { legal = legal; yet = yet; told = t; heard = (refl, tt) }; moves = inl refl; same = refl }
 ends_reply s (Tell m) Black lines tw tb legal yet t f a = decides s _ tw tb (record { legal = legal; both = t; begun = refl })
@@ -326,28 +328,14 @@ goes (h ∷ hs) s k tw tb g (w, a) =
     let f : (tb ++ told_at s.stage h Black) ++ told (next s h) hs Black ≡ tb ++ told s (h ∷ hs) Black = append_assoc tb (told_at s.stage h Black) (told (next s h) hs Black) in
     record { good = rw (← e, ← f) r.good; same = r.same ∙ st.same }
 
--- no piece is on the board at the start, and the game is not over
-plays_none : (setup : Setup) → Plays setup []
-plays_none setup = record { legal = tt; stands = none }
-  where
-    none : StandsUnder setup.repetition setup.game_type []
-    none [] m rest e = absurd (cc)
-    none (k ∷ front) m rest e = absurd (cc)
-
-one_key : (k : KeyParts) → nat_le 3 (count_same k (k ∷ [])) ≡ false
-one_key k = go (same_board k k)
-  where
-    go : (b : Bool) → nat_le 3 (0 + cond b 1 0) ≡ false
-    go true = refl
-    go false = refl
-
-open_start : (r : Bool) (t : GameType) → is_over_state (outcome_under r t []) ≡ false
-unfolding state keys times
-open_start false t = refl
-open_start true t = ap (λ b. is_over_state (ends_as b (state (opening t)))) (one_key (key (opening t)))
-
-pub good_start : (setup : Setup) → Good (start setup) nothing_heard [] []
-good_start setup = record { legal = plays_none setup; yet = open_start setup.repetition setup.game_type; told = record { white = refl; black = refl }; heard = (refl, tt) }
+-- the moves that the match begins with are known to both sides
+pub good_start : (setup : FullSetup) → AreLegal (opening setup.game_type) setup.begin → Good (start setup) nothing_heard setup.begin setup.begin
+good_start setup legal = record {
+  legal = record { legal = legal; stands = stands_none setup; made = []; split = sym (append-nil setup.begin) };
+  yet = tt;
+  told = record { white = refl; black = refl };
+  heard = (refl, tt);
+}
 
 answering_front : (hs : List Happening) (s : Standing) (h : Happening) → Answering s (hs ++ h ∷ []) → Answering s hs × IsTrue (answers (act_at (after_all s hs).stage) h)
 answering_front [] s h a = (tt, a.0)
@@ -362,16 +350,16 @@ heard-snoc [] s k h = refl
 heard-snoc (x ∷ hs) s k h = heard-snoc hs (next s x) (heard_at s.stage k x) h
 
 -- the match before an event, and what the event comes to
-pub record Reading (setup : Setup) (hs : List Happening) (h : Happening) : Type 0 where
+pub record Reading (setup : FullSetup) (hs : List Happening) (h : Happening) : Type 0 where
   pub fits : Answering (start setup) hs
   pub answered : IsTrue (answers (act_at (match_after setup hs).stage) h)
   pub legal : AreLegal (opening (match_after setup hs).setup.game_type) (match_after setup hs).moves
   pub same : (match_after setup hs).setup ≡ setup
   pub moves : ReadsOn (match_after setup hs) (match_after setup (hs ++ h ∷ [])) (heard (start setup) nothing_heard (hs ++ h ∷ [])).last
 
-pub reads : (setup : Setup) (hs : List Happening) (h : Happening) → Answering (start setup) (hs ++ h ∷ []) → Reading setup hs h
-reads setup hs h a =
+pub reads : (setup : FullSetup) (hs : List Happening) (h : Happening) → AreLegal (opening setup.game_type) setup.begin → Answering (start setup) (hs ++ h ∷ []) → Reading setup hs h
+reads setup hs h legal a =
     let (b, w) = answering_front hs (start setup) h a in
-    let r = goes hs (start setup) nothing_heard [] [] (good_start setup) b in
+    let r = goes hs (start setup) nothing_heard setup.begin setup.begin (good_start setup legal) b in
     let st = steps (match_after setup hs) _ _ _ h r.good w in
     record { fits = b; answered = w; legal = r.good.legal.legal; same = r.same; moves = rw (after_all-snoc hs (start setup) h, heard-snoc hs (start setup) nothing_heard h) st.moves }

@@ -41,9 +41,9 @@ asks s n h l v = asks_at s s.setup.level (position_now s).side n h l v
 le_false : (m n : ℕ) → nat_le m n ≡ false → n < m
 le_false m n e = grind arith
 
-decides : (s : Standing) (n : ℕ) → length s.moves ≤ s.setup.limit → 8008 * (s.setup.limit - length s.moves) + 3003 < n → false ≡ has_verdict s.verdict → Falls (decide s) n
+decides : (s : Standing) (n : ℕ) → 8008 * (s.setup.limit - length s.moves) + 3003 < n → false ≡ has_verdict s.verdict → Falls (decide s) n
 unfolding decide
-decides s n h l v =
+decides s n l v =
     let P : Standing → Type 0 = λ t. Falls t n in
     either P (is_over_state (outcome_of s)) (finish s (Rules (outcome_of s))) (cond (nat_le s.setup.limit (length s.moves)) (finish s Limit) (ask s))
     (λ e. ends_at s (Rules (outcome_of s)) n (omega arith))
@@ -68,14 +68,14 @@ answers_as : (s : Standing) (level : Level) (n : ℕ) → s.count ≤ 1000 → l
 answers_as s (Depth depth) n c h l v = judges s n h (omega arith) v
 answers_as s (Time budget margin) n c h l v = record { bounded = record { plies = h; count = c; judged = v }; less = l }
 
-ends_reply : (s : Standing) (job : Task) (side : Colour) → s.count ≤ 1000 → HasNext job (length s.moves) s.setup.limit → false ≡ has_verdict s.verdict → Falls (reply_ends s job side) (left_at (Read job side) (s.setup.limit - length s.moves) s.count)
+ends_reply : (s : Standing) (job : Task) (side : Colour) → s.count ≤ 1000 → HasNext job (length s.setup.begin) (length s.moves) s.setup.limit → false ≡ has_verdict s.verdict → Falls (reply_ends s job side) (left_at (Read job side) (s.setup.limit - length s.moves) s.count)
 ends_reply s Greet White c h v = record { bounded = record { plies = h; count = omega arith; judged = v }; less = omega arith }
 ends_reply s Greet Black c h v = record { bounded = record { plies = h; count = omega arith; judged = v }; less = omega arith }
 ends_reply s Begin White c h v = record { bounded = record { plies = h; count = omega arith; judged = v }; less = omega arith }
-ends_reply s Begin Black c h v = asks s _ h (omega arith) v
+ends_reply s Begin Black c h v = decides s _ (omega arith) v
 ends_reply s Ask side c h v = answers_as s s.setup.level _ c h (omega arith) v
 ends_reply s (Tell m) White c h v = record { bounded = record { plies = h; count = omega arith; judged = v }; less = omega arith }
-ends_reply s (Tell m) Black c h v = decides s _ h (omega arith) v
+ends_reply s (Tell m) Black c h v = decides s _ (omega arith) v
 
 -- a reply that is read begins with so many events left, and each line of it is one less
 record ReadsFrom (job : Task) (side : Colour) (d : ℕ) : Type 0 where
@@ -102,7 +102,7 @@ one_line_less job side d c h = let r = reads_from job side d in let e = r.left c
 sent_less : (job : Task) (side : Colour) (d c : ℕ) → left_at (Read job side) d 0 < left_at (Send job side) d c
 sent_less job side d c = let r = reads_from job side d in let e = r.left 0 in let before = r.before c in omega (arith, e, before)
 
-hears : (s : Standing) (job : Task) (side : Colour) (line : List ℕ) → s.count ≤ 1000 → HasNext job (length s.moves) s.setup.limit → false ≡ has_verdict s.verdict → Falls (hear s job side line) (left_at (Read job side) (s.setup.limit - length s.moves) s.count)
+hears : (s : Standing) (job : Task) (side : Colour) (line : List ℕ) → s.count ≤ 1000 → HasNext job (length s.setup.begin) (length s.moves) s.setup.limit → false ≡ has_verdict s.verdict → Falls (hear s job side line) (left_at (Read job side) (s.setup.limit - length s.moves) s.count)
 hears s job side line c h v =
     let n : ℕ = left_at (Read job side) (s.setup.limit - length s.moves) s.count in
     let P : Standing → Type 0 = λ t. Falls t n in
@@ -116,7 +116,7 @@ hears s job side line c h v =
     (λ k. let few : s.count < 1000 = le_false 1000 s.count k in
     record { bounded = record { plies = h; count = omega (arith, few); judged = v }; less = one_line_less job side (s.setup.limit - length s.moves) s.count few })))
 
-falls_at : (stage : Stage) (s : Standing) (h : Happening) → s.count ≤ 1000 → IsPliesAt stage (length s.moves) s.setup.limit → is_finished stage ≡ has_verdict s.verdict → IsTrue (answers (act_at stage) h) → Falls (at_stage s stage h) (left_at stage (s.setup.limit - length s.moves) s.count)
+falls_at : (stage : Stage) (s : Standing) (h : Happening) → s.count ≤ 1000 → IsPliesAt stage (length s.setup.begin) (length s.moves) s.setup.limit → is_finished stage ≡ has_verdict s.verdict → IsTrue (answers (act_at stage) h) → Falls (at_stage s stage h) (left_at stage (s.setup.limit - length s.moves) s.count)
 falls_at (Send job side) s Sent c p v w = record {
   bounded = record { plies = p; count = omega arith; judged = v };
   less = sent_less job side (s.setup.limit - length s.moves) s.count;

@@ -5,7 +5,7 @@ use Rattle.hive_model.specs.declared.places.Move.{Move}
 use Rattle.hive_model.specs.Legal.{is_over_state}
 use Rattle.hive_model.specs.Courses.{is_listed}
 use Rattle.move_text.specs.declared.faults.MoveFault.{MoveFault}
-use Rattle.match_core.specs.declared.answers.Setup.{Setup}
+use Rattle.match_core.specs.Setups.{FullSetup}
 use Rattle.match_core.specs.declared.answers.Level.{Level}
 use Rattle.match_core.specs.declared.answers.Level.TheVariants.{Depth, Time}
 use Rattle.match_core.specs.declared.answers.Task.{Task}
@@ -21,7 +21,7 @@ use Rattle.std.proofs.Common.{◌≡◌, ◌↔◌, ◌⊎◌, inl, inr, ℕ, ze
 use Rattle.std.specs.Option.{option_map}
 use Rattle.std.proofs.lemmas.Option.{same_Some}
 use Rattle.hive_model.specs.Lines.{Line as Mark, Text, ToldLines}
-use Rattle.match_core.specs.Keeps.{IsSetup}
+use Rattle.match_core.specs.Keeps.{IsFullSetup}
 use Rattle.match_core.specs.declared.answers.Act.TheVariants.{Finish}
 use Rattle.match_core.specs.Fairness.{sent_at}
 use Rattle.match_core.specs.Plays.{IsBounded, given, others, reply_to, left_of_white, left_of_black, is_finished, happens}
@@ -58,7 +58,7 @@ ends_reply : (s : Standing) (a : ℕ) (job : Task) (side : Colour) → reply_end
 ends_reply s a Greet White = refl
 ends_reply s a Greet Black = refl
 ends_reply s a Begin White = refl
-ends_reply s a Begin Black = asks s a
+ends_reply s a Begin Black = decides s a
 ends_reply s a Ask side = answers_as s a s.setup.level
 ends_reply s a (Tell m) White = refl
 ends_reply s a (Tell m) Black = decides s a
@@ -171,5 +171,5 @@ pub happens_more : (n : ℕ) (s : Standing) (white black : List Mark) → is_fin
 unfolding happens
 happens_more n s white black e = rw e refl
 
-pub bounded_start : (setup : Setup) → IsSetup setup → IsBounded (start setup)
-bounded_start setup is = record { plies = is.some; count = omega arith; judged = refl }
+pub bounded_start : (setup : FullSetup) → IsFullSetup setup → IsBounded (start setup)
+bounded_start setup is = record { plies = omega arith; count = omega arith; judged = refl }

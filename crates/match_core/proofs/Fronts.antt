@@ -63,7 +63,7 @@ ends_reply : (s : Standing) (job : Task) (side : Colour) → Grows s (reply_ends
 ends_reply s Greet White = no_move s s refl
 ends_reply s Greet Black = no_move s s refl
 ends_reply s Begin White = no_move s s refl
-ends_reply s Begin Black = asks s
+ends_reply s Begin Black = decides s
 ends_reply s Ask side = answers_as s s.setup.level
 ends_reply s (Tell m) White = no_move s s refl
 ends_reply s (Tell m) Black = decides s

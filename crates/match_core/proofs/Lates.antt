@@ -11,7 +11,7 @@ use Rattle.hive_model.specs.declared.places.Move.{Move}
 use Rattle.hive_model.specs.Legal.{is_over_state}
 use Rattle.hive_model.specs.Courses.{is_listed}
 use Rattle.move_text.specs.declared.faults.MoveFault.{MoveFault}
-use Rattle.match_core.specs.declared.answers.Setup.{Setup}
+use Rattle.match_core.specs.Setups.{FullSetup}
 use Rattle.match_core.specs.declared.answers.Level.{Level}
 use Rattle.match_core.specs.declared.answers.Level.TheVariants.{Depth, Time}
 use Rattle.match_core.specs.declared.answers.Task.{Task}
@@ -85,7 +85,7 @@ ends_reply : (s : Standing) (job : Task) (side : Colour) → IsQuiet s.verdict �
 ends_reply s Greet White q = record { quiet = q; timed = tt }
 ends_reply s Greet Black q = record { quiet = q; timed = tt }
 ends_reply s Begin White q = record { quiet = q; timed = tt }
-ends_reply s Begin Black q = asks s q
+ends_reply s Begin Black q = decides s q
 ends_reply s Ask side q = answers_as s s.setup.level refl q
 ends_reply s (Tell m) White q = record { quiet = q; timed = tt }
 ends_reply s (Tell m) Black q = decides s q
@@ -189,11 +189,11 @@ calm_or_cut (h ∷ hs) s c (t, u) = elim (goes_at s.stage s h t c.quiet) [
   ]
 ]
 
-calm_start : (setup : Setup) → Calm (start setup)
+calm_start : (setup : FullSetup) → Calm (start setup)
 calm_start setup = record { quiet = λ side m n e. cc; timed = tt }
 
 -- a match in which a side forfeits for a late answer
-pub late_cut : (setup : Setup) (hs : List Happening) (side : Colour) (asked answered : ℕ) → Answering (start setup) hs → (match_after setup hs).verdict ≡ Some (Forfeit side (Late asked answered)) → LateCut (start setup) hs
+pub late_cut : (setup : FullSetup) (hs : List Happening) (side : Colour) (asked answered : ℕ) → Answering (start setup) hs → (match_after setup hs).verdict ≡ Some (Forfeit side (Late asked answered)) → LateCut (start setup) hs
 late_cut setup hs side asked answered a e = elim (calm_or_cut hs (start setup) (calm_start setup) a) [
   | inl c ↦ absurd (c.quiet side asked answered e)
   | inr l ↦ l

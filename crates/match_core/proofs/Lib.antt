@@ -1,4 +1,5 @@
 pub mod Sees
+pub mod Stands
 pub mod Fair
 pub mod Tells
 pub mod Falls

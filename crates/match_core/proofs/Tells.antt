@@ -1,19 +1,19 @@
 -- The lines that tell a side its moves are those of the moves that it is told, one after the other.
-use Rattle.std.proofs.Common.{◌≡◌, ℕ, ◌-◌, cond, List, [], ◌∷◌, ◌++◌, length, take, refl, ap, sym, ◌∙◌, subst, append_assoc}
-use Rattle.std.proofs.lemmas.List.{append-nil}
+use Rattle.std.proofs.Common.{◌≡◌, ℕ, ◌-◌, cond, List, [], ◌∷◌, ◌++◌, length, take, refl, ap, sym, ◌∙◌, subst, append_assoc, arith}
+use Rattle.std.proofs.lemmas.List.{append-nil, append_cancel_left}
 use Rattle.hive_model.specs.declared.pieces.Colour.{Colour}
 use Rattle.hive_model.specs.declared.pieces.Colour.TheVariants.{White, Black}
 use Rattle.hive_model.specs.declared.places.Move.{Move}
 use Rattle.hive_model.specs.Positions.{Position, opening}
 use Rattle.hive_model.specs.Games.{after, replay, AreLegal}
-use Rattle.hive_model.specs.Repetition.{StandsUnder}
 use Rattle.match_core.specs.declared.answers.Setup.{Setup}
+use Rattle.match_core.specs.Setups.{FullSetup, setup_plain, IsBegin}
 use Rattle.match_core.specs.declared.answers.Task.TheVariants.{Greet, Begin, Ask, Tell}
 use Rattle.match_core.specs.declared.answers.Stage.{Stage}
 use Rattle.match_core.specs.declared.answers.Stage.TheVariants.{Send, Read, Before, After, Finished}
 use Rattle.match_core.specs.Texts.{tell_line}
 use Rattle.match_core.specs.Standing.{Standing, Happening, Sent, Line, TooLong, Ended, Broke, Reading, start, match_after, next}
-use Rattle.match_core.specs.Fairness.{Answering, Heard, nothing_heard, heard_at, sent_at, told_at, told, is_telling, telling_lines, tell_lines, IsFair}
+use Rattle.match_core.specs.Fairness.{Answering, Heard, nothing_heard, heard_at, sent_at, told_at, told, is_telling, telling_lines, tell_lines, StandsFrom, first_position, IsFair, IsPlainFair}
 use Rattle.match_core.proofs.Sees.{taken_back}
 use Rattle.match_core.proofs.Fair.{Good, ToldAt, steps, goes, good_start, told_some}
 
@@ -68,7 +68,7 @@ in_front : (s : Standing) (h : Happening) (hs : List Happening) (to : Colour) (k
     ≡ tell_lines (opening (next s h).setup.game_type) (known ++ told_at s.stage h to) ++ telling_lines (next s h) hs to
     → tell_lines (opening s.setup.game_type) (known ++ told s (h ∷ hs) to) ≡ tell_lines (opening s.setup.game_type) known ++ telling_lines s (h ∷ hs) to
 in_front s h hs to known same now later =
-    let P : Setup → Type 0 = λ x. tell_lines (opening x.game_type) ((known ++ told_at s.stage h to) ++ told (next s h) hs to)
+    let P : FullSetup → Type 0 = λ x. tell_lines (opening x.game_type) ((known ++ told_at s.stage h to) ++ told (next s h) hs to)
     ≡ tell_lines (opening x.game_type) (known ++ told_at s.stage h to) ++ telling_lines (next s h) hs to in
     ap (tell_lines (opening s.setup.game_type)) (sym (append_assoc known (told_at s.stage h to) (told (next s h) hs to)))
     ∙ subst P same later
@@ -84,16 +84,32 @@ tells (h ∷ hs) s k to tw tb g (w, a) =
     in_front s h hs to (known_of to tw tb) st.same (tells_at s.stage s h to tw tb g.told)
     (subst later (known_more to tw tb (told_at s.stage h)) (tells hs (next s h) (heard_at s.stage k h) to (tw ++ told_at s.stage h White) (tb ++ told_at s.stage h Black) st.good a))
 
-pub fair : (setup : Setup) (hs : List Happening) → Answering (start setup) hs → IsFair setup hs
-fair setup hs a =
-    let r = goes hs (start setup) nothing_heard [] [] (good_start setup) a in
-    let kind : (match_after setup hs).setup.game_type ≡ setup.game_type = ap (λ (x : Setup). x.game_type) r.same in
+-- the lines of some moves, and those of others behind them
+lines_behind : (p : Position) (xs ys : List Move) → tell_lines p (xs ++ ys) ≡ tell_lines p xs ++ tell_lines (replay p xs) ys
+lines_behind p [] ys = refl
+lines_behind p (x ∷ xs) ys = ap (λ (r : List (List ℕ)). tell_line p x ∷ r) (lines_behind (after p x) xs ys)
+
+-- a side that knows the moves that the match begins with is told those behind them
+tells_behind : (setup : FullSetup) (lines : List (List ℕ)) (told : List Move) → tell_lines (opening setup.game_type) (setup.begin ++ told) ≡ tell_lines (opening setup.game_type) setup.begin ++ lines
+    → lines ≡ tell_lines (first_position setup) told
+tells_behind setup lines told e = append_cancel_left (tell_lines (opening setup.game_type) setup.begin) lines (tell_lines (first_position setup) told) (sym e ∙ lines_behind (opening setup.game_type) setup.begin told)
+
+pub fair : (setup : FullSetup) (hs : List Happening) → IsBegin setup → Answering (start setup) hs → IsFair setup hs
+fair setup hs is a =
+    let good = good_start setup is.game in
+    let r = goes hs (start setup) nothing_heard setup.begin setup.begin good a in
+    let kind : (match_after setup hs).setup.game_type ≡ setup.game_type = ap (λ (x : FullSetup). x.game_type) r.same in
     let some = told_some (match_after setup hs).stage (match_after setup hs).moves _ _ r.good.told in
     record {
       legal = subst (λ t. AreLegal (opening t) (match_after setup hs).moves) kind r.good.legal.legal;
-      stands = subst (λ (x : Setup). StandsUnder x.repetition x.game_type (match_after setup hs).moves) r.same r.good.legal.stands;
+      stands = subst (λ (x : FullSetup). StandsFrom x (match_after setup hs).moves) r.same r.good.legal.stands;
       white = some.0;
       black = some.1;
-      white_lines = sym (tells hs (start setup) nothing_heard White [] [] (good_start setup) a);
-      black_lines = sym (tells hs (start setup) nothing_heard Black [] [] (good_start setup) a);
+      white_lines = tells_behind setup _ _ (tells hs (start setup) nothing_heard White setup.begin setup.begin good a);
+      black_lines = tells_behind setup _ _ (tells hs (start setup) nothing_heard Black setup.begin setup.begin good a);
     }
+
+pub plain_fair : (setup : Setup) (hs : List Happening) → Answering (start (setup_plain setup)) hs → IsPlainFair setup hs
+plain_fair setup hs a =
+    let f = fair (setup_plain setup) hs (record { game = tt; few = omega arith }) a in
+    record { legal = f.legal; stands = f.stands; white = f.white; black = f.black; white_lines = f.white_lines; black_lines = f.black_lines }

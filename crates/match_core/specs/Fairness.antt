@@ -1,22 +1,23 @@
 -- What holds of every match: which moves are played, and who is told of them.
-use Rattle.std.specs.Prelude.{◌≡◌, ◌⊎◌, ℕ, Bool, true, false, cond, List, [], ◌∷◌, ◌++◌, IsTrue}
+use Rattle.std.specs.Prelude.{◌≡◌, ◌⊎◌, ℕ, ◌≤◌, Bool, true, false, cond, List, [], ◌∷◌, ◌++◌, IsTrue}
 use Rattle.hive_model.specs.declared.pieces.Colour.{Colour}
 use Rattle.hive_model.specs.declared.pieces.Colour.TheVariants.{White, Black}
 use Rattle.hive_model.specs.declared.places.Move.{Move}
 use Rattle.hive_model.specs.Denotes.{Denotes}
 use Rattle.hive_model.specs.Lists.{IsOn}
 use Rattle.hive_model.specs.Positions.{Position, opening}
-use Rattle.hive_model.specs.Games.{after, IsGame}
-use Rattle.hive_model.specs.Repetition.{StandsUnder}
-use Rattle.hive_model.specs.Legal.{moves as legal_moves}
+use Rattle.hive_model.specs.Games.{after, replay, IsGame}
+use Rattle.hive_model.specs.Repetition.{outcome_under, StandsUnder}
+use Rattle.hive_model.specs.Legal.{is_over_state, moves as legal_moves}
 use Rattle.match_core.specs.declared.answers.Setup.{Setup}
+use Rattle.match_core.specs.Setups.{FullSetup, setup_plain, IsBegin}
 use Rattle.match_core.specs.declared.answers.Task.TheVariants.{Greet, Begin, Ask, Tell}
 use Rattle.match_core.specs.declared.answers.Stage.{Stage}
 use Rattle.match_core.specs.declared.answers.Stage.TheVariants.{Send, Read, Before, After, Finished}
 use Rattle.match_core.specs.Replies.{is_ok}
-use Rattle.match_core.specs.Keeps.{IsSetup}
+use Rattle.match_core.specs.Keeps.{IsFullSetup}
 use Rattle.match_core.specs.Texts.{tell_line}
-use Rattle.match_core.specs.Standing.{Standing, Happening, Sent, Line, TooLong, Ended, Broke, Reading, start, match_after, next, act_at, answers, line_for, position_now}
+use Rattle.match_core.specs.Standing.{Standing, Happening, Sent, Line, TooLong, Ended, Broke, Reading, start, match_after, next, act_at, answers, ask, decide, line_for, position_now}
 
 -- each of these answers the act to come
 abbrev pub Answering : Standing → List Happening → Type 0
@@ -148,23 +149,56 @@ abbrev pub MovesOn : Standing → Standing → Reply → Type 0
 MovesOn s t reply =
     (t.moves ≡ s.moves) ⊎ ((m : Move) × (t.moves ≡ s.moves ++ m ∷ []) × Accepts s reply m)
 
--- The moves are a legal game, and none follows the end of the game. Each side was told all of them,
--- or all but the last, each once and in order, and the lines that told it a move are those of these
--- moves.
-pub record IsFair (setup : Setup) (hs : List Happening) : Type 0 where
+-- No move behind those that the match begins with follows the end of the game, under the rule of
+-- third repetition where that is switched on. Where it begins with none, no move does at all.
+abbrev pub StandsFrom : FullSetup → List Move → Type 0
+StandsFrom setup moves =
+    (front : List Move) (m : Move) (rest : List Move) → moves ≡ setup.begin ++ (front ++ m ∷ rest)
+    → is_over_state (outcome_under setup.repetition setup.game_type (setup.begin ++ front)) ≡ false
+
+-- the position that the moves lead to that the match begins with
+abbrev pub first_position : FullSetup → Position
+first_position setup = replay (opening setup.game_type) setup.begin
+
+-- The moves are a legal game that begins with those given, and no move of the match follows the end
+-- of the game. Behind those given each side was told all of them, or all but the last, each once
+-- and in order, and the lines that told it a move are those of these moves.
+pub record IsFair (setup : FullSetup) (hs : List Happening) : Type 0 where
   pub legal : IsGame setup.game_type (match_after setup hs).moves
-  pub stands : StandsUnder setup.repetition setup.game_type (match_after setup hs).moves
-  pub white : WasTold (told (start setup) hs White) (match_after setup hs).moves
-  pub black : WasTold (told (start setup) hs Black) (match_after setup hs).moves
+  pub stands : StandsFrom setup (match_after setup hs).moves
+  pub white : WasTold (setup.begin ++ told (start setup) hs White) (match_after setup hs).moves
+  pub black : WasTold (setup.begin ++ told (start setup) hs Black) (match_after setup hs).moves
   pub white_lines : telling_lines (start setup) hs White
-      ≡ tell_lines (opening setup.game_type) (told (start setup) hs White)
+      ≡ tell_lines (first_position setup) (told (start setup) hs White)
   pub black_lines : telling_lines (start setup) hs Black
-      ≡ tell_lines (opening setup.game_type) (told (start setup) hs Black)
+      ≡ tell_lines (first_position setup) (told (start setup) hs Black)
+
+-- the same of a match that begins with the opening
+pub record IsPlainFair (setup : Setup) (hs : List Happening) : Type 0 where
+  pub legal : IsGame setup.game_type (match_after (setup_plain setup) hs).moves
+  pub stands : StandsUnder setup.repetition setup.game_type
+      (match_after (setup_plain setup) hs).moves
+  pub white : WasTold (told (start (setup_plain setup)) hs White)
+      (match_after (setup_plain setup) hs).moves
+  pub black : WasTold (told (start (setup_plain setup)) hs Black)
+      (match_after (setup_plain setup) hs).moves
+  pub white_lines : telling_lines (start (setup_plain setup)) hs White
+      ≡ tell_lines (opening setup.game_type) (told (start (setup_plain setup)) hs White)
+  pub black_lines : telling_lines (start (setup_plain setup)) hs Black
+      ≡ tell_lines (opening setup.game_type) (told (start (setup_plain setup)) hs Black)
 
 -- the law of fair matches, over every list of events that answer the acts
 pub record MatchesAreFair : Type 0 where
-  pub fair : (setup : Setup) (hs : List Happening) → Answering (start setup) hs → IsFair setup hs
-  pub read : (setup : Setup) (hs : List Happening) (h : Happening) → IsSetup setup
+  pub fair : (setup : FullSetup) (hs : List Happening) → IsBegin setup
+      → Answering (start setup) hs → IsFair setup hs
+  pub plain : (setup : Setup) (hs : List Happening)
+      → Answering (start (setup_plain setup)) hs → IsPlainFair setup hs
+  pub read : (setup : FullSetup) (hs : List Happening) (h : Happening) → IsFullSetup setup
       → Answering (start setup) (hs ++ h ∷ []) →
       MovesOn (match_after setup hs) (match_after setup (hs ++ h ∷ []))
       (heard (start setup) nothing_heard (hs ++ h ∷ [])).last
+
+-- before the first move of a match that may have a move, the side to move is asked once both sides
+-- were told to begin
+abbrev pub PlainMatchesAsk : Type 0
+PlainMatchesAsk = (s : Standing) → s.moves ≡ [] → 1 ≤ s.setup.limit → decide s ≡ ask s

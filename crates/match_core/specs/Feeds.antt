@@ -6,9 +6,9 @@ use Rattle.hive_model.specs.Lines.{Line as Mark, Text, ToldLines, NoneAhead, Lon
 use Rattle.match_core.specs.declared.answers.Stage.{Stage}
 use Rattle.match_core.specs.declared.answers.Stage.TheVariants.{Send, Read, Before, After, Finished}
 use Rattle.hive_model.specs.declared.pieces.Colour.TheVariants.{White, Black}
-use Rattle.match_core.specs.declared.answers.Setup.{Setup}
+use Rattle.match_core.specs.Setups.{FullSetup}
 use Rattle.match_core.specs.declared.answers.Act.TheVariants.{Finish}
-use Rattle.match_core.specs.Keeps.{IsSetup}
+use Rattle.match_core.specs.Keeps.{IsFullSetup}
 use Rattle.match_core.specs.Standing.{Standing, Happening, Sent, Line, TooLong, Ended, Broke, Reading, next, is_late, after_all, start, match_after, act_at}
 use Rattle.match_core.specs.Fairness.{is_side, sent, Answering}
 use Rattle.match_core.specs.Plays.{match_of}
@@ -81,8 +81,8 @@ pub record AreSame (s : Standing) (hs : List Happening) (t : Standing)
 -- lines
 abbrev pub MatchesAreOfTheirLines : Type 0
 MatchesAreOfTheirLines =
-    (setup : Setup) (hs : List Happening) (white black : List Mark) (w b : ToldLines)
-    → IsSetup setup → Answering (start setup) hs → AreInTime (start setup) hs
+    (setup : FullSetup) (hs : List Happening) (white black : List Mark) (w b : ToldLines)
+    → IsFullSetup setup → Answering (start setup) hs → AreInTime (start setup) hs
     → Feeds (start setup) hs White (Some white) w → Feeds (start setup) hs Black (Some black) b
     → act_at (match_after setup hs).stage ≡ Finish
     → AreSame (start setup) hs (start setup) (match_of setup white black)
@@ -92,7 +92,7 @@ abbrev pub IsFront : {X : Type 0} → List X → List X → Type 0
 IsFront {X} front all = (more : List X) × (all ≡ front ++ more)
 
 -- what happens first in the match of these lines is what has happened, but for readings of the clock
-pub record HappensFirst (setup : Setup) (hs : List Happening) (white black : List Mark)
+pub record HappensFirst (setup : FullSetup) (hs : List Happening) (white black : List Mark)
     : Type 0 where
   pub fs : List Happening
   pub front : IsFront fs (match_of setup white black)
@@ -100,7 +100,8 @@ pub record HappensFirst (setup : Setup) (hs : List Happening) (white black : Lis
 
 -- The moves, and the lines sent to each side, are the first of those of the match of these lines,
 -- and so is what has happened.
-pub record IsBegun (setup : Setup) (hs : List Happening) (white black : List Mark) : Type 0 where
+pub record IsBegun (setup : FullSetup) (hs : List Happening) (white black : List Mark)
+    : Type 0 where
   pub moves : IsFront (match_after setup hs).moves
       (match_after setup (match_of setup white black)).moves
   pub to_white : IsFront (sent (start setup) hs White)
@@ -113,7 +114,7 @@ pub record IsBegun (setup : Setup) (hs : List Happening) (white black : List Mar
 -- match of these lines
 abbrev pub MatchesBegin : Type 0
 MatchesBegin =
-    (setup : Setup) (hs : List Happening) (white black : List Mark) (w b : ToldLines)
-    → IsSetup setup → Answering (start setup) hs → AreInTime (start setup) hs
+    (setup : FullSetup) (hs : List Happening) (white black : List Mark) (w b : ToldLines)
+    → IsFullSetup setup → Answering (start setup) hs → AreInTime (start setup) hs
     → Feeds (start setup) hs White (Some white) w → Feeds (start setup) hs Black (Some black) b
     → IsBegun setup hs white black

@@ -4,6 +4,7 @@ use Rattle.hive_model.specs.Courses.{Course, without_last}
 use Rattle.game_text.specs.declared.seen.Seen.{Seen}
 use Rattle.game_text.specs.Seen.{Sees}
 use Rattle.match_core.specs.declared.answers.Setup.{Setup}
+use Rattle.match_core.specs.Setups.{FullSetup, setup_of, IsBegin}
 use Rattle.match_core.specs.declared.answers.Level.{Level}
 use Rattle.match_core.specs.declared.answers.Level.TheVariants.{Depth, Time}
 use Rattle.match_core.specs.declared.answers.Task.{Task}
@@ -12,7 +13,7 @@ use Rattle.match_core.specs.declared.answers.Stage.{Stage}
 use Rattle.match_core.specs.declared.answers.Stage.TheVariants.{Send, Read, Before, After, Finished}
 use Rattle.match_core.specs.declared.answers.Event.{Event}
 use Rattle.match_core.specs.declared.answers.Event.TheVariants.{Sent, Line, TooLong, Ended, Broke, Reading}
-use Rattle.match_core.specs.Texts.{most_sent}
+use Rattle.match_core.specs.Texts.{most_sent, begin_line}
 use Rattle.match_core.specs.Standing.{Standing, line_for}
 
 -- A depth is from 1 to 64. A time is whole seconds, at most 99 hours, 59 minutes and 59 seconds; a
@@ -27,19 +28,33 @@ pub record IsSetup (setup : Setup) : Type 0 where
   pub few : setup.limit ≤ 1000
   pub level : IsLevel setup.level
 
--- the game may go on
-abbrev pub HasNext : Task → ℕ → ℕ → Type 0
-HasNext Greet plies limit = plies < limit
-HasNext Begin plies limit = plies < limit
-HasNext Ask plies limit = plies < limit
-HasNext (Tell told) plies limit = plies ≤ limit
+-- the same, and the moves that it begins with are a game
+pub record IsFullSetup (setup : FullSetup) : Type 0 where
+  pub plain : IsSetup (setup_of setup)
+  pub begin : IsBegin setup
+
+-- the game may go on, or is at the moves that are given, of which there may be more than the limit
+abbrev pub HasNext : Task → ℕ → ℕ → ℕ → Type 0
+HasNext Greet given plies limit = plies ≤ given + limit
+HasNext Begin given plies limit = plies ≤ given + limit
+HasNext Ask given plies limit = plies < limit
+HasNext (Tell told) given plies limit = plies ≤ limit
+
+-- the line of a task is ready; that to begin with is kept apart
+abbrev pub IsReady : Task → Standing → List ℕ → Type 0
+IsReady Greet s text = text ≡ line_for s Greet
+IsReady Begin s text = Unit {0}
+IsReady Ask s text = text ≡ line_for s Ask
+IsReady (Tell told) s text = text ≡ line_for s (Tell told)
 
 -- the line to send is ready, and the game may go on
 abbrev pub FitsStage : Stage → Standing → List ℕ → Type 0
 FitsStage (Send job side) s text =
-    (text ≡ line_for s job) × HasNext job (length s.moves) s.setup.limit
+    IsReady job s text
+    × HasNext job (length s.setup.begin) (length s.moves) s.setup.limit
 FitsStage (Read job side) s text =
-    (text ≡ line_for s job) × HasNext job (length s.moves) s.setup.limit
+    IsReady job s text
+    × HasNext job (length s.setup.begin) (length s.moves) s.setup.limit
 FitsStage Before s text = length s.moves < s.setup.limit
 FitsStage After s text = length s.moves < s.setup.limit
 FitsStage Finished s text = Unit {0}
@@ -95,14 +110,17 @@ IsSettled Before = Unit {0}
 IsSettled After = Unit {0}
 IsSettled Finished = ⊥
 
--- The game is the one of the moves, with room for the rest, and the rule of third repetition is the
--- setup's. The keys of the positions are kept, and the line to send is ready.
-pub record IsReferee (s : Standing) (game : Course) (seen : Seen) (text : List ℕ)
-    (room : ℕ) : Type 0 where
+-- The game is the one of the moves, those given among them, with room for the rest, and the rule of
+-- third repetition is the setup's. The keys of the positions are kept, and the line to send is
+-- ready.
+pub record IsReferee (s : Standing) (game : Course) (seen : Seen) (begin text : List ℕ)
+    (given room : ℕ) : Type 0 where
   pub kind : game.game_type ≡ s.setup.game_type
   pub same : game.made ≡ s.moves
   pub spare : s.setup.limit ≤ length s.moves + game.spare
-  pub setup : IsSetup s.setup
+  pub setup : IsSetup (setup_of s.setup)
+  pub within : given ≤ length s.moves
+  pub line : begin ≡ begin_line s.setup
   pub asked : s.asked < 2 ^ 62
   pub count : s.count ≤ 1000
   pub short : length (unwrap_or s.first []) ≤ 65536

@@ -1,7 +1,7 @@
 -- What it is that an answer was late.
 use Rattle.std.specs.Prelude.{◌≡◌, ℕ, ◌+◌, ◌<◌, List, Some}
 use Rattle.hive_model.specs.declared.pieces.Colour.{Colour}
-use Rattle.match_core.specs.declared.answers.Setup.{Setup}
+use Rattle.match_core.specs.Setups.{FullSetup}
 use Rattle.match_core.specs.declared.answers.Level.TheVariants.{Time}
 use Rattle.match_core.specs.declared.answers.Cause.TheVariants.{Late}
 use Rattle.match_core.specs.declared.answers.Verdict.TheVariants.{Forfeit}
@@ -28,5 +28,5 @@ LatesAreLate t =
 -- so it is in every match
 abbrev pub MatchesTellLates : Type 0
 MatchesTellLates =
-    (setup : Setup) (hs : List Happening) → Answering (start setup) hs
+    (setup : FullSetup) (hs : List Happening) → Answering (start setup) hs
     → LatesAreLate (match_after setup hs)

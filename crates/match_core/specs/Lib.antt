@@ -1,3 +1,4 @@
+pub mod Setups
 pub mod Replies
 pub mod Texts
 pub mod Standing

@@ -2,13 +2,13 @@
 use Rattle.std.specs.Prelude.{◌≡◌, ◌↔◌, ℕ, zero, suc, ◌+◌, ◌-◌, ◌*◌, ◌<◌, ◌≤◌, Bool, true, false, cond, List, [], ◌∷◌, ◌++◌, length, Option, Some, None, IsTrue}
 use Rattle.hive_model.specs.declared.pieces.Colour.TheVariants.{White, Black}
 use Rattle.hive_model.specs.Lines.{Line as Mark, Text, TooLong as LongMark}
-use Rattle.match_core.specs.declared.answers.Setup.{Setup}
+use Rattle.match_core.specs.Setups.{FullSetup}
 use Rattle.match_core.specs.declared.answers.Task.TheVariants.{Greet, Begin, Ask, Tell}
 use Rattle.match_core.specs.declared.answers.Stage.{Stage}
 use Rattle.match_core.specs.declared.answers.Stage.TheVariants.{Send, Read, Before, After, Finished}
 use Rattle.match_core.specs.declared.answers.Verdict.{Verdict}
 use Rattle.match_core.specs.declared.answers.Act.TheVariants.{Finish}
-use Rattle.match_core.specs.Keeps.{HasNext, IsSetup}
+use Rattle.match_core.specs.Keeps.{HasNext, IsFullSetup}
 use Rattle.match_core.specs.Standing.{Standing, Happening, Sent, Line, TooLong, Ended, Reading, start, match_after, next, act_at, answers}
 use Rattle.match_core.specs.Fairness.{Answering}
 
@@ -97,7 +97,7 @@ happens (suc n) s white black =
     (left_of_black s.stage black))
 
 -- all that happens in the match of two sides whose lines are these
-abbrev pub match_of : Setup → List Mark → List Mark → List Happening
+abbrev pub match_of : FullSetup → List Mark → List Mark → List Happening
 match_of setup white black = happens (left (start setup)) (start setup) white black
 
 -- the bytes of lines that were sent
@@ -105,18 +105,18 @@ abbrev pub joined : List (List ℕ) → List ℕ
 joined [] = []
 joined (line ∷ lines) = line ++ joined lines
 
--- may a match be at this place, after so many moves
-abbrev pub IsPliesAt : Stage → ℕ → ℕ → Type 0
-IsPliesAt (Send job side) plies limit = HasNext job plies limit
-IsPliesAt (Read job side) plies limit = HasNext job plies limit
-IsPliesAt Before plies limit = plies < limit
-IsPliesAt After plies limit = plies < limit
-IsPliesAt Finished plies limit = Unit {0}
+-- may a match that begins with so many moves be at this place, after so many moves
+abbrev pub IsPliesAt : Stage → ℕ → ℕ → ℕ → Type 0
+IsPliesAt (Send job side) given plies limit = HasNext job given plies limit
+IsPliesAt (Read job side) given plies limit = HasNext job given plies limit
+IsPliesAt Before given plies limit = plies < limit
+IsPliesAt After given plies limit = plies < limit
+IsPliesAt Finished given plies limit = Unit {0}
 
 -- a match at its place: it has no more moves and lines than it may have, and is over exactly where
 -- it has a verdict
 pub record IsBounded (s : Standing) : Type 0 where
-  pub plies : IsPliesAt s.stage (length s.moves) s.setup.limit
+  pub plies : IsPliesAt s.stage (length s.setup.begin) (length s.moves) s.setup.limit
   pub count : s.count ≤ 1000
   pub judged : is_finished s.stage ≡ has_verdict s.verdict
 
@@ -129,13 +129,13 @@ MatchesNearTheirEnd =
 -- the match of two sides is one to its end: what happens in it answers the acts, and is not cut
 -- before there is a verdict
 abbrev pub MatchesEnd : Type 0
-MatchesEnd = (setup : Setup) (white black : List Mark) → IsSetup setup
+MatchesEnd = (setup : FullSetup) (white black : List Mark) → IsFullSetup setup
     → Answering (start setup) (match_of setup white black)
     × (act_at (match_after setup (match_of setup white black)).stage ≡ Finish)
 
 -- a match is over exactly where it has a verdict
 abbrev pub MatchesAreJudged : Type 0
 MatchesAreJudged =
-    (setup : Setup) (hs : List Happening) → IsSetup setup → Answering (start setup) hs
+    (setup : FullSetup) (hs : List Happening) → IsFullSetup setup → Answering (start setup) hs
     → (act_at (match_after setup hs).stage ≡ Finish)
     ↔ (has_verdict (match_after setup hs).verdict ≡ true)

@@ -10,7 +10,7 @@ use Rattle.hive_model.specs.Legal.{is_over_state}
 use Rattle.hive_model.specs.Repetition.{outcome_under}
 use Rattle.hive_model.specs.Courses.{is_listed}
 use Rattle.move_text.specs.declared.faults.MoveFault.{MoveFault}
-use Rattle.match_core.specs.declared.answers.Setup.{Setup}
+use Rattle.match_core.specs.Setups.{FullSetup}
 use Rattle.match_core.specs.declared.answers.Level.{Level}
 use Rattle.match_core.specs.declared.answers.Level.TheVariants.{Depth, Time}
 use Rattle.match_core.specs.declared.answers.Task.{Task}
@@ -49,7 +49,7 @@ happening (ReadingEvent at) line = Reading at
 -- a match: the place that it has reached, the first clock reading of the current question, and of
 -- the current reply the first line and the number of lines
 pub record Standing : Type 0 where
-  pub setup : Setup
+  pub setup : FullSetup
   pub moves : List Move
   pub stage : Stage
   pub asked : ℕ
@@ -59,7 +59,7 @@ pub record Standing : Type 0 where
 
 -- the match of this setup that stands so
 abbrev pub standing :
-    Setup → List Move → Stage → ℕ → Option (List ℕ) → ℕ → Option Verdict → Standing
+    FullSetup → List Move → Stage → ℕ → Option (List ℕ) → ℕ → Option Verdict → Standing
 standing setup moves stage asked first count verdict =
     record {
       setup = setup;
@@ -79,9 +79,9 @@ position_now s = replay (opening s.setup.game_type) s.moves
 abbrev pub position_before : Standing → Position
 position_before s = replay (opening s.setup.game_type) (take (length s.moves - 1) s.moves)
 
--- white's greeting is read first
-abbrev pub start : Setup → Standing
-start setup = standing setup [] (Read Greet White) 0 None 0 None
+-- the moves that the match begins with are made, and white's greeting is read first
+abbrev pub start : FullSetup → Standing
+start setup = standing setup setup.begin (Read Greet White) 0 None 0 None
 
 -- the act to come
 abbrev pub act_at : Stage → Act
@@ -94,7 +94,7 @@ act_at Finished = Finish
 -- the line to send
 abbrev pub line_for : Standing → Task → List ℕ
 line_for s Greet = []
-line_for s Begin = begin_line s.setup.game_type
+line_for s Begin = begin_line s.setup
 line_for s Ask = ask_line s.setup.level
 line_for s (Tell told) = tell_line (position_before s) told
 
@@ -144,7 +144,7 @@ judge s =
 abbrev pub outcome_of : Standing → State
 outcome_of s = outcome_under s.setup.repetition s.setup.game_type s.moves
 
--- both sides know the last move
+-- both sides know all moves
 unfoldable pub decide : Standing → Standing
 decide s =
     cond (is_over_state (outcome_of s)) (finish s (Rules (outcome_of s)))
@@ -160,7 +160,7 @@ abbrev pub reply_ends : Standing → Task → Colour → Standing
 reply_ends s Greet White = go s (Read Greet Black)
 reply_ends s Greet Black = go s (Send Begin White)
 reply_ends s Begin White = go s (Send Begin Black)
-reply_ends s Begin Black = ask s
+reply_ends s Begin Black = decide s
 reply_ends s Ask side = answered s s.setup.level
 reply_ends s (Tell told) White = go s (Send (Tell told) Black)
 reply_ends s (Tell told) Black = decide s
@@ -263,5 +263,5 @@ after_all s [] = s
 after_all s (h ∷ hs) = after_all (next s h) hs
 
 -- the match of a setup after all that happened
-abbrev pub match_after : Setup → List Happening → Standing
+abbrev pub match_after : FullSetup → List Happening → Standing
 match_after setup hs = after_all (start setup) hs

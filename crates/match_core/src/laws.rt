@@ -1,12 +1,13 @@
 //! What holds of every match, as the contract of a function.
-ghost use Rattle.match_core.specs.Fairness.{MatchesAreFair};
+ghost use Rattle.match_core.specs.Fairness.{MatchesAreFair, PlainMatchesAsk};
 ghost use Rattle.match_core.specs.Plays.{MatchesNearTheirEnd, MatchesEnd, MatchesAreJudged};
 ghost use Rattle.match_core.specs.Feeds.{MatchesAreOfTheirLines, MatchesBegin};
 ghost use Rattle.match_core.specs.Lates.{MatchesTellLates};
 
-/// Over every list of events that answer the acts the moves are a legal game, none follows the end
-/// of the game, each is what the reply of the side to move denotes, and each side was told all of
-/// them, or all but the last, in lines that are those of these moves.
+/// Over every list of events that answer the acts the moves are a legal game that begins with those
+/// given. None of the others follows the end of the game, each is what the reply of the side to
+/// move denotes, and each side was told all of them, or all but the last, in lines that are those
+/// of these moves.
 pub fn matches_are_fair()
     ensures { MatchesAreFair }
 {}
@@ -43,4 +44,10 @@ pub fn matches_begin()
 /// answered after the time and the margin had passed since it was asked.
 pub fn matches_tell_lates()
     ensures { MatchesTellLates }
+{}
+
+/// A match that begins with the opening, and may have a move, asks the side to move as soon as both
+/// sides were told to begin.
+pub fn plain_matches_ask()
+    ensures { PlainMatchesAsk }
 {}

@@ -11,6 +11,7 @@ ghost use Rattle.std.specs.Prelude.{
   None,
   MatchOption,
 };
+ghost use Rattle.match_core.specs.Setups.{setup_from, setup_plain, IsBegin};
 ghost use Rattle.match_core.specs.Standing.{start, next, happening, act_at, answers};
 ghost use Rattle.match_core.specs.Keeps.{IsSetup, IsSend, line_at, IsEarly};
 
@@ -18,23 +19,28 @@ mod judging;
 mod steps;
 
 use crate::answers::{Act, Event, Setup, Stage, Task, Verdict};
-use game_text::Seen;
-use hive_model::{Colour, Game, LineText};
+use crate::texts::begin_line;
+use game_text::{Seen, seen_under};
+use hive_model::{Colour, Game, LineText, ReplyText};
 use std::alloc::{AllocError, Global};
 use std::marker::Model;
 
 /// A match that is under way, as it stands after what has happened in it.
 ///
-/// Each engine greets first, white before black, and is then told to begin a new game. The side to
-/// move is asked for its best move; the first line of its reply is judged, and a legal move is
-/// played and told to white and then to black. The match ends by the rules, at its limit of plies,
-/// or by a forfeit. Where the setup says so, a position that stands for the third time draws the
-/// game.
+/// Each engine greets first, white before black, and is then told the game to begin: a new one, or
+/// one under way. The side to move is asked for its best move; the first line of its reply is
+/// judged, and a legal move is played and told to white and then to black. The match ends by the
+/// rules, at its limit of plies, or by a forfeit. Where the setup says so, a position that stands
+/// for the third time draws the game.
 #[derive(Drop)]
 pub struct Referee<G: Game> {
     alloc: Global,
     setup: Setup,
     game: G,
+    /// So many of the game's moves were made before the match.
+    given: u32,
+    /// The line that tells a side the game to begin.
+    begin: ReplyText,
     seen: Seen,
     stage: Stage,
     asked: u64,
@@ -45,35 +51,57 @@ pub struct Referee<G: Game> {
 }
 
 impl<G: Game> Model for Referee<G> {
-    ghost use Rattle.std.specs.Prelude.{vec_capacity};
+    ghost use Rattle.std.specs.Prelude.{take, vec_capacity};
+    ghost use Rattle.match_core.specs.Setups.{setup_from};
     ghost use Rattle.match_core.specs.Standing.{Standing, standing};
     ghost use Rattle.match_core.specs.Keeps.{IsReferee};
 
     ghost Value = { Standing };
 
-    ghost view = { λ r. standing r.setup (G.course r.game).made r.stage r.asked r.first r.count
-        r.verdict };
+    ghost view = { λ r. standing (setup_from r.setup (take r.given (G.course r.game).made))
+        (G.course r.game).made r.stage r.asked r.first r.count r.verdict };
 
-    ghost invariant = { λ r. IsReferee (standing r.setup (G.course r.game).made r.stage r.asked
-        r.first r.count r.verdict)
-        (G.course r.game) r.seen r.text.items (vec_capacity r.text) };
+    ghost invariant = { λ r. IsReferee (standing
+        (setup_from r.setup (take r.given (G.course r.game).made)) (G.course r.game).made r.stage
+        r.asked r.first r.count r.verdict)
+        (G.course r.game) r.seen r.begin r.text.items r.given (vec_capacity r.text) };
 }
 
 impl<G: Game + Drop> Referee<G> {
-    /// The referee of a match that begins. It makes room for the whole match, and answers
-    /// `AllocError` where there is none.
+    /// The referee of a match that begins with the opening. It makes room for the whole match, and
+    /// answers `AllocError` where there is none.
     pub fn new(alloc: Global, setup: Setup) -> Result<Referee<G>, AllocError>
         requires { IsSetup setup }
-        ensures { IfOk result (λ r. r ≡ start setup) }
+        ensures { IfOk result (λ r. r ≡ start (setup_plain setup)) }
     {
-        let mut game = G::opening(alloc, setup.game_type)?;
-        game.reserve(setup.limit)?;
-        let seen = Seen::of(alloc, setup.repetition, &game)?;
+        let game = G::opening(alloc, setup.game_type)?;
+        Referee::from_game(alloc, setup, game)
+    }
+
+    /// The referee of a match that begins with a game under way, of the type of the setup. Its
+    /// moves are given, and the match goes on from the position that they lead to. Where the game
+    /// is over, or has as many plies as the limit or more, the match ends as soon as both sides
+    /// were told to begin. Room is made for the whole match; where there is none the answer is
+    /// `AllocError`.
+    pub fn from_game(alloc: Global, setup: Setup, game: G) -> Result<Referee<G>, AllocError>
+        requires setup { IsSetup setup }
+        requires kind { (G.course game).game_type ≡ setup.game_type }
+        ensures start { IfOk result (λ r. r ≡ start (setup_from setup (G.course game).made)) }
+        ensures begin { IsBegin (setup_from setup (G.course game).made) }
+    {
+        let mut game = game;
+        game.is_sound();
+        let given = game.plies();
+        game.reserve(setup.limit.saturating_sub(given))?;
+        let seen = seen_under(alloc, &game, setup.repetition)?;
+        let begin = begin_line(alloc, setup, &game)?;
         let text = Vec::with_capacity(alloc, 64)?;
         Ok(Referee {
             alloc,
             setup,
             game,
+            given,
+            begin,
             seen,
             stage: Stage::Read {
                 task: Task::Greet,
@@ -107,7 +135,13 @@ impl<G: Game + Drop> Referee<G> {
         requires { IsSend self.now.stage }
         ensures { result.now ≡ line_at self.now self.now.stage }
     {
-        self.text.as_slice()
+        match self.stage {
+            Stage::Send {
+                task: Task::Begin,
+                side: _,
+            } => self.begin.items(),
+            _ => self.text.as_slice(),
+        }
     }
 
     /// The verdict: none until the match is over.

@@ -1,15 +1,18 @@
 //! The lines that are sent, and the move of a line.
-ghost use Rattle.std.specs.Prelude.{◌≡◌, ◌+◌, ◌≤◌, ◌++◌, length, vec_len, vec_capacity};
+ghost use Rattle.std.specs.Prelude.{◌≡◌, ◌+◌, ◌≤◌, ◌++◌, length, vec_len, vec_capacity, IfOk};
 ghost use Rattle.hive_model.specs.Courses.{position};
 ghost use Rattle.hive_model.specs.Legal.{moves};
 ghost use Rattle.hive_model.specs.Lists.{IsOn};
+ghost use Rattle.match_core.specs.Setups.{setup_from};
 ghost use Rattle.match_core.specs.Keeps.{IsLevel};
 ghost use Rattle.match_core.specs.Texts.{read_of, begin_line, ask_line, tell_line, most_sent};
 
-use crate::answers::Level;
-use hive_model::{Game, GameType, Move};
+use crate::answers::{Level, Setup};
+use game_text::write_game;
+use hive_model::{Game, Move, ReplyText};
 use itoa::Buffer;
 use move_text::{MoveFault, read_move, time_text, type_text, write_move};
+use std::alloc::{AllocError, Global};
 
 /// The move that a line denotes on the game's board, or why it denotes none.
 #[tactic(auto, unfolding(crate::specs::Texts::read_of))]
@@ -33,16 +36,25 @@ fn put(text: &mut Vec<u8>, bytes: &[u8])
     let _ = text.extend_from_slice(bytes);
 }
 
+/// The line that asks for a game, from which a match of this setup is played.
 #[tactic(auto, unfolding(crate::specs::Texts::begin_line))]
-pub(crate) fn write_begin(text: &mut Vec<u8>, game_type: GameType)
-    requires { most_sent ≤ vec_capacity text.old }
-    ensures text { text.new.items ≡ begin_line game_type }
-    ensures room { most_sent ≤ vec_capacity text.new }
+pub(crate) fn begin_line<G: Game + Drop>(
+    alloc: Global,
+    setup: Setup,
+    game: &G,
+) -> Result<ReplyText, AllocError>
+    requires { (G.course game.now).game_type ≡ setup.game_type }
+    ensures { IfOk result (λ t. t ≡ begin_line (setup_from setup (G.course game.now).made)) }
 {
-    text.clear();
-    put(text, b"newgame ");
-    put(text, type_text(game_type).as_bytes());
-    put(text, b"\n");
+    let mut line = ReplyText::new(alloc);
+    line.push_all(b"newgame ")?;
+    if game.plies() == 0 {
+        line.push_all(type_text(setup.game_type).as_bytes())?;
+    } else {
+        write_game(alloc, game, &mut line)?;
+    }
+    line.push(b'\n')?;
+    Ok(line)
 }
 
 #[tactic(auto, unfolding(crate::specs::Texts::ask_line))]

@@ -6,7 +6,7 @@ use Rattle.hive_model.specs.declared.places.Move.{Move}
 use Rattle.hive_model.specs.Legal.{is_over_state}
 use Rattle.hive_model.specs.Courses.{is_listed}
 use Rattle.move_text.specs.declared.faults.MoveFault.{MoveFault}
-use Rattle.match_core.specs.declared.answers.Setup.{Setup}
+use Rattle.match_core.specs.Setups.{FullSetup}
 use Rattle.match_core.specs.declared.answers.Level.{Level}
 use Rattle.match_core.specs.declared.answers.Level.TheVariants.{Depth, Time}
 use Rattle.match_core.specs.declared.answers.Task.{Task}
@@ -65,7 +65,7 @@ ends_reply : (s : Standing) (job : Task) (side : Colour) → IsUnbroken s.verdic
 ends_reply s Greet White u = u
 ends_reply s Greet Black u = u
 ends_reply s Begin White u = u
-ends_reply s Begin Black u = asks s u
+ends_reply s Begin Black u = decides s u
 ends_reply s Ask side u = answers_as s s.setup.level u
 ends_reply s (Tell m) White u = u
 ends_reply s (Tell m) Black u = decides s u
@@ -111,7 +111,7 @@ unbroken : (hs : List Happening) (s : Standing) → AreSound hs → IsUnbroken s
 unbroken [] s v u = u
 unbroken (h ∷ hs) s (v, w) u = unbroken hs (next s h) w (subst (λ (x : Standing). IsUnbroken x.verdict) (sym (next_is s h)) (goes_at s.stage s h v u))
 
-none_yet : (setup : Setup) → IsUnbroken (start setup).verdict
+none_yet : (setup : FullSetup) → IsUnbroken (start setup).verdict
 none_yet setup = λ side e. cc
 
 verdict_broke : (stage : Stage) (s : Standing) (side : Colour) → (act_at stage ≡ SendAct side) ⊎ (act_at stage ≡ ReadAct side) → (at_stage s stage Broke).verdict ≡ Some (Forfeit side BrokeCause)
@@ -132,10 +132,10 @@ verdict_broke After s side (inr e) = absurd (cc)
 verdict_broke Finished s side (inl e) = absurd (cc)
 verdict_broke Finished s side (inr e) = absurd (cc)
 
-pub cut_verdict : (side : Colour) (setup : Setup) (t : Standing) (w0 w b0 b : Side) (r0 r : Watch) → Cut side setup t w0 w b0 b r0 r → t.verdict ≡ Some (Forfeit side BrokeCause)
+pub cut_verdict : (side : Colour) (setup : FullSetup) (t : Standing) (w0 w b0 b : Side) (r0 r : Watch) → Cut side setup t w0 w b0 b r0 r → t.verdict ≡ Some (Forfeit side BrokeCause)
 cut_verdict side setup t w0 w b0 b r0 r (s, w1, b1, run, br, act) = ap (λ (x : Standing). x.verdict) (br.next_is ∙ next_is s Broke) ∙ verdict_broke s.stage s side act
 
-pub broke_final : (setup : Setup) (t : Standing) (w0 w b0 b : Wire) (r0 r : Watch) → FinalRun setup t w0 w b0 b r0 r → BrokeOnly t w0 w b0 b
+pub broke_final : (setup : FullSetup) (t : Standing) (w0 w b0 b : Wire) (r0 r : Watch) → FinalRun setup t w0 w b0 b r0 r → BrokeOnly t w0 w b0 b
 broke_final setup t w0 w b0 b r0 r final =
     elim final.ran.ended [
       | inl whole ↦

@@ -7,13 +7,13 @@ use Rattle.hive_model.specs.declared.pieces.Colour.{Colour}
 use Rattle.hive_model.specs.declared.pieces.Colour.TheVariants.{White, Black}
 use Rattle.hive_model.specs.Lines.{ToldLines, lines}
 use Rattle.line_feed.specs.Feed.{fresh}
-use Rattle.match_core.specs.declared.answers.Setup.{Setup}
+use Rattle.match_core.specs.Setups.{FullSetup}
 use Rattle.match_core.specs.declared.answers.Stage.{Stage}
 use Rattle.match_core.specs.declared.answers.Stage.TheVariants.{After}
 use Rattle.match_core.specs.declared.answers.Cause.TheVariants.{NotAMove, Illegal, ErrLine, Flood, LongLine, Ended as EndedCause, Broke as BrokeCause, Late}
 use Rattle.match_core.specs.declared.answers.Verdict.{Verdict}
 use Rattle.match_core.specs.declared.answers.Verdict.TheVariants.{Rules, Limit, Forfeit}
-use Rattle.match_core.specs.Keeps.{IsSetup}
+use Rattle.match_core.specs.Keeps.{IsFullSetup}
 use Rattle.match_core.specs.Standing.{Standing, Happening, Reading, Broke, start, match_after, next, after_all, act_at, answers}
 use Rattle.match_core.specs.Fairness.{sent, sent_at}
 use Rattle.match_core.specs.Feeds.{Feeds}
@@ -30,11 +30,11 @@ use Rattle.match_runner.proofs.Telling.{feeds_from, in_time}
 
 -- The course
 
-run_course : (setup : Setup) (t : Standing) (w0 w b0 b : Side) (r0 r : Watch) → Run setup t w0 w b0 b r0 r → HasTimedCourse setup t r0.last r.last
+run_course : (setup : FullSetup) (t : Standing) (w0 w b0 b : Side) (r0 r : Watch) → Run setup t w0 w b0 b r0 r → HasTimedCourse setup t r0.last r.last
 run_course setup t w0 w b0 b r0 r (hs, run) = (hs, record { here = run.here; fits = run.fits }, run.time)
 
 -- a fault happened last
-cut_course : (side : Colour) (setup : Setup) (t : Standing) (w0 w b0 b : Side) (r0 r : Watch) → Cut side setup t w0 w b0 b r0 r → HasTimedCourse setup t r0.last r.last
+cut_course : (side : Colour) (setup : FullSetup) (t : Standing) (w0 w b0 b : Side) (r0 r : Watch) → Cut side setup t w0 w b0 b r0 r → HasTimedCourse setup t r0.last r.last
 cut_course side setup t w0 w b0 b r0 r (s, w1, b1, (hs, run), br, act) =
     let fits : IsTrue (answers (act_at (match_after setup hs).stage) Broke) = subst (λ (x : Standing). IsTrue (answers (act_at x.stage) Broke)) run.here br.fits in (
       hs ++ Broke ∷ [],
@@ -45,14 +45,14 @@ cut_course side setup t w0 w b0 b r0 r (s, w1, b1, (hs, run), br, act) =
       time-snoc hs Broke r0.last r.last r.last run.time refl,
     )
 
-pub timed_final : (setup : Setup) (t : Standing) (w0 w b0 b : Wire) (r0 r : Watch) → FinalRun setup t w0 w b0 b r0 r → HasTimedCourse setup t r0.last r.last
+pub timed_final : (setup : FullSetup) (t : Standing) (w0 w b0 b : Wire) (r0 r : Watch) → FinalRun setup t w0 w b0 b r0 r → HasTimedCourse setup t r0.last r.last
 timed_final setup t w0 w b0 b r0 r final =
     by_end setup t _ _ _ _ r0 r (HasTimedCourse setup t r0.last r.last) final.ran (λ whole. run_course setup t _ _ _ _ r0 r whole.0) (λ side cut. cut_course side setup t _ _ _ _ r0 r cut)
 
-pub course_final : (setup : Setup) (t : Standing) (w0 w b0 b : Wire) (r0 r : Watch) → FinalRun setup t w0 w b0 b r0 r → HasCourse setup t
+pub course_final : (setup : FullSetup) (t : Standing) (w0 w b0 b : Wire) (r0 r : Watch) → FinalRun setup t w0 w b0 b r0 r → HasCourse setup t
 course_final setup t w0 w b0 b r0 r final = let (hs, is, time) = timed_final setup t w0 w b0 b r0 r final in (hs, is)
 
-pub lates_final : (setup : Setup) (t : Standing) (w0 w b0 b : Wire) (r0 r : Watch) → FinalRun setup t w0 w b0 b r0 r → LatesAreLate t
+pub lates_final : (setup : FullSetup) (t : Standing) (w0 w b0 b : Wire) (r0 r : Watch) → FinalRun setup t w0 w b0 b r0 r → LatesAreLate t
 lates_final setup t w0 w b0 b r0 r final = let (hs, is) = course_final setup t w0 w b0 b r0 r final in subst LatesAreLate (sym is.here) (matches_tell_lates setup hs is.fits)
 
 -- Up to a reply
@@ -97,7 +97,7 @@ none_sent s stage at to e = rw e refl
 sent_before : (fs : List Happening) (s : Standing) (at : ℕ) (to : Colour) → (after_all s fs).stage ≡ After → sent s (fs ++ Reading at ∷ []) to ≡ sent s fs to
 sent_before fs s at to e = sent-append fs (Reading at ∷ []) s to ∙ (ap (λ z. sent s fs to ++ z) (none_sent (after_all s fs) (after_all s fs).stage at to e) ∙ append-nil (sent s fs to))
 
-whole_late : (setup : Setup) (t : Standing) (w0 w b0 b : Wire) (w_now b_now : Side) (r0 r : Watch) (white black : List ℕ) → IsSetup setup → w0.rest ≡ Some white → b0.rest ≡ Some black → IsLate t.verdict
+whole_late : (setup : FullSetup) (t : Standing) (w0 w b0 b : Wire) (w_now b_now : Side) (r0 r : Watch) (white black : List ℕ) → IsFullSetup setup → w0.rest ≡ Some white → b0.rest ≡ Some black → IsLate t.verdict
     → w_now.written ≡ w.written → b_now.written ≡ b.written → Whole setup t (side_of fresh w0.rest w0.written) w_now (side_of fresh b0.rest b0.written) b_now r0 r
     → IsUpToReply setup (lines white) (lines black) t w0.written w.written b0.written b.written
 whole_late setup t w0 w b0 b w_now b_now r0 r white black is e f late ws bs ((hs, run), over) =
@@ -125,7 +125,7 @@ whole_late setup t w0 w b0 b w_now b_now r0 r white black is e f late ws bs ((hs
       to_black = sym bs ∙ (run.black.wrote ∙ ap (λ x. behind b0.written (joined x)) to_black);
     }
 
-pub late_run_final : (setup : Setup) (t : Standing) (w0 w b0 b : Wire) (r0 r : Watch) → IsSetup setup → FinalRun setup t w0 w b0 b r0 r → LateRun setup t w0 w b0 b
+pub late_run_final : (setup : FullSetup) (t : Standing) (w0 w b0 b : Wire) (r0 r : Watch) → IsFullSetup setup → FinalRun setup t w0 w b0 b r0 r → LateRun setup t w0 w b0 b
 late_run_final setup t w0 w b0 b r0 r is final = λ white black e f wn bn late.
     elim final.ran.ended [
       | inr cut ↦ elim cut [ inl c ↦ absurd (wn c.1) | inr c ↦ absurd (bn c.1) ]

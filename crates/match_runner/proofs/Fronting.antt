@@ -2,7 +2,7 @@ use Rattle.std.proofs.lemmas.List.{append-nil, take-append-drop}
 use Rattle.io_edge.proofs.Told.{behind-behind}
 use Rattle.hive_model.specs.declared.pieces.Colour.{Colour}
 use Rattle.hive_model.specs.declared.pieces.Colour.TheVariants.{White, Black}
-use Rattle.match_core.specs.declared.answers.Setup.{Setup}
+use Rattle.match_core.specs.Setups.{FullSetup}
 use Rattle.match_core.specs.declared.answers.Stage.{Stage}
 use Rattle.match_core.specs.declared.answers.Stage.TheVariants.{Send, Read, Before, After, Finished as FinishedStage}
 use Rattle.match_core.specs.declared.answers.Act.TheVariants.{Send as SendAct, Read as ReadAct, Finish}
@@ -18,7 +18,7 @@ use Rattle.match_runner.specs.Runs.{AreSound, Run, Cut, FinalRun, FrontRun, IsFr
 use Rattle.std.proofs.Common.{◌≡◌, ◌⊎◌, inl, inr, ℕ, true, false, List, [], ◌∷◌, refl, ap, sym, ◌∙◌, Some, IsTrue, subst, ◌++◌, append_assoc}
 use Rattle.io_edge.specs.Outside.{Told, behind}
 use Rattle.line_feed.specs.Feed.{fresh}
-use Rattle.match_core.specs.Keeps.{IsSetup}
+use Rattle.match_core.specs.Keeps.{IsFullSetup}
 use Rattle.match_core.proofs.Follows.{next_is}
 use Rattle.match_core.proofs.Fronts.{matches_begin}
 use Rattle.match_runner.proofs.Looks.{moves_broke}
@@ -113,12 +113,12 @@ joined_front : (xs ys : List (List ℕ)) → IsFront xs ys → IsFront (joined x
 joined_front xs ys (more, e) = (joined more, ap joined e ∙ joined-append xs more)
 
 -- the moves and lines of events that are no fault are the first ones
-record Fronts (setup : Setup) (hs : List Happening) (white black : List Mark) : Type 0 where
+record Fronts (setup : FullSetup) (hs : List Happening) (white black : List Mark) : Type 0 where
   moves : IsFront (match_after setup hs).moves (match_after setup (match_of setup white black)).moves
   to_white : IsFront (joined (sent (start setup) hs White)) (joined (sent (start setup) (match_of setup white black) White))
   to_black : IsFront (joined (sent (start setup) hs Black)) (joined (sent (start setup) (match_of setup white black) Black))
 
-fronts : (setup : Setup) (hs : List Happening) (white black : List Mark) (w b : ToldLines) → IsSetup setup → Answering (start setup) hs → AreSound hs → Feeds (start setup) hs White (Some white) w → Feeds (start setup) hs Black (Some black) b → Fronts setup hs white black
+fronts : (setup : FullSetup) (hs : List Happening) (white black : List Mark) (w b : ToldLines) → IsFullSetup setup → Answering (start setup) hs → AreSound hs → Feeds (start setup) hs White (Some white) w → Feeds (start setup) hs Black (Some black) b → Fronts setup hs white black
 fronts setup hs white black w b is a v e f =
     let q = in_front_of hs (start setup) (Some white) (Some black) w b a v e f in
     let g = matches_begin setup q.fs white black q.w q.b is q.fits q.time q.white q.black in
@@ -128,7 +128,7 @@ fronts setup hs white black w b is a v e f =
       to_black = subst (λ z. IsFront (joined z) (joined (sent (start setup) (match_of setup white black) Black))) (sym q.to_black) (joined_front _ _ g.to_black);
     }
 
-front_run : (setup : Setup) (t : Standing) (w_old b_old : Told) (w b : Side) (w_rest b_rest : Told) (r0 r : Watch) (white black : List ℕ) → IsSetup setup → w_rest ≡ Some white → b_rest ≡ Some black
+front_run : (setup : FullSetup) (t : Standing) (w_old b_old : Told) (w b : Side) (w_rest b_rest : Told) (r0 r : Watch) (white black : List ℕ) → IsFullSetup setup → w_rest ≡ Some white → b_rest ≡ Some black
     → Run setup t (side_of fresh w_rest w_old) w (side_of fresh b_rest b_old) b r0 r → IsFrontOf setup (lines white) (lines black) t w_old w.written b_old b.written
 front_run setup t w_old b_old w b w_rest b_rest r0 r white black is e f (hs, run) =
     let g = fronts setup hs (lines white) (lines black) w.ahead b.ahead is run.fits run.sound (feeds_from setup hs White w_rest w_old w white e run.white) (feeds_from setup hs Black b_rest b_old b black f run.black) in
@@ -163,11 +163,11 @@ read_nothing After s side to e = refl
 read_nothing FinishedStage s side to e = refl
 
 -- both sides, where the line of this act is taken in part
-record CutFronts (setup : Setup) (hs : List Happening) (white black : List Mark) : Type 0 where
+record CutFronts (setup : FullSetup) (hs : List Happening) (white black : List Mark) : Type 0 where
   to_white : (n : ℕ) → IsFront (joined (sent (start setup) hs White) ++ take n (joined (sent_at (match_after setup hs) (match_after setup hs).stage Sent White))) (joined (sent (start setup) (match_of setup white black) White))
   to_black : (n : ℕ) → IsFront (joined (sent (start setup) hs Black) ++ take n (joined (sent_at (match_after setup hs) (match_after setup hs).stage Sent Black))) (joined (sent (start setup) (match_of setup white black) Black))
 
-cut_fronts : (side : Colour) (setup : Setup) (hs : List Happening) (white black : List Mark) (w b : ToldLines) → IsSetup setup → Answering (start setup) hs → AreSound hs → Feeds (start setup) hs White (Some white) w → Feeds (start setup) hs Black (Some black) b
+cut_fronts : (side : Colour) (setup : FullSetup) (hs : List Happening) (white black : List Mark) (w b : ToldLines) → IsFullSetup setup → Answering (start setup) hs → AreSound hs → Feeds (start setup) hs White (Some white) w → Feeds (start setup) hs Black (Some black) b
     → (act_at (match_after setup hs).stage ≡ SendAct side) ⊎ (act_at (match_after setup hs).stage ≡ ReadAct side) → CutFronts setup hs white black
 cut_fronts side setup hs white black w b is a v e f (inr x) =
     let g = fronts setup hs white black w b is a v e f in
@@ -187,7 +187,7 @@ cut_fronts side setup hs white black w b is a v e f (inl x) =
 cut_sent : (old mid new : Told) (xs ys all : List ℕ) (n : ℕ) → mid ≡ behind old xs → new ≡ behind mid (take n ys) → IsFront (xs ++ take n ys) all → IsFrontSent old new all
 cut_sent old mid new xs ys all n e f g = (xs ++ take n ys, f ∙ (ap (λ z. behind z (take n ys)) e ∙ behind-behind old xs (take n ys)), g)
 
-front_cut : (side : Colour) (setup : Setup) (t : Standing) (w_old b_old : Told) (w b : Side) (w_rest b_rest : Told) (r0 r : Watch) (white black : List ℕ) → IsSetup setup → w_rest ≡ Some white → b_rest ≡ Some black
+front_cut : (side : Colour) (setup : FullSetup) (t : Standing) (w_old b_old : Told) (w b : Side) (w_rest b_rest : Told) (r0 r : Watch) (white black : List ℕ) → IsFullSetup setup → w_rest ≡ Some white → b_rest ≡ Some black
     → Cut side setup t (side_of fresh w_rest w_old) w (side_of fresh b_rest b_old) b r0 r → IsFrontOf setup (lines white) (lines black) t w_old w.written b_old b.written
 front_cut side setup t w_old b_old w b w_rest b_rest r0 r white black is e f (s, w1, b1, (hs, run), br, act) =
     let same : t.moves ≡ s.moves = ap (λ (x : Standing). x.moves) (br.next_is ∙ next_is s Broke) ∙ moves_broke s.stage s br.fits in
@@ -202,7 +202,7 @@ front_cut side setup t w_old b_old w b w_rest b_rest r0 r white black is e f (s,
       to_black = cut_sent b_old b1.written b.written (joined (sent (start setup) hs Black)) _ _ cb.0 run.black.wrote cb.1 (g.to_black cb.0);
     }
 
-pub front_final : (setup : Setup) (t : Standing) (w0 w b0 b : Wire) (r0 r : Watch) → IsSetup setup → FinalRun setup t w0 w b0 b r0 r → FrontRun setup t w0 w b0 b
+pub front_final : (setup : FullSetup) (t : Standing) (w0 w b0 b : Wire) (r0 r : Watch) → IsFullSetup setup → FinalRun setup t w0 w b0 b r0 r → FrontRun setup t w0 w b0 b
 front_final setup t w0 w b0 b r0 r is final = λ white black e f.
     by_end setup t _ _ _ _ r0 r (IsFrontOf setup (lines white) (lines black) t w0.written w.written b0.written b.written) final.ran
     (λ whole. front_run setup t w0.written b0.written (side_of final.white_reader w.rest w.written) (side_of final.black_reader b.rest b.written) w0.rest b0.rest r0 r white black is e f whole.0)

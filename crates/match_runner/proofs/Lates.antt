@@ -6,7 +6,7 @@ use Rattle.hive_model.specs.declared.places.Move.{Move}
 use Rattle.hive_model.specs.Legal.{is_over_state}
 use Rattle.hive_model.specs.Courses.{is_listed}
 use Rattle.move_text.specs.declared.faults.MoveFault.{MoveFault}
-use Rattle.match_core.specs.declared.answers.Setup.{Setup}
+use Rattle.match_core.specs.Setups.{FullSetup}
 use Rattle.match_core.specs.declared.answers.Level.{Level}
 use Rattle.match_core.specs.declared.answers.Level.TheVariants.{Depth, Time}
 use Rattle.match_core.specs.declared.answers.Task.{Task}
@@ -19,7 +19,7 @@ use Rattle.match_core.specs.declared.answers.Verdict.TheVariants.{Rules, Limit, 
 use Rattle.match_core.specs.Replies.{is_ok, is_error}
 use Rattle.match_core.specs.Standing.{Standing, Happening, Sent, Line, TooLong, Ended, Broke, Reading, start, next, after_all, act_at, answers, position_now, go, finish, ask, judge, judge_read, decide, accept, first_line, at_stage, is_late, keep, reply_ends, hear, question, forfeit, answered, outcome_of}
 use Rattle.match_core.specs.Texts.{read_of}
-use Rattle.match_core.specs.Keeps.{IsSetup}
+use Rattle.match_core.specs.Keeps.{IsFullSetup}
 use Rattle.match_core.specs.Fairness.{Answering}
 use Rattle.std.proofs.Common.{◌≡◌, ◌≤◌, ℕ, false, cond, List, [], ◌∷◌, length, refl, sym, ◌∙◌, None, Some, IsTrue, arith, subst, Ok, Err}
 use Rattle.std.specs.declared.result.Result.{Result}
@@ -99,7 +99,7 @@ ends_reply : (s : Standing) (job : Task) (side : Colour) (c0 c : ℕ) → AskedJ
 ends_reply s Greet White c0 c q v = record { late = no_late s.verdict c0 c v; asked = tt }
 ends_reply s Greet Black c0 c q v = record { late = no_late s.verdict c0 c v; asked = tt }
 ends_reply s Begin White c0 c q v = record { late = no_late s.verdict c0 c v; asked = tt }
-ends_reply s Begin Black c0 c q v = asks s c0 c v
+ends_reply s Begin Black c0 c q v = decides s c0 c v
 ends_reply s Ask side c0 c q v = answers_as s s.setup.level c0 c q v
 ends_reply s (Tell m) White c0 c q v = record { late = no_late s.verdict c0 c v; asked = tt }
 ends_reply s (Tell m) Black c0 c q v = decides s c0 c v
@@ -158,14 +158,14 @@ along (h ∷ hs) s c0 c now b l f (t, a) (mid, k, g) =
     let later : c0 ≤ mid = let x = keeps_later h c mid k in omega (arith, l, x) in
     along hs (next s h) c0 mid now (matches_near_their_end s h b t).0 later n a g
 
-late_run : (setup : Setup) (t : Standing) (w0 w b0 b : Side) (r0 r : Watch) → IsSetup setup → Run setup t w0 w b0 b r0 r → LateIn t.verdict r0.last r.last
+late_run : (setup : FullSetup) (t : Standing) (w0 w b0 b : Side) (r0 r : Watch) → IsFullSetup setup → Run setup t w0 w b0 b r0 r → LateIn t.verdict r0.last r.last
 late_run setup t w0 w b0 b r0 r is (hs, run) =
     rw run.here (along hs (start setup) r0.last r0.last r.last (bounded_start setup is) (omega arith) (record { late = tt; asked = tt }) run.fits run.time)
 
 late_broke : (v : Option Verdict) (side : Colour) (c0 c : ℕ) → v ≡ Some (Forfeit side BrokeCause) → LateIn v c0 c
 late_broke v side c0 c e = rw e tt
 
-pub late_final : (setup : Setup) (t : Standing) (w0 w b0 b : Wire) (r0 r : Watch) → IsSetup setup → FinalRun setup t w0 w b0 b r0 r → LateIn t.verdict r0.last r.last
+pub late_final : (setup : FullSetup) (t : Standing) (w0 w b0 b : Wire) (r0 r : Watch) → IsFullSetup setup → FinalRun setup t w0 w b0 b r0 r → LateIn t.verdict r0.last r.last
 late_final setup t w0 w b0 b r0 r is final =
     by_end setup t _ _ _ _ r0 r (LateIn t.verdict r0.last r.last) final.ran (λ whole. late_run setup t _ _ _ _ r0 r is whole.0)
     (λ side cut. late_broke t.verdict side r0.last r.last (cut_verdict side setup t _ _ _ _ _ _ cut))

@@ -5,7 +5,7 @@ use Rattle.hive_model.specs.declared.places.Move.{Move}
 use Rattle.hive_model.specs.Legal.{is_over_state}
 use Rattle.hive_model.specs.Courses.{is_listed}
 use Rattle.move_text.specs.declared.faults.MoveFault.{MoveFault}
-use Rattle.match_core.specs.declared.answers.Setup.{Setup}
+use Rattle.match_core.specs.Setups.{FullSetup}
 use Rattle.match_core.specs.declared.answers.Level.{Level}
 use Rattle.match_core.specs.declared.answers.Level.TheVariants.{Depth, Time}
 use Rattle.match_core.specs.declared.answers.Task.{Task}
@@ -18,7 +18,7 @@ use Rattle.match_core.specs.Replies.{is_ok, is_error}
 use Rattle.match_core.specs.Standing.{Standing, Happening, Sent, Line, TooLong, Ended, Broke, Reading, start, match_after, next, after_all, act_at, answers, position_now, go, finish, ask, judge, judge_read, decide, accept, first_line, at_stage, is_late, keep, reply_ends, hear, question, forfeit, answered, outcome_of}
 use Rattle.match_core.specs.Texts.{read_of}
 use Rattle.match_core.specs.Fairness.{Answering}
-use Rattle.std.proofs.Common.{◌≡◌, ◌≤◌, ℕ, ◌+◌, ◌*◌, cond, List, [], ◌∷◌, ◌++◌, length, length-append, refl, ap, ◌∙◌, IsTrue, arith, Ok, Err}
+use Rattle.std.proofs.Common.{◌≡◌, ◌≤◌, ℕ, ◌+◌, ◌-◌, ◌*◌, cond, List, [], ◌∷◌, ◌++◌, length, length-append, refl, ap, ◌∙◌, IsTrue, arith, Ok, Err}
 use Rattle.std.specs.declared.result.Result.{Result}
 use Rattle.match_core.proofs.Fair.{either}
 use Rattle.match_core.proofs.Follows.{next_is}
@@ -76,7 +76,7 @@ ends_reply : (s : Standing) (job : Task) (side : Colour) (n : ℕ) → n ≤ 2 *
 ends_reply s Greet White n h = h
 ends_reply s Greet Black n h = h
 ends_reply s Begin White n h = h
-ends_reply s Begin Black n h = asks s n (omega arith)
+ends_reply s Begin Black n h = decides s n (omega arith)
 ends_reply s Ask side n h = answers_as s s.setup.level n h
 ends_reply s (Tell m) White n h = h
 ends_reply s (Tell m) Black n h = decides s n (omega arith)
@@ -146,8 +146,9 @@ extra_most Before = omega arith
 extra_most After = omega arith
 extra_most Finished = omega arith
 
-pub looks_bound : (setup : Setup) (hs : List Happening) → Answering (start setup) hs → looks (start setup) hs ≤ 2 * length (match_after setup hs).moves + 2
-looks_bound setup hs t = let r = reads_all hs (start setup) 0 (omega arith) t in let e = extra_most (match_after setup hs).stage in omega (arith, r, e)
+-- the clock is not read for the moves that the match begins with
+pub looks_bound : (setup : FullSetup) (hs : List Happening) → Answering (start setup) hs → 2 * length setup.begin + looks (start setup) hs ≤ 2 * length (match_after setup hs).moves + 2
+looks_bound setup hs t = let r = reads_all hs (start setup) (2 * length setup.begin) (omega arith) t in let e = extra_most (match_after setup hs).stage in omega (arith, r, e)
 
 pub moves_broke : (stage : Stage) (s : Standing) → IsTrue (answers (act_at stage) Broke) → (at_stage s stage Broke).moves ≡ s.moves
 moves_broke (Send job side) s w = refl
@@ -156,19 +157,22 @@ moves_broke Before s w = absurd (cc)
 moves_broke After s w = absurd (cc)
 moves_broke Finished s w = absurd (cc)
 
-read_run : (setup : Setup) (s : Standing) (w0 w b0 b : Side) (r0 r : Watch) → Run setup s w0 w b0 b r0 r → r.readings ≤ r0.readings + (2 * length s.moves + 2)
+abbrev IsReadSo : FullSetup → Standing → Watch → Watch → Type 0
+IsReadSo setup s r0 r = r.readings ≤ r0.readings + (2 * (length s.moves - length setup.begin) + 2)
+
+read_run : (setup : FullSetup) (s : Standing) (w0 w b0 b : Side) (r0 r : Watch) → Run setup s w0 w b0 b r0 r → IsReadSo setup s r0 r
 read_run setup s w0 w b0 b r0 r (hs, run) =
     let k = looks_bound setup hs run.fits in
     let e : length s.moves ≡ length (match_after setup hs).moves = ap (λ (x : Standing). length x.moves) run.here in
     let a = run.readings in omega (arith, k, e, a)
 
-read_cut : (setup : Setup) (s t : Standing) (w0 w w2 b0 b b2 : Side) (r0 r : Watch) → Run setup s w0 w b0 b r0 r → Breaks s t w w2 b b2 → r.readings ≤ r0.readings + (2 * length t.moves + 2)
+read_cut : (setup : FullSetup) (s t : Standing) (w0 w w2 b0 b b2 : Side) (r0 r : Watch) → Run setup s w0 w b0 b r0 r → Breaks s t w w2 b b2 → IsReadSo setup t r0 r
 read_cut setup s t w0 w w2 b0 b b2 r0 r run br =
     let k = read_run setup s w0 w b0 b r0 r run in
     let e : t.moves ≡ s.moves = ap (λ (x : Standing). x.moves) (br.next_is ∙ next_is s Broke) ∙ moves_broke s.stage s br.fits in
     let f : length t.moves ≡ length s.moves = ap length e in omega (arith, k, f)
 
-pub read_final : (setup : Setup) (t : Standing) (w0 w b0 b : Wire) (r0 r : Watch) → FinalRun setup t w0 w b0 b r0 r → r.readings ≤ r0.readings + (2 * length t.moves + 2)
+pub read_final : (setup : FullSetup) (t : Standing) (w0 w b0 b : Wire) (r0 r : Watch) → FinalRun setup t w0 w b0 b r0 r → r.readings ≤ r0.readings + (2 * (length t.moves - length setup.begin) + 2)
 read_final setup t w0 w b0 b r0 r final =
-    by_end setup t _ _ _ _ r0 r (r.readings ≤ r0.readings + (2 * length t.moves + 2)) final.ran (λ whole. read_run setup t _ _ _ _ r0 r whole.0)
+    by_end setup t _ _ _ _ r0 r (IsReadSo setup t r0 r) final.ran (λ whole. read_run setup t _ _ _ _ r0 r whole.0)
     (λ side cut. let (s, w1, b1, run, br, act) = cut in read_cut setup s t _ w1 _ _ b1 _ r0 r run br)

@@ -6,7 +6,7 @@ use Rattle.io_edge.specs.Outside.{behind, Rose}
 use Rattle.io_edge.proofs.Told.{behind-behind}
 use Rattle.hive_model.specs.declared.pieces.Colour.{Colour}
 use Rattle.hive_model.specs.declared.pieces.Colour.TheVariants.{White, Black}
-use Rattle.match_core.specs.declared.answers.Setup.{Setup}
+use Rattle.match_core.specs.Setups.{FullSetup}
 use Rattle.match_core.specs.declared.answers.Stage.{Stage}
 use Rattle.match_core.specs.declared.answers.Stage.TheVariants.{Send, Read, Before, After, Finished as FinishedStage}
 use Rattle.match_core.specs.declared.answers.Act.{Act}
@@ -14,11 +14,12 @@ use Rattle.match_core.specs.declared.answers.Act.TheVariants.{Send as SendAct, R
 use Rattle.match_core.specs.Standing.{Standing, Happening, TooLong, start, match_after, next, after_all, act_at, answers}
 use Rattle.match_core.specs.Fairness.{Answering, sent, sent_at}
 use Rattle.match_core.specs.Plays.{joined, left, is_finished}
-use Rattle.match_core.specs.Keeps.{IsSetup}
+use Rattle.match_core.specs.Keeps.{IsFullSetup}
 use Rattle.hive_model.specs.Lines.{ToldLines}
 use Rattle.match_core.specs.Feeds.{FeedsAt, Feeds}
 use Rattle.match_core.proofs.Falls.{matches_near_their_end}
 use Rattle.match_core.proofs.Fair.{after_all-snoc}
+use Rattle.match_core.proofs.Follows.{bounded_start}
 use Rattle.match_runner.specs.Wires.{Watch}
 use Rattle.match_runner.specs.Turns.{Side, OneSide, Goes, Breaks, KeepsAt, is_broke, is_clock, looks_at}
 use Rattle.match_runner.specs.Runs.{Cut, AreSound, KeepTime, looks, JudgesAtOnce, Served, Run, Ran}
@@ -69,7 +70,7 @@ pub time-snoc : (hs : List Happening) (h : Happening) (a b c : ℕ) → KeepTime
 time-snoc [] h a b c e k = (c, subst (λ x. KeepsAt h x c) e k, refl)
 time-snoc (x ∷ hs) h a b c (mid, f, g) k = (mid, f, time-snoc hs h mid b c g k)
 
-pub run_begin : (setup : Setup) (s : Standing) (w b : Side) (r : Watch) → IsSetup setup → s ≡ start setup → Run setup s w w b b r r
+pub run_begin : (setup : FullSetup) (s : Standing) (w b : Side) (r : Watch) → IsFullSetup setup → s ≡ start setup → Run setup s w w b b r r
 run_begin setup s w b r is e = (
   [],
   record {
@@ -80,11 +81,11 @@ run_begin setup s w b r is e = (
     black = record { feeds = refl; wrote = behind-nil b.written };
     readings = omega arith;
     time = refl;
-    bounded = rw e (record { plies = is.some; count = omega arith; judged = refl });
+    bounded = rw e (bounded_start setup is);
   },
 )
 
-run_goes : (setup : Setup) (s t : Standing) (w0 w w2 b0 b b2 : Side) (r0 r r2 : Watch) → Run setup s w0 w b0 b r0 r → (h : Happening) × Goes s h t w w2 b b2 r.last r2.last → r2.readings ≤ r.readings + looks_at s.stage → Run setup t w0 w2 b0 b2 r0 r2
+run_goes : (setup : FullSetup) (s t : Standing) (w0 w w2 b0 b b2 : Side) (r0 r r2 : Watch) → Run setup s w0 w b0 b r0 r → (h : Happening) × Goes s h t w w2 b b2 r.last r2.last → r2.readings ≤ r.readings + looks_at s.stage → Run setup t w0 w2 b0 b2 r0 r2
 run_goes setup s t w0 w w2 b0 b b2 r0 r r2 (hs, run) (h, g) c =
     let f : IsTrue (answers (act_at (match_after setup hs).stage) h) = subst (λ (x : Standing). IsTrue (answers (act_at x.stage) h)) run.here g.fits in (
       hs ++ h ∷ [],
@@ -103,10 +104,10 @@ run_goes setup s t w0 w w2 b0 b b2 r0 r r2 (hs, run) (h, g) c =
       },
     )
 
-pub run_on : (setup : Setup) (s t : Standing) (w0 w w2 b0 b b2 : Side) (r0 r r2 : Watch) → Run setup s w0 w b0 b r0 r → (h : Happening) × Goes s h t w w2 b b2 r.last r2.last → r2.readings ≤ r.readings + looks_at s.stage → Run setup t w0 w2 b0 b2 r0 r2
+pub run_on : (setup : FullSetup) (s t : Standing) (w0 w w2 b0 b b2 : Side) (r0 r r2 : Watch) → Run setup s w0 w b0 b r0 r → (h : Happening) × Goes s h t w w2 b b2 r.last r2.last → r2.readings ≤ r.readings + looks_at s.stage → Run setup t w0 w2 b0 b2 r0 r2
 run_on = run_goes
 
-pub run_falls : (setup : Setup) (s t : Standing) (w0 w w2 b0 b b2 : Side) (r0 r : Watch) → (c0 c : ℕ) → Run setup s w0 w b0 b r0 r → (h : Happening) × Goes s h t w w2 b b2 c0 c → left t < left s
+pub run_falls : (setup : FullSetup) (s t : Standing) (w0 w w2 b0 b b2 : Side) (r0 r : Watch) → (c0 c : ℕ) → Run setup s w0 w b0 b r0 r → (h : Happening) × Goes s h t w w2 b b2 c0 c → left t < left s
 run_falls setup s t w0 w w2 b0 b b2 r0 r c0 c (hs, run) (h, g) = rw g.next_is (matches_near_their_end s h run.bounded g.fits).1
 
 was_open : (stage : Stage) (h : Happening) → IsTrue (answers (act_at stage) h) → is_finished stage ≡ false
@@ -120,11 +121,11 @@ pub room_on : (s t : Standing) (w w2 b b2 : Side) (before after c0 c1 : ℕ) →
     → is_finished t.stage ≡ false → after + 65538 * left t ≤ 525418735842
 room_on s t w w2 b b2 before after c0 c1 (h, g) less f k o = let a = f (was_open s.stage h g.fits) in let c = k o in omega (arith, a, c, less)
 
-pub room_begin : (setup : Setup) (s : Standing) → IsSetup setup → s ≡ start setup → 0 + 65538 * left s ≤ 525418735842
+pub room_begin : (setup : FullSetup) (s : Standing) → IsFullSetup setup → s ≡ start setup → 0 + 65538 * left s ≤ 525418735842
 unfolding left
-room_begin setup s is e = rw e (let k = is.few in omega (arith, k))
+room_begin setup s is e = rw e (let k = is.plain.few in omega (arith, k))
 
-run_later : (setup : Setup) (s : Standing) (w0 w b0 b : Side) (r0 r r2 : Watch) → Run setup s w0 w b0 b r0 r → r2.readings ≤ r.readings → r2.last ≡ r.last → Run setup s w0 w b0 b r0 r2
+run_later : (setup : FullSetup) (s : Standing) (w0 w b0 b : Side) (r0 r r2 : Watch) → Run setup s w0 w b0 b r0 r → r2.readings ≤ r.readings → r2.last ≡ r.last → Run setup s w0 w b0 b r0 r2
 run_later setup s w0 w b0 b r0 r r2 (hs, run) h k = (hs, record { here = run.here; fits = run.fits; sound = run.sound; white = run.white; black = run.black; readings = let a = run.readings in omega (arith, a, h); time = rw k run.time; bounded = run.bounded })
 
 no_look : (stage : Stage) (act : Act) → act_at stage ≡ act → is_clock act ≡ false → looks_at stage ≡ 0
@@ -141,7 +142,7 @@ no_look_cut : (side : Colour) (stage : Stage) → WasToDo side stage → looks_a
 no_look_cut side stage (inl e) = no_look stage (SendAct side) e refl
 no_look_cut side stage (inr e) = no_look stage (ReadAct side) e refl
 
-pub cut_at : (side : Colour) (setup : Setup) (s t : Standing) (w0 w w2 b0 b b2 : Side) (r0 r r2 : Watch) (P Q : Type 0) → Run setup s w0 w b0 b r0 r → WasToDo side s.stage → Breaks s t w w2 b b2 → r2.last ≡ r.last → r2.readings ≤ r.readings + looks_at s.stage
+pub cut_at : (side : Colour) (setup : FullSetup) (s t : Standing) (w0 w w2 b0 b b2 : Side) (r0 r r2 : Watch) (P Q : Type 0) → Run setup s w0 w b0 b r0 r → WasToDo side s.stage → Breaks s t w w2 b b2 → r2.last ≡ r.last → r2.readings ≤ r.readings + looks_at s.stage
     → (side ≡ White → P) → (side ≡ Black → Q) → Ran setup t w0 w2 b0 b2 r0 r2 P Q
 cut_at side setup s t w0 w w2 b0 b b2 r0 r r2 P Q run act br k c p q =
     let n = no_look_cut side s.stage act in
@@ -151,7 +152,7 @@ cut_at side setup s t w0 w w2 b0 b b2 r0 r r2 P Q run act br k c p q =
     cut_of White cut p q = record { ended = inr (inl (cut, p refl)) }
     cut_of Black cut p q = record { ended = inr (inr (cut, q refl)) }
 
-pub ran_whole : (setup : Setup) (s t : Standing) (w0 w w2 b0 b b2 : Side) (r0 r r2 : Watch) (P Q : Type 0) → Run setup s w0 w b0 b r0 r → (t ≡ s) × (act_at s.stage ≡ Finish) × (w2 ≡ w) × (b2 ≡ b) × (r2.last ≡ r.last) → r2.readings ≤ r.readings + looks_at s.stage
+pub ran_whole : (setup : FullSetup) (s t : Standing) (w0 w w2 b0 b b2 : Side) (r0 r r2 : Watch) (P Q : Type 0) → Run setup s w0 w b0 b r0 r → (t ≡ s) × (act_at s.stage ≡ Finish) × (w2 ≡ w) × (b2 ≡ b) × (r2.last ≡ r.last) → r2.readings ≤ r.readings + looks_at s.stage
     → Ran setup t w0 w2 b0 b2 r0 r2 P Q
 ran_whole setup s t w0 w w2 b0 b b2 r0 r r2 P Q run (e, f, x, y, k) c =
     let n = no_look s.stage Finish f refl in

@@ -1,6 +1,6 @@
 use Rattle.hive_model.specs.declared.pieces.Colour.{Colour}
 use Rattle.hive_model.specs.declared.pieces.Colour.TheVariants.{White, Black}
-use Rattle.match_core.specs.declared.answers.Setup.{Setup}
+use Rattle.match_core.specs.Setups.{FullSetup}
 use Rattle.match_core.specs.declared.answers.Stage.{Stage}
 use Rattle.match_core.specs.declared.answers.Stage.TheVariants.{Send, Read, Before, After, Finished as FinishedStage}
 use Rattle.match_core.specs.declared.answers.Act.TheVariants.{Finish}
@@ -17,14 +17,14 @@ use Rattle.io_edge.specs.Outside.{Told, behind}
 use Rattle.line_feed.specs.Feed.{fresh}
 use Rattle.line_feed.specs.Ahead.{ahead_of}
 use Rattle.line_feed.proofs.AheadLemmas.{ahead_begin}
-use Rattle.match_core.specs.Keeps.{IsSetup}
+use Rattle.match_core.specs.Keeps.{IsFullSetup}
 use Rattle.match_core.specs.declared.answers.Cause.TheVariants.{Late}
 use Rattle.match_core.proofs.Follows.{next_is}
 use Rattle.match_runner.proofs.Progress.{takes_lines}
 use Rattle.match_core.proofs.Fronts.{matches_are_of_their_lines}
 
 -- the lines that a side will say, where its link tells its bytes
-pub feeds_from : (setup : Setup) (hs : List Happening) (to : Colour) (rest written : Told) (now : Side) (bytes : List ℕ) → rest ≡ Some bytes → Served (start setup) hs to (side_of fresh rest written) now → Feeds (start setup) hs to (Some (lines bytes)) now.ahead
+pub feeds_from : (setup : FullSetup) (hs : List Happening) (to : Colour) (rest written : Told) (now : Side) (bytes : List ℕ) → rest ≡ Some bytes → Served (start setup) hs to (side_of fresh rest written) now → Feeds (start setup) hs to (Some (lines bytes)) now.ahead
 feeds_from setup hs to rest written now bytes e served = subst (λ x. Feeds (start setup) hs to x now.ahead) (ap (ahead_of fresh) e ∙ ahead_begin fresh (Some bytes) refl) (takes_lines hs (start setup) to _ now.ahead served.feeds)
 
 late_stops : (hs : List Happening) (s x : Standing) (side : Colour) (m n : ℕ) → x ≡ forfeit s side (Late m n) → Answering x hs → (IsLate (after_all x hs).verdict → ⊥) → ⊥
@@ -54,7 +54,7 @@ in_time [] s a v f = tt
 in_time (h ∷ hs) s (t, u) (v, w) f = (in_time_at s.stage s (next s h) h hs (next_is s h) u v f, in_time hs (next s h) u w f)
 
 -- a match that ended by itself, where both links tell their bytes
-pub whole_told : (setup : Setup) (t : Standing) (w0 w b0 b : Wire) (w_now b_now : Side) (r0 r : Watch) (white black : List ℕ) → IsSetup setup → w0.rest ≡ Some white → b0.rest ≡ Some black → ¬ IsLate t.verdict
+pub whole_told : (setup : FullSetup) (t : Standing) (w0 w b0 b : Wire) (w_now b_now : Side) (r0 r : Watch) (white black : List ℕ) → IsFullSetup setup → w0.rest ≡ Some white → b0.rest ≡ Some black → ¬ IsLate t.verdict
     → w_now.written ≡ w.written → b_now.written ≡ b.written → Whole setup t (side_of fresh w0.rest w0.written) w_now (side_of fresh b0.rest b0.written) b_now r0 r
     → IsMatch setup (lines white) (lines black) t w0.written w.written b0.written b.written
 whole_told setup t w0 w b0 b w_now b_now r0 r white black is e f late ws bs ((hs, run), over) =
@@ -68,7 +68,7 @@ whole_told setup t w0 w b0 b w_now b_now r0 r white black is e f late ws bs ((hs
       to_black = sym bs ∙ (run.black.wrote ∙ ap (λ x. behind b0.written (joined x)) (sym same.black));
     }
 
-pub told_run : (setup : Setup) (t : Standing) (w0 w b0 b : Wire) (r0 r : Watch) → IsSetup setup → FinalRun setup t w0 w b0 b r0 r → ToldRun setup t w0 w b0 b
+pub told_run : (setup : FullSetup) (t : Standing) (w0 w b0 b : Wire) (r0 r : Watch) → IsFullSetup setup → FinalRun setup t w0 w b0 b r0 r → ToldRun setup t w0 w b0 b
 told_run setup t w0 w b0 b r0 r is final = λ white black e f wn bn late.
     elim final.ran.ended [
       | inr cut ↦ elim cut [ inl c ↦ absurd (wn c.1) | inr c ↦ absurd (bn c.1) ]

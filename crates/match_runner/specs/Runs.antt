@@ -1,10 +1,10 @@
 -- What a whole run has done.
-use Rattle.std.specs.Prelude.{◌≡◌, ◌⊎◌, ℕ, ◌+◌, ◌*◌, ◌≤◌, true, false, List, [], ◌∷◌, length, Option, Some, None}
+use Rattle.std.specs.Prelude.{◌≡◌, ◌⊎◌, ℕ, ◌+◌, ◌-◌, ◌*◌, ◌≤◌, true, false, List, [], ◌∷◌, length, Option, Some, None}
 use Rattle.io_edge.specs.Outside.{Told, behind}
 use Rattle.hive_model.specs.declared.pieces.Colour.{Colour}
 use Rattle.hive_model.specs.declared.pieces.Colour.TheVariants.{White, Black}
 use Rattle.line_feed.specs.Feed.{Reading as Reader, HoldsLittle, fresh}
-use Rattle.match_core.specs.declared.answers.Setup.{Setup}
+use Rattle.match_core.specs.Setups.{FullSetup}
 use Rattle.match_core.specs.declared.answers.Stage.TheVariants.{After}
 use Rattle.match_core.specs.declared.answers.Act.TheVariants.{Send as SendAct, Read as ReadAct, Finish}
 use Rattle.hive_model.specs.Lines.{Line as Mark, ToldLines, lines}
@@ -50,7 +50,7 @@ pub record Served (s : Standing) (hs : List Happening) (to : Colour) (old new : 
   pub wrote : new.written ≡ behind old.written (joined (sent s hs to))
 
 -- the match has come to this by these events
-pub record Runs (setup : Setup) (s : Standing) (w0 w b0 b : Side) (r0 r : Watch)
+pub record Runs (setup : FullSetup) (s : Standing) (w0 w b0 b : Side) (r0 r : Watch)
     (hs : List Happening) : Type 0 where
   pub here : s ≡ match_after setup hs
   pub fits : Answering (start setup) hs
@@ -62,21 +62,21 @@ pub record Runs (setup : Setup) (s : Standing) (w0 w b0 b : Side) (r0 r : Watch)
   pub bounded : IsBounded s
 
 -- some events have brought the match to this
-abbrev pub Run : Setup → Standing → Side → Side → Side → Side → Watch → Watch → Type 0
+abbrev pub Run : FullSetup → Standing → Side → Side → Side → Side → Watch → Watch → Type 0
 Run setup s w0 w b0 b r0 r = (hs : List Happening) × Runs setup s w0 w b0 b r0 r hs
 
 -- the match has ended by itself
-abbrev pub Whole : Setup → Standing → Side → Side → Side → Side → Watch → Watch → Type 0
+abbrev pub Whole : FullSetup → Standing → Side → Side → Side → Side → Watch → Watch → Type 0
 Whole setup t w0 w b0 b r0 r = Run setup t w0 w b0 b r0 r × (act_at t.stage ≡ Finish)
 
 -- it was ended by a fault of this side
-abbrev pub Cut : Colour → Setup → Standing → Side → Side → Side → Side → Watch → Watch → Type 0
+abbrev pub Cut : Colour → FullSetup → Standing → Side → Side → Side → Side → Watch → Watch → Type 0
 Cut side setup t w0 w b0 b r0 r =
     (s : Standing) × (w1 : Side) × (b1 : Side) × Run setup s w0 w1 b0 b1 r0 r × Breaks s t w1 w b1 b
     × ((act_at s.stage ≡ SendAct side) ⊎ (act_at s.stage ≡ ReadAct side))
 
 -- where a side breaks, one of its counts rose (or stands at its greatest value)
-pub record Ran (setup : Setup) (t : Standing) (w0 w b0 b : Side) (r0 r : Watch)
+pub record Ran (setup : FullSetup) (t : Standing) (w0 w b0 b : Side) (r0 r : Watch)
     (white_rose black_rose : Type 0) : Type 0 where
   pub ended : (Whole setup t w0 w b0 b r0 r)
       ⊎ ((Cut White setup t w0 w b0 b r0 r × white_rose)
@@ -86,7 +86,7 @@ pub record Ran (setup : Setup) (t : Standing) (w0 w b0 b : Side) (r0 r : Watch)
 -- come of each side are those of what its reader holds, the front of one line and at most one
 -- piece, and of what the link has left.
 pub record FinalRun
-    (setup : Setup) (t : Standing) (w0 w b0 b : Wire) (r0 r : Watch) : Type 0 where
+    (setup : FullSetup) (t : Standing) (w0 w b0 b : Wire) (r0 r : Watch) : Type 0 where
   pub white_reader : Reader
   pub black_reader : Reader
   pub white_little : HoldsLittle white_reader
@@ -112,14 +112,14 @@ IsLate (Some (Forfeit side (Late asked answered))) = Unit {0}
 
 -- moves, verdict and the bytes sent are those of the match of these lines
 pub record IsMatch
-    (setup : Setup) (white black : List Mark) (t : Standing) (w0 w b0 b : Told) : Type 0 where
+    (setup : FullSetup) (white black : List Mark) (t : Standing) (w0 w b0 b : Told) : Type 0 where
   pub moves : t.moves ≡ (match_after setup (match_of setup white black)).moves
   pub verdict : t.verdict ≡ (match_after setup (match_of setup white black)).verdict
   pub to_white : w ≡ behind w0 (joined (sent (start setup) (match_of setup white black) White))
   pub to_black : b ≡ behind b0 (joined (sent (start setup) (match_of setup white black) Black))
 
 -- where both links tell their bytes, no call failed and no answer was late
-abbrev pub ToldRun : Setup → Standing → Wire → Wire → Wire → Wire → Type 0
+abbrev pub ToldRun : FullSetup → Standing → Wire → Wire → Wire → Wire → Type 0
 ToldRun setup t w0 w b0 b =
     (white black : List ℕ)
     → w0.rest ≡ Some white
@@ -159,14 +159,14 @@ abbrev pub IsFrontSent : Told → Told → List ℕ → Type 0
 IsFrontSent old new all = (bytes : List ℕ) × (new ≡ behind old bytes) × IsFront bytes all
 
 -- the moves, and the bytes sent to each side, are the first ones of the match of these lines
-pub record IsFrontOf (setup : Setup) (white black : List Mark) (t : Standing)
+pub record IsFrontOf (setup : FullSetup) (white black : List Mark) (t : Standing)
     (w0 w b0 b : Told) : Type 0 where
   pub moves : IsFront t.moves (match_after setup (match_of setup white black)).moves
   pub to_white : IsFrontSent w0 w (joined (sent (start setup) (match_of setup white black) White))
   pub to_black : IsFrontSent b0 b (joined (sent (start setup) (match_of setup white black) Black))
 
 -- where both links tell their bytes, whatever failed and however late an answer was
-abbrev pub FrontRun : Setup → Standing → Wire → Wire → Wire → Wire → Type 0
+abbrev pub FrontRun : FullSetup → Standing → Wire → Wire → Wire → Wire → Type 0
 FrontRun setup t w0 w b0 b =
     (white black : List ℕ)
     → w0.rest ≡ Some white
@@ -186,7 +186,7 @@ IsVerdict full verdict w0 w b0 b =
 
 -- where both links tell their bytes, the verdict is that of the match of these lines, or an answer
 -- was late, or a side broke
-abbrev pub VerdictRun : Setup → Standing → Wire → Wire → Wire → Wire → Type 0
+abbrev pub VerdictRun : FullSetup → Standing → Wire → Wire → Wire → Wire → Type 0
 VerdictRun setup t w0 w b0 b =
     (white black : List ℕ)
     → w0.rest ≡ Some white
@@ -195,22 +195,22 @@ VerdictRun setup t w0 w b0 b =
     w0 w b0 b
 
 -- what happened in a match of this setup that stands so: each answers the act that was to come
-pub record IsCourse (setup : Setup) (t : Standing) (hs : List Happening) : Type 0 where
+pub record IsCourse (setup : FullSetup) (t : Standing) (hs : List Happening) : Type 0 where
   pub here : t ≡ match_after setup hs
   pub fits : Answering (start setup) hs
 
 -- a match of this setup comes to stand so
-abbrev pub HasCourse : Setup → Standing → Type 0
+abbrev pub HasCourse : FullSetup → Standing → Type 0
 HasCourse setup t = (hs : List Happening) × IsCourse setup t hs
 
 -- the same, by readings of a clock whose last one before the match and behind it are these
-abbrev pub HasTimedCourse : Setup → Standing → ℕ → ℕ → Type 0
+abbrev pub HasTimedCourse : FullSetup → Standing → ℕ → ℕ → Type 0
 HasTimedCourse setup t before now =
     (hs : List Happening) × IsCourse setup t hs × KeepTime before hs now
 
 -- The moves, and the bytes sent to each side, are those of the match of these lines up to a reply:
 -- its last line was read, and next the clock is read.
-pub record IsUpToReply (setup : Setup) (white black : List Mark) (t : Standing)
+pub record IsUpToReply (setup : FullSetup) (white black : List Mark) (t : Standing)
     (w0 w b0 b : Told) : Type 0 where
   pub hs : List Happening
   pub front : IsFront hs (match_of setup white black)
@@ -220,7 +220,7 @@ pub record IsUpToReply (setup : Setup) (white black : List Mark) (t : Standing)
   pub to_black : b ≡ behind b0 (joined (sent (start setup) hs Black))
 
 -- where both links tell their bytes, no call failed and an answer was late
-abbrev pub LateRun : Setup → Standing → Wire → Wire → Wire → Wire → Type 0
+abbrev pub LateRun : FullSetup → Standing → Wire → Wire → Wire → Wire → Type 0
 LateRun setup t w0 w b0 b =
     (white black : List ℕ)
     → w0.rest ≡ Some white
@@ -232,7 +232,7 @@ LateRun setup t w0 w b0 b =
 
 -- a match that was run over two links: it is of this setup and has a verdict, and this is known of
 -- it by the links
-pub record RanLinks (setup : Setup) (t : Standing) (w0 w b0 b : Wire) : Type 0 where
+pub record RanLinks (setup : FullSetup) (t : Standing) (w0 w b0 b : Wire) : Type 0 where
   pub same : t.setup ≡ setup
   pub judged : IsJudged t
   pub broke : BrokeOnly t w0 w b0 b
@@ -243,12 +243,13 @@ pub record RanLinks (setup : Setup) (t : Standing) (w0 w b0 b : Wire) : Type 0 w
   pub lates : LatesAreLate t
   pub late : LateRun setup t w0 w b0 b
 
--- a match that was run over two links and a clock, which is read at most twice for each move and
--- twice more
+-- a match that was run over two links and a clock, which is read at most twice for each move that
+-- was made in it, and twice more
 pub record RanOver
-    (setup : Setup) (t : Standing) (w0 w b0 b : Wire) (r0 r : Watch) : Type 0 where
+    (setup : FullSetup) (t : Standing) (w0 w b0 b : Wire) (r0 r : Watch) : Type 0 where
   pub events : FinalRun setup t w0 w b0 b r0 r
   pub links : RanLinks setup t w0 w b0 b
   pub late : LateIn t.verdict r0.last r.last
   pub course : HasTimedCourse setup t r0.last r.last
-  pub readings : r.readings ≤ r0.readings + (2 * length t.moves + 2)
+  pub readings : r.readings
+      ≤ r0.readings + (2 * (length t.moves - length setup.begin) + 2)

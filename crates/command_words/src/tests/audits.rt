@@ -1,59 +1,94 @@
 //! Words that ask for an audit of a program, and those that ask for none.
-use super::{ALL, BASE, words_of};
-use crate::{Asked, Care, asked_of, audited_of, care_of};
+use super::{ALL, BASE, are_words_of, ask_for, expect_nothing, words_of};
+use crate::{Asked, asked_of, audited_of};
 use hive_model::GameType;
+use std::alloc::{AllocError, Global};
 use std::test::Fail;
 
-/// Options of an audit of the program `a`, separated by `|`, and how its games are made.
-const AUDITS: [(&str, u64, u64, u32, Option<GameType>, bool, bool); 8] = [
-    ("--games|1|--seed|0", 1, 0, 80, None, false, false),
-    (
-        "--seed=7|--games=1000000",
-        1_000_000,
-        7,
-        80,
-        None,
-        false,
-        false,
-    ),
-    (
-        "--games|2|--seed|18446744073709551615|--plies|1",
-        2,
-        u64::MAX,
-        1,
-        None,
-        false,
-        false,
-    ),
-    (
-        "--plies=1000|--type|Base|--games=200|--seed=1",
-        200,
-        1,
-        1000,
-        Some(BASE),
-        false,
-        false,
-    ),
-    (
-        "--type=Base+MLP|--seed|3|--games|9",
-        9,
-        3,
-        80,
-        Some(ALL),
-        false,
-        false,
-    ),
-    (
-        "--quiet|1|--patience|00:00:05|--games|1|--seed|0",
-        1,
-        0,
-        80,
-        None,
-        false,
-        true,
-    ),
-    ("--stop|1|--games|1|--seed|0", 1, 0, 80, None, true, false),
-    ("--games|1|--stop=0|--seed|0", 1, 0, 80, None, false, false),
+/// Words, separated by `|`, and how the games of the audit are made that they ask for.
+struct Row {
+    words: &'static str,
+    games: u64,
+    seed: u64,
+    plies: u32,
+    game_type: Option<GameType>,
+    stop: bool,
+    patient: bool,
+}
+
+const ROWS: [Row; 8] = [
+    Row {
+        words: "audit|--engine|a|--games|1|--seed|0",
+        games: 1,
+        seed: 0,
+        plies: 80,
+        game_type: None,
+        stop: false,
+        patient: false,
+    },
+    Row {
+        words: "audit|--engine|a|--seed=7|--games=1000000",
+        games: 1_000_000,
+        seed: 7,
+        plies: 80,
+        game_type: None,
+        stop: false,
+        patient: false,
+    },
+    Row {
+        words: "audit|--engine|a|--games|2|--seed|18446744073709551615|--plies|1",
+        games: 2,
+        seed: u64::MAX,
+        plies: 1,
+        game_type: None,
+        stop: false,
+        patient: false,
+    },
+    Row {
+        words: "audit|--engine|a|--plies=1000|--type|Base|--games=200|--seed=1",
+        games: 200,
+        seed: 1,
+        plies: 1000,
+        game_type: Some(BASE),
+        stop: false,
+        patient: false,
+    },
+    Row {
+        words: "audit|--engine|a|--type=Base+MLP|--seed|3|--games|9",
+        games: 9,
+        seed: 3,
+        plies: 80,
+        game_type: Some(ALL),
+        stop: false,
+        patient: false,
+    },
+    Row {
+        words: "audit|--engine|a|--quiet|1|--patience|00:00:05|--games|1|--seed|0",
+        games: 1,
+        seed: 0,
+        plies: 80,
+        game_type: None,
+        stop: false,
+        patient: true,
+    },
+    Row {
+        words: "audit|--engine|a|--stop|1|--games|1|--seed|0",
+        games: 1,
+        seed: 0,
+        plies: 80,
+        game_type: None,
+        stop: true,
+        patient: false,
+    },
+    Row {
+        words: "audit|--engine|a|--games|1|--stop=0|--seed|0",
+        games: 1,
+        seed: 0,
+        plies: 80,
+        game_type: None,
+        stop: false,
+        patient: false,
+    },
 ];
 
 /// Words, separated by `|`, that ask for no audit.
@@ -82,61 +117,70 @@ const NO_AUDITS: [&str; 22] = [
     "audit|--engine|a|--games|1|--seed|1|--stop|2",
 ];
 
+/// Whether the words ask for just this audit.
+fn ask_for_audit(alloc: Global, row: &Row) -> Result<bool, AllocError> {
+    let audit = Asked::Audit {
+        games: row.games,
+        seed: row.seed,
+        plies: row.plies,
+        game_type: row.game_type,
+        stop: row.stop,
+        patient: row.patient,
+    };
+    ask_for(alloc, row.words, Some(audit))
+}
+
 #[test]
 fn audits_are_asked_for(rt: HostRuntime) -> Result<(), Fail> {
-    let alloc = rt.alloc();
-    for (options, games, seed, plies, game_type, stop, patient) in AUDITS {
-        let text = format!(in alloc; "audit|--engine|a|{options}")?;
-        let words = words_of(alloc, text.as_str(), '|')?;
-        let audit = Asked::Audit {
-            games,
-            seed,
-            plies,
-            game_type,
-            stop,
-            patient,
-        };
-        let asked = asked_of(alloc, words.as_slice())?;
-        assert_eq!(rt; asked, Some(audit), "at {options}");
-    }
-    for text in NO_AUDITS {
-        let words = words_of(alloc, text, '|')?;
-        assert_eq!(rt; asked_of(alloc, words.as_slice())?, None, "at {text}");
+    for row in &ROWS {
+        let holds = ask_for_audit(rt.alloc(), row)?;
+        assert!(rt; holds, "at {}", row.words);
     }
     Ok(())
 }
 
-/// Words of an audit, separated by `|`, those of its program, and the care for it.
-const PROGRAMS: [(&str, &str, Option<u64>, bool); 3] = [
-    ("audit|--engine|a|--games|1|--seed|0", "a", None, false),
-    (
-        "audit|--games|1|--seed|0|--engine=./mine -x --y=1|--quiet|1",
-        "./mine|-x|--y=1",
-        None,
-        true,
-    ),
-    (
-        "audit|--patience=00:01:00|--engine|hive uhp|--games|1|--seed|0",
-        "hive|uhp",
-        Some(60_000),
-        false,
-    ),
+#[test]
+fn other_words_ask_for_no_audit(rt: HostRuntime) -> Result<(), Fail> {
+    expect_nothing(&rt, rt.alloc(), &NO_AUDITS)?;
+    Ok(())
+}
+
+/// Words of an audit, separated by `|`, and those of its program.
+struct Named {
+    words: &'static str,
+    program: &'static str,
+}
+
+const NAMED: [Named; 3] = [
+    Named {
+        words: "audit|--engine|a|--games|1|--seed|0",
+        program: "a",
+    },
+    Named {
+        words: "audit|--games|1|--seed|0|--engine=./mine -x --y=1|--quiet|1",
+        program: "./mine|-x|--y=1",
+    },
+    Named {
+        words: "audit|--patience=00:01:00|--engine|hive uhp|--games|1|--seed|0",
+        program: "hive|uhp",
+    },
 ];
+
+/// Whether the words ask for an audit of just this program.
+fn name_program(alloc: Global, row: &Named) -> Result<bool, AllocError> {
+    let words = words_of(alloc, row.words, '|')?;
+    let Some(Asked::Audit { .. }) = asked_of(alloc, words.as_slice())? else {
+        return Ok(false);
+    };
+    let program = audited_of(alloc, words.as_slice())?;
+    are_words_of(alloc, program.as_slice(), row.program, '|')
+}
 
 #[test]
 fn programs_of_audits_have_their_words(rt: HostRuntime) -> Result<(), Fail> {
-    let alloc = rt.alloc();
-    for (text, program, limit, quiet) in PROGRAMS {
-        let words = words_of(alloc, text, '|')?;
-        let Some(Asked::Audit { .. }) = asked_of(alloc, words.as_slice())? else {
-            assert!(rt; false, "no audit at {text}");
-            return Ok(());
-        };
-        let audited = audited_of(alloc, words.as_slice())?;
-        let program = words_of(alloc, program, '|')?;
-        assert_eq!(rt; audited.as_slice(), program.as_slice(), "at {text}");
-        let care = care_of(alloc, words.as_slice())?;
-        assert_eq!(rt; care, Care { limit, quiet }, "at {text}");
+    for row in &NAMED {
+        let holds = name_program(rt.alloc(), row)?;
+        assert!(rt; holds, "at {}", row.words);
     }
     Ok(())
 }

@@ -71,9 +71,26 @@ impl<G: Game + Drop> Referee<G> {
         }
     }
 
-    /// Both sides know the last move, and the key of its position is kept: the rules end the game,
-    /// or the limit does, or it goes on. From then on no move is being told. After want of memory
-    /// the match is as before.
+    /// Both sides know all moves, and the keys of their positions are kept: the rules end the game,
+    /// or the limit does, or it goes on.
+    #[tactic(auto, unfolding(crate::specs::Standing::decide))]
+    pub(super) fn settle(&mut self)
+        requires { IsSettled self.old.stage }
+        ensures { self.new ≡ decide self.old }
+    {
+        let state = self.seen.outcome(&self.game);
+        if state.is_over() {
+            self.finish(Verdict::Rules { state });
+        } else if self.game.plies() >= self.setup.limit {
+            self.finish(Verdict::Limit);
+        } else {
+            self.ask();
+        }
+    }
+
+    /// Both sides know the last move, and the key of its position is kept. From then on no move is
+    /// being told, and the match goes on as one that has just begun. After want of memory the match
+    /// is as before.
     #[tactic(auto, unfolding(crate::specs::Standing::decide, crate::specs::Standing::ask))]
     pub(super) fn decide(&mut self) -> Result<(), AllocError>
         requires more { length self.old.moves ≤ self.old.setup.limit }
@@ -82,19 +99,11 @@ impl<G: Game + Drop> Referee<G> {
         ensures err { OnErr result (self.new ≡ self.old) }
     {
         self.seen.note(&self.game)?;
-        let state = self.seen.outcome(&self.game);
-        if state.is_over() {
-            self.stage = Stage::Finished;
-            self.finish(Verdict::Rules { state });
-            return Ok(());
-        }
-        if self.game.plies() >= self.setup.limit {
-            self.stage = Stage::Finished;
-            self.finish(Verdict::Limit);
-            return Ok(());
-        }
-        self.stage = Stage::Before;
-        self.ask();
+        self.stage = Stage::Read {
+            task: Task::Begin,
+            side: Colour::Black,
+        };
+        self.settle();
         Ok(())
     }
 

@@ -19,7 +19,7 @@ use super::Referee;
 use crate::answers::{Cause, Event, Level, Stage, Task};
 use crate::line_text::copy_line;
 use crate::lines::{is_error, is_ok};
-use crate::texts::{write_ask, write_begin};
+use crate::texts::write_ask;
 use hive_model::{Colour, Game, Move};
 use std::alloc::AllocError;
 
@@ -36,13 +36,12 @@ fn latest(level: Level, asked: u64) -> u64
 }
 
 impl<G: Game + Drop> Referee<G> {
-    /// A side is told to begin a new game.
+    /// A side is told the game to begin.
     fn begin(&mut self, side: Colour)
-        requires more { length self.old.moves < self.old.setup.limit }
+        requires more { length self.old.moves ≤ length self.old.setup.begin + self.old.setup.limit }
         requires settled { IsSettled self.old.stage }
         ensures { self.new ≡ go self.old (Stage.Send Task.Begin side) }
     {
-        write_begin(&mut self.text, self.setup.game_type);
         self.first = None;
         self.count = 0;
         self.stage = Stage::Send {
@@ -93,7 +92,8 @@ impl<G: Game + Drop> Referee<G> {
 
     /// A reply has ended. After want of memory the match is as before.
     fn reply_ends(&mut self, task: Task, side: Colour) -> Result<(), AllocError>
-        requires more { HasNext task (length self.old.moves) self.old.setup.limit }
+        requires more { HasNext task (length self.old.setup.begin) (length self.old.moves)
+            self.old.setup.limit }
         requires stage { self.old.stage ≡ Stage.Read task side }
         ensures ok { OnOk result (self.new ≡ reply_ends self.old task side) }
         ensures err { OnErr result (self.new ≡ self.old) }
@@ -102,7 +102,7 @@ impl<G: Game + Drop> Referee<G> {
             (Task::Greet, Colour::White) => self.greet(Colour::Black),
             (Task::Greet, Colour::Black) => self.begin(Colour::White),
             (Task::Begin, Colour::White) => self.begin(Colour::Black),
-            (Task::Begin, Colour::Black) => self.ask(),
+            (Task::Begin, Colour::Black) => self.settle(),
             (Task::Ask, _) => self.answered(),
             (Task::Tell { told }, Colour::White) => self.tell_black(told),
             (Task::Tell { told: _ }, Colour::Black) => self.decide()?,
@@ -129,7 +129,8 @@ impl<G: Game + Drop> Referee<G> {
 
     /// A line of a reply: it ends the reply, tells a fault, is one line too many, or is counted.
     fn hear(&mut self, task: Task, side: Colour, line: &[u8]) -> Result<(), AllocError>
-        requires more { HasNext task (length self.old.moves) self.old.setup.limit }
+        requires more { HasNext task (length self.old.setup.begin) (length self.old.moves)
+            self.old.setup.limit }
         requires short { length line.now ≤ 65536 }
         requires stage { self.old.stage ≡ Stage.Read task side }
         ensures ok { OnOk result (self.new ≡ hear self.old task side line.now) }
@@ -174,7 +175,8 @@ impl<G: Game + Drop> Referee<G> {
         event: Event,
         line: &[u8],
     ) -> Result<(), AllocError>
-        requires more { HasNext task (length self.old.moves) self.old.setup.limit }
+        requires more { HasNext task (length self.old.setup.begin) (length self.old.moves)
+            self.old.setup.limit }
         requires short { length line.now ≤ 65536 }
         requires stage { self.old.stage ≡ Stage.Read task side }
         ensures ok { OnOk result (self.new ≡ at_read self.old task side

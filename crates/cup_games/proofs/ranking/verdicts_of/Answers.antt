@@ -1,8 +1,13 @@
-use Rattle.std.proofs.Common.{rules, ◌≡◌, ◌+◌, List, [], ◌∷◌, ◌++◌, map, take, ap, sym, ◌∙◌, Option, Some}
+use Rattle.std.proofs.Common.{rules, ◌≡◌, ◌+◌, List, [], ◌∷◌, ◌++◌, map, take, ap, sym, ◌∙◌, subst, Option, Some}
 use Rattle.std.proofs.lemmas.List.{map-append, take_more}
 use Rattle.match_core.specs.declared.answers.Verdict.{Verdict}
-use Rattle.cup_games.specs.Played.{Job, verdict_of}
+use Rattle.cup_games.specs.Played.{Job, HasVerdict, verdict_of}
 use Rattle.cup_games.proofs.ranking.verdicts_of.Goals as goal
+
+pub verdict_of-requires : goal.verdict_of-requires
+verdict_of-requires g c = record {
+  played = subst HasVerdict (sym c.index-jobs-place.is) (c.requires.played c.loop-place.place c.index-jobs-place.result c.loop-place-test.true);
+}
 
 pub loop-place-preserved : goal.loop-place-preserved
 loop-place-preserved g c =

@@ -1,4 +1,5 @@
 use Rattle.std.proofs.Common.{sym}
+use Rattle.match_core.specs.Setups.{setup_plain}
 use Rattle.cup_games.proofs.InTime.{never-late}
 use Rattle.cup_games.proofs.job.CupJob.play.Goals as goal
 
@@ -7,5 +8,5 @@ returns-clause-played g c =
     let ran = c.in_ok-referee.ensures.ran in
     rw (sym c.self.view_is) (record {
       links = ran.links;
-      in_time = never-late c.self.inside.setup c.in_ok-referee.referee _ _ _ _ _ _ _ _ c.self.invariant.depth ran.events.ran;
+      in_time = never-late (setup_plain c.self.inside.setup) c.in_ok-referee.referee _ _ _ _ _ _ _ _ c.self.invariant.depth ran.events.ran;
     })

@@ -1,0 +1,63 @@
+//! The command that reads first: the game of the input is read, and the match is played from it.
+ghost use Rattle.std.specs.Prelude.{◌≡◌, ◌<◌, ◌≤◌, length, map, string_bytes};
+ghost use Rattle.io_edge.specs.Outside.{HasCause};
+ghost use Rattle.match_core.specs.Keeps.{IsSetup};
+ghost use Rattle.match_command.specs.Ends.{EndsRun};
+ghost use Rattle.match_command.specs.Match.{means, scene};
+ghost use Rattle.match_command.specs.Reads.{ReadMatchRun, read_scene, typed};
+
+use crate::playing::play_match_from;
+use command_runs::{Status, read_one_game, tell_none};
+use hive_model::{Game, GameType};
+use io_edge::{Clock, Sink, Source, Spawner};
+use match_core::Setup;
+use std::alloc::Global;
+
+/// The setup for games of this type.
+fn typed(setup: Setup, game_type: GameType) -> Setup
+    ensures { result ≡ typed setup game_type }
+{
+    Setup { game_type, ..setup }
+}
+
+/// Reads the one game of the input, and plays a match of two programs from it, as `play_match_from`
+/// does, by the setup with the type of this game in place of its own.
+///
+/// The input is to be one line, a game string of a game that is not over, and is read to its end
+/// before a program is started. Where it is something else, one line that begins with `bad` says
+/// why, and it is `BadInput`. A read that fails (`ReadFault`), a full input (`InputFull`) and want
+/// of memory (`Memory`) end the run with nothing written. In each of these cases no program is
+/// started, and the clock is not read; nor where the line could not be written (`WriteFault`).
+pub fn play_read_match<S: Source, P: Spawner, K: Sink, C: Clock, G: Game + Drop>(
+    alloc: Global,
+    white: &[String],
+    black: &[String],
+    setup: Setup,
+    input: &mut S,
+    output: &mut K,
+    clock: &mut C,
+    spawner: &mut P,
+) -> Status
+    requires setup { IsSetup setup }
+    requires white_some { 0 < length white.now }
+    requires black_some { 0 < length black.now }
+    ensures run { ReadMatchRun setup
+        (map string_bytes white.now) (map string_bytes black.now) result
+        (read_scene (S.rest input.old) (scene (K.written output.old)
+        (means (C.last clock.old) (C.readings clock.old) (P.engines spawner.old))))
+        (read_scene (S.rest input.new) (scene (K.written output.new)
+        (means (C.last clock.new) (C.readings clock.new) (P.engines spawner.new)))) }
+    ensures ends { EndsRun result (K.write_faults output.old) (K.write_faults output.new)
+        (P.engines spawner.old) (P.engines spawner.new) }
+    ensures reads { HasCause (result ≡ Status.ReadFault) (S.read_faults input.old)
+        (S.read_faults input.new) }
+    ensures later { C.last clock.old ≤ C.last clock.new }
+{
+    match read_one_game::<S, G>(alloc, input, 0) {
+        Ok(game) => {
+            let setup = typed(setup, game.game_type());
+            play_match_from(alloc, white, black, setup, game, output, clock, spawner)
+        }
+        Err(none) => tell_none(none, output),
+    }
+}

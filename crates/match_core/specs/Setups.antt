@@ -1,0 +1,45 @@
+-- What a match is played by, and the moves that it begins with.
+use Rattle.std.specs.Prelude.{ℕ, ◌≤◌, Bool, List, [], length}
+use Rattle.hive_model.specs.declared.pieces.GameType.{GameType}
+use Rattle.hive_model.specs.declared.places.Move.{Move}
+use Rattle.hive_model.specs.Games.{IsGame}
+use Rattle.match_core.specs.declared.answers.Setup.{Setup}
+use Rattle.match_core.specs.declared.answers.Level.{Level}
+
+-- a setup, and the moves of the game that the match begins with: none where it begins with the
+-- opening
+pub record FullSetup : Type 0 where
+  pub game_type : GameType
+  pub level : Level
+  pub limit : ℕ
+  pub repetition : Bool
+  pub begin : List Move
+
+-- this setup, from the game of these moves on
+abbrev pub setup_from : Setup → List Move → FullSetup
+setup_from setup begin = record {
+  game_type = setup.game_type;
+  level = setup.level;
+  limit = setup.limit;
+  repetition = setup.repetition;
+  begin = begin;
+}
+
+-- this setup, from the opening on
+abbrev pub setup_plain : Setup → FullSetup
+setup_plain setup = setup_from setup []
+
+-- the setup without the moves
+abbrev pub setup_of : FullSetup → Setup
+setup_of full = record {
+  game_type = full.game_type;
+  level = full.level;
+  limit = full.limit;
+  repetition = full.repetition;
+}
+
+-- The moves that the match begins with are a game, of no more plies than there is room for in a
+-- game. There may be more of them than the limit: then the match ends at its limit at once.
+pub record IsBegin (full : FullSetup) : Type 0 where
+  pub game : IsGame full.game_type full.begin
+  pub few : length full.begin ≤ 5064
