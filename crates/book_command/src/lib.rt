@@ -8,6 +8,3 @@ mod telling;
 
 pub use answering::book;
 pub use laws::{books_are_done, written_moves_are_legal};
-
-#[cfg(test)]
-mod tests;

@@ -14,6 +14,3 @@ pub use points::points_of;
 pub use program::Program;
 pub use ranking::standings;
 pub use standing::{Standing, StandingList};
-
-#[cfg(test)]
-mod tests;

@@ -16,6 +16,3 @@ mod updating;
 
 pub use keeper::{CutKeeper, Delta, KeptCuts, added_uncounted, removed_uncounted};
 pub use rings::{has_bit, is_suspect, only_in};
-
-#[cfg(test)]
-mod tests;

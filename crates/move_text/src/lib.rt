@@ -13,6 +13,3 @@ pub use fields::{read_number, read_state, read_time, read_type, state_text, time
 pub use laws::texts_denote;
 pub use moves::{read_move, write_move};
 pub use spelling::piece_name;
-
-#[cfg(test)]
-mod tests;

@@ -6,6 +6,3 @@ mod plies;
 mod tally;
 
 pub use tally::Tally;
-
-#[cfg(test)]
-mod tests;

@@ -7,6 +7,3 @@ mod parse;
 
 pub use given::GivenOptions;
 pub use option::{one_option, options_of};
-
-#[cfg(test)]
-mod tests;

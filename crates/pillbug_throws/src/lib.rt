@@ -7,6 +7,3 @@ mod throwers;
 
 pub use landing::{may_be_thrown, throws};
 pub use throwers::{may_throw, throwing_spot};
-
-#[cfg(test)]
-mod tests;

@@ -12,6 +12,3 @@ mod values;
 pub use counts::count_lines;
 pub use laws::like_placements_have_the_same_replies;
 pub use values::minimax;
-
-#[cfg(test)]
-mod tests;

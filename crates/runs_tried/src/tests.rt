@@ -8,6 +8,7 @@ mod fronts;
 mod kept;
 mod late;
 mod lists;
+mod matches_from;
 mod programs;
 mod refused;
 mod repeated;

@@ -16,6 +16,3 @@ pub use laws::{
 };
 pub use own::OwnSymmetry;
 pub use symmetry::Symmetry;
-
-#[cfg(test)]
-mod tests;

@@ -218,6 +218,3 @@ impl<const SIDE: usize> Torus<SIDE> {
         }
     }
 }
-
-#[cfg(test)]
-mod tests;

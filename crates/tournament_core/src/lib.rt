@@ -17,6 +17,3 @@ pub use plan::Plan;
 pub use ranking::standings;
 pub use standing::{Standing, StandingList};
 pub use tally::Tally;
-
-#[cfg(test)]
-mod tests;

@@ -18,6 +18,3 @@ pub use laws::{
 pub use lines::{LineIn, Reply};
 pub use lists::joined_moves;
 pub use session::Session;
-
-#[cfg(test)]
-mod tests;

@@ -13,6 +13,3 @@ pub use read::read_command;
 pub use reply::write_reply;
 pub use span::{Span, part};
 pub use verb::Verb;
-
-#[cfg(test)]
-mod tests;

@@ -35,12 +35,25 @@ pub(crate) fn sent(played: &Played, number: usize) -> &[u8] {
     }
 }
 
-/// Runs these words by this clock over programs that say this, in the order of their starts; the
-/// start of this number fails (0: none fails).
+/// Runs these words by this clock, with no input, over programs that say this, in the order of
+/// their starts; the start of this number fails (0: none fails).
 pub(crate) fn run_over<R: Threads + Sync, C: Clock>(
     rt: &R,
     alloc: Global,
     words: &[&str],
+    said: &[&[u8]],
+    failing_start: u64,
+    clock: &mut C,
+) -> Result<Played, AllocError> {
+    run_over_input(rt, alloc, words, b"".as_slice(), said, failing_start, clock)
+}
+
+/// The same with this input.
+pub(crate) fn run_over_input<R: Threads + Sync, C: Clock>(
+    rt: &R,
+    alloc: Global,
+    words: &[&str],
+    input: &[u8],
     said: &[&[u8]],
     failing_start: u64,
     clock: &mut C,
@@ -53,7 +66,8 @@ pub(crate) fn run_over<R: Threads + Sync, C: Clock>(
     for text in said {
         links.push(link_of(alloc, text)?)?;
     }
-    let mut input = MemSource::new(Vec::new(alloc), Vec::new(alloc), Vec::new(alloc));
+    let bytes = Vec::from_slice(alloc, input)?;
+    let mut input = MemSource::new(bytes, Vec::new(alloc), Vec::new(alloc));
     let mut output = MemSink::new(alloc, Vec::new(alloc), Vec::new(alloc));
     let mut spawner = MemSpawner::new(alloc, links, Vec::from_slice(alloc, &[failing_start])?);
     let outcome = run(

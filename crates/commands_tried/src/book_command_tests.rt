@@ -1,0 +1,257 @@
+//! What a book names, and how its run ends.
+
+use book_command::book;
+use command_runs::Status;
+use fast_game::FastGame;
+use io_edge::{MemSink, MemSource};
+use std::alloc::{AllocError, Global};
+use std::process::Abort;
+use std::test::Fail;
+
+/// A lone spider.
+const SPIDER: &str = "Base;InProgress;Black[1];wS1";
+
+/// Black answers a lone spider with a grasshopper in two games, and with an ant in one.
+const REPLIES: [&str; 3] = [
+    "Base;InProgress;White[2];wS1;bG1 wS1/",
+    "Base;InProgress;White[2];wS1;bG1 -wS1",
+    "Base;InProgress;White[2];wS1;bA1 wS1-",
+];
+
+/// A finished game, in which Black answers with a spider.
+const DRAWN: &str =
+    "Base;Draw;Black[7];wS1;bS1 wS1-;wQ /wS1;bQ bS1-;wQ wS1\\;bQ bS1\\;wG1 -wQ;bG1 bS1-;wB1 wG1\\;bB1 bQ-;wA1 -wB1;bA1 bQ\\;wA1 wQ\\";
+
+/// No game: a spider alone is no drawn game.
+const NO_GAME: &str = "Base;Draw;Black[1];wS1";
+
+/// Three pieces that no symmetry leaves in their places.
+const CROOKED: &str = "Base;InProgress;Black[2];wS1;bG1 wS1-;wA1 \\wS1";
+
+/// The same three pieces turned six ways and mirrored, and the same answer to each.
+const TURNED: [&str; 12] = [
+    "Base;InProgress;White[3];wS1;bG1 wS1-;wA1 \\wS1;bA1 bG1-",
+    "Base;InProgress;White[3];wS1;bG1 wS1-;wA1 /wS1;bA1 bG1-",
+    "Base;InProgress;White[3];wS1;bG1 wS1/;wA1 -wS1;bA1 bG1/",
+    "Base;InProgress;White[3];wS1;bG1 wS1/;wA1 wS1\\;bA1 bG1/",
+    "Base;InProgress;White[3];wS1;bG1 \\wS1;wA1 /wS1;bA1 \\bG1",
+    "Base;InProgress;White[3];wS1;bG1 \\wS1;wA1 wS1-;bA1 \\bG1",
+    "Base;InProgress;White[3];wS1;bG1 -wS1;wA1 wS1\\;bA1 -bG1",
+    "Base;InProgress;White[3];wS1;bG1 -wS1;wA1 wS1/;bA1 -bG1",
+    "Base;InProgress;White[3];wS1;bG1 /wS1;wA1 wS1-;bA1 /bG1",
+    "Base;InProgress;White[3];wS1;bG1 /wS1;wA1 \\wS1;bA1 /bG1",
+    "Base;InProgress;White[3];wS1;bG1 wS1\\;wA1 wS1/;bA1 bG1\\",
+    "Base;InProgress;White[3];wS1;bG1 wS1\\;wA1 -wS1;bA1 bG1\\",
+];
+
+/// The numbers, from 1, of the read and of the write that fail (0: none fails).
+#[derive(Clone, Copy, Debug)]
+struct Failing {
+    read: u64,
+    write: u64,
+}
+
+/// No call fails.
+const NONE: Failing = Failing { read: 0, write: 0 };
+
+/// The input of these lines, each ended by LF.
+fn input_of(alloc: Global, lines: &[&str]) -> Result<Vec<u8>, AllocError> {
+    let mut input = Vec::new(alloc);
+    for line in lines {
+        input.extend_from_slice(line.as_bytes())?;
+        input.push(b'\n')?;
+    }
+    Ok(input)
+}
+
+/// Runs a book in memory, and compares the status and all that was written.
+fn expect_run<R: Abort>(
+    rt: &R,
+    alloc: Global,
+    input: &[u8],
+    pieces: &[usize],
+    failing: Failing,
+    status: Status,
+    written: &str,
+) -> Result<(), AllocError> {
+    let bytes = Vec::from_slice(alloc, input)?;
+    let reads = Vec::from_slice(alloc, &[failing.read])?;
+    let writes = Vec::from_slice(alloc, &[failing.write])?;
+    let mut source = MemSource::new(bytes, Vec::from_slice(alloc, pieces)?, reads);
+    let mut sink = MemSink::new(alloc, Vec::from_slice(alloc, pieces)?, writes);
+    let ended = book::<MemSource, MemSink, FastGame>(alloc, &mut source, &mut sink);
+    assert_eq!(rt;
+        ended,
+        status,
+        "{written}, pieces of {pieces:?}, {failing:?}"
+    );
+    assert_eq!(rt;
+        sink.bytes(),
+        written.as_bytes(),
+        "pieces of {pieces:?}, {failing:?}"
+    );
+    Ok(())
+}
+
+/// Runs a book over a position and games, in pieces of one byte, of seven, and without bound.
+fn expect_book<R: Abort>(
+    rt: &R,
+    alloc: Global,
+    position: &str,
+    games: &[&str],
+    status: Status,
+    written: &str,
+) -> Result<(), AllocError> {
+    let mut input = input_of(alloc, &[position])?;
+    input.extend_from_slice(input_of(alloc, games)?.as_slice())?;
+    for pieces in [[1].as_slice(), [7].as_slice(), [].as_slice()] {
+        expect_run(rt, alloc, input.as_slice(), pieces, NONE, status, written)?;
+    }
+    Ok(())
+}
+
+#[test]
+fn the_move_that_was_made_most_often(rt: HostRuntime) -> Result<(), Fail> {
+    let done = Status::Done;
+    for (position, games, written) in [
+        (SPIDER, REPLIES.as_slice(), "book bG1 -wS1 2\n"),
+        ("Base", REPLIES.as_slice(), "book wS1 3\n"),
+        (SPIDER, [].as_slice(), "book none\n"),
+        (SPIDER, [DRAWN].as_slice(), "book bS1 -wS1 1\n"),
+        (SPIDER, ["Base+M"].as_slice(), "book none\n"),
+    ] {
+        expect_book(&rt, rt.alloc(), position, games, done, written)?;
+    }
+    Ok(())
+}
+
+#[test]
+fn a_turned_or_mirrored_game_counts(rt: HostRuntime) -> Result<(), Fail> {
+    let done = Status::Done;
+    for game in TURNED {
+        let games = [game];
+        let games = games.as_slice();
+        expect_book(&rt, rt.alloc(), CROOKED, games, done, "book bA1 bG1- 1\n")?;
+    }
+    let games = TURNED.as_slice();
+    expect_book(&rt, rt.alloc(), CROOKED, games, done, "book bA1 bG1- 12\n")?;
+    Ok(())
+}
+
+/// The same pieces stand around the grasshopper, which was put on another side of the first piece.
+#[test]
+fn a_shifted_game_counts(rt: HostRuntime) -> Result<(), Fail> {
+    expect_book(
+        &rt,
+        rt.alloc(),
+        "Base;InProgress;Black[4];wA1;bG1 wA1-;wQ \\wA1;bA1 bG1\\;wQ \\bG1;bQ bA1-;wA1 \\wQ",
+        [
+            "Base;InProgress;White[5];wA1;bG1 /wA1;wQ \\wA1;bA1 bG1\\;wQ \\bG1;bQ bA1-;wA1 \\wQ;bG2 bQ-",
+        ].as_slice(),
+        Status::Done,
+        "book bG2 bQ- 1\n",
+    )?;
+    Ok(())
+}
+
+/// The position is its own mirror image, so either side counts for both, and once.
+#[test]
+fn a_mirrored_move_counts_once(rt: HostRuntime) -> Result<(), Fail> {
+    expect_book(
+        &rt,
+        rt.alloc(),
+        "Base;InProgress;White[2];wS1;bG1 wS1-",
+        [CROOKED].as_slice(),
+        Status::Done,
+        "book wA1 /wS1 1\n",
+    )?;
+    Ok(())
+}
+
+#[test]
+fn the_first_bad_line_is_named(rt: HostRuntime) -> Result<(), Fail> {
+    let bad = Status::BadInput;
+    let [one, two, three] = REPLIES;
+    for (position, games, written) in [
+        ("", [].as_slice(), "bad malformed part 1\n"),
+        (
+            "Base;NotStarted;White[2]",
+            [NO_GAME].as_slice(),
+            "bad other turn\n",
+        ),
+        (DRAWN, [].as_slice(), "bad game over\n"),
+        (
+            SPIDER,
+            [one, two, three, NO_GAME].as_slice(),
+            "bad line 5\n",
+        ),
+        (SPIDER, [one, "", NO_GAME].as_slice(), "bad line 3\n"),
+    ] {
+        expect_book(&rt, rt.alloc(), position, games, bad, written)?;
+    }
+    expect_run(
+        &rt,
+        rt.alloc(),
+        [].as_slice(),
+        [].as_slice(),
+        NONE,
+        bad,
+        "bad no line\n",
+    )?;
+    Ok(())
+}
+
+#[test]
+fn a_line_that_is_too_long_is_named(rt: HostRuntime) -> Result<(), Fail> {
+    let bad = Status::BadInput;
+    let long = vec![in rt.alloc(); b'x'; 65_537]?;
+    let mut input = Vec::from_slice(rt.alloc(), b"Base\nBase\n".as_slice())?;
+    input.extend_from_slice(long.as_slice())?;
+    let pieces = [].as_slice();
+    expect_run(
+        &rt,
+        rt.alloc(),
+        long.as_slice(),
+        pieces,
+        NONE,
+        bad,
+        "bad line too long\n",
+    )?;
+    expect_run(
+        &rt,
+        rt.alloc(),
+        input.as_slice(),
+        pieces,
+        NONE,
+        bad,
+        "bad line 3\n",
+    )?;
+    Ok(())
+}
+
+#[test]
+fn a_read_or_a_write_that_fails_ends_the_run(rt: HostRuntime) -> Result<(), Fail> {
+    let input = input_of(rt.alloc(), &[SPIDER, DRAWN])?;
+    let pieces = [7].as_slice();
+    let read = Failing { read: 6, write: 0 };
+    let write = Failing { read: 0, write: 2 };
+    expect_run(
+        &rt,
+        rt.alloc(),
+        input.as_slice(),
+        pieces,
+        read,
+        Status::ReadFault,
+        "",
+    )?;
+    expect_run(
+        &rt,
+        rt.alloc(),
+        input.as_slice(),
+        pieces,
+        write,
+        Status::WriteFault,
+        "book bS",
+    )?;
+    Ok(())
+}

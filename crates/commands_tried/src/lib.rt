@@ -1,0 +1,20 @@
+//! Books, matches, cups and tournaments, tried: the public calls of their crates over texts,
+//! sources, sinks, clocks and programs in memory.
+#![tactic(auto)]
+
+#[cfg(test)]
+mod book_command_tests;
+#[cfg(test)]
+mod cup_command_tests;
+#[cfg(test)]
+mod cup_core_tests;
+#[cfg(test)]
+mod cup_games_tests;
+#[cfg(test)]
+mod match_command_tests;
+#[cfg(test)]
+mod match_from_tests;
+#[cfg(test)]
+mod opening_book_tests;
+#[cfg(test)]
+mod tournament_core_tests;

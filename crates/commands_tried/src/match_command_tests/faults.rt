@@ -1,0 +1,146 @@
+//! Starts, reads and writes that fail.
+
+use super::{
+    BLACK, DEPTH_ONE, ILLEGAL, Says, Seen, TO_BLACK, TO_WHITE, WHITE, play_deep, play_with, sent,
+    sound, spawner_of,
+};
+use command_runs::Status;
+use hive_model::Colour;
+use io_edge::StepClock;
+use std::alloc::{AllocError, Global};
+use std::process::Abort;
+use std::test::Fail;
+
+/// Plays the match in which the start of this number fails, or the write of the output of this
+/// number.
+fn play_failing(alloc: Global, start: u64, write: u64) -> Result<Seen, AllocError> {
+    let spawner = spawner_of(alloc, sound(WHITE, 7), sound(BLACK, 7), start)?;
+    play_with(alloc, spawner, DEPTH_ONE, &mut StepClock::new(0, 1), write)
+}
+
+#[test]
+fn a_program_does_not_start(rt: HostRuntime) -> Result<(), Fail> {
+    let seen = play_failing(rt.alloc(), 1, 0)?;
+    assert_eq!(rt; seen.status, Status::SpawnFault);
+    assert!(rt; seen.output.bytes().is_empty());
+    assert!(rt; seen.spawner.closed().is_empty());
+    let seen = play_failing(rt.alloc(), 2, 0)?;
+    assert_eq!(rt; seen.status, Status::SpawnFault);
+    assert!(rt; seen.output.bytes().is_empty());
+    assert_eq!(rt; seen.spawner.closed().len(), 1);
+    assert!(rt; sent(&seen, 0).is_empty());
+    Ok(())
+}
+
+#[test]
+fn a_write_of_the_output_fails(rt: HostRuntime) -> Result<(), Fail> {
+    for (write, bytes) in [(1, 0), (2, 7), (9, 56)] {
+        let seen = play_failing(rt.alloc(), 0, write)?;
+        assert_eq!(rt; seen.status, Status::WriteFault);
+        assert_eq!(rt; seen.output.bytes().len(), bytes);
+        assert!(rt; ILLEGAL.starts_with(seen.output.bytes()));
+        assert_eq!(rt; seen.spawner.closed().len(), 2);
+    }
+    Ok(())
+}
+
+/// Whether a text tells the game of no move or of white's one, and that this side broke.
+fn tells_broke(text: &[u8], side: &[u8]) -> bool {
+    let rest = if text.starts_with(b"Base;NotStarted;White[1]\n".as_slice()) {
+        text.strip_prefix(b"Base;NotStarted;White[1]\n".as_slice())
+    } else {
+        text.strip_prefix(b"Base;InProgress;Black[1];wS1\n".as_slice())
+    };
+    match rest {
+        Some(verdict) => verdict == side,
+        None => false,
+    }
+}
+
+/// What a side says of which one call fails, in pieces of four bytes.
+fn failing(text: &[u8], failing_read: u64, failing_write: u64) -> Says<'_> {
+    Says {
+        text,
+        piece: 4,
+        failing_read,
+        failing_write,
+    }
+}
+
+/// Plays the match in which this call of a side's link fails: the side breaks, and both sides are
+/// sent a front of what they would be sent.
+fn expect_broke<R: Abort>(
+    rt: &R,
+    alloc: Global,
+    side: Colour,
+    read: u64,
+    write: u64,
+) -> Result<(), AllocError> {
+    let (seen, verdict) = match side {
+        Colour::White => (
+            play_deep(alloc, failing(WHITE, read, write), sound(BLACK, 4))?,
+            b"forfeit white broke\n".as_slice(),
+        ),
+        Colour::Black => (
+            play_deep(alloc, sound(WHITE, 4), failing(BLACK, read, write))?,
+            b"forfeit black broke\n".as_slice(),
+        ),
+    };
+    assert_eq!(rt; seen.status, Status::Done);
+    assert!(rt; tells_broke(seen.output.bytes(), verdict));
+    assert_eq!(rt; seen.spawner.closed().len(), 2);
+    assert!(rt; TO_WHITE.starts_with(sent(&seen, 0)));
+    assert!(rt; TO_BLACK.starts_with(sent(&seen, 1)));
+    Ok(())
+}
+
+/// White says its 25 bytes in seven pieces of four bytes at most.
+const WHITE_READS: u64 = 7;
+
+/// Black says its 29 bytes in eight.
+const BLACK_READS: u64 = 8;
+
+/// Each side is told lines of 13, 17 and 9 bytes, in such pieces by four writes, five and three.
+const WRITES: u64 = 12;
+
+/// Each of the reads of a side's link fails in turn.
+fn each_read_fails<R: Abort>(
+    rt: &R,
+    alloc: Global,
+    side: Colour,
+    reads: u64,
+) -> Result<(), AllocError> {
+    for read in 1..=reads {
+        expect_broke(rt, alloc, side, read, 0)?;
+    }
+    Ok(())
+}
+
+/// Each of the writes to a side's link fails in turn.
+fn each_write_fails<R: Abort>(rt: &R, alloc: Global, side: Colour) -> Result<(), AllocError> {
+    for write in 1..=WRITES {
+        expect_broke(rt, alloc, side, 0, write)?;
+    }
+    Ok(())
+}
+
+#[test]
+fn a_link_fails(rt: HostRuntime) -> Result<(), Fail> {
+    each_read_fails(&rt, rt.alloc(), Colour::White, WHITE_READS)?;
+    each_write_fails(&rt, rt.alloc(), Colour::White)?;
+    each_read_fails(&rt, rt.alloc(), Colour::Black, BLACK_READS)?;
+    each_write_fails(&rt, rt.alloc(), Colour::Black)?;
+    Ok(())
+}
+
+#[test]
+fn a_link_has_no_more_calls(rt: HostRuntime) -> Result<(), Fail> {
+    let white = failing(WHITE, WHITE_READS + 1, WRITES + 1);
+    let black = failing(BLACK, BLACK_READS + 1, WRITES + 1);
+    let seen = play_deep(rt.alloc(), white, black)?;
+    assert_eq!(rt; seen.status, Status::Done);
+    assert_eq!(rt; seen.output.bytes(), ILLEGAL);
+    assert_eq!(rt; sent(&seen, 0), TO_WHITE);
+    assert_eq!(rt; sent(&seen, 1), TO_BLACK);
+    Ok(())
+}

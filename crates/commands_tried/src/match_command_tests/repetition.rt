@@ -1,0 +1,83 @@
+//! A match whose last position stands for the third time.
+ghost use Rattle.match_core.specs.Keeps.{IsSetup};
+
+use super::{BASE, Seen, play_with, said_by, sound, spawner_of};
+use command_runs::Status;
+use io_edge::StepClock;
+use match_core::{Level, Setup};
+use std::alloc::{AllocError, Global};
+use std::process::Abort;
+use std::test::Fail;
+
+/// Both queens leave their places and come back, twice.
+const BACK_TWICE: [&[u8]; 12] = [
+    b"wA1",
+    b"bA1 wA1-",
+    b"wQ -wA1",
+    b"bQ bA1-",
+    b"wQ \\wA1",
+    b"bQ bA1/",
+    b"wQ -wA1",
+    b"bQ bA1-",
+    b"wQ \\wA1",
+    b"bQ bA1/",
+    b"wQ -wA1",
+    b"bQ bA1-",
+];
+
+/// The rule is switched on, and many more plies could be played.
+const WITH_RULE: Setup = Setup {
+    game_type: BASE,
+    level: Level::Depth { depth: 1 },
+    limit: 400,
+    repetition: true,
+};
+
+/// The rule is switched off, and no more plies than these.
+const WITHOUT_RULE: Setup = Setup {
+    game_type: BASE,
+    level: Level::Depth { depth: 1 },
+    limit: 12,
+    repetition: false,
+};
+
+/// Plays that game.
+fn play_back(alloc: Global, setup: Setup) -> Result<Seen, AllocError>
+    requires { IsSetup setup }
+{
+    let white = said_by(alloc, &BACK_TWICE, 0)?;
+    let black = said_by(alloc, &BACK_TWICE, 1)?;
+    let spawner = spawner_of(
+        alloc,
+        sound(white.as_slice(), 7),
+        sound(black.as_slice(), 7),
+        0,
+    )?;
+    play_with(alloc, spawner, setup, &mut StepClock::new(0, 1), 0)
+}
+
+#[test]
+fn a_position_that_stands_for_the_third_time_draws(rt: HostRuntime) -> Result<(), Fail> {
+    let seen = play_back(rt.alloc(), WITH_RULE)?;
+    assert_eq!(rt; seen.status, Status::Done);
+    let text = b"Base;Draw;White[7];wA1;bA1 wA1-;wQ -wA1;bQ bA1-;\
+                 wQ \\wA1;bQ bA1/;wQ -wA1;bQ bA1-;\
+                 wQ \\wA1;bQ bA1/;wQ -wA1;bQ bA1-\n\
+                 result Draw\n"
+        .as_slice();
+    assert_eq!(rt; seen.output.bytes(), text);
+    Ok(())
+}
+
+#[test]
+fn it_does_not_where_the_rule_is_switched_off(rt: HostRuntime) -> Result<(), Fail> {
+    let seen = play_back(rt.alloc(), WITHOUT_RULE)?;
+    assert_eq!(rt; seen.status, Status::Done);
+    let text = b"Base;InProgress;White[7];wA1;bA1 wA1-;wQ -wA1;bQ bA1-;\
+                 wQ \\wA1;bQ bA1/;wQ -wA1;bQ bA1-;\
+                 wQ \\wA1;bQ bA1/;wQ -wA1;bQ bA1-\n\
+                 limit 12\n"
+        .as_slice();
+    assert_eq!(rt; seen.output.bytes(), text);
+    Ok(())
+}

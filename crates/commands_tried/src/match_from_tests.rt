@@ -1,0 +1,181 @@
+//! Matches of two programs that stand in memory, from a given game.
+
+use crate::match_command_tests::{Seen, sent, sound, spawner_of};
+use command_runs::Status;
+use fast_game::FastGame;
+use game_text::{played, read_game_under};
+use hive_model::Game;
+use io_edge::{MemSink, MemSpawner, StepClock};
+use match_command::play_match_from;
+use match_core::{Level, Setup};
+use std::alloc::{AllocError, Global};
+use std::process::Abort;
+use std::test::Fail;
+
+/// What a match begins with: the line of a game, the rule, and the limit of plies.
+#[derive(Clone, Copy)]
+struct Given<'a> {
+    line: &'a str,
+    repetition: bool,
+    limit: u32,
+}
+
+/// The match to depth 1 of two programs that say these texts, from a given game, if it is one.
+fn play_from(
+    alloc: Global,
+    given: Given<'_>,
+    white: &[u8],
+    black: &[u8],
+) -> Result<Option<Seen>, AllocError> {
+    if given.line.len() > 1000 || given.limit < 1 || given.limit > 1000 {
+        return Ok(None);
+    }
+    let line = given.line.as_bytes();
+    let Ok(parsed) = read_game_under::<FastGame>(alloc, line, given.repetition) else {
+        return Ok(None);
+    };
+    let game: FastGame = played(alloc, parsed.game_type, parsed.moves.items(), 0)?;
+    let setup = Setup {
+        game_type: parsed.game_type,
+        level: Level::Depth { depth: 1 },
+        limit: given.limit,
+        repetition: given.repetition,
+    };
+    let mut words = Vec::new(alloc);
+    words.push(String::from_str(alloc, "engine")?)?;
+    let sizes = Vec::from_slice(alloc, &[7])?;
+    let mut output = MemSink::new(alloc, sizes, Vec::from_slice(alloc, &[0])?);
+    let mut spawner = spawner_of(alloc, sound(white, 7), sound(black, 7), 0)?;
+    let mut clock = StepClock::new(0, 1);
+    let status = play_match_from::<MemSpawner, MemSink, StepClock, FastGame>(
+        alloc,
+        words.as_slice(),
+        words.as_slice(),
+        setup,
+        game,
+        &mut output,
+        &mut clock,
+        &mut spawner,
+    );
+    Ok(Some(Seen {
+        status,
+        output,
+        spawner,
+    }))
+}
+
+/// White greets, begins, plays beside its spider and hears of it.
+const WHITE: &[u8] = b"id A\nok\nx\nok\nwQ /wS1\nok\nx\nok\n";
+
+/// Black greets, begins, hears of white's move and answers with a move that is not legal.
+const BLACK: &[u8] = b"id B\nok\nx\nok\nx\nok\nbQ -wS1\nok\n";
+
+const TO_WHITE: &[u8] = b"newgame Base;InProgress;White[2];wS1;bS1 wS1-\n\
+                          bestmove depth 1\n\
+                          play wQ /wS1\n";
+
+const TO_BLACK: &[u8] = b"newgame Base;InProgress;White[2];wS1;bS1 wS1-\n\
+                          play wQ /wS1\n\
+                          bestmove depth 1\n";
+
+const TOLD: &[u8] = b"Base;InProgress;Black[2];wS1;bS1 wS1-;wQ /wS1\n\
+                      forfeit black illegal bQ -wS1\n";
+
+#[test]
+fn a_match_goes_on_from_a_given_game(rt: HostRuntime) -> Result<(), Fail> {
+    let given = Given {
+        line: "Base;InProgress;White[2];wS1;bS1 wS1-",
+        repetition: false,
+        limit: 400,
+    };
+    let played = play_from(rt.alloc(), given, WHITE, BLACK)?;
+    assert!(rt; played.is_some());
+    if let Some(seen) = &played {
+        assert_eq!(rt; seen.status, Status::Done);
+        assert_eq!(rt; seen.output.bytes(), TOLD);
+        assert_eq!(rt; sent(seen, 0), TO_WHITE);
+        assert_eq!(rt; sent(seen, 1), TO_BLACK);
+    }
+    Ok(())
+}
+
+/// White has surrounded the black queen.
+const WON: &str = "Base;WhiteWins;Black[7];wS1;bS1 wS1-;wQ /wS1;bQ bS1-;wQ /bS1;bQ wQ-;wG1 -wS1;\
+                   bG1 bS1-;wB1 /wQ;bB1 bQ-;wA1 -wB1;bA1 /bB1;wA1 wB1-";
+
+/// Both queens left their places and came back, twice.
+const DRAWN: &str = "Base;Draw;White[7];wA1;bA1 wA1-;wQ -wA1;bQ bA1-;wQ \\wA1;bQ bA1/;wQ -wA1;\
+                     bQ bA1-;wQ \\wA1;bQ bA1/;wQ -wA1;bQ bA1-";
+
+/// The same game as the engines are told it, who do not hear of the rule of third repetition.
+const GOING: &str = "Base;InProgress;White[7];wA1;bA1 wA1-;wQ -wA1;bQ bA1-;wQ \\wA1;bQ bA1/;\
+                     wQ -wA1;bQ bA1-;wQ \\wA1;bQ bA1/;wQ -wA1;bQ bA1-";
+
+/// A game that has as many plies as it may have.
+const TWO: &str = "Base;InProgress;White[2];wS1;bS1 wS1-";
+
+/// The line of a game that goes on no more, as the engines are told it and as it is told at the
+/// end, and how a match from it ends.
+struct Row {
+    told: &'static str,
+    line: &'static str,
+    repetition: bool,
+    limit: u32,
+    ending: &'static str,
+}
+
+const ROWS: [Row; 3] = [
+    Row {
+        told: WON,
+        line: WON,
+        repetition: false,
+        limit: 400,
+        ending: "result WhiteWins",
+    },
+    Row {
+        told: GOING,
+        line: DRAWN,
+        repetition: true,
+        limit: 400,
+        ending: "result Draw",
+    },
+    Row {
+        told: TWO,
+        line: TWO,
+        repetition: false,
+        limit: 1,
+        ending: "limit 1",
+    },
+];
+
+/// The words in front of the line, the line, and an LF.
+fn line_of(alloc: Global, front: &str, line: &str) -> Result<Vec<u8>, AllocError> {
+    let mut text = Vec::from_slice(alloc, front.as_bytes())?;
+    text.extend_from_slice(line.as_bytes())?;
+    text.extend_from_slice(b"\n".as_slice())?;
+    Ok(text)
+}
+
+#[test]
+fn a_given_game_that_is_over_has_its_verdict_at_once(rt: HostRuntime) -> Result<(), Fail> {
+    for row in &ROWS {
+        let given = Given {
+            line: row.line,
+            repetition: row.repetition,
+            limit: row.limit,
+        };
+        let played = play_from(rt.alloc(), given, b"ok\nok\n", b"ok\nok\n")?;
+        assert!(rt; played.is_some());
+        if let Some(seen) = &played {
+            let told = line_of(rt.alloc(), "newgame ", row.told)?;
+            let mut text = line_of(rt.alloc(), "", row.line)?;
+            text.extend_from_slice(row.ending.as_bytes())?;
+            text.extend_from_slice(b"\n".as_slice())?;
+            assert_eq!(rt; seen.status, Status::Done);
+            assert_eq!(rt; seen.output.bytes(), text.as_slice());
+            assert_eq!(rt; sent(seen, 0), told.as_slice());
+            assert_eq!(rt; sent(seen, 1), told.as_slice());
+        }
+    }
+    Ok(())
+}

@@ -1,0 +1,26 @@
+//! The rules, the boards, the cut places and the symmetries, tried on small boards whose answers
+//! were found by hand.
+#![tactic(auto)]
+
+#[cfg(test)]
+mod boards;
+#[cfg(test)]
+mod bugs;
+#[cfg(test)]
+mod grids;
+#[cfg(test)]
+mod hands;
+#[cfg(test)]
+mod hives;
+#[cfg(test)]
+mod keepers;
+#[cfg(test)]
+mod leaves;
+#[cfg(test)]
+mod mosquitoes;
+#[cfg(test)]
+mod symmetries;
+#[cfg(test)]
+mod throws;
+#[cfg(test)]
+mod worths;

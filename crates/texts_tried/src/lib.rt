@@ -1,0 +1,10 @@
+//! The texts of moves, the words of the command line and those of the protocol, tried on rows
+//! written by hand.
+#![tactic(auto)]
+
+#[cfg(test)]
+mod moves;
+#[cfg(test)]
+mod options;
+#[cfg(test)]
+mod words;
