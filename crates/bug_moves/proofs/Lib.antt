@@ -9,3 +9,4 @@ pub mod TrailLaws
 pub mod RowLaws
 pub mod TakenLaws
 pub mod CountLaws
+pub mod Taking

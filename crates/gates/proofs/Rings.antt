@@ -51,11 +51,11 @@ ring_at t h r =
     let all = every_at (λ f. t (six (r E) (r NE) (r NW) (r W) (r SW) f)) five (r SE) in
     subst (λ s. t s ≡ true) (six_is r) all
 
-abbrev bool_eq : Bool → Bool → Bool
+abbrev pub bool_eq : Bool → Bool → Bool
 bool_eq true b = b
 bool_eq false b = not b
 
-same_bool : (a b : Bool) → bool_eq a b ≡ true → a ≡ b
+pub same_bool : (a b : Bool) → bool_eq a b ≡ true → a ≡ b
 same_bool true true h = refl
 same_bool true false h = sym h
 same_bool false true h = h

@@ -19,7 +19,7 @@ ghost use Rattle.hive_model.specs.Steps.{
 
 pub use climbs::climb_amid;
 use hive_model::{Board, Dir, Place, is_occupied};
-pub use slides::{has_dir, slides_from, slides_from_empty};
+pub use slides::{has_dir, slides_from, slides_from_empty, split_first};
 
 /// Whether both common neighbours are higher than the two places of the step. They are asked first:
 /// often one of them is empty.

@@ -1,6 +1,6 @@
 //! The ground steps from a place, all six directions at once.
 
-ghost use Rattle.std.specs.Prelude.{◌≡◌, ◌<◌, Bool, false};
+ghost use Rattle.std.specs.Prelude.{◌≡◌, ◌≢◌, ◌<◌, Bool, IsTrue, false};
 ghost use Rattle.hive_model.specs.declared.places.Dir.{Dir};
 ghost use Rattle.hive_model.specs.Boards.{is_occupied};
 ghost use Rattle.hive_model.specs.Neighbours.{ring_mask};
@@ -21,6 +21,19 @@ pub fn has_dir(mask: u8, dir: Dir) -> bool
     ensures { result ≡ has_dir mask dir }
 {
     mask & dir.bit() > 0
+}
+
+/// The first direction that a mask has, in cyclic order from east on, and the mask without it.
+pub fn split_first(mask: u8) -> (Dir, u8)
+    requires some { 0 < mask }
+    requires few { mask < 64 }
+    ensures has { IsTrue (has_dir mask result.0) }
+    ensures gone { has_dir result.1 result.0 ≡ false }
+    ensures others { (d : Dir) → d ≢ result.0 → has_dir result.1 d ≡ has_dir mask d }
+    ensures less { result.1 < mask }
+{
+    let dirs = Dir::ALL;
+    (dirs[mask.trailing_zeros() as usize], mask & (mask - 1))
 }
 
 /// The directions of ground steps from an empty place that has these occupied neighbours.

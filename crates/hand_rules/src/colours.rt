@@ -1,8 +1,8 @@
 //! Colours on the board, and where a side may place.
 
 ghost use Rattle.std.specs.Prelude.{◌≡◌, ◌↔◌, Option, IsTrue};
-ghost use Rattle.hive_model.specs.Places.{IsWithin};
-ghost use Rattle.hive_model.specs.Boards.{IsBoard};
+ghost use Rattle.hive_model.specs.Places.{IsWithin, step};
+ghost use Rattle.hive_model.specs.Boards.{IsBoard, top_at};
 ghost use Rattle.hive_model.specs.Placement.{
   MayPlace,
   has_colour,
@@ -43,16 +43,27 @@ pub fn shows(top: Option<Piece>, colour: Colour) -> bool
     }
 }
 
-/// Whether a neighbour's top piece is of this colour.
+/// Whether the top piece of the neighbour in this direction is of this colour.
+fn shows_toward<B: Board>(board: &B, colour: Colour, place: Place, dir: Dir) -> bool
+    requires { IsWithin 10000 place }
+    ensures { result ≡ shows_colour (top_at (B.stacks board.now) (step place dir)) colour }
+{
+    shows(board.top(place.step(dir)), colour)
+}
+
+/// Whether a neighbour's top piece is of this colour. All six are asked, whatever the first ones
+/// say: which of them is the first to say so cannot be foreseen.
 pub fn touches<B: Board>(board: &B, colour: Colour, place: Place) -> bool
     requires { IsWithin 10000 place }
     ensures { result ≡ touches (B.stacks board.now) colour place }
 {
-    Dir::ALL.iter().any(
-        |d| -> bool
-            requires { IsWithin 10000 place }
-        { shows(board.top(place.step(*d)), colour) },
-    )
+    let east = shows_toward(board, colour, place, Dir::E);
+    let north_east = shows_toward(board, colour, place, Dir::NE);
+    let north_west = shows_toward(board, colour, place, Dir::NW);
+    let west = shows_toward(board, colour, place, Dir::W);
+    let south_west = shows_toward(board, colour, place, Dir::SW);
+    let south_east = shows_toward(board, colour, place, Dir::SE);
+    east | (north_east | (north_west | (west | (south_west | south_east))))
 }
 
 /// Whether a neighbour is occupied.

@@ -11,7 +11,7 @@ use hive_model::{Board, Colour, GameType, Kind, Piece};
 pub fn in_hand<B: Board>(game_type: GameType, board: &B, piece: Piece) -> bool
     ensures { IsTrue result ↔ IsInHand game_type (B.stacks board.now) piece }
 {
-    game_type.has(piece.kind()) && board.spot(piece).is_none()
+    board.spot(piece).is_none() && game_type.has(piece.kind())
 }
 
 /// The index of the side's first piece of the kind. All of them are among the 28 pieces.

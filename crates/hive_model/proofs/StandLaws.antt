@@ -9,7 +9,7 @@ use Rattle.hive_model.specs.Games.{after, replay, AreLegal}
 use Rattle.hive_model.specs.Repetition.{outcome_under, StandsMoveByMove, AllStandUnderFalse}
 
 -- where a list ends with one item, a front before another is the whole of the rest or a front of it
-split_last : {X : Type 0} (xs front rest : List X) (x y : X) → xs ++ x ∷ [] ≡ front ++ y ∷ rest → (front ≡ xs) ⊎ ((less : List X) × (xs ≡ front ++ y ∷ less))
+pub split_last : {X : Type 0} (xs front rest : List X) (x y : X) → xs ++ x ∷ [] ≡ front ++ y ∷ rest → (front ≡ xs) ⊎ ((less : List X) × (xs ≡ front ++ y ∷ less))
 split_last [] [] rest x y e = inl refl
 split_last [] (f ∷ []) rest x y e = absurd (cc)
 split_last [] (f ∷ g ∷ fs) rest x y e = absurd (cc)

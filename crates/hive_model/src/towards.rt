@@ -8,22 +8,11 @@ use crate::places::{Dir, Place};
 
 /// Whether the other place differs by more than 1 in a coordinate. No direction leads there then.
 fn is_far(from: Place, to: Place) -> bool
-    requires { IsWithin 10000 from }
     ensures { IsTrue result → (d : AnyDir) → step from d ≢ to }
 {
-    if to.q > from.q + 1 {
-        return true;
-    }
-    if to.q < from.q - 1 {
-        return true;
-    }
-    if to.r > from.r + 1 {
-        return true;
-    }
-    if to.r < from.r - 1 {
-        return true;
-    }
-    false
+    let across = to.q.abs_diff(from.q) > 1;
+    let along = to.r.abs_diff(from.r) > 1;
+    across | along
 }
 
 impl Place {

@@ -2,6 +2,7 @@
 use Rattle.std.proofs.Common.{◌≡◌, ◌⊎◌, ◌+◌, inl, inr, Bool, true, false, cond, List, [], ◌∷◌, ◌++◌, length, refl, ap, sym, ◌∙◌, append_assoc, ◌≤◌, arith}
 use Rattle.std.proofs.lemmas.List.{append-nil, append_cancel_left}
 use Rattle.std.specs.Prelude.{nat_le}
+use Rattle.hive_model.proofs.StandLaws.{split_last}
 use Rattle.hive_model.specs.declared.pieces.GameType.{GameType}
 use Rattle.hive_model.specs.declared.places.Move.{Move}
 use Rattle.hive_model.specs.Positions.{opening}
@@ -13,20 +14,7 @@ use Rattle.match_core.specs.Setups.{FullSetup}
 use Rattle.match_core.specs.Standing.{Standing, ask, decide, finish, outcome_of}
 use Rattle.match_core.specs.Fairness.{StandsFrom, PlainMatchesAsk}
 
--- where a list ends with one item, a front before another is the whole of the rest or a front of it
-split_last : {X : Type 0} (xs front rest : List X) (x y : X) → xs ++ x ∷ [] ≡ front ++ y ∷ rest → (front ≡ xs) ⊎ ((less : List X) × (xs ≡ front ++ y ∷ less))
-split_last [] [] rest x y e = inl refl
-split_last [] (f ∷ []) rest x y e = absurd (cc)
-split_last [] (f ∷ g ∷ fs) rest x y e = absurd (cc)
-split_last (k ∷ ks) [] rest x y e = let same : k ≡ y = cc in inr (ks, ap (λ z. z ∷ ks) same)
-split_last (k ∷ ks) (f ∷ fs) rest x y e =
-    let same : k ≡ f = cc in
-    let tails : ks ++ x ∷ [] ≡ fs ++ y ∷ rest = cc in
-    elim (split_last ks fs rest x y tails) [
-      | inl whole ↦ inl (λ i. sym same i ∷ whole i)
-      | inr part ↦ inr (part.0, λ i. same i ∷ part.1 i)
-    ]
-
+-- no list with an item is empty
 some_more : {X : Type 0} (front rest : List X) (x : X) → [] ≡ front ++ x ∷ rest → ⊥
 some_more [] rest x e = absurd (cc)
 some_more (f ∷ front) rest x e = absurd (cc)
