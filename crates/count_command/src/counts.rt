@@ -12,7 +12,7 @@ use command_runs::{Status, read_one_game, tell_none};
 use hive_model::{Game, MoveStack};
 use io_edge::{Sink, Source, write_all};
 use itoa::Buffer;
-use plain_search::count_lines;
+use plain_search::{MoveCounts, count_lines};
 use std::alloc::Global;
 
 /// The line for a number of plies and a number of lists, its LF included.
@@ -28,12 +28,23 @@ fn count_line(plies: u32, lists: u128) -> ArrayString<96>
     line
 }
 
+/// How many positions whose moves were counted are kept. While a game is young, or where few plies
+/// are counted, keeping them costs more than it saves.
+fn room_for<G: Game>(game: &G, plies: u32) -> u32 {
+    if plies >= 4 && game.plies() >= 12 {
+        131_072
+    } else {
+        0
+    }
+}
+
 /// Writes for each number of plies from 1 on its line as soon as it is known. The answer is whether
 /// all were written.
 fn write_counts<K: Sink, G: Game>(
     game: &mut G,
     plies: u32,
     stack: &mut MoveStack,
+    counts: &mut MoveCounts,
     output: &mut K,
 ) -> bool
     requires some { 1 ≤ plies }
@@ -50,7 +61,7 @@ fn write_counts<K: Sink, G: Game>(
         (K.write_faults output.new) }
 {
     for n in 1..=plies {
-        let line = count_line(n, count_lines(game, n, stack));
+        let line = count_line(n, count_lines(game, n, stack, counts));
         if !write_all(output, line.as_str().as_bytes()) {
             return false;
         }
@@ -76,7 +87,10 @@ fn tell_counts<K: Sink, G: Game + Drop>(
     let Ok(mut stack) = MoveStack::new(alloc, plies) else {
         return Status::Memory;
     };
-    if write_counts(&mut game, plies, &mut stack, output) {
+    let Ok(mut counts) = MoveCounts::new(alloc, room_for(&game, plies)) else {
+        return Status::Memory;
+    };
+    if write_counts(&mut game, plies, &mut stack, &mut counts, output) {
         Status::Done
     } else {
         Status::WriteFault

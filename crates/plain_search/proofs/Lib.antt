@@ -6,5 +6,7 @@ pub mod LikeBoards
 pub mod LikeReach
 pub mod LikePositions
 pub mod PlacedLaws
+pub mod RestLaws
 pub mod ReplySteps
 pub mod ImageSteps
+pub mod MetLaws

@@ -42,11 +42,11 @@ pub record ArePlaced (side : Colour) (q : Place) (x y : ℕ) (b c : Stacks) : Ty
 
 -- Tests in a row
 
-and_same : (t u v : Bool) → (t ≡ true → u ≡ v) → (t && u) ≡ (t && v)
+pub and_same : (t u v : Bool) → (t ≡ true → u ≡ v) → (t && u) ≡ (t && v)
 and_same true u v h = h refl
 and_same false u v h = refl
 
-any_same : {X : Type 0} (f g : X → Bool) → ((z : X) → f z ≡ g z) → (zs : List X) → list_any f zs ≡ list_any g zs
+pub any_same : {X : Type 0} (f g : X → Bool) → ((z : X) → f z ≡ g z) → (zs : List X) → list_any f zs ≡ list_any g zs
 any_same f g h zs = ap (λ t. list_any t zs) (λ i z. h z i)
 
 not_then : (t u v : Bool) → u ≡ true → (t && (not u && v)) ≡ false

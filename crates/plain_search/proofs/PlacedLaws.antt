@@ -6,7 +6,8 @@ use Rattle.std.proofs.lemmas.Bool.{eqb-true, eq-eqb, false_from_ne_true, cases_e
 use Rattle.std.proofs.lemmas.List.{nil_from_length}
 use Rattle.hive_model.specs.declared.pieces.Colour.{Colour}
 use Rattle.hive_model.specs.declared.pieces.Colour.TheVariants.{White, Black}
-use Rattle.hive_model.specs.declared.pieces.Kind.TheVariants.{Mosquito}
+use Rattle.hive_model.specs.declared.pieces.Kind.{Kind}
+use Rattle.hive_model.specs.declared.pieces.Kind.TheVariants.{Mosquito, Pillbug}
 use Rattle.hive_model.specs.declared.places.Place.{Place}
 use Rattle.hive_model.specs.declared.places.Spot.{Spot}
 use Rattle.hive_model.specs.declared.places.Move.TheVariants.{To}
@@ -42,15 +43,19 @@ twice_other White = refl
 twice_other Black = refl
 
 -- a side has one mosquito
-the_mosquito : (z : ℕ) → z < 28 → kind_of z ≡ Mosquito → z ≡ piece_of (colour_of z) Mosquito 0
-the_mosquito z small kind =
-    let test = λ (w : ℕ). not (is_kind (kind_of w) Mosquito) || nat_eq w (piece_of (colour_of w) Mosquito 0) in
-    let all : list_all test all_pieces ≡ true = refl in
-    eqb-true _ _ (then_so (is_kind (kind_of z) Mosquito) _ (all_at test all_pieces z all (on_pieces z small)) (from_same_kind _ _ kind))
+pub the_one : (k : Kind) → list_all (λ w. not (is_kind (kind_of w) k) || nat_eq w (piece_of (colour_of w) k 0)) all_pieces ≡ true → (z : ℕ) → z < 28 → kind_of z ≡ k → z ≡ piece_of (colour_of z) k 0
+the_one k all z small kind =
+    eqb-true _ _ (then_so (is_kind (kind_of z) k) _ (all_at (λ w. not (is_kind (kind_of w) k) || nat_eq w (piece_of (colour_of w) k 0)) all_pieces z all (on_pieces z small)) (from_same_kind _ _ kind))
   where
     then_so : (t u : Bool) → (not t || u) ≡ true → t ≡ true → u ≡ true
     then_so true u h e = h
     then_so false u h e = let wrong : false ≡ true = e in absurd (cc)
+
+pub the_mosquito : (z : ℕ) → z < 28 → kind_of z ≡ Mosquito → z ≡ piece_of (colour_of z) Mosquito 0
+the_mosquito = the_one Mosquito refl
+
+pub the_pillbug : (z : ℕ) → z < 28 → kind_of z ≡ Pillbug → z ≡ piece_of (colour_of z) Pillbug 0
+the_pillbug = the_one Pillbug refl
 
 -- a piece that stands alone on a place is found there
 

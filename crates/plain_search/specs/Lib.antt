@@ -1,2 +1,4 @@
 pub mod Replies
 pub mod Known
+pub mod Met
+pub mod Rested

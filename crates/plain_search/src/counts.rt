@@ -8,13 +8,19 @@ ghost use Rattle.search_laws.specs.Nodes.{HasRoom, CanReply, AreAsBefore};
 ghost use Rattle.plain_search.specs.Known.{AreKnown, AreSymmetriesOf};
 
 use crate::images::{KnownLines, known_count, note, symmetries_of};
+use crate::move_counts::MoveCounts;
 use crate::replies::lines_of_two;
 use hive_model::{Game, Move, MoveStack};
 use symmetry::OwnSymmetry;
 
 /// How many lists of so many legal moves, at most 8, the game can go on with. The last ply of them
 /// is counted, neither listed nor played. The game and the stack are as before.
-pub fn count_lines<G: Game>(game: &mut G, plies: u32, stack: &mut MoveStack) -> u128
+pub fn count_lines<G: Game>(
+    game: &mut G,
+    plies: u32,
+    stack: &mut MoveStack,
+    counts: &mut MoveCounts,
+) -> u128
     requires few { plies ≤ 8 }
     requires spare { plies ≤ (G.course game.old).spare }
     requires room { plies ≤ stack.old.free }
@@ -24,13 +30,18 @@ pub fn count_lines<G: Game>(game: &mut G, plies: u32, stack: &mut MoveStack) -> 
 {
     // a game that answers its state is sound, so that at most 28 places of its board are occupied
     let _state = game.state();
-    lines_from(game, plies, stack)
+    lines_from(game, plies, stack, counts)
 }
 
 /// `count_lines`, where so few places are occupied that every list of moves is short. A ply leaves
 /// at most two places more.
 #[cycle(count)]
-fn lines_from<G: Game>(game: &mut G, plies: u32, stack: &mut MoveStack) -> u128
+fn lines_from<G: Game>(
+    game: &mut G,
+    plies: u32,
+    stack: &mut MoveStack,
+    counts: &mut MoveCounts,
+) -> u128
     requires deep { plies ≤ 8 }
     requires few { length (position (G.course game.old)).board + 2 * plies ≤ 44 }
     requires room { HasRoom plies (G.course game.old) stack.old }
@@ -45,7 +56,7 @@ fn lines_from<G: Game>(game: &mut G, plies: u32, stack: &mut MoveStack) -> u128
         return count as u128;
     }
     if plies == 2 {
-        return lines_of_two(game, stack);
+        return lines_of_two(game, stack, counts);
     }
     let own = symmetries_of(game);
     let level = stack.levels();
@@ -55,7 +66,8 @@ fn lines_from<G: Game>(game: &mut G, plies: u32, stack: &mut MoveStack) -> u128
     let mut total = 0;
     for i in 0..count {
         let m = stack.get(level, i);
-        total += lines_once(game, m, plies - 1, stack, own.as_slice(), &mut known);
+        let own = own.as_slice();
+        total += lines_once(game, m, plies - 1, stack, counts, own, &mut known);
     }
     stack.drop_level();
     total
@@ -69,6 +81,7 @@ fn lines_once<G: Game>(
     m: Move,
     plies: u32,
     stack: &mut MoveStack,
+    counts: &mut MoveCounts,
     own: &[OwnSymmetry],
     known: &mut KnownLines,
 ) -> u128
@@ -82,21 +95,27 @@ fn lines_once<G: Game>(
     ensures known { AreKnown (position (G.course game.old)) plies known.new.items }
 {
     if own.is_empty() {
-        return lines_behind(game, m, plies, stack);
+        return lines_behind(game, m, plies, stack, counts);
     }
     game.is_sound();
     let _few = game.plies();
     if let Some(count) = known_count(own, known.as_slice(), &m) {
         return count;
     }
-    let count = lines_behind(game, m.again(), plies, stack);
+    let count = lines_behind(game, m.again(), plies, stack, counts);
     note(known, m, count);
     count
 }
 
 /// How many lists of so many legal moves the game can go on with behind this legal one.
 #[cycle(count)]
-fn lines_behind<G: Game>(game: &mut G, m: Move, plies: u32, stack: &mut MoveStack) -> u128
+fn lines_behind<G: Game>(
+    game: &mut G,
+    m: Move,
+    plies: u32,
+    stack: &mut MoveStack,
+    counts: &mut MoveCounts,
+) -> u128
     requires deep { plies < 8 }
     requires few { length (position (G.course game.old)).board + 2 * plies + 2 ≤ 44 }
     requires can { CanReply m plies (G.course game.old) stack.old }
@@ -104,7 +123,7 @@ fn lines_behind<G: Game>(game: &mut G, m: Move, plies: u32, stack: &mut MoveStac
     ensures before { AreAsBefore (G.course game.old) (G.course game.new) stack.old stack.new }
 {
     game.play(m);
-    let lines = lines_from(game, plies, stack);
+    let lines = lines_from(game, plies, stack, counts);
     game.undo();
     lines
 }

@@ -17,13 +17,15 @@ ghost use Rattle.std.specs.Option.{ForSome};
 ghost use Rattle.hive_model.specs.Lists.{IsOn};
 ghost use Rattle.hive_model.specs.Places.{IsWithin};
 ghost use Rattle.hive_model.specs.Legal.{moves};
-ghost use Rattle.hive_model.specs.Games.{after};
+ghost use Rattle.hive_model.specs.Games.{after, moved};
 ghost use Rattle.hive_model.specs.Minimax.{lines};
 ghost use Rattle.hive_model.specs.Courses.{position};
 ghost use Rattle.search_laws.specs.Nodes.{HasRoom, AreAsBefore};
 ghost use Rattle.plain_search.specs.declared.replies.Counted.{Counted as AnyCounted};
 ghost use Rattle.plain_search.specs.Replies.{their_mosquito, IsPlainPlacement, AreCounted};
 
+use crate::awake::count_key;
+use crate::move_counts::MoveCounts;
 use arrayvec::ArrayVec;
 use hive_model::{Game, Kind, Move, MoveStack, Piece, Place};
 
@@ -38,7 +40,7 @@ struct Counted {
 type CountedPlaces = ArrayVec<Counted, 64>;
 
 /// How many lists of two legal moves the game can go on with. The game and the stack are as before.
-pub fn lines_of_two<G: Game>(game: &mut G, stack: &mut MoveStack) -> u128
+pub fn lines_of_two<G: Game>(game: &mut G, stack: &mut MoveStack, counts: &mut MoveCounts) -> u128
     requires few { length (position (G.course game.old)).board + 4 ≤ 44 }
     requires room { HasRoom 2 (G.course game.old) stack.old }
     ensures count { result ≡ lines (position (G.course game.old)) 2 }
@@ -52,7 +54,7 @@ pub fn lines_of_two<G: Game>(game: &mut G, stack: &mut MoveStack) -> u128
     let mut total = 0;
     for i in 0..count {
         let m = stack.get(level, i);
-        total += replies_to(game, m, mosquito, &mut counted) as u128;
+        total += replies_to(game, m, mosquito, &mut counted, counts) as u128;
     }
     stack.drop_level();
     total
@@ -78,6 +80,7 @@ fn replies_to<G: Game>(
     m: Move,
     mosquito: Option<Place>,
     counted: &mut CountedPlaces,
+    counts: &mut MoveCounts,
 ) -> u32
     requires legal { IsOn (moves (position (G.course game.old))) m }
     requires spare { 1 ≤ (G.course game.old).spare }
@@ -90,10 +93,10 @@ fn replies_to<G: Game>(
 {
     if let Move::To { piece, place } = m {
         if is_plain(game, piece, place, mosquito) {
-            return replies_to_plain(game, piece, place, counted);
+            return replies_to_plain(game, piece, place, counted, counts);
         }
     }
-    replies_after(game, m)
+    replies_after(game, m, counts)
 }
 
 /// Whether the piece is in hand and no queen, and the place not beside the other side's mosquito.
@@ -120,6 +123,7 @@ fn replies_to_plain<G: Game>(
     piece: Piece,
     place: Place,
     counted: &mut CountedPlaces,
+    counts: &mut MoveCounts,
 ) -> u32
     requires legal { IsOn (moves (position (G.course game.old))) (Move.To piece place) }
     requires spare { 1 ≤ (G.course game.old).spare }
@@ -134,7 +138,7 @@ fn replies_to_plain<G: Game>(
         return replies;
     }
     game.is_sound();
-    let replies = replies_after(game, Move::To { piece, place });
+    let replies = replies_after(game, Move::To { piece, place }, counts);
     note(counted, place, replies);
     replies
 }
@@ -161,15 +165,38 @@ fn note(counted: &mut CountedPlaces, place: Place, replies: u32)
     let _ = counted.try_push(Counted { place, replies });
 }
 
-/// How many replies a legal move has, counted behind it.
-fn replies_after<G: Game>(game: &mut G, m: Move) -> u32
+/// How many replies a legal move has, counted behind it, or as many as in a position that was met.
+fn replies_after<G: Game>(game: &mut G, m: Move, counts: &mut MoveCounts) -> u32
     requires legal { IsOn (moves (position (G.course game.old))) m }
     requires spare { 1 ≤ (G.course game.old).spare }
     ensures count { result ≡ length (moves (after (position (G.course game.old)) m)) }
     ensures game { G.course game.new ≡ G.course game.old }
 {
-    game.play(m);
-    let replies = game.count_moves();
+    game.play(m.again());
+    let replies = count_once(game, &m, counts);
     game.undo();
     replies
+}
+
+/// How many legal moves the game has behind this one, as many as in a position that was met, if one
+/// with its key was. The game is as before.
+fn count_once<G: Game>(game: &mut G, m: &Move, counts: &mut MoveCounts) -> u32
+    requires { (position (G.course game.old)).rest ≡ moved m.now }
+    ensures count { result ≡ length (moves (position (G.course game.old))) }
+    ensures game { G.course game.new ≡ G.course game.old }
+{
+    let Move::To { piece, .. } = *m else {
+        return game.count_moves();
+    };
+    if !counts.has_room() {
+        return game.count_moves();
+    }
+    let key = count_key(game, piece);
+    game.is_sound();
+    if let Some(known) = counts.look(&key) {
+        return known;
+    }
+    let count = game.count_moves();
+    counts.keep(key, count);
+    count
 }

@@ -10,7 +10,7 @@ ghost use Rattle.std.specs.Prelude.{◌<◌, ◌≤◌};
 
 use hive_model::{Game, GameType, Move, MoveStack, Piece, Place};
 use plain_game::PlainGame;
-use plain_search::{count_lines, minimax};
+use plain_search::{MoveCounts, count_lines, minimax};
 use std::alloc::{AllocError, Global};
 use std::test::Fail;
 
@@ -50,7 +50,9 @@ fn counted(alloc: Global, game_type: GameType, plies: u32) -> Result<u128, Alloc
     let mut game = PlainGame::opening(alloc, game_type)?;
     game.reserve(plies)?;
     let mut stack = MoveStack::new(alloc, 8)?;
-    Ok(count_lines(&mut game, plies, &mut stack))
+    // so little room that keys take each other's place
+    let mut counts = MoveCounts::new(alloc, 64)?;
+    Ok(count_lines(&mut game, plies, &mut stack, &mut counts))
 }
 
 /// Plays the piece to the place, if that is legal.

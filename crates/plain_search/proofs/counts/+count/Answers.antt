@@ -60,7 +60,7 @@ lines_from-lines_once-total-requires g t c κs within =
       spare = spare-before _ _ _ turn.before.game c.requires.room.spare (omega arith);
       free = levels-left _ _ _ _ _ turn.before.stack c.list.ensures.listed c.requires.room.free;
     } in
-    let own = own-then start (g.G.Game.course c.loop-i.game) _ c.as_slice.result.now turn.before.game c.as_slice.ensures.value c.symmetries_of-own.ensures in
+    let own = own-then start (g.G.Game.course c.loop-i.game) _ c.as_slice-own.result.now turn.before.game c.as_slice-own.ensures.value c.symmetries_of-own.ensures in
     let known = known-then start _ _ _ turn.before.game turn.known in (
       search rules,
       (within, (omega arith, (few-now _ _ _ turn.before.game c.requires.few (omega arith), (can, (own, known))))),
