@@ -1,0 +1,4 @@
+mod Starts
+mod Steps
+mod Waves
+mod Runs

@@ -1,0 +1,133 @@
+-- The games of a tournament, and how each of them went.
+use Rattle.std.specs.Prelude.{◌≡◌, ◌⊎◌, ℕ, ◌+◌, is_none, List, [], ◌∷◌, ⊤, Option, Some, None, IsSomeAnd, slice_get}
+use Rattle.hive_model.specs.declared.pieces.Colour.{Colour}
+use Rattle.hive_model.specs.declared.pieces.Colour.TheVariants.{White, Black}
+use Rattle.match_core.specs.Standing.{Standing}
+use Rattle.match_runner.specs.Wires.{Wire}
+use Rattle.match_runner.specs.Runs.{HasTimedCourse, LateIn, RanLinks}
+use Rattle.tournament_core.specs.declared.fixtures.Fixture.{Fixture}
+use Rattle.tournament_core.specs.declared.plan.Plan.{Plan}
+use Rattle.tournament_core.specs.Schedules.{schedule}
+use Rattle.tournament_core.specs.Ends.{Played}
+use Rattle.tournament_games.specs.declared.outcome.Outcome.{Outcome}
+use Rattle.tournament_games.specs.Tournaments.{Terms, begin_of, setup_in}
+use Rattle.tournament_games.specs.Texts.{absence_outcome, drawn, match_outcome}
+
+-- a game of a tournament: its number, from 1 on; its opening and its engines; the link to white's
+-- program and to black's, where it was started; and what is told of the game, once it was played
+pub record Job : Type 0 where
+  pub number : ℕ
+  pub fixture : Fixture
+  pub white : Option Wire
+  pub black : Option Wire
+  pub outcome : Option Outcome
+
+-- a game that was not played
+abbrev pub unplayed : ℕ → Fixture → Option Wire → Option Wire → Job
+unplayed number fixture white black = record {
+  number = number;
+  fixture = fixture;
+  white = white;
+  black = black;
+  outcome = None;
+}
+
+-- The order of the games
+
+-- the game that is played when so many were played before it
+pub record IsNext (plan : Plan) (before : ℕ) (job : Job) : Type 0 where
+  pub number : job.number ≡ before + 1
+  pub fixture : slice_get (schedule plan) before ≡ Some job.fixture
+
+-- the games that are played one after the other when so many were played before them
+abbrev pub AreNext : Plan → ℕ → List Job → Type 0
+AreNext plan before [] = ⊤
+AreNext plan before (job ∷ jobs) = IsNext plan before job × AreNext plan (before + 1) jobs
+
+-- How a game went
+
+-- The match of a game was run over these links, from its opening to its verdict, by readings of a
+-- clock of its own, whose last one before the match and behind it are these; and this is told.
+pub record WasRun
+    (t : Terms) (number : ℕ) (f : Fixture) (w0 w b0 b : Wire) (told : Outcome) : Type 0 where
+  pub stands : Standing
+  pub read_before : ℕ
+  pub read_now : ℕ
+  pub ran : RanLinks (setup_in t f) stands w0 w b0 b
+  pub timed : HasTimedCourse (setup_in t f) stands read_before read_now
+  pub late : LateIn stands.verdict read_before read_now
+  pub tells : told ≡ match_outcome t.setup number f stands
+
+-- both programs have their links, and the match was run over them
+pub record IsMatch
+    (t : Terms) (number : ℕ) (f : Fixture) (w0 w b0 b : Option Wire) (told : Outcome)
+    : Type 0 where
+  pub white_before : Wire
+  pub white_after : Wire
+  pub black_before : Wire
+  pub black_after : Wire
+  pub white_begins : w0 ≡ Some white_before
+  pub white_ends : w ≡ Some white_after
+  pub black_begins : b0 ≡ Some black_before
+  pub black_ends : b ≡ Some black_after
+  pub run : WasRun t number f white_before white_after black_before black_after told
+
+-- the side that has no link: white where both have none
+abbrev pub absent_side : Option Wire → Option Wire → Option Colour
+absent_side None black = Some White
+absent_side (Some white) None = Some Black
+absent_side (Some white) (Some black) = None
+
+-- No match was played, since a program could not be started; its side forfeits. The links are as
+-- they were.
+pub record IsForfeit
+    (t : Terms) (number : ℕ) (f : Fixture) (w0 w b0 b : Option Wire) (told : Outcome)
+    : Type 0 where
+  pub side : Colour
+  pub absent : absent_side w0 b0 ≡ Some side
+  pub white : w ≡ w0
+  pub black : b ≡ b0
+  pub tells : told ≡ absence_outcome t.setup number f (begin_of t f) side
+
+-- a game was played over links that stood so before and behind it, and this is told of it
+abbrev pub Goes
+    : Terms → ℕ → Fixture → Option Wire → Option Wire → Option Wire → Option Wire → Outcome
+    → Type 0
+Goes t number f w0 w b0 b told =
+    IsMatch t number f w0 w b0 b told ⊎ IsForfeit t number f w0 w b0 b told
+
+-- it is the same game, and has the links that it had
+pub record IsSameGame (old new : Job) : Type 0 where
+  pub number : new.number ≡ old.number
+  pub fixture : new.fixture ≡ old.fixture
+  pub white : is_none new.white ≡ is_none old.white
+  pub black : is_none new.black ≡ is_none old.black
+
+-- the game was played over its links as they stood before
+abbrev pub IsPlayed : Terms → Job → Job → Type 0
+IsPlayed t old new =
+    IsSomeAnd new.outcome
+    (λ told. Goes t old.number old.fixture old.white new.white old.black new.black told)
+
+-- what became of a game: it is the same game, and was played, or nothing is told of it
+pub record IsSettled (t : Terms) (old new : Job) : Type 0 where
+  pub same : IsSameGame old new
+  pub settled : (new.outcome ≡ None) ⊎ IsPlayed t old new
+
+-- What a game comes to
+
+-- the two lines that tell a game; none where nothing is told of it
+abbrev pub text_in : Option Outcome → List ℕ
+text_in None = []
+text_in (Some told) = told.text
+
+abbrev pub told_text : Job → List ℕ
+told_text job = text_in job.outcome
+
+-- the game for the standings
+abbrev pub played_in : Fixture → Option Outcome → Played
+played_in f None = record { fixture = f; ended = drawn }
+played_in f (Some told) = record { fixture = f; ended = told.ended }
+
+abbrev pub played_game : Job → Played
+played_game job = played_in job.fixture job.outcome

@@ -1,0 +1,55 @@
+-- What a tournament is played by.
+use Rattle.std.specs.Prelude.{◌≡◌, ℕ, ◌≤◌, List, [], length, slice_get, unwrap_or}
+use Rattle.std.specs.List.{All}
+use Rattle.hive_model.specs.declared.pieces.GameType.{GameType}
+use Rattle.hive_model.specs.declared.places.Move.{Move}
+use Rattle.hive_model.specs.Games.{IsGame}
+use Rattle.match_core.specs.declared.answers.Setup.{Setup}
+use Rattle.match_core.specs.Setups.{FullSetup, setup_from}
+use Rattle.match_core.specs.Keeps.{IsSetup}
+use Rattle.cup_core.specs.Engines.{Engine}
+use Rattle.tournament_core.specs.declared.fixtures.Fixture.{Fixture}
+use Rattle.tournament_core.specs.declared.plan.Plan.{Plan}
+use Rattle.tournament_core.specs.Schedules.{IsPlan}
+
+-- what a tournament is played by: its programs, who plays whom and how often, how the matches are
+-- played, the moves of each opening, and how many games are played at once
+pub record Terms : Type 0 where
+  pub engines : List Engine
+  pub plan : Plan
+  pub setup : Setup
+  pub openings : List (List Move)
+  pub at_once : ℕ
+
+abbrev pub terms : List Engine → Plan → Setup → List (List Move) → ℕ → Terms
+terms engines plan setup openings at_once = record {
+  engines = engines;
+  plan = plan;
+  setup = setup;
+  openings = openings;
+  at_once = at_once;
+}
+
+-- the moves of an opening are a game, of no more plies than there is room for in a game
+pub record IsOpening (game_type : GameType) (moves : List Move) : Type 0 where
+  pub game : IsGame game_type moves
+  pub few : length moves ≤ 5064
+
+-- what holds of every tournament: the plan is for its programs and its openings, each of which is a
+-- game of the setup's type; 1 to 64 games are played at once
+pub record IsTerms (t : Terms) : Type 0 where
+  pub plan : IsPlan t.plan
+  pub engines : length t.engines ≡ t.plan.engines
+  pub openings : length t.openings ≡ t.plan.openings
+  pub each : All (IsOpening t.setup.game_type) t.openings
+  pub setup : IsSetup t.setup
+  pub some : 1 ≤ t.at_once
+  pub few : t.at_once ≤ 64
+
+-- the moves that a game begins with: those of its opening
+abbrev pub begin_of : Terms → Fixture → List Move
+begin_of t f = unwrap_or (slice_get t.openings f.opening) []
+
+-- what the match of a game is played by
+abbrev pub setup_in : Terms → Fixture → FullSetup
+setup_in t f = setup_from t.setup (begin_of t f)

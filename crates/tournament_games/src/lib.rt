@@ -1,0 +1,20 @@
+//! The games of a tournament, played in waves and told as they come, and the standings.
+#![tactic(auto)]
+
+mod clocks;
+mod closing;
+mod job;
+mod openings;
+mod outcome;
+mod playing;
+mod running;
+mod starting;
+mod telling;
+mod texts;
+mod tournament;
+mod wave;
+
+pub use clocks::{Clocks, StepClocks};
+pub use openings::opening_of;
+pub use playing::play_tournament;
+pub use tournament::Tournament;

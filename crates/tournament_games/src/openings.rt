@@ -1,0 +1,19 @@
+//! Openings.
+ghost use Rattle.std.specs.Prelude.{◌≡◌, IfOk};
+ghost use Rattle.tournament_games.specs.Tournaments.{IsOpening};
+
+use hive_model::{Game, MoveList};
+use std::alloc::{AllocError, Global};
+
+/// The moves of a game under way, as an opening. The only error is want of memory.
+pub fn opening_of<G: Game>(alloc: Global, game: &G) -> Result<MoveList, AllocError>
+    ensures moves { IfOk result (λ moves. moves ≡ (G.course game.now).made) }
+    ensures valid { IfOk result (λ moves. IsOpening (G.course game.now).game_type moves) }
+{
+    game.is_sound();
+    let mut moves = MoveList::new(alloc);
+    for place in 0..game.plies() {
+        moves.push(game.move_at(place))?;
+    }
+    Ok(moves)
+}

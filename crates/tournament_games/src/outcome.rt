@@ -1,0 +1,10 @@
+//! What is told of a game.
+use hive_model::ReplyText;
+use tournament_core::GameEnd;
+
+/// What is told of a game that was played: its two lines, and how it ended.
+#[derive(Drop)]
+pub(crate) struct Outcome {
+    pub text: ReplyText,
+    pub ended: GameEnd,
+}

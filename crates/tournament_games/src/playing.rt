@@ -1,0 +1,232 @@
+//! The run of a tournament: its games wave after wave, and its standings.
+ghost use Rattle.std.specs.Prelude.{◌≡◌, ◌≤◌, ◌<◌, ◌+◌, ◌^◌, List, length, IfOk};
+ghost use Rattle.io_edge.specs.Outside.{HasCause};
+ghost use Rattle.cup_command.specs.Cup.{scene};
+ghost use Rattle.match_command.specs.Match.{NoneIsOpen};
+ghost use Rattle.tournament_core.specs.Schedules.{IsPlan, schedule};
+ghost use Rattle.tournament_core.specs.Counts.{IsTallyOf};
+ghost use Rattle.tournament_core.specs.declared.standing.Standing.{Standing as AnyPlace};
+ghost use Rattle.tournament_games.specs.Waves.{
+  AreNoted,
+  GamesRun,
+  StandingsRun,
+  TournamentRun,
+  WaveRun,
+  resumed,
+  standings_text,
+};
+
+use crate::clocks::Clocks;
+use crate::texts::tell_places;
+use crate::tournament::Tournament;
+use crate::wave::play_wave;
+use command_runs::{Status, end_with};
+use hive_model::{Game, ReplyText};
+use io_edge::{Sink, Spawner};
+use std::alloc::{AllocError, Global};
+use std::thread::Threads;
+use tournament_core::{GameEnd, Plan, Tally, standings};
+
+/// A tally of the games that were played before, the first ones of the plan.
+fn resume(alloc: Global, plan: Plan, ends: &[GameEnd]) -> Result<Tally, AllocError>
+    requires valid { IsPlan plan }
+    requires within { length ends.now ≤ length (schedule plan) }
+    requires few { length (schedule plan) < 2 ^ 42 }
+    ensures engines { IfOk result (λ tally. tally.engines ≡ plan.engines) }
+    ensures games { IfOk result (λ tally. tally.games ≡ length ends.now) }
+    ensures noted { IfOk result (λ tally. IsTallyOf (resumed plan ends.now) tally) }
+{
+    let mut tally = Tally::new(alloc, plan.engines)?;
+    for place in 0..ends.len() {
+        tally.note(plan.fixture(place as u64), ends[place]);
+    }
+    Ok(tally)
+}
+
+/// How many games the next wave has, where so many are left.
+fn wave_of(left: u64, at_once: u32) -> u32
+    requires some { 1 ≤ left }
+    requires wave { 1 ≤ at_once }
+    ensures some { 1 ≤ result }
+    ensures few { result ≤ at_once }
+    ensures within { result ≤ left }
+{
+    if left < u64::from(at_once) {
+        left as u32
+    } else {
+        at_once
+    }
+}
+
+/// Plays a wave of so many games when so many were played before, notes them, and writes their
+/// lines.
+fn write_wave<R: Threads + Sync, P: Spawner, K: Sink, G: Game + Send + Drop, M: Clocks + Sync>(
+    rt: &R,
+    alloc: Global,
+    tournament: &Tournament,
+    clocks: &M,
+    first: u64,
+    count: u32,
+    tally: &mut Tally,
+    output: &mut K,
+    spawner: &mut P,
+) -> Status
+    requires within { first + count ≤ length (schedule tournament.now.plan) }
+    requires few { first + count ≤ 2 ^ 42 }
+    requires engines { tally.old.engines ≡ tournament.now.plan.engines }
+    requires noted { tally.old.games ≡ first }
+    ensures run { WaveRun tournament.now first count tally.old tally.new result
+        (scene (K.written output.old) (P.engines spawner.old))
+        (scene (K.written output.new) (P.engines spawner.new)) }
+    ensures engines { tally.new.engines ≡ tally.old.engines }
+    ensures count { result ≡ Status.Done → tally.new.games ≡ tally.old.games + count }
+    ensures cause { HasCause (result ≡ Status.WriteFault) (K.write_faults output.old)
+        (K.write_faults output.new) }
+{
+    match play_wave::<R, P, G, M>(rt, alloc, tournament, clocks, first, count, tally, spawner) {
+        Ok(text) => end_with(text.items(), Status::Done, output),
+        Err(_) => Status::Memory,
+    }
+}
+
+/// Plays all games, of which so many were played before, wave after wave, notes them, and writes
+/// the lines of each wave as soon as it was played.
+fn write_games<R: Threads + Sync, P: Spawner, K: Sink, G: Game + Send + Drop, M: Clocks + Sync>(
+    rt: &R,
+    alloc: Global,
+    tournament: &Tournament,
+    clocks: &M,
+    games: u64,
+    first: u64,
+    tally: &mut Tally,
+    output: &mut K,
+    spawner: &mut P,
+) -> Status
+    requires all { games ≡ length (schedule tournament.now.plan) }
+    requires few { games < 2 ^ 42 }
+    requires within { first ≤ games }
+    requires engines { tally.old.engines ≡ tournament.now.plan.engines }
+    requires noted { tally.old.games ≡ first }
+    ensures run { GamesRun tournament.now first tally.old tally.new result
+        (scene (K.written output.old) (P.engines spawner.old))
+        (scene (K.written output.new) (P.engines spawner.new)) }
+    ensures engines { tally.new.engines ≡ tally.old.engines }
+    ensures cause { HasCause (result ≡ Status.WriteFault) (K.write_faults output.old)
+        (K.write_faults output.new) }
+{
+    let at_once = tournament.at_once();
+    let mut done = first;
+    while done < games {
+        let count = wave_of(games - done, at_once);
+        match write_wave::<R, P, K, G, M>(
+            rt, alloc, tournament, clocks, done, count, tally, output, spawner,
+        ) {
+            Status::Done => done += u64::from(count),
+            fault => return fault,
+        }
+    }
+    Status::Done
+}
+
+/// The lines of the standings, by the games that were noted.
+fn tell_standings(
+    alloc: Global,
+    tournament: &Tournament,
+    tally: &Tally,
+) -> Result<ReplyText, AllocError>
+    requires { tally.now.engines ≡ tournament.now.plan.engines }
+    ensures { IfOk result (λ text. (places : List AnyPlace)
+        × AreNoted tournament.now tally.now places
+        × (text ≡ standings_text tournament.now places)) }
+{
+    let places = standings(alloc, tally)?;
+    tell_places(alloc, tournament.programs(), places.items())
+}
+
+/// Writes the lines of the standings, by the games that were noted.
+fn write_standings<K: Sink>(
+    alloc: Global,
+    tournament: &Tournament,
+    tally: &Tally,
+    output: &mut K,
+) -> Status
+    requires { tally.now.engines ≡ tournament.now.plan.engines }
+    ensures run { StandingsRun tournament.now tally.now result
+        (K.written output.old) (K.written output.new) }
+    ensures cause { HasCause (result ≡ Status.WriteFault) (K.write_faults output.old)
+        (K.write_faults output.new) }
+{
+    match tell_standings(alloc, tournament, tally) {
+        Ok(text) => end_with(text.items(), Status::Done, output),
+        Err(_) => Status::Memory,
+    }
+}
+
+/// Plays a tournament and tells it.
+///
+/// The games are those of the plan, in its order, without the first ones, which were played before
+/// and ended as is given. They are played in waves of as many games as are played at once, the last
+/// one perhaps of fewer. For each game of a wave white's program is started and then black's, each
+/// by its words; a program that cannot be started forfeits that game for its engine, and where
+/// white's cannot, black's is not started. Then the games are played at once where threads can be
+/// had, each over its own two links and a clock of its own, from the moves of its opening. Then the
+/// programs of the wave are closed, in the order of their starts, and the lines of its games are
+/// written at once, in the order of the games:
+///
+/// ```text
+/// game N I J GAMESTRING
+/// verdict N I J VERDICT
+/// ```
+///
+/// N is the game's number in the plan, from 1 on, I white's engine and J black's. The verdict is
+/// told as that of a match, or as `forfeit white nostart` or `forfeit black nostart`. Behind the
+/// last game the standings follow, a line for each engine in their order, where TEXT names its
+/// program:
+///
+/// ```text
+/// TEXT points A games B wins C draws D losses E forfeits F
+/// ```
+///
+/// Only a tally is kept of the games of earlier waves, so that neither memory nor open programs
+/// grow with the number of games. Each program that was started is closed before the call returns.
+///
+/// `Done` says that the whole text was written. `WriteFault` says that a write has failed: the
+/// lines of earlier waves were written, and of those of the last wave, or of the standings, a front
+/// and not all. `Memory` says that memory was wanting: the lines of the waves so far were written.
+/// No other status is answered.
+pub fn play_tournament<
+    R: Threads + Sync,
+    P: Spawner,
+    K: Sink,
+    G: Game + Send + Drop,
+    M: Clocks + Sync,
+>(
+    rt: &R,
+    alloc: Global,
+    tournament: &Tournament,
+    played: &[GameEnd],
+    output: &mut K,
+    spawner: &mut P,
+    clocks: &M,
+) -> Status
+    requires { length played.now ≤ length (schedule tournament.now.plan) }
+    ensures run { TournamentRun tournament.now played.now result
+        (scene (K.written output.old) (P.engines spawner.old))
+        (scene (K.written output.new) (P.engines spawner.new)) }
+    ensures closed { NoneIsOpen (P.engines spawner.old) (P.engines spawner.new) }
+    ensures cause { HasCause (result ≡ Status.WriteFault) (K.write_faults output.old)
+        (K.write_faults output.new) }
+{
+    let plan = tournament.plan();
+    let games = plan.games();
+    let Ok(mut tally) = resume(alloc, plan, played) else {
+        return Status::Memory;
+    };
+    let first = played.len() as u64;
+    match write_games::<R, P, K, G, M>(
+        rt, alloc, tournament, clocks, games, first, &mut tally, output, spawner,
+    ) {
+        Status::Done => write_standings(alloc, tournament, &tally, output),
+        fault => fault,
+    }
+}
