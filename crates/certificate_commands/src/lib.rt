@@ -18,8 +18,3 @@ pub use laws::{
     held_tokens_are_accepted, migrated_texts_are_accepted, migrations_are_done,
 };
 pub use migrating::migrate;
-
-#[cfg(test)]
-mod migrating_tests;
-#[cfg(test)]
-mod tests;

@@ -10,6 +10,3 @@ mod shortening;
 
 pub use lines::{LineTokens, TokenLine};
 pub use migrating::{Migrated, migrate};
-
-#[cfg(test)]
-mod tests;

@@ -21,6 +21,3 @@ pub use cups::engines_of;
 pub use laws::words_have_one_answer;
 pub use matched::{Programs, programs_of};
 pub use name::Name;
-
-#[cfg(test)]
-mod tests;

@@ -1,5 +1,5 @@
-//! Books, matches, cups and tournaments, tried: the public calls of their crates over texts,
-//! sources, sinks, clocks and programs in memory.
+//! Books, matches, cups, tournaments and made games, tried: the public calls of their crates over
+//! texts, sources, sinks, clocks and programs in memory.
 #![tactic(auto)]
 
 #[cfg(test)]
@@ -11,10 +11,16 @@ mod cup_core_tests;
 #[cfg(test)]
 mod cup_games_tests;
 #[cfg(test)]
+mod grow_command_tests;
+#[cfg(test)]
 mod match_command_tests;
 #[cfg(test)]
 mod match_from_tests;
 #[cfg(test)]
+mod match_runner_tests;
+#[cfg(test)]
 mod opening_book_tests;
 #[cfg(test)]
 mod tournament_core_tests;
+#[cfg(test)]
+mod tournament_games_tests;

@@ -7,6 +7,3 @@ mod texts;
 
 pub use laws::{best_moves_are_told, grows_are_done};
 pub use making::grow;
-
-#[cfg(test)]
-mod tests;

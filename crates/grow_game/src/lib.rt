@@ -8,6 +8,3 @@ mod plies;
 
 pub use growing::{Grown, grow};
 pub use laws::grown_moves_are_games;
-
-#[cfg(test)]
-mod tests;

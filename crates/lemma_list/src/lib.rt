@@ -5,6 +5,3 @@ mod last;
 mod lemmas;
 
 pub use lemmas::{Lemma, Lemmas};
-
-#[cfg(test)]
-mod tests;

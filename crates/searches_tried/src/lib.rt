@@ -3,6 +3,8 @@
 #![tactic(auto)]
 
 #[cfg(test)]
+mod grow_game_tests;
+#[cfg(test)]
 mod plain_search_tests;
 #[cfg(test)]
 mod root_share_tests;

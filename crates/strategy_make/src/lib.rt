@@ -11,6 +11,3 @@ mod roots;
 pub use fault::MakeFault;
 pub use laws::{certificates_are_read, least_indices_hold};
 pub use making::make;
-
-#[cfg(test)]
-mod tests;

@@ -13,6 +13,3 @@ pub use laws::accepted_texts_are_done;
 pub use reasons::{IndexReasons, Reasons};
 pub use told::tell_judged;
 pub use verdict::{Unread, Verdict, fault_verdict, verdict_of};
-
-#[cfg(test)]
-mod tests;

@@ -3,6 +3,8 @@
 #![tactic(auto)]
 
 #[cfg(test)]
+mod command_words_tests;
+#[cfg(test)]
 mod moves;
 #[cfg(test)]
 mod options;

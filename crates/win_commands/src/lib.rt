@@ -14,6 +14,3 @@ pub use laws::{
 };
 pub use solving::solve;
 pub use verifying::verify;
-
-#[cfg(test)]
-mod tests;

@@ -1,12 +1,12 @@
 //! Solutions that are written, and texts that are checked.
 
-use crate::{solve, verify};
 use command_runs::Status;
 use fast_game::FastGame;
 use io_edge::{MemSink, MemSource};
 use std::alloc::{AllocError, Global};
 use std::process::Abort;
 use std::test::Fail;
+use win_commands::{solve, verify};
 
 /// The least solution of the opening of the base game within two plies.
 const OPENING: &str = "hive-solution 1\nBase;NotStarted;White[1]\nplies 2\nanswer no\n0\n0\n0\n0\n";

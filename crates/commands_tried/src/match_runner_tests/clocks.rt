@@ -1,10 +1,10 @@
 //! Matches in a time, by the readings of a clock.
 
 use super::{BASE, BLACK, NONE, WHITE, link_of};
-use crate::run_match;
 use hive_model::{Colour, Game};
 use io_edge::MemClock;
 use match_core::{Cause, Level, Referee, Setup, Verdict};
+use match_runner::run_match;
 use plain_game::PlainGame;
 use std::alloc::{AllocError, Global};
 use std::test::Fail;

@@ -1,6 +1,6 @@
 //! Certificates that are written, and texts that are checked.
 
-use crate::{certify, check, migrate};
+use certificate_commands::{certify, check, migrate};
 use command_runs::Status;
 use fast_game::FastGame;
 use io_edge::{MemSink, MemSource};

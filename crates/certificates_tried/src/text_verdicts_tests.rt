@@ -1,6 +1,5 @@
 //! The lines of verdicts, and what the answers of checks mean.
 
-use crate::{IndexReasons, Unread, Verdict, fault_verdict, tell_judged, verdict_of};
 use certificate_text::HeadFault;
 use command_runs::Status;
 use game_text::GameFault;
@@ -9,6 +8,7 @@ use std::alloc::{AllocError, Global};
 use std::process::Abort;
 use std::test::Fail;
 use strategy_check::{Checked, Halt, Why};
+use text_verdicts::{IndexReasons, Unread, Verdict, fault_verdict, tell_judged, verdict_of};
 
 /// Tells an answer in memory, and compares the status and all that was written. The write of this
 /// number fails.

@@ -1,6 +1,6 @@
 //! Words and the care for engines that they ask for.
 use super::words_of;
-use crate::{Care, care_of};
+use command_words::{Care, care_of};
 use std::alloc::{AllocError, Global};
 use std::test::Fail;
 

@@ -2,10 +2,10 @@
 
 ghost use Rattle.std.specs.Prelude.{◌≤◌};
 
-use crate::grow;
 use command_runs::Status;
 use fast_game::FastGame;
 use game_text::read_game;
+use grow_command::grow;
 use io_edge::MemSink;
 use move_text::read_number;
 use std::alloc::{AllocError, Global};

@@ -4,7 +4,6 @@ ghost use Rattle.std.specs.Prelude.{◌≡◌, ◌≤◌};
 ghost use Rattle.hive_model.specs.Courses.{position};
 ghost use Rattle.hive_model.specs.Legal as rules;
 
-use crate::{MakeFault, make};
 use deepening::Searcher;
 use hive_model::{Best, Game, GameType, Move, MoveStack, Piece, Place, State};
 use io_edge::MemSink;
@@ -12,6 +11,7 @@ use plain_game::PlainGame;
 use std::alloc::{AllocError, Global};
 use std::test::Fail;
 use strategy_check::{Checked, Claim, ListIndices, Why, check};
+use strategy_make::{MakeFault, make};
 
 const BASE: GameType = GameType {
     mosquito: false,

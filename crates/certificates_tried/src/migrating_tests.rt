@@ -1,7 +1,7 @@
 //! Certificates that become certificates that cite.
 
-use crate::tests::{Asked, Failing, expect_answer, expect_run};
-use crate::{certify, migrate};
+use crate::certificate_commands_tests::{Asked, Failing, expect_answer, expect_run};
+use certificate_commands::{certify, migrate};
 use command_runs::Status;
 use fast_game::FastGame;
 use io_edge::{MemSink, MemSource};

@@ -5,7 +5,7 @@ mod commands;
 mod cups;
 mod matches;
 
-use crate::{Asked, asked_of};
+use command_words::{Asked, asked_of};
 use hive_model::GameType;
 use match_core::{Level, Setup};
 use std::alloc::{AllocError, Global};

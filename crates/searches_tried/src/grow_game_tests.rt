@@ -1,8 +1,8 @@
 //! Games of known seeds.
 
-use crate::grow;
 use deepening::Searcher;
 use game_text::write_game;
+use grow_game::grow;
 use hive_model::{Game, Move, MoveStack, Piece, Place, ReplyText};
 use plain_game::PlainGame;
 use std::test::Fail;

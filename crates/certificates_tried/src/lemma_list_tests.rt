@@ -1,7 +1,7 @@
 //! Lemmas of several keys, and which of them is found first.
 
-use crate::Lemmas;
 use hive_model::{Board, Colour, GameType, Key, Piece, Place};
+use lemma_list::Lemmas;
 use stack_board::PlainBoard;
 use std::alloc::{AllocError, Global};
 use std::test::Fail;

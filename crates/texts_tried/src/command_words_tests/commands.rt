@@ -1,6 +1,6 @@
 //! Words that ask for a command without a program, and those that ask for nothing.
 use super::{ask_for, expect_nothing};
-use crate::Asked;
+use command_words::Asked;
 use std::test::Fail;
 
 /// Words, separated by `|`, and what they ask for.

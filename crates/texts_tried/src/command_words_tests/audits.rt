@@ -1,6 +1,6 @@
 //! Words that ask for an audit of a program, and those that ask for none.
 use super::{ALL, BASE, are_words_of, ask_for, expect_nothing, words_of};
-use crate::{Asked, asked_of, audited_of};
+use command_words::{Asked, asked_of, audited_of};
 use hive_model::GameType;
 use std::alloc::{AllocError, Global};
 use std::test::Fail;

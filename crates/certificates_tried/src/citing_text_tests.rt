@@ -4,7 +4,7 @@ ghost use Rattle.std.specs.Prelude.{◌≡◌, pos};
 ghost use Rattle.hive_model.specs.Courses.{position};
 ghost use Rattle.hive_model.specs.Legal as rules;
 
-use crate::{LineTokens, Migrated, migrate};
+use citing_text::{LineTokens, Migrated, migrate};
 use hive_model::{Game, GameType, Move, MoveStack, Piece, Place, State};
 use io_edge::{MemSink, MemSource};
 use line_feed::LineReader;

@@ -1,12 +1,12 @@
 //! Positions whose forced wins are known, and sinks that take few bytes or fail.
 
-use crate::Solver;
 use command_runs::read_one_game;
 use hive_model::Game;
 use io_edge::{MemSink, MemSource};
 use plain_game::PlainGame;
 use std::alloc::{AllocError, Global};
 use std::test::Fail;
+use win_solver::Solver;
 
 /// A game whose side to move wins with its next move.
 const WON: &str =

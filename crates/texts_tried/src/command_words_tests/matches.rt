@@ -1,6 +1,6 @@
 //! Words that ask for a match, those that ask for none, and the programs that are named.
 use super::{ALL, Played, USUAL, are_words_of, ask_for, expect_nothing, words_of};
-use crate::{Asked, asked_of, programs_of};
+use command_words::{Asked, asked_of, programs_of};
 use match_core::{Level, Setup};
 use std::alloc::{AllocError, Global};
 use std::test::Fail;

@@ -1,6 +1,6 @@
 //! Words that ask for a cup, those that ask for none, and the programs that are named.
 use super::{ALL, Played, USUAL, are_words_of, ask_for, expect_nothing, words_of};
-use crate::{Asked, asked_of, engines_of};
+use command_words::{Asked, asked_of, engines_of};
 use cup_core::Program;
 use match_core::{Level, Setup};
 use std::alloc::{AllocError, Global};

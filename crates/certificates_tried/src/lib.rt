@@ -1,0 +1,20 @@
+//! Certificates and forced wins, tried: the public calls of their crates over texts, sources and
+//! sinks in memory.
+#![tactic(auto)]
+
+#[cfg(test)]
+mod certificate_commands_tests;
+#[cfg(test)]
+mod citing_text_tests;
+#[cfg(test)]
+mod lemma_list_tests;
+#[cfg(test)]
+mod migrating_tests;
+#[cfg(test)]
+mod strategy_make_tests;
+#[cfg(test)]
+mod text_verdicts_tests;
+#[cfg(test)]
+mod win_commands_tests;
+#[cfg(test)]
+mod win_solver_tests;
