@@ -1,6 +1,6 @@
 -- The keys by which legal moves are counted once.
-use Rattle.std.proofs.Common.{◌≡◌, ℕ, true, false, ◌<◌, ◌⊎◌, inl, inr, List, length, refl, sym, ◌∙◌, ap, subst, replicate}
-use Rattle.std.specs.Prelude.{Option, Some, None, slice_get, IsTrue, SomeIff}
+use Rattle.std.proofs.Common.{◌≡◌, ℕ, Bool, true, false, ◌<◌, ◌⊎◌, inl, inr, length, refl, sym, ◌∙◌, ap, subst}
+use Rattle.std.specs.Prelude.{◌↔◌, Option, Some, None, IsTrue, SomeIff}
 use Rattle.std.proofs.lemmas.Option.{same_Some}
 use Rattle.hive_model.specs.declared.pieces.Colour.{Colour}
 use Rattle.hive_model.specs.declared.pieces.Colour.TheVariants.{White, Black}
@@ -83,10 +83,23 @@ pub own_key : (p : Position) (k : KeyParts) → IsSound p → key p ≡ k → Is
 own_key p k sound of = record { like = p; sound = sound; of_key = of; same_moves = refl }
 
 -- keys with the same board and the same turn are one
-pub one_key : (a b : KeyParts) → a.turn ≡ b.turn → IsTrue (same_board a b) → a ≡ b
+one_key : (a b : KeyParts) → a.turn ≡ b.turn → IsTrue (same_board a b) → a ≡ b
 one_key a b turn same =
     let h = (boards_tested a b).0 same in
     λ i. record { spots = h.spots i; game_type = h.game_type i; side = h.side i; turn = turn i; rest = h.rest i }
+
+-- one key has one board
+own_board : (a b : KeyParts) → a ≡ b → IsTrue (same_board a b)
+own_board a b e = (boards_tested a b).1 (record {
+  spots = ap (λ (k : KeyParts). k.spots) e;
+  game_type = ap (λ (k : KeyParts). k.game_type) e;
+  side = ap (λ (k : KeyParts). k.side) e;
+  rest = ap (λ (k : KeyParts). k.rest) e;
+})
+
+-- the test of the boards of two keys with one turn tells whether they are one
+pub keys_tested : (a b : KeyParts) (tested : Bool) → a.turn ≡ b.turn → tested ≡ same_board a b → IsTrue tested ↔ a ≡ b
+keys_tested a b tested turn is = (λ h. one_key a b turn (sym is ∙ h), λ e. is ∙ own_board a b e)
 
 -- what is kept of the key of a position
 pub known_moves : (p : Position) (k : KeyParts) (n : ℕ) → IsCountKey p k → HasMoves k n → n ≡ length (moves p)

@@ -1,5 +1,5 @@
 -- How many legal moves there are in positions that were met.
-use Rattle.std.specs.Prelude.{◌≡◌, ℕ, List, Option, Some, length, slice_get}
+use Rattle.std.specs.Prelude.{◌≡◌, ℕ, ◌<◌, List, Option, Some, length, slice_get, slice_set}
 use Rattle.hive_model.specs.Keys.{KeyParts, key}
 use Rattle.hive_model.specs.Legal.{moves}
 use Rattle.hive_model.specs.Positions.{Position, IsSound}
@@ -16,6 +16,16 @@ pub record IsCountKey (p : Position) (k : KeyParts) : Type 0 where
   pub of_key : key like ≡ k
   pub same_moves : moves like ≡ moves p
 
--- what each slot keeps of a key is so
+-- the place keeps so many moves for the key, and nothing of another key
+abbrev pub KeepsAt : List (Option Met) → ℕ → KeyParts → ℕ → Type 0
+KeepsAt places i k n = slice_get places i ≡ Some (Some (record { key = k; moves = n }))
+
+-- what each place keeps of a key is so
 abbrev pub AreMet : List (Option Met) → Type 0
-AreMet slots = (i : ℕ) (e : Met) → slice_get slots i ≡ Some (Some e) → HasMoves e.key e.moves
+AreMet places = (i n : ℕ) (k : KeyParts) → KeepsAt places i k n → HasMoves k n
+
+-- what is kept at a place, instead of what was there, is found there
+abbrev pub WhatIsKeptIsFound : Type 0
+WhatIsKeptIsFound =
+    (places : List (Option Met)) (i n : ℕ) (k : KeyParts) → i < length places
+    → KeepsAt (slice_set places i (Some (record { key = k; moves = n }))) i k n

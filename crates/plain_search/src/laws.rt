@@ -1,5 +1,7 @@
-//! Laws of positions with the same legal moves, as the contracts of functions that do nothing.
+//! Laws of positions with the same legal moves, and of what is kept of positions that were met, as
+//! the contracts of functions that do nothing.
 
+ghost use Rattle.plain_search.specs.Met.{WhatIsKeptIsFound};
 ghost use Rattle.plain_search.specs.Replies.{LikePlacementsHaveTheSameReplies};
 ghost use Rattle.plain_search.specs.Rested.{RestDoesNotMatter};
 
@@ -13,4 +15,9 @@ pub fn like_placements_have_the_same_replies()
 /// mosquito of the side to move, this side has the same legal moves as if no piece rested.
 pub fn rest_does_not_matter()
     ensures { RestDoesNotMatter }
+{}
+
+/// What is kept at a place of a table of move counts, instead of what was there, is found there.
+pub fn what_is_kept_is_found()
+    ensures { WhatIsKeptIsFound }
 {}

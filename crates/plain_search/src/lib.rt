@@ -13,6 +13,8 @@ mod replies;
 mod values;
 
 pub use counts::count_lines;
-pub use laws::{like_placements_have_the_same_replies, rest_does_not_matter};
+pub use laws::{
+    like_placements_have_the_same_replies, rest_does_not_matter, what_is_kept_is_found,
+};
 pub use move_counts::MoveCounts;
 pub use values::minimax;

@@ -192,11 +192,12 @@ fn count_once<G: Game>(game: &mut G, m: &Move, counts: &mut MoveCounts) -> u32
         return game.count_moves();
     }
     let key = count_key(game, piece);
+    let place = counts.place_of(&key);
     game.is_sound();
-    if let Some(known) = counts.look(&key) {
+    if let Some(known) = counts.look(place, &key) {
         return known;
     }
     let count = game.count_moves();
-    counts.keep(key, count);
+    counts.keep(place, key, count);
     count
 }
