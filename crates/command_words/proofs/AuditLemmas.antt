@@ -1,11 +1,7 @@
 -- The texts that are read are those that the words of an audit give.
-use Rattle.std.proofs.Common.{◌≡◌, ℕ, List, Option, Some, MatchOption, subst}
+use Rattle.std.proofs.Common.{◌≡◌, Option, Some, MatchOption, subst}
 use Rattle.command_words.specs.declared.audits.AuditTexts.{AuditTexts}
 use Rattle.command_words.specs.Audits.{AuditOptions, options_in}
-
--- values that were read are these
-pub values_are : {found : Option (List (Option (List ℕ)))} {given values : List (Option (List ℕ))} → found ≡ Some given → MatchOption found ⊥ (λ g. g ≡ values) → given ≡ values
-values_are {values = values} is here = subst (λ o. MatchOption o ⊥ (λ g. g ≡ values)) is here
 
 -- texts that were read are these
 pub texts_are : {found : Option AuditTexts} {texts : AuditTexts} {options : AuditOptions} → found ≡ Some texts → MatchOption found ⊥ (λ t. options_in t ≡ options) → options_in texts ≡ options

@@ -1,5 +1,5 @@
 -- What options give.
-use Rattle.std.proofs.Common.{◌≡◌, ◌∙◌, ap, sym, ℕ, List, Bor, Option, None, Some, option_map, true}
+use Rattle.std.proofs.Common.{◌≡◌, ◌∙◌, ap, sym, subst, ℕ, List, Bor, MatchOption, Option, None, Some, option_map, true}
 use Rattle.std.specs.Option.{is_some}
 use Rattle.std.proofs.lemmas.Option.{none-some, same_Some}
 
@@ -15,3 +15,7 @@ some_given o r v e f = same_Some _ _ (sym (ap (option_map (λ r. r.now)) e) ∙ 
 pub not_none : (o : Option (Bor (List ℕ))) → is_some o ≡ true → option_map (λ r. r.now) o ≡ None → ⊥
 not_none None s e = cc
 not_none (Some r) s e = none-some _ (sym e)
+
+-- values that were read are these
+pub values_are : {found : Option (List (Option (List ℕ)))} {given values : List (Option (List ℕ))} → found ≡ Some given → MatchOption found ⊥ (λ g. g ≡ values) → given ≡ values
+values_are {values = values} is here = subst (λ o. MatchOption o ⊥ (λ g. g ≡ values)) is here

@@ -1,7 +1,9 @@
 pub mod WordLemmas
 pub mod NameLemmas
+pub mod RangeLemmas
 pub mod GivenLemmas
 pub mod ProgramLaws
 pub mod MatchLemmas
-pub mod CupLemmas
+pub mod EngineLemmas
 pub mod AuditLemmas
+pub mod TournamentLemmas

@@ -2,7 +2,7 @@
 use Rattle.std.proofs.Common.{◌≡◌, ap, map, Some, inl, inr, List, String, Global}
 use Rattle.std.specs.Prelude.{string_bytes}
 use Rattle.command_words.specs.declared.asked.Asked.{Asked}
-use Rattle.command_words.specs.declared.asked.Asked.TheVariants.{Session, Replay, Count, Grow, Certify, Check, Solve, Verify, Match, Cup, Book, Migrate, Audit}
+use Rattle.command_words.specs.declared.asked.Asked.TheVariants.{Session, Replay, Count, Grow, Certify, Check, Solve, Verify, Match, Cup, Book, Migrate, Audit, Tournament}
 use Rattle.command_words.specs.Names.{named}
 use Rattle.command_words.specs.Words.{Words, name_of}
 
@@ -21,3 +21,4 @@ named_first words (Cup setup) w = ap named w.options.give.ask.begin
 named_first words Book e = ap named e
 named_first words Migrate e = ap named e
 named_first words (Audit games seed plies game_type stop patient) w = ap named w.give.ask.begin
+named_first words (Tournament setup rounds gauntlet at_once resume) w = ap named w.options.give.ask.begin

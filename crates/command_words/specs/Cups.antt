@@ -1,29 +1,14 @@
 -- The words that ask for a cup of programs.
-use Rattle.std.specs.Prelude.{◌≡◌, ◌≢◌, ◌≤◌, ℕ, List, [], ◌∷◌, All, AllPairs, nat_eq, codes, length, map, string_bytes, Option, None, Some}
-use Rattle.std.specs.List.{slice_split}
+use Rattle.std.specs.Prelude.{◌≡◌, ℕ, List, [], ◌∷◌, codes, map, string_bytes, Option, None, Some}
 use Rattle.std.specs.declared.string.String.{String}
 use Rattle.std.specs.declared.alloc.Global.{Global}
 use Rattle.match_core.specs.declared.answers.Setup.{Setup}
 use Rattle.option_words.specs.Options.{Gives}
 use Rattle.cup_core.specs.Engines.{Engine}
 use Rattle.command_words.specs.declared.care.Care.{Care}
-use Rattle.command_words.specs.Matches.{Choices, IsCareOf, IsProgram, IsSetupOf, between_spaces}
-
--- the texts between the semicolons (59) of a text
-abbrev pub program_texts : List ℕ → List (List ℕ)
-program_texts text = slice_split (λ b. nat_eq b 59) text
-
--- no two of these texts are equal
-abbrev pub AreDistinct : List (List ℕ) → Type 0
-AreDistinct texts = AllPairs (λ a b. a ≢ b) texts
-
--- 2 to 8 programs with semicolons between them, each with its words separated by single spaces,
--- none empty, and no two programs equal
-pub record ArePrograms (text : List ℕ) : Type 0 where
-  pub some : 2 ≤ length (program_texts text)
-  pub few : length (program_texts text) ≤ 8
-  pub each : All IsProgram (program_texts text)
-  pub distinct : AreDistinct (program_texts text)
+use Rattle.command_words.specs.Engines.{ArePrograms}
+pub use Rattle.command_words.specs.Engines.{engine_of, program_texts}
+use Rattle.command_words.specs.Matches.{Choices, IsCareOf, IsSetupOf}
 
 abbrev pub cup_options : List (List ℕ)
 cup_options = codes "engines" ∷ (codes "type" ∷ (codes "depth" ∷ (codes "plies" ∷
@@ -65,21 +50,17 @@ pub record CupOptions (words : List (String Global)) : Type 0 where
 abbrev pub chosen : {words : List (String Global)} → CupOptions words → Choices
 chosen o = cup_choices o.game_type o.depth o.plies o.patience o.quiet
 
--- The words ask for a cup. Each game is played by the setup of a match to a depth, without the rule
--- of third repetition.
+-- The words ask for a cup, of 2 to 8 programs. Each game is played by the setup of a match to a
+-- depth, without the rule of third repetition.
 pub record AreCupWords (words : List (String Global)) (setup : Setup) : Type 0 where
   pub options : CupOptions words
-  pub programs : ArePrograms options.engines
+  pub programs : ArePrograms 8 options.engines
   pub setup_is : IsSetupOf (chosen options) setup
 
 -- the words ask for a cup by this setup, and for this care of its engines
 abbrev pub AskForCupCare : List (String Global) → Setup → Care → Type 0
 AskForCupCare words setup care = (w : AreCupWords words setup)
     × IsCareOf w.options.patience w.options.quiet setup.level care
-
--- the program that a text names: the text, and its words, which stand between its spaces
-abbrev pub engine_of : List ℕ → Engine
-engine_of text = record { text = text; words = between_spaces text }
 
 -- The words ask for a cup of these programs, in this order: of the texts between the semicolons of
 -- the value of the option `engines`.

@@ -1,7 +1,9 @@
 pub mod Names
 pub mod Programs
 pub mod Matches
+pub mod Engines
 pub mod Cups
+pub mod Tournaments
 pub mod Audits
 pub mod Words
 pub mod Laws

@@ -2,7 +2,7 @@
 use Rattle.std.specs.Prelude.{Bool, true, false, List, [], ◌∷◌, ℕ, Option, Some, codes}
 use Rattle.move_text.specs.Tables.{named_by}
 use Rattle.command_words.specs.declared.name.Name.{Name}
-use Rattle.command_words.specs.declared.name.Name.TheVariants.{Uhp, Replay, Count, Grow, Certify, Check, Solve, Verify, Match, Cup, Book, Migrate, Audit}
+use Rattle.command_words.specs.declared.name.Name.TheVariants.{Uhp, Replay, Count, Grow, Certify, Check, Solve, Verify, Match, Cup, Book, Migrate, Audit, Tournament}
 
 -- the word that names a command
 abbrev pub name_text : Name → List ℕ
@@ -19,10 +19,11 @@ name_text Cup = codes "cup"
 name_text Book = codes "book"
 name_text Migrate = codes "migrate"
 name_text Audit = codes "audit"
+name_text Tournament = codes "tournament"
 
 abbrev pub names : List Name
 names = Uhp ∷ Replay ∷ Count ∷ Grow ∷ Certify ∷ Check ∷ Solve ∷ Verify ∷ Match ∷ Cup ∷ Book
-    ∷ Migrate ∷ Audit ∷ []
+    ∷ Migrate ∷ Audit ∷ Tournament ∷ []
 
 -- the command that a word names
 abbrev pub name_at : List ℕ → Option Name
@@ -48,3 +49,4 @@ takes_option Cup = true
 takes_option Book = false
 takes_option Migrate = false
 takes_option Audit = true
+takes_option Tournament = true

@@ -6,14 +6,15 @@ use Rattle.hive_model.specs.Fields.{IsNumberText}
 use Rattle.match_core.specs.Keeps.{IsSetup}
 use Rattle.option_words.specs.Options.{GiveOne, Gives}
 use Rattle.command_words.specs.declared.asked.Asked.{Asked}
-use Rattle.command_words.specs.declared.asked.Asked.TheVariants.{Session, Replay, Count, Grow, Certify, Check, Solve, Verify, Match, Cup, Book, Migrate, Audit}
+use Rattle.command_words.specs.declared.asked.Asked.TheVariants.{Session, Replay, Count, Grow, Certify, Check, Solve, Verify, Match, Cup, Book, Migrate, Audit, Tournament}
 use Rattle.command_words.specs.declared.care.Care.{Care}
 use Rattle.command_words.specs.declared.name.Name.{Name}
-use Rattle.command_words.specs.declared.name.Name.TheVariants.{Uhp, Replay as ReplayName, Count as CountName, Grow as GrowName, Certify as CertifyName, Check as CheckName, Solve as SolveName, Verify as VerifyName, Match as MatchName, Cup as CupName, Book as BookName, Migrate as MigrateName, Audit as AuditName}
+use Rattle.command_words.specs.declared.name.Name.TheVariants.{Uhp, Replay as ReplayName, Count as CountName, Grow as GrowName, Certify as CertifyName, Check as CheckName, Solve as SolveName, Verify as VerifyName, Match as MatchName, Cup as CupName, Book as BookName, Migrate as MigrateName, Audit as AuditName, Tournament as TournamentName}
 use Rattle.command_words.specs.Audits.{AreAuditWords, AskForAuditCare}
 use Rattle.command_words.specs.Cups.{AreCupWords, AskForCupCare}
 use Rattle.command_words.specs.Matches.{AreMatchWords, AskForMatchCare, IsRuleOf}
 use Rattle.command_words.specs.Names.{name_text, named, takes_option}
+use Rattle.command_words.specs.Tournaments.{AreTournamentWords, AskForTournamentCare}
 
 -- the name of a command, alone
 abbrev pub AreAlone : List (String Global) → Name → Type 0
@@ -65,13 +66,15 @@ Words words Book = AreAlone words BookName
 Words words Migrate = AreAlone words MigrateName
 Words words (Audit games seed plies game_type stop patient) =
     AreAuditWords words games seed plies game_type stop patient
+Words words (Tournament setup rounds gauntlet at_once resume) =
+    AreTournamentWords words setup rounds gauntlet at_once resume
 
 -- engines are waited for without end, and nothing that they write is dropped
 abbrev pub no_care : Care
 no_care = record { limit = None; quiet = false }
 
--- the care for engines that the words of a match, a cup or an audit ask for; of other words there
--- is none
+-- the care for engines that the words of a match, a cup, a tournament or an audit ask for; of other
+-- words there is none
 abbrev pub CaresFor : List (String Global) → Asked → Care → Type 0
 CaresFor words Session care = care ≡ no_care
 CaresFor words (Replay repetition) care = care ≡ no_care
@@ -86,6 +89,8 @@ CaresFor words (Cup setup) care = AskForCupCare words setup care
 CaresFor words Book care = care ≡ no_care
 CaresFor words Migrate care = care ≡ no_care
 CaresFor words (Audit games seed plies game_type stop patient) care = AskForAuditCare words care
+CaresFor words (Tournament setup rounds gauntlet at_once resume) care =
+    AskForTournamentCare words setup rounds gauntlet at_once resume care
 
 -- the words ask for nothing that the program does
 abbrev pub AreOfNoCommand : List (String Global) → Type 0
@@ -106,6 +111,7 @@ name_of (Cup setup) = CupName
 name_of Book = BookName
 name_of Migrate = MigrateName
 name_of (Audit games seed plies game_type stop patient) = AuditName
+name_of (Tournament setup rounds gauntlet at_once resume) = TournamentName
 
 -- the words ask for what was found, if anything, and for nothing else by this name
 pub record Finds (words : List (String Global)) (name : Name) (found : Option Asked)
@@ -133,3 +139,5 @@ IsInRange Book = Unit {0}
 IsInRange Migrate = Unit {0}
 IsInRange (Audit games seed plies game_type stop patient) =
     (1 ≤ games) × (games ≤ 1000000) × (1 ≤ plies) × (plies ≤ 1000)
+IsInRange (Tournament setup rounds gauntlet at_once resume) =
+    IsSetup setup × (1 ≤ rounds) × (rounds ≤ 10000) × (1 ≤ at_once) × (at_once ≤ 64)

@@ -32,6 +32,7 @@ use crate::matched::{match_care, match_of};
 use crate::name::{Name, named};
 use crate::numbered::number_of;
 use crate::replayed::replay_of;
+use crate::tournaments::{TournamentAsked, tournament_care, tournament_of};
 use hive_model::GameType;
 use match_core::Setup;
 use std::alloc::{AllocError, Global};
@@ -84,6 +85,17 @@ pub enum Asked {
         game_type: Option<GameType>,
         stop: bool,
         patient: bool,
+    },
+    /// A tournament of the programs that the words name: how each of its matches is played, how
+    /// many rounds it has (1 to 10,000), whether the first engine meets all others or each engine
+    /// each other one, how many games are played at once (1 to 64), and whether games that were
+    /// played before are handed in.
+    Tournament {
+        setup: Setup,
+        rounds: u32,
+        gauntlet: bool,
+        at_once: u32,
+        resume: bool,
     },
 }
 
@@ -196,6 +208,20 @@ fn audit(alloc: Global, words: &[String]) -> Result<Option<Asked>, AllocError>
     }))
 }
 
+/// A tournament is asked for with its programs.
+fn tournament(alloc: Global, words: &[String]) -> Result<Option<Asked>, AllocError>
+    ensures { IfOk result (Finds words.now Name.Tournament) }
+{
+    let found = tournament_of(alloc, words)?;
+    Ok(found.map(|one| Asked::Tournament {
+        setup: one.setup,
+        rounds: one.rounds,
+        gauntlet: one.gauntlet,
+        at_once: one.at_once,
+        resume: one.resume,
+    }))
+}
+
 /// What the words ask this command for.
 fn asked_by(alloc: Global, words: &[String], name: Name) -> Result<Option<Asked>, AllocError>
     ensures asked { IfOk result (Finds words.now name) }
@@ -215,6 +241,7 @@ fn asked_by(alloc: Global, words: &[String], name: Name) -> Result<Option<Asked>
         Name::Book => Ok(by_name(words, "book", Asked::Book)),
         Name::Migrate => Ok(by_name(words, "migrate", Asked::Migrate)),
         Name::Audit => audit(alloc, words),
+        Name::Tournament => tournament(alloc, words),
     }
 }
 
@@ -243,6 +270,22 @@ fn asked_care(alloc: Global, words: &[String], asked: Asked) -> Result<Care, All
         Asked::Match { setup, from } => match_care(alloc, words, setup, from),
         Asked::Cup(setup) => cup_care(alloc, words, setup),
         Asked::Audit { .. } => audit_care(alloc, words),
+        Asked::Tournament {
+            setup,
+            rounds,
+            gauntlet,
+            at_once,
+            resume,
+        } => {
+            let asked = TournamentAsked {
+                setup,
+                rounds,
+                gauntlet,
+                at_once,
+                resume,
+            };
+            tournament_care(alloc, words, asked)
+        }
         _ => Ok(Care {
             limit: None,
             quiet: false,
@@ -251,8 +294,8 @@ fn asked_care(alloc: Global, words: &[String], asked: Asked) -> Result<Care, All
 }
 
 /// The care for engines that the words ask for. Without end an engine is waited for where they ask
-/// for no match, cup or audit. An `AllocError` where memory runs out; where the words ask for
-/// nothing, only if the first is that of a command that takes an option.
+/// for no match, cup, tournament or audit. An `AllocError` where memory runs out; where the words
+/// ask for nothing, only if the first is that of a command that takes an option.
 pub fn care_of(alloc: Global, words: &[String]) -> Result<Care, AllocError>
     ensures care { IfOk result (λ care. (asked : Asked) → Words words.now asked
         → CaresFor words.now asked care) }

@@ -1,4 +1,4 @@
-//! How the engines of a match, a cup or an audit are cared for.
+//! How the engines of a match, a cup, a tournament or an audit are cared for.
 ghost use Rattle.std.specs.Prelude.{◌≡◌, ◌≤◌, ℕ, None, Option, Some, IfSome, option_map};
 ghost use Rattle.hive_model.specs.Fields.{IsTimeText};
 ghost use Rattle.match_core.specs.Keeps.{IsLevel};
@@ -12,7 +12,7 @@ use move_text::read_time;
 /// For how much longer than its time and margin an engine is waited for, in milliseconds.
 const USUAL_PATIENCE: u64 = 10_000;
 
-/// How the engines of a match, a cup or an audit are cared for.
+/// How the engines of a match, a cup, a tournament or an audit are cared for.
 #[derive(Clone, Copy, Debug, PartialEq, Eq)]
 pub struct Care {
     /// For how many milliseconds an answer is waited for; without end where there is no limit.

@@ -18,6 +18,7 @@ pub enum Name {
     Book,
     Migrate,
     Audit,
+    Tournament,
 }
 
 /// The command that a word names.
@@ -62,6 +63,9 @@ fn name_at(word: &str) -> Option<Name>
     }
     if word == "audit" {
         return Some(Name::Audit);
+    }
+    if word == "tournament" {
+        return Some(Name::Tournament);
     }
     None
 }

@@ -4,8 +4,10 @@ mod cares;
 mod commands;
 mod cups;
 mod matches;
+mod tournaments;
 
 use command_words::{Asked, asked_of};
+use cup_core::Program;
 use hive_model::GameType;
 use match_core::{Level, Setup};
 use std::alloc::{AllocError, Global};
@@ -25,7 +27,7 @@ const ALL: GameType = GameType {
     pillbug: true,
 };
 
-/// How a match or a cup is played where its words do not say how.
+/// How a match, a cup or a tournament is played where its words do not say how.
 const USUAL: Setup = Setup {
     game_type: BASE,
     level: Level::Depth { depth: 2 },
@@ -76,4 +78,21 @@ fn expect_nothing<R: Abort>(rt: &R, alloc: Global, texts: &[&str]) -> Result<(),
         assert!(rt; holds, "at {text}");
     }
     Ok(())
+}
+
+/// Whether a program has this text, and the words between the spaces of it.
+fn is_program(alloc: Global, program: &Program, text: &str) -> Result<bool, AllocError> {
+    let same = are_words_of(alloc, program.words(), text, ' ')?;
+    Ok(same && program.text() == text.as_bytes())
+}
+
+/// Whether these are just the programs of the texts between the semicolons of a text.
+fn are_programs(alloc: Global, programs: &[Program], text: &str) -> Result<bool, AllocError> {
+    let texts = words_of(alloc, text, ';')?;
+    for (program, text) in programs.iter().zip(texts.iter()) {
+        if !is_program(alloc, program, text.as_str())? {
+            return Ok(false);
+        }
+    }
+    Ok(programs.len() == texts.len())
 }

@@ -12,7 +12,7 @@ struct Row {
     quiet: bool,
 }
 
-const ROWS: [Row; 11] = [
+const ROWS: [Row; 13] = [
     Row {
         words: "uhp",
         limit: None,
@@ -51,6 +51,16 @@ const ROWS: [Row; 11] = [
     Row {
         words: "cup|--engines|a;b|--quiet|1|--depth|3",
         limit: None,
+        quiet: true,
+    },
+    Row {
+        words: "tournament|--engines|a;b|--rounds|2|--at-once|2",
+        limit: None,
+        quiet: false,
+    },
+    Row {
+        words: "tournament|--engines|a;b|--time|00:00:05|--quiet|1|--patience|00:00:02",
+        limit: Some(8_000),
         quiet: true,
     },
     Row {

@@ -1,7 +1,6 @@
 //! Words that ask for a cup, those that ask for none, and the programs that are named.
-use super::{ALL, Played, USUAL, are_words_of, ask_for, expect_nothing, words_of};
+use super::{ALL, Played, USUAL, are_programs, ask_for, expect_nothing, words_of};
 use command_words::{Asked, asked_of, engines_of};
-use cup_core::Program;
 use match_core::{Level, Setup};
 use std::alloc::{AllocError, Global};
 use std::test::Fail;
@@ -123,22 +122,6 @@ const NAMED: [Named; 2] = [
     },
 ];
 
-/// Whether a program has this text, and the words between the spaces of it.
-fn is_program(alloc: Global, program: &Program, text: &str) -> Result<bool, AllocError> {
-    let same = are_words_of(alloc, program.words(), text, ' ')?;
-    Ok(same && program.text() == text.as_bytes())
-}
-
-/// Whether these are just the programs of these texts.
-fn are_programs(alloc: Global, programs: &[Program], texts: &[String]) -> Result<bool, AllocError> {
-    for (program, text) in programs.iter().zip(texts.iter()) {
-        if !is_program(alloc, program, text.as_str())? {
-            return Ok(false);
-        }
-    }
-    Ok(programs.len() == texts.len())
-}
-
 /// Whether the words ask for a cup of just these programs.
 fn name_engines(alloc: Global, row: &Named) -> Result<bool, AllocError> {
     let words = words_of(alloc, row.words, '|')?;
@@ -146,8 +129,7 @@ fn name_engines(alloc: Global, row: &Named) -> Result<bool, AllocError> {
         return Ok(false);
     };
     let programs = engines_of(alloc, words.as_slice())?;
-    let texts = words_of(alloc, row.engines, ';')?;
-    are_programs(alloc, programs.as_slice(), texts.as_slice())
+    are_programs(alloc, programs.as_slice(), row.engines)
 }
 
 #[test]

@@ -1,8 +1,7 @@
 use Rattle.std.proofs.Common.{◌≡◌, ◌∙◌, ap, subst, MatchOption}
 use Rattle.option_words.specs.Options.{value_at}
 use Rattle.command_words.specs.Audits.{audit_values}
-use Rattle.command_words.proofs.AuditLemmas.{values_are}
-use Rattle.command_words.proofs.GivenLemmas.{none_given, some_given}
+use Rattle.command_words.proofs.GivenLemmas.{none_given, some_given, values_are}
 use Rattle.command_words.proofs.audits.texts_of.Goals as goal
 
 pub returns-in_default-clause-only : goal.returns-in_default-clause-only

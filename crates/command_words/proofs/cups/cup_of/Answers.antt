@@ -1,6 +1,7 @@
 use Rattle.std.proofs.Common.{◌≡◌, ◌∙◌, ap, sym, subst, MatchOption, IsTrue, rules, option_map, Bor, List, ℕ}
 use Rattle.option_words.specs.Options.{value_at}
-use Rattle.command_words.specs.Cups.{AreCupWords, ArePrograms, CupOptions, chosen, cup_choices, cup_values}
+use Rattle.command_words.specs.Cups.{AreCupWords, CupOptions, chosen, cup_choices, cup_values}
+use Rattle.command_words.specs.Engines.{ArePrograms}
 use Rattle.command_words.specs.Matches.{IsSetupOf}
 use Rattle.command_words.proofs.GivenLemmas.{none_given, some_given}
 use Rattle.command_words.proofs.MatchLemmas.{weaker}
@@ -22,7 +23,7 @@ returns-then-not-branch-clause-only c = λ s w.
     let asked = cup_values w.options.engines w.options.game_type w.options.depth w.options.plies w.options.patience w.options.quiet in
     let values = subst (λ o. MatchOption o ⊥ (λ given. given ≡ asked)) c.in-Some.is (c.in_ok-given.ensures.only asked w.options.give) in
     let engines = some_given c.value.result c.in-Some-value.engines w.options.engines c.in-Some-value.is (c.value.ensures ∙ ap (λ given. value_at given 0) values) in
-    let are : IsTrue c.in_ok-are_programs.field-0 = c.in_ok-are_programs.ensures.1 (subst ArePrograms (sym engines) w.programs) in
+    let are : IsTrue c.in_ok-are_programs.field-0 = c.in_ok-are_programs.ensures.1 (subst (ArePrograms 8) (sym engines) w.programs) in
     let are_not = c.if-not-branch.true in
     absurd (cc)
 

@@ -4,8 +4,8 @@ use Rattle.indexmap.specs.IndexSet.{insert_all}
 use Rattle.std.proofs.lemmas.Iterator.{YieldsList-from_slice}
 use Rattle.std.proofs.lemmas.Iterator.Adapters.{fact_from_collect}
 use Rattle.std.proofs.lemmas.Iterator.Consumers.{YieldsList-at, YieldsList-from_copied}
-use Rattle.command_words.proofs.CupLemmas.{as_many, same}
-use Rattle.command_words.proofs.cups.are_distinct.Goals as goal
+use Rattle.command_words.proofs.EngineLemmas.{as_many, same}
+use Rattle.command_words.proofs.engines.are_distinct.Goals as goal
 
 pub returns : goal.returns
 returns c =

@@ -2,8 +2,8 @@ use Rattle.std.proofs.Common.{◌≡◌, ℕ, List, All, Bor, arith, false, true
 use Rattle.std.proofs.lemmas.List.Elements.{All-map, All-more}
 use Rattle.std.proofs.Math.Seq.{take_all}
 use Rattle.command_words.specs.Matches.{IsProgram}
-use Rattle.command_words.proofs.CupLemmas.{each_at}
-use Rattle.command_words.proofs.cups.are_each_program.Goals as goal
+use Rattle.command_words.proofs.EngineLemmas.{each_at}
+use Rattle.command_words.proofs.engines.are_each_program.Goals as goal
 
 false_true : false ≡ true → ⊥
 false_true e = cc

@@ -1,5 +1,5 @@
--- The texts of the programs of a cup.
-use Rattle.std.proofs.Common.{◌≡◌, ◌∙◌, ◌<◌, ◌↔◌, ap, sym, subst, arith, ℕ, Bool, false, List, [], ◌∷◌, All, Bor, length, get_or, map, nat_eq, IsTrue}
+-- The texts of programs.
+use Rattle.std.proofs.Common.{◌≡◌, ◌∙◌, ◌<◌, ◌≤◌, ◌↔◌, ap, sym, subst, arith, ℕ, Bool, false, List, [], ◌∷◌, All, Bor, length, get_or, map, nat_eq, IsTrue, MatchOption, Option, Some, option_map}
 use Rattle.std.specs.List.{AllByRecursion, IsDistinct}
 use Rattle.std.specs.Cmp.{IsEquivalence}
 use Rattle.std.specs.HashSet.{HashSet, IsFromIterResult, hash_set_len}
@@ -10,8 +10,10 @@ use Rattle.std.proofs.lemmas.List.{get_or-map, length-map}
 use Rattle.std.proofs.lemmas.Map.Made.{AllPairs-from_IsDistinct, IsDistinct-from_AllPairs, IsDistinct-from_count, distinct_count-from_IsDistinct, hash_set_len-from_list}
 use Rattle.std.proofs.lemmas.Slice.Eq.{bytes_eq-Decides}
 use Rattle.cup_core.specs.Engines.{Engine}
-use Rattle.command_words.specs.Cups.{AreDistinct, engine_of, program_texts}
+use Rattle.option_words.specs.Options.{value_at}
+use Rattle.command_words.specs.Engines.{AreDistinct, ArePrograms, engine_of, program_texts}
 use Rattle.command_words.specs.Matches.{IsProgram}
+use Rattle.command_words.proofs.GivenLemmas.{some_given, values_are}
 
 -- the texts that are lent
 abbrev pub lent : List (Bor (List ℕ)) → List (List ℕ)
@@ -49,6 +51,21 @@ as_many texts set h =
       λ a. eq-eqb _ _ (count ∙ distinct_count-from_IsDistinct laws texts ((distinct texts).1 (IsDistinct-from_AllPairs bytes_eq-Decides (lent texts) a))),
     )
 
+-- the text that was read is the first of the values that were given
+pub text_read : {found : Option (List (Option (List ℕ)))} {given : List (Option (List ℕ))} {value : Option (Bor (List ℕ))} {read : Bor (List ℕ)} (text : List ℕ) (rest : List (Option (List ℕ)))
+    → found ≡ Some given → MatchOption found ⊥ (λ g. g ≡ Some text ∷ rest) → value ≡ Some read → option_map (λ r. r.now) value ≡ value_at given 0 → read.now ≡ text
+text_read {value = value} {read = read} text rest is only here first = some_given value read text here (first ∙ ap (λ g. value_at g 0) (values_are is only))
+
 -- there are as many programs as texts
-pub engines_counted : (engines : List Engine) (texts : List (List ℕ)) (text : List ℕ) → engines ≡ map engine_of texts → texts ≡ program_texts text → length engines ≡ length (program_texts text)
-engines_counted engines texts text e t = ap length e ∙ length-map texts engine_of ∙ ap length t
+engines_counted : (engines : List Engine) (read text : List ℕ) → engines ≡ map engine_of (program_texts read) → read ≡ text → length engines ≡ length (program_texts text)
+engines_counted engines read text e t = ap length e ∙ (length-map (program_texts read) engine_of ∙ ap (λ r. length (program_texts r)) t)
+
+pub engines_some : {most : ℕ} (engines : List Engine) (read text : List ℕ) → engines ≡ map engine_of (program_texts read) → read ≡ text → ArePrograms most text → 2 ≤ length engines
+engines_some engines read text e t programs =
+    let count = engines_counted engines read text e t in
+    let some = programs.some in omega (arith, count, some)
+
+pub engines_few : {most : ℕ} (engines : List Engine) (read text : List ℕ) → engines ≡ map engine_of (program_texts read) → read ≡ text → ArePrograms most text → length engines ≤ most
+engines_few engines read text e t programs =
+    let count = engines_counted engines read text e t in
+    let few = programs.few in omega (arith, count, few)

@@ -1,6 +1,6 @@
 use Rattle.std.proofs.Common.{◌≡◌, map, take}
-use Rattle.command_words.specs.Cups.{engine_of}
-use Rattle.command_words.proofs.cups.programs_of.Given as goal
+use Rattle.command_words.specs.Engines.{engine_of}
+use Rattle.command_words.proofs.engines.programs_of.Given as goal
 
 -- the programs made so far are those of the texts passed
 abbrev pub invariant-loop-text : goal.invariant-loop-text

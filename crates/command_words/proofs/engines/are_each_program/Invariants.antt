@@ -1,6 +1,6 @@
 use Rattle.std.proofs.Common.{ℕ, List, All, Bor, take}
 use Rattle.command_words.specs.Matches.{IsProgram}
-use Rattle.command_words.proofs.cups.are_each_program.Given as goal
+use Rattle.command_words.proofs.engines.are_each_program.Given as goal
 
 -- the texts passed are programs
 abbrev pub invariant-loop-text : goal.invariant-loop-text
