@@ -2,3 +2,4 @@ mod Starts
 mod Steps
 mod Waves
 mod Runs
+mod EndTexts

@@ -116,35 +116,31 @@ as-long None (Some b) e = cc
 as-long (Some a) None e = cc
 as-long (Some a) (Some b) e = refl
 
-links-same : (t : Terms) (old new : Job) → IsSameGame old new → length (links_of new) ≡ length (links_of old)
-links-same t old new same =
+links-same : (old new : Job) → IsSameGame old new → length (links_of new) ≡ length (links_of old)
+links-same old new same =
     let white = as-long old.white new.white same.white in
     let black = as-long old.black new.black same.black in
     let one = length-append (option_to_list new.white) (option_to_list new.black) in
     let other = length-append (option_to_list old.white) (option_to_list old.black) in
     omega (arith, white, black, one, other)
 
-pub links-all : (t : Terms) (olds news : List Job) → AllZip (IsSettled t) olds news → length (all_links news) ≡ length (all_links olds)
-links-all t [] [] all = refl
-links-all t [] (new ∷ news) all = absurd all
-links-all t (old ∷ olds) [] all = absurd all
-links-all t (old ∷ olds) (new ∷ news) all =
-    let first = links-same t old new all.0.same in
-    let more = links-all t olds news all.1 in
+-- each game of one list is the same game as that of the other list at its place
+links-each : (R : Job → Job → Type 0) → ((old new : Job) → R old new → IsSameGame old new) → (olds news : List Job) → AllZip R olds news → length (all_links news) ≡ length (all_links olds)
+links-each R same [] [] all = refl
+links-each R same [] (new ∷ news) all = absurd all
+links-each R same (old ∷ olds) [] all = absurd all
+links-each R same (old ∷ olds) (new ∷ news) all =
+    let first = links-same old new (same old new all.0) in
+    let more = links-each R same olds news all.1 in
     let one = length-append (links_of new) (all_links news) in
     let other = length-append (links_of old) (all_links olds) in
     omega (arith, first, more, one, other)
 
+pub links-all : (t : Terms) (olds news : List Job) → AllZip (IsSettled t) olds news → length (all_links news) ≡ length (all_links olds)
+links-all t olds news all = links-each (IsSettled t) (λ old new s. s.same) olds news all
+
 links-done : (t : Terms) (olds news : List Job) → AllZip (IsDone t) olds news → length (all_links news) ≡ length (all_links olds)
-links-done t [] [] all = refl
-links-done t [] (new ∷ news) all = absurd all
-links-done t (old ∷ olds) [] all = absurd all
-links-done t (old ∷ olds) (new ∷ news) all =
-    let first = links-same t old new all.0.same in
-    let more = links-done t olds news all.1 in
-    let one = length-append (links_of new) (all_links news) in
-    let other = length-append (links_of old) (all_links olds) in
-    omega (arith, first, more, one, other)
+links-done t olds news all = links-each (IsDone t) (λ old new d. d.same) olds news all
 
 -- A wave
 

@@ -1,5 +1,6 @@
 pub mod Tournaments
 pub mod Texts
+pub mod Readback
 pub mod Games
 pub mod Links
 pub mod Waves

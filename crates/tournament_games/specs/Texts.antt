@@ -50,6 +50,10 @@ absence_text side = codes "forfeit " ++ (side_text side ++ codes " nostart")
 abbrev pub drawn : GameEnd
 drawn = record { winner = None; forfeited = false }
 
+-- a side won by the rules
+abbrev pub won_by : Colour → GameEnd
+won_by side = record { winner = Some side; forfeited = false }
+
 -- a side forfeited, and the other one won
 abbrev pub forfeited_by : Colour → GameEnd
 forfeited_by side = record { winner = Some (other_side side); forfeited = true }

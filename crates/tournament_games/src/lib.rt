@@ -4,9 +4,12 @@
 mod clocks;
 mod closing;
 mod job;
+mod laws;
 mod openings;
 mod outcome;
 mod playing;
+mod progress;
+mod readback;
 mod running;
 mod starting;
 mod telling;
@@ -15,6 +18,9 @@ mod tournament;
 mod wave;
 
 pub use clocks::{Clocks, StepClocks};
+pub use laws::ends_are_read_back;
 pub use openings::opening_of;
 pub use playing::play_tournament;
+pub use progress::Progress;
+pub use readback::end_of_text;
 pub use tournament::Tournament;

@@ -17,6 +17,7 @@ ghost use Rattle.tournament_games.specs.Waves.{
 };
 
 use crate::clocks::Clocks;
+use crate::progress::Progress;
 use crate::texts::tell_places;
 use crate::tournament::Tournament;
 use crate::wave::play_wave;
@@ -89,9 +90,15 @@ fn write_wave<R: Threads + Sync, P: Spawner, K: Sink, G: Game + Send + Drop, M: 
     }
 }
 
-/// Plays all games, of which so many were played before, wave after wave, notes them, and writes
-/// the lines of each wave as soon as it was played.
-fn write_games<R: Threads + Sync, P: Spawner, K: Sink, G: Game + Send + Drop, M: Clocks + Sync>(
+/// Plays all games, of which so many were played before, wave after wave, notes them, writes the
+/// lines of each wave as soon as it was played, and then shows how far the tournament is.
+fn write_games<
+    R: Threads + Sync,
+    P: Spawner,
+    K: Sink,
+    G: Game + Send + Drop,
+    M: Clocks + Progress + Sync,
+>(
     rt: &R,
     alloc: Global,
     tournament: &Tournament,
@@ -121,7 +128,10 @@ fn write_games<R: Threads + Sync, P: Spawner, K: Sink, G: Game + Send + Drop, M:
         match write_wave::<R, P, K, G, M>(
             rt, alloc, tournament, clocks, done, count, tally, output, spawner,
         ) {
-            Status::Done => done += u64::from(count),
+            Status::Done => {
+                done += u64::from(count);
+                clocks.show(tournament, tally);
+            }
             fault => return fault,
         }
     }
@@ -189,6 +199,7 @@ fn write_standings<K: Sink>(
 ///
 /// Only a tally is kept of the games of earlier waves, so that neither memory nor open programs
 /// grow with the number of games. Each program that was started is closed before the call returns.
+/// Behind each wave, once its lines were written, `Progress` shows how far the tournament is.
 ///
 /// `Done` says that the whole text was written. `WriteFault` says that a write has failed: the
 /// lines of earlier waves were written, and of those of the last wave, or of the standings, a front
@@ -199,7 +210,7 @@ pub fn play_tournament<
     P: Spawner,
     K: Sink,
     G: Game + Send + Drop,
-    M: Clocks + Sync,
+    M: Clocks + Progress + Sync,
 >(
     rt: &R,
     alloc: Global,

@@ -30,7 +30,7 @@ use std::alloc::{AllocError, Global};
 use tournament_core::{Fixture, GameEnd, Standing as Place};
 
 /// A game that neither side won.
-fn drawn() -> GameEnd
+pub(crate) fn drawn() -> GameEnd
     ensures { result ≡ drawn }
 {
     GameEnd {
@@ -40,7 +40,7 @@ fn drawn() -> GameEnd
 }
 
 /// A game that a side lost by forfeit.
-fn forfeited_by(side: Colour) -> GameEnd
+pub(crate) fn forfeited_by(side: Colour) -> GameEnd
     ensures { result ≡ forfeited_by side }
 {
     GameEnd {
