@@ -21,6 +21,8 @@ mod match_runner_tests;
 #[cfg(test)]
 mod opening_book_tests;
 #[cfg(test)]
+mod tournament_command_tests;
+#[cfg(test)]
 mod tournament_core_tests;
 #[cfg(test)]
 mod tournament_games_tests;

@@ -69,7 +69,7 @@ const RESUMED: &[u8] = b"game 7 1 2 Base;InProgress;Black[1];wS1\nverdict 7 1 2 
     b points 8 games 8 wins 0 draws 8 losses 0 forfeits 0\n";
 
 /// A link that will say this.
-fn link_of(alloc: Global, text: &[u8]) -> Result<MemLink, AllocError> {
+pub(crate) fn link_of(alloc: Global, text: &[u8]) -> Result<MemLink, AllocError> {
     let source = MemSource::new(
         Vec::from_slice(alloc, text)?,
         Vec::new(alloc),
@@ -92,7 +92,7 @@ fn links_of(alloc: Global, games: u32) -> Result<Vec<MemLink>, AllocError> {
 }
 
 /// The program of this name and no other words.
-fn program_of(alloc: Global, name: &str) -> Result<Program, AllocError> {
+pub(crate) fn program_of(alloc: Global, name: &str) -> Result<Program, AllocError> {
     let mut words = Vec::new(alloc);
     words.push(String::from_str(alloc, name)?)?;
     Ok(Program::new(String::from_str(alloc, name)?, words))

@@ -1,0 +1,5 @@
+mod Counts
+mod Openings
+mod Longs
+mod Gathering
+mod Begins

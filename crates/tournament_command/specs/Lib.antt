@@ -1,0 +1,4 @@
+pub mod Formats
+pub mod Intakes
+pub mod Reads
+pub mod Taking

@@ -1,0 +1,103 @@
+-- What a tournament reads, writes and plays, by the status with which it ends.
+use Rattle.std.specs.Prelude.{◌≡◌, ◌⊎◌, ℕ, ◌≤◌, List, [], ◌∷◌, ◌++◌, codes, decimal, length, Ok, Err}
+use Rattle.io_edge.specs.Outside.{Told}
+use Rattle.hive_model.specs.Lines.{Line, lines, whole_lines}
+use Rattle.line_feed.specs.SoFar.{WasRead}
+use Rattle.command_runs.specs.Answered.{Inquiry, IsUnanswered, TellsNone}
+use Rattle.command_runs.specs.Input.{IsAllRead, WereRead, WhereTold}
+use Rattle.command_runs.specs.declared.no_game.NoGame.{NoGame}
+use Rattle.command_runs.specs.declared.status.Status.{Status}
+use Rattle.cup_core.specs.Engines.{Engine}
+use Rattle.cup_command.specs.Cup.{Scene}
+use Rattle.tournament_games.specs.Waves.{TournamentRun}
+use Rattle.tournament_command.specs.declared.format.Format.{Format}
+use Rattle.tournament_command.specs.Formats.{terms_of}
+use Rattle.tournament_command.specs.Intakes.{Intake, intake, take_line}
+
+-- Input that tells no tournament
+
+-- why a line with this number is refused
+abbrev pub refusal : ℕ → List ℕ
+refusal number = codes "line " ++ decimal number
+
+-- These lines were read. Those before the last one tell this; the last one shows that the line with
+-- this number is refused.
+pub record IsRefused
+    (engines : ℕ) (f : Format) (input : List ℕ) (rest : Told) (front : List Line) (last : Line)
+    (i : Intake) (number : ℕ) : Type 0 where
+  pub were_read : WereRead input rest (front ++ last ∷ [])
+  pub good : intake engines f front ≡ Ok i
+  pub refused : take_line engines f i last ≡ Err number
+
+-- the input is bad, for this reason
+abbrev pub IsBad : ℕ → Format → List ℕ → Told → List ℕ → Type 0
+IsBad engines f input rest why =
+    (front : List Line) × (last : Line) × (i : Intake) × (number : ℕ)
+    × IsRefused engines f input rest front last i number
+    × (why ≡ refusal number)
+
+-- the bytes that have left the source are these, and none of their lines that end in LF is refused
+abbrev pub IsUndecided : ℕ → Format → List ℕ → Told → List ℕ → List ℕ → Type 0
+IsUndecided engines f input rest bytes left =
+    (i : Intake)
+    × WasRead input rest bytes left
+    × (intake engines f (whole_lines bytes) ≡ Ok i)
+
+-- of the lines that were read none before the last one is refused
+abbrev pub ReadsGood : ℕ → Format → List ℕ → Told → Type 0
+ReadsGood engines f input rest =
+    (front last : List Line) × (i : Intake)
+    × WereRead input rest (front ++ last)
+    × (intake engines f front ≡ Ok i)
+    × (length last ≤ 1)
+
+-- the lines of the input are to tell a tournament of so many engines
+abbrev pub about_tournament : ℕ → Format → Inquiry
+about_tournament engines f = record {
+  bad = IsBad engines f;
+  undecided = IsUndecided engines f;
+  begun = ReadsGood engines f;
+}
+
+-- The run
+
+-- all that such a run can change: what is left to be read, what was written, and what is told of
+-- the programs that it starts
+pub record ReadScene : Type 0 where
+  pub rest : Told
+  pub scene : Scene
+
+abbrev pub read_scene : Told → Scene → ReadScene
+read_scene rest scene = record { rest = rest; scene = scene }
+
+-- the lines of the input tell this, and it was read to its end
+pub record IsTold (engines : ℕ) (f : Format) (input : List ℕ) (rest : Told) (i : Intake)
+    : Type 0 where
+  pub tells : intake engines f (lines input) ≡ Ok i
+  pub over : IsAllRead input rest
+
+-- This was read, and the tournament was played from these openings, behind the games that were
+-- played before.
+pub record Begun
+    (engines : List Engine) (f : Format) (status : Status) (before after : ReadScene) (i : Intake)
+    : Type 0 where
+  pub told : WhereTold before.rest (λ input. IsTold (length engines) f input after.rest i)
+  pub played :
+      TournamentRun (terms_of engines f i.openings) i.ends status before.scene after.scene
+
+-- The input tells no tournament, for this reason, and nothing was begun: no program was started.
+-- Where the input is at fault, the line that says why was written, or a part of it.
+pub record NoneRead
+    (engines : ℕ) (f : Format) (status : Status) (before after : ReadScene) (none : NoGame)
+    : Type 0 where
+  pub shown :
+      WhereTold before.rest
+      (λ input. IsUnanswered (about_tournament engines f) none input after.rest)
+  pub told : TellsNone none status before.scene.written after.scene.written
+  pub still : after.scene.engines ≡ before.scene.engines
+
+-- what was read, written and played where a tournament of these engines ends with this status
+abbrev pub ReadTournamentRun : List Engine → Format → Status → ReadScene → ReadScene → Type 0
+ReadTournamentRun engines f status before after =
+    ((i : Intake) × Begun engines f status before after i)
+    ⊎ ((none : NoGame) × NoneRead (length engines) f status before after none)
