@@ -4,7 +4,7 @@ use libc::{STDERR_FILENO, isatty};
 use std::io::Eprint;
 
 /// Whether standard error is a terminal.
-fn is_terminal() -> bool {
+pub fn is_terminal() -> bool {
     isatty(STDERR_FILENO) == 1
 }
 

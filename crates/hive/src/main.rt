@@ -11,6 +11,7 @@ ghost use Rattle.hive.specs.Complaints.{complaint};
 
 mod engines;
 mod games;
+mod hall;
 mod machine_clock;
 mod marks;
 mod patience;
@@ -23,6 +24,7 @@ mod tests;
 
 use command_words::care_of;
 use games::are_counted;
+use hall::Hall;
 use hive_cli::{Status, run};
 use machine_clock::MachineClock;
 use programs::Programs;
@@ -93,6 +95,7 @@ where
     let mut input = Counted::new(rt.reader());
     let mut output = Counted::new(io::writer(rt));
     let mut clock = MachineClock::new(rt);
+    let hall = Hall::new(rt, rt.alloc());
     let counts_games = are_counted(words);
     let mut spawner = Programs::new(rt, rt.alloc(), care.limit, care.quiet, counts_games);
     let outcome = run(
@@ -103,6 +106,7 @@ where
         &mut output,
         &mut clock,
         &mut spawner,
+        &hall,
     );
     outcome.status
 }

@@ -1,5 +1,5 @@
 -- How a run ends, by what is asked for.
-use Rattle.std.proofs.Common.{◌≡◌, ◌+◌, ◌∙◌, ℕ, List, length, map, ap, sym, refl, subst, arith, Some, inl, inr, String, Global, Bool, true, false}
+use Rattle.std.proofs.Common.{◌≡◌, ◌+◌, ◌∙◌, ℕ, List, [], length, map, ap, sym, refl, subst, arith, Some, inl, inr, String, Global, Bool, true, false}
 use Rattle.io_edge.specs.Outside.{HasCause, Told, ToldLists}
 use Rattle.io_edge.specs.Starts.{Engines}
 use Rattle.hive_model.specs.declared.answers.Timed.{Timed}
@@ -8,14 +8,15 @@ use Rattle.hive_cli.specs.ServiceRun.{EndsAs}
 use Rattle.hive_cli.specs.Session.{session}
 use Rattle.hive_cli.specs.Replay.{replays}
 use Rattle.count_command.specs.Count.{CountRun}
-use Rattle.hive_cli.specs.Run.{RunOf, PlaysMatch, StartsAudited, UsesSpawner, World, audit_in, match_in, plan_of}
+use Rattle.hive_cli.specs.Run.{RunOf, PlaysMatch, PlaysTournament, StartsAudited, UsesSpawner, World, audit_in, format_of, match_in, plan_of, tournament_in}
 use Rattle.command_words.specs.Audits.{AreAuditWords}
 use Rattle.command_words.specs.Cups.{AreCupWords, AskForEngines, engine_of, program_texts}
 use Rattle.command_words.specs.Matches.{AreMatchWords, AskForPrograms, IsLevelOf, between_spaces}
+use Rattle.command_words.specs.Tournaments.{AreTournamentWords, AskForTournamentEngines}
 use Rattle.cup_core.specs.Engines.{Engine}
 use Rattle.cup_games.specs.Played.{IsDepth}
 use Rattle.match_core.specs.declared.answers.Level.{Level}
-use Rattle.std.specs.Prelude.{Option, None}
+use Rattle.std.specs.Prelude.{Option, None, Ok}
 use Rattle.std.proofs.lemmas.Option.{same_Some}
 use Rattle.command_words.specs.Words.{Words}
 use Rattle.cup_command.proofs.Early.{early-none}
@@ -31,7 +32,7 @@ use Rattle.command_runs.proofs.WrittenLemmas.{ends_so}
 use Rattle.command_runs.specs.declared.status.Status.{Status}
 use Rattle.command_runs.specs.declared.status.Status.TheVariants.{Usage, ReadFault, SpawnFault, BadInput, Memory}
 use Rattle.command_words.specs.declared.asked.Asked.{Asked}
-use Rattle.command_words.specs.declared.asked.Asked.TheVariants.{Session, Replay, Count, Grow, Certify, Check, Solve, Verify, Match, Cup, Book, Migrate, Audit}
+use Rattle.command_words.specs.declared.asked.Asked.TheVariants.{Session, Replay, Count, Grow, Certify, Check, Solve, Verify, Match, Cup, Book, Migrate, Audit, Tournament}
 use Rattle.audit_command.specs.Audit.{AuditRun}
 use Rattle.audit_command.proofs.Closing.{none_taken}
 use Rattle.hive_model.specs.declared.pieces.GameType.{GameType}
@@ -41,6 +42,12 @@ use Rattle.certificate_commands.specs.Verdicts.{CheckRun}
 use Rattle.certificate_commands.specs.Migrating.{MigrateRun}
 use Rattle.grow_command.specs.Runs.{GrowRun}
 use Rattle.win_commands.specs.Runs.{SolveRun, VerifyRun}
+use Rattle.tournament_command.specs.declared.format.Format.{Format}
+use Rattle.tournament_command.specs.Formats.{terms_of}
+use Rattle.tournament_command.specs.Intakes.{intake, nothing_read, take_lines}
+use Rattle.tournament_command.specs.Reads.{ReadScene as TournamentScene, ReadTournamentRun}
+use Rattle.command_runs.proofs.ReadLemmas.{none_were_read}
+use Rattle.tournament_games.specs.Waves.{TournamentRun}
 use Rattle.book_command.proofs.StartLaws.{unread}
 use Rattle.command_runs.proofs.OneGameLemmas.{none_read}
 use Rattle.hive_cli.proofs.Progress.{no_memory}
@@ -56,6 +63,10 @@ read_usage : (setup : Setup) (white black : List (List ℕ)) (status : Status) (
 read_usage setup white black status before after (inl (game, begun)) e =
     subst (λ s. MatchRun (setup_from (typed setup game.game_type) game.moves) s before.scene after.scene) e begun.played
 read_usage setup white black status before after (inr (none, read)) e = none_usage none status before.scene.written after.scene.written read.told e
+
+tournament_usage : (engines : List Engine) (format : Format) (status : Status) (before after : TournamentScene) → ReadTournamentRun engines format status before after → status ≡ Usage → ⊥
+tournament_usage engines format status before after (inl (i, begun)) e = subst (λ s. TournamentRun (terms_of engines format i.openings) i.ends s before.scene after.scene) e begun.played
+tournament_usage engines format status before after (inr (none, read)) e = none_usage none status before.scene.written after.scene.written read.told e
 
 -- a run that is asked for is no faulty command line
 pub never_usage : (words : List (String Global)) (asked : Asked) (status : Status) (before after : World) → RunOf words asked status before after → status ≡ Usage → ⊥
@@ -77,8 +88,10 @@ never_usage words (Cup setup) status before after run e = let (engines, asked, p
     subst (λ s. CupRun engines setup s (cup_scene before.scene.sides.written before.engines) (cup_scene after.scene.sides.written after.engines)) e played
 never_usage words (Audit games seed plies game_type stop patient) status before after run e =
     subst (λ s. AuditRun (plan_of games seed plies game_type stop patient) s (audit_in before) (audit_in after)) e run.audited
+never_usage words (Tournament setup rounds gauntlet at_once resume) status before after run e = let (engines, asked, played) = run.played in
+    tournament_usage engines (format_of setup rounds gauntlet at_once resume) status (tournament_in before) (tournament_in after) played e
 
--- no run but a match, a cup and an audit starts a program
+-- no run but a match, a cup, a tournament and an audit starts a program
 pub never_spawns : (words : List (String Global)) (asked : Asked) (status : Status) (before after : World) → ¬ UsesSpawner asked → RunOf words asked status before after → status ≡ SpawnFault → ⊥
 never_spawns words Session status before after alone run e = subst (λ s. EndsAs session s before.scene after.scene) e run.ends
 never_spawns words (Replay r) status before after alone (run, time) e = subst (λ s. EndsAs (replays r) s before.scene after.scene) e run.ends
@@ -93,6 +106,7 @@ never_spawns words Migrate status before after alone (run, time) e = subst (λ s
 never_spawns words (Match setup from) status before after alone run e = absurd (alone tt)
 never_spawns words (Cup setup) status before after alone run e = absurd (alone tt)
 never_spawns words (Audit games seed plies game_type stop patient) status before after alone run e = absurd (alone tt)
+never_spawns words (Tournament setup rounds gauntlet at_once resume) status before after alone run e = absurd (alone tt)
 
 no_time : (t : Times) → TakesNoTime t t
 no_time t = record { last = refl; readings = refl; timed = refl }
@@ -191,6 +205,35 @@ starved_cup words setup w asked = let (engines, asks) = asks_engines words setup
   untimed = no_time w.scene.times;
 }
 
+-- the words of a tournament ask for the engines that its option gives
+asks_tournament_engines : (words : List (String Global)) (setup : Setup) (rounds : ℕ) (gauntlet : Bool) (at_once : ℕ) (resume : Bool) → AreTournamentWords words setup rounds gauntlet at_once resume → (engines : List Engine) × AskForTournamentEngines words engines
+asks_tournament_engines words setup rounds gauntlet at_once resume h = (
+  map engine_of (program_texts h.options.engines),
+  record { options = h.options; engines_are = refl },
+)
+
+nothing_tells : (engines : ℕ) (f : Format) → intake engines f [] ≡ Ok nothing_read
+unfolding take_lines
+nothing_tells engines f = refl
+
+-- a tournament that wanted memory before the input was read
+pub starved_tournament : (words : List (String Global)) (setup : Setup) (rounds : ℕ) (gauntlet : Bool) (at_once : ℕ) (resume : Bool) (w : TournamentScene) → AreTournamentWords words setup rounds gauntlet at_once resume
+    → PlaysTournament words (format_of setup rounds gauntlet at_once resume) Memory w w
+starved_tournament words setup rounds gauntlet at_once resume w h = let (engines, asks) = asks_tournament_engines words setup rounds gauntlet at_once resume h in (
+  engines,
+  asks,
+  inr (NoMemory, record { shown = λ input told. ([], [], nothing_read, none_were_read input w.rest told, nothing_tells (length engines) (format_of setup rounds gauntlet at_once resume), omega arith); told = (refl, refl); still = refl }),
+)
+
+-- a tournament that wanted memory before anything was done
+starved_contest : (words : List (String Global)) (setup : Setup) (rounds : ℕ) (gauntlet : Bool) (at_once : ℕ) (resume : Bool) (w : World) → AreTournamentWords words setup rounds gauntlet at_once resume
+    → RunOf words (Tournament setup rounds gauntlet at_once resume) Memory w w
+starved_contest words setup rounds gauntlet at_once resume w h = record {
+  played = starved_tournament words setup rounds gauntlet at_once resume (tournament_in w) h;
+  closed = none_open w.engines;
+  untimed = no_time w.scene.times;
+}
+
 -- where memory was wanting before the program of an audit was started, it was not
 pub starved_audited : (words : List (String Global)) (g s n : ℕ) (t : Option GameType) (r p : Bool) (engines : Engines) → AreAuditWords words g s n t r p → StartsAudited words Memory engines engines
 starved_audited words g s n t r p engines h = (between_spaces h.options.engine, (h.options, h.give, refl), inr refl)
@@ -219,6 +262,7 @@ starved_here words Migrate w h = (refl, no_time w.scene.times)
 starved_here words (Match setup from) w h = starved_match words setup from w h
 starved_here words (Cup setup) w h = starved_cup words setup w h
 starved_here words (Audit g s n t r p) w h = starved_audit words g s n t r p w h
+starved_here words (Tournament setup rounds gauntlet at_once resume) w h = starved_contest words setup rounds gauntlet at_once resume w h
 
 -- memory was wanting before anything was done
 pub starved : (words : List (String Global)) (asked : Asked) (w : World) (timed : List Timed) → Words words asked → timed ≡ w.scene.times.timed
@@ -229,19 +273,20 @@ starved words asked w timed h same = subst (λ (t : List Timed). RunOf words ask
 pub run_of : (words : List (String Global)) (did asked : Asked) (status : Status) (before after : World) → RunOf words did status before after → Some did ≡ Some asked → RunOf words asked status before after
 run_of words did asked status before after run e = subst (λ a. RunOf words a status before after) (same_Some _ _ e) run
 
--- what is no match, cup or audit starts no program
+-- what is no match, cup, tournament or audit starts no program
 pub is_alone : (asked : Asked) → ((setup : Setup) (from : Bool) → asked ≡ Match setup from → ⊥) → ((setup : Setup) → asked ≡ Cup setup → ⊥)
-    → ((games seed plies : ℕ) (game_type : Option GameType) (stop patient : Bool) → asked ≡ Audit games seed plies game_type stop patient → ⊥) → ¬ UsesSpawner asked
-is_alone (Match setup from) no_match no_cup no_audit uses = no_match setup from refl
-is_alone (Cup setup) no_match no_cup no_audit uses = no_cup setup refl
-is_alone Session no_match no_cup no_audit uses = uses
-is_alone (Replay r) no_match no_cup no_audit uses = uses
-is_alone (Count plies) no_match no_cup no_audit uses = uses
-is_alone (Grow seed plies) no_match no_cup no_audit uses = uses
-is_alone (Certify depth) no_match no_cup no_audit uses = uses
-is_alone Check no_match no_cup no_audit uses = uses
-is_alone (Solve plies) no_match no_cup no_audit uses = uses
-is_alone Verify no_match no_cup no_audit uses = uses
-is_alone Book no_match no_cup no_audit uses = uses
-is_alone Migrate no_match no_cup no_audit uses = uses
-is_alone (Audit games seed plies game_type stop patient) no_match no_cup no_audit uses = no_audit games seed plies game_type stop patient refl
+    → ((games seed plies : ℕ) (game_type : Option GameType) (stop patient : Bool) → asked ≡ Audit games seed plies game_type stop patient → ⊥) → ((setup : Setup) (rounds : ℕ) (gauntlet : Bool) (at_once : ℕ) (resume : Bool) → asked ≡ Tournament setup rounds gauntlet at_once resume → ⊥) → ¬ UsesSpawner asked
+is_alone (Match setup from) no_match no_cup no_audit no_tournament uses = no_match setup from refl
+is_alone (Cup setup) no_match no_cup no_audit no_tournament uses = no_cup setup refl
+is_alone Session no_match no_cup no_audit no_tournament uses = uses
+is_alone (Replay r) no_match no_cup no_audit no_tournament uses = uses
+is_alone (Count plies) no_match no_cup no_audit no_tournament uses = uses
+is_alone (Grow seed plies) no_match no_cup no_audit no_tournament uses = uses
+is_alone (Certify depth) no_match no_cup no_audit no_tournament uses = uses
+is_alone Check no_match no_cup no_audit no_tournament uses = uses
+is_alone (Solve plies) no_match no_cup no_audit no_tournament uses = uses
+is_alone Verify no_match no_cup no_audit no_tournament uses = uses
+is_alone Book no_match no_cup no_audit no_tournament uses = uses
+is_alone Migrate no_match no_cup no_audit no_tournament uses = uses
+is_alone (Audit games seed plies game_type stop patient) no_match no_cup no_audit no_tournament uses = no_audit games seed plies game_type stop patient refl
+is_alone (Tournament setup rounds gauntlet at_once resume) no_match no_cup no_audit no_tournament uses = no_tournament setup rounds gauntlet at_once resume refl

@@ -16,8 +16,9 @@ use Rattle.command_words.specs.Words.{Words}
 use Rattle.command_words.specs.Audits.{AskForAudited}
 use Rattle.command_words.specs.Cups.{AskForEngines}
 use Rattle.command_words.specs.Matches.{AskForPrograms}
+use Rattle.command_words.specs.Tournaments.{AskForTournamentEngines}
 use Rattle.command_words.specs.declared.asked.Asked.{Asked}
-use Rattle.command_words.specs.declared.asked.Asked.TheVariants.{Session, Replay, Count, Grow, Certify, Check, Solve, Verify, Match, Cup, Book, Migrate, Audit}
+use Rattle.command_words.specs.declared.asked.Asked.TheVariants.{Session, Replay, Count, Grow, Certify, Check, Solve, Verify, Match, Cup, Book, Migrate, Audit, Tournament}
 use Rattle.cup_command.specs.Cup.{CupRun, Scene as CupScene, scene as cup_scene}
 use Rattle.cup_core.specs.Engines.{Engine}
 use Rattle.grow_command.specs.Runs.{GrowRun}
@@ -31,6 +32,8 @@ use Rattle.match_core.specs.Setups.{setup_plain}
 use Rattle.hive_cli.specs.Session.{SessionRun}
 use Rattle.hive_cli.specs.Replay.{ReplayRun}
 use Rattle.count_command.specs.Count.{CountRun}
+use Rattle.tournament_command.specs.declared.format.Format.{Format}
+use Rattle.tournament_command.specs.Reads.{ReadScene as TournamentScene, ReadTournamentRun, read_scene as tournament_scene}
 use Rattle.hive_cli.specs.ServiceRun.{Scene}
 
 -- all that a run can change
@@ -115,6 +118,37 @@ pub record PlayedCup (words : List (String Global)) (setup : Setup) (status : St
   pub unread : after.scene.sides.rest ≡ before.scene.sides.rest
   pub untimed : Untimed before after
 
+-- how a tournament is asked for
+abbrev pub format_of : Setup → ℕ → Bool → ℕ → Bool → Format
+format_of setup rounds gauntlet at_once resume = record {
+  setup = setup;
+  rounds = rounds;
+  gauntlet = gauntlet;
+  at_once = at_once;
+  resume = resume;
+}
+
+-- what a tournament reads, writes and starts programs by
+abbrev pub tournament_in : World → TournamentScene
+tournament_in w =
+    tournament_scene w.scene.sides.rest (cup_scene w.scene.sides.written w.engines)
+
+-- a tournament of the engines that the words ask for was read and played, or there was none, and it
+-- ended with this status
+abbrev pub PlaysTournament : List (String Global) → Format → Status → TournamentScene
+    → TournamentScene → Type 0
+PlaysTournament words format status before after =
+    (engines : List Engine) × AskForTournamentEngines words engines
+    × ReadTournamentRun engines format status before after
+
+-- The tournament that the words ask for was played. No search was answered, and the clock of the
+-- run was left alone: each game has one of its own.
+pub record PlayedTournament (words : List (String Global)) (format : Format) (status : Status)
+    (before after : World) : Type 0 where
+  pub played : PlaysTournament words format status (tournament_in before) (tournament_in after)
+  pub closed : NoneIsOpen before.engines after.engines
+  pub untimed : Untimed before after
+
 -- what an audit is made by
 abbrev pub plan_of : ℕ → ℕ → ℕ → Option GameType → Bool → Bool → Plan
 plan_of games seed plies game_type stop patient = record {
@@ -172,6 +206,8 @@ RunOf words Migrate status before after =
     MigrateRun status before.scene.sides after.scene.sides × Untimed before after
 RunOf words (Audit games seed plies game_type stop patient) status before after =
     MadeAudit words (plan_of games seed plies game_type stop patient) status before after
+RunOf words (Tournament setup rounds gauntlet at_once resume) status before after =
+    PlayedTournament words (format_of setup rounds gauntlet at_once resume) status before after
 
 -- a run that is asked for this may read the clock: that of a session, for its searches, and a match
 abbrev pub UsesClock : Asked → Type 0
@@ -179,12 +215,19 @@ UsesClock Session = Unit {0}
 UsesClock (Match setup from) = Unit {0}
 UsesClock _ = ⊥
 
--- a run that is asked for this may start programs: a match does, a cup, and an audit
+-- a run that is asked for this may start programs: a match does, a cup, a tournament, and an audit
 abbrev pub UsesSpawner : Asked → Type 0
 UsesSpawner (Match setup from) = Unit {0}
 UsesSpawner (Cup setup) = Unit {0}
 UsesSpawner (Audit games seed plies game_type stop patient) = Unit {0}
+UsesSpawner (Tournament setup rounds gauntlet at_once resume) = Unit {0}
 UsesSpawner _ = ⊥
+
+-- a run that is asked for this goes on where a program cannot be started: a tournament, in which
+-- that program forfeits its game
+abbrev pub GoesOnUnstarted : Asked → Type 0
+GoesOnUnstarted (Tournament setup rounds gauntlet at_once resume) = Unit {0}
+GoesOnUnstarted _ = ⊥
 
 -- whatever the words ask for, this is not so
 abbrev pub Never : List (String Global) → (Asked → Type 0) → Type 0

@@ -3,6 +3,7 @@
 #![tactic(auto)]
 
 mod answers;
+mod contests;
 mod laws;
 mod outcome;
 mod replays;

@@ -3,24 +3,12 @@ ghost use Rattle.std.specs.Prelude.{◌≡◌, ◌⊎◌, [], map, string_bytes}
 ghost use Rattle.io_edge.specs.Outside.{HasCause};
 ghost use Rattle.io_edge.specs.Starts.{Engines};
 ghost use Rattle.command_words.specs.Words.{AreOfNoCommand, IsInRange, TakeOption, Words};
-ghost use Rattle.command_words.specs.Audits.{AreAuditWords};
-ghost use Rattle.command_words.specs.Cups.{AreCupWords};
-ghost use Rattle.command_words.specs.Matches.{AreMatchWords};
-ghost use Rattle.audit_core.specs.Keeps.{IsPlan};
-ghost use Rattle.audit_command.specs.Audit.{AuditRun, EndsAudit, scene as audit_scene};
-ghost use Rattle.cup_command.specs.Cup.{scene as cup_scene};
-ghost use Rattle.match_command.specs.Ends.{EndsRun};
-ghost use Rattle.match_command.specs.Match.{means, scene as match_scene};
-ghost use Rattle.match_command.specs.Reads.{read_scene};
-ghost use Rattle.match_core.specs.Keeps.{IsSetup};
 ghost use Rattle.command_runs.specs.Runs.{RunsAs, side_of};
 ghost use Rattle.uhp_session.specs.Searches.{times};
 ghost use Rattle.hive_cli.specs.Run.{
+  GoesOnUnstarted,
   Never,
-  PlaysEngines,
-  PlaysMatch,
   RunOf,
-  StartsAudited,
   UsesClock,
   UsesSpawner,
   WithEngines,
@@ -29,26 +17,24 @@ ghost use Rattle.hive_cli.specs.Run.{
 ghost use Rattle.hive_cli.specs.ServiceRun.{OverTime, scene};
 ghost use Rattle.command_words.specs.declared.asked.Asked.{Asked};
 
+use crate::contests::{audited, contested, cupped, matched};
 use crate::outcome::Outcome;
 use crate::replays::serve_replay;
 use crate::sessions::serve_session;
-use audit_command::audit_engine;
 use audit_core::Plan;
 use book_command::book;
 use certificate_commands::{certify, check, migrate};
 use command_runs::Status;
-use command_words::{Asked, asked_of, audited_of, engines_of, programs_of};
+use command_words::{Asked, asked_of};
 use count_command::count;
-use cup_command::play_cup;
-use cup_games::FreeCupGate;
 use fast_game::FastGame;
 use grow_command::grow;
 use hive_model::{Game, TimedList};
 use io_edge::{Clock, Sink, Source, Spawner};
-use match_command::{play_match, play_read_match};
-use match_core::Setup;
 use std::alloc::Global;
 use std::thread::Threads;
+use tournament_command::Format;
+use tournament_games::{Clocks, Progress};
 use win_commands::{solve, verify};
 
 /// The game that the program plays on.
@@ -89,14 +75,23 @@ type Played = FastGame;
 /// is `Done` once one line was written, and else `BadInput`, as `count` is.
 ///
 /// The other commands are those of `grow_command`, `certificate_commands`, `win_commands`,
-/// `match_command`, `cup_command` and `audit_command`, and do what is said there. With `--from 1` a
-/// match reads the game that it begins with, as `count` reads its game, before it starts a program;
-/// without it a match leaves the input alone. Where the starter tells what was started, the
-/// programs of a match, of a cup and of an audit are those that its words name.
+/// `match_command`, `cup_command`, `tournament_command` and `audit_command`, and do what is said
+/// there. With `--from 1` a match reads the game that it begins with, as `count` reads its game,
+/// before it starts a program; without it a match leaves the input alone. Where the starter tells
+/// what was started, the programs of a match, of a cup, of a tournament and of an audit are those
+/// that its words name. A tournament shows how far it is in its hall, which also has a clock for
+/// each of its games.
 ///
 /// Every other list of words is `Usage`; nothing is read or written. Where its first word is that
 /// of a command that takes an option, it is `Memory` where memory runs out before that is known.
-pub fn run<R: Threads + Sync, S: Source, K: Sink, C: Clock, P: Spawner>(
+pub fn run<
+    R: Threads + Sync,
+    S: Source,
+    K: Sink,
+    C: Clock,
+    P: Spawner,
+    H: Clocks + Progress + Sync,
+>(
     rt: &R,
     alloc: Global,
     words: &[String],
@@ -104,6 +99,7 @@ pub fn run<R: Threads + Sync, S: Source, K: Sink, C: Clock, P: Spawner>(
     output: &mut K,
     clock: &mut C,
     spawner: &mut P,
+    hall: &H,
 ) -> Outcome
     ensures usage { result.status ≡ Status.Usage → AreOfNoCommand words.now }
     ensures refused { AreOfNoCommand words.now → (result.status ≡ Status.Usage)
@@ -122,15 +118,16 @@ pub fn run<R: Threads + Sync, S: Source, K: Sink, C: Clock, P: Spawner>(
         (S.read_faults input.new) }
     ensures writes { HasCause (result.status ≡ Status.WriteFault) (K.write_faults output.old)
         (K.write_faults output.new) }
-    ensures starts { HasCause (result.status ≡ Status.SpawnFault)
+    ensures starts { Never words.now GoesOnUnstarted → HasCause
+        (result.status ≡ Status.SpawnFault)
         (P.engines spawner.old).start_faults (P.engines spawner.new).start_faults }
     ensures clock { Never words.now UsesClock → clock.new ≡ clock.old }
     ensures spawner { Never words.now UsesSpawner → spawner.new ≡ spawner.old }
 {
     let timed = TimedList::new(alloc);
     match asked_of(alloc, words) {
-        Ok(Some(asked)) => perform::<R, S, K, C, P, Played>(
-            rt, alloc, words, asked, input, output, clock, spawner, timed,
+        Ok(Some(asked)) => perform::<R, S, K, C, P, H, Played>(
+            rt, alloc, words, asked, input, output, clock, spawner, hall, timed,
         ),
         Ok(None) => Outcome {
             status: Status::Usage,
@@ -143,100 +140,16 @@ pub fn run<R: Threads + Sync, S: Source, K: Sink, C: Clock, P: Spawner>(
     }
 }
 
-/// Plays the match that the words ask for, by this setup, from the opening or from the game of the
-/// input.
-fn matched<S: Source, K: Sink, C: Clock, P: Spawner, G: Game + Drop>(
-    alloc: Global,
-    words: &[String],
-    setup: Setup,
-    from: bool,
-    input: &mut S,
-    output: &mut K,
-    clock: &mut C,
-    spawner: &mut P,
-) -> Status
-    requires words { AreMatchWords words.now setup from }
-    requires setup { IsSetup setup }
-    ensures run { PlaysMatch words.now setup from result
-        (read_scene (S.rest input.old) (match_scene (K.written output.old)
-        (means (C.last clock.old) (C.readings clock.old) (P.engines spawner.old))))
-        (read_scene (S.rest input.new) (match_scene (K.written output.new)
-        (means (C.last clock.new) (C.readings clock.new) (P.engines spawner.new)))) }
-    ensures ends { EndsRun result (K.write_faults output.old) (K.write_faults output.new)
-        (P.engines spawner.old) (P.engines spawner.new) }
-    ensures reads { HasCause (result ≡ Status.ReadFault) (S.read_faults input.old)
-        (S.read_faults input.new) }
-{
-    let Ok(programs) = programs_of(alloc, words) else {
-        return Status::Memory;
-    };
-    let white = programs.white.as_slice();
-    let black = programs.black.as_slice();
-    if from {
-        play_read_match::<S, P, K, C, G>(alloc, white, black, setup, input, output, clock, spawner)
-    } else {
-        play_match::<P, K, C, G>(alloc, white, black, setup, output, clock, spawner)
-    }
-}
-
-/// Plays the cup that the words ask for, each game by this setup.
-fn cupped<R: Threads + Sync, K: Sink, P: Spawner, G: Game + Send + Drop>(
-    rt: &R,
-    alloc: Global,
-    words: &[String],
-    setup: Setup,
-    output: &mut K,
-    spawner: &mut P,
-) -> Status
-    requires words { AreCupWords words.now setup }
-    requires setup { IsSetup setup }
-    ensures run { PlaysEngines words.now setup result
-        (cup_scene (K.written output.old) (P.engines spawner.old))
-        (cup_scene (K.written output.new) (P.engines spawner.new)) }
-    ensures ends { EndsRun result (K.write_faults output.old) (K.write_faults output.new)
-        (P.engines spawner.old) (P.engines spawner.new) }
-{
-    let Ok(engines) = engines_of(alloc, words) else {
-        return Status::Memory;
-    };
-    play_cup::<R, P, K, G, FreeCupGate>(
-        rt,
-        alloc,
-        engines.as_slice(),
-        setup,
-        output,
-        spawner,
-        &FreeCupGate,
-    )
-}
-
-/// Audits the program that the words name, by this plan.
-fn audited<K: Sink, P: Spawner, G: Game + Drop>(
-    alloc: Global,
-    words: &[String],
-    plan: Plan,
-    output: &mut K,
-    spawner: &mut P,
-) -> Status
-    requires words { AreAuditWords words.now plan.games plan.seed plan.plies plan.game_type
-        plan.stop plan.patient }
-    requires plan { IsPlan plan }
-    ensures run { AuditRun plan result
-        (audit_scene (K.written output.old) (P.engines spawner.old))
-        (audit_scene (K.written output.new) (P.engines spawner.new)) }
-    ensures program { StartsAudited words.now result (P.engines spawner.old)
-        (P.engines spawner.new) }
-    ensures ends { EndsAudit result (K.write_faults output.old) (K.write_faults output.new)
-        (P.engines spawner.old) (P.engines spawner.new) }
-{
-    let Ok(program) = audited_of(alloc, words) else {
-        return Status::Memory;
-    };
-    audit_engine::<P, K, G>(alloc, program.as_slice(), plan, output, spawner)
-}
-
 /// Does what the words ask for.
-fn perform<R: Threads + Sync, S: Source, K: Sink, C: Clock, P: Spawner, G: Game + Send + Drop>(
+fn perform<
+    R: Threads + Sync,
+    S: Source,
+    K: Sink,
+    C: Clock,
+    P: Spawner,
+    H: Clocks + Progress + Sync,
+    G: Game + Send + Drop,
+>(
     rt: &R,
     alloc: Global,
     words: &[String],
@@ -245,6 +158,7 @@ fn perform<R: Threads + Sync, S: Source, K: Sink, C: Clock, P: Spawner, G: Game 
     output: &mut K,
     clock: &mut C,
     spawner: &mut P,
+    hall: &H,
     timed: TimedList,
 ) -> Outcome
     requires asked { Words words.now asked }
@@ -256,7 +170,7 @@ fn perform<R: Threads + Sync, S: Source, K: Sink, C: Clock, P: Spawner, G: Game 
         (times (C.last clock.new) (C.readings clock.new) result.timed)) result.status
         (side_of S.rest S.read_faults input.old) (side_of K.written K.write_faults output.old)
         (side_of S.rest S.read_faults input.new) (side_of K.written K.write_faults output.new) }
-    ensures starts { HasCause (result.status ≡ Status.SpawnFault)
+    ensures starts { ¬ GoesOnUnstarted asked → HasCause (result.status ≡ Status.SpawnFault)
         (P.engines spawner.old).start_faults (P.engines spawner.new).start_faults }
     ensures clock { ¬ UsesClock asked → clock.new ≡ clock.old }
     ensures spawner { ¬ UsesSpawner asked → spawner.new ≡ spawner.old }
@@ -293,13 +207,34 @@ fn perform<R: Threads + Sync, S: Source, K: Sink, C: Clock, P: Spawner, G: Game 
                 timed,
             }
         }
+        Asked::Tournament {
+            setup,
+            rounds,
+            gauntlet,
+            at_once,
+            resume,
+        } => {
+            let format = Format {
+                setup,
+                rounds,
+                gauntlet,
+                at_once,
+                resume,
+            };
+            Outcome {
+                status: contested::<R, S, K, P, H, G>(
+                    rt, alloc, words, format, input, output, spawner, hall,
+                ),
+                timed,
+            }
+        }
         other => {
             perform_alone::<R, S, K, C, G>(rt, alloc, words, other, input, output, clock, timed)
         }
     }
 }
 
-/// Does what is asked for, if it is no match, cup or audit.
+/// Does what is asked for, if it is no match, cup, tournament or audit.
 fn perform_alone<R: Threads + Sync, S: Source, K: Sink, C: Clock, G: Game + Send + Drop>(
     rt: &R,
     alloc: Global,
@@ -334,7 +269,8 @@ fn perform_alone<R: Threads + Sync, S: Source, K: Sink, C: Clock, G: Game + Send
         Asked::Verify => verify::<S, K, G>(alloc, input, output),
         Asked::Book => book::<S, K, G>(alloc, input, output),
         Asked::Migrate => migrate::<S, K, G>(alloc, input, output),
-        Asked::Match { .. } | Asked::Cup(_) | Asked::Audit { .. } => unreachable!(),
+        Asked::Match { .. } | Asked::Cup(_) | Asked::Tournament { .. } | Asked::Audit { .. } =>
+            unreachable!(),
     };
     Outcome { status, timed }
 }

@@ -23,6 +23,7 @@ use std::process::Abort;
 use std::sync::atomic::{AtomicU64, Ordering};
 use std::test::Fail;
 use std::thread::Threads;
+use tournament_games::StepClocks;
 use turns::{CountedSink, TurnSource};
 
 const GREETING: &str = "id HiveReferee 1.0\nMosquito;Ladybug;Pillbug\nok\n";
@@ -80,6 +81,7 @@ fn outcome_of<R: Threads + Sync, S: Source, K: Sink>(
         output,
         &mut clock,
         &mut spawner,
+        &StepClocks { start: 0, step: 1 },
     ))
 }
 

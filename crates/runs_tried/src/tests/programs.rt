@@ -5,6 +5,7 @@ use io_edge::{Clock, MemLink, MemSink, MemSource, MemSpawner, StepClock};
 use std::alloc::{AllocError, Global};
 use std::test::Fail;
 use std::thread::Threads;
+use tournament_games::StepClocks;
 
 /// A link that will say this.
 fn link_of(alloc: Global, text: &[u8]) -> Result<MemLink, AllocError> {
@@ -78,6 +79,7 @@ pub(crate) fn run_over_input<R: Threads + Sync, C: Clock>(
         &mut output,
         clock,
         &mut spawner,
+        &StepClocks { start: 0, step: 1 },
     );
     Ok(Played {
         status: outcome.status,

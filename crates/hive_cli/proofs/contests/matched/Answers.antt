@@ -5,7 +5,7 @@ use Rattle.match_core.specs.Setups.{setup_plain}
 use Rattle.match_command.specs.Match.{means, scene as match_scene}
 use Rattle.match_command.specs.Reads.{read_scene}
 use Rattle.hive_cli.proofs.RunLemmas.{plain_reads, plays_plain, plays_read, starved_plays}
-use Rattle.hive_cli.proofs.start.matched.Goals as goal
+use Rattle.hive_cli.proofs.contests.matched.Goals as goal
 
 pub returns-in_default-clause-run : goal.returns-in_default-clause-run
 returns-in_default-clause-run g c =

@@ -1,6 +1,6 @@
 -- An audit that wants memory before it begins starts no program.
 use Rattle.hive_cli.proofs.RunLemmas.{starved_audited}
-use Rattle.hive_cli.proofs.start.audited.Goals as goal
+use Rattle.hive_cli.proofs.contests.audited.Goals as goal
 
 pub returns-in_default-clause-program : goal.returns-in_default-clause-program
 returns-in_default-clause-program g c =

@@ -2,7 +2,7 @@
 use Rattle.std.proofs.Common.{refl}
 use Rattle.cup_command.proofs.Early.{early-none}
 use Rattle.hive_cli.proofs.RunLemmas.{asks_engines, cup_depth}
-use Rattle.hive_cli.proofs.start.cupped.Goals as goal
+use Rattle.hive_cli.proofs.contests.cupped.Goals as goal
 
 pub play_cup-requires-clause-depth : goal.play_cup-requires-clause-depth
 play_cup-requires-clause-depth g c κs within = cup_depth c.args.words.now c.args.setup c.requires.words

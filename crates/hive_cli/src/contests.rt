@@ -1,0 +1,164 @@
+//! What starts programs: a match, a cup, a tournament and an audit.
+ghost use Rattle.std.specs.Prelude.{◌≡◌};
+ghost use Rattle.io_edge.specs.Outside.{HasCause};
+ghost use Rattle.command_words.specs.Audits.{AreAuditWords};
+ghost use Rattle.command_words.specs.Cups.{AreCupWords};
+ghost use Rattle.command_words.specs.Matches.{AreMatchWords};
+ghost use Rattle.command_words.specs.Tournaments.{AreTournamentWords};
+ghost use Rattle.audit_core.specs.Keeps.{IsPlan};
+ghost use Rattle.audit_command.specs.Audit.{AuditRun, EndsAudit, scene as audit_scene};
+ghost use Rattle.cup_command.specs.Cup.{scene as cup_scene};
+ghost use Rattle.match_command.specs.Ends.{EndsRun};
+ghost use Rattle.match_command.specs.Match.{NoneIsOpen, means, scene as match_scene};
+ghost use Rattle.match_command.specs.Reads.{read_scene};
+ghost use Rattle.match_core.specs.Keeps.{IsSetup};
+ghost use Rattle.tournament_command.specs.Formats.{IsFormat};
+ghost use Rattle.tournament_command.specs.Reads.{read_scene as tournament_scene};
+ghost use Rattle.hive_cli.specs.Run.{PlaysEngines, PlaysMatch, PlaysTournament, StartsAudited};
+
+use audit_command::audit_engine;
+use audit_core::Plan;
+use command_runs::Status;
+use command_words::{audited_of, engines_of, programs_of, tournament_engines_of};
+use cup_command::play_cup;
+use cup_games::FreeCupGate;
+use hive_model::Game;
+use io_edge::{Clock, Sink, Source, Spawner};
+use match_command::{play_match, play_read_match};
+use match_core::Setup;
+use std::alloc::Global;
+use std::thread::Threads;
+use tournament_command::{Format, play_read_tournament};
+use tournament_games::{Clocks, Progress};
+
+/// Plays the match that the words ask for, by this setup, from the opening or from the game of the
+/// input.
+pub(crate) fn matched<S: Source, K: Sink, C: Clock, P: Spawner, G: Game + Drop>(
+    alloc: Global,
+    words: &[String],
+    setup: Setup,
+    from: bool,
+    input: &mut S,
+    output: &mut K,
+    clock: &mut C,
+    spawner: &mut P,
+) -> Status
+    requires words { AreMatchWords words.now setup from }
+    requires setup { IsSetup setup }
+    ensures run { PlaysMatch words.now setup from result
+        (read_scene (S.rest input.old) (match_scene (K.written output.old)
+        (means (C.last clock.old) (C.readings clock.old) (P.engines spawner.old))))
+        (read_scene (S.rest input.new) (match_scene (K.written output.new)
+        (means (C.last clock.new) (C.readings clock.new) (P.engines spawner.new)))) }
+    ensures ends { EndsRun result (K.write_faults output.old) (K.write_faults output.new)
+        (P.engines spawner.old) (P.engines spawner.new) }
+    ensures reads { HasCause (result ≡ Status.ReadFault) (S.read_faults input.old)
+        (S.read_faults input.new) }
+{
+    let Ok(programs) = programs_of(alloc, words) else {
+        return Status::Memory;
+    };
+    let white = programs.white.as_slice();
+    let black = programs.black.as_slice();
+    if from {
+        play_read_match::<S, P, K, C, G>(alloc, white, black, setup, input, output, clock, spawner)
+    } else {
+        play_match::<P, K, C, G>(alloc, white, black, setup, output, clock, spawner)
+    }
+}
+
+/// Plays the cup that the words ask for, each game by this setup.
+pub(crate) fn cupped<R: Threads + Sync, K: Sink, P: Spawner, G: Game + Send + Drop>(
+    rt: &R,
+    alloc: Global,
+    words: &[String],
+    setup: Setup,
+    output: &mut K,
+    spawner: &mut P,
+) -> Status
+    requires words { AreCupWords words.now setup }
+    requires setup { IsSetup setup }
+    ensures run { PlaysEngines words.now setup result
+        (cup_scene (K.written output.old) (P.engines spawner.old))
+        (cup_scene (K.written output.new) (P.engines spawner.new)) }
+    ensures ends { EndsRun result (K.write_faults output.old) (K.write_faults output.new)
+        (P.engines spawner.old) (P.engines spawner.new) }
+{
+    let Ok(engines) = engines_of(alloc, words) else {
+        return Status::Memory;
+    };
+    play_cup::<R, P, K, G, FreeCupGate>(
+        rt,
+        alloc,
+        engines.as_slice(),
+        setup,
+        output,
+        spawner,
+        &FreeCupGate,
+    )
+}
+
+/// Plays the tournament that the words ask for.
+pub(crate) fn contested<
+    R: Threads + Sync,
+    S: Source,
+    K: Sink,
+    P: Spawner,
+    H: Clocks + Progress + Sync,
+    G: Game + Send + Drop,
+>(
+    rt: &R,
+    alloc: Global,
+    words: &[String],
+    format: Format,
+    input: &mut S,
+    output: &mut K,
+    spawner: &mut P,
+    hall: &H,
+) -> Status
+    requires words { AreTournamentWords words.now format.setup format.rounds format.gauntlet
+        format.at_once format.resume }
+    requires format { IsFormat format }
+    ensures run { PlaysTournament words.now format result
+        (tournament_scene (S.rest input.old)
+        (cup_scene (K.written output.old) (P.engines spawner.old)))
+        (tournament_scene (S.rest input.new)
+        (cup_scene (K.written output.new) (P.engines spawner.new))) }
+    ensures closed { NoneIsOpen (P.engines spawner.old) (P.engines spawner.new) }
+    ensures writes { HasCause (result ≡ Status.WriteFault) (K.write_faults output.old)
+        (K.write_faults output.new) }
+    ensures reads { HasCause (result ≡ Status.ReadFault) (S.read_faults input.old)
+        (S.read_faults input.new) }
+{
+    let Ok(engines) = tournament_engines_of(alloc, words) else {
+        return Status::Memory;
+    };
+    play_read_tournament::<R, S, P, K, G, H>(
+        rt, alloc, engines, format, input, output, spawner, hall,
+    )
+}
+
+/// Audits the program that the words name, by this plan.
+pub(crate) fn audited<K: Sink, P: Spawner, G: Game + Drop>(
+    alloc: Global,
+    words: &[String],
+    plan: Plan,
+    output: &mut K,
+    spawner: &mut P,
+) -> Status
+    requires words { AreAuditWords words.now plan.games plan.seed plan.plies plan.game_type
+        plan.stop plan.patient }
+    requires plan { IsPlan plan }
+    ensures run { AuditRun plan result
+        (audit_scene (K.written output.old) (P.engines spawner.old))
+        (audit_scene (K.written output.new) (P.engines spawner.new)) }
+    ensures program { StartsAudited words.now result (P.engines spawner.old)
+        (P.engines spawner.new) }
+    ensures ends { EndsAudit result (K.write_faults output.old) (K.write_faults output.new)
+        (P.engines spawner.old) (P.engines spawner.new) }
+{
+    let Ok(program) = audited_of(alloc, words) else {
+        return Status::Memory;
+    };
+    audit_engine::<P, K, G>(alloc, program.as_slice(), plan, output, spawner)
+}
