@@ -93,10 +93,10 @@ def check_help(top, launcher):
     names = re.findall(r'^name_text \w+ = codes "(\w+)"$', (top / "crates/command_words/specs/Names.antt").read_text(encoding="utf-8"), re.M)
     expect("commands that help tells of", sorted(set(re.findall(r"^(\w+)  ", text, re.M)) - {"build"}), sorted(names))
     options = set()
-    for file in ("Words", "Matches", "Cups", "Audits"):
+    for file in ("Words", "Matches", "Cups", "Tournaments", "Audits"):
         specs = (top / f"crates/command_words/specs/{file}.antt").read_text(encoding="utf-8")
-        options |= set(re.findall(r'codes "(\w+)" ∷', specs)) | set(re.findall(r'\(codes "\w+"\) \(codes "(\w+)"\)', specs))
-    expect("options that help tells of", sorted(options - set(re.findall(r"--(\w+)", text)) - set(names)), [])
+        options |= set(re.findall(r'codes "([\w-]+)" ∷', specs)) | set(re.findall(r'\(codes "\w+"\) \(codes "(\w+)"\)', specs))
+    expect("options that help tells of", sorted(options - set(re.findall(r"--([\w-]+)", text)) - set(names)), [])
     greeting = re.search(r'b"id (.*?)\\n', (top / "crates/hive_cli/src/sessions.rt").read_text(encoding="utf-8"))[1]
     expect("--version", launcher.run(["--version"])[:3], (0, f"{greeting}\n", ""))
     expect("calls of help", launcher.called(), [])
