@@ -163,6 +163,22 @@ def try_gauntlet(program):
     expect("a gauntlet", told, ["1 1 2 limit 2", "2 2 1 limit 2", "3 1 3 forfeit black nostart", "4 3 1 forfeit white nostart"])
 
 
+def try_terminal(program):
+    """On a terminal standard error shows behind each wave how many games are done, and the leaders with their points."""
+    shown, end = os.openpty()
+    words = ["--depth", "1", "--plies", "2", "--rounds", "2", "--at-once", "2"]
+    run = subprocess.run(
+        [program, "tournament", "--engines", f"{program} uhp;{program}"] + words,
+        stdin=subprocess.DEVNULL, stdout=subprocess.DEVNULL, stderr=end, timeout=60,
+    )
+    os.close(end)
+    text = os.read(shown, 65536).decode("ascii")
+    os.close(shown)
+    expect("status on a terminal", run.returncode, 0)
+    lines = [f"\r\x1b[K{done} of 4 games, {program} uhp {done}, {program} {done}" for done in (2, 4)]
+    expect("what a terminal shows", text, "".join(lines) + "\r\n")
+
+
 def main(program, number):
     openings = [grown(program, seed, 6 + seed % 7) for seed in range(1, number + 1)]
     with tempfile.TemporaryDirectory() as name:
@@ -181,6 +197,7 @@ def main(program, number):
         try_stall(program, folder, openings)
         try_meeting(program, folder)
         try_gauntlet(program)
+        try_terminal(program)
     print(f"tournaments: all are as expected ({len(games)} games in {took:.0f} s)")
 
 
