@@ -1,7 +1,6 @@
 -- The first plies of a game are played again.
-use Rattle.std.proofs.Common.{◌≡◌, ℕ, ◌+◌, ◌<◌, ◌≤◌, List, [], ◌∷◌, ◌++◌, length, take, refl, sym, ◌∙◌, ap, subst, arith}
+use Rattle.std.proofs.Common.{◌≡◌, ℕ, ◌+◌, ◌<◌, ◌≤◌, List, [], ◌∷◌, ◌++◌, take, refl, sym, ◌∙◌, ap, subst, arith}
 use Rattle.std.specs.Prelude.{Some, slice_get}
-use Rattle.std.proofs.lemmas.List.{length-take-le}
 use Rattle.hive_model.specs.declared.places.Move.{Move}
 use Rattle.hive_model.specs.Lists.{IsOn}
 use Rattle.hive_model.specs.Positions.{opening}
@@ -43,12 +42,3 @@ past_on game now next n i k m less most h at is =
       made = ap (λ (ms : List Move). ms ++ m ∷ []) h.made ∙ sym (taken_next game.made i m at);
       room = omega (arith, room, less, most);
     })
-
-pub past_made : (game now : Course) (n i k : ℕ) → i ≤ k → k ≤ i → IsPast game now n i → now.made ≡ take k game.made
-past_made game now n i k low high h = let same : i ≡ k = omega (arith, low, high) in h.made ∙ ap (λ j. take j game.made) same
-
-pub past_spare : (game now : Course) (n i k room : ℕ) → i ≤ k → k ≤ length game.made → room ≤ n → IsPast game now n i → room ≤ length now.made + now.spare
-past_spare game now n i k room low within more h =
-    let count = ap length h.made ∙ length-take-le i game.made (omega (arith, low, within)) in
-    let left = h.room in
-    omega (arith, count, left, more)

@@ -3,6 +3,7 @@ use Rattle.std.specs.Prelude.{◌≡◌, ℕ, ◌+◌, ◌<◌, ◌≤◌, List,
 use Rattle.hive_model.specs.Courses.{Course, position}
 use Rattle.hive_model.specs.Lists.{IsOn}
 use Rattle.hive_model.specs.Legal.{moves}
+use Rattle.hive_model.specs.Lines.{greatest_line}
 use Rattle.move_text.specs.Moves.{IsMoveWithin}
 use Rattle.audit_core.specs.declared.plan.Plan.{Plan}
 use Rattle.audit_core.specs.declared.plan.Stage.{Stage}
@@ -37,4 +38,4 @@ pub record IsAuditor (plan : Plan) (stage : Stage) (game whole : Course) (reply 
   pub whole_spare : plan.plies ≤ length whole.made + whole.spare
   pub kind : whole.game_type ≡ game.game_type
   pub fits : FitsStage stage game plan.plies
-  pub short : length reply ≤ 65536
+  pub short : length reply ≤ greatest_line

@@ -4,7 +4,7 @@ use Rattle.hive_model.specs.declared.pieces.GameType.{GameType}
 use Rattle.hive_model.specs.declared.places.Move.{Move}
 use Rattle.hive_model.specs.Boards.{Stacks}
 use Rattle.hive_model.specs.Positions.{Position}
-use Rattle.hive_model.specs.Lines.{Line as Mark, Text, TooLong}
+use Rattle.hive_model.specs.Lines.{Line as Mark, Text, TooLong, greatest_line}
 use Rattle.audit_core.specs.declared.plan.Plan.{Plan}
 use Rattle.audit_core.specs.declared.plan.Stage.{Stage}
 use Rattle.audit_core.specs.declared.plan.Stage.TheVariants.{Greeting, Beginning, Listing, Playing, Undoing, Reviewing, Trying, Relisting, Loading, Finishing, Over}
@@ -43,7 +43,7 @@ IsReply s Over reply = Unit {0}
 -- a line ends a reply that is what it is to be, or leaves the reply no longer than a line may be
 abbrev pub IsRightLine : Bool → Standing → List ℕ → Type 0
 IsRightLine true s line = IsReply s s.stage s.reply
-IsRightLine false s line = length (reply_with s s.stage line) ≤ 65536
+IsRightLine false s line = length (reply_with s s.stage line) ≤ greatest_line
 
 abbrev pub IsRight : Standing → Mark → Type 0
 IsRight s (Text line) = IsRightLine (is_ok line) s line

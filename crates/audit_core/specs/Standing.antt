@@ -7,7 +7,7 @@ use Rattle.hive_model.specs.declared.places.Move.{Move}
 use Rattle.hive_model.specs.Positions.{Position, opening}
 use Rattle.hive_model.specs.Legal.{moves, is_over}
 use Rattle.hive_model.specs.Games.{replay}
-use Rattle.hive_model.specs.Lines.{Line as Mark, Text, TooLong}
+use Rattle.hive_model.specs.Lines.{Line as Mark, Text, TooLong, greatest_line}
 use Rattle.hive_model.specs.Strings.{parts}
 use Rattle.audit_core.specs.declared.plan.Plan.{Plan}
 use Rattle.audit_core.specs.declared.plan.Stage.{Stage}
@@ -304,7 +304,7 @@ reply_ends s Over reply = s
 -- one line more of a reply: it has at most 65,536 bytes
 abbrev pub keep : Standing → List ℕ → Standing
 keep s reply =
-    cond (nat_lt 65536 (length reply)) (break_off s Unreadable)
+    cond (nat_lt greatest_line (length reply)) (break_off s Unreadable)
     (record s { begun = true; reply = reply })
 
 -- the greeting is read

@@ -1,6 +1,6 @@
 //! The auditor of an engine.
 ghost use Rattle.std.specs.Prelude.{◌≡◌, ◌≤◌, [], length, IfOk, OnOk};
-ghost use Rattle.hive_model.specs.Lines.{Text, TooLong};
+ghost use Rattle.hive_model.specs.Lines.{Text, TooLong, greatest_line};
 ghost use Rattle.audit_core.specs.Keeps.{IsPlan};
 ghost use Rattle.audit_core.specs.Standing.{
   start,
@@ -192,7 +192,7 @@ impl<G: Game + Drop> Auditor<G> {
     /// Want of memory.
     #[tactic(auto, unfolding(crate::specs::Standing::at_mark))]
     pub fn hear(&mut self, line: &[u8]) -> Result<(), AllocError>
-        requires { length line.now ≤ 65536 }
+        requires { length line.now ≤ greatest_line }
         ensures { OnOk result (self.new ≡ at_mark self.old (Text line.now)) }
     {
         if is_ok(line) {

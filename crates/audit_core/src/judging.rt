@@ -2,6 +2,7 @@
 ghost use Rattle.std.specs.Prelude.{◌≡◌, ◌≤◌, length, IfOk};
 ghost use Rattle.hive_model.specs.Courses.{position};
 ghost use Rattle.hive_model.specs.Legal.{moves};
+ghost use Rattle.hive_model.specs.Lines.{greatest_line};
 ghost use Rattle.move_text.specs.Moves.{move_of};
 ghost use Rattle.audit_core.specs.Judging.{finding, first_missing, part_of, wrong_list};
 
@@ -15,11 +16,11 @@ use std::alloc::{AllocError, Global};
 
 /// The move that a part denotes on the game's board, or why it denotes none.
 fn read_part<G: Game>(game: &G, part: &[u8]) -> Result<Move, MoveFault>
-    requires { length part.now ≤ 65536 }
+    requires { length part.now ≤ greatest_line }
     ensures { result ≡ move_of (G.course game.now).game_type
         (position (G.course game.now)).board part.now }
 {
-    let _state = game.state();
+    game.is_sound();
     read_move(game.game_type(), game, part)
 }
 
@@ -39,7 +40,7 @@ fn judge_part<G: Game>(
     listed: &MoveList,
     part: &[u8],
 ) -> Result<Judged, AllocError>
-    requires { length part.now ≤ 65536 }
+    requires { length part.now ≤ greatest_line }
     ensures { let now = G.course game.now in IfOk result (λ j. j ≡ part_of legal.now listed.now
         part.now (move_of now.game_type (position now).board part.now)) }
 {
@@ -104,7 +105,7 @@ pub(crate) fn wrong_list<G: Game>(
     line: &[u8],
 ) -> Result<Option<Finding>, AllocError>
     requires legal { legal.now ≡ moves (position (G.course game.now)) }
-    requires short { length line.now ≤ 65536 }
+    requires short { length line.now ≤ greatest_line }
     ensures { let now = G.course game.now in
         IfOk result (λ o. o ≡ wrong_list now.game_type (position now) line.now) }
 {

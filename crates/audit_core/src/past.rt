@@ -1,5 +1,6 @@
 //! The first plies of a game.
 ghost use Rattle.std.specs.Prelude.{◌≡◌, ◌+◌, ◌≤◌, ℕ, length, take, IfOk};
+ghost use Rattle.hive_model.specs.Courses.{most_plies};
 
 use hive_model::Game;
 use std::alloc::{AllocError, Global};
@@ -22,7 +23,7 @@ pub(crate) fn first_plies<G: Game + Drop>(
     room: u32,
 ) -> Result<G, AllocError>
     requires made { plies ≤ length (G.course game.now).made }
-    requires room { room ≤ 5064 }
+    requires room { room ≤ most_plies }
     ensures kind { IfOk result (λ g. (G.course g).game_type ≡ (G.course game.now).game_type) }
     ensures made { IfOk result (λ g. (G.course g).made ≡ take plies (G.course game.now).made) }
     ensures spare { IfOk result (λ g. room ≤ length (G.course g).made + (G.course g).spare) }

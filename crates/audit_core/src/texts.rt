@@ -72,7 +72,7 @@ pub(crate) fn move_text<G: Game>(alloc: Global, game: &G, m: Move) -> Result<Lin
     requires { IsOn (moves (position (G.course game.now))) m }
     ensures { IfOk result (λ t. t ≡ text (position (G.course game.now)).board m) }
 {
-    let _state = game.state();
+    game.is_sound();
     copy_text(alloc, write_move(game, m).as_bytes())
 }
 
@@ -81,7 +81,7 @@ pub(crate) fn near_text<G: Game>(alloc: Global, game: &G, m: Move) -> Result<Lin
     requires { IsMoveWithin m }
     ensures { IfOk result (λ t. t ≡ text (position (G.course game.now)).board m) }
 {
-    let _state = game.state();
+    game.is_sound();
     copy_text(alloc, write_move(game, m).as_bytes())
 }
 

@@ -1,7 +1,7 @@
 //! The game.
 
 ghost use Rattle.std.specs.Prelude.{◌≡◌, refl};
-ghost use Rattle.hive_model.specs.Courses.{position};
+ghost use Rattle.hive_model.specs.Courses.{position, most_plies};
 
 use crate::before::Before;
 use crate::in_hand::{Placements, is_plain_in_hand, note, noted};
@@ -60,7 +60,7 @@ impl<B: GameBoard> Model for BoardGame<B> {
     } };
 
     ghost invariant = { λ g. IsReplayed g.game_type (B.stacks g.board) g.made.items g.from.items
-        × (vec_len g.made + g.spare ≤ 5064)
+        × (vec_len g.made + g.spare ≤ most_plies)
         × (vec_len g.from ≡ vec_len g.made)
         × (vec_len g.made + g.spare ≤ vec_capacity g.made)
         × (vec_len g.made + g.spare ≤ vec_capacity g.from)
@@ -89,6 +89,10 @@ impl<B: GameBoard> Board for BoardGame<B> {
 
     fn spot(&self, piece: Piece) -> Option<Spot> {
         self.board.spot(piece)
+    }
+
+    fn is_board(&self) {
+        self.board.is_board();
     }
 
     fn under(&self, piece: Piece) -> Option<Piece> {

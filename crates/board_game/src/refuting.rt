@@ -5,6 +5,7 @@ ghost use Rattle.hive_model.specs.Boards.{IsBoard, without, place_in};
 ghost use Rattle.hive_model.specs.Games.{after, after_board, moved, replay};
 ghost use Rattle.hive_model.specs.Minimax.{value};
 ghost use Rattle.hive_model.specs.Positions.{opening};
+ghost use Rattle.hive_model.specs.Courses.{most_plies};
 ghost use Rattle.legal_moves.specs.Going.{position_of};
 ghost use Rattle.quiet_reply.specs.Quiet.{rest_weight};
 ghost use Rattle.board_game.specs.Replayed.{CanBeTaken, CanMake, origin_of};
@@ -56,7 +57,7 @@ fn rest_of(m: &Move) -> Option<Piece>
 
 /// Whose turn it is after these moves and one more.
 pub fn turn_behind(game_type: GameType, made: &[Move], m: &Move) -> Turn
-    requires { length made.now ≤ 5064 }
+    requires { length made.now ≤ most_plies }
     ensures turn { position_of (after_board (replay (opening game_type) made.now).board m.now)
         result ≡ after (replay (opening game_type) made.now) m.now }
     ensures rest { result.rest ≡ moved m.now }

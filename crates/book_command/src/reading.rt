@@ -4,7 +4,7 @@ ghost use Rattle.std.specs.Prelude.{◌≡◌, ℕ, ◌+◌, ◌<◌, ◌≤◌,
 ghost use Rattle.std.specs.Prelude.{MatchOption, MatchResult};
 ghost use Rattle.io_edge.specs.Outside.{HasCause};
 ghost use Rattle.line_feed.specs.Feed.{Ends, input_limit};
-ghost use Rattle.hive_model.specs.Lines.{Line as AnyLine};
+ghost use Rattle.hive_model.specs.Lines.{Line as AnyLine, greatest_line};
 ghost use Rattle.game_text.specs.Reading.{game_of};
 ghost use Rattle.game_text.specs.declared.parsed.Parsed.{Parsed as AnyGame};
 ghost use Rattle.opening_book.specs.Book.{Played};
@@ -53,7 +53,7 @@ fn refused(alloc: Global, number: u64) -> NoGame
 /// The game that the text is, finished or not, under way at its end. The text is the line of this
 /// number.
 fn game_of<G: Game + Drop>(alloc: Global, text: &[u8], number: u64) -> Result<G, NoGame>
-    requires { length text.now ≤ 65536 }
+    requires { length text.now ≤ greatest_line }
     ensures game { IfOk result (λ g.
         as_played (game_of text.now) ≡ Some (played_by (G.course g))) }
     ensures none { IfErr result (λ e. LacksGame e number (as_played (game_of text.now))) }

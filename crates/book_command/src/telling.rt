@@ -26,8 +26,7 @@ fn move_field<G: Game>(
     ensures { IfOk result (λ t.
         t ≡ text_of (position (G.course game.now)).board best ++ (32 ∷ decimal count)) }
 {
-    // tells that the position is sound
-    let _state = game.state();
+    game.is_sound();
     let written = write_move(game, best);
     let mut buffer = Buffer::new();
     let mut text = ReplyText::new(alloc);

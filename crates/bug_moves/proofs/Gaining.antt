@@ -126,25 +126,6 @@ gains_all b P n xs ys all = gains_same b (InSome P) (InFirst n P) xs ys
     (k, within, subst (λ (e : Dir). P e q) (sym same) is))
     (λ q (k, _, is). (dir_at k, is))
 
--- the six directions one after another
-pub gains_six : (b : Stacks) (P : Dir → Place → Type 0) (a0 a1 a2 a3 a4 a5 a6 : List Place) → IsAround b a0
-    → Gains b (P E) a0 a1 → Gains b (P NE) a1 a2 → Gains b (P NW) a2 a3 → Gains b (P W) a3 a4 → Gains b (P SW) a4 a5 → Gains b (P SE) a5 a6 → Gains b (InSome P) a0 a6
-gains_six b P a0 a1 a2 a3 a4 a5 a6 h e ne nw w sw se =
-    let none : Gains b (InFirst 0 P) a0 a0 = gains_nothing b (InFirst 0 P) a0 h (λ q (k, low, _). absurd (omega (arith, low))) in
-    let one : Gains b (InFirst 1 P) a0 a1 = gains_next b P 0 a0 a0 a1 none e in
-    let two : Gains b (InFirst 2 P) a0 a2 = gains_next b P 1 a0 a1 a2 one ne in
-    let three : Gains b (InFirst 3 P) a0 a3 = gains_next b P 2 a0 a2 a3 two nw in
-    let four : Gains b (InFirst 4 P) a0 a4 = gains_next b P 3 a0 a3 a4 three w in
-    let five : Gains b (InFirst 5 P) a0 a5 = gains_next b P 4 a0 a4 a5 four sw in
-    let six : Gains b (InFirst 6 P) a0 a6 = gains_next b P 5 a0 a5 a6 five se in
-    let all : 6 ≤ 6 = omega arith in
-    gains_all b P 6 a0 a6 all six
-
--- the steps in all directions are all steps
-pub gains_steps : (b : Stacks) (S : Place → Place → Type 0) (p : Place) (xs ys : List Place) → ((q : Place) → S p q → (d : Dir) × (step p d ≡ q)) → Gains b (InSome (Toward S p)) xs ys → Gains b (S p) xs ys
-gains_steps b S p xs ys leads = gains_same b (S p) (InSome (Toward S p)) xs ys
-    (λ q is. let (d, same) = leads q is in (d, (same, is))) (λ q (_, (_, is)). is)
-
 -- a list that was empty has what it gained
 pub gained_all : (b : Stacks) (S : Place → Type 0) (xs ys : List Place) → xs ≡ [] → Gains b S xs ys → AreAll S ys
 gained_all b S xs ys none h = record {

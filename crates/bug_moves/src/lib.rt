@@ -16,7 +16,7 @@ ghost use Rattle.std.specs.Prelude.{◌≡◌, ◌≢◌, []};
 ghost use Rattle.hive_model.specs.declared.pieces.Kind.{Kind};
 ghost use Rattle.hive_model.specs.declared.pieces.Kind.TheVariants.{Mosquito};
 ghost use Rattle.hive_model.specs.PlaceLists.{AreAll};
-ghost use Rattle.hive_model.specs.Places.{IsWithin};
+ghost use Rattle.hive_model.specs.Places.{IsOnTheMap};
 ghost use Rattle.hive_model.specs.Reach.{Reach};
 ghost use Rattle.bug_moves.specs.Counts.{AreMany};
 
@@ -28,7 +28,7 @@ use crate::steps::{Creep, Slide};
 use crate::ways::{add_slides, add_ways};
 pub use ants::list_in_order;
 pub use found::add_new;
-use hive_model::{Board, Kind, Piece, Place, PlaceList};
+use hive_model::{Board, Kind, Place, PlaceList};
 pub use trail::Trail;
 
 /// The places that a bug of this kind reaches from a place, by q and then by r.
@@ -40,11 +40,10 @@ pub use trail::Trail;
 pub fn reach<B: Board>(kind: Kind, board: &B, from: Place, out: &mut PlaceList)
     requires kind { kind ≢ Mosquito }
     requires empty { out.old.items ≡ [] }
-    requires within { IsWithin 9500 from }
+    requires within { IsOnTheMap from }
     ensures { AreAll (Reach kind (B.stacks board.now) from) out.new.items }
 {
-    // each board that answers where a piece stands is sound
-    let _spot = board.spot(Piece::at(0));
+    board.is_board();
     match kind {
         Kind::Queen | Kind::Pillbug => add_slides(&Slide, board, from, out),
         Kind::Beetle => add_slides(&Creep, board, from, out),
@@ -64,12 +63,11 @@ pub fn reach<B: Board>(kind: Kind, board: &B, from: Place, out: &mut PlaceList)
 /// list to write on.
 pub fn count_reach<B: Board>(kind: Kind, board: &B, from: Place, places: &mut PlaceList) -> usize
     requires kind { kind ≢ Mosquito }
-    requires within { IsWithin 9500 from }
+    requires within { IsOnTheMap from }
     ensures { AreMany (Reach kind (B.stacks board.now) from) result }
 {
     if kind.is(Kind::Ant) {
-        // each board that answers where a piece stands is sound
-        let _spot = board.spot(Piece::at(0));
+        board.is_board();
         return count_ant_ways(board, from);
     }
     places.clear();

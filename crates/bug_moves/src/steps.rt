@@ -3,7 +3,7 @@
 ghost use Rattle.std.specs.Prelude.{◌≡◌, ◌↔◌, ◌⊎◌, IsTrue};
 ghost use Rattle.hive_model.specs.Boards.{is_occupied};
 ghost use Rattle.hive_model.specs.Neighbours.{ring, ring_mask};
-ghost use Rattle.hive_model.specs.Places.{IsWithin, step};
+ghost use Rattle.hive_model.specs.Places.{step, IsOnTheMap};
 ghost use Rattle.hive_model.specs.Steps.{GroundStep, ClimbingStep};
 ghost use Rattle.gates.specs.Slides.{AreSlides};
 ghost use Rattle.bug_moves.specs.Ways.{Toward, BeetleStep};
@@ -16,14 +16,14 @@ use hive_model::{Board, Dir, Place, PlaceList, add_place, is_occupied};
 /// not blocked.
 pub fn may_climb<B: Board>(board: &B, from: Place, dir: Dir, to: Place) -> bool
     requires leads { to ≡ step from dir }
-    requires within { IsWithin 9500 from }
+    requires within { IsOnTheMap from }
     ensures { IsTrue result ↔ ClimbingStep (B.stacks board.now) from to }
 {
     (is_occupied(board, to) || is_occupied(board, from)) && climb_toward(board, from, dir, to)
 }
 
-/// Whether one of the places of a step is occupied. The mask of the occupied neighbours of the first
-/// is given.
+/// Whether one of the places of a step is occupied. The mask of the occupied neighbours of the
+/// first is given.
 fn is_high<B: Board>(board: &B, from: Place, dir: Dir, to: Place, taken: u8) -> bool
     requires leads { to ≡ step from dir }
     requires taken { taken ≡ ring_mask (ring (is_occupied (B.stacks board.now)) from) }
@@ -39,7 +39,7 @@ fn is_high<B: Board>(board: &B, from: Place, dir: Dir, to: Place, taken: u8) -> 
 /// `may_climb`, where the mask of the occupied neighbours of the place is at hand.
 pub fn may_climb_amid<B: Board>(board: &B, from: Place, dir: Dir, to: Place, taken: u8) -> bool
     requires leads { to ≡ step from dir }
-    requires within { IsWithin 9500 from }
+    requires within { IsOnTheMap from }
     requires taken { taken ≡ ring_mask (ring (is_occupied (B.stacks board.now)) from) }
     ensures { IsTrue result ↔ ClimbingStep (B.stacks board.now) from to }
 {
@@ -52,7 +52,7 @@ pub fn may_climb_amid<B: Board>(board: &B, from: Place, dir: Dir, to: Place, tak
 /// Whether a beetle makes the step in this direction. The directions of the ground steps are given.
 fn may_creep<B: Board>(board: &B, from: Place, dir: Dir, to: Place, slides: u8) -> bool
     requires leads { to ≡ step from dir }
-    requires within { IsWithin 9500 from }
+    requires within { IsOnTheMap from }
     requires slides { AreSlides (B.stacks board.now) from slides }
     ensures { IsTrue result ↔ BeetleStep (B.stacks board.now) from to }
 {

@@ -5,7 +5,7 @@ ghost use Rattle.hive_model.specs.declared.places.Dir.{Dir};
 ghost use Rattle.hive_model.specs.declared.places.Place.{Place};
 ghost use Rattle.hive_model.specs.Boards.{Stacks, is_occupied};
 ghost use Rattle.hive_model.specs.Neighbours.{ring, ring_mask};
-ghost use Rattle.hive_model.specs.Places.{IsWithin};
+ghost use Rattle.hive_model.specs.Places.{IsOnTheMap};
 ghost use Rattle.bug_moves.specs.Adding.{IsAround, Gains};
 ghost use Rattle.bug_moves.specs.Ways.{InSome};
 ghost use Rattle.gates.specs.Slides.{AreSlides};
@@ -21,7 +21,7 @@ pub trait Way {
     /// Adds where it leads if it begins in this direction. The mask of the occupied neighbours of
     /// the place is given.
     fn add<B: Board>(&self, board: &B, from: Place, dir: Dir, taken: u8, out: &mut PlaceList)
-        requires within { IsWithin 9500 from }
+        requires within { IsOnTheMap from }
         requires list { IsAround (B.stacks board.now) out.old.items }
         requires taken { taken ≡ ring_mask (ring (is_occupied (B.stacks board.now)) from) }
         ensures { Gains (B.stacks board.now) (toward self.now (B.stacks board.now) from dir)
@@ -31,7 +31,7 @@ pub trait Way {
 /// Adds where a way leads, in whatever direction it begins.
 #[tactic(auto, using(hive_model::proofs::PlaceLemmas::wider))]
 pub fn add_ways<W: Way, B: Board>(way: &W, board: &B, from: Place, out: &mut PlaceList)
-    requires within { IsWithin 9500 from }
+    requires within { IsOnTheMap from }
     requires list { IsAround (B.stacks board.now) out.old.items }
     ensures { Gains (B.stacks board.now)
         (InSome (W.toward way.now (B.stacks board.now) from)) out.old.items out.new.items }
@@ -50,7 +50,7 @@ pub trait GroundWay {
     /// Adds where it leads if it begins in this direction. The directions of the ground steps from
     /// the place are given.
     fn add<B: Board>(&self, board: &B, from: Place, dir: Dir, slides: u8, out: &mut PlaceList)
-        requires within { IsWithin 9500 from }
+        requires within { IsOnTheMap from }
         requires list { IsAround (B.stacks board.now) out.old.items }
         requires slides { AreSlides (B.stacks board.now) from slides }
         ensures { Gains (B.stacks board.now) (toward self.now (B.stacks board.now) from dir)
@@ -59,7 +59,7 @@ pub trait GroundWay {
 
 /// Adds where such a way leads, in whatever direction it begins.
 pub fn add_slides<W: GroundWay, B: Board>(way: &W, board: &B, from: Place, out: &mut PlaceList)
-    requires within { IsWithin 9500 from }
+    requires within { IsOnTheMap from }
     requires list { IsAround (B.stacks board.now) out.old.items }
     ensures { Gains (B.stacks board.now)
         (InSome (W.toward way.now (B.stacks board.now) from)) out.old.items out.new.items }

@@ -40,7 +40,7 @@ pub(crate) fn claimed<G: Game + Drop>(
     if is_over(&game) {
         return Err(Ok(Verdict::GameOver));
     }
-    let _state = game.state();
+    game.is_sound();
     match read_move(head.game_type, &game, head.claim_text.items()) {
         Ok(best) => {
             let claim = Claim {

@@ -3,7 +3,7 @@ use Rattle.std.specs.Prelude.{◌≡◌, ◌≢◌, ℕ, ◌+◌, ◌-◌, ◌<�
 use Rattle.io_edge.specs.Outside.{HasCause, Told}
 use Rattle.line_feed.specs.Feed.{Reading, input_limit}
 use Rattle.std.specs.Option.{option_map}
-use Rattle.hive_model.specs.Lines.{Line, Text, ToldLines, NoneAhead, LongAhead}
+use Rattle.hive_model.specs.Lines.{Line, Text, ToldLines, NoneAhead, LongAhead, greatest_line}
 use Rattle.hive_model.specs.Games.{IsGame}
 use Rattle.game_text.specs.declared.faults.GameFault.{GameFault}
 use Rattle.game_text.specs.declared.faults.GameFault.TheVariants.{Memory as NoMemory}
@@ -108,5 +108,5 @@ pub record IsHead (newest : ℕ) (head : Head) : Type 0 where
   pub few : length head.moves ≤ 5000
   pub some : 1 ≤ head.depth
   pub deep : head.depth ≤ 64
-  pub short : length head.claim_text ≤ 65536
+  pub short : length head.claim_text ≤ greatest_line
   pub small : IsSmall 1000064 head.value

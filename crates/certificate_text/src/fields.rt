@@ -23,6 +23,7 @@ ghost use Rattle.certificate_text.specs.Text.{
   int_at,
   index_at,
 };
+ghost use Rattle.hive_model.specs.Lines.{greatest_line};
 
 use hive_model::LineText;
 use move_text::read_number;
@@ -45,7 +46,7 @@ pub trait Field {
     ///
     /// Want of memory.
     fn read(&self, line: &[u8]) -> Result<Option<Self::Value>, AllocError>
-        requires { length line.now ≤ 65536 }
+        requires { length line.now ≤ greatest_line }
         ensures found { IfOk result (λ found. found ≡ at self.now line.now) }
         ensures holds { IfOk result (λ found. IfSome found (holds self.now)) };
 }
@@ -128,7 +129,7 @@ impl Field for ClaimText {
 
     ghost at = { λ _ line. move_at line };
 
-    ghost holds = { λ _ text. length text ≤ 65536 };
+    ghost holds = { λ _ text. length text ≤ greatest_line };
 
     fn read(&self, line: &[u8]) -> Result<Option<LineText>, AllocError> {
         match move_at(line) {

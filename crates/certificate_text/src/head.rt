@@ -2,7 +2,7 @@
 
 ghost use Rattle.std.specs.Prelude.{◌≡◌, ◌≢◌, ◌≤◌, ℕ, List, length, Some, Err, IfOk};
 ghost use Rattle.line_feed.specs.Ahead.{ahead_of};
-ghost use Rattle.hive_model.specs.Lines.{Line as AnyLine};
+ghost use Rattle.hive_model.specs.Lines.{Line as AnyLine, greatest_line};
 ghost use Rattle.hive_model.specs.Games.{IsGame};
 ghost use Rattle.game_text.specs.Reading.{game_of};
 ghost use Rattle.game_text.specs.declared.faults.GameFault.{GameFault as AnyFault};
@@ -61,7 +61,7 @@ pub enum HeadFault {
 fn next_text<S: Source>(reader: &mut LineReader, source: &mut S, line: u32) -> Result<(), HeadFault>
     ensures told { TakesLine result line reader.new.last (ahead_of reader.old (S.rest source.old))
         (ahead_of reader.new (S.rest source.new)) }
-    ensures fits { IfOk result (λ done. length reader.new.last ≤ 65536) }
+    ensures fits { IfOk result (λ done. length reader.new.last ≤ greatest_line) }
     ensures no_game { (fault : AnyFault) → result ≢ Err (HeadFault.BadGame fault) }
     ensures taken { TakesLines 1 line result reader.old reader.new (S.rest source.old)
         (S.rest source.new) (S.read_faults source.old) (S.read_faults source.new) }
@@ -108,7 +108,7 @@ pub fn read_field<F: Field, S: Source>(
 ///
 /// What is wrong with the line as a game, and want of memory.
 fn line_game<G: Game + Drop>(alloc: Global, line: &[u8]) -> Result<Parsed, HeadFault>
-    requires { length line.now ≤ 65536 }
+    requires { length line.now ≤ greatest_line }
     ensures read { ReadsGame result (game_of line.now) }
     ensures game { IfOk result (λ g. IsGame g.game_type g.moves × (length g.moves ≤ 5000)) }
     ensures fault { (fault : AnyFault) → result ≡ Err (HeadFault.BadGame fault)

@@ -58,7 +58,7 @@ pub fn push_move<G: Game>(
         ++ written_line (word.now ++ text_of (position (G.course game.now)).board m)) }
     ensures game { IsGame (G.course game.now).game_type (G.course game.now).made }
 {
-    let _state = game.state();
+    game.is_sound();
     let written = write_move(game, m);
     push_line(text, word, written.as_str().as_bytes())
 }

@@ -5,6 +5,7 @@ ghost use Rattle.line_feed.specs.Feed.{Ends};
 ghost use Rattle.hive_model.specs.Courses.{position};
 ghost use Rattle.hive_model.specs.Games.{IsGame};
 ghost use Rattle.hive_model.specs.Legal as rules;
+ghost use Rattle.hive_model.specs.Lines.{greatest_line};
 ghost use Rattle.game_text.specs.Reading.{game_of};
 ghost use Rattle.game_text.specs.declared.parsed.Parsed.{Parsed as AnyGame};
 ghost use Rattle.command_runs.specs.Input.{WhereTold};
@@ -81,7 +82,7 @@ fn begin_again<G: Game + Drop>(alloc: Global, game: Parsed, room: u32) -> Result
 
 /// The game that the text is, under way and with room for so many more plies, if it is not over.
 fn game_of<G: Game + Drop>(alloc: Global, text: &[u8], room: u32) -> Result<G, NoGame>
-    requires short { length text.now ≤ 65536 }
+    requires short { length text.now ≤ greatest_line }
     requires few { room ≤ 64 }
     ensures game { IfOk result (λ g. Resumes (G.course g) (open_game (game_of text.now))) }
     ensures under_way { IfOk result (λ g. IsUnderWay (G.course g)) }

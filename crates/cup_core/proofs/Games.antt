@@ -5,7 +5,7 @@ use Rattle.std.proofs.lemmas.Bool.Decides.{nat_tests}
 use Rattle.std.specs.List.{filter, flat_map}
 use Rattle.hive_model.specs.Lists.{count_from}
 use Rattle.cup_core.specs.declared.pairing.Pairing.{Pairing}
-use Rattle.cup_core.specs.Cup.{row, pairings}
+use Rattle.cup_core.specs.Cup.{row}
 
 pub count-next : (n b : ℕ) → b ≤ n → count_from b (n + 1 - b) ≡ b ∷ count_from (b + 1) (n + 1 - (b + 1))
 count-next n b low = let more : n + 1 - b ≡ suc (n + 1 - (b + 1)) = omega (arith, low) in rw more refl
@@ -20,9 +20,6 @@ row_of white xs = map (λ j. record { white = white; black = j }) (filter (λ j.
 -- those that are left
 abbrev pub row_left : ℕ → ℕ → ℕ → List Pairing
 row_left n white b = row_of white (count_from b (n + 1 - b))
-
-pub row-begin : (n white : ℕ) → row_left n white 1 ≡ row n white
-row-begin n white = let all : n + 1 - 1 ≡ n = omega arith in ap (λ k. row_of white (count_from 1 k)) all
 
 pub row-skip : (n white b : ℕ) (xs ys : List Pairing) → b ≤ n → b ≡ white → xs ++ row_left n white b ≡ ys → xs ++ row_left n white (b + 1) ≡ ys
 row-skip n white b xs ys low same so =
@@ -45,19 +42,10 @@ row-push n white b xs ys low other so =
     ∙ ap (λ t. map (λ j. record { white = white; black = j }) (cond (not t) (b ∷ filter (λ j. not (nat_eq j white)) (count_from (b + 1) (n + 1 - (b + 1)))) (filter (λ j. not (nat_eq j white)) (count_from (b + 1) (n + 1 - (b + 1)))))) is in
     append-push xs (record { white = white; black = b }) (row_left n white (b + 1)) ∙ ap (λ zs. xs ++ zs) (sym e) ∙ so
 
-pub row-end : (n white b : ℕ) (xs ys : List Pairing) → n + 1 ≤ b → xs ++ row_left n white b ≡ ys → xs ≡ ys
-row-end n white b xs ys past so = sym (append-none xs) ∙ ap (λ zs. xs ++ row_of white zs) (sym (count-none n b past)) ∙ so where
-  append-none : {A : Type 0} (zs : List A) → zs ++ [] ≡ zs
-  append-none [] = refl
-  append-none (z ∷ zs) = ap (λ ws. z ∷ ws) (append-none zs)
-
 -- ---- all rows
 
 abbrev pub rows_left : ℕ → ℕ → List Pairing
 rows_left n w = flat_map (row n) (count_from w (n + 1 - w))
-
-pub rows-begin : (n : ℕ) → rows_left n 1 ≡ pairings n
-rows-begin n = let all : n + 1 - 1 ≡ n = omega arith in ap (λ k. flat_map (row n) (count_from 1 k)) all
 
 append-three : {A : Type 0} (xs ys zs : List A) → (xs ++ ys) ++ zs ≡ xs ++ (ys ++ zs)
 append-three [] ys zs = refl
@@ -66,9 +54,3 @@ append-three (x ∷ xs) ys zs = ap (λ ws. x ∷ ws) (append-three xs ys zs)
 pub rows-push : (n w : ℕ) (xs ys : List Pairing) → w ≤ n → xs ++ rows_left n w ≡ ys → (xs ++ row n w) ++ rows_left n (w + 1) ≡ ys
 rows-push n w xs ys low so =
     append-three xs (row n w) (rows_left n (w + 1)) ∙ ap (λ ks. xs ++ flat_map (row n) ks) (sym (count-next n w low)) ∙ so
-
-pub rows-end : (n w : ℕ) (xs ys : List Pairing) → n + 1 ≤ w → xs ++ rows_left n w ≡ ys → xs ≡ ys
-rows-end n w xs ys past so = sym (append-none xs) ∙ ap (λ ks. xs ++ flat_map (row n) ks) (sym (count-none n w past)) ∙ so where
-  append-none : {A : Type 0} (zs : List A) → zs ++ [] ≡ zs
-  append-none [] = refl
-  append-none (z ∷ zs) = ap (λ ws. z ∷ ws) (append-none zs)

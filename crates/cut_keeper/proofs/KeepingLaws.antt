@@ -1,5 +1,5 @@
 -- Marks that are made right, one place after another.
-use Rattle.std.proofs.Common.{◌≡◌, ◌≢◌, ◌↔◌, ℕ, Bool, true, false, List, [], ◌∷◌, ◌⊎◌, inl, inr, refl, sym, ◌∙◌, ap, subst, arith, ◌-◌, ◌<◌}
+use Rattle.std.proofs.Common.{◌≡◌, ◌≢◌, ◌↔◌, ℕ, Bool, true, false, List, [], ◌∷◌, ◌⊎◌, inl, inr, sym, ◌∙◌, ap, subst, arith, ◌-◌, ◌<◌}
 use Rattle.std.specs.Prelude.{Some, None, slice_get, nat_eq, IsTrue}
 use Rattle.std.proofs.lemmas.Bool.{cases_lt, ltb-true, eqb-true, eq-eqb}
 use Rattle.hive_model.specs.declared.places.Place.{Place}
@@ -66,22 +66,6 @@ pending_at b p doubted d ds ms h = elim (h (step p d)) [ inl right ↦ inl right
 
 pub pending_none : (b : Stacks) (p : Place) (doubted : Bool) (ms : List Bool) → Pending b p doubted [] ms → MarksSeparating b ms
 pending_none b p doubted ms h q = elim (h q) [ inl right ↦ right | inr (e, on_e, leads, s, half) ↦ absurd on_e ]
-
--- a mark that is not what is doubted is right
-pub undoubted : (b : Stacks) (ms : List Bool) (p : Place) (top : ℕ) (r doubted : Bool) → top_at b p ≡ Some top → slice_get ms top ≡ Some r → r ≢ doubted → Right b ms p ⊎ HalfRight b ms p doubted → Right b ms p
-undoubted b ms p top r doubted here is other h = elim h [ inl right ↦ right | inr half ↦ by_half r doubted is other half ]
-  where
-    same_top : (x : ℕ) → top_at b p ≡ Some x → x ≡ top
-    same_top x there = let both : Some x ≡ Some top = sym there ∙ here in cc
-
-    by_half : (r doubted : Bool) → slice_get ms top ≡ Some r → r ≢ doubted → HalfRight b ms p doubted → Right b ms p
-    by_half true true e apart half = absurd (apart refl)
-    by_half false false e apart half = absurd (apart refl)
-    by_half true false e apart half = λ x there. (half x there, λ _. ap (slice_get ms) (same_top x there) ∙ e)
-    by_half false true e apart half = λ x there. (
-      λ set. let both : Some false ≡ Some true = sym e ∙ ap (slice_get ms) (sym (same_top x there)) ∙ set in let wrong : false ≡ true = cc in absurd (cc),
-      half x there,
-    )
 
 -- the mark of one place is given
 pub given_right : (b : Stacks) (ms : List Bool) (p : Place) (top : ℕ) (r : Bool) → top_at b p ≡ Some top → (IsSet ms top ↔ r ≡ true) → (r ≡ true ↔ IsSeparating b p) → Right b ms p

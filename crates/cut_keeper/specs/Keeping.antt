@@ -3,7 +3,7 @@ use Rattle.std.specs.Prelude.{◌≡◌, ◌≢◌, ◌↔◌, ◌⊎◌, ℕ, B
 use Rattle.hive_model.specs.declared.places.Place.{Place}
 use Rattle.hive_model.specs.declared.places.Dir.{Dir}
 use Rattle.hive_model.specs.Lists.{IsOn}
-use Rattle.hive_model.specs.Places.{IsWithin, step}
+use Rattle.hive_model.specs.Places.{step, IsOnTheMap}
 use Rattle.hive_model.specs.Boards.{Stacks, IsBoard, is_occupied, top_at, put}
 use Rattle.hive_model.specs.Hive.{OneHive, IsSeparating}
 use Rattle.arc_table.specs.Masks.{how_many}
@@ -47,7 +47,7 @@ HalfRight b marks p false = (x : ℕ) → top_at b p ≡ Some x → IsSet marks 
 pub record HasMask (b : Stacks) (p : Place) (m : ℕ) : Type 0 where
   pub sound : IsBoard b
   pub one_hive : OneHive b
-  pub within : IsWithin 9500 p
+  pub within : IsOnTheMap p
   pub mask : m ≡ ring_mask (ring (is_occupied b) p)
 
 -- how many suspects there are in these directions

@@ -1,7 +1,7 @@
 //! Marks made right for a board, one place after another.
 
 ghost use Rattle.std.specs.Prelude.{◌≡◌, ◌≢◌, ◌↔◌, ◌⊎◌, ℕ, ◌+◌, ◌≤◌, Some, [], ◌∷◌, IsTrue};
-ghost use Rattle.hive_model.specs.Places.{IsWithin, dirs};
+ghost use Rattle.hive_model.specs.Places.{dirs, IsOnTheMap};
 ghost use Rattle.hive_model.specs.Boards.{is_occupied, top_at};
 ghost use Rattle.hive_model.specs.Hive.{OneHive, IsSeparating};
 ghost use Rattle.one_hive.specs.Visits.{IsSet};
@@ -19,7 +19,7 @@ use std::sync::ledger::Ledger;
 fn is_separating<B: Board, L: Ledger>(board: &B, place: Place, steps: &mut Steps<L>) -> bool
     requires one_hive { OneHive (B.stacks board.now) }
     requires occupied { IsTrue (is_occupied (B.stacks board.now) place) }
-    requires within { IsWithin 9500 place }
+    requires within { IsOnTheMap place }
     ensures cut { IsTrue result ↔ IsSeparating (B.stacks board.now) place }
     ensures step { steps.new ≤ steps.old + 1 }
 {
@@ -39,7 +39,7 @@ pub(crate) fn examine<B: Board, L: Ledger>(
 )
     requires one_hive { OneHive (B.stacks board.now) }
     requires top { top_at (B.stacks board.now) place ≡ Some top }
-    requires within { IsWithin 9500 place }
+    requires within { IsOnTheMap place }
     ensures right { Right (B.stacks board.now) marks.new place }
     ensures others { (x : ℕ) → x ≢ top → IsSet marks.new x ↔ IsSet marks.old x }
     ensures step { steps.new ≤ steps.old + 1 }
@@ -60,7 +60,7 @@ fn examine_doubted<B: Board, L: Ledger>(
 )
     requires one_hive { OneHive (B.stacks board.now) }
     requires top { top_at (B.stacks board.now) place ≡ Some top }
-    requires within { IsWithin 9500 place }
+    requires within { IsOnTheMap place }
     requires half { Right (B.stacks board.now) marks.old place
         ⊎ HalfRight (B.stacks board.now) marks.old place doubted }
     ensures right { Right (B.stacks board.now) marks.new place }

@@ -1,7 +1,7 @@
 //! The keeper, and a board with it.
 
 ghost use Rattle.std.specs.Prelude.{◌≡◌, ◌↔◌, [], ◌+◌, ◌<◌, ◌≤◌, Some, IsTrue};
-ghost use Rattle.hive_model.specs.Places.{IsWithin};
+ghost use Rattle.hive_model.specs.Places.{IsOnTheMap};
 ghost use Rattle.hive_model.specs.Boards.{height_at, top_at};
 ghost use Rattle.hive_model.specs.Hive.{IsCut};
 ghost use Rattle.one_hive.specs.Separating.{MarksSeparating};
@@ -80,7 +80,7 @@ impl CutKeeper {
         steps: &mut Steps<L>,
     ) -> Delta
         requires grown { Grown self.old (B.stacks board.now) piece place }
-        requires within { IsWithin 9500 place }
+        requires within { IsOnTheMap place }
         ensures marks { MarksSeparating (B.stacks board.now) self.new }
         ensures before { result ≡ self.old }
         ensures none { 1 < height_at (B.stacks board.now) place → steps.new ≡ steps.old }
@@ -102,7 +102,7 @@ impl CutKeeper {
         steps: &mut Steps<L>,
     ) -> Delta
         requires shrunk { Shrunk self.old (B.stacks board.now) piece place }
-        requires within { IsWithin 9500 place }
+        requires within { IsOnTheMap place }
         ensures marks { MarksSeparating (B.stacks board.now) self.new }
         ensures before { result ≡ self.old }
         ensures none { 0 < height_at (B.stacks board.now) place → steps.new ≡ steps.old }
@@ -156,7 +156,7 @@ fn added_in<B: Board, L: Ledger>(
     requires parts { blank.parts ≡ L.parts }
     requires some { 0 < L.parts }
     requires grown { Grown keeper.old (B.stacks board.now) piece place }
-    requires within { IsWithin 9500 place }
+    requires within { IsOnTheMap place }
     ensures marks { MarksSeparating (B.stacks board.now) keeper.new }
     ensures before { result ≡ keeper.old }
 {
@@ -175,7 +175,7 @@ fn removed_in<B: Board, L: Ledger>(
     requires parts { blank.parts ≡ L.parts }
     requires some { 0 < L.parts }
     requires shrunk { Shrunk keeper.old (B.stacks board.now) piece place }
-    requires within { IsWithin 9500 place }
+    requires within { IsOnTheMap place }
     ensures marks { MarksSeparating (B.stacks board.now) keeper.new }
     ensures before { result ≡ keeper.old }
 {
@@ -191,7 +191,7 @@ pub fn added_uncounted<B: Board>(
     place: Place,
 ) -> Delta
     requires grown { Grown keeper.old (B.stacks board.now) piece place }
-    requires within { IsWithin 9500 place }
+    requires within { IsOnTheMap place }
     ensures marks { MarksSeparating (B.stacks board.now) keeper.new }
     ensures before { result ≡ keeper.old }
 {
@@ -206,7 +206,7 @@ pub fn removed_uncounted<B: Board>(
     place: Place,
 ) -> Delta
     requires shrunk { Shrunk keeper.old (B.stacks board.now) piece place }
-    requires within { IsWithin 9500 place }
+    requires within { IsOnTheMap place }
     ensures marks { MarksSeparating (B.stacks board.now) keeper.new }
     ensures before { result ≡ keeper.old }
 {
@@ -244,6 +244,10 @@ impl<B: Board> Board for KeptCuts<'_, B> {
 
     fn spot(&self, piece: Piece) -> Option<Spot> {
         self.board.spot(piece)
+    }
+
+    fn is_board(&self) {
+        self.board.is_board();
     }
 
     fn under(&self, piece: Piece) -> Option<Piece> {

@@ -1,7 +1,7 @@
 //! Marks kept up after one piece was put on a place or taken from it.
 
 ghost use Rattle.std.specs.Prelude.{◌≡◌, ◌≢◌, ◌↔◌, ℕ, ◌+◌, ◌<◌, ◌≤◌, Some, IsTrue};
-ghost use Rattle.hive_model.specs.Places.{IsWithin, step};
+ghost use Rattle.hive_model.specs.Places.{step, IsOnTheMap};
 ghost use Rattle.hive_model.specs.Boards.{IsBoard, height_at, is_occupied, top_at};
 ghost use Rattle.arc_law.specs.Arcs.{OneArc};
 ghost use Rattle.one_hive.specs.Visits.{IsSet};
@@ -89,12 +89,12 @@ pub(crate) fn added<B: Board, L: Ledger>(
     steps: &mut Steps<L>,
 )
     requires grown { Grown marks.old (B.stacks board.now) piece place }
-    requires within { IsWithin 9500 place }
+    requires within { IsOnTheMap place }
     ensures marks { MarksSeparating (B.stacks board.now) marks.new }
     ensures none { 1 < height_at (B.stacks board.now) place → steps.new ≡ steps.old }
     ensures few { steps.new ≤ steps.old + 3 }
 {
-    let _spot = board.spot(piece);
+    board.is_board();
     if board.height(place) > 1 {
         added_above(marks, board, piece, place);
         return;
@@ -173,12 +173,12 @@ pub(crate) fn removed<B: Board, L: Ledger>(
     steps: &mut Steps<L>,
 )
     requires shrunk { Shrunk marks.old (B.stacks board.now) piece place }
-    requires within { IsWithin 9500 place }
+    requires within { IsOnTheMap place }
     ensures marks { MarksSeparating (B.stacks board.now) marks.new }
     ensures none { 0 < height_at (B.stacks board.now) place → steps.new ≡ steps.old }
     ensures few { steps.new ≤ steps.old + 3 }
 {
-    let _spot = board.spot(piece);
+    board.is_board();
     if let Some(top) = board.top(place) {
         removed_above(marks, board, piece, place, top);
         return;

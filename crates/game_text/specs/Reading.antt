@@ -93,7 +93,8 @@ at_moves r t s u rest (Some k) = Err (Malformed k)
 at_moves r t s u rest None =
     if nat_lt 5000 (length rest) then Err TooLong else confirmed r t s u (moves_from r t rest)
 
-abbrev pub at_turn : Bool → GameType → State → Option DeclaredTurn → List (List ℕ) → Result Parsed GameFault
+abbrev pub at_turn : Bool → GameType → State → Option DeclaredTurn → List (List ℕ)
+    → Result Parsed GameFault
 at_turn r t s None rest = Err (Malformed 3)
 at_turn r t s (Some u) rest = at_moves r t s u rest (first_empty rest 4)
 

@@ -2,6 +2,7 @@
 
 ghost use Rattle.std.specs.Prelude.{◌≡◌, ◌<◌, ◌≤◌, ◌∷◌, [], length, MatchOption, IfSome};
 ghost use Rattle.hive_model.specs.Strings.{parts};
+ghost use Rattle.hive_model.specs.Lines.{greatest_line};
 ghost use Rattle.game_text.specs.Reading.{first_empty};
 
 /// The first part, and what stands behind its semicolon, if it has one.
@@ -24,7 +25,7 @@ pub fn cut(text: &[u8]) -> (&[u8], Option<&[u8]>)
 /// The number of the first part that is empty, where the first part of the text is part 4 of the
 /// line.
 pub fn empty_part(text: &[u8]) -> Option<u32>
-    requires { length text.now ≤ 65536 }
+    requires { length text.now ≤ greatest_line }
     ensures { result ≡ first_empty (parts text.now) 4 }
 {
     let mut rest = text;
@@ -44,7 +45,7 @@ pub fn empty_part(text: &[u8]) -> Option<u32>
 
 /// The number of parts.
 pub fn count_parts(text: &[u8]) -> u32
-    requires { length text.now ≤ 65536 }
+    requires { length text.now ≤ greatest_line }
     ensures count { result ≡ length (parts text.now) }
     ensures some { 1 ≤ result }
 {

@@ -1,6 +1,7 @@
 //! Games played from their moves.
 ghost use Rattle.std.specs.Prelude.{◌≡◌, ◌+◌, ◌≤◌, length, IfOk};
 ghost use Rattle.hive_model.specs.Games.{IsGame};
+ghost use Rattle.hive_model.specs.Courses.{most_plies};
 
 use hive_model::{Game, GameType, Move};
 use std::alloc::{AllocError, Global};
@@ -14,7 +15,7 @@ pub fn played<G: Game + Drop>(
     room: u32,
 ) -> Result<G, AllocError>
     requires game { IsGame game_type moves.now }
-    requires few { length moves.now + room ≤ 5064 }
+    requires few { length moves.now + room ≤ most_plies }
     ensures kind { IfOk result (λ g. (G.course g).game_type ≡ game_type) }
     ensures made { IfOk result (λ g. (G.course g).made ≡ moves.now) }
     ensures room { IfOk result (λ g. room ≤ (G.course g).spare) }

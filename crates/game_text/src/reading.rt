@@ -24,6 +24,7 @@ ghost use Rattle.game_text.specs.Seen.{Sees};
 ghost use Rattle.hive_model.specs.Strings.{parts, IsGameLine, IsGameLineUnder};
 ghost use Rattle.hive_model.specs.declared.pieces.GameType.{GameType as AnyType};
 ghost use Rattle.hive_model.specs.declared.places.Move.{Move as AnyMove};
+ghost use Rattle.hive_model.specs.Lines.{greatest_line};
 ghost use Rattle.game_text.specs.Refusals.{IsRefused, IsRefusedUnder};
 ghost use Rattle.game_text.specs.Reading.{
   moves_from,
@@ -52,7 +53,7 @@ use std::alloc::Global;
 /// The move that the part denotes, if it follows: it is legal, and the game is not drawn by
 /// repetition.
 fn one_move<G: Game>(game: &mut G, seen: &Seen, number: u32, part: &[u8]) -> Result<Move, GameFault>
-    requires length { length part.now ≤ 65536 }
+    requires length { length part.now ≤ greatest_line }
     requires sound { IsBoard (position (G.course game.old)).board }
     requires seen { Sees seen.now (G.course game.old) }
     ensures ok { IfOk result (λ m. Plays seen.now.repetition
@@ -85,7 +86,7 @@ fn play_moves<G: Game>(
     seen: &mut Seen,
     text: &[u8],
 ) -> Result<MoveList, GameFault>
-    requires length { length text.now ≤ 65536 }
+    requires length { length text.now ≤ greatest_line }
     requires fresh { (G.course game.old).made ≡ [] }
     requires few { length (parts text.now) ≤ 5000 }
     requires room { length (parts text.now) ≤ (G.course game.old).spare }
@@ -203,7 +204,7 @@ fn read_moves<G: Game + Drop>(
     declared: Declared,
     text: &[u8],
 ) -> Result<Parsed, GameFault>
-    requires { length text.now ≤ 65536 }
+    requires { length text.now ≤ greatest_line }
     ensures { Agrees result (at_moves repetition declared.game_type declared.state declared.turn
         (parts text.now) (first_empty (parts text.now) 4)) }
 {
@@ -235,7 +236,7 @@ fn read_turn_on<G: Game + Drop>(
     state: State,
     text: &[u8],
 ) -> Result<Parsed, GameFault>
-    requires { length text.now ≤ 65536 }
+    requires { length text.now ≤ greatest_line }
     ensures { Agrees result (after_state repetition game_type state (parts text.now)) }
 {
     let (part, more) = cut(text);
@@ -260,7 +261,7 @@ fn read_state_on<G: Game + Drop>(
     game_type: GameType,
     text: &[u8],
 ) -> Result<Parsed, GameFault>
-    requires { length text.now ≤ 65536 }
+    requires { length text.now ≤ greatest_line }
     ensures { Agrees result (after_type repetition game_type (parts text.now)) }
 {
     let (part, more) = cut(text);
@@ -289,7 +290,7 @@ fn game_of<G: Game + Drop>(
     repetition: bool,
     text: &[u8],
 ) -> Result<Parsed, GameFault>
-    requires { length text.now ≤ 65536 }
+    requires { length text.now ≤ greatest_line }
     ensures { Agrees result (game_under repetition text.now) }
 {
     let (part, more) = cut(text);
@@ -315,7 +316,7 @@ pub fn read_game_under<G: Game + Drop>(
     text: &[u8],
     repetition: bool,
 ) -> Result<Parsed, GameFault>
-    requires { length text.now ≤ 65536 }
+    requires { length text.now ≤ greatest_line }
     ensures game { IfOk result (λ g. IsGameLineUnder repetition text.now g.game_type g.moves) }
     ensures only { (t : AnyType) (ms : List AnyMove) → IsGameLineUnder repetition text.now t ms
         → IfErr result (λ fault. fault ≡ GameFault.Memory) }
@@ -338,7 +339,7 @@ pub fn read_game_under<G: Game + Drop>(
 /// read or is not legal, and a state or a turn that is not that of the game: the first of these, in
 /// this order. And want of memory.
 pub fn read_game<G: Game + Drop>(alloc: Global, text: &[u8]) -> Result<Parsed, GameFault>
-    requires { length text.now ≤ 65536 }
+    requires { length text.now ≤ greatest_line }
     ensures game { IfOk result (λ g. IsGameLine text.now g.game_type g.moves) }
     ensures only { (t : AnyType) (ms : List AnyMove) → IsGameLine text.now t ms
         → IfErr result (λ fault. fault ≡ GameFault.Memory) }

@@ -93,7 +93,7 @@ pub fn write_game_under<G: Game + Drop>(
         ++ string_under repetition (G.course game.now).game_type (G.course game.now).made) }
     ensures refused { OnErr result (out.new ≡ out.old) }
 {
-    let _state = game.state();
+    game.is_sound();
     let state = outcome(alloc, game, repetition)?;
     let texts = texts_of(alloc, game)?;
     texts.write(game.game_type(), state, game.side(), game.turn(), out)

@@ -3,7 +3,7 @@
 ghost use Rattle.std.specs.Prelude.{◌≡◌, ◌↔◌, IsTrue};
 ghost use Rattle.hive_model.specs.Boards.{is_occupied};
 ghost use Rattle.hive_model.specs.Neighbours.{ring, ring_mask};
-ghost use Rattle.hive_model.specs.Places.{IsWithin, step};
+ghost use Rattle.hive_model.specs.Places.{step, IsOnTheMap};
 ghost use Rattle.hive_model.specs.Steps.{FreeStep};
 
 use crate::climb_toward;
@@ -14,7 +14,7 @@ use hive_model::{Board, Dir, Place};
 /// at hand. Heights are asked for only where both common neighbours are occupied.
 pub fn climb_amid<B: Board>(board: &B, from: Place, dir: Dir, to: Place, taken: u8) -> bool
     requires leads { to ≡ step from dir }
-    requires within { IsWithin 9500 from }
+    requires within { IsOnTheMap from }
     requires taken { taken ≡ ring_mask (ring (is_occupied (B.stacks board.now)) from) }
     ensures { IsTrue result ↔ FreeStep (B.stacks board.now) from to }
 {

@@ -6,7 +6,7 @@ mod slides;
 
 ghost use Rattle.std.specs.Prelude.{◌≡◌, ◌↔◌, IsTrue, max, ◌&&◌};
 ghost use Rattle.hive_model.specs.Boards.{is_occupied};
-ghost use Rattle.hive_model.specs.Places.{AreNeighbours, IsWithin, step};
+ghost use Rattle.hive_model.specs.Places.{AreNeighbours, step, IsOnTheMap};
 ghost use Rattle.gates.specs.Beside.{is_beside_one};
 ghost use Rattle.hive_model.specs.Steps.{
   GroundStep,
@@ -25,7 +25,7 @@ pub use slides::{has_dir, slides_from, slides_from_empty, split_first};
 /// often one of them is empty.
 #[tactic(auto, using(hive_model::proofs::PlaceLemmas::wider))]
 fn is_blocked<B: Board>(board: &B, from: Place, dir: Dir) -> bool
-    requires { IsWithin 9500 from }
+    requires { IsOnTheMap from }
     ensures { result ≡ is_blocked (B.stacks board.now) from dir }
 {
     let before = board.height(from.step(dir.before()));
@@ -43,7 +43,7 @@ fn is_blocked<B: Board>(board: &B, from: Place, dir: Dir) -> bool
 /// Whether exactly one of the two common neighbours of the places of a step is occupied.
 #[tactic(auto, using(hive_model::proofs::PlaceLemmas::wider))]
 fn is_beside_one<B: Board>(board: &B, from: Place, dir: Dir) -> bool
-    requires { IsWithin 9500 from }
+    requires { IsOnTheMap from }
     ensures { result ≡ is_beside_one (B.stacks board.now) from dir }
 {
     let before = is_occupied(board, from.step(dir.before()));
@@ -55,7 +55,7 @@ fn is_beside_one<B: Board>(board: &B, from: Place, dir: Dir) -> bool
 #[tactic(auto, using(hive_model::proofs::PlaceLemmas::wider))]
 fn is_ground<B: Board>(board: &B, from: Place, dir: Dir, to: Place) -> bool
     requires leads { to ≡ step from dir }
-    requires within { IsWithin 9500 from }
+    requires within { IsOnTheMap from }
     ensures { result ≡ ground_at (B.stacks board.now) from dir }
 {
     board.height(to) == 0 && is_beside_one(board, from, dir) && board.height(from) == 0
@@ -66,7 +66,7 @@ fn is_ground<B: Board>(board: &B, from: Place, dir: Dir, to: Place) -> bool
 #[tactic(auto, using(hive_model::proofs::PlaceLemmas::wider))]
 pub fn slide_ok<B: Board>(board: &B, from: Place, to: Place) -> bool
     requires near { AreNeighbours from to }
-    requires within { IsWithin 9500 from }
+    requires within { IsOnTheMap from }
     ensures { IsTrue result ↔ GroundStep (B.stacks board.now) from to }
 {
     ground_to(board, from, to)
@@ -75,7 +75,7 @@ pub fn slide_ok<B: Board>(board: &B, from: Place, to: Place) -> bool
 /// The same, where the direction of the step is at hand.
 pub fn slide_toward<B: Board>(board: &B, from: Place, dir: Dir, to: Place) -> bool
     requires leads { to ≡ step from dir }
-    requires within { IsWithin 9500 from }
+    requires within { IsOnTheMap from }
     ensures { IsTrue result ↔ GroundStep (B.stacks board.now) from to }
 {
     is_ground(board, from, dir, to)
@@ -83,23 +83,23 @@ pub fn slide_toward<B: Board>(board: &B, from: Place, dir: Dir, to: Place) -> bo
 
 #[tactic(auto, using(hive_model::proofs::PlaceLemmas::wider))]
 fn ground_to<B: Board>(board: &B, from: Place, to: Place) -> bool
-    requires { IsWithin 9500 from }
+    requires { IsOnTheMap from }
     ensures { result ≡ is_ground_step (B.stacks board.now) from to }
 {
     Dir::ALL.iter().any(
         |d| -> bool
-            requires { IsWithin 9500 from }
+            requires { IsOnTheMap from }
         { from.step(*d).is(to) && is_ground(board, from, *d, from.step(*d)) },
     )
 }
 
 fn free_to<B: Board>(board: &B, from: Place, to: Place) -> bool
-    requires { IsWithin 9500 from }
+    requires { IsOnTheMap from }
     ensures { result ≡ is_free (B.stacks board.now) from to }
 {
     Dir::ALL.iter().any(
         |d| -> bool
-            requires { IsWithin 9500 from }
+            requires { IsOnTheMap from }
         { from.step(*d).is(to) && !is_blocked(board, from, *d) },
     )
 }
@@ -110,7 +110,7 @@ fn free_to<B: Board>(board: &B, from: Place, to: Place) -> bool
 #[tactic(auto, using(hive_model::proofs::PlaceLemmas::wider))]
 pub fn climb_ok<B: Board>(board: &B, from: Place, to: Place) -> bool
     requires near { AreNeighbours from to }
-    requires within { IsWithin 9500 from }
+    requires within { IsOnTheMap from }
     ensures { IsTrue result ↔ FreeStep (B.stacks board.now) from to }
 {
     free_to(board, from, to)
@@ -119,7 +119,7 @@ pub fn climb_ok<B: Board>(board: &B, from: Place, to: Place) -> bool
 /// The same, where the direction of the step is at hand.
 pub fn climb_toward<B: Board>(board: &B, from: Place, dir: Dir, to: Place) -> bool
     requires leads { to ≡ step from dir }
-    requires within { IsWithin 9500 from }
+    requires within { IsOnTheMap from }
     ensures { IsTrue result ↔ FreeStep (B.stacks board.now) from to }
 {
     !is_blocked(board, from, dir)

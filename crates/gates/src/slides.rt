@@ -4,7 +4,7 @@ ghost use Rattle.std.specs.Prelude.{◌≡◌, ◌≢◌, ◌<◌, Bool, IsTrue,
 ghost use Rattle.hive_model.specs.declared.places.Dir.{Dir};
 ghost use Rattle.hive_model.specs.Boards.{is_occupied};
 ghost use Rattle.hive_model.specs.Neighbours.{ring_mask};
-ghost use Rattle.hive_model.specs.Places.{IsWithin};
+ghost use Rattle.hive_model.specs.Places.{IsOnTheMap};
 ghost use Rattle.gates.specs.Slides.{AreSlides, has_dir, slides};
 
 use hive_model::{Board, Dir, Place, is_occupied};
@@ -51,7 +51,7 @@ fn slides_amid(mask: u8) -> u8
 /// board is the one without the moving piece.
 pub fn slides_from_empty<B: Board>(board: &B, from: Place) -> u8
     requires empty { is_occupied (B.stacks board.now) from ≡ false }
-    requires within { IsWithin 9500 from }
+    requires within { IsOnTheMap from }
     ensures slides { AreSlides (B.stacks board.now) from result }
     ensures bound { result < 64 }
 {
@@ -60,7 +60,7 @@ pub fn slides_from_empty<B: Board>(board: &B, from: Place) -> u8
 
 /// The directions of ground steps from a place, as a mask. From an occupied place there is none.
 pub fn slides_from<B: Board>(board: &B, from: Place) -> u8
-    requires within { IsWithin 9500 from }
+    requires within { IsOnTheMap from }
     ensures slides { AreSlides (B.stacks board.now) from result }
     ensures bound { result < 64 }
 {

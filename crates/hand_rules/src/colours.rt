@@ -1,7 +1,7 @@
 //! Colours on the board, and where a side may place.
 
 ghost use Rattle.std.specs.Prelude.{◌≡◌, ◌↔◌, Option, IsTrue};
-ghost use Rattle.hive_model.specs.Places.{IsWithin, step};
+ghost use Rattle.hive_model.specs.Places.{IsWithin, step, IsOnTheMap};
 ghost use Rattle.hive_model.specs.Boards.{IsBoard, top_at};
 ghost use Rattle.hive_model.specs.Placement.{
   MayPlace,
@@ -22,8 +22,7 @@ pub fn has_colour<B: Board>(board: &B, colour: Colour) -> bool
     ensures answer { result ≡ has_colour (B.stacks board.now) colour }
     ensures board { IsBoard (B.stacks board.now) }
 {
-    // each board that answers where a piece stands is sound
-    let _spot = board.spot(Piece::at(0));
+    board.is_board();
     for x in 0..28u8 {
         let piece = Piece::at(x);
         if piece.colour().is(colour) && board.spot(piece).is_some() {
@@ -81,7 +80,7 @@ fn is_beside<B: Board>(board: &B, place: Place) -> bool
 /// The test of `may_place`.
 #[tactic(auto, using(hive_model::proofs::PlaceLemmas::wider))]
 fn may_stand<B: Board>(board: &B, colour: Colour, place: Place) -> bool
-    requires { IsWithin 9500 place }
+    requires { IsOnTheMap place }
     ensures { result ≡ may_place (B.stacks board.now) colour place }
 {
     if board.height(place) > 0 {
@@ -100,7 +99,7 @@ fn may_stand<B: Board>(board: &B, colour: Colour, place: Place) -> bool
 /// (0,0); where the other side alone has pieces on the board it is beside one of them; else it
 /// touches a top piece of this colour and none of the other.
 pub fn may_place<B: Board>(board: &B, colour: Colour, place: Place) -> bool
-    requires { IsWithin 9500 place }
+    requires { IsOnTheMap place }
     ensures { IsTrue result ↔ MayPlace (B.stacks board.now) colour place }
 {
     may_stand(board, colour, place)

@@ -2,6 +2,8 @@
 ghost use Rattle.std.specs.Prelude.{◌≡◌, ◌≢◌, ◌≤◌, [], ◌∷◌, ◌++◌, length, true, false, IfOk, OnOk};
 ghost use Rattle.hive_model.specs.Games.{IsGame};
 ghost use Rattle.hive_model.specs.Strings.{string_under};
+ghost use Rattle.hive_model.specs.Lines.{greatest_line};
+ghost use Rattle.hive_model.specs.Courses.{most_plies};
 ghost use Rattle.game_text.specs.Reading.{game_under};
 ghost use Rattle.uhp_session.specs.Answers.{line_in, IsShort};
 ghost use Rattle.command_runs.specs.Reasons.{reason};
@@ -45,7 +47,7 @@ fn written<G: Game + Drop>(
     moves: &[Move],
 ) -> Result<ReplyText, AllocError>
     requires game { IsGame game_type moves.now }
-    requires few { length moves.now ≤ 5064 }
+    requires few { length moves.now ≤ most_plies }
     ensures { IfOk result (λ t. t ≡ string_under repetition game_type moves.now ++ 10 ∷ []) }
 {
     let game = played::<G>(alloc, game_type, moves, 0)?;
@@ -61,7 +63,7 @@ fn answer_text<G: Game + Drop>(
     repetition: bool,
     line: &[u8],
 ) -> Result<Answer, AllocError>
-    requires { length line.now ≤ 65536 }
+    requires { length line.now ≤ greatest_line }
     ensures text { IfOk result (λ a. a.text
         ≡ game_answer repetition (game_under repetition line.now)) }
     ensures refused { IfOk result (λ a. a.refused ≡ is_fault (game_under repetition line.now)) }

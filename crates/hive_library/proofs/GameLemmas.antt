@@ -1,12 +1,11 @@
 -- From what was found on the way to what is answered of a game.
-use Rattle.std.proofs.Common.{◌≡◌, ◌≢◌, sym, subst, ap, inl, inr, refl}
-use Rattle.std.specs.Prelude.{Result, Ok, Err}
+use Rattle.std.proofs.Common.{◌≡◌, ◌≢◌, ap, refl}
+use Rattle.std.specs.Prelude.{Result, Err}
 use Rattle.game_text.specs.Reading.{Fails}
 use Rattle.game_text.specs.declared.faults.GameFault.{GameFault}
 use Rattle.game_text.specs.declared.faults.GameFault.TheVariants.{Malformed, TooLong, BadMove, IllegalMove, OtherState, OtherTurn, Memory as NoMemory}
 use Rattle.game_text.specs.declared.parsed.Parsed.{Parsed}
-use Rattle.hive_library.specs.Games.{of_game, or_no_game}
-use Rattle.hive_library.specs.Rooms.{Answer, IsFound}
+use Rattle.hive_library.specs.Games.{or_no_game}
 use Rattle.hive_library.specs.declared.faults.Fault.{Fault}
 use Rattle.hive_library.specs.declared.faults.Fault.TheVariants.{NoGame}
 
@@ -19,10 +18,3 @@ no_game (BadMove number fault) read other fails = ap or_no_game fails
 no_game (IllegalMove number) read other fails = ap or_no_game fails
 no_game OtherState read other fails = ap or_no_game fails
 no_game OtherTurn read other fails = ap or_no_game fails
-
-pub of_none : (read : Result Parsed Fault) (answer : Parsed → Answer) (fault : Fault) → IsFound (Err fault) read → IsFound (Err fault) (of_game read answer)
-of_none read answer fault (inl memory) = inl memory
-of_none read answer fault (inr is) = inr (ap (λ (r : Result Parsed Fault). of_game r answer) is)
-
-pub of_some : (read : Result Parsed Fault) (answer : Parsed → Answer) (game : Parsed) (told : Answer) → read ≡ Ok game → IsFound told (answer game) → IsFound told (of_game read answer)
-of_some read answer game told is found = subst (λ (r : Result Parsed Fault). IsFound told (of_game r answer)) (sym is) found

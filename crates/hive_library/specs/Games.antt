@@ -7,6 +7,7 @@ use Rattle.hive_model.specs.Courses.{Course, is_listed}
 use Rattle.hive_model.specs.Denotes.{text}
 use Rattle.hive_model.specs.Legal.{is_over, moves}
 use Rattle.hive_model.specs.Strings.{string_under}
+use Rattle.hive_model.specs.Lines.{greatest_line}
 use Rattle.move_text.specs.declared.faults.MoveFault.{MoveFault}
 use Rattle.move_text.specs.declared.faults.MoveFault.TheVariants.{NotAMove, NoSuchPiece, NotInPlay as NoneThere}
 use Rattle.move_text.specs.Moves.{move_of}
@@ -20,10 +21,6 @@ use Rattle.hive_library.specs.declared.faults.Fault.{Fault}
 use Rattle.hive_library.specs.declared.faults.Fault.TheVariants.{NoGame, OutOfRange, Unreadable, NotInPlay, NotLegal, GameOver, FullGame}
 
 -- The game of a line
-
--- the greatest number of bytes of a line
-abbrev pub greatest_line : ℕ
-greatest_line = 65536
 
 abbrev pub or_no_game : Result Parsed GameFault → Result Parsed Fault
 or_no_game (Ok game) = Ok game

@@ -9,6 +9,7 @@ ghost use Rattle.hive_model.specs.Legal.{moves};
 ghost use Rattle.hive_model.specs.Lists.{IsOn};
 ghost use Rattle.hive_model.specs.Minimax.{best};
 ghost use Rattle.hive_model.specs.Strings.{string_under};
+ghost use Rattle.hive_model.specs.Lines.{greatest_line};
 ghost use Rattle.move_text.specs.Moves.{move_of};
 ghost use Rattle.uhp_session.specs.Answers.{joined, text_of_best};
 ghost use Rattle.hive_library.specs.Rooms.{IsFound};
@@ -174,7 +175,7 @@ pub(crate) fn best_move<G: Game + Drop>(
 
 /// The move that the words denote on the board of a game under way, or why they denote none.
 fn read_in<G: Game>(game: &G, words: &[u8]) -> Result<Move, MoveFault>
-    requires { length words.now ≤ 65536 }
+    requires { length words.now ≤ greatest_line }
     ensures { result ≡ move_of (G.course game.now).game_type
         (position (G.course game.now)).board words.now }
 {

@@ -5,7 +5,7 @@ use Rattle.hive_model.specs.declared.places.Move.{Move}
 use Rattle.hive_model.specs.Positions.{Position}
 use Rattle.hive_model.specs.Legal.{moves, is_over}
 use Rattle.hive_model.specs.Games.{after}
-use Rattle.hive_model.specs.Minimax.{reply_value}
+use Rattle.hive_model.specs.Minimax.{reply_value, lowest}
 
 -- the greatest of these counts, or 0 where there is none
 abbrev pub most_by : {X : Type 0} → (X → ℕ) → List X → ℕ
@@ -51,6 +51,6 @@ root_cost tried worth g (m ∷ ms) = tried m g + root_cost tried worth (int_max 
 unfoldable pub share : Position → ℕ → ℕ → ℕ → ℕ
 share p d w W =
     let mine = every_from 0 w W (moves p) in
-    root_cost (λ m g. 1 + cost (after p m) (d - 1) (negsuc 1000099) (pos 1 -ℤ g))
+    root_cost (λ m g. 1 + cost (after p m) (d - 1) lowest (pos 1 -ℤ g))
     (reply_value p (d - 1)) (negsuc 1000089) mine
-    + most_by (λ m. 1 + cost (after p m) (d - 1) (negsuc 1000099) (pos 1000091)) mine
+    + most_by (λ m. 1 + cost (after p m) (d - 1) lowest (pos 1000091)) mine

@@ -9,6 +9,10 @@ use Rattle.hive_model.specs.Positions.{Position, opening}
 use Rattle.hive_model.specs.Legal.{moves}
 use Rattle.hive_model.specs.Games.{replay}
 
+-- A game that is read has at most 5,000 plies, and a search goes on from there for at most 64.
+abbrev pub most_plies : ℕ
+most_plies = 5064
+
 -- a game type, the moves made so far, and for how many more plies there is room
 pub record Course : Type 0 where
   pub game_type : GameType

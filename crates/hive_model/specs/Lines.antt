@@ -3,6 +3,10 @@
 use Rattle.std.specs.Prelude.{◌≡◌, ℕ, ◌-◌, ◌==◌, nat_lt, if◌then◌else◌, List, [], ◌∷◌, length, map, take, slice_index, Option, Some, None}
 use Rattle.hive_model.specs.Lists.{onto}
 
+-- a line has at most so many bytes
+abbrev pub greatest_line : ℕ
+greatest_line = 65536
+
 -- a line is its text, or the mark that it is too long
 pub data Line : Type 0 where
   Text : (bytes : List ℕ) → Line
@@ -30,7 +34,7 @@ without_cr part =
 
 -- a part of more than 65,536 bytes, a last CR counted, is too long
 unfoldable pub line_of : List ℕ → Line
-line_of part = if nat_lt 65536 (length part) then TooLong else Text (without_cr part)
+line_of part = if nat_lt greatest_line (length part) then TooLong else Text (without_cr part)
 
 -- the lines of a stream
 unfoldable pub lines : List ℕ → List Line

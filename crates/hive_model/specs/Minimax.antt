@@ -1,5 +1,5 @@
 -- Minimax, with no windows, no table and no order but that of the legal moves.
-use Rattle.std.specs.Prelude.{◌≡◌, ℕ, zero, suc, ◌+◌, ◌-◌, ◌<◌, ◌/◌, false, List, [], ◌∷◌, map, slice_get, ℤ, pos, neg_ℤ, int_le, ◌≤ℤ◌, ◌<ℤ◌, Option, Some, None, unwrap_or, find}
+use Rattle.std.specs.Prelude.{◌≡◌, ℕ, zero, suc, ◌+◌, ◌-◌, ◌<◌, ◌/◌, false, List, [], ◌∷◌, map, slice_get, ℤ, pos, negsuc, neg_ℤ, int_le, ◌≤ℤ◌, ◌<ℤ◌, Option, Some, None, unwrap_or, find}
 use Rattle.std.specs.List.{sum_by}
 use Rattle.std.specs.Int.{int_max}
 use Rattle.hive_model.specs.declared.pieces.Colour.{Colour}
@@ -13,6 +13,14 @@ use Rattle.hive_model.specs.Games.{after}
 use Rattle.hive_model.specs.Evaluation.{eval}
 
 -- Values
+
+-- every window's ends lie from the lowest to the highest number, and what a position is worth
+-- strictly between them
+abbrev pub lowest : ℤ
+lowest = negsuc 1000099
+
+abbrev pub highest : ℤ
+highest = pos 1000100
 
 -- What the end of a game is worth to a side, where d plies were left to search: a draw is worth
 -- nothing, and a win is worth the more the sooner it comes. None where the game goes on.

@@ -26,7 +26,14 @@ ghost use Rattle.hive_model.specs.Positions.{IsSound};
 ghost use Rattle.hive_model.specs.Legal.{moves};
 ghost use Rattle.hive_model.specs.Legal as rules;
 ghost use Rattle.hive_model.specs.Games.{IsGame, after};
-ghost use Rattle.hive_model.specs.Courses.{Course, position, with_move, without_last, is_listed};
+ghost use Rattle.hive_model.specs.Courses.{
+  Course,
+  position,
+  with_move,
+  without_last,
+  is_listed,
+  most_plies,
+};
 ghost use Rattle.hive_model.specs.Stack.{with_level};
 ghost use Rattle.hive_model.specs.Evaluation.{eval};
 ghost use Rattle.hive_model.specs.Minimax.{value, reply_value};
@@ -58,7 +65,7 @@ pub trait Game: Board + Sized {
     /// Makes room for at least this many more plies; what room there is stays. Nothing else
     /// changes, and nothing at all after want of memory.
     fn reserve(&mut self, plies: u32) -> Result<(), AllocError>
-        requires { length (course self.old).made + plies ≤ 5064 }
+        requires { length (course self.old).made + plies ≤ most_plies }
         ensures room { OnOk result (plies ≤ (course self.new).spare) }
         ensures kept { (course self.old).spare ≤ (course self.new).spare }
         ensures same { course self.new ≡ record {
@@ -75,7 +82,7 @@ pub trait Game: Board + Sized {
     /// The number of plies played, at most 5,064.
     fn plies(&self) -> u32
         ensures plies { result ≡ length (course self.now).made }
-        ensures few { result ≤ 5064 };
+        ensures few { result ≤ most_plies };
 
     /// The move of a ply, counted from 0.
     fn move_at(&self, i: u32) -> Move

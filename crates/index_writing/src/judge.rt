@@ -1,7 +1,7 @@
 //! Who can tell whether a claim is true.
 
-ghost use Rattle.std.specs.Prelude.{◌≡◌, ◌≤◌, ◌<ℤ◌, ◌≤ℤ◌, ℕ, ℤ, pos, negsuc};
-ghost use Rattle.hive_model.specs.Minimax.{value};
+ghost use Rattle.std.specs.Prelude.{◌≡◌, ◌≤◌, ◌<ℤ◌, ◌≤ℤ◌, ℕ, ℤ};
+ghost use Rattle.hive_model.specs.Minimax.{value, lowest, highest};
 ghost use Rattle.hive_model.specs.Courses.{position};
 ghost use Rattle.search_laws.specs.Found.{IsFound};
 ghost use Rattle.search_laws.specs.Laws.{IsSmall};
@@ -33,8 +33,8 @@ pub trait Judge {
 fn window_of(limit: Limit) -> Window
     requires { IsSmall 1000090 (number limit) }
     ensures open_ { result.alpha <ℤ result.beta }
-    ensures alpha { negsuc 1000099 ≤ℤ result.alpha }
-    ensures beta { result.beta ≤ℤ pos 1000100 }
+    ensures alpha { lowest ≤ℤ result.alpha }
+    ensures beta { result.beta ≤ℤ highest }
     ensures tells { (v w : ℤ) → IsFound v result w → is_kept limit w ≡ is_kept limit v }
 {
     match limit {

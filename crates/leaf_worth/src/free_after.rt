@@ -1,20 +1,10 @@
 //! Which piece is free no more, or is free then, after another one was put.
 
-ghost use Rattle.std.specs.Prelude.{
-  ◌≡◌,
-  ◌≢◌,
-  ◌<◌,
-  ◌≤◌,
-  ℕ,
-  Some,
-  IsNone,
-  IsTrue,
-  IfSome,
-};
+ghost use Rattle.std.specs.Prelude.{◌≡◌, ◌≢◌, ◌<◌, ◌≤◌, ℕ, Some, IsNone, IsTrue, IfSome};
 ghost use Rattle.hive_model.specs.declared.places.Dir.{Dir};
 ghost use Rattle.hive_model.specs.Boards.{IsBoard, height_at, is_occupied, put, spot_of, top_at};
 ghost use Rattle.hive_model.specs.Hive.{OneHive};
-ghost use Rattle.hive_model.specs.Places.{IsWithin, step};
+ghost use Rattle.hive_model.specs.Places.{IsWithin, step, IsOnTheMap};
 ghost use Rattle.hive_model.specs.Neighbours.{bit_of, ring, ring_mask, weight};
 ghost use Rattle.arc_law.specs.Arcs.{OneArc};
 ghost use Rattle.arc_table.specs.Masks.{arcs};
@@ -45,7 +35,7 @@ fn opposite(dir: Dir) -> Dir
 #[tactic(auto, using(hive_model::proofs::PlaceLemmas::wider))]
 fn cut_bit<B: Cuts>(board: &B, place: Place, dir: Dir, mask: u8) -> u8
     requires sound { IsBoard (B.stacks board.now) }
-    requires within { IsWithin 9500 place }
+    requires within { IsOnTheMap place }
     requires mask { mask ≡ ring_mask (ring (is_occupied (B.stacks board.now)) place) }
     ensures bit { result ≡ bit_of (is_inner_cut (B.stacks board.now) place) dir }
     ensures few { result ≤ weight dir }
@@ -59,7 +49,7 @@ fn cut_bit<B: Cuts>(board: &B, place: Place, dir: Dir, mask: u8) -> u8
 /// The neighbours that are cut places within the one arc of the neighbours, as a mask.
 fn inner_cuts<B: Cuts>(board: &B, place: Place, mask: u8) -> u8
     requires sound { IsBoard (B.stacks board.now) }
-    requires within { IsWithin 9500 place }
+    requires within { IsOnTheMap place }
     requires mask { mask ≡ ring_mask (ring (is_occupied (B.stacks board.now)) place) }
     ensures { result ≡ ring_mask (is_inner_cut (B.stacks board.now) place) }
 {
@@ -178,7 +168,7 @@ pub(crate) fn free_change<B: Cuts>(
     ensures { IfSome result (FreeAfter (B.stacks board.now) piece place) }
 {
     let _number = piece.index();
-    let _spot = board.spot(piece);
+    board.is_board();
     if let Some(top) = board.top(place) {
         return Some(Some(FreeChange::Lost(top)));
     }

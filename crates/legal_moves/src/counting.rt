@@ -62,8 +62,7 @@ pub fn count_moves<B: Cuts>(board: &B, turn: &Turn, over: bool) -> u32
     if over {
         return 0;
     }
-    // each board that answers where a piece stands is sound
-    let _spot = board.spot(Piece::at(0));
+    board.is_board();
     let pairs = count_pairs(board, turn);
     if pairs == 0 {
         return 1;

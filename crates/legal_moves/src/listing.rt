@@ -88,8 +88,7 @@ pub fn list<B: Cuts>(board: &B, turn: &Turn, over: bool, out: &mut MoveStack)
     if over {
         return;
     }
-    // each board that answers where a piece stands is sound
-    let _spot = board.spot(Piece::at(0));
+    board.is_board();
     push_pairs(board, turn, out);
     if out.level_len(out.levels() - 1) == 0 {
         out.push(Move::Pass);

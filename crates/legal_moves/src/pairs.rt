@@ -5,7 +5,7 @@ ghost use Rattle.hive_model.specs.declared.places.Place.{Place};
 ghost use Rattle.hive_model.specs.Lists.{IsOn};
 ghost use Rattle.hive_model.specs.PlaceLists.{AreAll};
 ghost use Rattle.hive_model.specs.Boards.{IsBoard};
-ghost use Rattle.hive_model.specs.Places.{IsWithin};
+ghost use Rattle.hive_model.specs.Places.{IsOnTheMap};
 ghost use Rattle.hive_model.specs.Legal.{LegalPair, is_over, moves};
 ghost use Rattle.legal_moves.specs.Going.{position_of};
 ghost use Rattle.legal_moves.specs.Listing.{HasPair};
@@ -31,7 +31,7 @@ fn piece_places<B: Cuts>(board: &B, turn: &Turn, piece: Piece, out: &mut PlaceLi
 
 /// Whether the place is no further out than places beside the hive can be.
 fn is_within(place: Place) -> bool
-    ensures { IsTrue result ↔ IsWithin 9500 place }
+    ensures { IsTrue result ↔ IsOnTheMap place }
 {
     if place.q < -9500 {
         return false;
@@ -97,8 +97,7 @@ pub fn is_legal_move<B: Cuts>(board: &B, turn: &Turn, over: bool, m: Move) -> bo
     if over {
         return false;
     }
-    // each board that answers where a piece stands is sound
-    let _spot = board.spot(Piece::at(0));
+    board.is_board();
     match m {
         Move::Pass => !has_pair(board, turn),
         Move::To { piece, place } => is_pair(board, turn, piece, place),

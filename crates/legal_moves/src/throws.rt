@@ -217,7 +217,7 @@ fn is_thrown_by<B: Cuts>(board: &B, turn: &Turn, thrower: Piece, piece: Piece, p
     let Some(over) = throwing_spot(board, thrower, again(&turn.rest)) else {
         return false;
     };
-    let _spot = board.spot(thrower);
+    board.is_board();
     if !may_be_thrown(board, over.place, piece, again(&turn.rest)) {
         return false;
     }

@@ -1,9 +1,8 @@
 -- What an answer does to the lines to come.
-use Rattle.std.proofs.Common.{◌≡◌, ◌≢◌, ◌<◌, ◌≤◌, ℕ, ◌+◌, Bool, true, false, List, [], ◌∷◌, ◌++◌, length, refl, ap, sym, ◌∙◌, arith, append_assoc, length-append, None, Some, if◌then◌else◌, ◌↔◌, inl, inr}
+use Rattle.std.proofs.Common.{◌≡◌, ◌<◌, ◌≤◌, ℕ, ◌+◌, Bool, true, false, List, [], ◌∷◌, ◌++◌, length, refl, ap, sym, ◌∙◌, arith, append_assoc, length-append, None, Some, if◌then◌else◌, ◌↔◌}
 use Rattle.std.specs.Bool.{MatchBool}
 use Rattle.std.specs.Option.{option_map}
 use Rattle.std.proofs.lemmas.List.{append-nil}
-use Rattle.std.proofs.lemmas.Bool.{cases_lt}
 use Rattle.io_edge.specs.Outside.{Told, in_front, IsAtEnd}
 use Rattle.hive_model.specs.Lines.{Line as OneLine, Text, TooLong as LongLine, line_parts, lines, whole_parts, whole_lines}
 use Rattle.line_feed.specs.Feed.{Reading, fresh, pending, SplitsOff, IsLastLine, Gives, Holds, Ends, Feeds, FeedsShort, HoldsLong, Takes, lf_after, input_limit, AddsUp}
@@ -193,34 +192,6 @@ long_counts Full old new r0 r1 (bytes, t, (h, full)) = let s = h.same in (λ e. 
 lf_after-length : (b : Bool) → length (lf_after b) ≤ 1
 lf_after-length true = omega arith
 lf_after-length false = omega arith
-
--- unless the line is too long, a call passes at most 65,537 bytes
-pub passes_little : (a : LineAnswer) (old new : Reading) → (a ≡ TooLong) ↔ (old.passed + 65536 + length (lf_after new.finished) < new.passed) → a ≢ TooLong → new.passed ≤ old.passed + 65537
-passes_little a old new (to, of) other =
-    let one = lf_after-length new.finished in
-    elim (cases_lt (old.passed + 65536 + length (lf_after new.finished)) new.passed) [ inl more ↦ absurd (other (of more)) | inr less ↦ omega arith ]
-
-long_at : (r : Reading) (t : Told) → r.finished ≡ false → whole_lines (pending r) ≡ [] → 65536 < length (pending r) → LongAhead (ahead_of r t)
-long_at r None go none long = rw (ahead_untold r) tt
-long_at r (Some left) go none long =
-    let (more, e) = lines_long (pending r) left none long in
-    rw (ahead_told r left, left_open r.finished (lines (pending r ++ left)) go) (more, e)
-
--- a reader that was far below its limit is full only in a line that is too long
-pub full_ahead : (old new : Reading) (r0 r1 : Told) → (bytes : List ℕ) × Takes r0 r1 old.taken new.taken bytes × Feeds Full old bytes new r1 → (new.passed + 65536 < new.taken → 65536 < length (pending new)) → old.passed + 65536 < input_limit
-    → LongAhead (ahead_of old r0)
-full_ahead old new r0 r1 (bytes, t, (h, full)) f room =
-    let same = h.same in
-    let long : 65536 < length (pending new) = f (omega arith) in
-    rw (← holds_ahead old new r0 r1 bytes t.left h) (long_at new r1 h.goes_on h.no_whole long)
-
--- the next line is too long where a reader has passed over one
-pub long_ahead : (old new : Reading) (r0 r1 : Told) → (bytes : List ℕ) × Takes r0 r1 old.taken new.taken bytes × Feeds TooLong old bytes new r1 → LongAhead (ahead_of old r0)
-long_ahead old new r0 r1 fed = long_of (ahead_of new r1) (ahead_of old r0) (advances TooLong old new r0 r1 fed)
-  where
-    long_of : (later now : ToldLines) → now ≡ option_map (λ ms. LongLine ∷ ms) later → LongAhead now
-    long_of None now e = rw e tt
-    long_of (Some ms) now e = rw e (ms, refl)
 
 -- a reader that has finished is asked again
 pub whole_after_end : (r : Reading) (t : Told) → r.finished ≡ true → MatchBool r.finished (NoneAhead (whole_ahead_of r t)) (NoneAhead (whole_ahead_of r t) × NoneAhead (whole_ahead_of r t))

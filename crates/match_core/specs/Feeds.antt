@@ -91,7 +91,8 @@ MatchesAreOfTheirLines =
 abbrev pub IsFront : {X : Type 0} → List X → List X → Type 0
 IsFront {X} front all = (more : List X) × (all ≡ front ++ more)
 
--- what happens first in the match of these lines is what has happened, but for readings of the clock
+-- what happens first in the match of these lines is what has happened, but for readings of the
+-- clock
 pub record HappensFirst (setup : FullSetup) (hs : List Happening) (white black : List Mark)
     : Type 0 where
   pub fs : List Happening

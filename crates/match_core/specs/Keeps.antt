@@ -1,6 +1,7 @@
 -- What a referee keeps.
 use Rattle.std.specs.Prelude.{◌≡◌, ℕ, ◌+◌, ◌%◌, unwrap_or, ◌^◌, ◌<◌, ◌≤◌, List, [], length}
 use Rattle.hive_model.specs.Courses.{Course, without_last}
+use Rattle.hive_model.specs.Lines.{greatest_line}
 use Rattle.game_text.specs.declared.seen.Seen.{Seen}
 use Rattle.game_text.specs.Seen.{Sees}
 use Rattle.match_core.specs.declared.answers.Setup.{Setup}
@@ -123,7 +124,7 @@ pub record IsReferee (s : Standing) (game : Course) (seen : Seen) (begin text : 
   pub line : begin ≡ begin_line s.setup
   pub asked : s.asked < 2 ^ 62
   pub count : s.count ≤ 1000
-  pub short : length (unwrap_or s.first []) ≤ 65536
+  pub short : length (unwrap_or s.first []) ≤ greatest_line
   pub rule : seen.repetition ≡ s.setup.repetition
   pub sees : SeesAt s.stage seen game
   pub fits : FitsStage s.stage s text

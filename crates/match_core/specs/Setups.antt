@@ -3,6 +3,7 @@ use Rattle.std.specs.Prelude.{ℕ, ◌≤◌, Bool, List, [], length}
 use Rattle.hive_model.specs.declared.pieces.GameType.{GameType}
 use Rattle.hive_model.specs.declared.places.Move.{Move}
 use Rattle.hive_model.specs.Games.{IsGame}
+use Rattle.hive_model.specs.Courses.{most_plies}
 use Rattle.match_core.specs.declared.answers.Setup.{Setup}
 use Rattle.match_core.specs.declared.answers.Level.{Level}
 
@@ -42,4 +43,4 @@ setup_of full = record {
 -- game. There may be more of them than the limit: then the match ends at its limit at once.
 pub record IsBegin (full : FullSetup) : Type 0 where
   pub game : IsGame full.game_type full.begin
-  pub few : length full.begin ≤ 5064
+  pub few : length full.begin ≤ most_plies

@@ -132,7 +132,8 @@ first_line s = unwrap_or s.first []
 abbrev pub judge_read : Standing → List ℕ → Result Move MoveFault → Standing
 judge_read s line (Err fault) = forfeit s (position_now s).side (NotAMove line)
 judge_read s line (Ok m) =
-    cond (is_listed (position_now s) m) (accept s m) (forfeit s (position_now s).side (Illegal line))
+    cond (is_listed (position_now s) m) (accept s m)
+    (forfeit s (position_now s).side (Illegal line))
 
 -- the reply of the side to move is judged
 unfoldable pub judge : Standing → Standing

@@ -14,6 +14,7 @@ ghost use Rattle.std.specs.Prelude.{
 ghost use Rattle.match_core.specs.Setups.{setup_from, setup_plain, IsBegin};
 ghost use Rattle.match_core.specs.Standing.{start, next, happening, act_at, answers};
 ghost use Rattle.match_core.specs.Keeps.{IsSetup, IsSend, line_at, IsEarly};
+ghost use Rattle.hive_model.specs.Lines.{greatest_line};
 
 mod judging;
 mod steps;
@@ -174,7 +175,7 @@ impl<G: Game + Drop> Referee<G> {
     pub fn step(&mut self, event: Event, line: &[u8]) -> Result<(), AllocError>
         requires answers { IsTrue (answers (act_at self.old.stage) (happening event line.now)) }
         requires early { IsEarly event }
-        requires short { length line.now ≤ 65536 }
+        requires short { length line.now ≤ greatest_line }
         ensures ok { OnOk result (self.new ≡ next self.old (happening event line.now)) }
         ensures err { OnErr result (self.new ≡ self.old) }
         ensures memory { OnErr result (event ≡ Event.Line) }

@@ -3,6 +3,7 @@ ghost use Rattle.std.specs.Prelude.{◌≡◌, ◌+◌, ◌≤◌, ◌++◌, len
 ghost use Rattle.hive_model.specs.Courses.{position};
 ghost use Rattle.hive_model.specs.Legal.{moves};
 ghost use Rattle.hive_model.specs.Lists.{IsOn};
+ghost use Rattle.hive_model.specs.Lines.{greatest_line};
 ghost use Rattle.match_core.specs.Setups.{setup_from};
 ghost use Rattle.match_core.specs.Keeps.{IsLevel};
 ghost use Rattle.match_core.specs.Texts.{read_of, begin_line, ask_line, tell_line, most_sent};
@@ -17,11 +18,11 @@ use std::alloc::{AllocError, Global};
 /// The move that a line denotes on the game's board, or why it denotes none.
 #[tactic(auto, unfolding(crate::specs::Texts::read_of))]
 pub(crate) fn read_line<G: Game>(game: &G, line: &[u8]) -> Result<Move, MoveFault>
-    requires { length line.now ≤ 65536 }
+    requires { length line.now ≤ greatest_line }
     ensures { result ≡ read_of (G.course game.now).game_type (position (G.course game.now)).board
         line.now }
 {
-    let _state = game.state();
+    game.is_sound();
     read_move(game.game_type(), game, line)
 }
 
@@ -88,7 +89,7 @@ pub(crate) fn write_tell<G: Game>(text: &mut Vec<u8>, game: &G, m: Move)
     ensures text { text.new.items ≡ tell_line (position (G.course game.now)) m }
     ensures room { most_sent ≤ vec_capacity text.new }
 {
-    let _state = game.state();
+    game.is_sound();
     text.clear();
     match m {
         Move::Pass => put(text, b"pass\n"),

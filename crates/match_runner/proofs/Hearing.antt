@@ -49,10 +49,6 @@ pub long_finishes : (s t : Standing) (side : Colour) → act_at s.stage ≡ Read
 unfolding next
 long_finishes s t side e f = rw f (after_closing s.stage s side TooLong tt e)
 
-pub end_finishes : (s t : Standing) (side : Colour) → act_at s.stage ≡ ReadAct side → t ≡ next s Ended → is_finished t.stage ≡ true
-unfolding next
-end_finishes s t side e f = rw f (after_closing s.stage s side Ended tt e)
-
 pub reads_open : (stage : Stage) (side : Colour) → act_at stage ≡ ReadAct side → is_finished stage ≡ false
 reads_open (Read job at) side e = refl
 reads_open (Send job at) side e = refl

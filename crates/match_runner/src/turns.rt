@@ -1,6 +1,7 @@
 //! One act of a match.
 ghost use Rattle.std.specs.Prelude.{◌≡◌, ◌+◌, ◌<◌, ◌≤◌, false};
 ghost use Rattle.hive_model.specs.declared.pieces.Colour.{Colour};
+ghost use Rattle.hive_model.specs.Lines.{greatest_line};
 ghost use Rattle.io_edge.specs.Outside.{HasCause};
 ghost use Rattle.line_feed.specs.Feed.{HoldsLittle, input_limit};
 ghost use Rattle.line_feed.specs.Ahead.{ahead_of};
@@ -60,7 +61,7 @@ fn listen<L: Link, G: Game + Drop>(
     side: Colour,
 ) -> Acted
     requires act { act_at referee.old.stage ≡ Act.Read side }
-    requires room { reader.old.passed + 65536 < input_limit }
+    requires room { reader.old.passed + greatest_line < input_limit }
     ensures little { HoldsLittle reader.new }
     ensures heard { Hears result referee.old referee.new (ahead_of reader.old (L.rest link.old))
         (ahead_of reader.new (L.rest link.new)) }
@@ -121,9 +122,9 @@ pub(crate) fn one_act<L: Link, C: Clock, G: Game + Drop>(
     clock: &mut C,
 ) -> Acted
     requires white_room { is_finished referee.old.stage ≡ false
-        → white_lines.old.passed + 65536 < input_limit }
+        → white_lines.old.passed + greatest_line < input_limit }
     requires black_room { is_finished referee.old.stage ≡ false
-        → black_lines.old.passed + 65536 < input_limit }
+        → black_lines.old.passed + greatest_line < input_limit }
     requires white_little { HoldsLittle white_lines.old }
     requires black_little { HoldsLittle black_lines.old }
     ensures white_little { HoldsLittle white_lines.new }

@@ -8,7 +8,7 @@ ghost use Rattle.std.specs.List.{list_any};
 ghost use Rattle.hive_model.specs.declared.pieces.Kind.{Kind};
 ghost use Rattle.hive_model.specs.declared.pieces.Kind.TheVariants.{Mosquito};
 ghost use Rattle.hive_model.specs.PlaceLists.{AreAll};
-ghost use Rattle.hive_model.specs.Places.{IsWithin};
+ghost use Rattle.hive_model.specs.Places.{IsOnTheMap};
 ghost use Rattle.hive_model.specs.Reach.{Reach, Copies, CopiesOne};
 ghost use Rattle.bug_moves.specs.Adding.{IsAround, Gains};
 ghost use Rattle.mosquito_moves.specs.Copied.{shows, tops_round, CopiesKind};
@@ -39,7 +39,7 @@ fn shows(top: Option<Piece>, kind: Kind) -> bool
 /// The top pieces of the six neighbours of a place, in the order of the directions.
 #[tactic(auto, using(hive_model::proofs::PlaceLemmas::wider))]
 fn tops_round<B: Board>(board: &B, from: Place) -> [Option<Piece>; 6]
-    requires { IsWithin 9500 from }
+    requires { IsOnTheMap from }
     ensures { result ≡ tops_round (B.stacks board.now) from }
 {
     [
@@ -62,7 +62,7 @@ fn any_shows(tops: &[Option<Piece>], kind: Kind) -> bool
 /// Adds where a bug of this kind goes.
 fn add_reach<B: Board>(board: &B, from: Place, kind: Kind, out: &mut PlaceList)
     requires kind { kind ≢ Mosquito }
-    requires within { IsWithin 9500 from }
+    requires within { IsOnTheMap from }
     requires list { IsAround (B.stacks board.now) out.old.items }
     ensures { Gains (B.stacks board.now) (Reach kind (B.stacks board.now) from) out.old.items
         out.new.items }
@@ -86,7 +86,7 @@ fn copy_kind<B: Board>(
 )
     requires tops { tops.now ≡ tops_round (B.stacks board.now) from }
     requires kind { kind ≢ Mosquito }
-    requires within { IsWithin 9500 from }
+    requires within { IsOnTheMap from }
     requires list { IsAround (B.stacks board.now) out.old.items }
     ensures { Gains (B.stacks board.now) (CopiesKind (B.stacks board.now) from kind) out.old.items
         out.new.items }
@@ -98,7 +98,7 @@ fn copy_kind<B: Board>(
 
 /// Adds where the neighbouring top pieces go, but those that are mosquitoes, each kind once.
 fn copy_neighbours<B: Board>(board: &B, from: Place, out: &mut PlaceList)
-    requires within { IsWithin 9500 from }
+    requires within { IsOnTheMap from }
     requires list { IsAround (B.stacks board.now) out.old.items }
     ensures { Gains (B.stacks board.now) (CopiesOne (B.stacks board.now) from) out.old.items
         out.new.items }
@@ -115,11 +115,10 @@ fn copy_neighbours<B: Board>(board: &B, from: Place, out: &mut PlaceList)
 /// place does, but another mosquito gives it nothing.
 pub fn mosquito_reach<B: Board>(board: &B, from: Place, out: &mut PlaceList)
     requires empty { out.old.items ≡ [] }
-    requires within { IsWithin 9500 from }
+    requires within { IsOnTheMap from }
     ensures { AreAll (Copies (B.stacks board.now) from) out.new.items }
 {
-    // each board that answers where a piece stands is sound
-    let _spot = board.spot(Piece::at(0));
+    board.is_board();
     let height = board.height(from);
     if height > 0 {
         reach(Kind::Beetle, board, from, out);

@@ -10,7 +10,7 @@ use Rattle.hive_model.specs.declared.forms.Mark.{Mark}
 use Rattle.hive_model.specs.declared.forms.Form.{Form}
 use Rattle.hive_model.specs.declared.forms.Form.TheVariants.{Passes, Alone, Beside}
 use Rattle.hive_model.specs.Pieces.{kind_of, has_kind, all_pieces}
-use Rattle.hive_model.specs.Places.{step, origin, IsWithin}
+use Rattle.hive_model.specs.Places.{step, origin, IsOnTheMap}
 use Rattle.hive_model.specs.Boards.{Stacks, without, place_in, is_in_play}
 use Rattle.hive_model.specs.Denotes.{place_by, Candidate}
 use Rattle.move_text.specs.declared.faults.MoveFault.{MoveFault}
@@ -55,4 +55,4 @@ named_beside q m = record { mark = m.0; place = step q m.1 }
 -- the destination has coordinates of at most 9,500
 abbrev pub IsMoveWithin : Move → Type 0
 IsMoveWithin Pass = Unit {0}
-IsMoveWithin (To x q) = IsWithin 9500 q
+IsMoveWithin (To x q) = IsOnTheMap q

@@ -5,9 +5,10 @@ ghost use Rattle.std.specs.List.{list_any};
 ghost use Rattle.hive_model.specs.declared.places.Place.{Place as AnyPlace};
 ghost use Rattle.hive_model.specs.declared.places.Move.{Move as AnyMove};
 ghost use Rattle.hive_model.specs.Pieces.{has_kind, all_pieces};
-ghost use Rattle.hive_model.specs.Places.{IsWithin};
+ghost use Rattle.hive_model.specs.Places.{IsWithin, IsOnTheMap};
 ghost use Rattle.hive_model.specs.Boards.{IsBoard, top_at, is_in_play, without, place_in};
 ghost use Rattle.hive_model.specs.Denotes.{Denotes, place_by, form_of, text as text_of};
+ghost use Rattle.hive_model.specs.Lines.{greatest_line};
 ghost use Rattle.move_text.specs.declared.faults.MoveFault.{MoveFault as AnyFault};
 ghost use Rattle.move_text.specs.Faults.{Refuses};
 ghost use Rattle.move_text.specs.Moves.{judge, move_of, IsMoveWithin};
@@ -112,7 +113,7 @@ fn judge<B: Board>(game_type: GameType, board: &B, len: u32, form: Form) -> Resu
 
 /// The form of the text is read, and then judged.
 fn move_of<B: Board>(game_type: GameType, board: &B, text: &[u8]) -> Result<Move, MoveFault>
-    requires { length text.now ≤ 65536 }
+    requires { length text.now ≤ greatest_line }
     ensures { result ≡ move_of game_type (B.stacks board.now) text.now }
 {
     match read_form(text) {
@@ -133,7 +134,7 @@ fn move_of<B: Board>(game_type: GameType, board: &B, text: &[u8]) -> Result<Move
 /// board that is not empty, and a reference that is not on the board without the moving piece, in
 /// this order.
 pub fn read_move<B: Board>(game_type: GameType, board: &B, text: &[u8]) -> Result<Move, MoveFault>
-    requires length { length text.now ≤ 65536 }
+    requires length { length text.now ≤ greatest_line }
     requires sound { IsBoard (B.stacks board.now) }
     ensures denotes { IfOk result (λ m. Denotes game_type (B.stacks board.now) text.now m) }
     ensures only { (m : AnyMove) → Denotes game_type (B.stacks board.now) text.now m
@@ -180,7 +181,7 @@ const BESIDE: [(Mark, Dir); 6] = [
 #[tactic(auto, using(hive_model::proofs::PlaceLemmas::wider))]
 fn form_to<B: Board>(board: &B, piece: Piece, place: Place) -> Form
     requires sound { IsBoard (B.stacks board.now) }
-    requires within { IsWithin 9500 place }
+    requires within { IsOnTheMap place }
     ensures { result ≡ form_of (B.stacks board.now) (AnyMove.To piece place) }
 {
     if let Some(reference) = top_without(board, piece, place) {

@@ -17,6 +17,7 @@ ghost use Rattle.move_text.specs.Scan.{
   end_of,
   scan,
 };
+ghost use Rattle.hive_model.specs.Lines.{greatest_line};
 
 use hive_model::{Colour, Form, Kind, Mark, Piece, Stroke};
 
@@ -222,7 +223,7 @@ fn after_second(piece: Piece, stroke: Option<Stroke>, naming: &Naming, byte: u8)
 /// the end where the text is only the beginning of a move text.
 #[tactic(auto, unfolding(crate::specs::Scan::scan))]
 pub fn read_form(text: &[u8]) -> Result<Form, u32>
-    requires { length text.now ≤ 65536 }
+    requires { length text.now ≤ greatest_line }
     ensures { result ≡ scan (Progress.First Naming.Empty) text.now 0 }
 {
     let mut progress = Progress::First(Naming::Empty);

@@ -10,7 +10,7 @@ ghost use Rattle.one_hive.specs.Separating.{MarksSeparating};
 use crate::marks::Marks;
 use crate::separating::separating_places;
 use crate::steps::Steps;
-use hive_model::{Board, Piece, Place, PlaceList, place_at};
+use hive_model::{Board, Place, PlaceList, place_at};
 use std::sync::ledger::Ledger;
 
 /// Marks the piece on top of the place, if one is.
@@ -42,7 +42,7 @@ pub fn mark_separating<B: Board, L: Ledger>(board: &B, steps: &mut Steps<L>) -> 
     ensures step { steps.new ≡ steps.old + 1 }
 {
     steps.tick();
-    let _spot = board.spot(Piece::at(0));
+    board.is_board();
     let mut places = PlaceList::new();
     separating_places(board, &mut places);
     tops_of(board, &places)

@@ -7,7 +7,7 @@ ghost use Rattle.hive_model.specs.Boards.{IsBoard, is_occupied, top_at};
 ghost use Rattle.hive_model.specs.Hive.{OneHive, OneHiveOn, IsSeparating};
 ghost use Rattle.hive_model.specs.Lists.{IsOn};
 ghost use Rattle.hive_model.specs.Neighbours.{ring, ring_mask};
-ghost use Rattle.hive_model.specs.Places.{IsWithin, step};
+ghost use Rattle.hive_model.specs.Places.{step, IsOnTheMap};
 ghost use Rattle.one_hive.specs.Visits.{IsSet};
 ghost use Rattle.one_hive.specs.Walks.{others, AreMarked, Joined};
 
@@ -18,13 +18,13 @@ use crate::met::{Met, met_first, spread};
 use crate::separating::dir_amid;
 use crate::steps::Steps;
 use gates::has_dir;
-use hive_model::{Board, Dir, Piece, Place};
+use hive_model::{Board, Dir, Place};
 use std::sync::ledger::Ledger;
 
 /// Marks the piece on top of the neighbour in this direction, if one is. The mask of the occupied
 /// neighbours is at hand: an empty one is not looked at.
 fn mark_toward<B: Board>(board: &B, place: Place, dir: Dir, taken: u8, marks: &mut Marks)
-    requires within { IsWithin 9500 place }
+    requires within { IsOnTheMap place }
     requires taken { taken ≡ ring_mask (ring (is_occupied (B.stacks board.now)) place) }
     ensures { (x : ℕ) → IsSet marks.new x
         ↔ ((top_at (B.stacks board.now) (step place dir) ≡ Some x) ⊎ IsSet marks.old x) }
@@ -38,7 +38,7 @@ fn mark_toward<B: Board>(board: &B, place: Place, dir: Dir, taken: u8, marks: &m
 /// Marks of the pieces on top of the neighbours of a place, where the mask of the occupied ones is
 /// at hand.
 fn tops_beside<B: Board>(board: &B, place: Place, taken: u8) -> Marks
-    requires within { IsWithin 9500 place }
+    requires within { IsOnTheMap place }
     requires taken { taken ≡ ring_mask (ring (is_occupied (B.stacks board.now)) place) }
     ensures { (x : ℕ) → IsSet result x
         ↔ ((d : Dir) × (top_at (B.stacks board.now) (step place d) ≡ Some x)) }
@@ -99,12 +99,12 @@ fn is_one_round<B: Board>(board: &B, place: Place, start: Place, beside: &Marks)
 pub fn walk_parts<B: Board, L: Ledger>(board: &B, place: Place, steps: &mut Steps<L>) -> bool
     requires one_hive { OneHive (B.stacks board.now) }
     requires occupied { IsTrue (is_occupied (B.stacks board.now) place) }
-    requires within { IsWithin 9500 place }
+    requires within { IsOnTheMap place }
     ensures cut { IsTrue result ↔ IsSeparating (B.stacks board.now) place }
     ensures step { steps.new ≡ steps.old + 1 }
 {
     steps.tick();
-    let _spot = board.spot(Piece::at(0));
+    board.is_board();
     let taken = board.neighbours(place);
     match dir_amid(taken) {
         Some(dir) => {

@@ -30,7 +30,7 @@ pub fn count_plies<G: Game>(root: &Key, moves: &[Move], counts: &mut [u64], play
     ensures opening { (G.course played.new).made ≡ [] }
 {
     // tells that the game leads to a board
-    let _state = played.state();
+    played.is_sound();
     let count = played.plies();
     for i in 0..count {
         let m = played.move_at(count - 1 - i);

@@ -1,22 +1,12 @@
 //! Where a piece may be thrown.
 
-ghost use Rattle.std.specs.Prelude.{
-  ◌≡◌,
-  ◌↔◌,
-  ◌<◌,
-  ◌&&◌,
-  [],
-  nat_eq,
-  not,
-  Some,
-  IsTrue,
-};
+ghost use Rattle.std.specs.Prelude.{◌≡◌, ◌↔◌, ◌<◌, ◌&&◌, [], nat_eq, not, Some, IsTrue};
 ghost use Rattle.hive_model.specs.declared.places.Place.{Place};
 ghost use Rattle.hive_model.specs.declared.places.Spot.{Spot};
 ghost use Rattle.hive_model.specs.Boards.{height_at, is_occupied};
 ghost use Rattle.hive_model.specs.Hive.{are_neighbours};
 ghost use Rattle.hive_model.specs.PlaceLists.{AreAll};
-ghost use Rattle.hive_model.specs.Places.{IsWithin, is_place, step, AreNeighbours};
+ghost use Rattle.hive_model.specs.Places.{is_place, step, AreNeighbours, IsOnTheMap};
 ghost use Rattle.hive_model.specs.Positions.{is_piece};
 ghost use Rattle.hive_model.specs.Throws.{IsThrower};
 ghost use Rattle.pillbug_throws.specs.Throwing.{
@@ -33,12 +23,12 @@ use hive_model::{Board, Cuts, Dir, Lifted, Piece, Place, PlaceList, add_place};
 /// Whether a direction leads from one place to the other.
 #[tactic(auto, using(hive_model::proofs::PlaceLemmas::wider))]
 fn are_neighbours(place: Place, other: Place) -> bool
-    requires { IsWithin 9500 place }
+    requires { IsOnTheMap place }
     ensures { result ≡ are_neighbours place other }
 {
     Dir::ALL.iter().any(
         |d| -> bool
-            requires { IsWithin 9500 place }
+            requires { IsOnTheMap place }
         { place.step(*d).is(other) },
     )
 }
@@ -51,7 +41,7 @@ fn is_at_hand<B: Board>(
     from: Place,
     rest: Option<Piece>,
 ) -> bool
-    requires { IsWithin 9500 over }
+    requires { IsOnTheMap over }
     ensures { result ≡ (nat_eq (height_at (B.stacks board.now) from) 1 &&
         (not (is_piece piece rest) && are_neighbours over from)) }
 {
@@ -62,7 +52,7 @@ fn is_at_hand<B: Board>(
 /// rest, stands beside the thrower, and on no cut place.
 fn is_loose<B: Cuts>(board: &B, over: Place, piece: Piece, from: Place, rest: Option<Piece>) -> bool
     requires occupied { IsTrue (is_occupied (B.stacks board.now) from) }
-    requires within { IsWithin 9500 over }
+    requires within { IsOnTheMap over }
     ensures { IsTrue result ↔ IsLoose (B.stacks board.now) rest over piece from }
 {
     if !is_at_hand(board, over, piece, from, rest) {
@@ -73,8 +63,8 @@ fn is_loose<B: Cuts>(board: &B, over: Place, piece: Piece, from: Place, rest: Op
 
 /// Whether the coordinates of two places differ by at most 1 each, as those of neighbours do.
 fn is_close(place: Place, other: Place) -> bool
-    requires place { IsWithin 9500 place }
-    requires other { IsWithin 9500 other }
+    requires place { IsOnTheMap place }
+    requires other { IsOnTheMap other }
     ensures { AreClose place other → IsTrue result }
 {
     if place.q > other.q + 1 {
@@ -95,7 +85,7 @@ fn is_close(place: Place, other: Place) -> bool
 /// Whether the piece, of either colour, can be lifted over a thrower on this place: it is on the
 /// board, alone on a neighbour of the place that is no cut place, and does not rest.
 pub fn may_be_thrown<B: Cuts>(board: &B, over: Place, piece: Piece, rest: Option<Piece>) -> bool
-    requires { IsWithin 9500 over }
+    requires { IsOnTheMap over }
     ensures { IsTrue result ↔ StandsLoose (B.stacks board.now) rest over piece }
 {
     let Some(from) = board.spot(piece) else {
@@ -124,7 +114,7 @@ fn comes_down<B: Board, L: Board>(
     to: Place,
 ) -> bool
     requires near { AreNeighbours over to }
-    requires within { IsWithin 9500 over }
+    requires within { IsOnTheMap over }
     ensures { IsTrue result ↔ ComesDown (B.stacks board.now) (L.stacks lifted.now) over from to }
 {
     if !is_open(board, from, to) {
@@ -141,7 +131,7 @@ fn add_places<B: Board, L: Board>(
     from: Place,
     out: &mut PlaceList,
 )
-    requires within { IsWithin 9500 over }
+    requires within { IsOnTheMap over }
     requires empty { out.old.items ≡ [] }
     ensures { AreAll (ComesDown (B.stacks board.now) (L.stacks lifted.now) over from)
         out.new.items }

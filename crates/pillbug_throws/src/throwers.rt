@@ -4,7 +4,7 @@ ghost use Rattle.std.specs.Prelude.{◌≡◌, ◌↔◌, ◌&&◌, not, nat_eq,
 ghost use Rattle.hive_model.specs.declared.places.Spot.{Spot};
 ghost use Rattle.std.specs.List.{list_any};
 ghost use Rattle.hive_model.specs.Boards.{height_at, top_at};
-ghost use Rattle.hive_model.specs.Places.{IsWithin, step, dirs};
+ghost use Rattle.hive_model.specs.Places.{step, dirs, IsOnTheMap};
 ghost use Rattle.hive_model.specs.Positions.{is_piece};
 ghost use Rattle.hive_model.specs.Throws.{IsThrower, is_pillbug, can_throw};
 ghost use Rattle.pillbug_throws.specs.Throwing.{ThrowsFrom};
@@ -25,7 +25,7 @@ fn is_pillbug(top: Option<Piece>) -> bool
 /// one.
 #[tactic(auto, using(hive_model::proofs::PlaceLemmas::wider))]
 fn can_throw<B: Board>(board: &B, piece: Piece, place: Place) -> bool
-    requires { IsWithin 9500 place }
+    requires { IsOnTheMap place }
     ensures { result ≡ can_throw (B.stacks board.now) piece place }
 {
     piece.kind().is(Kind::Pillbug)
@@ -35,20 +35,20 @@ fn can_throw<B: Board>(board: &B, piece: Piece, place: Place) -> bool
 /// Whether the top piece of a neighbour is a pillbug.
 #[tactic(auto, using(hive_model::proofs::PlaceLemmas::wider))]
 fn touches_pillbug<B: Board>(board: &B, place: Place) -> bool
-    requires { IsWithin 9500 place }
+    requires { IsOnTheMap place }
     ensures { result ≡ list_any (λ d. is_pillbug (top_at (B.stacks board.now) (step place d)))
         dirs }
 {
     Dir::ALL.iter().any(
         |d| -> bool
-            requires { IsWithin 9500 place }
+            requires { IsOnTheMap place }
         { is_pillbug(board.top(place.step(*d))) },
     )
 }
 
 /// Whether the piece on this place may throw from there.
 fn throws_from<B: Board>(board: &B, piece: Piece, place: Place, rest: Option<Piece>) -> bool
-    requires { IsWithin 9500 place }
+    requires { IsOnTheMap place }
     ensures { result ≡ (nat_eq (height_at (B.stacks board.now) place) 1 &&
         (not (is_piece piece rest) && can_throw (B.stacks board.now) piece place)) }
 {

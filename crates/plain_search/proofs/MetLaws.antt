@@ -1,5 +1,5 @@
 -- The keys by which legal moves are counted once.
-use Rattle.std.proofs.Common.{◌≡◌, ℕ, Bool, true, false, ◌<◌, ◌⊎◌, inl, inr, length, refl, sym, ◌∙◌, ap, subst}
+use Rattle.std.proofs.Common.{◌≡◌, ℕ, Bool, true, false, ◌<◌, inl, inr, length, refl, sym, ◌∙◌, ap, subst}
 use Rattle.std.specs.Prelude.{◌↔◌, Option, Some, None, IsTrue, SomeIff}
 use Rattle.std.proofs.lemmas.Option.{same_Some}
 use Rattle.hive_model.specs.declared.pieces.Colour.{Colour}
@@ -78,9 +78,6 @@ awake_key p k sound h of = record {
   of_key = of;
   same_moves = sym (rest_does_not_matter p h);
 }
-
-pub own_key : (p : Position) (k : KeyParts) → IsSound p → key p ≡ k → IsCountKey p k
-own_key p k sound of = record { like = p; sound = sound; of_key = of; same_moves = refl }
 
 -- keys with the same board and the same turn are one
 one_key : (a b : KeyParts) → a.turn ≡ b.turn → IsTrue (same_board a b) → a ≡ b

@@ -28,8 +28,8 @@ pub fn count_lines<G: Game>(
     ensures game { G.course game.new ≡ G.course game.old }
     ensures stack { stack.new ≡ stack.old }
 {
-    // a game that answers its state is sound, so that at most 28 places of its board are occupied
-    let _state = game.state();
+    // the game is sound, so that at most 28 places of its board are occupied
+    game.is_sound();
     lines_from(game, plies, stack, counts)
 }
 

@@ -6,7 +6,7 @@ ghost use Rattle.std.specs.Prelude.{Some, IfSome, pos, negsuc, ◌-ℤ◌, ◌�
 ghost use Rattle.hive_model.specs.Lists.{IsOn};
 ghost use Rattle.hive_model.specs.Legal.{moves};
 ghost use Rattle.hive_model.specs.Games.{after};
-ghost use Rattle.hive_model.specs.Minimax.{value, reply_value};
+ghost use Rattle.hive_model.specs.Minimax.{value, reply_value, lowest};
 ghost use Rattle.hive_model.specs.Costs.{cost, share};
 ghost use Rattle.hive_model.specs.Courses.{position};
 ghost use Rattle.root_share.specs.Word.{IsSeat};
@@ -57,7 +57,7 @@ fn value_until_raised<G: Game>(
     ensures searcher { worker.new.searcher ≡ worker.old.searcher }
     ensures played { G.played worker.new.game
         ≤ G.played worker.old.game
-        + (1 + cost (after (position (G.course worker.old.game)) m) depth (negsuc 1000099)
+        + (1 + cost (after (position (G.course worker.old.game)) m) depth lowest
         (pos 1 -ℤ bound)) }
 {
     let other = halve(word, seat);
@@ -102,7 +102,7 @@ fn try_beside<G: Game, T: Gate>(
     ensures searcher { worker.new.searcher ≡ worker.old.searcher }
     ensures played { G.played worker.new.game
         ≤ G.played worker.old.game
-        + (1 + cost (after seat.old.me.0.root m) (depth - 1) (negsuc 1000099)
+        + (1 + cost (after seat.old.me.0.root m) (depth - 1) lowest
         (pos 1 -ℤ seat.old.me.0.top)) }
 {
     gate.before_child(part, child);

@@ -5,7 +5,7 @@ ghost use Rattle.std.specs.Prelude.{Some, pos, negsuc, ◌-ℤ◌, ◌≤ℤ◌,
 ghost use Rattle.hive_model.specs.Lists.{IsOn};
 ghost use Rattle.hive_model.specs.Legal.{moves};
 ghost use Rattle.hive_model.specs.Games.{after};
-ghost use Rattle.hive_model.specs.Minimax.{value, reply_value, IsInner};
+ghost use Rattle.hive_model.specs.Minimax.{value, reply_value, IsInner, lowest};
 ghost use Rattle.hive_model.specs.Costs.{cost, share};
 ghost use Rattle.hive_model.specs.Courses.{position};
 ghost use Rattle.root_share.specs.Word.{IsSeat};
@@ -47,7 +47,7 @@ fn value_searched<G: Game>(worker: &mut Worker<G>, m: Move, depth: u32, bound: i
     ensures searcher { worker.new.searcher ≡ worker.old.searcher }
     ensures played { G.played worker.new.game
         ≤ G.played worker.old.game
-        + (1 + cost (after (position (G.course worker.old.game)) m) depth (negsuc 1000099)
+        + (1 + cost (after (position (G.course worker.old.game)) m) depth lowest
         (pos 1 -ℤ bound)) }
 {
     worker.game.play(m);
@@ -77,7 +77,7 @@ fn child_worth<G: Game>(worker: &mut Worker<G>, m: Move, depth: u32, bound: i32)
     ensures searcher { worker.new.searcher ≡ worker.old.searcher }
     ensures played { G.played worker.new.game
         ≤ G.played worker.old.game
-        + (1 + cost (after (position (G.course worker.old.game)) m) depth (negsuc 1000099)
+        + (1 + cost (after (position (G.course worker.old.game)) m) depth lowest
         (pos 1 -ℤ bound)) }
 {
     if bound >= 1_000_000 + depth as i32 {
@@ -86,8 +86,8 @@ fn child_worth<G: Game>(worker: &mut Worker<G>, m: Move, depth: u32, bound: i32)
     value_searched(worker, m, depth, bound)
 }
 
-/// Closes a child whose worth was found where that is at least the bound: the bound is raised to it,
-/// and the child is an answer.
+/// Closes a child whose worth was found where that is at least the bound: the bound is raised to
+/// it, and the child is an answer.
 pub(crate) fn settle<G: Game>(
     word: &Word<G>,
     m: Move,
@@ -151,7 +151,7 @@ pub(crate) fn close_child<G: Game>(
     ensures searcher { worker.new.searcher ≡ worker.old.searcher }
     ensures played { G.played worker.new.game
         ≤ G.played worker.old.game
-        + (1 + cost (after seat.old.me.0.root m) (depth - 1) (negsuc 1000099)
+        + (1 + cost (after seat.old.me.0.root m) (depth - 1) lowest
         (pos 1 -ℤ bound)) }
 {
     let worth = child_worth(worker, m.again(), depth - 1, bound);
@@ -184,7 +184,7 @@ fn try_child<G: Game, T: Gate>(
     ensures searcher { worker.new.searcher ≡ worker.old.searcher }
     ensures played { G.played worker.new.game
         ≤ G.played worker.old.game
-        + (1 + cost (after seat.old.me.0.root m) (depth - 1) (negsuc 1000099)
+        + (1 + cost (after seat.old.me.0.root m) (depth - 1) lowest
         (pos 1 -ℤ seat.old.me.0.top)) }
 {
     gate.before_child(part, child);
@@ -221,7 +221,7 @@ fn try_first<G: Game, T: Gate>(
     ensures searcher { worker.new.searcher ≡ worker.old.searcher }
     ensures played { G.played worker.new.game
         ≤ G.played worker.old.game
-        + (2 + cost (after seat.old.me.0.root m) (depth - 1) (negsuc 1000099)
+        + (2 + cost (after seat.old.me.0.root m) (depth - 1) lowest
         (pos 1 -ℤ seat.old.me.0.top)) }
 {
     gate.before_child(part, child);

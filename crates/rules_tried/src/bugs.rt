@@ -2,7 +2,7 @@
 
 ghost use Rattle.std.specs.Prelude.{◌≢◌};
 ghost use Rattle.hive_model.specs.declared.pieces.Kind.TheVariants.{Mosquito};
-ghost use Rattle.hive_model.specs.Places.{IsWithin};
+ghost use Rattle.hive_model.specs.Places.{IsOnTheMap};
 
 use bug_moves::reach;
 use hive_model::{Kind, Piece, Place, PlaceList};
@@ -11,7 +11,7 @@ use std::test::Fail;
 
 fn finds(board: &PlainBoard, kind: Kind, from: Place, wanted: &[Place]) -> bool
     requires kind { kind ≢ Mosquito }
-    requires within { IsWithin 9500 from }
+    requires within { IsOnTheMap from }
 {
     let mut out = PlaceList::new();
     reach(kind, board, from, &mut out);

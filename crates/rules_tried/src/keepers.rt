@@ -38,6 +38,10 @@ impl Board for Counted<'_> {
         self.board.spot(piece)
     }
 
+    fn is_board(&self) {
+        self.board.is_board();
+    }
+
     fn under(&self, piece: Piece) -> Option<Piece> {
         self.calls.set(self.calls.get().saturating_add(1));
         self.board.under(piece)
@@ -84,7 +88,7 @@ impl Tried {
     fn new(alloc: Global) -> Result<Option<Tried>, AllocError> {
         let board = PlainBoard::new(alloc)?;
         let keeper = CutKeeper::new();
-        let _spot = board.spot(Piece::at(0));
+        board.is_board();
         if !is_one(&board) {
             return Ok(None);
         }
@@ -111,7 +115,7 @@ impl Tried {
             return None;
         }
         board.put(piece, place);
-        let _spot = board.spot(piece);
+        board.is_board();
         if !is_one(&board) {
             return None;
         }
@@ -142,7 +146,7 @@ impl Tried {
             return None;
         }
         let place = board.lift(piece);
-        let _spot = board.spot(piece);
+        board.is_board();
         if !is_one(&board) {
             return None;
         }

@@ -1,6 +1,6 @@
 //! Of `mosquito_moves`: a mosquito on the ground, and one on a stack.
 
-ghost use Rattle.hive_model.specs.Places.{IsWithin};
+ghost use Rattle.hive_model.specs.Places.{IsOnTheMap};
 
 use hive_model::{Piece, Place, PlaceList};
 use mosquito_moves::mosquito_reach;
@@ -8,7 +8,7 @@ use stack_board::PlainBoard;
 use std::test::Fail;
 
 fn finds(board: &PlainBoard, from: Place, wanted: &[Place]) -> bool
-    requires { IsWithin 9500 from }
+    requires { IsOnTheMap from }
 {
     let mut out = PlaceList::new();
     mosquito_reach(board, from, &mut out);

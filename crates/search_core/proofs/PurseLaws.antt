@@ -1,6 +1,6 @@
 -- What is saved, and what is paid for with it.
-use Rattle.std.proofs.Common.{◌≡◌, ℕ, ◌+◌, ◌-◌, ◌^◌, ◌≤◌, min, true, false, Bool, refl, sym, ap, subst, arith, ◌∙◌, ℤ, neg_ℤ, ◌<ℤ◌, ◌≤ℤ◌, to_z, of_z, Option, Some, None}
-use Rattle.std.specs.Prelude.{◌&&◌, nat_eq, if◌then◌else◌, IfSome, slice_get}
+use Rattle.std.proofs.Common.{◌≡◌, ℕ, ◌+◌, ◌-◌, ◌^◌, ◌≤◌, min, true, Bool, sym, ap, subst, arith, ◌∙◌, ℤ, neg_ℤ, ◌<ℤ◌, ◌≤ℤ◌, to_z, of_z, Option, Some, None}
+use Rattle.std.specs.Prelude.{if◌then◌else◌, IfSome, slice_get}
 use Rattle.std.specs.Int.{int_max}
 use Rattle.std.proofs.lemmas.Int.{ints, clamps, by_lt_z, to_z-of_z}
 use mir.Val.{SFits}
@@ -27,9 +27,6 @@ use Rattle.search_core.specs.Times.{IsPaid, HasEnded, with_saved, counted, IsAtM
 
 -- ---- each play is paid for
 
-pub paid-none : (a : Purse) (n c : ℕ) → IsPaid a a n n c c
-paid-none a n c = record { mode = refl; plays = λ _. omega arith; counts = λ _. omega arith }
-
 pub paid-then : (a b d : Purse) (n0 n1 n2 c0 c1 c2 : ℕ) → IsPaid a b n0 n1 c0 c1 → IsPaid b d n1 n2 c1 c2 → IsPaid a d n0 n2 c0 c2
 paid-then a b d n0 n1 n2 c0 c1 c2 x y = record {
   mode = y.mode ∙ x.mode;
@@ -44,13 +41,6 @@ paid-here a b n0 n1 n2 n3 c0 c1 before after x = record {
   plays = λ e. omega (arith, x.plays e, before, after);
   counts = λ e. omega (arith, x.counts e);
 }
-
--- a told move saves a play, but not within an early try
-pub paid-save : (a b : Purse) (n0 n1 c : ℕ) → n1 ≡ n0 → b.early ≡ a.early → (a.early ≡ true → b.saved ≡ a.saved) → IsPaid a b n0 n1 c c
-paid-save a b n0 n1 c same mode kept = record {
-  mode = mode;
-  plays = λ e. omega (arith, same, kept e);
-  counts = λ e. omega (arith, kept e);
 }
 
 abbrev one_if : Bool → ℕ
@@ -85,18 +75,7 @@ paid-plays start played m d w behind a b e n0 n1 n2 n3 moved ea eb one paid more
 pub saved-time : (t u : Ticks) (a b : Purse) (r0 r1 l0 l1 n : ℕ) → b.saved ≤ a.saved → KeepsTime t u r0 r1 l0 l1 n → KeepsTime (with_saved t a) (with_saved u b) r0 r1 l0 l1 n
 saved-time t u a b r0 r1 l0 l1 n less k = record { deadline = k.deadline; later = k.later; seldom = omega (arith, k.seldom, less); never = k.never }
 
--- one that was told is counted as if it had been played
-pub told-time : (t : Ticks) (a b : Purse) (r l n : ℕ) → b.saved ≤ a.saved + 1 → KeepsTime (with_saved t a) (with_saved t b) r r l l (1 + n)
-told-time t a b r l n one = record { deadline = refl; later = omega arith; seldom = omega (arith, one); never = λ _. (refl, refl) }
-
--- nothing was saved before
-pub time-empty : (t u : Ticks) (a b : Purse) (r0 r1 l0 l1 n : ℕ) → a.saved ≡ 0 → KeepsTime (with_saved t a) (with_saved u b) r0 r1 l0 l1 n → KeepsTime t u r0 r1 l0 l1 n
-time-empty t u a b r0 r1 l0 l1 n none k = record { deadline = k.deadline; later = k.later; seldom = omega (arith, k.seldom, none); never = k.never }
-
 -- ---- how a search ends
-
-pub ended-not_early : (a : Purse) (t u : Ticks) (l0 l1 b1 : ℕ) → a.early ≡ false → HasEnded a t u l0 l1 b1 → HasStopped t u l0 l1 b1
-ended-not_early a t u l0 l1 b1 e x = x.stopped (ap (λ s. s && nat_eq a.saved 0) e)
 
 -- a search that stopped after the time was kept so far
 pub stopped-then : (t u v : Ticks) (l0 l1 l2 b2 : ℕ) → u.deadline ≡ t.deadline → IsInTime t l0 l1 → HasStopped u v l1 l2 b2 → HasStopped t v l0 l2 b2

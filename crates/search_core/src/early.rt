@@ -124,8 +124,8 @@ pub(crate) fn search_early<G: Game, C: Clock>(
 }
 
 /// Tries the move at the place of a level, if there is one, before its turn, as far as what is
-/// saved pays for it. None where the deadline came, or where the node itself is searched within an early
-/// try, which could not be paid for.
+/// saved pays for it. None where the deadline came, or where the node itself is searched within an
+/// early try, which could not be paid for.
 #[cycle(search)]
 fn try_early<G: Game, C: Clock>(
     game: &mut G,

@@ -1,6 +1,7 @@
 -- What the answer of a search means.
-use Rattle.std.specs.Prelude.{◌≡◌, ℤ, pos, negsuc, ◌<ℤ◌, ◌≤ℤ◌}
+use Rattle.std.specs.Prelude.{◌≡◌, ℤ, ◌<ℤ◌, ◌≤ℤ◌}
 use Rattle.search_laws.specs.declared.window.Window.{Window}
+use Rattle.hive_model.specs.Minimax.{lowest, highest}
 
 -- the answer to a search for this value in this window: the value itself inside, an upper bound at
 -- or below alpha, a lower bound at or above beta
@@ -12,5 +13,5 @@ pub record IsFound (value : ℤ) (window : Window) (answer : ℤ) : Type 0 where
 -- a window is open, and lies between -1,000,100 and 1,000,100
 pub record IsOpen (window : Window) : Type 0 where
   pub open_ : window.alpha <ℤ window.beta
-  pub alpha : negsuc 1000099 ≤ℤ window.alpha
-  pub beta : window.beta ≤ℤ pos 1000100
+  pub alpha : lowest ≤ℤ window.alpha
+  pub beta : window.beta ≤ℤ highest

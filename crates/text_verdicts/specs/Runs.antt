@@ -74,8 +74,8 @@ IsDecidedBehind head (BadLine k) n = n < k
 IsDecidedBehind head (BadGame fault) n = n < 2
 IsDecidedBehind head GameOver n = n < head
 
--- Of what the walk of the items behind a head is worth, fewer lines than the head has decide nothing,
--- if they do not decide the refusals of the walk.
+-- Of what the walk of the items behind a head is worth, fewer lines than the head has decide
+-- nothing, if they do not decide the refusals of the walk.
 pub not-yet : {S W : Type 0} (refusal : ℕ → W → Verdict) (head n : ℕ) (o : Outcome S W)
     → ((place : ℕ) (why : W) → IsDecidedBehind head (refusal place why) n) → n < head
     → head < 2 ^ 64 → IsDecidedBehind head (walk_verdict refusal head o) n

@@ -79,6 +79,12 @@ fn spot_in(spots: &[Option<Spot>; 28], piece: Piece) -> Option<Spot>
     spots[piece.index() as usize]
 }
 
+/// What is kept where each piece stands is a board; nothing is computed.
+fn spots_are_board(spots: &[Option<Spot>; 28])
+    requires { IsSpots spots.now }
+    ensures { IsBoard (board_of spots.now) }
+{}
+
 /// What is directly below the piece.
 fn under_in(below: &[Option<Piece>; 28], piece: Piece) -> Option<Piece>
     ensures { slice_get below.now piece ≡ Some result }
@@ -132,6 +138,10 @@ impl<const SIDE: usize> Board for Torus<SIDE> {
 
     fn spot(&self, piece: Piece) -> Option<Spot> {
         spot_in(&self.spots, piece)
+    }
+
+    fn is_board(&self) {
+        spots_are_board(&self.spots);
     }
 
     fn under(&self, piece: Piece) -> Option<Piece> {

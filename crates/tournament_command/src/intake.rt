@@ -13,7 +13,7 @@ ghost use Rattle.std.specs.Prelude.{
   MatchOption,
   OnOk,
 };
-ghost use Rattle.hive_model.specs.Lines.{Text, TooLong as LongLine};
+ghost use Rattle.hive_model.specs.Lines.{Text, TooLong as LongLine, greatest_line};
 ghost use Rattle.tournament_core.specs.Schedules.{schedule};
 ghost use Rattle.tournament_command.specs.Formats.{IsFormat, plan_of};
 ghost use Rattle.tournament_command.specs.Intakes.{
@@ -149,7 +149,7 @@ impl Intake {
         text: &[u8],
     ) -> Result<(), Refused>
         requires room { self.old.lines < 2 ^ 63 }
-        requires short { length text.now ≤ 65536 }
+        requires short { length text.now ≤ greatest_line }
         ensures took { OnOk result (take_opening format self.old (Text text.now) ≡ Ok self.new) }
         ensures refused { IfErr result (λ why.
             Refuses why (take_opening format self.old (Text text.now))) }
@@ -251,7 +251,7 @@ impl Intake {
         text: &[u8],
     ) -> Result<(), Refused>
         requires room { self.old.lines < 2 ^ 63 }
-        requires short { length text.now ≤ 65536 }
+        requires short { length text.now ≤ greatest_line }
         requires engines { AreEngines engines }
         requires format { IsFormat format }
         requires valid { IsIntake engines format self.old }

@@ -12,7 +12,7 @@ ghost use Rattle.std.specs.Prelude.{
   OnOk,
 };
 ghost use Rattle.hive_model.specs.Games.{IsGame};
-ghost use Rattle.hive_model.specs.Lines.{Text};
+ghost use Rattle.hive_model.specs.Lines.{Text, greatest_line};
 ghost use Rattle.command_runs.specs.OneGame.{if_open};
 ghost use Rattle.tournament_games.specs.Texts.{numbers_text};
 ghost use Rattle.tournament_games.specs.Tournaments.{IsOpening};
@@ -138,7 +138,7 @@ pub(crate) fn opening_in<G: Game + Drop>(
     game_type: GameType,
     text: &[u8],
 ) -> Result<Option<MoveList>, AllocError>
-    requires { length text.now ≤ 65536 }
+    requires { length text.now ≤ greatest_line }
     ensures value { IfOk result (λ moves. moves ≡ opening_in game_type (Text text.now)) }
     ensures opening { IfOk result (λ moves.
         MatchOption moves (Unit {0}) (IsOpening game_type)) }

@@ -8,7 +8,6 @@ use Rattle.std.proofs.lemmas.Slice.Zip.{get_or-zip, length-zip}
 use Rattle.io_edge.specs.Outside.{Told, behind}
 use Rattle.io_edge.specs.Starts.{Engines}
 use Rattle.io_edge.proofs.Told.{behind-behind}
-use Rattle.command_runs.specs.Answered.{WritesAs}
 use Rattle.command_runs.specs.declared.status.Status.{Status}
 use Rattle.command_runs.specs.declared.status.Status.TheVariants.{Done, Refused, Usage, ReadFault, WriteFault, SpawnFault, BadInput, Memory, InputFull}
 use Rattle.match_command.specs.Match.{NoneIsOpen}
@@ -24,7 +23,7 @@ use Rattle.tournament_core.specs.Counts.{Counts, IsTallyOf}
 use Rattle.tournament_games.specs.Tournaments.{Terms}
 use Rattle.tournament_core.proofs.Tallies.{points-add-up}
 use Rattle.tournament_games.specs.Games.{Job, played_game}
-use Rattle.tournament_games.specs.Waves.{AreNoted, ArePlayed, CutInGames, CutWave, GamesRun, IsPlayedOut, IsWave, NoWave, Starved, StandingsRun, TournamentRun, WaveRun, WroteGames, WroteWave, all_games, games_text, resumed, standings_text}
+use Rattle.tournament_games.specs.Waves.{AreNoted, ArePlayed, CutInGames, CutWave, GamesRun, IsPlayedOut, NoWave, Starved, StandingsRun, TournamentRun, WaveRun, WroteGames, WroteWave, all_games, games_text, resumed, standings_text}
 use Rattle.tournament_games.proofs.Starts.{shuts-links}
 use Rattle.tournament_games.proofs.Waves.{notes-append, played-append, played-none, played-open, shut-open, text-append}
 
@@ -244,21 +243,3 @@ games-open t first tally0 tally BadInput a b g = absurd g
 games-open t first tally0 tally InputFull a b g = absurd g
 
 -- What was written
-
-pub wave-run : (t : Terms) (first count : ℕ) (text : List ℕ) (tally0 tally : Counts) (status : Status) (w0 w : Told) (a b : Engines) → IsWave t first count text tally0 tally a b → WritesAs text Done status w0 w → WaveRun t first count tally0 tally status (scene w0 a) (scene w b)
-wave-run t first count text tally0 tally status w0 w a b wave (inl (e, wrote)) =
-    subst (λ s. WaveRun t first count tally0 tally s (scene w0 a) (scene w b)) (sym e) (record { text = text; wave = wave; wrote = wrote })
-wave-run t first count text tally0 tally status w0 w a b wave (inr (e, (n, low, wrote))) =
-    subst (λ s. WaveRun t first count tally0 tally s (scene w0 a) (scene w b)) (sym e) (record { text = text; n = n; wave = wave; part = low; wrote = wrote })
-
-pub standings-run : (t : Terms) (tally : Counts) (places : List Place) (text : List ℕ) (status : Status) (w0 w : Told) → AreNoted t tally places → text ≡ standings_text t places → WritesAs text Done status w0 w → StandingsRun t tally status w0 w
-standings-run t tally places text status w0 w noted told (inl (e, wrote)) =
-    subst (λ s. StandingsRun t tally s w0 w) (sym e) (record { places = places; noted = noted; wrote = wrote ∙ ap (behind w0) told })
-standings-run t tally places text status w0 w noted told (inr (e, (n, low, wrote))) =
-    subst (λ s. StandingsRun t tally s w0 w) (sym e) (record {
-      places = places;
-      n = n;
-      noted = noted;
-      part = subst (λ xs. n < length xs) told low;
-      wrote = wrote ∙ ap (λ xs. behind w0 (take n xs)) told;
-    })

@@ -1,36 +1,26 @@
 -- The starts of programs, one after another, and what is closed behind them.
-use Rattle.std.proofs.Common.{◌≡◌, ℕ, ◌+◌, ◌^◌, ◌<◌, ◌≤◌, cond, List, [], ◌∷◌, ◌++◌, length, Option, Some, None, refl, ap, sym, ◌∙◌, arith, subst, length-append, inl, inr}
+use Rattle.std.proofs.Common.{◌≡◌, ℕ, ◌+◌, ◌^◌, ◌<◌, ◌≤◌, cond, List, [], ◌∷◌, ◌++◌, length, Option, Some, refl, ap, sym, ◌∙◌, arith, subst, length-append, inl, inr}
 use Rattle.std.specs.List.{flat_map}
 use Rattle.std.specs.Option.{option_to_list}
 use Rattle.std.proofs.lemmas.Bool.{cases_lt}
 use Rattle.std.proofs.lemmas.List.Concat.{flat_map-append}
-use Rattle.std.proofs.lemmas.List.Elements.{All-nil, All-cons, All-append}
+use Rattle.std.proofs.lemmas.List.Elements.{All-nil, All-append}
 use Rattle.std.proofs.lemmas.List.Sums.{sum_by-append}
-use Rattle.io_edge.specs.Outside.{Rose}
 use Rattle.io_edge.specs.Starts.{Engines}
 use Rattle.match_runner.specs.Wires.{Wire}
 use Rattle.cup_core.specs.Engines.{Engine}
-use Rattle.cup_command.specs.Cup.{RoseBy, started_after, words_of}
+use Rattle.cup_command.specs.Cup.{RoseBy, started_after}
 use Rattle.cup_command.specs.Links.{ClosesLinks, StartsAll}
 use Rattle.cup_command.proofs.Breaks.{append-none, started-more, started-none}
 use Rattle.cup_command.proofs.Chains.{closes-append, starts-append}
-use Rattle.tournament_core.specs.declared.fixtures.Fixture.{Fixture}
 use Rattle.tournament_core.specs.declared.plan.Plan.{Plan}
-use Rattle.tournament_games.specs.Games.{AreNext, IsNext, Job, unplayed}
-use Rattle.tournament_games.specs.Links.{AreStarted, CountsFaults, IsFreshJob, IsStart, Shuts, absences, all_links, is_absent, job_words, links_of}
+use Rattle.tournament_games.specs.Games.{AreNext, IsNext, Job}
+use Rattle.tournament_games.specs.Links.{AreStarted, CountsFaults, IsFreshJob, Shuts, absences, all_links, is_absent, job_words, links_of}
 
 -- Causes
 
 pub counts-none : (a : ℕ) → CountsFaults 0 a a
 counts-none a = record { later = omega arith; rose = inl (omega arith); same = λ e. refl; below = λ some. absurd (omega (arith, some)) }
-
--- one call has failed
-pub counts-one : (a b : ℕ) → a ≤ b → Rose a b → CountsFaults 1 a b
-counts-one a b later r = record {
-  later = later;
-  rose = elim r.higher [ inl more ↦ inl (omega (arith, more)) | inr most ↦ inr most ];
-  same = λ e. absurd (omega (arith, e));
-  below = λ some. r.below;
 }
 
 rises-then : (n m a b c : ℕ) → b ≤ c → c < 2 ^ 64 → RoseBy n a b → RoseBy m b c → RoseBy (n + m) a c
@@ -55,47 +45,7 @@ counts-then n m a b c h k = elim (cases_lt 0 m) [
 ]
 
 -- The programs of one game
-
--- white's could not be started
-pub started-none-of : (engines : List Engine) (words : List (List ℕ)) (number : ℕ) (f : Fixture) (a b : Engines) → IsStart words None a b → AreStarted engines (unplayed number f None None ∷ []) a b
-started-none-of engines words number f a b s = record {
-  fresh = All-cons IsFreshJob (unplayed number f None None) [] (record { white = tt; black = tt; alone = λ e. refl }) (All-nil IsFreshJob);
-  starts = s.starts;
-  named = s.named;
-  sent = s.sent;
-  failed = s.failed;
-  cause = counts-one a.start_faults b.start_faults s.cause.later (s.cause.rose refl);
 }
-
--- white's was started, and black's was or could not be
-pub started-two : (engines : List Engine) (white black : List (List ℕ)) (number : ℕ) (f : Fixture) (w : Wire) (b : Option Wire) (before mid after : Engines)
-    → white ≡ words_of engines f.white → black ≡ words_of engines f.black → IsStart white (Some w) before mid → IsStart black b mid after → AreStarted engines (unplayed number f (Some w) b ∷ []) before after
-started-two engines white black number f w None before mid after we be s u =
-    let quiet : mid.start_faults ≡ before.start_faults = s.cause.same (λ x. cc) in
-    record {
-      fresh = All-cons IsFreshJob (unplayed number f (Some w) None) [] (record { white = s.fresh; black = tt; alone = λ e. refl }) (All-nil IsFreshJob);
-      starts = subst (λ t. StartsAll before.to_come t (w ∷ [])) (sym u.starts) s.starts;
-      named = u.named ∙ (sym (started-none mid.started) ∙ (s.named ∙ ap (λ (ws : List (List ℕ)). started_after before.started (ws ∷ [])) we));
-      sent = u.sent ∙ s.sent;
-      failed = u.failed ∙ s.failed;
-      cause = subst (λ n. CountsFaults 1 n after.start_faults) quiet (counts-one mid.start_faults after.start_faults u.cause.later (u.cause.rose refl));
-    }
-started-two engines white black number f w (Some b) before mid after we be s u =
-    let quiet : mid.start_faults ≡ before.start_faults = s.cause.same (λ x. cc) in
-    let still : after.start_faults ≡ mid.start_faults = u.cause.same (λ x. cc) in
-    record {
-      fresh = All-cons IsFreshJob (unplayed number f (Some w) (Some b)) [] (record { white = s.fresh; black = u.fresh; alone = λ e. cc }) (All-nil IsFreshJob);
-      starts = starts-append before.to_come mid.to_come after.to_come (w ∷ []) (b ∷ []) s.starts u.starts;
-      named =
-          u.named
-          ∙ (ap (λ told. started_after told (black ∷ [])) s.named
-          ∙ (started-more before.started (white ∷ []) (black ∷ [])
-          ∙ (ap (λ (ws : List (List ℕ)). started_after before.started (ws ∷ (black ∷ []))) we
-          ∙ ap (λ (ws : List (List ℕ)). started_after before.started (words_of engines f.white ∷ (ws ∷ []))) be)));
-      sent = u.sent ∙ s.sent;
-      failed = u.failed ∙ s.failed;
-      cause = subst (λ n. CountsFaults 0 before.start_faults n) (sym (still ∙ quiet)) (counts-none before.start_faults);
-    }
 
 -- One game behind others
 

@@ -60,8 +60,8 @@ pub record IsStart
   pub failed : after.engine_faults ≡ before.engine_faults
   pub cause : HasCause (link ≡ None) before.start_faults after.start_faults
 
--- The programs of these games were started, game by game and white's first, and none was closed. For
--- each game for which a program could not be started, a start has failed, and was counted.
+-- The programs of these games were started, game by game and white's first, and none was closed.
+-- For each game for which a program could not be started, a start has failed, and was counted.
 pub record AreStarted
     (engines : List Engine) (jobs : List Job) (before after : Engines) : Type 0 where
   pub fresh : All IsFreshJob jobs

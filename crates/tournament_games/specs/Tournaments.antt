@@ -4,6 +4,7 @@ use Rattle.std.specs.List.{All}
 use Rattle.hive_model.specs.declared.pieces.GameType.{GameType}
 use Rattle.hive_model.specs.declared.places.Move.{Move}
 use Rattle.hive_model.specs.Games.{IsGame}
+use Rattle.hive_model.specs.Courses.{most_plies}
 use Rattle.match_core.specs.declared.answers.Setup.{Setup}
 use Rattle.match_core.specs.Setups.{FullSetup, setup_from}
 use Rattle.match_core.specs.Keeps.{IsSetup}
@@ -33,7 +34,7 @@ terms engines plan setup openings at_once = record {
 -- the moves of an opening are a game, of no more plies than there is room for in a game
 pub record IsOpening (game_type : GameType) (moves : List Move) : Type 0 where
   pub game : IsGame game_type moves
-  pub few : length moves ≤ 5064
+  pub few : length moves ≤ most_plies
 
 -- what holds of every tournament: the plan is for its programs and its openings, each of which is a
 -- game of the setup's type; 1 to 64 games are played at once

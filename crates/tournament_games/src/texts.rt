@@ -2,6 +2,7 @@
 ghost use Rattle.std.specs.Prelude.{◌≡◌, ◌≤◌, ◌++◌, decimal, length, map, OnOk, IfOk};
 ghost use Rattle.std.specs.List.{flat_map};
 ghost use Rattle.hive_model.specs.Games.{IsGame};
+ghost use Rattle.hive_model.specs.Courses.{most_plies};
 ghost use Rattle.cup_core.specs.Cup.{state_winner};
 ghost use Rattle.match_command.specs.Texts.{ending_text, shown};
 ghost use Rattle.cup_command.specs.Texts.{text_of};
@@ -189,7 +190,7 @@ pub(crate) fn tell_absence<G: Game + Drop>(
     side: Colour,
 ) -> Result<Outcome, AllocError>
     requires game { IsGame setup.game_type begin.now }
-    requires few { length begin.now ≤ 5064 }
+    requires few { length begin.now ≤ most_plies }
     ensures { IfOk result (λ told.
         told ≡ absence_outcome setup number fixture begin.now side) }
 {

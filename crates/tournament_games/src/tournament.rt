@@ -1,6 +1,7 @@
 //! What a tournament is played by.
 ghost use Rattle.std.specs.Prelude.{◌≡◌, ◌≤◌, length};
 ghost use Rattle.hive_model.specs.Games.{IsGame};
+ghost use Rattle.hive_model.specs.Courses.{most_plies};
 ghost use Rattle.match_core.specs.Keeps.{IsSetup};
 ghost use Rattle.tournament_core.specs.Schedules.{IsPlan};
 ghost use Rattle.tournament_games.specs.Tournaments.{IsTerms, begin_of, terms};
@@ -94,7 +95,7 @@ impl Tournament {
     pub(crate) fn begin(&self, fixture: Fixture) -> &[Move]
         ensures value { result.now ≡ begin_of self.now fixture }
         ensures game { IsGame self.now.setup.game_type result.now }
-        ensures few { length result.now ≤ 5064 }
+        ensures few { length result.now ≤ most_plies }
     {
         match self.openings.get(fixture.opening as usize) {
             Some(moves) => moves.items(),

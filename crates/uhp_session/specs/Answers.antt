@@ -9,12 +9,12 @@ use Rattle.hive_model.specs.Positions.{Position, opening}
 use Rattle.hive_model.specs.Legal.{moves, is_over_state}
 use Rattle.hive_model.specs.Minimax.{best}
 use Rattle.hive_model.specs.Games.{replay}
-use Rattle.hive_model.specs.Courses.{is_listed}
+use Rattle.hive_model.specs.Courses.{is_listed, most_plies}
 use Rattle.hive_model.specs.Texts.{piece_text}
 use Rattle.hive_model.specs.Denotes.{text}
 use Rattle.hive_model.specs.Repetition.{outcome_under}
 use Rattle.hive_model.specs.Strings.{string_under, joined_on}
-use Rattle.hive_model.specs.Lines.{Line, Text as TextLine, TooLong as LongLine}
+use Rattle.hive_model.specs.Lines.{Line, Text as TextLine, TooLong as LongLine, greatest_line}
 use Rattle.move_text.specs.declared.faults.MoveFault.{MoveFault}
 use Rattle.move_text.specs.declared.faults.MoveFault.TheVariants.{NotAMove, NoSuchPiece, NotInPlay}
 use Rattle.move_text.specs.Moves.{move_of}
@@ -342,5 +342,5 @@ pub record Gave (told : Answer) (result : Result Reply AllocError) (old new : St
 
 -- a line that is handed on has at most 65,536 bytes
 abbrev pub IsShort : Line → Type 0
-IsShort (TextLine bytes) = length bytes ≤ 65536
+IsShort (TextLine bytes) = length bytes ≤ greatest_line
 IsShort LongLine = Unit {0}

@@ -28,6 +28,7 @@ ghost use Rattle.hive_model.specs.Minimax.{best};
 ghost use Rattle.hive_model.specs.Repetition.{outcome_under};
 ghost use Rattle.hive_model.specs.Denotes.{text};
 ghost use Rattle.hive_model.specs.Stack.{with_level};
+ghost use Rattle.hive_model.specs.Lines.{greatest_line};
 ghost use Rattle.move_text.specs.Moves.{move_of};
 ghost use Rattle.uhp_session.specs.Answers.{
   Begun,
@@ -147,10 +148,10 @@ impl<G: Game + Drop> Current<G> {
 
     /// The move that the words denote on the board, or why they denote none.
     pub(crate) fn read(&self, words: &[u8]) -> Result<Move, MoveFault>
-        requires { length words.now ≤ 65536 }
+        requires { length words.now ≤ greatest_line }
         ensures { result ≡ move_of self.now.game_type (reached self.now).board words.now }
     {
-        let _state = self.game.state();
+        self.game.is_sound();
         read_move(self.game.game_type(), &self.game, words)
     }
 
@@ -171,7 +172,7 @@ impl<G: Game + Drop> Current<G> {
         ensures refused { OnErr result (self.new ≡ self.old) }
     {
         self.game.reserve(1)?;
-        let _state = self.game.state();
+        self.game.is_sound();
         self.written.push(&self.game, m.again())?;
         self.game.play(m);
         if let Err(error) = self.seen.note(&self.game) {
@@ -198,7 +199,7 @@ impl<G: Game + Drop> Current<G> {
         ensures { IfOk result (λ c. c ≡ with_moves self.now
             (take (length self.now.made - plies) self.now.made)) }
     {
-        let _state = self.game.state();
+        self.game.is_sound();
         let left = self.game.plies() - plies;
         let moves = first_moves(alloc, &self.game, left)?;
         let repetition = self.seen.repetition;
@@ -261,7 +262,7 @@ impl<G: Game + Drop> Current<G> {
     {
         let mut stack = MoveStack::new(alloc, 1)?;
         self.list(&mut stack);
-        let _state = self.game.state();
+        self.game.is_sound();
         close(joined_moves(alloc, &self.game, &stack)?)
     }
 
@@ -339,7 +340,7 @@ impl<G: Game + Drop> Current<G> {
         ensures { IfOk result (λ r. text_of r
             ≡ Some (ended (text (reached self.now).board m ∷ (codes "ok" ∷ [])))) }
     {
-        let _state = self.game.state();
+        self.game.is_sound();
         let written = write_move(&self.game, m);
         say(alloc, written.as_bytes())
     }
@@ -375,7 +376,7 @@ impl<G: Game + Send + Drop> Current<G> {
             ≡ Some (ended (best_text self.now depth ∷ (codes "ok" ∷ [])))) }
         ensures kept { IfSome kept.new (λ ns. AreSearchersOf team.workers ns.items) }
     {
-        let _state = self.game.state();
+        self.game.is_sound();
         let moves = first_moves(alloc, &self.game, self.game.plies())?;
         let game_type = self.game.game_type();
         let made = moves.items();

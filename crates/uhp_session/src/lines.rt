@@ -2,6 +2,7 @@
 
 ghost use Rattle.std.specs.Prelude.{◌≡◌, ◌≤◌, length};
 ghost use Rattle.uhp_session.specs.Answers.{or_base};
+ghost use Rattle.hive_model.specs.Lines.{greatest_line};
 
 use hive_model::ReplyText;
 
@@ -21,9 +22,9 @@ pub enum Reply {
 
 /// The text of a new game: no text stands for the base game.
 pub(crate) fn or_base(text: &[u8]) -> &[u8]
-    requires { length text.now ≤ 65536 }
+    requires { length text.now ≤ greatest_line }
     ensures value { result.now ≡ or_base text.now }
-    ensures short { length result.now ≤ 65536 }
+    ensures short { length result.now ≤ greatest_line }
 {
     if text.is_empty() { b"Base" } else { text }
 }

@@ -10,6 +10,7 @@ ghost use Rattle.uhp_session.specs.Answers.{next, or_base, play, reply, reply_of
 ghost use Rattle.uhp_session.specs.Answers.{while_on, words_answer};
 ghost use Rattle.uhp_session.specs.Searches.{Answered, IsUntimed, asks, command_search};
 ghost use Rattle.uhp_session.specs.Searches.{search_in, times};
+ghost use Rattle.hive_model.specs.Lines.{greatest_line};
 
 mod settings;
 
@@ -93,7 +94,14 @@ impl<G: Game + Send + Drop> Session<G> {
     /// that is unreadable or not legal, more plies to take back than were played, no such option
     /// and a value out of range. A refusal is a line that begins with `err ` or `invalidmove `, and
     /// changes nothing. After want of memory the session is as before.
-    #[tactic(auto, unfolding(crate::specs::Answers::reply, crate::specs::Answers::next, crate::specs::Searches::asks))]
+    #[tactic(
+        auto,
+        unfolding(
+            crate::specs::Answers::reply,
+            crate::specs::Answers::next,
+            crate::specs::Searches::asks
+        )
+    )]
     pub fn command<R: Threads + Sync, C: Clock, T: Gate + Sync>(
         &mut self,
         rt: &R,
@@ -126,7 +134,7 @@ impl<G: Game + Send + Drop> Session<G> {
         timed: &mut TimedList,
         gate: &T,
     ) -> Result<Reply, AllocError>
-        requires short { length line.now ≤ 65536 }
+        requires short { length line.now ≤ greatest_line }
         ensures { Answered (command_search self.old (command_of line.now))
             (λ depth. reply_of (words_answer self.old line.now depth (command_of line.now)))
             (after_of self.old (words_answer self.old line.now 1 (command_of line.now)))
@@ -152,7 +160,7 @@ impl<G: Game + Send + Drop> Session<G> {
         timed: &mut TimedList,
         gate: &T,
     ) -> Result<Reply, AllocError>
-        requires short { length line.now ≤ 65536 }
+        requires short { length line.now ≤ greatest_line }
         requires within { AreWithin line.now command }
         requires reads { IsCommand line.now command }
         ensures { Answered (command_search self.old (Ok command))
@@ -169,7 +177,14 @@ impl<G: Game + Send + Drop> Session<G> {
     }
 
     /// Answers a command that asks for no search for a time.
-    #[tactic(auto, using(crate::proofs::ReplyLaws::get_keeps, crate::proofs::ReplyLaws::list_keeps, crate::proofs::ReplyLaws::best_keeps))]
+    #[tactic(
+        auto,
+        using(
+            crate::proofs::ReplyLaws::get_keeps,
+            crate::proofs::ReplyLaws::list_keeps,
+            crate::proofs::ReplyLaws::best_keeps
+        )
+    )]
     fn perform_at_once<R: Threads + Sync, T: Gate + Sync>(
         &mut self,
         rt: &R,
@@ -178,7 +193,7 @@ impl<G: Game + Send + Drop> Session<G> {
         command: Command,
         gate: &T,
     ) -> Result<Reply, AllocError>
-        requires short { length line.now ≤ 65536 }
+        requires short { length line.now ≤ greatest_line }
         requires within { AreWithin line.now command }
         requires reads { IsCommand line.now command }
         requires untimed { IsUntimed command }
@@ -219,7 +234,7 @@ impl<G: Game + Send + Drop> Session<G> {
 
     /// Begins the game of a text, with the rule that the options have now.
     fn begin(&mut self, alloc: Global, text: &[u8]) -> Result<Reply, AllocError>
-        requires { length text.now ≤ 65536 }
+        requires { length text.now ≤ greatest_line }
         ensures { Gave (begin self.old (game_under self.old.repetition (or_base text.now))) result
             self.old self.new }
     {
@@ -236,7 +251,7 @@ impl<G: Game + Send + Drop> Session<G> {
 
     /// Plays the move of a text.
     fn play(&mut self, alloc: Global, words: &[u8]) -> Result<Reply, AllocError>
-        requires { length words.now ≤ 65536 }
+        requires { length words.now ≤ greatest_line }
         ensures { Gave (in_game self.old self.old.game (play self.old words.now))
             result self.old self.new }
     {
@@ -275,10 +290,10 @@ impl<G: Game + Send + Drop> Session<G> {
     }
 
     /// The best move, so many plies deep. Several workers search it beside each other, and go on
-    /// with the searchers of the session's team, each of which has its share of the option Table, at
-    /// least one entry. One worker goes on with the searcher of the session, which has the whole of
-    /// it. Where one of the two begins, what is kept of the other is dropped before, so that no more
-    /// than these entries are kept at a time.
+    /// with the searchers of the session's team, each of which has its share of the option Table,
+    /// at least one entry. One worker goes on with the searcher of the session, which has the whole
+    /// of it. Where one of the two begins, what is kept of the other is dropped before, so that no
+    /// more than these entries are kept at a time.
     fn best<R: Threads + Sync, T: Gate + Sync>(
         &mut self,
         rt: &R,

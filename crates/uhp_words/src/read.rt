@@ -16,6 +16,7 @@ ghost use Rattle.uhp_words.specs.Reading.{
   arguments_of,
   command_of,
 };
+ghost use Rattle.hive_model.specs.Lines.{greatest_line};
 
 use crate::command::{Command, CommandFault};
 use crate::span::span_of;
@@ -32,7 +33,7 @@ fn alone(command: Command, rest: &[u8]) -> Option<Command>
 
 /// The move to play.
 fn play_of(text: &[u8], rest: &[u8]) -> Option<Command>
-    requires short { length text.now ≤ 65536 }
+    requires short { length text.now ≤ greatest_line }
     requires within { length rest.now ≤ length text.now }
     ensures { result ≡ play_of text.now rest.now }
 {
@@ -77,7 +78,7 @@ fn undo_of(rest: &[u8]) -> Option<Command>
 
 /// The option to tell.
 fn get_of(text: &[u8], name: &[u8]) -> Option<Command>
-    requires short { length text.now ≤ 65536 }
+    requires short { length text.now ≤ greatest_line }
     requires within { length name.now ≤ length text.now }
     ensures { result ≡ get_of text.now name.now }
 {
@@ -91,7 +92,7 @@ fn get_of(text: &[u8], name: &[u8]) -> Option<Command>
 
 /// The option to set, and its value.
 fn set_of(text: &[u8], both: &[u8]) -> Option<Command>
-    requires short { length text.now ≤ 65536 }
+    requires short { length text.now ≤ greatest_line }
     requires within { length both.now ≤ length text.now }
     ensures { result ≡ set_of text.now both.now }
 {
@@ -107,7 +108,7 @@ fn set_of(text: &[u8], both: &[u8]) -> Option<Command>
 
 /// What to do with the options: list them, where nothing is said.
 fn options_of(text: &[u8], rest: &[u8]) -> Option<Command>
-    requires short { length text.now ≤ 65536 }
+    requires short { length text.now ≤ greatest_line }
     requires within { length rest.now ≤ length text.now }
     ensures { result ≡ options_of text.now rest.now }
 {
@@ -126,7 +127,7 @@ fn options_of(text: &[u8], rest: &[u8]) -> Option<Command>
 
 /// The command that a first word and the rest of the line make.
 fn arguments_of(text: &[u8], verb: Verb, rest: &[u8]) -> Option<Command>
-    requires short { length text.now ≤ 65536 }
+    requires short { length text.now ≤ greatest_line }
     requires within { length rest.now ≤ length text.now }
     ensures { result ≡ arguments_of text.now verb rest.now }
 {
@@ -148,7 +149,7 @@ fn arguments_of(text: &[u8], verb: Verb, rest: &[u8]) -> Option<Command>
 /// The command of a line, as the definition computes it.
 #[tactic(auto, unfolding(crate::specs::Reading::command_of))]
 fn command_of(line: &[u8]) -> Result<Command, CommandFault>
-    requires { length line.now ≤ 65536 }
+    requires { length line.now ≤ greatest_line }
     ensures { result ≡ command_of line.now }
 {
     let text = before_spaces(line);
@@ -170,7 +171,7 @@ fn command_of(line: &[u8]) -> Result<Command, CommandFault>
 /// `Unknown` where the first word is no command, as in an empty line; `Arguments` where it is one
 /// and the rest is not of its form.
 pub fn read_command(line: &[u8]) -> Result<Command, CommandFault>
-    requires { length line.now ≤ 65536 }
+    requires { length line.now ≤ greatest_line }
     ensures computes { result ≡ command_of line.now }
     ensures reads { IfOk result (λ c. IsCommand line.now c) }
     ensures only { (c : AnyCommand) → IsCommand line.now c → result ≡ Ok c }

@@ -2,6 +2,7 @@
 
 ghost use Rattle.std.specs.Prelude.{◌≡◌, ◌+◌, ◌≤◌, length};
 ghost use Rattle.uhp_words.specs.Spans.{bytes_at, span_of};
+ghost use Rattle.hive_model.specs.Lines.{greatest_line};
 
 /// A part of a line: it begins behind `at` bytes and has `len` bytes.
 #[derive(Clone, Copy, Debug, PartialEq, Eq)]
@@ -21,7 +22,7 @@ pub fn part(line: &[u8], span: Span) -> &[u8]
 
 /// Where the word stands with which `rest` begins, the last bytes of the text.
 pub(crate) fn span_of(text: &[u8], rest: &[u8], word: &[u8]) -> Span
-    requires short { length text.now ≤ 65536 }
+    requires short { length text.now ≤ greatest_line }
     requires within { length rest.now ≤ length text.now }
     requires begins { length word.now ≤ length rest.now }
     ensures { result ≡ span_of text.now rest.now word.now }

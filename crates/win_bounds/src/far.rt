@@ -2,7 +2,7 @@
 
 ghost use Rattle.std.specs.Prelude.{◌≡◌, ◌≤ℤ◌, pos, neg_ℤ, Some, IsTrue};
 ghost use Rattle.hive_model.specs.Pieces.{other_side, queen_of};
-ghost use Rattle.hive_model.specs.Places.{IsWithin};
+ghost use Rattle.hive_model.specs.Places.{IsWithin, IsOnTheMap};
 ghost use Rattle.hive_model.specs.Boards.{IsBoard, spot_of, top_at};
 ghost use Rattle.hive_model.specs.Minimax.{value};
 ghost use Rattle.hive_model.specs.Courses.{position};
@@ -61,7 +61,7 @@ fn throws_in<B: Board>(board: &B, side: Colour, place: Place, top: Piece) -> boo
 /// Whether at most four neighbours of the place are occupied, and on none stands a pillbug or a
 /// mosquito of the side with a hole beside it.
 fn is_far_place<B: Board>(board: &B, side: Colour, queen: Place) -> bool
-    requires { IsWithin 9500 queen }
+    requires { IsOnTheMap queen }
     ensures { result ≡ is_far_place (B.stacks board.now) side queen }
 {
     let mut occupied = 0u32;

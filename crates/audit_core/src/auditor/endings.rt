@@ -1,6 +1,7 @@
 //! What comes of the replies at the end of a game.
 ghost use Rattle.std.specs.Prelude.{◌≡◌, ◌≤◌, length, IfOk, IfSome, OnOk};
 ghost use Rattle.hive_model.specs.Legal.{moves};
+ghost use Rattle.hive_model.specs.Lines.{greatest_line};
 ghost use Rattle.move_text.specs.Moves.{IsMoveWithin};
 ghost use Rattle.audit_core.specs.Drawing.{tried_of};
 ghost use Rattle.audit_core.specs.Standing.{
@@ -48,7 +49,7 @@ impl<G: Game + Drop> Auditor<G> {
 
     /// The reply is to be the game string behind an undo, and then the list is asked for.
     fn check_undone(&mut self, reply: &[u8]) -> Result<(), AllocError>
-        requires { length reply.now ≤ 65536 }
+        requires { length reply.now ≤ greatest_line }
         ensures { OnOk result (self.new ≡ check_undone self.old reply.now) }
     {
         match wrong_string(self.alloc, &self.game, reply)? {
@@ -63,7 +64,7 @@ impl<G: Game + Drop> Auditor<G> {
 
     /// The plies were taken back, and the reply is to be the game string.
     pub(super) fn check_undo(&mut self, plies: u32, reply: &[u8]) -> Result<(), AllocError>
-        requires short { length reply.now ≤ 65536 }
+        requires short { length reply.now ≤ greatest_line }
         requires stage { self.old.stage ≡ Stage.Undoing plies }
         ensures { OnOk result (self.new
             ≡ check_undone (without_plies self.old plies) reply.now) }
@@ -109,7 +110,7 @@ impl<G: Game + Drop> Auditor<G> {
 
     /// The reply is to be the list of the legal moves behind an undo.
     pub(super) fn check_review(&mut self, reply: &[u8]) -> Result<(), AllocError>
-        requires { length reply.now ≤ 65536 }
+        requires { length reply.now ≤ greatest_line }
         ensures { OnOk result (self.new ≡ check_review self.old reply.now) }
     {
         let legal = self.list_legal()?;
@@ -154,7 +155,7 @@ impl<G: Game + Drop> Auditor<G> {
 
     /// The reply is to be the list as before.
     pub(super) fn check_relisted(&mut self, reply: &[u8]) -> Result<(), AllocError>
-        requires { length reply.now ≤ 65536 }
+        requires { length reply.now ≤ greatest_line }
         ensures { OnOk result (self.new ≡ check_relisted self.old reply.now) }
     {
         let legal = self.list_legal()?;
@@ -186,7 +187,7 @@ impl<G: Game + Drop> Auditor<G> {
 
     /// The reply is to be the game string of the whole game.
     fn check_loaded(&mut self, reply: &[u8]) -> Result<(), AllocError>
-        requires { length reply.now ≤ 65536 }
+        requires { length reply.now ≤ greatest_line }
         ensures { OnOk result (self.new ≡ check_loaded self.old reply.now) }
     {
         match wrong_string(self.alloc, &self.game, reply)? {
@@ -197,7 +198,7 @@ impl<G: Game + Drop> Auditor<G> {
 
     /// The whole game was loaded, and the reply is to be its game string.
     pub(super) fn check_load(&mut self, reply: &[u8]) -> Result<(), AllocError>
-        requires { length reply.now ≤ 65536 }
+        requires { length reply.now ≤ greatest_line }
         ensures { OnOk result (self.new ≡ check_loaded (loaded self.old) reply.now) }
     {
         self.restore();
@@ -215,7 +216,7 @@ impl<G: Game + Drop> Auditor<G> {
 
     /// The reply is to be the list of the legal moves of the whole game.
     pub(super) fn check_finish(&mut self, reply: &[u8]) -> Result<(), AllocError>
-        requires { length reply.now ≤ 65536 }
+        requires { length reply.now ≤ greatest_line }
         ensures { OnOk result (self.new ≡ check_finish self.old reply.now) }
     {
         let legal = self.list_legal()?;

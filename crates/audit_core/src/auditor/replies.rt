@@ -2,6 +2,7 @@
 ghost use Rattle.std.specs.Prelude.{◌≡◌, ◌<◌, ◌≤◌, [], length, IfOk, IfSome, OnOk};
 ghost use Rattle.hive_model.specs.Legal.{moves};
 ghost use Rattle.hive_model.specs.Lists.{IsOn};
+ghost use Rattle.hive_model.specs.Lines.{greatest_line};
 ghost use Rattle.audit_core.specs.Judging.{wrong_list};
 ghost use Rattle.audit_core.specs.Standing.{
   position_now,
@@ -47,7 +48,7 @@ impl<G: Game + Drop> Auditor<G> {
     pub(super) fn take_reply(&mut self) -> LineText
         ensures reply { result ≡ self.old.reply }
         ensures left { self.new ≡ fresh self.old }
-        ensures short { length result ≤ 65536 }
+        ensures short { length result ≤ greatest_line }
     {
         self.begun = false;
         take_text(self.alloc, &mut self.reply)
@@ -55,7 +56,7 @@ impl<G: Game + Drop> Auditor<G> {
 
     /// The reply is to be the game string of the game.
     fn check_string(&mut self, reply: &[u8]) -> Result<(), AllocError>
-        requires { length reply.now ≤ 65536 }
+        requires { length reply.now ≤ greatest_line }
         ensures { OnOk result (self.new ≡ check_string self.old reply.now) }
     {
         match wrong_string(self.alloc, &self.game, reply)? {
@@ -79,7 +80,7 @@ impl<G: Game + Drop> Auditor<G> {
         reply: &[u8],
     ) -> Result<Option<Finding>, AllocError>
         requires legal { legal.now ≡ moves (position_now self.now) }
-        requires short { length reply.now ≤ 65536 }
+        requires short { length reply.now ≤ greatest_line }
         ensures { IfOk result (λ o. o
             ≡ wrong_list self.now.game_type (position_now self.now) reply.now) }
     {
@@ -136,7 +137,7 @@ impl<G: Game + Drop> Auditor<G> {
 
     /// The reply is to be the list of the legal moves.
     fn check_list(&mut self, reply: &[u8]) -> Result<(), AllocError>
-        requires short { length reply.now ≤ 65536 }
+        requires short { length reply.now ≤ greatest_line }
         requires more { length self.old.moves < self.old.plan.plies }
         ensures { OnOk result (self.new ≡ check_list self.old reply.now) }
     {
@@ -158,7 +159,7 @@ impl<G: Game + Drop> Auditor<G> {
 
     /// The move was played, and the reply is to be the game string.
     fn check_move(&mut self, m: Move, reply: &[u8]) -> Result<(), AllocError>
-        requires short { length reply.now ≤ 65536 }
+        requires short { length reply.now ≤ greatest_line }
         requires stage { self.old.stage ≡ Stage.Playing m }
         ensures { OnOk result (self.new ≡ check_string (with_move self.old m) reply.now) }
     {
@@ -176,7 +177,7 @@ impl<G: Game + Drop> Auditor<G> {
 
     /// A reply has ended.
     pub(super) fn reply_ends(&mut self, reply: &[u8]) -> Result<(), AllocError>
-        requires { length reply.now ≤ 65536 }
+        requires { length reply.now ≤ greatest_line }
         ensures { OnOk result (self.new ≡ reply_ends self.old self.old.stage reply.now) }
     {
         match self.stage {

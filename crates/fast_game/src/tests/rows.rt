@@ -2,7 +2,7 @@
 
 ghost use Rattle.std.specs.Prelude.{◌≢◌, ◌<◌, IfOk};
 ghost use Rattle.hive_model.specs.declared.pieces.Kind.TheVariants.{Mosquito};
-ghost use Rattle.hive_model.specs.Places.{IsWithin};
+ghost use Rattle.hive_model.specs.Places.{IsWithin, IsOnTheMap};
 ghost use Rattle.fast_game.specs.Small.{IsSmall};
 
 use bug_moves::reach;
@@ -53,7 +53,7 @@ fn are_listed(places: &PlaceList, wanted: &[(i32, i32)]) -> bool {
 /// Whether a bug of this kind reaches just these places.
 fn finds(board: &Torus<32>, kind: Kind, from: Place, wanted: &[(i32, i32)]) -> bool
     requires kind { kind ≢ Mosquito }
-    requires within { IsWithin 9500 from }
+    requires within { IsOnTheMap from }
 {
     let mut out = PlaceList::new();
     reach(kind, board, from, &mut out);
@@ -62,7 +62,7 @@ fn finds(board: &Torus<32>, kind: Kind, from: Place, wanted: &[(i32, i32)]) -> b
 
 /// Whether a mosquito reaches just these places.
 fn copies(board: &Torus<32>, from: Place, wanted: &[(i32, i32)]) -> bool
-    requires { IsWithin 9500 from }
+    requires { IsOnTheMap from }
 {
     let mut out = PlaceList::new();
     mosquito_reach(board, from, &mut out);

@@ -14,6 +14,7 @@ ghost use Rattle.match_core.specs.Standing.{
   answered,
 };
 ghost use Rattle.match_core.specs.Keeps.{IsLevel, IsEarly, HasNext, IsSettled};
+ghost use Rattle.hive_model.specs.Lines.{greatest_line};
 
 use super::Referee;
 use crate::answers::{Cause, Event, Level, Stage, Task};
@@ -113,7 +114,7 @@ impl<G: Game + Drop> Referee<G> {
     /// Counts a line, and keeps the first.
     fn keep(&mut self, line: &[u8]) -> Result<(), AllocError>
         requires few { self.old.count < 1000 }
-        requires short { length line.now ≤ 65536 }
+        requires short { length line.now ≤ greatest_line }
         ensures ok { OnOk result (self.new ≡ keep self.old self.old.stage line.now) }
         ensures err { OnErr result (self.new ≡ self.old) }
     {
@@ -131,7 +132,7 @@ impl<G: Game + Drop> Referee<G> {
     fn hear(&mut self, task: Task, side: Colour, line: &[u8]) -> Result<(), AllocError>
         requires more { HasNext task (length self.old.setup.begin) (length self.old.moves)
             self.old.setup.limit }
-        requires short { length line.now ≤ 65536 }
+        requires short { length line.now ≤ greatest_line }
         requires stage { self.old.stage ≡ Stage.Read task side }
         ensures ok { OnOk result (self.new ≡ hear self.old task side line.now) }
         ensures err { OnErr result (self.new ≡ self.old) }
@@ -177,7 +178,7 @@ impl<G: Game + Drop> Referee<G> {
     ) -> Result<(), AllocError>
         requires more { HasNext task (length self.old.setup.begin) (length self.old.moves)
             self.old.setup.limit }
-        requires short { length line.now ≤ 65536 }
+        requires short { length line.now ≤ greatest_line }
         requires stage { self.old.stage ≡ Stage.Read task side }
         ensures ok { OnOk result (self.new ≡ at_read self.old task side
             (happening event line.now)) }

@@ -3,4 +3,4 @@ use Rattle.move_text.proofs.LegalSpell.{listed_within}
 use Rattle.audit_core.proofs.texts.move_text.Goals as goal
 
 pub write_move-requires-clause-within : goal.write_move-requires-clause-within
-write_move-requires-clause-within g c = listed_within (position (g.G.Game.course c.args.game.now)) c.args.m c.state-state.ensures.sound c.requires
+write_move-requires-clause-within g c = listed_within (position (g.G.Game.course c.args.game.now)) c.args.m c.is_sound.ensures.sound c.requires

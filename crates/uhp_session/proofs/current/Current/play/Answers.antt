@@ -12,7 +12,7 @@ pub push-requires-clause-within : goal.push-requires-clause-within
 push-requires-clause-within g c =
     let kind : (g.G.Game.course c.reserve.new.self).game_type ≡ c.args.self.now.game_type = search rules in
     let made : (g.G.Game.course c.reserve.new.self).made ≡ c.args.self.now.made = search rules in
-    subst IsMoveWithin (sym c.again.ensures) (kept_within (g.G.Game.course c.reserve.new.self) c.args.self.now c.args.m kind made c.state-state.ensures.sound c.requires.legal)
+    subst IsMoveWithin (sym c.again.ensures) (kept_within (g.G.Game.course c.reserve.new.self) c.args.self.now c.args.m kind made c.is_sound.ensures.sound c.requires.legal)
 
 pub note-requires : goal.note-requires
 note-requires g c =
