@@ -13,11 +13,11 @@ use Rattle.command_runs.specs.Answered.{WritesAs}
 use Rattle.command_runs.specs.declared.status.Status.{Status}
 use Rattle.command_runs.specs.declared.status.Status.TheVariants.{Done, Refused, WriteFault, SpawnFault}
 use Rattle.audit_core.specs.declared.plan.Plan.{Plan}
-use Rattle.audit_core.specs.Standing.{Standing}
+use Rattle.audit_core.specs.AuditState.{AuditState}
 use Rattle.audit_core.specs.Audits.{sent_in}
 use Rattle.audit_runner.specs.Wires.{HasFailed, Wire}
 use Rattle.audit_runner.specs.Runs.{Ends, RanOver}
-use Rattle.audit_command.specs.Audit.{AuditRun, AuditStarts, AuditedOver, CountsFault, Hears, IsStarted, IsWhole, NoneIsOpen, Played, Scene, StartsOneOf, scene, verdict_of}
+use Rattle.audit_command.specs.Audit.{AuditRun, AuditStarts, AuditedOver, CountsFault, Hears, IsStarted, IsWhole, NoneIsOpen, AuditOver, Scene, StartsOneOf, scene, verdict_of}
 
 -- a link that has failed has counted it
 failed : (w0 w : Wire) → w0.reads ≡ 0 → w0.writes ≡ 0 → HasFailed w0 w → 0 < w.reads + w.writes
@@ -29,13 +29,13 @@ from_none : (old new : Told) (bytes : List ℕ) → old ≡ Some [] → new ≡ 
 from_none old new bytes e f = f ∙ ap (λ o. behind o bytes) e
 
 -- what was heard, once the failures of the link are counted
-heard_of : (plan : Plan) (marks : List Mark) (t : Standing) (w0 w : Wire) (before after : Engines) → (HasFailed w0 w → Rose before.engine_faults after.engine_faults) → Ends plan marks t w0 w → Hears plan marks t before after
+heard_of : (plan : Plan) (marks : List Mark) (t : AuditState) (w0 w : Wire) (before after : Engines) → (HasFailed w0 w → Rose before.engine_faults after.engine_faults) → Ends plan marks t w0 w → Hears plan marks t before after
 heard_of plan marks t w0 w before after counted (inl e) = inl e
 heard_of plan marks t w0 w before after counted (inr (inl (e, rose))) = inr (inl e, counted (inl rose))
 heard_of plan marks t w0 w before after counted (inr (inr (e, rose))) = inr (inr e, counted (inr rose))
 
 -- the audit that was run, once the program is closed
-pub audited_over : (plan : Plan) (t : Standing) (w0 w : Wire) (before after : Engines) → w0.reads ≡ 0 → w0.writes ≡ 0 → RanOver plan t w0 w
+pub audited_over : (plan : Plan) (t : AuditState) (w0 w : Wire) (before after : Engines) → w0.reads ≡ 0 → w0.writes ≡ 0 → RanOver plan t w0 w
     → CountsFault (w.reads + w.writes) before.engine_faults after.engine_faults → Collects before.sent after.sent w.written → AuditedOver plan t w0.rest w0.written before after
 audited_over plan t w0 w before after r0 s0 ran counts closes =
     let counted : HasFailed w0 w → Rose before.engine_faults after.engine_faults = λ x. counts.failed (failed w0 w r0 s0 x) in
@@ -49,7 +49,7 @@ audited_over plan t w0 w before after r0 s0 ran counts closes =
           };
     }
 
-pub audited_ok : {E : Type 0} (r : Result Standing E) (plan : Plan) (w0 w : Wire) (before after : Engines) → w0.reads ≡ 0 → w0.writes ≡ 0 → IfOk r (λ t. RanOver plan t w0 w)
+pub audited_ok : {E : Type 0} (r : Result AuditState E) (plan : Plan) (w0 w : Wire) (before after : Engines) → w0.reads ≡ 0 → w0.writes ≡ 0 → IfOk r (λ t. RanOver plan t w0 w)
     → CountsFault (w.reads + w.writes) before.engine_faults after.engine_faults → Collects before.sent after.sent w.written → IfOk r (λ t. AuditedOver plan t w0.rest w0.written before after)
 audited_ok (Ok t) plan w0 w before after r0 s0 ran counts closes = audited_over plan t w0 w before after r0 s0 ran counts closes
 audited_ok (Err x) plan w0 w before after r0 s0 ran counts closes = tt
@@ -62,13 +62,13 @@ told_start (Some xs) None rest written all starts e = absurd starts
 told_start (Some xs) (Some ys) rest written all (bytes, xe, r, w) e = (bytes, ys, sym (same_Some _ _ e) ∙ xe, refl, r, w)
 
 -- the same from before the program was started
-heard_from : (plan : Plan) (marks : List Mark) (t : Standing) (between before after : Engines) → between.engine_faults ≡ before.engine_faults → Hears plan marks t between after → Hears plan marks t before after
+heard_from : (plan : Plan) (marks : List Mark) (t : AuditState) (between before after : Engines) → between.engine_faults ≡ before.engine_faults → Hears plan marks t between after → Hears plan marks t before after
 heard_from plan marks t between before after faults (inl e) = inl e
 heard_from plan marks t between before after faults (inr (e, rose)) = inr (e, subst (λ n. Rose n after.engine_faults) faults rose)
 
 -- the audit from before its program was started
-pub played_from : (plan : Plan) (t : Standing) (rest written : Told) (before between after : Engines) → Starts before.to_come between.to_come rest written → after.to_come ≡ between.to_come
-    → between.sent ≡ before.sent → between.engine_faults ≡ before.engine_faults → AuditedOver plan t rest written between after → Played plan t before after
+pub played_from : (plan : Plan) (t : AuditState) (rest written : Told) (before between after : Engines) → Starts before.to_come between.to_come rest written → after.to_come ≡ between.to_come
+    → between.sent ≡ before.sent → between.engine_faults ≡ before.engine_faults → AuditedOver plan t rest written between after → AuditOver plan t before after
 played_from plan t rest written before between after starts stays sent faults a = record {
   over = a.over;
   heard = (a.heard.0, heard_from plan a.heard.0 t between before after faults a.heard.1);
@@ -92,12 +92,12 @@ some_of : (n : ℕ) → (n == 0) ≡ false → 0 < n
 some_of zero e = absurd (cc)
 some_of (suc n) e = omega arith
 
-whole_at : (plan : Plan) (t : Standing) (status : Status) (before after : Scene) (b : Bool) → Played plan t before.engines after.engines → after.written ≡ behind before.written t.text → (t.findings == 0) ≡ b
+whole_at : (plan : Plan) (t : AuditState) (status : Status) (before after : Scene) (b : Bool) → AuditOver plan t before.engines after.engines → after.written ≡ behind before.written t.text → (t.findings == 0) ≡ b
     → status ≡ (if b then Done else Refused) → AuditRun plan status before after
 whole_at plan t status before after true played wrote k e = subst (λ s. AuditRun plan s before after) (sym e) (t, eqb-true t.findings 0 k, record { played = played; wrote = wrote })
 whole_at plan t status before after false played wrote k e = subst (λ s. AuditRun plan s before after) (sym e) (t, some_of t.findings k, record { played = played; wrote = wrote })
 
-pub told_as : (plan : Plan) (t : Standing) (status : Status) (before after : Scene) → Played plan t before.engines after.engines → WritesAs t.text (verdict_of t.findings) status before.written after.written → AuditRun plan status before after
+pub told_as : (plan : Plan) (t : AuditState) (status : Status) (before after : Scene) → AuditOver plan t before.engines after.engines → WritesAs t.text (verdict_of t.findings) status before.written after.written → AuditRun plan status before after
 told_as plan t status before after played (inl (e, wrote)) = whole_at plan t status before after (t.findings == 0) played wrote refl e
 told_as plan t status before after played (inr (e, (n, low, wrote))) =
     subst (λ s. AuditRun plan s before after) (sym e) (t, n, record { played = played; cut = low; wrote = wrote })

@@ -7,7 +7,7 @@ use Rattle.command_runs.specs.declared.status.Status.{Status}
 use Rattle.command_runs.specs.declared.status.Status.TheVariants.{Done, Refused, Usage, ReadFault, WriteFault, SpawnFault, BadInput, Memory, InputFull}
 use Rattle.audit_core.specs.declared.plan.Plan.{Plan}
 use Rattle.audit_core.specs.declared.findings.Fault.TheVariants.{Broke}
-use Rattle.audit_core.specs.Standing.{Standing, is_ended}
+use Rattle.audit_core.specs.AuditState.{AuditState, is_ended}
 use Rattle.audit_core.specs.Audits.{audit_of, sent_in}
 use Rattle.audit_runner.specs.Runs.{broken_off, unread}
 
@@ -24,14 +24,14 @@ scene written engines = record { written = written; engines = engines }
 -- What was played
 
 -- the audit is that of the lines of this program, and it got what is sent for them
-pub record IsWhole (plan : Plan) (bytes : List ℕ) (t : Standing) (before after : Engines)
+pub record IsWhole (plan : Plan) (bytes : List ℕ) (t : AuditState) (before after : Engines)
     : Type 0 where
   pub audit : t ≡ audit_of plan (lines bytes)
   pub gains : Collects before.sent after.sent (Some (sent_in plan (lines bytes)))
 
 -- the audit is that of these lines; or behind them a read failed, or a write, which is told as
 -- broke, and the failure was counted
-abbrev pub Hears : Plan → List Mark → Standing → Engines → Engines → Type 0
+abbrev pub Hears : Plan → List Mark → AuditState → Engines → Engines → Type 0
 Hears plan marks t before after =
     (t ≡ audit_of plan marks)
     ⊎ (((t ≡ broken_off plan marks (unread plan)) ⊎ (t ≡ broken_off plan marks Broke))
@@ -40,7 +40,7 @@ Hears plan marks t before after =
 -- of the programs to come the first one was started, and no other; where no failure of it was
 -- counted, its audit is whole
 pub record StartsOneOf
-    (all : List (List ℕ)) (plan : Plan) (t : Standing) (before after : Engines) : Type 0 where
+    (all : List (List ℕ)) (plan : Plan) (t : AuditState) (before after : Engines) : Type 0 where
   pub bytes : List ℕ
   pub others : List (List ℕ)
   pub first : all ≡ bytes ∷ others
@@ -49,7 +49,7 @@ pub record StartsOneOf
       → IsWhole plan bytes t before after
 
 -- an audit came to its end, and stands so, by some lines; and what its program says tells which
-pub record Played (plan : Plan) (t : Standing) (before after : Engines) : Type 0 where
+pub record AuditOver (plan : Plan) (t : AuditState) (before after : Engines) : Type 0 where
   pub over : is_ended t.stage ≡ true
   pub heard : (marks : List Mark) × Hears plan marks t before after
   pub programs : (all : List (List ℕ)) → before.to_come ≡ Some all
@@ -58,13 +58,13 @@ pub record Played (plan : Plan) (t : Standing) (before after : Engines) : Type 0
 -- The run
 
 -- the text of an audit that came to its end was written
-pub record Tells (plan : Plan) (t : Standing) (before after : Scene) : Type 0 where
-  pub played : Played plan t before.engines after.engines
+pub record Tells (plan : Plan) (t : AuditState) (before after : Scene) : Type 0 where
+  pub played : AuditOver plan t before.engines after.engines
   pub wrote : after.written ≡ behind before.written t.text
 
 -- of its text the first n bytes were written, and not all
-pub record TellsPart (plan : Plan) (t : Standing) (n : ℕ) (before after : Scene) : Type 0 where
-  pub played : Played plan t before.engines after.engines
+pub record TellsPart (plan : Plan) (t : AuditState) (n : ℕ) (before after : Scene) : Type 0 where
+  pub played : AuditOver plan t before.engines after.engines
   pub cut : n < length t.text
   pub wrote : after.written ≡ behind before.written (take n t.text)
 
@@ -78,10 +78,10 @@ pub record NotBegun (before after : Scene) : Type 0 where
 -- as many bytes as are read, nothing was written. Three statuses are not its own.
 abbrev pub AuditRun : Plan → Status → Scene → Scene → Type 0
 AuditRun plan Done before after =
-    (t : Standing) × (t.findings ≡ 0) × Tells plan t before after
+    (t : AuditState) × (t.findings ≡ 0) × Tells plan t before after
 AuditRun plan Refused before after =
-    (t : Standing) × (0 < t.findings) × Tells plan t before after
-AuditRun plan WriteFault before after = (t : Standing) × (n : ℕ) × TellsPart plan t n before after
+    (t : AuditState) × (0 < t.findings) × Tells plan t before after
+AuditRun plan WriteFault before after = (t : AuditState) × (n : ℕ) × TellsPart plan t n before after
 AuditRun plan SpawnFault before after = NotBegun before after
 AuditRun plan Memory before after = after.written ≡ before.written
 AuditRun plan InputFull before after = after.written ≡ before.written
@@ -133,7 +133,7 @@ pub record EndsAudit
 -- On the way
 
 -- an audit came to its end over the link of a program that was started, which was closed
-pub record AuditedOver (plan : Plan) (t : Standing) (rest written : Told) (before after : Engines)
+pub record AuditedOver (plan : Plan) (t : AuditState) (rest written : Told) (before after : Engines)
     : Type 0 where
   pub over : is_ended t.stage ≡ true
   pub heard : (marks : List Mark) × Hears plan marks t before after

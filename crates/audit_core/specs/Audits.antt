@@ -3,27 +3,27 @@ use Rattle.std.specs.Prelude.{ℕ, cond, List, [], ◌∷◌, ◌++◌}
 use Rattle.hive_model.specs.Lines.{Line as Mark}
 use Rattle.audit_core.specs.declared.plan.Plan.{Plan}
 use Rattle.audit_core.specs.declared.findings.Fault.TheVariants.{Ended}
-use Rattle.audit_core.specs.Standing.{Standing, start, sent, line_now, at_mark, is_ended, break_off}
+use Rattle.audit_core.specs.AuditState.{AuditState, start, sent, line_now, at_mark, is_ended, break_off}
 
 -- the line that waits is sent, and then a line is read; nothing happens once the audit is over
-abbrev pub step : Standing → Mark → Standing
+abbrev pub step : AuditState → Mark → AuditState
 step s mark = cond (is_ended s.stage) s (at_mark (sent s) mark)
 
 -- the audit after these lines
-abbrev pub after_all : Standing → List Mark → Standing
+abbrev pub after_all : AuditState → List Mark → AuditState
 after_all s [] = s
 after_all s (mark ∷ marks) = after_all (step s mark) marks
 
 -- no line is left: an audit that is not over ends by this finding
-abbrev pub close : Standing → Standing
+abbrev pub close : AuditState → AuditState
 close s = cond (is_ended s.stage) s (break_off s Ended)
 
 -- the audit of an engine that says just these lines
-unfoldable pub audit_of : Plan → List Mark → Standing
+unfoldable pub audit_of : Plan → List Mark → AuditState
 audit_of plan marks = close (after_all (start plan) marks)
 
 -- the bytes that were sent before these lines were read
-abbrev pub sent_over : Standing → List Mark → List ℕ
+abbrev pub sent_over : AuditState → List Mark → List ℕ
 sent_over s [] = []
 sent_over s (mark ∷ marks) = line_now s ++ sent_over (step s mark) marks
 

@@ -10,7 +10,7 @@ use Rattle.audit_core.specs.declared.plan.Stage.{Stage}
 use Rattle.audit_core.specs.declared.plan.Stage.TheVariants.{Greeting, Beginning, Listing, Playing, Undoing, Reviewing, Trying, Relisting, Loading, Finishing, Over}
 use Rattle.audit_core.specs.Judging.{wrong_list, wrong_refusal, wrong_string, ListsMoves, TellsGame}
 use Rattle.audit_core.specs.Texts.{is_ok, is_refusal}
-use Rattle.audit_core.specs.Standing.{Standing, start, position_now, is_ended, reply_with}
+use Rattle.audit_core.specs.AuditState.{AuditState, start, position_now, is_ended, reply_with}
 use Rattle.audit_core.specs.Audits.{step, audit_of}
 
 -- nothing is wrong with a list exactly where it lists the legal moves, with a string exactly where
@@ -26,7 +26,7 @@ pub record RepliesAreJudged : Type 0 where
 -- a whole reply is what it is to be at its place: the game string of the game reached, the list of
 -- the legal moves of its position, or a refusal of a move that is not legal; a greeting may be
 -- anything
-abbrev pub IsReply : Standing → Stage → List ℕ → Type 0
+abbrev pub IsReply : AuditState → Stage → List ℕ → Type 0
 IsReply s Greeting reply = Unit {0}
 IsReply s Beginning reply = TellsGame s.game_type s.moves reply
 IsReply s Listing reply = ListsMoves s.game_type (position_now s) reply
@@ -41,21 +41,21 @@ IsReply s Finishing reply = ListsMoves s.game_type (position_now s) reply
 IsReply s Over reply = Unit {0}
 
 -- a line ends a reply that is what it is to be, or leaves the reply no longer than a line may be
-abbrev pub IsRightLine : Bool → Standing → List ℕ → Type 0
+abbrev pub IsRightLine : Bool → AuditState → List ℕ → Type 0
 IsRightLine true s line = IsReply s s.stage s.reply
 IsRightLine false s line = length (reply_with s s.stage line) ≤ greatest_line
 
-abbrev pub IsRight : Standing → Mark → Type 0
+abbrev pub IsRight : AuditState → Mark → Type 0
 IsRight s (Text line) = IsRightLine (is_ok line) s line
 IsRight s TooLong = ⊥
 
 -- whatever is read once the audit is over is left alone
-abbrev pub IsRightAt : Bool → Standing → Mark → Type 0
+abbrev pub IsRightAt : Bool → AuditState → Mark → Type 0
 IsRightAt true s mark = Unit {0}
 IsRightAt false s mark = IsRight s mark
 
 -- each reply is what it is to be, and the lines lead to the end of the audit
-abbrev pub AreRight : Standing → List Mark → Type 0
+abbrev pub AreRight : AuditState → List Mark → Type 0
 AreRight s [] = is_ended s.stage ≡ true
 AreRight s (mark ∷ marks) = IsRightAt (is_ended s.stage) s mark × AreRight (step s mark) marks
 

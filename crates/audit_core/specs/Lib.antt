@@ -1,7 +1,7 @@
 pub mod Texts
 pub mod Judging
 pub mod Drawing
-pub mod Standing
+pub mod AuditState
 pub mod Keeps
 pub mod Audits
 pub mod Laws

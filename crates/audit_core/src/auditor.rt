@@ -2,7 +2,7 @@
 ghost use Rattle.std.specs.Prelude.{◌≡◌, ◌≤◌, [], length, IfOk, OnOk};
 ghost use Rattle.hive_model.specs.Lines.{Text, TooLong, greatest_line};
 ghost use Rattle.audit_core.specs.Keeps.{IsPlan};
-ghost use Rattle.audit_core.specs.Standing.{
+ghost use Rattle.audit_core.specs.AuditState.{
   start,
   line_at,
   line_now,
@@ -75,12 +75,12 @@ pub struct Auditor<G: Game> {
 }
 
 impl<G: Game> Model for Auditor<G> {
-    ghost use Rattle.audit_core.specs.Standing.{Standing, standing};
+    ghost use Rattle.audit_core.specs.AuditState.{AuditState, audit_state};
     ghost use Rattle.audit_core.specs.Keeps.{IsAuditor};
 
-    ghost Value = { Standing };
+    ghost Value = { AuditState };
 
-    ghost view = { λ a. standing a.plan a.stage a.sending a.ended a.plays
+    ghost view = { λ a. audit_state a.plan a.stage a.sending a.ended a.plays
         (G.course a.game).game_type (G.course a.game).made (G.course a.whole).made a.generator
         a.begun a.reply a.text a.findings a.positions a.choices };
 
@@ -190,7 +190,7 @@ impl<G: Game + Drop> Auditor<G> {
     /// # Errors
     ///
     /// Want of memory.
-    #[tactic(auto, unfolding(crate::specs::Standing::at_mark))]
+    #[tactic(auto, unfolding(crate::specs::AuditState::at_mark))]
     pub fn hear(&mut self, line: &[u8]) -> Result<(), AllocError>
         requires { length line.now ≤ greatest_line }
         ensures { OnOk result (self.new ≡ at_mark self.old (Text line.now)) }
@@ -207,7 +207,7 @@ impl<G: Game + Drop> Auditor<G> {
     /// # Errors
     ///
     /// Want of memory.
-    #[tactic(auto, unfolding(crate::specs::Standing::at_mark))]
+    #[tactic(auto, unfolding(crate::specs::AuditState::at_mark))]
     pub fn pass_over(&mut self) -> Result<(), AllocError>
         ensures { OnOk result (self.new ≡ at_mark self.old TooLong) }
     {

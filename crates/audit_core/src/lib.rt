@@ -4,8 +4,8 @@
 mod auditor;
 mod drawing;
 mod findings;
-mod judging;
 mod laws;
+mod listed_moves;
 mod lists;
 mod parts;
 mod past;

@@ -1,7 +1,7 @@
 //! The parts of a line, which stand between its semicolons.
 ghost use Rattle.std.specs.Prelude.{◌≡◌, ◌<◌, ◌≤◌, ◌∷◌, [], length, MatchOption, IfSome};
 ghost use Rattle.hive_model.specs.Strings.{parts};
-ghost use Rattle.audit_core.specs.Standing.{has_part, named_in};
+ghost use Rattle.audit_core.specs.AuditState.{has_part, named_in};
 
 use hive_model::GameType;
 

@@ -1,6 +1,6 @@
 //! The run of an audit.
 ghost use Rattle.std.specs.Prelude.{◌≡◌, IfOk};
-ghost use Rattle.audit_core.specs.Standing.{break_off};
+ghost use Rattle.audit_core.specs.AuditState.{break_off};
 ghost use Rattle.audit_core.specs.Keeps.{IsPlan};
 ghost use Rattle.audit_runner.specs.Wires.{wire};
 ghost use Rattle.audit_runner.specs.Runs.{RanOver, unread};

@@ -3,7 +3,7 @@ ghost use Rattle.std.specs.Prelude.{◌≡◌, ◌-◌, ◌<◌, false};
 ghost use Rattle.io_edge.specs.Outside.{HasCause};
 ghost use Rattle.line_feed.specs.Feed.{input_limit, settled};
 ghost use Rattle.line_feed.specs.Ahead.{ahead_of};
-ghost use Rattle.audit_core.specs.Standing.{is_ended};
+ghost use Rattle.audit_core.specs.AuditState.{is_ended};
 ghost use Rattle.audit_runner.specs.Turns.{Sends, Hears, Turns};
 
 use audit_core::Auditor;

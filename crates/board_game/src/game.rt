@@ -4,12 +4,13 @@ ghost use Rattle.std.specs.Prelude.{◌≡◌, refl};
 ghost use Rattle.hive_model.specs.Courses.{position, most_plies};
 
 use crate::before::Before;
+use crate::evaluation::worth_after;
 use crate::in_hand::{Placements, is_plain_in_hand, note, noted};
-use crate::judging::{key_after, worth_after};
+use crate::keys::key_after;
 use crate::listing::{count_after, is_legal_after, list_moves, state_of};
-use crate::making::{make, unmake};
+use crate::moves_made::{make, unmake};
 use crate::refuting::{reply_behind, turn_behind};
-use crate::telling::{find_base, find_whole, least_by, value_by};
+use crate::told_values::{find_base, find_whole, least_by, value_by};
 use crate::turns::{side_after, turn_after};
 use cut_keeper::CutKeeper;
 use hive_model::{
@@ -44,7 +45,7 @@ pub struct BoardGame<B: GameBoard> {
 impl<B: GameBoard> Model for BoardGame<B> {
     ghost use Rattle.std.specs.Prelude.{◌≡◌, ◌≤◌, ◌+◌, vec_capacity, vec_len};
     ghost use Rattle.hive_model.specs.Positions.{opening};
-    ghost use Rattle.board_game.specs.Replayed.{Played, IsReplayed};
+    ghost use Rattle.board_game.specs.Replayed.{PlayedCourse, IsReplayed};
     ghost use Rattle.one_hive.specs.Separating.{MarksSeparating};
     ghost use Rattle.board_game.specs.Kept.{AreKept};
     ghost use Rattle.board_game.specs.Asked.{IsAsked, IsWhole};
@@ -52,7 +53,7 @@ impl<B: GameBoard> Model for BoardGame<B> {
     ghost use Rattle.hive_model.specs.Pieces.{other_side};
     ghost use Rattle.rule_laws.specs.Soundness.{side_after};
 
-    ghost Value = { Played };
+    ghost Value = { PlayedCourse };
 
     ghost view = { λ g. record {
       course = record { game_type = g.game_type; made = g.made.items; spare = g.spare };

@@ -9,7 +9,7 @@ use Rattle.line_feed.specs.Feed.{Reading, Ends, Holds, input_limit}
 use Rattle.line_feed.specs.SoFar.{Fed}
 use Rattle.line_feed.proofs.FedLemmas.{fed_end, fed_held, fed_line}
 use Rattle.game_text.specs.declared.parsed.Parsed.{Parsed}
-use Rattle.opening_book.specs.Book.{Counts, IsTally, Played}
+use Rattle.opening_book.specs.Book.{Counts, IsTally, BookGame}
 use Rattle.command_runs.specs.Answered.{IsUnanswered, ReadsWhile}
 use Rattle.command_runs.specs.Asking.{WereTaken}
 use Rattle.command_runs.specs.OneGame.{bad_line}
@@ -25,7 +25,7 @@ use Rattle.book_command.specs.Text.{refusal}
 -- whose plies are counted, and each of their plies took a byte.
 pub record Counting (start now : Reading) (from to : Told) (first last : Counts) (number : ℕ) : Type 0 where
   pub ls : List Line
-  pub games : List Played
+  pub games : List BookGame
   pub fed : (begin : Told) (bytes : List ℕ) (given : List Line) → Fed begin from start bytes given → (more : List ℕ) × Fed begin to now more (given ++ ls)
   pub are_games : AreGames ls games
   pub tally : Counted games first last
@@ -44,7 +44,7 @@ none_counted start from first none = record {
   counted = omega (arith, none);
 }
 
-more_games : (ls : List Line) (games : List Played) (line : Line) (game : Played) → AreGames ls games → played_in line ≡ Some game → AreGames (ls ++ line ∷ []) (games ++ game ∷ [])
+more_games : (ls : List Line) (games : List BookGame) (line : Line) (game : BookGame) → AreGames ls games → played_in line ≡ Some game → AreGames (ls ++ line ∷ []) (games ++ game ∷ [])
 more_games ls games line game are is =
     map-append played_in ls (line ∷ [])
     ∙ ((λ i. are i ++ is i ∷ []) ∙ sym (map-append (λ g. Some g) games (game ∷ [])))
@@ -52,7 +52,7 @@ more_games ls games line game are is =
 -- one game more
 pub one_counted : {start now new : Reading} {from to rest : Told} {first last next : Counts} {number : ℕ} {bytes : List ℕ} {line : Line} (course : Course)
     → Counting start now from to first last number → WereTaken bytes now new to rest → GivesPlayed course bytes now new rest line
-    → ((p : Position) (games : List Played) → IsTally p games last → IsTally p (games ++ played_by course ∷ []) next) → next.plies ≡ last.plies + length course.made
+    → ((p : Position) (games : List BookGame) → IsTally p games last → IsTally p (games ++ played_by course ∷ []) next) → next.plies ≡ last.plies + length course.made
     → Counting start new from rest first next (number + 1)
 one_counted {start} {now} {new} {from} {to} {rest} {first} {last} {next} {number} {bytes} {line} course c taken is added plies = record {
   ls = c.ls ++ line ∷ [];

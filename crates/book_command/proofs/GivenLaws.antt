@@ -5,7 +5,7 @@ use Rattle.hive_model.specs.Courses.{Course}
 use Rattle.hive_model.specs.Lines.{Line, Text, TooLong as LongLine}
 use Rattle.line_feed.specs.Feed.{Reading, Gives}
 use Rattle.game_text.specs.Reading.{game_of}
-use Rattle.opening_book.specs.Book.{Played}
+use Rattle.opening_book.specs.Book.{BookGame}
 use Rattle.command_runs.specs.Asking.{Says}
 use Rattle.command_runs.specs.declared.no_game.NoGame.{NoGame}
 use Rattle.command_runs.specs.declared.no_game.NoGame.TheVariants.{Bad, ReadFault, InputFull, Memory}
@@ -14,7 +14,7 @@ use Rattle.book_command.specs.Reading.{GivesNone, GivesPlayed, LacksGame, played
 use Rattle.book_command.specs.Text.{refusal}
 use Rattle.book_command.proofs.LongLaws.{passes_text, played_long}
 
-says_none : (e : NoGame) (number : ℕ) (game : Option Played) → game ≡ None → Says e (refusal number) → LacksGame e number game
+says_none : (e : NoGame) (number : ℕ) (game : Option BookGame) → game ≡ None → Says e (refusal number) → LacksGame e number game
 says_none (Bad text) number game none says = (none, says)
 says_none ReadFault number game none never = never
 says_none InputFull number game none never = never

@@ -16,7 +16,7 @@ use Rattle.game_text.specs.declared.parsed.Parsed.{Parsed}
 use Rattle.game_text.specs.Reading.{game_of}
 use Rattle.game_text.proofs.LineLaws.{game_found}
 use Rattle.game_text.proofs.OrderLaws.{denoted_size}
-use Rattle.opening_book.specs.Book.{Played}
+use Rattle.opening_book.specs.Book.{BookGame}
 use Rattle.book_command.specs.Asked.{as_played}
 
 -- a semicolon stands before each part but the first
@@ -48,10 +48,10 @@ more_bytes line t ms (inr full) =
     omega (arith, few, e, n)
 
 -- the text of a game has more bytes than the game has moves
-pub played_long : (text : List ℕ) (r : Result Parsed GameFault) (game : Played) → game_of text ≡ r → as_played r ≡ Some game → length game.made < length text
+pub played_long : (text : List ℕ) (r : Result Parsed GameFault) (game : BookGame) → game_of text ≡ r → as_played r ≡ Some game → length game.made < length text
 played_long text (Ok g) game e h =
     let same : record { game_type = g.game_type; made = g.moves } ≡ game = cc in
-    subst (λ (p : Played). length p.made < length text) same (more_bytes text g.game_type g.moves (game_found text g e))
+    subst (λ (p : BookGame). length p.made < length text) same (more_bytes text g.game_type g.moves (game_found text g e))
 played_long text (Err fault) game e h = absurd (cc)
 
 -- no fewer bytes pass than the line has that is given

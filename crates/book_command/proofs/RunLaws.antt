@@ -10,7 +10,7 @@ use Rattle.hive_model.specs.Lines.{Line, lines}
 use Rattle.hive_model.specs.Lists.{IsOn}
 use Rattle.hive_model.specs.Positions.{Position}
 use Rattle.game_text.specs.declared.parsed.Parsed.{Parsed}
-use Rattle.opening_book.specs.Book.{IsBook, Played}
+use Rattle.opening_book.specs.Book.{IsBook, BookGame}
 use Rattle.command_runs.specs.Answered.{IsUnanswered}
 use Rattle.command_runs.specs.Asking.{IsReplayOf}
 use Rattle.command_runs.specs.Input.{WereRead}
@@ -33,12 +33,12 @@ on_list (y ∷ xs) zero x e = inl cc
 on_list (y ∷ xs) (suc i) x e = inr (on_list xs i x e)
 
 -- the move that a book tells is legal
-pub told_legal : (p : Position) (games : List Played) (found : Option (Move × ℕ)) → IsBook p games found → IsLegalHere p found
+pub told_legal : (p : Position) (games : List BookGame) (found : Option (Move × ℕ)) → IsBook p games found → IsLegalHere p found
 told_legal p games None book = tt
 told_legal p games (Some b) book = on_list (moves p) book.place b.0 book.move
 
 -- the input was read to its end, and this is the line
-pub is_answer : (input : List ℕ) (rest : Told) (start : Parsed) (games : List Played) (course : Course) (line : List ℕ) → IsReplayOf course start → IsWhole input rest start games → IsLineOf (position course) games line → IsAnswer input rest line
+pub is_answer : (input : List ℕ) (rest : Told) (start : Parsed) (games : List BookGame) (course : Course) (line : List ℕ) → IsReplayOf course start → IsWhole input rest start games → IsLineOf (position course) games line → IsAnswer input rest line
 is_answer input rest start games course line replay_of whole is = record {
   start = start;
   games = games;
@@ -47,12 +47,12 @@ is_answer input rest start games course line replay_of whole is = record {
   answers = subst (λ p. IsLineOf p games line) (end_is course start replay_of) is;
 }
 
-asked_good : (ls : List Line) (start : Parsed) (games : List Played) → Asks ls start games → AreGood ls
+asked_good : (ls : List Line) (start : Parsed) (games : List BookGame) → Asks ls start games → AreGood ls
 asked_good [] start games never = absurd never
 asked_good (line ∷ others) start games asks = (start, games, asks)
 
 -- the input was read to its end, and memory was wanting
-pub no_line : (input : List ℕ) (rest : Told) (start : Parsed) (games : List Played) → IsWhole input rest start games → IsUnanswered about_book NoMemory input rest
+pub no_line : (input : List ℕ) (rest : Told) (start : Parsed) (games : List BookGame) → IsWhole input rest start games → IsUnanswered about_book NoMemory input rest
 no_line input rest start games whole = (
   lines input,
   [],
@@ -66,18 +66,18 @@ no_line input rest start games whole = (
 -- Laws
 
 -- each of these lines is a game, and so none of them is refused
-none_refused : (before others : List Line) (last : Line) (games : List Played) → AreGames (before ++ last ∷ others) games → played_in last ≡ None → ⊥
+none_refused : (before others : List Line) (last : Line) (games : List BookGame) → AreGames (before ++ last ∷ others) games → played_in last ≡ None → ⊥
 none_refused [] others last [] are none = cc
 none_refused [] others last (game ∷ games) are none =
     let some : played_in last ≡ Some game = cc in
-    let wrong : ◌≡◌ {A = Option Played} None (Some game) = sym none ∙ some in
+    let wrong : ◌≡◌ {A = Option BookGame} None (Some game) = sym none ∙ some in
     cc
 none_refused (b ∷ before) others last [] are none = cc
 none_refused (b ∷ before) others last (game ∷ games) are none =
     let rest : AreGames (before ++ last ∷ others) games = cc in
     none_refused before others last games rest none
 
-none_after_first : (before others : List Line) (last : Line) (other : Parsed) (played : List Played) (start : Parsed) (games : List Played) → Asks before other played → Asks ((before ++ last ∷ []) ++ others) start games
+none_after_first : (before others : List Line) (last : Line) (other : Parsed) (played : List BookGame) (start : Parsed) (games : List BookGame) → Asks before other played → Asks ((before ++ last ∷ []) ++ others) start games
     → played_in last ≡ None → ⊥
 none_after_first [] others last other played start games never asks none = never
 none_after_first (first ∷ before) others last other played start games good (opens, are) none =
@@ -87,7 +87,7 @@ opens_not : (line : Line) (start : Parsed) (why : List ℕ) → game_in line ≡
 opens_not line start why opens refused = cc
 
 -- the lines ask about a position, and so the input is not bad
-not_bad : (input : List ℕ) (rest : Told) (why : List ℕ) (start : Parsed) (games : List Played) → Asks (lines input) start games → IsBad input rest why → ⊥
+not_bad : (input : List ℕ) (rest : Told) (why : List ℕ) (start : Parsed) (games : List BookGame) → Asks (lines input) start games → IsBad input rest why → ⊥
 not_bad input rest why start games asks (inl (none, is)) = subst (λ ls. Asks ls start games) none.none asks
 not_bad input rest why start games asks (inr (inl (line, no_start))) =
     let (bytes, left, reader, others, read) = no_start.were_read in
@@ -100,10 +100,10 @@ not_bad input rest why start games asks (inr (inr (given, no_game))) =
     (subst (λ ls. Asks ls start games) (read.of_input ∙ ap (λ ls. ls ++ others) r.are) asks) r.none
 
 pub books_done : BooksAreDone
-books_done = answered_done about_book IsAnswer (λ input. (start : Parsed) × (games : List Played) × Asks (lines input) start games)
+books_done = answered_done about_book IsAnswer (λ input. (start : Parsed) × (games : List BookGame) × Asks (lines input) start games)
     (λ input rest why (start, games, asks) bad. not_bad input rest why start games asks bad) (λ input rest bytes left is. is.was_read)
 
-made_move : (start : Parsed) (games : List Played) (found : Option (Move × ℕ)) → IsBook (last_position start) games found → IsMadeMove start games found
+made_move : (start : Parsed) (games : List BookGame) (found : Option (Move × ℕ)) → IsBook (last_position start) games found → IsMadeMove start games found
 made_move start games None book = tt
 made_move start games (Some b) book = (on_list (moves (last_position start)) book.place b.0 book.move, book.made, book.some)
 

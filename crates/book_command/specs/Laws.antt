@@ -4,7 +4,7 @@ use Rattle.io_edge.specs.Outside.{behind}
 use Rattle.hive_model.specs.declared.places.Move.{Move}
 use Rattle.hive_model.specs.Lines.{lines}
 use Rattle.game_text.specs.declared.parsed.Parsed.{Parsed}
-use Rattle.opening_book.specs.Book.{Played, count}
+use Rattle.opening_book.specs.Book.{BookGame, count}
 use Rattle.hive_model.specs.Legal.{moves}
 use Rattle.hive_model.specs.Lists.{IsOn}
 use Rattle.command_runs.specs.Input.{Sides, WhereTold}
@@ -20,10 +20,10 @@ use Rattle.book_command.specs.Text.{book_line}
 abbrev pub BooksAreDone : Type 0
 BooksAreDone =
     RunsAreDone BookRun
-    (λ input. (start : Parsed) × (games : List Played) × Asks (lines input) start games)
+    (λ input. (start : Parsed) × (games : List BookGame) × Asks (lines input) start games)
 
 -- a legal move of the position, made in these games as often as is told and at least once; or none
-abbrev pub IsMadeMove : Parsed → List Played → Option (Move × ℕ) → Type 0
+abbrev pub IsMadeMove : Parsed → List BookGame → Option (Move × ℕ) → Type 0
 IsMadeMove start games None = Unit {0}
 IsMadeMove start games (Some b) =
     IsOn (moves (last_position start)) b.0
@@ -33,7 +33,7 @@ IsMadeMove start games (Some b) =
 pub record WroteMade (input : List ℕ) (before after : Sides) (found : Option (Move × ℕ))
     : Type 0 where
   pub start : Parsed
-  pub games : List Played
+  pub games : List BookGame
   pub asks : Asks (lines input) start games
   pub legal : IsMadeMove start games found
   pub wrote : after.written ≡ behind before.written (book_line (last_position start).board found)

@@ -7,7 +7,7 @@ use Rattle.hive_model.specs.Positions.{Position}
 use Rattle.line_feed.specs.Feed.{Reading, Gives, Holds, HoldsLittle, input_limit}
 use Rattle.line_feed.specs.SoFar.{Fed}
 use Rattle.game_text.specs.declared.parsed.Parsed.{Parsed}
-use Rattle.opening_book.specs.Book.{Counts, IsTally, Played}
+use Rattle.opening_book.specs.Book.{Counts, IsTally, BookGame}
 use Rattle.command_runs.specs.Input.{IsAllRead}
 use Rattle.command_runs.specs.OneGame.{bad_line, game_in}
 use Rattle.command_runs.specs.declared.no_game.NoGame.{NoGame}
@@ -18,7 +18,7 @@ use Rattle.book_command.specs.Text.{refusal}
 -- A further line
 
 -- the game that was played to reach this course
-abbrev pub played_by : Course → Played
+abbrev pub played_by : Course → BookGame
 played_by course = record { game_type = course.game_type; made = course.made }
 
 -- the line that was given is a game, which is under way at its end, and each of its plies took a
@@ -31,7 +31,7 @@ pub record GivesPlayed (course : Course) (bytes : List ℕ) (old new : Reading) 
 
 -- the text of the line with this number is no game, and the line that refuses it is to be written;
 -- or memory is wanting
-abbrev pub LacksGame : NoGame → ℕ → Option Played → Type 0
+abbrev pub LacksGame : NoGame → ℕ → Option BookGame → Type 0
 LacksGame (Bad text) number game = (game ≡ None) × (text ≡ bad_line (refusal number))
 LacksGame ReadFault number game = ⊥
 LacksGame InputFull number game = ⊥
@@ -64,7 +64,7 @@ pub record HasBegun (input : List ℕ) (start : Parsed) (reader : Reading) (rest
   pub little : HoldsLittle reader
 
 -- the lines of the input ask about this position, their games are these, and it was read to its end
-pub record IsWhole (input : List ℕ) (rest : Told) (start : Parsed) (games : List Played)
+pub record IsWhole (input : List ℕ) (rest : Told) (start : Parsed) (games : List BookGame)
     : Type 0 where
   pub asks : Asks (lines input) start games
   pub over : IsAllRead input rest
@@ -72,6 +72,6 @@ pub record IsWhole (input : List ℕ) (rest : Told) (start : Parsed) (games : Li
 -- The counts
 
 -- a tally of a position over some games is now one over these games too
-abbrev pub Counted : List Played → Counts → Counts → Type 0
+abbrev pub Counted : List BookGame → Counts → Counts → Type 0
 Counted games old new =
-    (p : Position) (before : List Played) → IsTally p before old → IsTally p (before ++ games) new
+    (p : Position) (before : List BookGame) → IsTally p before old → IsTally p (before ++ games) new

@@ -4,7 +4,7 @@ use Rattle.io_edge.specs.Outside.{Told}
 use Rattle.hive_model.specs.Lines.{Line, lines, whole_lines}
 use Rattle.line_feed.specs.SoFar.{WasRead}
 use Rattle.game_text.specs.declared.parsed.Parsed.{Parsed}
-use Rattle.opening_book.specs.Book.{Played}
+use Rattle.opening_book.specs.Book.{BookGame}
 use Rattle.command_runs.specs.Answered.{AnsweredRun, Inquiry}
 use Rattle.command_runs.specs.Input.{IsAllRead, Sides, WereRead}
 use Rattle.command_runs.specs.OneGame.{game_in, last_position}
@@ -18,7 +18,7 @@ use Rattle.book_command.specs.Text.{IsLineOf, refusal}
 -- of that position over their games.
 pub record IsAnswer (input : List ℕ) (rest : Told) (line : List ℕ) : Type 0 where
   pub start : Parsed
-  pub games : List Played
+  pub games : List BookGame
   pub asks : Asks (lines input) start games
   pub over : IsAllRead input rest
   pub answers : IsLineOf (last_position start) games line

@@ -6,7 +6,7 @@ use Rattle.hive_model.specs.Denotes.{text}
 use Rattle.hive_model.specs.Lists.{IsOn}
 use Rattle.hive_model.specs.Legal.{moves}
 use Rattle.hive_model.specs.Positions.{Position}
-use Rattle.opening_book.specs.Book.{IsBook, Played}
+use Rattle.opening_book.specs.Book.{IsBook, BookGame}
 
 -- a move as it is written on a board, a space, and how often it was made; or `none`
 abbrev pub book_field : Stacks → Option (Move × ℕ) → List ℕ
@@ -23,7 +23,7 @@ IsLegalHere p None = Unit {0}
 IsLegalHere p (Some b) = IsOn (moves p) b.0
 
 -- the text is the line of the book of a position over these games
-pub record IsLineOf (p : Position) (games : List Played) (line : List ℕ) : Type 0 where
+pub record IsLineOf (p : Position) (games : List BookGame) (line : List ℕ) : Type 0 where
   pub found : Option (Move × ℕ)
   pub book : IsBook p games found
   pub is_line : line ≡ book_line p.board found

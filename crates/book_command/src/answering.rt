@@ -10,8 +10,8 @@ ghost use Rattle.command_runs.specs.Answered.{IsUnanswered, WritesAs};
 ghost use Rattle.command_runs.specs.Runs.{RunsAs, side_of};
 ghost use Rattle.book_command.specs.Runs.{BookRun, IsAnswer, about_book};
 
+use crate::book_line::book_line;
 use crate::reading::count_games;
-use crate::telling::book_line;
 use command_runs::{NoGame, Status, first_game, tell_none};
 use hive_model::{Game, MoveStack, ReplyText};
 use io_edge::{Sink, Source, write_all};

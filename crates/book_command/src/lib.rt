@@ -2,9 +2,9 @@
 #![tactic(auto)]
 
 mod answering;
+mod book_line;
 mod laws;
 mod reading;
-mod telling;
 
 pub use answering::book;
 pub use laws::{books_are_done, written_moves_are_legal};

@@ -7,7 +7,7 @@ ghost use Rattle.line_feed.specs.Feed.{Ends, input_limit};
 ghost use Rattle.hive_model.specs.Lines.{Line as AnyLine, greatest_line};
 ghost use Rattle.game_text.specs.Reading.{game_of};
 ghost use Rattle.game_text.specs.declared.parsed.Parsed.{Parsed as AnyGame};
-ghost use Rattle.opening_book.specs.Book.{Played};
+ghost use Rattle.opening_book.specs.Book.{BookGame};
 ghost use Rattle.command_runs.specs.Answered.{IsUnanswered};
 ghost use Rattle.command_runs.specs.Asking.{Says, WereTaken};
 ghost use Rattle.command_runs.specs.OneGame.{bad_line};
@@ -106,7 +106,7 @@ pub(crate) fn count_games<S: Source, G: Game + Drop>(
     tally: &mut Tally,
 ) -> Result<(), NoGame>
     requires { tally.old.plies ≡ 0 }
-    ensures games { IfOk result (λ _. (games : List Played) × Counted games tally.old tally.new
+    ensures games { IfOk result (λ _. (games : List BookGame) × Counted games tally.old tally.new
         × ((bytes : List ℕ) (start : AnyGame)
         → HasBegun bytes start reader.old (S.rest input.old)
         → IsWhole bytes (S.rest input.new) start games)) }

@@ -3,17 +3,17 @@
 #![tactic(auto)]
 
 #[cfg(test)]
-mod certificate_commands_tests;
-#[cfg(test)]
-mod citing_text_tests;
-#[cfg(test)]
-mod lemma_list_tests;
-#[cfg(test)]
 mod migrating_tests;
+#[cfg(test)]
+mod strategy_citing_tests;
+#[cfg(test)]
+mod strategy_commands_tests;
+#[cfg(test)]
+mod strategy_lemmas_tests;
 #[cfg(test)]
 mod strategy_make_tests;
 #[cfg(test)]
-mod text_verdicts_tests;
+mod strategy_verdicts_tests;
 #[cfg(test)]
 mod win_commands_tests;
 #[cfg(test)]

@@ -1,12 +1,12 @@
 //! Certificates that become certificates that cite.
 
-use crate::certificate_commands_tests::{Asked, Failing, expect_answer, expect_run};
-use certificate_commands::{certify, migrate};
+use crate::strategy_commands_tests::{Asked, Failing, expect_answer, expect_run};
 use command_runs::Status;
 use fast_game::FastGame;
 use io_edge::{MemSink, MemSource};
 use std::alloc::{AllocError, Global};
 use std::test::Fail;
+use strategy_commands::{certify, migrate};
 
 /// A certificate of the opening of the base game two plies deep, with its least indices.
 const FIRST: &str = "hive-certificate 1\nBase\ndepth 2\nmove wA1\nvalue 10\n0\n0\n0\n0\n";

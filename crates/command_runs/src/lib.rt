@@ -3,13 +3,13 @@
 #![tactic(auto)]
 
 mod asking;
+mod endings;
 mod no_game;
 mod reasons;
 mod status;
-mod telling;
 
 pub use asking::{first_game, is_over, read_one_game};
+pub use endings::{end_with, tell_none};
 pub use no_game::NoGame;
 pub use reasons::{line_for, numbered, reason_of};
 pub use status::Status;
-pub use telling::{end_with, tell_none};

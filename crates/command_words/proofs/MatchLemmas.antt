@@ -2,7 +2,7 @@
 use Rattle.std.proofs.Common.{◌≡◌, ◌∙◌, ap, sym, refl, subst, ℕ, List, [], ◌∷◌, map, Bor, Option, None, Some, IfOk, IfSome, option_map}
 use Rattle.std.specs.Prelude.{Result, Ok, Err}
 use Rattle.option_words.specs.Options.{Item, value_at, value_of}
-use Rattle.match_core.specs.declared.answers.Level.{Level}
+use Rattle.match_core.specs.declared.setup.Level.{Level}
 use Rattle.command_words.specs.declared.care.Care.{Care}
 use Rattle.command_words.specs.Matches.{Choices, IsCareOf, match_choices, match_options, match_values}
 

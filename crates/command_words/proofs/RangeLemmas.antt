@@ -2,8 +2,8 @@
 use Rattle.std.proofs.Common.{◌≡◌, ◌≤◌, ◌%◌, sym, subst, arith, ℕ, List, Option, None, Some, String, Global}
 use Rattle.hive_model.specs.Fields.{IsTimeText}
 use Rattle.match_core.specs.Keeps.{IsLevel, IsSetup}
-use Rattle.match_core.specs.declared.answers.Level.{Level}
-use Rattle.match_core.specs.declared.answers.Setup.{Setup}
+use Rattle.match_core.specs.declared.setup.Level.{Level}
+use Rattle.match_core.specs.declared.setup.Setup.{Setup}
 use Rattle.command_words.specs.Matches.{Choices, IsLevelOf, IsNumberOr, IsSetupOf}
 use Rattle.command_words.specs.Words.{IsInRange, Words}
 use Rattle.command_words.specs.declared.asked.Asked.{Asked}

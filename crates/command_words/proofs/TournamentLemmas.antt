@@ -3,7 +3,7 @@ use Rattle.std.proofs.Common.{◌≡◌, ◌∙◌, sym, refl, subst, ℕ, List,
 use Rattle.option_words.specs.Options.{Item, value_at, value_of}
 use Rattle.command_words.specs.Matches.{Choices}
 use Rattle.command_words.specs.Tournaments.{AreTournamentWords, ChooseTournament, TournamentOptions, tournament_choices, tournament_options, tournament_values}
-use Rattle.match_core.specs.declared.answers.Setup.{Setup}
+use Rattle.match_core.specs.declared.setup.Setup.{Setup}
 
 -- the values that the words give
 abbrev pub asked : {words : List (String Global)} → TournamentOptions words → List (Option (List ℕ))

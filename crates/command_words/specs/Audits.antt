@@ -4,8 +4,8 @@ use Rattle.std.specs.declared.string.String.{String}
 use Rattle.std.specs.declared.alloc.Global.{Global}
 use Rattle.hive_model.specs.declared.pieces.GameType.{GameType}
 use Rattle.hive_model.specs.Fields.{IsNumberText, type_bytes}
-use Rattle.match_core.specs.declared.answers.Level.{Level}
-use Rattle.match_core.specs.declared.answers.Level.TheVariants.{Depth}
+use Rattle.match_core.specs.declared.setup.Level.{Level}
+use Rattle.match_core.specs.declared.setup.Level.TheVariants.{Depth}
 use Rattle.option_words.specs.Options.{Gives}
 use Rattle.command_words.specs.declared.audits.AuditTexts.{AuditTexts}
 use Rattle.command_words.specs.declared.care.Care.{Care}

@@ -2,9 +2,9 @@
 use Rattle.std.specs.Prelude.{◌≡◌, ℕ, List, [], ◌∷◌, codes, map, string_bytes, Option, None, Some}
 use Rattle.std.specs.declared.string.String.{String}
 use Rattle.std.specs.declared.alloc.Global.{Global}
-use Rattle.match_core.specs.declared.answers.Setup.{Setup}
+use Rattle.match_core.specs.declared.setup.Setup.{Setup}
 use Rattle.option_words.specs.Options.{Gives}
-use Rattle.cup_core.specs.Engines.{Engine}
+use Rattle.cup.specs.Engines.{Engine}
 use Rattle.command_words.specs.declared.care.Care.{Care}
 use Rattle.command_words.specs.Engines.{ArePrograms}
 pub use Rattle.command_words.specs.Engines.{engine_of, program_texts}

@@ -1,7 +1,7 @@
 -- Programs with semicolons between them, in one text.
 use Rattle.std.specs.Prelude.{◌≢◌, ◌≤◌, ℕ, List, All, AllPairs, nat_eq, length}
 use Rattle.std.specs.List.{slice_split}
-use Rattle.cup_core.specs.Engines.{Engine}
+use Rattle.cup.specs.Engines.{Engine}
 use Rattle.command_words.specs.Matches.{IsProgram, between_spaces}
 
 -- the texts between the semicolons (59) of a text

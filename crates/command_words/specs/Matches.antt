@@ -4,9 +4,9 @@ use Rattle.std.specs.declared.string.String.{String}
 use Rattle.std.specs.declared.alloc.Global.{Global}
 use Rattle.hive_model.specs.declared.pieces.GameType.{GameType}
 use Rattle.hive_model.specs.Fields.{IsNumberText, IsTimeText, type_bytes}
-use Rattle.match_core.specs.declared.answers.Level.{Level}
-use Rattle.match_core.specs.declared.answers.Level.TheVariants.{Depth, Time}
-use Rattle.match_core.specs.declared.answers.Setup.{Setup}
+use Rattle.match_core.specs.declared.setup.Level.{Level}
+use Rattle.match_core.specs.declared.setup.Level.TheVariants.{Depth, Time}
+use Rattle.match_core.specs.declared.setup.Setup.{Setup}
 use Rattle.option_words.specs.Options.{Gives, value_at}
 use Rattle.command_words.specs.declared.care.Care.{Care}
 use Rattle.command_words.specs.declared.setup.ChoiceTexts.{ChoiceTexts}

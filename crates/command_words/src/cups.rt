@@ -1,13 +1,13 @@
 //! The cup that the words ask for: its programs, and how each game is played.
 ghost use Rattle.std.specs.Prelude.{◌≡◌, ◌≤◌, Some, length, IfOk, IfSome};
-ghost use Rattle.match_core.specs.declared.answers.Setup.{Setup as AnySetup};
+ghost use Rattle.match_core.specs.declared.setup.Setup.{Setup as AnySetup};
 ghost use Rattle.match_core.specs.Keeps.{IsSetup};
 ghost use Rattle.command_words.specs.Cups.{AreCupWords, AskForCupCare, AskForEngines};
 
 use crate::care::{Care, care_at};
 use crate::engines::{are_programs, programs_in};
 use crate::setup::{ChoiceTexts, setup_of};
-use cup_core::Program;
+use cup::Program;
 use match_core::Setup;
 use option_words::options_of;
 use std::alloc::{AllocError, Global};

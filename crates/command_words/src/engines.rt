@@ -5,7 +5,7 @@ ghost use Rattle.command_words.specs.Matches.{IsProgram};
 
 use crate::matched::is_program;
 use crate::program::words_of;
-use cup_core::Program;
+use cup::Program;
 use indexmap::IndexSet;
 use std::alloc::{AllocError, Global};
 

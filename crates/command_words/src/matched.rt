@@ -13,7 +13,7 @@ ghost use Rattle.std.specs.Prelude.{
   IfSome,
   IsTrue,
 };
-ghost use Rattle.match_core.specs.declared.answers.Setup.{Setup as AnySetup};
+ghost use Rattle.match_core.specs.declared.setup.Setup.{Setup as AnySetup};
 ghost use Rattle.match_core.specs.Keeps.{IsSetup};
 ghost use Rattle.command_words.specs.Matches.{
   AreMatchWords,

@@ -1,8 +1,8 @@
 //! How a match is played: the options that have a default.
 ghost use Rattle.std.specs.Prelude.{◌≡◌, ℕ, Bool, None, Some, IfSome, option_map};
 ghost use Rattle.hive_model.specs.declared.pieces.GameType.{GameType as AnyType};
-ghost use Rattle.match_core.specs.declared.answers.Level.{Level as AnyLevel};
-ghost use Rattle.match_core.specs.declared.answers.Setup.{Setup as AnySetup};
+ghost use Rattle.match_core.specs.declared.setup.Level.{Level as AnyLevel};
+ghost use Rattle.match_core.specs.declared.setup.Setup.{Setup as AnySetup};
 ghost use Rattle.command_words.specs.Matches.{
   IsLevelOf,
   IsNumberOr,

@@ -1,6 +1,6 @@
 //! The tournament that the words ask for: its programs, and how it is played.
 ghost use Rattle.std.specs.Prelude.{◌≡◌, ◌≤◌, ℕ, Bool, Some, length, IfOk, IfSome};
-ghost use Rattle.match_core.specs.declared.answers.Setup.{Setup as AnySetup};
+ghost use Rattle.match_core.specs.declared.setup.Setup.{Setup as AnySetup};
 ghost use Rattle.match_core.specs.Keeps.{IsSetup};
 ghost use Rattle.command_words.specs.Matches.{choices_of};
 ghost use Rattle.command_words.specs.Tournaments.{
@@ -14,7 +14,7 @@ ghost use Rattle.command_words.specs.Tournaments.{
 use crate::care::{Care, care_at};
 use crate::engines::{are_programs, programs_in};
 use crate::setup::{ChoiceTexts, number_or, rule_of, setup_of};
-use cup_core::Program;
+use cup::Program;
 use match_core::Setup;
 use option_words::{GivenOptions, options_of};
 use std::alloc::{AllocError, Global};

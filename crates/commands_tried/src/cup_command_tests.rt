@@ -2,9 +2,8 @@
 ghost use Rattle.std.specs.Prelude.{◌≤◌, length};
 
 use command_runs::Status;
+use cup::{FreeCupGate, Program};
 use cup_command::play_cup;
-use cup_core::Program;
-use cup_games::FreeCupGate;
 use hive_model::GameType;
 use io_edge::{MemLink, MemSink, MemSource, MemSpawner};
 use match_core::{Level, Setup};

@@ -7,9 +7,9 @@ mod book_command_tests;
 #[cfg(test)]
 mod cup_command_tests;
 #[cfg(test)]
-mod cup_core_tests;
+mod cup_played_tests;
 #[cfg(test)]
-mod cup_games_tests;
+mod cup_tests;
 #[cfg(test)]
 mod grow_command_tests;
 #[cfg(test)]

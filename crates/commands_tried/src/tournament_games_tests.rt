@@ -3,7 +3,7 @@ ghost use Rattle.std.specs.Prelude.{◌≤◌, length};
 ghost use Rattle.tournament_core.specs.Schedules.{schedule};
 
 use command_runs::Status;
-use cup_core::Program;
+use cup::Program;
 use hive_model::{GameType, MoveList};
 use io_edge::{MemLink, MemSink, MemSource, MemSpawner};
 use match_core::{Level, Setup};

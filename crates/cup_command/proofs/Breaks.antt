@@ -5,9 +5,9 @@ use Rattle.std.proofs.Math.Seq.{take-append-add}
 use Rattle.std.proofs.lemmas.List.{take-append-le}
 use Rattle.io_edge.specs.Outside.{ToldLists, ToldPrograms, Starts}
 use Rattle.io_edge.specs.Starts.{Engines}
-use Rattle.cup_core.specs.declared.pairing.Pairing.{Pairing}
+use Rattle.cup.specs.declared.pairing.Pairing.{Pairing}
 use Rattle.match_runner.specs.Wires.{Wire}
-use Rattle.cup_core.specs.Engines.{Engine}
+use Rattle.cup.specs.Engines.{Engine}
 use Rattle.cup_command.specs.Cup.{BreaksOff, StartsFirst, cup_words, game_words, started_after}
 use Rattle.cup_command.specs.Links.{ClosesLinks, GivesUp, StartsAll}
 use Rattle.match_command.specs.Match.{NoneIsOpen}

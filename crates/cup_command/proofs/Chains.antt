@@ -7,7 +7,7 @@ use Rattle.io_edge.specs.Outside.{ToldLists, one_more}
 use Rattle.io_edge.specs.Starts.{Engines}
 use Rattle.match_command.specs.Match.{NoneIsOpen}
 use Rattle.match_runner.specs.Wires.{Wire}
-use Rattle.cup_games.specs.Played.{Job}
+use Rattle.cup.specs.Played.{Job}
 use Rattle.cup_command.specs.Cup.{RoseBy}
 use Rattle.cup_command.specs.Links.{ClosesLinks, StartsAll, all_links, counted, failures, has_failed}
 

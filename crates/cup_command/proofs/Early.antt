@@ -3,11 +3,11 @@ use Rattle.std.proofs.Common.{◌≡◌, ℕ, ◌≤◌, List, [], ◌∷◌, �
 use Rattle.std.proofs.lemmas.List.{length-map}
 use Rattle.io_edge.specs.Outside.{ToldLists}
 use Rattle.io_edge.specs.Starts.{Engines}
-use Rattle.cup_core.specs.declared.pairing.Pairing.{Pairing}
-use Rattle.cup_core.specs.Cup.{pairings}
-use Rattle.cup_core.specs.Engines.{Engine}
+use Rattle.cup.specs.declared.pairing.Pairing.{Pairing}
+use Rattle.cup.specs.Cup.{pairings}
+use Rattle.cup.specs.Engines.{Engine}
 use Rattle.match_runner.specs.Wires.{Wire}
-use Rattle.cup_games.specs.Played.{Job, pairing}
+use Rattle.cup.specs.Played.{Job, pairing}
 use Rattle.cup_command.specs.Cup.{EndsEarly, Gains, cup_words, started_after}
 use Rattle.cup_command.specs.Links.{ClosesLinks, GivesUp, StartsAll, all_links}
 use Rattle.cup_command.proofs.Breaks.{starts-first, told-late, started-none, two-words}

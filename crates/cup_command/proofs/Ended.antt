@@ -7,12 +7,12 @@ use Rattle.std.proofs.lemmas.List.Sums.{sum_by-cons}
 use Rattle.hive_model.specs.declared.pieces.Colour.TheVariants.{White, Black}
 use Rattle.hive_model.specs.Lists.{IsOn}
 use Rattle.io_edge.specs.Outside.{Rose, one_more}
-use Rattle.match_core.specs.declared.answers.Setup.{Setup}
-use Rattle.match_core.specs.Standing.{Standing}
+use Rattle.match_core.specs.declared.setup.Setup.{Setup}
+use Rattle.match_core.specs.MatchState.{MatchState}
 use Rattle.match_runner.specs.Runs.{BrokeOnly}
 use Rattle.match_command.specs.Match.{IsBroke}
 use Rattle.match_runner.specs.Wires.{HasFailed, Wire}
-use Rattle.cup_games.specs.Played.{Job}
+use Rattle.cup.specs.Played.{Job}
 use Rattle.cup_command.specs.Cup.{IsEnded}
 use Rattle.cup_command.specs.Links.{all_links, counted, failures, has_failed}
 use Rattle.cup_command.proofs.Chains.{rises}
@@ -20,7 +20,7 @@ use Rattle.cup_command.proofs.Heard.{Ran, sound}
 
 -- Each end
 
-pub ended-all : (setup : Setup) (olds news : List Job) (ends : List Standing) → Ran setup olds news ends → All (IsEnded setup) ends
+pub ended-all : (setup : Setup) (olds news : List Job) (ends : List MatchState) → Ran setup olds news ends → All (IsEnded setup) ends
 ended-all setup [] [] [] ran = All-nil (IsEnded setup)
 ended-all setup [] [] (t ∷ ends) ran = absurd ran
 ended-all setup [] (new ∷ news) ends ran = absurd ran
@@ -60,12 +60,12 @@ failing-link old new rose = elim (has_failed new) as (λ t. has_failed new ≡ t
   | false ↦ λ e. absurd (sound old new e rose)
 ] refl
 
-failing-game : (old new : Job) (t : Standing) → BrokeOnly t old.white_link new.white_link old.black_link new.black_link → IsBroke t.verdict → 1 ≤ (if has_failed new.white_link then 1 else 0) + (if has_failed new.black_link then 1 else 0)
+failing-game : (old new : Job) (t : MatchState) → BrokeOnly t old.white_link new.white_link old.black_link new.black_link → IsBroke t.verdict → 1 ≤ (if has_failed new.white_link then 1 else 0) + (if has_failed new.black_link then 1 else 0)
 failing-game old new t b (White, e) = let one = failing-link old.white_link new.white_link (b.white e) in omega (arith, one)
 failing-game old new t b (Black, e) = let one = failing-link old.black_link new.black_link (b.black e) in omega (arith, one)
 
 -- where a side broke, a link has failed
-some-failed : (setup : Setup) (olds news : List Job) (ends : List Standing) (t : Standing) → Ran setup olds news ends → IsOn ends t → IsBroke t.verdict → 0 < failures (all_links news)
+some-failed : (setup : Setup) (olds news : List Job) (ends : List MatchState) (t : MatchState) → Ran setup olds news ends → IsOn ends t → IsBroke t.verdict → 0 < failures (all_links news)
 some-failed setup [] [] [] t ran on broke = absurd on
 some-failed setup [] [] (e ∷ ends) t ran on broke = absurd ran
 some-failed setup [] (new ∷ news) ends t ran on broke = absurd ran
@@ -84,5 +84,5 @@ some-failed setup (old ∷ olds) (new ∷ news) (e ∷ ends) t ran (inr more) br
     let one = some-failed setup olds news ends t ran.3 more broke in
     omega (arith, white, black, one)
 
-pub broke-rose : (setup : Setup) (olds news : List Job) (ends : List Standing) (before after : ℕ) → Ran setup olds news ends → after ≡ counted (all_links news) before → (t : Standing) → IsOn ends t → IsBroke t.verdict → Rose before after
+pub broke-rose : (setup : Setup) (olds news : List Job) (ends : List MatchState) (before after : ℕ) → Ran setup olds news ends → after ≡ counted (all_links news) before → (t : MatchState) → IsOn ends t → IsBroke t.verdict → Rose before after
 broke-rose setup olds news ends before after ran counts t on broke = subst (λ n. Rose before n) (sym counts) (rose-counted (all_links news) before (some-failed setup olds news ends t ran on broke))

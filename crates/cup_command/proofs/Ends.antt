@@ -8,17 +8,17 @@ use Rattle.io_edge.specs.Starts.{Engines}
 use Rattle.command_runs.specs.Answered.{WritesAs}
 use Rattle.command_runs.specs.declared.status.Status.{Status}
 use Rattle.command_runs.specs.declared.status.Status.TheVariants.{Done}
-use Rattle.match_core.specs.declared.answers.Setup.{Setup}
+use Rattle.match_core.specs.declared.setup.Setup.{Setup}
 use Rattle.match_core.specs.Setups.{setup_plain}
-use Rattle.match_core.specs.Standing.{Standing}
-use Rattle.cup_core.specs.declared.pairing.Pairing.{Pairing}
-use Rattle.cup_core.specs.declared.standing.Standing.{Standing as Place}
-use Rattle.cup_core.specs.Cup.{pairings}
-use Rattle.cup_core.proofs.Totals.{few-games, length-pairings}
-use Rattle.cup_games.specs.Played.{AreStandingsOf, IsPlayed, IsRefereed, Job, pairing, verdict_of}
-use Rattle.cup_core.specs.Engines.{Engine}
+use Rattle.match_core.specs.MatchState.{MatchState}
+use Rattle.cup.specs.declared.pairing.Pairing.{Pairing}
+use Rattle.cup.specs.declared.standing.Standing.{Standing as Place}
+use Rattle.cup.specs.Cup.{pairings}
+use Rattle.cup.proofs.Totals.{few-games, length-pairings}
+use Rattle.cup.specs.Played.{AreStandingsOf, IsPlayed, IsRefereed, Job, pairing, verdict_of}
+use Rattle.cup.specs.Engines.{Engine}
 use Rattle.cup_command.specs.Texts.{cup_text, games_text, standing_text}
-use Rattle.cup_command.specs.Cup.{AreCupStandings, CupRun, Played, Scene, cup_words, started_after}
+use Rattle.cup_command.specs.Cup.{AreCupStandings, CupRun, PlayedGames, Scene, cup_words, started_after}
 use Rattle.cup_command.specs.Links.{ClosesLinks, IsOf, IsReady, StartsAll, all_links, counted, ended_text, jobs_text}
 use Rattle.cup_command.proofs.Ended.{broke-rose, ended-all}
 use Rattle.cup_command.proofs.Heard.{Ran, played-by}
@@ -33,15 +33,15 @@ few-jobs n games jobs few e f =
 
 -- Each game stands at an end
 
-abbrev pub cons-end : Option Standing → List Standing → List Standing
+abbrev pub cons-end : Option MatchState → List MatchState → List MatchState
 cons-end None ends = ends
 cons-end (Some t) ends = t ∷ ends
 
-abbrev pub ends_of : List Job → List Standing
+abbrev pub ends_of : List Job → List MatchState
 ends_of [] = []
 ends_of (job ∷ jobs) = cons-end job.referee (ends_of jobs)
 
-ran-one : (setup : Setup) (old new : Job) (olds news : List Job) (o : Option Standing) → new.referee ≡ o → IsReady setup old → IsSomeAnd o (λ r. IsRefereed old.setup r old.white_link new.white_link old.black_link new.black_link) → Ran setup olds news (ends_of news) → Ran setup (old ∷ olds) (new ∷ news) (cons-end o (ends_of news))
+ran-one : (setup : Setup) (old new : Job) (olds news : List Job) (o : Option MatchState) → new.referee ≡ o → IsReady setup old → IsSomeAnd o (λ r. IsRefereed old.setup r old.white_link new.white_link old.black_link new.black_link) → Ran setup olds news (ends_of news) → Ran setup (old ∷ olds) (new ∷ news) (cons-end o (ends_of news))
 ran-one setup old new olds news None e ready played more = absurd played
 ran-one setup old new olds news (Some t) e ready played more = (ready, subst (λ s. IsRefereed s t old.white_link new.white_link old.black_link new.black_link) ready.same played, e, more)
 
@@ -53,7 +53,7 @@ ran-all setup (old ∷ olds) (new ∷ news) all ready =
     ran-one setup old new olds news new.referee refl (All-head (IsReady setup) old olds ready) all.0 (ran-all setup olds news all.1 (All-tail (IsReady setup) old olds ready))
 
 -- the referees are of this setup
-of-setup : (setup : Setup) (olds news : List Job) (ends : List Standing) → Ran setup olds news ends → All (IsOf setup) news
+of-setup : (setup : Setup) (olds news : List Job) (ends : List MatchState) → Ran setup olds news ends → All (IsOf setup) news
 of-setup setup [] [] ends ran = All-nil (IsOf setup)
 of-setup setup [] (new ∷ news) ends ran = absurd ran
 of-setup setup (old ∷ olds) [] ends ran = absurd ran
@@ -64,7 +64,7 @@ of-setup setup (old ∷ olds) (new ∷ news) (t ∷ ends) ran =
 pub of-setup-all : (setup : Setup) (olds news : List Job) → AllZip IsPlayed olds news → All (IsReady setup) olds → All (IsOf setup) news
 of-setup-all setup olds news all ready = of-setup setup olds news (ends_of news) (ran-all setup olds news all ready)
 
-long-ends : (setup : Setup) (olds news : List Job) (ends : List Standing) → Ran setup olds news ends → length ends ≡ length olds
+long-ends : (setup : Setup) (olds news : List Job) (ends : List MatchState) → Ran setup olds news ends → length ends ≡ length olds
 long-ends setup [] [] [] ran = refl
 long-ends setup [] [] (t ∷ ends) ran = absurd ran
 long-ends setup [] (new ∷ news) ends ran = absurd ran
@@ -72,16 +72,16 @@ long-ends setup (old ∷ olds) [] ends ran = absurd ran
 long-ends setup (old ∷ olds) (new ∷ news) [] ran = absurd ran
 long-ends setup (old ∷ olds) (new ∷ news) (t ∷ ends) ran = let more = long-ends setup olds news ends ran.3 in omega (arith, more)
 
-verdicts-same : (setup : Setup) (olds news : List Job) (ends : List Standing) → Ran setup olds news ends → map (λ t. t.verdict) ends ≡ map (λ j. verdict_of j.referee) news
+verdicts-same : (setup : Setup) (olds news : List Job) (ends : List MatchState) → Ran setup olds news ends → map (λ t. t.verdict) ends ≡ map (λ j. verdict_of j.referee) news
 verdicts-same setup [] [] [] ran = refl
 verdicts-same setup [] [] (t ∷ ends) ran = absurd ran
 verdicts-same setup [] (new ∷ news) ends ran = absurd ran
 verdicts-same setup (old ∷ olds) [] ends ran = absurd ran
 verdicts-same setup (old ∷ olds) (new ∷ news) [] ran = absurd ran
 verdicts-same setup (old ∷ olds) (new ∷ news) (t ∷ ends) ran =
-    ap (λ v. v ∷ map (λ (s : Standing). s.verdict) ends) (sym (ap verdict_of ran.2)) ∙ ap (λ vs. verdict_of new.referee ∷ vs) (verdicts-same setup olds news ends ran.3)
+    ap (λ v. v ∷ map (λ (s : MatchState). s.verdict) ends) (sym (ap verdict_of ran.2)) ∙ ap (λ vs. verdict_of new.referee ∷ vs) (verdicts-same setup olds news ends ran.3)
 
-texts-same : (setup : Setup) (games : List Pairing) (olds news : List Job) (ends : List Standing) → Ran setup olds news ends → jobs_text setup (zip games news) ≡ games_text setup games ends
+texts-same : (setup : Setup) (games : List Pairing) (olds news : List Job) (ends : List MatchState) → Ran setup olds news ends → jobs_text setup (zip games news) ≡ games_text setup games ends
 texts-same setup [] olds news ends ran = refl
 texts-same setup (g ∷ games) [] [] [] ran = refl
 texts-same setup (g ∷ games) [] [] (t ∷ ends) ran = absurd ran
@@ -96,7 +96,7 @@ texts-same setup (g ∷ games) (old ∷ olds) (new ∷ news) (t ∷ ends) ran =
 -- what is told of a cup that was played
 abbrev pub IsToldCup : List Engine → Setup → Engines → Engines → List ℕ → Type 0
 IsToldCup engines setup before after text =
-    (ends : List Standing) × (places : List Place) × Played engines setup ends before after × AreCupStandings (length engines) ends places × (text ≡ cup_text setup engines ends places)
+    (ends : List MatchState) × (places : List Place) × PlayedGames engines setup ends before after × AreCupStandings (length engines) ends places × (text ≡ cup_text setup engines ends places)
 
 pub told-cup : (engines : List Engine) (setup : Setup) (games : List Pairing) (olds news : List Job) (text : List ℕ) (before after : Engines)
     → games ≡ pairings (length engines) → map pairing olds ≡ games → All (IsReady setup) olds → AllZip IsPlayed olds news

@@ -9,15 +9,15 @@ use Rattle.std.proofs.lemmas.Option.{same_Some}
 use Rattle.hive_model.specs.declared.pieces.Colour.TheVariants.{White, Black}
 use Rattle.io_edge.specs.Outside.{Told, ToldLists, Rose, behind}
 use Rattle.io_edge.specs.Starts.{Engines}
-use Rattle.match_core.specs.declared.answers.Setup.{Setup}
+use Rattle.match_core.specs.declared.setup.Setup.{Setup}
 use Rattle.match_core.specs.Setups.{setup_plain}
-use Rattle.match_core.specs.declared.answers.Verdict.{Verdict}
-use Rattle.match_core.specs.Standing.{Standing}
+use Rattle.match_core.specs.declared.verdict.Verdict.{Verdict}
+use Rattle.match_core.specs.MatchState.{MatchState}
 use Rattle.match_core.specs.Feeds.{IsFront}
 use Rattle.match_runner.specs.Runs.{IsFrontSent, IsLate, IsVerdict}
 use Rattle.match_command.specs.Match.{IsBroke, sent_in}
 use Rattle.match_runner.specs.Wires.{HasFailed, Wire}
-use Rattle.cup_games.specs.Played.{IsRefereed, Job}
+use Rattle.cup.specs.Played.{IsRefereed, Job}
 use Rattle.cup_command.specs.Cup.{Gains, Heard, IsGame, PlayedBy, RoseBy, exceptions, got, said}
 use Rattle.cup_command.specs.Links.{ClosesLinks, IsReady, StartsAll, all_links, counted, failures, has_failed}
 use Rattle.cup_command.proofs.Chains.{rises}
@@ -83,7 +83,7 @@ verdict-of full v w0 w b0 b in_time (inr (inl x)) = absurd (in_time x)
 verdict-of full v w0 w b0 b in_time (inr (inr (inl x))) = inr (White, x.0)
 verdict-of full v w0 w b0 b in_time (inr (inr (inr x))) = inr (Black, x.0)
 
-game-played : (setup : Setup) (old new : Job) (t : Standing) → AreTold old → IsRefereed setup t old.white_link new.white_link old.black_link new.black_link → IsGame setup t (heard old new)
+game-played : (setup : Setup) (old new : Job) (t : MatchState) → AreTold old → IsRefereed setup t old.white_link new.white_link old.black_link new.black_link → IsGame setup t (heard old new)
 game-played setup old new t told r =
     let white = bytes_of old.white_link.rest in
     let black = bytes_of old.black_link.rest in
@@ -116,7 +116,7 @@ all_heard (old ∷ olds) [] = []
 all_heard (old ∷ olds) (new ∷ news) = heard old new ∷ all_heard olds news
 
 -- all were played over their links, by this setup, and stand so at their ends
-abbrev pub Ran : Setup → List Job → List Job → List Standing → Type 0
+abbrev pub Ran : Setup → List Job → List Job → List MatchState → Type 0
 Ran setup [] [] [] = ⊤
 Ran setup [] [] (t ∷ ends) = ⊥
 Ran setup [] (new ∷ news) ends = ⊥
@@ -142,7 +142,7 @@ record Opened (all : List (List ℕ)) (now : ToldLists) (olds news : List Job) :
 is-told : (link : Wire) (bytes : List ℕ) → link.rest ≡ Some bytes → link.written ≡ Some [] → IsTold link
 is-told link bytes e f = record { rest = e ∙ ap (λ b. Some b) (sym (ap bytes_of e)); written = f }
 
-opened : (setup : Setup) (olds news : List Job) (ends : List Standing) (all : List (List ℕ)) (now : ToldLists) → Ran setup olds news ends → StartsAll (Some all) now (all_links olds) → Opened all now olds news
+opened : (setup : Setup) (olds news : List Job) (ends : List MatchState) (all : List (List ℕ)) (now : ToldLists) → Ran setup olds news ends → StartsAll (Some all) now (all_links olds) → Opened all now olds news
 opened setup [] [] ends all now ran e = record { others = all; first_ones = refl; left = e; told = tt }
 opened setup [] (new ∷ news) ends all now ran e = absurd ran
 opened setup (old ∷ olds) [] ends all now ran e = absurd ran
@@ -160,7 +160,7 @@ opened setup (old ∷ olds) (new ∷ news) (t ∷ ends) all now ran (Some mid, (
       told = (record { white = is-told old.white_link white wr ww; black = is-told old.black_link black br bw }, more.told);
     }
 
-each-game : (setup : Setup) (olds news : List Job) (ends : List Standing) → Ran setup olds news ends → AllTold olds → AllZip (IsGame setup) ends (all_heard olds news)
+each-game : (setup : Setup) (olds news : List Job) (ends : List MatchState) → Ran setup olds news ends → AllTold olds → AllZip (IsGame setup) ends (all_heard olds news)
 each-game setup [] [] [] ran told = tt
 each-game setup [] [] (t ∷ ends) ran told = absurd ran
 each-game setup [] (new ∷ news) ends ran told = absurd ran
@@ -192,7 +192,7 @@ gains-all (l ∷ ls) (w ∷ ws) (Some lists) (Some after) all (Some mid, (p, pe,
     let same : p ≡ w = same_Some _ _ (sym pe ∙ all.0) in
     gains-all ls ws (Some mid) (Some after) all.1 r ∙ (ap (λ m. m ++ ws) (pm ∙ ap (λ q. lists ++ q ∷ []) same) ∙ append_assoc lists (w ∷ []) ws)
 
-all-wrote : (setup : Setup) (olds news : List Job) (ends : List Standing) → Ran setup olds news ends → AllTold olds → AllWrote (all_links news) (got (all_heard olds news))
+all-wrote : (setup : Setup) (olds news : List Job) (ends : List MatchState) → Ran setup olds news ends → AllTold olds → AllWrote (all_links news) (got (all_heard olds news))
 all-wrote setup [] [] [] ran told = tt
 all-wrote setup [] [] (t ∷ ends) ran told = absurd ran
 all-wrote setup [] (new ∷ news) ends ran told = absurd ran
@@ -234,7 +234,7 @@ fewer a b n m low (inr h) = inr h
 
 -- The whole cup
 
-pub played-by : (setup : Setup) (olds news : List Job) (ends : List Standing) (all : List (List ℕ)) (before after : Engines) → Ran setup olds news ends → StartsAll (Some all) after.to_come (all_links olds) → ClosesLinks before.sent after.sent (all_links news)
+pub played-by : (setup : Setup) (olds news : List Job) (ends : List MatchState) (all : List (List ℕ)) (before after : Engines) → Ran setup olds news ends → StartsAll (Some all) after.to_come (all_links olds) → ClosesLinks before.sent after.sent (all_links news)
     → after.engine_faults ≡ counted (all_links news) before.engine_faults → PlayedBy all setup ends before after
 played-by setup olds news ends all before after ran starts closes counts =
     let o = opened setup olds news ends all after.to_come ran starts in

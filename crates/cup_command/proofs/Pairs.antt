@@ -4,8 +4,8 @@ use Rattle.std.specs.Prelude.{not, nat_eq}
 use Rattle.std.specs.List.{filter, flat_map}
 use Rattle.std.proofs.lemmas.Bool.Decides.{nat_tests}
 use Rattle.hive_model.specs.Lists.{count_from}
-use Rattle.cup_core.specs.declared.pairing.Pairing.{Pairing}
-use Rattle.cup_core.specs.Cup.{Each, numbers, pairings, row}
+use Rattle.cup.specs.declared.pairing.Pairing.{Pairing}
+use Rattle.cup.specs.Cup.{Each, numbers, pairings, row}
 use Rattle.cup_command.specs.Links.{IsPaired}
 
 record IsWithin (from count number : ℕ) : Type 0 where

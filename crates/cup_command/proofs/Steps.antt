@@ -8,13 +8,13 @@ use Rattle.std.proofs.lemmas.List.Elements.{All-nil, All-push}
 use Rattle.std.proofs.lemmas.Slice.Zip.{get_or-zip, length-zip}
 use Rattle.io_edge.specs.Outside.{ToldLists, ToldPrograms}
 use Rattle.io_edge.specs.Starts.{Engines}
-use Rattle.match_core.specs.declared.answers.Setup.{Setup}
-use Rattle.cup_core.specs.declared.pairing.Pairing.{Pairing}
+use Rattle.match_core.specs.declared.setup.Setup.{Setup}
+use Rattle.cup.specs.declared.pairing.Pairing.{Pairing}
 use Rattle.match_command.specs.Match.{NoneIsOpen}
 use Rattle.match_runner.specs.Wires.{IsFresh, Wire}
-use Rattle.cup_games.specs.Played.{Job, pairing, ready}
-use Rattle.cup_core.specs.Engines.{Engine}
-use Rattle.cup_core.specs.Cup.{pairings}
+use Rattle.cup.specs.Played.{Job, pairing, ready}
+use Rattle.cup.specs.Engines.{Engine}
+use Rattle.cup.specs.Cup.{pairings}
 use Rattle.cup_command.specs.Cup.{cup_words, game_words, started_after}
 use Rattle.cup_command.specs.Links.{ClosesLinks, GivesUp, IsReady, StartsAll, all_links, ended_text, jobs_text}
 use Rattle.cup_command.proofs.Chains.{none-kept, starts-append, two-each}

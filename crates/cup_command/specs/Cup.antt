@@ -7,17 +7,17 @@ use Rattle.io_edge.specs.Starts.{Engines}
 use Rattle.hive_model.specs.Lists.{IsOn}
 use Rattle.command_runs.specs.declared.status.Status.{Status}
 use Rattle.command_runs.specs.declared.status.Status.TheVariants.{Done, Refused, Usage, ReadFault, WriteFault, SpawnFault, BadInput, Memory, InputFull}
-use Rattle.match_core.specs.declared.answers.Setup.{Setup}
+use Rattle.match_core.specs.declared.setup.Setup.{Setup}
 use Rattle.match_core.specs.Setups.{setup_plain}
-use Rattle.match_core.specs.declared.answers.Verdict.{Verdict}
-use Rattle.match_core.specs.Standing.{Standing}
+use Rattle.match_core.specs.declared.verdict.Verdict.{Verdict}
+use Rattle.match_core.specs.MatchState.{MatchState}
 use Rattle.match_core.specs.Feeds.{IsFront}
 use Rattle.match_runner.specs.Runs.{HasCourse, IsJudged, IsLate}
 use Rattle.match_command.specs.Match.{AreFronts, AreSent, IsBroke, end_of}
-use Rattle.cup_core.specs.declared.pairing.Pairing.{Pairing}
-use Rattle.cup_core.specs.declared.standing.Standing.{Standing as Place}
-use Rattle.cup_core.specs.Cup.{AreStandings, pairings}
-use Rattle.cup_core.specs.Engines.{Engine}
+use Rattle.cup.specs.declared.pairing.Pairing.{Pairing}
+use Rattle.cup.specs.declared.standing.Standing.{Standing as Place}
+use Rattle.cup.specs.Cup.{AreStandings, pairings}
+use Rattle.cup.specs.Engines.{Engine}
 use Rattle.cup_command.specs.Texts.{cup_text}
 
 -- What a run can change
@@ -77,7 +77,7 @@ abbrev pub exceptions : List Heard → ℕ
 exceptions games = sum_by (λ g. if g.excepted then 1 else 0) games
 
 -- moves, verdict and bytes sent are those of the match of the two programs
-pub record IsTheirs (setup : Setup) (t : Standing) (game : Heard) : Type 0 where
+pub record IsTheirs (setup : Setup) (t : MatchState) (game : Heard) : Type 0 where
   pub moves : t.moves ≡ (end_of (setup_plain setup) game.white_says game.black_says).moves
   pub verdict : t.verdict ≡ (end_of (setup_plain setup) game.white_says game.black_says).verdict
   pub sent : AreSent (setup_plain setup) game.white_says game.black_says
@@ -86,7 +86,7 @@ pub record IsTheirs (setup : Setup) (t : Standing) (game : Heard) : Type 0 where
 -- a game was played: its moves and the bytes sent are the first ones of the match of its two
 -- programs, and its verdict is that of the match, or a side broke; in a game that is not excepted
 -- all are those of the match
-pub record IsGame (setup : Setup) (t : Standing) (game : Heard) : Type 0 where
+pub record IsGame (setup : Setup) (t : MatchState) (game : Heard) : Type 0 where
   pub moves : IsFront t.moves
       (end_of (setup_plain setup) game.white_says game.black_says).moves
   pub verdict :
@@ -110,7 +110,7 @@ RoseBy number before now = (before + number ≤ now) ⊎ (now ≡ 2 ^ 64 - 1)
 -- played; no others were started. What they got was gained in this order, and no more games are
 -- excepted than programs were counted that had failed
 pub record PlayedBy
-    (all : List (List ℕ)) (setup : Setup) (ends : List Standing) (before after : Engines)
+    (all : List (List ℕ)) (setup : Setup) (ends : List MatchState) (before after : Engines)
     : Type 0 where
   pub games : List Heard
   pub others : List (List ℕ)
@@ -122,7 +122,7 @@ pub record PlayedBy
 
 -- a game was played by this setup to a verdict, which is not that an answer was late: what happened
 -- in it answers the acts that were to come
-pub record IsEnded (setup : Setup) (t : Standing) : Type 0 where
+pub record IsEnded (setup : Setup) (t : MatchState) : Type 0 where
   pub same : t.setup ≡ setup_plain setup
   pub judged : IsJudged t
   pub in_time : ¬ IsLate t.verdict
@@ -130,14 +130,14 @@ pub record IsEnded (setup : Setup) (t : Standing) : Type 0 where
 
 -- all games of a cup were played to these ends, over programs that were started in their order;
 -- where a side broke, a program was counted that had failed
-pub record Played
-    (engines : List Engine) (setup : Setup) (ends : List Standing) (before after : Engines)
+pub record PlayedGames
+    (engines : List Engine) (setup : Setup) (ends : List MatchState) (before after : Engines)
     : Type 0 where
   pub all_games : length ends ≡ length (pairings (length engines))
   pub started : after.started ≡ started_after before.started (cup_words engines)
   pub ended : All (IsEnded setup) ends
   pub broke :
-      (t : Standing)
+      (t : MatchState)
       → IsOn ends t
       → IsBroke t.verdict
       → Rose before.engine_faults after.engine_faults
@@ -145,7 +145,7 @@ pub record Played
       (all : List (List ℕ)) → before.to_come ≡ Some all → PlayedBy all setup ends before after
 
 -- the standings of the engines by the verdicts of the games, each of which has one
-abbrev pub AreCupStandings : ℕ → List Standing → List Place → Type 0
+abbrev pub AreCupStandings : ℕ → List MatchState → List Place → Type 0
 AreCupStandings engines ends places =
     (verdicts : List Verdict)
     × (map (λ t. t.verdict) ends ≡ map Some verdicts)
@@ -155,17 +155,17 @@ AreCupStandings engines ends places =
 
 -- the text of a cup that was played was written
 pub record Tells
-    (engines : List Engine) (setup : Setup) (ends : List Standing) (places : List Place)
+    (engines : List Engine) (setup : Setup) (ends : List MatchState) (places : List Place)
     (before after : Scene) : Type 0 where
-  pub played : Played engines setup ends before.engines after.engines
+  pub played : PlayedGames engines setup ends before.engines after.engines
   pub standings : AreCupStandings (length engines) ends places
   pub wrote : after.written ≡ behind before.written (cup_text setup engines ends places)
 
 -- of the text of a cup that was played the first n bytes were written, and not all
 pub record TellsPart
-    (engines : List Engine) (setup : Setup) (ends : List Standing) (places : List Place) (n : ℕ)
+    (engines : List Engine) (setup : Setup) (ends : List MatchState) (places : List Place) (n : ℕ)
     (before after : Scene) : Type 0 where
-  pub played : Played engines setup ends before.engines after.engines
+  pub played : PlayedGames engines setup ends before.engines after.engines
   pub standings : AreCupStandings (length engines) ends places
   pub cut : n < length (cup_text setup engines ends places)
   pub wrote : after.written ≡ behind before.written (take n (cup_text setup engines ends places))
@@ -218,9 +218,9 @@ pub record Starved (engines : List Engine) (before after : Scene) : Type 0 where
 -- its own.
 abbrev pub CupRun : List Engine → Setup → Status → Scene → Scene → Type 0
 CupRun engines setup Done before after =
-    (ends : List Standing) × (places : List Place) × Tells engines setup ends places before after
+    (ends : List MatchState) × (places : List Place) × Tells engines setup ends places before after
 CupRun engines setup WriteFault before after =
-    (ends : List Standing)
+    (ends : List MatchState)
     × (places : List Place)
     × (n : ℕ)
     × TellsPart engines setup ends places n before after

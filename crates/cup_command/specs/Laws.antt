@@ -4,8 +4,8 @@ use Rattle.io_edge.specs.Outside.{HasCause, Rose}
 use Rattle.command_runs.specs.Served.{NoFault}
 use Rattle.command_runs.specs.declared.status.Status.{Status}
 use Rattle.command_runs.specs.declared.status.Status.TheVariants.{Done, WriteFault, SpawnFault, Memory}
-use Rattle.match_core.specs.declared.answers.Setup.{Setup}
-use Rattle.cup_core.specs.Engines.{Engine}
+use Rattle.match_core.specs.declared.setup.Setup.{Setup}
+use Rattle.cup.specs.Engines.{Engine}
 use Rattle.cup_command.specs.Cup.{CupRun, Scene}
 
 -- Where no write to the output failed and no start did, a cup of programs is done, unless memory is

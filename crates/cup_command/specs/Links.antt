@@ -3,12 +3,12 @@ use Rattle.std.specs.Prelude.{◌≡◌, ◌≢◌, ℕ, ◌+◌, ◌<◌, ◌�
 use Rattle.std.specs.List.{flat_map, sum_by}
 use Rattle.io_edge.specs.Outside.{ToldLists, Starts, Collects, one_more}
 use Rattle.io_edge.specs.Starts.{Engines}
-use Rattle.match_core.specs.declared.answers.Setup.{Setup}
+use Rattle.match_core.specs.declared.setup.Setup.{Setup}
 use Rattle.match_core.specs.Setups.{setup_plain}
-use Rattle.match_core.specs.Standing.{Standing}
-use Rattle.cup_core.specs.declared.pairing.Pairing.{Pairing}
+use Rattle.match_core.specs.MatchState.{MatchState}
+use Rattle.cup.specs.declared.pairing.Pairing.{Pairing}
 use Rattle.match_runner.specs.Wires.{IsFresh, Wire}
-use Rattle.cup_games.specs.Played.{Job}
+use Rattle.cup.specs.Played.{Job}
 use Rattle.cup_command.specs.Cup.{started_after}
 use Rattle.cup_command.specs.Texts.{game_text}
 
@@ -88,10 +88,10 @@ pub record GivesUp
 
 -- the game was not played, or it was played by this setup
 abbrev pub IsOf : Setup → Job → Type 0
-IsOf setup job = (t : Standing) → job.referee ≡ Some t → t.setup ≡ setup_plain setup
+IsOf setup job = (t : MatchState) → job.referee ≡ Some t → t.setup ≡ setup_plain setup
 
 -- the lines of a game, where it was played
-abbrev pub ended_text : Setup → Pairing → Option Standing → List ℕ
+abbrev pub ended_text : Setup → Pairing → Option MatchState → List ℕ
 ended_text setup game None = []
 ended_text setup game (Some t) = game_text setup game t
 

@@ -2,13 +2,13 @@
 use Rattle.std.specs.Prelude.{ℕ, ◌-◌, List, [], ◌∷◌, ◌++◌, Option, Some, None, codes, decimal, length, map, slice_get}
 use Rattle.std.specs.List.{flat_map, zip}
 use Rattle.hive_model.specs.Strings.{string_under}
-use Rattle.match_core.specs.declared.answers.Setup.{Setup}
-use Rattle.match_core.specs.Standing.{Standing}
+use Rattle.match_core.specs.declared.setup.Setup.{Setup}
+use Rattle.match_core.specs.MatchState.{MatchState}
 use Rattle.match_command.specs.Texts.{shown, ending_text}
-use Rattle.cup_core.specs.declared.pairing.Pairing.{Pairing}
-use Rattle.cup_core.specs.declared.standing.Standing.{Standing as Place}
-use Rattle.cup_core.specs.Cup.{pairings}
-use Rattle.cup_core.specs.Engines.{Engine}
+use Rattle.cup.specs.declared.pairing.Pairing.{Pairing}
+use Rattle.cup.specs.declared.standing.Standing.{Standing as Place}
+use Rattle.cup.specs.Cup.{pairings}
+use Rattle.cup.specs.Engines.{Engine}
 
 -- the text of a program; none where there is no program
 abbrev pub text_in : Option Engine → List ℕ
@@ -25,22 +25,22 @@ numbers_text game = decimal game.white ++ 32 ∷ (decimal game.black ++ 32 ∷ [
 
 -- the line of a game: its numbers and its game string, with the outcome under the setup's rule for
 -- its state, with an LF (10)
-abbrev pub moves_line : Setup → Pairing → Standing → List ℕ
+abbrev pub moves_line : Setup → Pairing → MatchState → List ℕ
 moves_line setup game t =
     codes "game " ++ (numbers_text game
     ++ (string_under setup.repetition setup.game_type t.moves ++ 10 ∷ []))
 
 -- the line of a verdict: the game's numbers and the verdict, with an LF (10)
-abbrev pub verdict_line : Setup → Pairing → Standing → List ℕ
+abbrev pub verdict_line : Setup → Pairing → MatchState → List ℕ
 verdict_line setup game t =
     codes "verdict " ++ (numbers_text game ++ (ending_text setup t.verdict ++ 10 ∷ []))
 
 -- the two lines that tell a game
-abbrev pub game_text : Setup → Pairing → Standing → List ℕ
+abbrev pub game_text : Setup → Pairing → MatchState → List ℕ
 game_text setup game t = moves_line setup game t ++ verdict_line setup game t
 
 -- the lines of games, each with how it stands at its end
-abbrev pub games_text : Setup → List Pairing → List Standing → List ℕ
+abbrev pub games_text : Setup → List Pairing → List MatchState → List ℕ
 games_text setup games ends = flat_map (λ g. game_text setup g.0 g.1) (zip games ends)
 
 -- the line of an engine: its program's text, each byte outside 32 to 126 as a question mark, its
@@ -52,6 +52,6 @@ standing_text engines place =
     ++ (codes " games " ++ (decimal place.games ++ 10 ∷ []))))
 
 -- the whole text of a cup: of all games in their order, and then of the standings
-abbrev pub cup_text : Setup → List Engine → List Standing → List Place → List ℕ
+abbrev pub cup_text : Setup → List Engine → List MatchState → List Place → List ℕ
 cup_text setup engines ends places =
     games_text setup (pairings (length engines)) ends ++ flat_map (standing_text engines) places

@@ -3,7 +3,7 @@ ghost use Rattle.std.specs.Prelude.{◌≡◌};
 ghost use Rattle.match_command.specs.Match.{StartsNone};
 ghost use Rattle.cup_command.specs.Links.{ClosesLinks, all_links, counted, links_of};
 
-use cup_games::CupJob;
+use cup::CupJob;
 use hive_model::Game;
 use io_edge::Spawner;
 

@@ -17,10 +17,10 @@ ghost use Rattle.std.specs.Prelude.{
 ghost use Rattle.std.specs.List.{All};
 ghost use Rattle.io_edge.specs.Outside.{HasCause, Starts};
 ghost use Rattle.match_core.specs.Keeps.{IsSetup};
-ghost use Rattle.cup_core.specs.Cup.{pairings};
+ghost use Rattle.cup.specs.Cup.{pairings};
 ghost use Rattle.match_command.specs.Match.{StartsNone};
 ghost use Rattle.match_runner.specs.Wires.{IsFresh, Wire, wire};
-ghost use Rattle.cup_games.specs.Played.{IsDepth, IsJob, pairing, ready};
+ghost use Rattle.cup.specs.Played.{IsDepth, IsJob, pairing, ready};
 ghost use Rattle.cup_command.specs.Cup.{cup_words, game_words, words_of};
 ghost use Rattle.cup_command.specs.Links.{
   ClosesLinks,
@@ -34,8 +34,7 @@ ghost use Rattle.cup_command.specs.Links.{
 };
 
 use crate::closing::{close_game, close_links};
-use cup_core::{Pairing, Program};
-use cup_games::CupJob;
+use cup::{CupJob, Pairing, Program};
 use hive_model::Game;
 use io_edge::{Spawner, StartFault};
 use match_core::Setup;

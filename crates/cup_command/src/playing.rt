@@ -4,18 +4,18 @@ ghost use Rattle.std.specs.Prelude.{◌≡◌, ◌<◌, ◌≤◌, ◌++◌, Lis
 ghost use Rattle.std.specs.List.{All, AllZip, flat_map, zip};
 ghost use Rattle.io_edge.specs.Outside.{HasCause};
 ghost use Rattle.match_core.specs.Keeps.{IsSetup};
-ghost use Rattle.match_core.specs.Standing.{Standing};
+ghost use Rattle.match_core.specs.MatchState.{MatchState};
 ghost use Rattle.match_command.specs.Match.{NoneIsOpen};
 ghost use Rattle.match_command.specs.Ends.{EndsRun};
-ghost use Rattle.cup_core.specs.Cup.{pairings};
-ghost use Rattle.cup_core.specs.declared.standing.Standing.{Standing as AnyPlace};
-ghost use Rattle.cup_games.specs.Played.{AreStandingsOf, IsDepth, IsPlayed, pairing};
+ghost use Rattle.cup.specs.Cup.{pairings};
+ghost use Rattle.cup.specs.declared.standing.Standing.{Standing as AnyPlace};
+ghost use Rattle.cup.specs.Played.{AreStandingsOf, IsDepth, IsPlayed, pairing};
 ghost use Rattle.cup_command.specs.Cup.{
   AreCupStandings,
   BreaksOff,
   CupRun,
   EndsEarly,
-  Played,
+  PlayedGames,
   scene,
 };
 ghost use Rattle.cup_command.specs.Links.{IsReady, jobs_text};
@@ -25,8 +25,7 @@ use crate::closing::close_links;
 use crate::links::start_links;
 use crate::texts::tell_cup;
 use command_runs::{Status, end_with};
-use cup_core::{Pairing, Program, pairings};
-use cup_games::{CupGate, CupJob, run_cup};
+use cup::{CupGate, CupJob, Pairing, Program, pairings, run_cup};
 use hive_model::{Game, ReplyText};
 use io_edge::{Link, Sink, Spawner, StartFault};
 use match_core::Setup;
@@ -73,8 +72,8 @@ fn play<R: Threads + Sync, P: Spawner, G: Game + Send + Drop, T: CupGate + Sync>
     requires few { length programs.now ≤ 8 }
     requires setup { IsSetup setup }
     requires depth { IsDepth setup.level }
-    ensures told { IfOk result (λ text. (ends : List Standing) × (places : List AnyPlace)
-        × Played programs.now setup ends
+    ensures told { IfOk result (λ text. (ends : List MatchState) × (places : List AnyPlace)
+        × PlayedGames programs.now setup ends
         (P.engines spawner.old) (P.engines spawner.new)
         × AreCupStandings (length programs.now) ends places
         × (text ≡ cup_text setup programs.now ends places)) }

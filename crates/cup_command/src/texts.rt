@@ -1,9 +1,9 @@
 //! The text that tells a cup.
 ghost use Rattle.std.specs.Prelude.{◌≡◌, ◌≤◌, ◌++◌, List, length, map, Some, IfOk, OnOk};
 ghost use Rattle.std.specs.List.{All, flat_map, zip};
-ghost use Rattle.cup_core.specs.Cup.{pairings};
-ghost use Rattle.cup_core.specs.declared.standing.Standing.{Standing as AnyPlace};
-ghost use Rattle.cup_games.specs.Played.{AreStandingsOf, HasVerdict, pairing};
+ghost use Rattle.cup.specs.Cup.{pairings};
+ghost use Rattle.cup.specs.declared.standing.Standing.{Standing as AnyPlace};
+ghost use Rattle.cup.specs.Played.{AreStandingsOf, HasVerdict, pairing};
 ghost use Rattle.match_core.specs.Setups.{setup_plain};
 ghost use Rattle.match_command.specs.Texts.{shown};
 ghost use Rattle.cup_command.specs.Links.{IsOf, ended_text, jobs_text};
@@ -15,8 +15,7 @@ ghost use Rattle.cup_command.specs.Texts.{
   verdict_line,
 };
 
-use cup_core::{Pairing, Program, Standing as Place};
-use cup_games::{CupJob, standings};
+use cup::{CupJob, Pairing, Program, Standing as Place, standings_of};
 use game_text::write_game_under;
 use hive_model::{Game, ReplyText};
 use io_edge::Link;
@@ -159,7 +158,7 @@ pub(crate) fn tell_cup<L: Link, G: Game + Drop>(
         × (text ≡ jobs_text setup (zip games.now jobs.now)
         ++ flat_map (standing_text programs.now) places)) }
 {
-    let places = standings(alloc, jobs, programs.len() as u32)?;
+    let places = standings_of(alloc, jobs, programs.len() as u32)?;
     let mut text = ReplyText::new(alloc);
     write_jobs(alloc, &mut text, setup, games, jobs)?;
     write_places(&mut text, programs, places.items())?;

@@ -1,7 +1,7 @@
 -- What the search of a root answers, and what one for a time tells of itself.
 use Rattle.std.specs.Prelude.{◌≡◌, ℕ, ◌+◌, ◌-◌, ◌*◌, ◌^◌, ◌<◌, ◌≤◌, Some}
-use Rattle.hive_model.specs.declared.answers.Best.{Best}
-use Rattle.hive_model.specs.declared.answers.Timed.{Timed}
+use Rattle.hive_model.specs.declared.best.Best.{Best}
+use Rattle.hive_model.specs.declared.best.Timed.{Timed}
 use Rattle.hive_model.specs.Positions.{Position}
 use Rattle.hive_model.specs.Minimax.{value, best}
 use Rattle.hive_model.specs.Costs.{share}

@@ -26,14 +26,13 @@ ghost use Rattle.hive_model.specs.Courses.{position};
 ghost use Rattle.search_laws.specs.Found.{IsFound, IsOpen};
 ghost use Rattle.search_laws.specs.Nodes.{HasRoom, IsNode, CanReply, AreAsBefore};
 ghost use Rattle.search_core.specs.Times.{behind, sum_but};
-ghost use Rattle.ticker.specs.Ticks.{has_come, HasStopped, KeepsTime, IsInTime, CountsPlays};
+ghost use Rattle.search_core.specs.Ticks.{has_come, HasStopped, KeepsTime, IsInTime, CountsPlays};
 ghost use Rattle.deepening.specs.Shares.{turns_share};
 ghost use Rattle.deepening.specs.Tops.{IsTop};
 
 use hive_model::{Best, Game, Move, MoveStack};
 use io_edge::Clock;
-use search_core::{Tried, Window, keep_found, reply, root_choice};
-use ticker::Ticker;
+use search_core::{Ticker, Tried, Window, keep_found, reply, root_choice};
 use value_table::ValueTable;
 
 /// Less than any move is worth: the bound that a root begins with.
@@ -45,7 +44,7 @@ const HIGHEST: i32 = 1_000_100;
 /// What is known before the moves of a root are tried in turn: the place of the move that was tried
 /// first, and what it is worth; or, where none was, a number that is less than any move is worth.
 #[derive(Clone, Copy)]
-struct Begun {
+struct RootStart {
     hint: Option<u32>,
     worth: i32,
 }
@@ -132,11 +131,11 @@ fn try_all<G: Game, C: Clock>(
                 beta: HIGHEST,
             };
             let worth = reply(game, m, depth - 1, window, stack, table, ticker, clock)?;
-            let begun = Begun { hint, worth };
+            let begun = RootStart { hint, worth };
             return try_in_turn(game, level, depth, begun, stack, table, ticker, clock);
         }
     }
-    let begun = Begun {
+    let begun = RootStart {
         hint: None,
         worth: FIRST_BOUND + 1,
     };
@@ -151,7 +150,7 @@ fn try_in_turn<G: Game, C: Clock>(
     game: &mut G,
     level: u32,
     depth: u32,
-    begun: Begun,
+    begun: RootStart,
     stack: &mut MoveStack,
     table: &mut ValueTable,
     ticker: &mut Ticker,
@@ -218,7 +217,7 @@ fn worth_of<G: Game, C: Clock>(
     i: u32,
     depth: u32,
     window: Window,
-    begun: Begun,
+    begun: RootStart,
     stack: &mut MoveStack,
     table: &mut ValueTable,
     ticker: &mut Ticker,

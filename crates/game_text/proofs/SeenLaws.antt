@@ -3,15 +3,16 @@ use Rattle.std.proofs.Common.{◌≡◌, ◌≤◌, ◌<◌, Bool, true, false, 
 use Rattle.std.specs.Prelude.{IsTrue, if◌then◌else◌}
 use Rattle.hive_model.specs.declared.places.Move.{Move}
 use Rattle.hive_model.specs.Positions.{opening}
+use Rattle.hive_model.specs.Legal.{state}
 use Rattle.hive_model.specs.Games.{replay}
 use Rattle.hive_model.specs.Keys.{KeyParts, key}
 use Rattle.hive_model.specs.Courses.{Course, position, with_move}
-use Rattle.hive_model.specs.Repetition.{positions, keys}
+use Rattle.hive_model.specs.Repetition.{positions, keys, ends_as, outcome_under}
 use Rattle.hive_model.proofs.SameBoards.{keys_grow}
 use Rattle.game_text.specs.declared.seen.Seen.{Seen}
 use Rattle.game_text.specs.Reading.{is_third}
 use Rattle.game_text.specs.Seen.{keys_kept, Sees}
-use Rattle.game_text.proofs.OpenLaws.{keys_size}
+use Rattle.game_text.proofs.OpenLaws.{keys_size, outcome_is}
 
 pub third_seen : (s : Seen) (c : Course) → Sees s c → is_third s.repetition s.keys ≡ is_third s.repetition (keys c.game_type c.made)
 third_seen s c h = ap (is_third s.repetition) h ∙ go s.repetition
@@ -53,6 +54,11 @@ sees_first r s ks more c fresh none same pushed = subst (λ z. more ≡ keys_kep
     go : (r : Bool) → more ≡ (if r then ks ++ key (position c) ∷ [] else ks) → more ≡ keys_kept r c
     go true f = f ∙ ap (λ (z : List KeyParts). z ++ key (position c) ∷ []) none ∙ sym first
     go false f = f ∙ none
+
+pub outcome_seen : (s : Seen) (c : Course) → Sees s c → ends_as (is_third s.repetition s.keys) (state (position c)) ≡ outcome_under s.repetition c.game_type c.made
+outcome_seen s c h =
+    ap (λ b. ends_as b (state (position c))) (third_seen s c h)
+    ∙ outcome_is s.repetition c.game_type c.made (keys c.game_type c.made) (position c) (record { seen_is = refl; place = refl })
 
 -- courses of the same moves
 pub sees_same : (s : Seen) (c d : Course) → c.game_type ≡ d.game_type → c.made ≡ d.made → Sees s c → Sees s d

@@ -35,7 +35,7 @@ pub struct Grown<G> {
 
 /// The plies of a game, and among how many moves they were chosen.
 #[derive(Drop)]
-struct Played {
+struct GrownPlies {
     plies: Vec<Ply>,
     chosen: u64,
 }
@@ -47,7 +47,7 @@ fn play_grown<G: Game>(
     seed: u64,
     plies: u32,
     stack: &mut MoveStack,
-) -> Result<Played, AllocError>
+) -> Result<GrownPlies, AllocError>
     requires fresh { (G.course game.old).made ≡ [] }
     requires few { plies ≤ 1000 }
     requires spare { plies ≤ (G.course game.old).spare }
@@ -62,7 +62,7 @@ fn play_grown<G: Game>(
     let mut chosen = 0;
     for _ply in 0..plies {
         if game.state().is_over() {
-            return Ok(Played {
+            return Ok(GrownPlies {
                 plies: made,
                 chosen,
             });
@@ -72,7 +72,7 @@ fn play_grown<G: Game>(
         made.push(Ply { before, m: drawn.m })?;
         chosen += u64::from(drawn.choices);
     }
-    Ok(Played {
+    Ok(GrownPlies {
         plies: made,
         chosen,
     })

@@ -3,7 +3,7 @@
 
 use crate::games::is_terminal;
 use crate::machine_clock::MachineClock;
-use cup_core::Program;
+use cup::Program;
 use std::alloc::Global;
 use std::io::Eprint;
 use std::{str, time};

@@ -3,7 +3,7 @@ use Rattle.std.proofs.Common.{◌≡◌, ◌<◌, ◌≤◌, ◌-◌, ℕ, Bool,
 use Rattle.std.specs.declared.option.Option.{Option}
 use Rattle.std.proofs.lemmas.List.{append-nil}
 use Rattle.io_edge.specs.Outside.{behind}
-use Rattle.hive_model.specs.declared.answers.Timed.{Timed}
+use Rattle.hive_model.specs.declared.best.Timed.{Timed}
 use Rattle.hive_model.specs.Lines.{Line, lines, whole_lines}
 use Rattle.line_feed.specs.Feed.{Holds, Takes, input_limit, fresh as new_reading}
 use Rattle.line_feed.specs.SoFar.{Fed}
@@ -12,7 +12,7 @@ use Rattle.uhp_session.specs.Searches.{Search, TakesNoTime, Times}
 use Rattle.hive_cli.specs.Times.{AreTold, TellsOf, depths}
 use Rattle.hive_cli.specs.Service.{HasExit, Service, joined, last_of, replies, searches, texts}
 use Rattle.hive_cli.specs.ServiceRun.{EndsAs, RunsToEnd, Scene, ServiceRun, TellsOfLines, WroteAll, WroteFront, WroteTexts, WroteWhole}
-use Rattle.hive_cli.specs.Rounds.{Replies, Rounds, Standing, status_of}
+use Rattle.hive_cli.specs.Rounds.{Replies, Rounds, ServiceState, status_of}
 use Rattle.command_runs.specs.declared.status.Status.{Status}
 use Rattle.command_runs.specs.declared.status.Status.TheVariants.{WriteFault, Memory}
 use Rattle.hive_cli.specs.declared.service.Stop.{Stop}
@@ -24,18 +24,18 @@ use Rattle.hive_cli.proofs.ReplyLemmas.{Next, Replied, joined-append, replied_as
 
 -- Since the run began, these bytes were read, which gave these lines, and the preface and these replies to the lines were written.
 -- The lines asked for these searches, and these entries tell of them.
-pub record Runs {S : Type 0} (v : Service S) (before : Scene) (now : Standing S) (bytes : List ℕ) (given : List Line) (written : List (List ℕ)) (entries : List Timed) (asked : List Search) : Type 0 where
+pub record Runs {S : Type 0} (v : Service S) (before : Scene) (now : ServiceState S) (bytes : List ℕ) (given : List Line) (written : List (List ℕ)) (entries : List Timed) (asked : List Search) : Type 0 where
   pub fed : Fed before.sides.rest now.scene.sides.rest now.reader bytes given
   pub replied : Replied v v.begins now.state given written (depths entries) asked
   pub wrote : now.scene.sides.written ≡ behind before.sides.written (joined (v.preface ∷ written))
   pub tells : TellsOf asked entries before.times now.scene.times
 
-abbrev pub Run : {S : Type 0} → Service S → Scene → Standing S → Type 0
+abbrev pub Run : {S : Type 0} → Service S → Scene → ServiceState S → Type 0
 Run v before now =
     (bytes : List ℕ) × (given : List Line) × (written : List (List ℕ)) × (entries : List Timed) × (asked : List Search) × Runs v before now bytes given written entries asked
 
 -- the preface was written, and nothing read
-pub run_begin : {S : Type 0} (v : Service S) (before : Scene) (now : Standing S) (text : List ℕ) → now.scene.sides.rest ≡ before.sides.rest → now.reader ≡ new_reading → now.state ≡ v.begins → text ≡ v.preface
+pub run_begin : {S : Type 0} (v : Service S) (before : Scene) (now : ServiceState S) (text : List ℕ) → now.scene.sides.rest ≡ before.sides.rest → now.reader ≡ new_reading → now.state ≡ v.begins → text ≡ v.preface
     → now.scene.sides.written ≡ behind before.sides.written text → TakesNoTime before.times now.scene.times → Run v before now
 run_begin v before now text rest reader state is wrote time = (
   [],
@@ -66,7 +66,7 @@ answered_on {S} {v} {old} {new} {given} {written} entries own {asked} {mine} {li
     (replied_on v v.begins old given written (depths entries) asked line text mine (depths own) depth replied next))
 
 -- a line was answered
-pub run_on : {S : Type 0} {v : Service S} {before : Scene} {old new : Standing S} → Run v before old → Rounds v None old new → Run v before new
+pub run_on : {S : Type 0} {v : Service S} {before : Scene} {old new : ServiceState S} → Run v before old → Rounds v None old new → Run v before new
 run_on {S} {v} {before} {old} {new} (bytes, given, written, entries, asked, run) (b1, round) = elim round.does [
   | inl (line, gives, (text, answers, appends)) ↦
       let (mine, own, depth, t) = took (v.asks old.state line) (v.reply old.state line) (Some text) old.scene.times new.scene.times answers.answered in (
@@ -99,7 +99,7 @@ tells_rest {asked} {entries} {first} {old} {new} tells time =
     subst (λ es. TellsOf asked es first new) (append-nil entries) (subst (λ ss. TellsOf ss (entries ++ []) first new) (append-nil asked) (tells_on tells (tells_none time)))
 
 -- the line that was given ends the run
-exits_at : {S : Type 0} {v : Service S} {before : Scene} {old new : Standing S} → Run v before old → Rounds v (Some Over) old new → (input : List ℕ) → before.sides.rest ≡ Some input → (entries : List Timed) × WroteAll v input entries before new.scene new.state
+exits_at : {S : Type 0} {v : Service S} {before : Scene} {old new : ServiceState S} → Run v before old → Rounds v (Some Over) old new → (input : List ℕ) → before.sides.rest ≡ Some input → (entries : List Timed) × WroteAll v input entries before new.scene new.state
 exits_at {S} {v} {before} {old} {new} (bytes, given, written, entries, asked, run) (b1, round) input e = elim round.does [
   | inl (line, gives, (answers, same)) ↦
       let (mine, own, depth, t) = took (v.asks old.state line) (v.reply old.state line) None old.scene.times new.scene.times answers.answered in
@@ -142,7 +142,7 @@ exits_at {S} {v} {before} {old} {new} (bytes, given, written, entries, asked, ru
     at_both : {A : Type 0} (f : List ℕ → List Line → A) {ds es : List ℕ} {ls ms : List Line} → ds ≡ es → ls ≡ ms → f ds ls ≡ f es ms
     at_both f {ds} {es} {ls} {ms} d l = ap (λ x. f x ls) d ∙ ap (f es) l
 
-held : {S : Type 0} {v : Service S} {before : Scene} {old : Standing S} (new : Standing S) {bytes b1 : List ℕ} {given : List Line} {written : List (List ℕ)} {entries : List Timed} {asked : List Search} (input : List ℕ)
+held : {S : Type 0} {v : Service S} {before : Scene} {old : ServiceState S} (new : ServiceState S) {bytes b1 : List ℕ} {given : List Line} {written : List (List ℕ)} {entries : List Timed} {asked : List Search} (input : List ℕ)
     → Runs v before old bytes given written entries asked → Takes old.scene.sides.rest new.scene.sides.rest old.reader.taken new.reader.taken b1 → Holds old.reader b1 new.reader → new.scene.sides.written ≡ old.scene.sides.written
     → TakesNoTime old.scene.times new.scene.times → before.sides.rest ≡ Some input → (read : List ℕ) × (left : List ℕ) × (new.reader.taken ≡ length read) × WroteWhole v input entries before new.scene read left
 held {S} {v} {before} {old} new {bytes} {b1} {given} {written} {entries} {asked} input run takes holds same time e =
@@ -160,7 +160,7 @@ held {S} {v} {before} {old} new {bytes} {b1} {given} {written} {entries} {asked}
       },
     )
 
-ends_read_fault : {S : Type 0} {v : Service S} {before : Scene} {old new : Standing S} → Run v before old → Rounds v (Some ReadFailed) old new → (input : List ℕ) → before.sides.rest ≡ Some input
+ends_read_fault : {S : Type 0} {v : Service S} {before : Scene} {old new : ServiceState S} → Run v before old → Rounds v (Some ReadFailed) old new → (input : List ℕ) → before.sides.rest ≡ Some input
     → (entries : List Timed) × (bytes : List ℕ) × (left : List ℕ) × (length bytes < input_limit) × WroteWhole v input entries before new.scene bytes left
 ends_read_fault {S} {v} {before} {old} {new} (bytes, given, written, entries, asked, run) (b1, round) input e = elim round.does [
   | inl (line, gives, never) ↦ absurd never
@@ -169,7 +169,7 @@ ends_read_fault {S} {v} {before} {old} {new} (bytes, given, written, entries, as
       let (read, left, count, wrote) = held new input run round.takes holds rests.same rests.time e in (entries, read, left, subst (λ n. n < input_limit) count below, wrote)
 ]
 
-ends_full : {S : Type 0} {v : Service S} {before : Scene} {old new : Standing S} → Run v before old → Rounds v (Some Full) old new → (input : List ℕ) → before.sides.rest ≡ Some input
+ends_full : {S : Type 0} {v : Service S} {before : Scene} {old new : ServiceState S} → Run v before old → Rounds v (Some Full) old new → (input : List ℕ) → before.sides.rest ≡ Some input
     → (entries : List Timed) × (bytes : List ℕ) × (left : List ℕ) × (length bytes ≡ input_limit) × WroteWhole v input entries before new.scene bytes left
 ends_full {S} {v} {before} {old} {new} (bytes, given, written, entries, asked, run) (b1, round) input e = elim round.does [
   | inl (line, gives, never) ↦ absurd never
@@ -178,7 +178,7 @@ ends_full {S} {v} {before} {old} {new} (bytes, given, written, entries, asked, r
       let (read, left, count, wrote) = held new input run round.takes holds rests.same rests.time e in (entries, read, left, sym count ∙ full, wrote)
 ]
 
-ends_write_fault : {S : Type 0} {v : Service S} {before : Scene} {old new : Standing S} → Run v before old → Rounds v (Some WriteFailed) old new → (input : List ℕ) → before.sides.rest ≡ Some input
+ends_write_fault : {S : Type 0} {v : Service S} {before : Scene} {old new : ServiceState S} → Run v before old → Rounds v (Some WriteFailed) old new → (input : List ℕ) → before.sides.rest ≡ Some input
     → (entries : List Timed) × (read : List Line) × (whole : List (List ℕ)) × (last : List ℕ) × (n : ℕ) × WroteFront v input entries before new.scene read whole last n
 ends_write_fault {S} {v} {before} {old} {new} (bytes, given, written, entries, asked, run) (b1, round) input e = elim round.does [
   | inl (line, gives, (text, n, answers, short, wrote)) ↦
@@ -202,7 +202,7 @@ ends_write_fault {S} {v} {before} {old} {new} (bytes, given, written, entries, a
   | inr rests ↦ absurd rests.stops
 ]
 
-ends_memory : {S : Type 0} {v : Service S} {before : Scene} {old new : Standing S} → Run v before old → Rounds v (Some NoMemory) old new → (input : List ℕ) → before.sides.rest ≡ Some input
+ends_memory : {S : Type 0} {v : Service S} {before : Scene} {old new : ServiceState S} → Run v before old → Rounds v (Some NoMemory) old new → (input : List ℕ) → before.sides.rest ≡ Some input
     → (entries : List Timed) × (answered : List Line) × (others : List Line) × (n : ℕ) × WroteTexts v input entries before new.scene answered others n
 ends_memory {S} {v} {before} {old} {new} (bytes, given, written, entries, asked, run) (b1, round) input e = elim round.does [
   | inl (line, gives, (unanswered, same)) ↦
@@ -234,7 +234,7 @@ over_ends true run = run
 over_ends false run = run
 
 -- the run ends as its last round
-ends_as : {S : Type 0} {v : Service S} {before : Scene} {old new : Standing S} (stop : Stop) → Run v before old → Rounds v (Some stop) old new → EndsAs v (status_of (v.has_refused new.state) stop) before new.scene
+ends_as : {S : Type 0} {v : Service S} {before : Scene} {old new : ServiceState S} (stop : Stop) → Run v before old → Rounds v (Some stop) old new → EndsAs v (status_of (v.has_refused new.state) stop) before new.scene
 ends_as {S} {v} {before} {old} {new} Over run round = over_ends (v.has_refused new.state) (new.state, refl, λ input e. exits_at run round input e)
 ends_as ReadFailed run round = λ input e. ends_read_fault run round input e
 ends_as Full run round = λ input e. ends_full run round input e
@@ -247,7 +247,7 @@ answer_later {S} {v} {line} {answer} {old} {new} {before} {after} answers =
     let (mine, own, depth, t) = took (v.asks old line) (v.reply old line) answer before after answers.answered in tells_later t.tells
 
 -- nor in the last round
-ends_later : {S : Type 0} {v : Service S} {old new : Standing S} (stop : Stop) → Rounds v (Some stop) old new → old.scene.times.last ≤ new.scene.times.last
+ends_later : {S : Type 0} {v : Service S} {old new : ServiceState S} (stop : Stop) → Rounds v (Some stop) old new → old.scene.times.last ≤ new.scene.times.last
 ends_later Over (b1, round) = elim round.does [ inl (line, gives, (answers, same)) ↦ answer_later answers | inr rests ↦ no_time_later rests.time ]
 ends_later ReadFailed (b1, round) = elim round.does [ inl (line, gives, never) ↦ absurd never | inr rests ↦ no_time_later rests.time ]
 ends_later Full (b1, round) = elim round.does [ inl (line, gives, never) ↦ absurd never | inr rests ↦ no_time_later rests.time ]
@@ -257,14 +257,14 @@ ends_later NoMemory (b1, round) = elim round.does [ inl (line, gives, (unanswere
 later_on : (a b c : ℕ) → a ≤ b → b ≤ c → a ≤ c
 later_on a b c e f = omega (arith, e, f)
 
-ends : {S : Type 0} {v : Service S} {before : Scene} {old new : Standing S} (stop : Stop) → Run v before old → Rounds v (Some stop) old new → ServiceRun v (status_of (v.has_refused new.state) stop) before new.scene
+ends : {S : Type 0} {v : Service S} {before : Scene} {old new : ServiceState S} (stop : Stop) → Run v before old → Rounds v (Some stop) old new → ServiceRun v (status_of (v.has_refused new.state) stop) before new.scene
 ends {S} {v} {before} {old} {new} stop (bytes, given, written, entries, asked, run) round = record {
   ends = ends_as stop (bytes, given, written, entries, asked, run) round;
   later = later_on before.times.last old.scene.times.last new.scene.times.last (tells_later run.tells) (ends_later stop round);
 }
 
 -- and so with its status
-pub run_ends : {S : Type 0} {v : Service S} {before : Scene} {old new : Standing S} (stop : Stop) (refused : Bool) (status : Status) → Run v before old → Rounds v (Some stop) old new → refused ≡ v.has_refused new.state → status ≡ status_of refused stop
+pub run_ends : {S : Type 0} {v : Service S} {before : Scene} {old new : ServiceState S} (stop : Stop) (refused : Bool) (status : Status) → Run v before old → Rounds v (Some stop) old new → refused ≡ v.has_refused new.state → status ≡ status_of refused stop
     → ServiceRun v status before new.scene
 run_ends {S} {v} {before} {old} {new} stop refused status run round is same =
     subst (λ s. ServiceRun v s before new.scene) (sym (same ∙ ap (λ b. status_of b stop) is)) (ends stop run round)

@@ -2,7 +2,7 @@
 use Rattle.std.proofs.Common.{◌≡◌, ◌+◌, ◌∙◌, ℕ, List, [], length, map, ap, sym, refl, subst, arith, Some, inl, inr, String, Global, Bool, true, false}
 use Rattle.io_edge.specs.Outside.{HasCause, Told, ToldLists}
 use Rattle.io_edge.specs.Starts.{Engines}
-use Rattle.hive_model.specs.declared.answers.Timed.{Timed}
+use Rattle.hive_model.specs.declared.best.Timed.{Timed}
 use Rattle.uhp_session.specs.Searches.{TakesNoTime, Times}
 use Rattle.hive_cli.specs.ServiceRun.{EndsAs}
 use Rattle.hive_cli.specs.Session.{session}
@@ -13,9 +13,9 @@ use Rattle.command_words.specs.Audits.{AreAuditWords}
 use Rattle.command_words.specs.Cups.{AreCupWords, AskForEngines, engine_of, program_texts}
 use Rattle.command_words.specs.Matches.{AreMatchWords, AskForPrograms, IsLevelOf, between_spaces}
 use Rattle.command_words.specs.Tournaments.{AreTournamentWords, AskForTournamentEngines}
-use Rattle.cup_core.specs.Engines.{Engine}
-use Rattle.cup_games.specs.Played.{IsDepth}
-use Rattle.match_core.specs.declared.answers.Level.{Level}
+use Rattle.cup.specs.Engines.{Engine}
+use Rattle.cup.specs.Played.{IsDepth}
+use Rattle.match_core.specs.declared.setup.Level.{Level}
 use Rattle.std.specs.Prelude.{Option, None, Ok}
 use Rattle.std.proofs.lemmas.Option.{same_Some}
 use Rattle.command_words.specs.Words.{Words}
@@ -23,7 +23,7 @@ use Rattle.cup_command.proofs.Early.{early-none}
 use Rattle.cup_command.specs.Cup.{CupRun, scene as cup_scene}
 use Rattle.match_command.specs.Match.{MatchRun, MatchStarts, NoneIsOpen, Scene as MatchScene}
 use Rattle.match_command.specs.Reads.{ReadMatchRun, ReadScene, read_scene, typed}
-use Rattle.match_core.specs.declared.answers.Setup.{Setup}
+use Rattle.match_core.specs.declared.setup.Setup.{Setup}
 use Rattle.match_core.specs.Setups.{FullSetup, setup_from, setup_plain}
 use Rattle.command_runs.specs.Answered.{TellsNone}
 use Rattle.command_runs.specs.declared.no_game.NoGame.{NoGame}
@@ -37,9 +37,9 @@ use Rattle.audit_command.specs.Audit.{AuditRun}
 use Rattle.audit_command.proofs.Closing.{none_taken}
 use Rattle.hive_model.specs.declared.pieces.GameType.{GameType}
 use Rattle.book_command.specs.Runs.{BookRun}
-use Rattle.certificate_commands.specs.Certifying.{CertifyRun}
-use Rattle.certificate_commands.specs.Verdicts.{CheckRun}
-use Rattle.certificate_commands.specs.Migrating.{MigrateRun}
+use Rattle.strategy_commands.specs.Certifying.{CertifyRun}
+use Rattle.strategy_commands.specs.Verdicts.{CheckRun}
+use Rattle.strategy_commands.specs.Migrating.{MigrateRun}
 use Rattle.grow_command.specs.Runs.{GrowRun}
 use Rattle.win_commands.specs.Runs.{SolveRun, VerifyRun}
 use Rattle.tournament_command.specs.declared.format.Format.{Format}

@@ -21,13 +21,13 @@ status_of refused WriteFailed = WriteFault
 status_of refused NoMemory = Memory
 
 -- a service between two lines: how it stands, its reader, what is told of both sides, and its times
-pub record Standing (S : Type 0) : Type 0 where
+pub record ServiceState (S : Type 0) : Type 0 where
   pub state : S
   pub reader : Reading
   pub scene : Scene
 
-abbrev pub standing : {S : Type 0} → S → Reading → Scene → Standing S
-standing state reader scene = record { state = state; reader = reader; scene = scene }
+abbrev pub service_state : {S : Type 0} → S → Reading → Scene → ServiceState S
+service_state state reader scene = record { state = state; reader = reader; scene = scene }
 
 -- so is the line answered by a service that stands so
 abbrev pub IsReply : {S : Type 0} → Service S → S → Line → Option (List ℕ) → Times → Times → Type 0
@@ -64,7 +64,7 @@ Answers v (Some ReadFailed) line old new before after from to = ⊥
 Answers v (Some Full) line old new before after from to = ⊥
 
 -- a line was given, and answered
-abbrev pub Serves : {S : Type 0} → Service S → Option Stop → List ℕ → Standing S → Standing S
+abbrev pub Serves : {S : Type 0} → Service S → Option Stop → List ℕ → ServiceState S → ServiceState S
     → Type 0
 Serves v stop bytes old new =
     (line : Line) × Gives old.reader bytes line new.reader new.scene.sides.rest
@@ -82,7 +82,7 @@ Stops (Some NoMemory) bytes old new rest = ⊥
 
 -- and nothing was answered
 pub record Rests {S : Type 0} (stop : Option Stop) (bytes : List ℕ)
-    (old new : Standing S) : Type 0 where
+    (old new : ServiceState S) : Type 0 where
   pub stops : Stops stop bytes old.reader new.reader new.scene.sides.rest
   pub same : new.scene.sides.written ≡ old.scene.sides.written
   pub stands : new.state ≡ old.state
@@ -90,7 +90,7 @@ pub record Rests {S : Type 0} (stop : Option Stop) (bytes : List ℕ)
 
 -- a round, in which these bytes were read
 pub record Round {S : Type 0} (v : Service S) (stop : Option Stop) (bytes : List ℕ)
-    (old new : Standing S) : Type 0 where
+    (old new : ServiceState S) : Type 0 where
   pub takes :
       Takes old.scene.sides.rest new.scene.sides.rest old.reader.taken new.reader.taken bytes
   pub within : new.reader.taken ≤ input_limit
@@ -98,5 +98,5 @@ pub record Round {S : Type 0} (v : Service S) (stop : Option Stop) (bytes : List
   pub does : Serves v stop bytes old new ⊎ Rests stop bytes old new
 
 -- a round, in which some bytes were read
-abbrev pub Rounds : {S : Type 0} → Service S → Option Stop → Standing S → Standing S → Type 0
+abbrev pub Rounds : {S : Type 0} → Service S → Option Stop → ServiceState S → ServiceState S → Type 0
 Rounds v stop old new = (bytes : List ℕ) × Round v stop bytes old new

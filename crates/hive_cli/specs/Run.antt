@@ -7,9 +7,9 @@ use Rattle.hive_model.specs.declared.pieces.GameType.{GameType}
 use Rattle.audit_core.specs.declared.plan.Plan.{Plan}
 use Rattle.audit_command.specs.Audit.{AuditRun, AuditStarts, NoneIsOpen as NoProgramIsOpen, Scene as AuditScene, scene as audit_scene}
 use Rattle.book_command.specs.Runs.{BookRun}
-use Rattle.certificate_commands.specs.Certifying.{CertifyRun}
-use Rattle.certificate_commands.specs.Verdicts.{CheckRun}
-use Rattle.certificate_commands.specs.Migrating.{MigrateRun}
+use Rattle.strategy_commands.specs.Certifying.{CertifyRun}
+use Rattle.strategy_commands.specs.Verdicts.{CheckRun}
+use Rattle.strategy_commands.specs.Migrating.{MigrateRun}
 use Rattle.command_runs.specs.Input.{Sides}
 use Rattle.command_runs.specs.declared.status.Status.{Status}
 use Rattle.command_words.specs.Words.{Words}
@@ -20,14 +20,14 @@ use Rattle.command_words.specs.Tournaments.{AskForTournamentEngines}
 use Rattle.command_words.specs.declared.asked.Asked.{Asked}
 use Rattle.command_words.specs.declared.asked.Asked.TheVariants.{Session, Replay, Count, Grow, Certify, Check, Solve, Verify, Match, Cup, Book, Migrate, Audit, Tournament}
 use Rattle.cup_command.specs.Cup.{CupRun, Scene as CupScene, scene as cup_scene}
-use Rattle.cup_core.specs.Engines.{Engine}
+use Rattle.cup.specs.Engines.{Engine}
 use Rattle.grow_command.specs.Runs.{GrowRun}
 use Rattle.uhp_session.specs.Searches.{TakesNoTime}
 use Rattle.win_commands.specs.Runs.{SolveRun, VerifyRun}
 use Rattle.io_edge.specs.Starts.{Engines}
 use Rattle.match_command.specs.Match.{MatchRun, MatchStarts, Means, NoneIsOpen, means, scene as match_scene}
 use Rattle.match_command.specs.Reads.{ReadMatchRun, ReadScene, read_scene}
-use Rattle.match_core.specs.declared.answers.Setup.{Setup}
+use Rattle.match_core.specs.declared.setup.Setup.{Setup}
 use Rattle.match_core.specs.Setups.{setup_plain}
 use Rattle.hive_cli.specs.Session.{SessionRun}
 use Rattle.hive_cli.specs.Replay.{ReplayRun}

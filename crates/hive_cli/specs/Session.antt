@@ -1,6 +1,6 @@
 -- A session as a service, and its run.
 use Rattle.std.specs.Prelude.{ℕ, false, List, codes}
-use Rattle.uhp_session.specs.Answers.{State, fresh, next, reply}
+use Rattle.uhp_session.specs.Answers.{SessionState, fresh, next, reply}
 use Rattle.uhp_session.specs.Searches.{asks}
 use Rattle.hive_cli.specs.Service.{Service}
 use Rattle.hive_cli.specs.ServiceRun.{Scene, ServiceRun}
@@ -12,7 +12,7 @@ greeting = codes "id HiveReferee 1.0\nMosquito;Ladybug;Pillbug\nok\n"
 
 -- The greeting, and the reply to each line, until `exit`. A session goes on after a refusal, and is
 -- done whatever it has refused.
-abbrev pub session : Service State
+abbrev pub session : Service SessionState
 session = record {
   begins = fresh;
   preface = greeting;

@@ -1,6 +1,6 @@
 -- What a run tells of the searches for a time that it answered.
 use Rattle.std.specs.Prelude.{◌≡◌, ℕ, ◌+◌, ◌≤◌, List, [], ◌∷◌, ◌++◌, map}
-use Rattle.hive_model.specs.declared.answers.Timed.{Timed}
+use Rattle.hive_model.specs.declared.best.Timed.{Timed}
 use Rattle.hive_model.specs.Minimax.{reads}
 use Rattle.uhp_session.specs.Searches.{IsToldOf, Search, Times}
 

@@ -2,17 +2,17 @@
 //! line ask for.
 #![tactic(auto)]
 
-mod answers;
 mod contests;
 mod laws;
 mod outcome;
+mod replay_lines;
 mod replays;
+mod run;
 mod service;
 mod sessions;
-mod start;
 
 pub use command_runs::Status;
 pub use command_words::Asked;
 pub use laws::{replays_answer_each_line, replays_are_done, sessions_are_done};
 pub use outcome::Outcome;
-pub use start::run;
+pub use run::run;

@@ -5,7 +5,7 @@ ghost use Rattle.uhp_session.specs.Searches.{times};
 ghost use Rattle.hive_cli.specs.Replay.{ReplayRun, replays};
 ghost use Rattle.hive_cli.specs.ServiceRun.{OverTime};
 
-use crate::answers::answer_line;
+use crate::replay_lines::answer_line;
 use crate::service::{LineService, serve};
 use command_runs::Status;
 use hive_model::{Game, TimedList};

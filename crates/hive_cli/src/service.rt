@@ -6,7 +6,7 @@ ghost use Rattle.io_edge.specs.Outside.{HasCause};
 ghost use Rattle.command_runs.specs.Runs.{RunsAs, side_of};
 ghost use Rattle.uhp_session.specs.Answers.{line_in, IsShort};
 ghost use Rattle.uhp_session.specs.Searches.{Answered, times};
-ghost use Rattle.hive_cli.specs.Rounds.{Answers, Rounds, standing, status_of};
+ghost use Rattle.hive_cli.specs.Rounds.{Answers, Rounds, service_state, status_of};
 ghost use Rattle.hive_cli.specs.Service.{Service};
 ghost use Rattle.hive_cli.specs.ServiceRun.{OverTime, ServiceRun, scene};
 ghost use Rattle.hive_cli.specs.Times.{IsStill};
@@ -138,9 +138,9 @@ fn serve_line<R: Threads + Sync, S: Source, K: Sink, C: Clock, V: LineService>(
     timed: &mut TimedList,
 ) -> Option<Stop>
     ensures round { Rounds V.service result
-        (standing service.old reader.old (scene (S.rest input.old) (K.written output.old)
+        (service_state service.old reader.old (scene (S.rest input.old) (K.written output.old)
         (C.last clock.old) (C.readings clock.old) timed.old))
-        (standing service.new reader.new (scene (S.rest input.new) (K.written output.new)
+        (service_state service.new reader.new (scene (S.rest input.new) (K.written output.new)
         (C.last clock.new) (C.readings clock.new) timed.new)) }
     ensures reads { HasCause (result ≡ Some Stop.ReadFailed) (S.read_faults input.old)
         (S.read_faults input.new) }

@@ -15,7 +15,7 @@ use Rattle.game_text.specs.declared.faults.GameFault.{GameFault}
 use Rattle.game_text.specs.declared.parsed.Parsed.{Parsed}
 use Rattle.game_text.specs.Reading.{game_of}
 use Rattle.command_runs.specs.OneGame.{last_position}
-use Rattle.uhp_session.specs.Answers.{Begun, best_text, joined}
+use Rattle.uhp_session.specs.Answers.{CurrentGame, best_text, joined}
 use Rattle.hive_library.specs.Rooms.{Answer}
 use Rattle.hive_library.specs.declared.faults.Fault.{Fault}
 use Rattle.hive_library.specs.declared.faults.Fault.TheVariants.{NoGame, OutOfRange, Unreadable, NotInPlay, NotLegal, GameOver, FullGame}
@@ -61,7 +61,7 @@ abbrev pub moves_answer : List ℕ → Answer
 moves_answer line = of_game (game_in line) (λ game. while_on game (Ok (moves_text game)))
 
 -- the game in a session, under the rules alone
-abbrev pub begun : Parsed → Begun
+abbrev pub begun : Parsed → CurrentGame
 begun game = record { game_type = game.game_type; made = game.moves; repetition = false }
 
 -- what is answered where a number is in this range

@@ -7,8 +7,8 @@ use Rattle.command_runs.specs.GameRun.{Answers as GameAnswers}
 use Rattle.command_runs.specs.Statuses.{number}
 use Rattle.command_runs.specs.declared.status.Status.{Status}
 use Rattle.command_runs.specs.declared.status.Status.TheVariants.{Done, Refused, Usage, ReadFault, WriteFault, SpawnFault, BadInput, Memory, InputFull}
-use Rattle.text_verdicts.specs.declared.verdict.Verdict.{Verdict}
-use Rattle.text_verdicts.specs.Verdicts.{status_of, verdict_line}
+use Rattle.strategy_verdicts.specs.declared.verdict.TextVerdict.{TextVerdict}
+use Rattle.strategy_verdicts.specs.Verdicts.{status_of, verdict_line}
 use Rattle.hive_library.specs.Rooms.{Ends, PutsAs}
 
 -- what a call may leave: its status, the room before and after, and the length that it told
@@ -35,7 +35,7 @@ Texts = ℕ → List ℕ → Type 0
 
 -- a check gives the line of its verdict: with 0 where it accepts, with 1 where it refuses, and with
 -- 6 where what it is given is not of the form
-abbrev pub OfVerdict : Verdict → Texts
+abbrev pub OfVerdict : TextVerdict → Texts
 OfVerdict verdict code text = (code ≡ number (status_of verdict)) × (text ≡ verdict_line verdict)
 
 -- a command about one game gives an answer to the game with 0; or with 6 the line that says why

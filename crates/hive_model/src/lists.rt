@@ -3,18 +3,18 @@
 ghost use Rattle.std.specs.Prelude.{◌≡◌, ◌≤◌, [], ◌∷◌, ◌++◌, length, OnOk, OnErr};
 ghost use Rattle.std.specs.List.{insert};
 
-use crate::answers::Timed;
+use crate::best::Timed;
 use crate::places::Move;
 use std::alloc::{AllocError, Global};
 use std::marker::Model;
 
 /// Items in order.
 #[derive(Drop)]
-pub struct Items<T> {
+pub struct ItemList<T> {
     kept: Vec<T>,
 }
 
-impl<T> Model for Items<T> {
+impl<T> Model for ItemList<T> {
     ghost use Rattle.std.specs.Prelude.{List};
 
     ghost Value = { List T };
@@ -22,12 +22,12 @@ impl<T> Model for Items<T> {
     ghost view = { λ l. l.kept.items };
 }
 
-impl<T: Drop> Items<T> {
+impl<T: Drop> ItemList<T> {
     /// The empty list, which keeps the allocator.
-    pub fn new(alloc: Global) -> Items<T>
+    pub fn new(alloc: Global) -> ItemList<T>
         ensures { result ≡ [] }
     {
-        Items {
+        ItemList {
             kept: Vec::new(alloc),
         }
     }
@@ -60,7 +60,7 @@ impl<T: Drop> Items<T> {
     }
 }
 
-impl<T: Copy + Drop> Items<T> {
+impl<T: Copy + Drop> ItemList<T> {
     /// Appends all of these items, or after want of memory none.
     pub fn push_all(&mut self, items: &[T]) -> Result<(), AllocError>
         ensures pushed { OnOk result (self.new ≡ self.old ++ items.now) }
@@ -72,13 +72,13 @@ impl<T: Copy + Drop> Items<T> {
 }
 
 /// Moves in order.
-pub type MoveList = Items<Move>;
+pub type MoveList = ItemList<Move>;
 
 /// The bytes of a line.
-pub type LineText = Items<u8>;
+pub type LineText = ItemList<u8>;
 
 /// The bytes of a reply.
-pub type ReplyText = Items<u8>;
+pub type ReplyText = ItemList<u8>;
 
 /// One entry for each timed search that was answered, in order.
-pub type TimedList = Items<Timed>;
+pub type TimedList = ItemList<Timed>;

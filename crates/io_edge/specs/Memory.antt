@@ -1,10 +1,10 @@
 -- What sources, sinks and links in memory hold, and what a call on them does.
 use Rattle.std.specs.Prelude.{◌≡◌, ℕ, min, List, [], length, ⊤, true, false}
 use Rattle.io_edge.specs.Calls.{Calls, new_calls, next_number, next_fails, CountsCall, piece_of}
-use Rattle.io_edge.specs.declared.answers.ReadAnswer.{ReadAnswer}
-use Rattle.io_edge.specs.declared.answers.ReadAnswer.TheVariants.{Got, End, Failed as ReadFailed}
-use Rattle.io_edge.specs.declared.answers.WriteAnswer.{WriteAnswer}
-use Rattle.io_edge.specs.declared.answers.WriteAnswer.TheVariants.{Took, Failed as WriteFailed}
+use Rattle.io_edge.specs.declared.io_answers.ReadAnswer.{ReadAnswer}
+use Rattle.io_edge.specs.declared.io_answers.ReadAnswer.TheVariants.{Got, End, Failed as ReadFailed}
+use Rattle.io_edge.specs.declared.io_answers.WriteAnswer.{WriteAnswer}
+use Rattle.io_edge.specs.declared.io_answers.WriteAnswer.TheVariants.{Took, Failed as WriteFailed}
 
 -- bytes that are left, and the greatest sizes of the pieces in which they come
 pub record Supply : Type 0 where

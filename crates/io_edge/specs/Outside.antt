@@ -2,10 +2,10 @@
 use Rattle.std.specs.Prelude.{◌≡◌, ◌⊎◌, ℕ, ◌+◌, ◌-◌, ◌^◌, ◌<◌, ◌≤◌, min, List, [], ◌∷◌, ◌++◌, length, take, ⊤, None, Some}
 use Rattle.std.specs.Option.{option_map}
 use Rattle.std.specs.declared.option.Option.{Option}
-use Rattle.io_edge.specs.declared.answers.ReadAnswer.{ReadAnswer}
-use Rattle.io_edge.specs.declared.answers.ReadAnswer.TheVariants.{Got, End, Failed as ReadFailed}
-use Rattle.io_edge.specs.declared.answers.WriteAnswer.{WriteAnswer}
-use Rattle.io_edge.specs.declared.answers.WriteAnswer.TheVariants.{Took, Failed as WriteFailed}
+use Rattle.io_edge.specs.declared.io_answers.ReadAnswer.{ReadAnswer}
+use Rattle.io_edge.specs.declared.io_answers.ReadAnswer.TheVariants.{Got, End, Failed as ReadFailed}
+use Rattle.io_edge.specs.declared.io_answers.WriteAnswer.{WriteAnswer}
+use Rattle.io_edge.specs.declared.io_answers.WriteAnswer.TheVariants.{Took, Failed as WriteFailed}
 
 -- bytes where they are told, and none where they are not
 abbrev pub Told : Type 0

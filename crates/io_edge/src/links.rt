@@ -3,7 +3,7 @@ ghost use Rattle.std.specs.Prelude.{◌≡◌, ◌<◌, ◌↔◌, ◌+◌, IsTr
 ghost use Rattle.io_edge.specs.Outside.{Reads, Writes, HasCause};
 ghost use Rattle.io_edge.specs.Memory.{LinkState, ReadsInMemory, WritesInMemory, as_new};
 
-use crate::answers::{ReadAnswer, WriteAnswer};
+use crate::io_answers::{ReadAnswer, WriteAnswer};
 use crate::memory::{MemSink, MemSource};
 use crate::sides::{Link, Sink, Source};
 use std::marker::Model;

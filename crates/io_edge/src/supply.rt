@@ -4,7 +4,7 @@ ghost use Rattle.io_edge.specs.Outside.{Reads};
 ghost use Rattle.io_edge.specs.Calls.{piece_of};
 ghost use Rattle.io_edge.specs.Memory.{Supply, Gives};
 
-use crate::answers::ReadAnswer;
+use crate::io_answers::ReadAnswer;
 use std::marker::Model;
 
 /// As many of so many bytes as the piece of a call holds, by the greatest sizes in turn: the last

@@ -3,7 +3,7 @@ ghost use Rattle.std.specs.Prelude.{◌≡◌, ◌<◌, length, None, Some};
 ghost use Rattle.io_edge.specs.Outside.{no_side, Reads, one_more};
 ghost use Rattle.io_edge.specs.Memory.{SureState, Gives};
 
-use crate::answers::{ReadAnswer, WriteAnswer};
+use crate::io_answers::{ReadAnswer, WriteAnswer};
 use crate::sides::{Sink, Source};
 use crate::supply::Supply;
 use std::marker::Model;

@@ -83,13 +83,7 @@ fn held_weight<B: Cuts>(board: &B, near: &Option<Place>, side: Colour) -> u32
 }
 
 /// The place where the mask of its neighbours has one arc.
-#[tactic(
-    auto,
-    using(
-        hive_model::proofs::PlaceLemmas::wider,
-        hive_model::proofs::PlaceLemmas::wider_on_board
-    )
-)]
+#[tactic(auto, using(hive_model::proofs::PlaceLemmas::wider, hive_model::proofs::PlaceLemmas::wider_on_board))]
 fn arc_of(place: Place, mask: u8) -> Option<Place>
     requires mask { mask < 64 }
     requires within { IsWithin 9000 place }
@@ -105,13 +99,7 @@ fn arc_of(place: Place, mask: u8) -> Option<Place>
 ///
 /// No answer where the place is occupied or has fewer than two neighbours, and where a queen is
 /// surrounded then.
-#[tactic(
-    auto,
-    using(
-        hive_model::proofs::PlaceLemmas::wider,
-        hive_model::proofs::PlaceLemmas::wider_on_board
-    )
-)]
+#[tactic(auto, using(hive_model::proofs::PlaceLemmas::wider, hive_model::proofs::PlaceLemmas::wider_on_board))]
 pub fn least_after_put<B: Cuts>(
     board: &B,
     base: i32,

@@ -8,10 +8,10 @@ use Rattle.hive_model.specs.Lines.{Line as OneLine, Text, TooLong as LongLine, l
 use Rattle.line_feed.specs.Feed.{Reading, fresh, pending, SplitsOff, IsLastLine, Gives, Holds, Ends, Feeds, FeedsShort, HoldsLong, Takes, lf_after, input_limit, AddsUp}
 use Rattle.hive_model.specs.Lines.{ToldLines, NoneAhead, LongAhead}
 use Rattle.line_feed.specs.Ahead.{ahead_of, whole_ahead_of, lines_left, whole_left, Advances, AdvancesShort}
-use Rattle.line_feed.specs.declared.answers.LineAnswer.{LineAnswer}
-use Rattle.line_feed.specs.declared.answers.LineAnswer.TheVariants.{Line, TooLong, End, Failed, Full}
-use Rattle.line_feed.specs.declared.answers.ShortAnswer.{ShortAnswer}
-use Rattle.line_feed.specs.declared.answers.ShortAnswer.TheVariants.{Line as ShortLine, Long, End as ShortEnd, Failed as ShortFailed, Full as ShortFull}
+use Rattle.line_feed.specs.declared.line_answers.LineAnswer.{LineAnswer}
+use Rattle.line_feed.specs.declared.line_answers.LineAnswer.TheVariants.{Line, TooLong, End, Failed, Full}
+use Rattle.line_feed.specs.declared.line_answers.ShortAnswer.{ShortAnswer}
+use Rattle.line_feed.specs.declared.line_answers.ShortAnswer.TheVariants.{Line as ShortLine, Long, End as ShortEnd, Failed as ShortFailed, Full as ShortFull}
 use Rattle.line_feed.proofs.PartLemmas.{text_fits, long_passes, lines_long, whole_lines-open}
 
 pub lines-nil : lines [] ≡ []

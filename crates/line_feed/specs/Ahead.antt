@@ -4,10 +4,10 @@ use Rattle.std.specs.Option.{option_map}
 use Rattle.io_edge.specs.Outside.{Told}
 use Rattle.hive_model.specs.Lines.{Line as OneLine, Text, TooLong as LongLine, lines, whole_lines, ToldLines, NoneAhead, LongAhead}
 use Rattle.line_feed.specs.Feed.{Reading, pending}
-use Rattle.line_feed.specs.declared.answers.LineAnswer.{LineAnswer}
-use Rattle.line_feed.specs.declared.answers.LineAnswer.TheVariants.{Line, TooLong, End, Failed, Full}
-use Rattle.line_feed.specs.declared.answers.ShortAnswer.{ShortAnswer}
-use Rattle.line_feed.specs.declared.answers.ShortAnswer.TheVariants.{Line as ShortLine, Long, End as ShortEnd, Failed as ShortFailed, Full as ShortFull}
+use Rattle.line_feed.specs.declared.line_answers.LineAnswer.{LineAnswer}
+use Rattle.line_feed.specs.declared.line_answers.LineAnswer.TheVariants.{Line, TooLong, End, Failed, Full}
+use Rattle.line_feed.specs.declared.line_answers.ShortAnswer.{ShortAnswer}
+use Rattle.line_feed.specs.declared.line_answers.ShortAnswer.TheVariants.{Line as ShortLine, Long, End as ShortEnd, Failed as ShortFailed, Full as ShortFull}
 
 -- the lines that a reader still gives where just these bytes come: none once it has met the end
 abbrev pub lines_left : Reading → List ℕ → List OneLine

@@ -8,9 +8,9 @@ use Rattle.io_edge.specs.Outside.{Told, ToldLists, Rose, behind}
 use Rattle.io_edge.specs.Starts.{Engines}
 use Rattle.hive_model.specs.declared.pieces.Colour.TheVariants.{White, Black}
 use Rattle.match_core.specs.Setups.{FullSetup, setup_of}
-use Rattle.match_core.specs.declared.answers.Verdict.{Verdict}
+use Rattle.match_core.specs.declared.verdict.Verdict.{Verdict}
 use Rattle.hive_model.specs.Lines.{lines}
-use Rattle.match_core.specs.Standing.{Happening, Standing, start}
+use Rattle.match_core.specs.MatchState.{Happening, MatchState, start}
 use Rattle.match_core.specs.Fairness.{sent}
 use Rattle.match_core.specs.Plays.{joined}
 use Rattle.match_runner.specs.Wires.{HasFailed, IsFresh, Watch, Wire}
@@ -27,7 +27,7 @@ failed w0 w f (inl r) = elim r.higher [ inl x ↦ omega (arith, x) | inr x ↦ o
 failed w0 w f (inr r) = elim r.higher [ inl x ↦ omega (arith, x) | inr x ↦ omega (arith, x) ]
 
 -- a side that broke was counted
-broke_counted : {rose : Type 0} (t : Standing) (w0 w b0 b : Wire) → BrokeOnly t w0 w b0 b → (HasFailed w0 w → rose) → (HasFailed b0 b → rose) → IsBroke t.verdict → rose
+broke_counted : {rose : Type 0} (t : MatchState) (w0 w b0 b : Wire) → BrokeOnly t w0 w b0 b → (HasFailed w0 w → rose) → (HasFailed b0 b → rose) → IsBroke t.verdict → rose
 broke_counted t w0 w b0 b broke white black (White, e) = white (broke.white e)
 broke_counted t w0 w b0 b broke white black (Black, e) = black (broke.black e)
 
@@ -71,7 +71,7 @@ some_gained setup hs before after w0 w b0 b closes e f x y =
     let to_black = joined (sent (start setup) hs Black) in
     gains_of before after w b to_white to_black (AreSentBy setup hs) closes (from_none w0 w to_white e x) (from_none b0 b to_black f y) (record { white_got = refl; black_got = refl })
 
-up_to : (setup : FullSetup) (t : Standing) (white black : List ℕ) (w0 w b0 b : Told) (before after : Means) → ClosesTwo before.engines.sent after.engines.sent w b → w0 ≡ Some [] → b0 ≡ Some []
+up_to : (setup : FullSetup) (t : MatchState) (white black : List ℕ) (w0 w b0 b : Told) (before after : Means) → ClosesTwo before.engines.sent after.engines.sent w b → w0 ≡ Some [] → b0 ≡ Some []
     → IsUpToReplyBy setup (lines white) (lines black) t w0 w b0 b → IsUpToReply setup white black t before after
 up_to setup t white black w0 w b0 b before after closes e f m = record {
   hs = m.hs;
@@ -93,7 +93,7 @@ verdict_part full v w0 w b0 b before after white black (inr (inr (inr x))) = inr
 -- The match
 
 -- by the links' bytes
-played_by_links : (setup : FullSetup) (t : Standing) (w0 w b0 b : Wire) (r0 r : Watch) (before after : Engines) → RanLinks setup t w0 w b0 b
+played_by_links : (setup : FullSetup) (t : MatchState) (w0 w b0 b : Wire) (r0 r : Watch) (before after : Engines) → RanLinks setup t w0 w b0 b
     → (HasFailed w0 w → Rose before.engine_faults after.engine_faults) → (HasFailed b0 b → Rose before.engine_faults after.engine_faults) → ClosesTwo before.sent after.sent w.written b.written
     → (white black : List ℕ) → w0.rest ≡ Some white → b0.rest ≡ Some black → w0.written ≡ Some [] → b0.written ≡ Some []
     → IsPlayedBy setup white black t (means r0.last r0.readings before) (means r.last r.readings after)
@@ -116,7 +116,7 @@ played_by_links setup t w0 w b0 b r0 r before after ran white_counted black_coun
 }
 
 -- the match that was run, once both links are closed
-pub played_over : (setup : FullSetup) (t : Standing) (w0 w b0 b : Wire) (r0 r : Watch) (before after : Engines) → IsFresh w0.reads w0.writes → IsFresh b0.reads b0.writes → RanOver setup t w0 w b0 b r0 r
+pub played_over : (setup : FullSetup) (t : MatchState) (w0 w b0 b : Wire) (r0 r : Watch) (before after : Engines) → IsFresh w0.reads w0.writes → IsFresh b0.reads b0.writes → RanOver setup t w0 w b0 b r0 r
     → CountsEither (w.reads + w.writes) (b.reads + b.writes) before.engine_faults after.engine_faults → ClosesTwo before.sent after.sent w.written b.written
     → PlayedOver setup t w0 b0 (means r0.last r0.readings before) (means r.last r.readings after)
 played_over setup t w0 w b0 b r0 r before after wf bf ran counts closes =
@@ -136,7 +136,7 @@ played_over setup t w0 w b0 b r0 r before after wf bf ran counts closes =
     }
 
 -- the text tells the match that was played
-pub told_match : {X : Type 0} (o : Result (List ℕ) X) (setup : FullSetup) (t : Standing) (w b : Wire) (before after : Means) → IfOk o (λ text. text ≡ match_text (setup_of setup) t) → PlayedOver setup t w b before after
-    → IfOk o (λ text. (t : Standing) × (text ≡ match_text (setup_of setup) t) × PlayedOver setup t w b before after)
+pub told_match : {X : Type 0} (o : Result (List ℕ) X) (setup : FullSetup) (t : MatchState) (w b : Wire) (before after : Means) → IfOk o (λ text. text ≡ match_text (setup_of setup) t) → PlayedOver setup t w b before after
+    → IfOk o (λ text. (t : MatchState) × (text ≡ match_text (setup_of setup) t) × PlayedOver setup t w b before after)
 told_match (Ok text) setup t w b before after e p = (t, e, p)
 told_match (Err x) setup t w b before after e p = tt

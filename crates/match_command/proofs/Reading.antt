@@ -16,7 +16,7 @@ use Rattle.command_runs.specs.declared.status.Status.{Status}
 use Rattle.command_runs.specs.declared.status.Status.TheVariants.{ReadFault, SpawnFault, BadInput}
 use Rattle.command_runs.proofs.WrittenLemmas.{ends_so}
 use Rattle.match_core.specs.Setups.{FullSetup, setup_from}
-use Rattle.match_core.specs.declared.answers.Setup.{Setup}
+use Rattle.match_core.specs.declared.setup.Setup.{Setup}
 use Rattle.match_command.specs.Match.{MatchRun, MatchStarts, NoneIsOpen, Scene}
 use Rattle.match_command.specs.Reads.{ReadMatchRun, ReadScene, typed}
 

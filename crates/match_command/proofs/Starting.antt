@@ -8,10 +8,10 @@ use Rattle.command_runs.specs.declared.status.Status.{Status}
 use Rattle.command_runs.specs.declared.status.Status.TheVariants.{Done, SpawnFault}
 use Rattle.command_runs.proofs.WrittenLemmas.{ends_so}
 use Rattle.match_core.specs.Setups.{FullSetup, setup_of}
-use Rattle.match_core.specs.Standing.{Standing}
+use Rattle.match_core.specs.MatchState.{MatchState}
 use Rattle.match_runner.specs.Wires.{Wire}
 use Rattle.match_runner.specs.Runs.{IsLate}
-use Rattle.match_command.specs.Match.{AreFronts, AreSent, AreSentBy, BothStarted, Gains, IsBroke, IsPlayedBy, MatchRun, MatchStarts, Means, NoneIsOpen, Played, Scene, end_of, means}
+use Rattle.match_command.specs.Match.{AreFronts, AreSent, AreSentBy, BothStarted, Gains, IsBroke, IsPlayedBy, MatchRun, MatchStarts, Means, NoneIsOpen, PlayedByPrograms, Scene, end_of, means}
 use Rattle.match_command.specs.Texts.{match_text}
 use Rattle.match_command.specs.Wires.{ClosesTwo, PlayedOver, StartsTwo}
 
@@ -44,7 +44,7 @@ two_started (Some xs) (Some zs) w b all (Some ys, (white, xe, wr, ww), (black, y
 }
 
 -- what was played, from before the starts
-played_before : (setup : FullSetup) (white black : List ℕ) (t : Standing) (last readings : ℕ) (before between : Engines) (after : Means) → between.sent ≡ before.sent → between.engine_faults ≡ before.engine_faults
+played_before : (setup : FullSetup) (white black : List ℕ) (t : MatchState) (last readings : ℕ) (before between : Engines) (after : Means) → between.sent ≡ before.sent → between.engine_faults ≡ before.engine_faults
     → IsPlayedBy setup white black t (means last readings between) after → IsPlayedBy setup white black t (means last readings before) after
 played_before setup white black t last readings before between after sent faults by = record {
   part = record {
@@ -69,8 +69,8 @@ played_before setup white black t last readings before between after sent faults
 }
 
 -- the match of two programs, from before they were started
-played_from : (setup : FullSetup) (t : Standing) (w b : Wire) (last readings : ℕ) (before between : Engines) (after : Means) → StartsTwo before.to_come between.to_come w.rest w.written b.rest b.written → after.engines.to_come ≡ between.to_come
-    → between.sent ≡ before.sent → between.engine_faults ≡ before.engine_faults → PlayedOver setup t w b (means last readings between) after → Played setup t (means last readings before) after
+played_from : (setup : FullSetup) (t : MatchState) (w b : Wire) (last readings : ℕ) (before between : Engines) (after : Means) → StartsTwo before.to_come between.to_come w.rest w.written b.rest b.written → after.engines.to_come ≡ between.to_come
+    → between.sent ≡ before.sent → between.engine_faults ≡ before.engine_faults → PlayedOver setup t w b (means last readings between) after → PlayedByPrograms setup t (means last readings before) after
 played_from setup t w b last readings before between after starts_two stays sent faults p =
     let counted : Rose between.engine_faults after.engines.engine_faults → Rose before.engine_faults after.engines.engine_faults = λ rose. subst (λ n. Rose n after.engines.engine_faults) faults rose in
     record {
@@ -99,10 +99,10 @@ played_from setup t w b last readings before between after starts_two stays sent
 
 -- what is told of a match that was played
 abbrev pub IsTold : FullSetup → List ℕ → Means → Means → Type 0
-IsTold setup text before after = (t : Standing) × (text ≡ match_text (setup_of setup) t) × Played setup t before after
+IsTold setup text before after = (t : MatchState) × (text ≡ match_text (setup_of setup) t) × PlayedByPrograms setup t before after
 
 -- the same from before the two programs were started
-pub told_from : (setup : FullSetup) (text : List ℕ) (w b : Wire) (last readings : ℕ) (before between : Engines) (after : Means) → ((t : Standing) × (text ≡ match_text (setup_of setup) t) × PlayedOver setup t w b (means last readings between) after) → StartsTwo before.to_come between.to_come w.rest w.written b.rest b.written → after.engines.to_come ≡ between.to_come
+pub told_from : (setup : FullSetup) (text : List ℕ) (w b : Wire) (last readings : ℕ) (before between : Engines) (after : Means) → ((t : MatchState) × (text ≡ match_text (setup_of setup) t) × PlayedOver setup t w b (means last readings between) after) → StartsTwo before.to_come between.to_come w.rest w.written b.rest b.written → after.engines.to_come ≡ between.to_come
     → between.sent ≡ before.sent → between.engine_faults ≡ before.engine_faults → IsTold setup text (means last readings before) after
 told_from setup text w b last readings before between after (t, told, played) starts_two stays sent faults = (t, told, played_from setup t w b last readings before between after starts_two stays sent faults played)
 

@@ -8,11 +8,11 @@ use Rattle.hive_model.specs.Lines.{lines}
 use Rattle.command_runs.specs.declared.status.Status.{Status}
 use Rattle.command_runs.specs.declared.status.Status.TheVariants.{Done, Refused, Usage, ReadFault, WriteFault, SpawnFault, BadInput, Memory, InputFull}
 use Rattle.match_core.specs.Setups.{FullSetup, setup_of}
-use Rattle.match_core.specs.declared.answers.Stage.TheVariants.{After}
-use Rattle.match_core.specs.declared.answers.Cause.TheVariants.{Broke}
-use Rattle.match_core.specs.declared.answers.Verdict.{Verdict}
-use Rattle.match_core.specs.declared.answers.Verdict.TheVariants.{Forfeit}
-use Rattle.match_core.specs.Standing.{Standing, Happening, start, match_after}
+use Rattle.match_core.specs.declared.stage.Stage.TheVariants.{After}
+use Rattle.match_core.specs.declared.verdict.Cause.TheVariants.{Broke}
+use Rattle.match_core.specs.declared.verdict.Verdict.{Verdict}
+use Rattle.match_core.specs.declared.verdict.Verdict.TheVariants.{Forfeit}
+use Rattle.match_core.specs.MatchState.{MatchState, Happening, start, match_after}
 use Rattle.match_core.specs.Fairness.{sent}
 use Rattle.match_core.specs.Plays.{joined, match_of}
 use Rattle.match_core.specs.Feeds.{IsFront}
@@ -43,7 +43,7 @@ scene written means = record { written = written; means = means }
 -- The match of two programs
 
 -- how it stands at its end where they say this
-abbrev pub end_of : FullSetup → List ℕ → List ℕ → Standing
+abbrev pub end_of : FullSetup → List ℕ → List ℕ → MatchState
 end_of setup white black = match_after setup (match_of setup (lines white) (lines black))
 
 -- the bytes that are sent to a side in it
@@ -87,7 +87,7 @@ pub record AreSentBy (setup : FullSetup) (hs : List Happening) (to_white to_blac
 -- moves and bytes sent are those of the match of these programs up to a reply: its last line was
 -- read, and next the clock is read
 pub record IsUpToReply
-    (setup : FullSetup) (white black : List ℕ) (t : Standing) (before after : Means) : Type 0 where
+    (setup : FullSetup) (white black : List ℕ) (t : MatchState) (before after : Means) : Type 0 where
   pub hs : List Happening
   pub front : IsFront hs (match_of setup (lines white) (lines black))
   pub replied : (match_after setup hs).stage ≡ After
@@ -96,7 +96,7 @@ pub record IsUpToReply
 
 -- moves, verdict and bytes sent are those of the match of these programs
 pub record IsWhole
-    (setup : FullSetup) (white black : List ℕ) (t : Standing) (before after : Means) : Type 0 where
+    (setup : FullSetup) (white black : List ℕ) (t : MatchState) (before after : Means) : Type 0 where
   pub moves : t.moves ≡ (end_of setup white black).moves
   pub verdict : t.verdict ≡ (end_of setup white black).verdict
   pub gains : Gains before.engines.sent after.engines.sent (AreSent setup white black)
@@ -111,7 +111,7 @@ IsVerdict full verdict before after =
 -- moves and bytes sent are the first ones of the match of these programs, and the verdict is its
 -- verdict, or an answer was late, or a side broke
 pub record IsPart
-    (setup : FullSetup) (white black : List ℕ) (t : Standing) (before after : Means) : Type 0 where
+    (setup : FullSetup) (white black : List ℕ) (t : MatchState) (before after : Means) : Type 0 where
   pub moves : IsFront t.moves (end_of setup white black).moves
   pub verdict : IsVerdict (end_of setup white black).verdict t.verdict before after
   pub gains : Gains before.engines.sent after.engines.sent (AreFronts setup white black)
@@ -120,7 +120,7 @@ pub record IsPart
 -- program's failure was counted it is the whole of it, or the match up to a reply whose answer was
 -- late.
 pub record IsPlayedBy
-    (setup : FullSetup) (white black : List ℕ) (t : Standing) (before after : Means) : Type 0 where
+    (setup : FullSetup) (white black : List ℕ) (t : MatchState) (before after : Means) : Type 0 where
   pub part : IsPart setup white black t before after
   pub whole :
       ¬ Rose before.engines.engine_faults after.engines.engine_faults
@@ -134,7 +134,7 @@ pub record IsPlayedBy
 -- of the programs to come the first two were started, as white and as black, and played; no others
 -- were started
 pub record StartsTwoOf
-    (all : List (List ℕ)) (setup : FullSetup) (t : Standing) (before after : Means) : Type 0 where
+    (all : List (List ℕ)) (setup : FullSetup) (t : MatchState) (before after : Means) : Type 0 where
   pub white : List ℕ
   pub black : List ℕ
   pub others : List (List ℕ)
@@ -146,7 +146,7 @@ pub record StartsTwoOf
 -- answers the acts that were to come, by readings of the clock in their order. A side forfeits for
 -- a late answer only at its turn, where it was asked with a time and answered after this and the
 -- margin.
-pub record PlayedOut (setup : FullSetup) (t : Standing) (before after : Means) : Type 0 where
+pub record PlayedOut (setup : FullSetup) (t : MatchState) (before after : Means) : Type 0 where
   pub judged : IsJudged t
   pub same : t.setup ≡ setup
   pub readings : after.readings
@@ -157,7 +157,7 @@ pub record PlayedOut (setup : FullSetup) (t : Standing) (before after : Means) :
   pub broke : IsBroke t.verdict → Rose before.engines.engine_faults after.engines.engine_faults
 
 -- a match was played to its verdict, and stands so; and what its programs say tells what was played
-pub record Played (setup : FullSetup) (t : Standing) (before after : Means) : Type 0 where
+pub record PlayedByPrograms (setup : FullSetup) (t : MatchState) (before after : Means) : Type 0 where
   pub out : PlayedOut setup t before after
   pub programs :
       (all : List (List ℕ))
@@ -167,14 +167,14 @@ pub record Played (setup : FullSetup) (t : Standing) (before after : Means) : Ty
 -- The run
 
 -- the two lines of a match that was played were written
-pub record Tells (setup : FullSetup) (t : Standing) (before after : Scene) : Type 0 where
-  pub played : Played setup t before.means after.means
+pub record Tells (setup : FullSetup) (t : MatchState) (before after : Scene) : Type 0 where
+  pub played : PlayedByPrograms setup t before.means after.means
   pub wrote : after.written ≡ behind before.written (match_text (setup_of setup) t)
 
 -- of the two lines of a match that was played the first n bytes were written, and not all
-pub record TellsPart (setup : FullSetup) (t : Standing) (n : ℕ) (before after : Scene)
+pub record TellsPart (setup : FullSetup) (t : MatchState) (n : ℕ) (before after : Scene)
     : Type 0 where
-  pub played : Played setup t before.means after.means
+  pub played : PlayedByPrograms setup t before.means after.means
   pub cut : n < length (match_text (setup_of setup) t)
   pub wrote : after.written ≡ behind before.written (take n (match_text (setup_of setup) t))
 
@@ -196,8 +196,8 @@ pub record NotBegun (before after : Scene) : Type 0 where
 -- What was written and played where a match of two programs ends with this status. Where memory is
 -- wanting nothing was written. Five statuses are not its own.
 abbrev pub MatchRun : FullSetup → Status → Scene → Scene → Type 0
-MatchRun setup Done before after = (t : Standing) × Tells setup t before after
-MatchRun setup WriteFault before after = (t : Standing) × (n : ℕ) × TellsPart setup t n before after
+MatchRun setup Done before after = (t : MatchState) × Tells setup t before after
+MatchRun setup WriteFault before after = (t : MatchState) × (n : ℕ) × TellsPart setup t n before after
 MatchRun setup SpawnFault before after = NotBegun before after
 MatchRun setup Memory before after = after.written ≡ before.written
 MatchRun setup Refused before after = ⊥

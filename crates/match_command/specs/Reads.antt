@@ -11,7 +11,7 @@ use Rattle.command_runs.specs.OneGame.{IsAsked}
 use Rattle.command_runs.specs.declared.no_game.NoGame.{NoGame}
 use Rattle.command_runs.specs.declared.status.Status.{Status}
 use Rattle.match_core.specs.Setups.{setup_from}
-use Rattle.match_core.specs.declared.answers.Setup.{Setup}
+use Rattle.match_core.specs.declared.setup.Setup.{Setup}
 use Rattle.match_command.specs.Match.{MatchRun, MatchStarts, Scene}
 
 -- all that such a run can change: what is left to be read, and what a match of two programs can

@@ -4,12 +4,12 @@ use Rattle.hive_model.specs.declared.pieces.Colour.{Colour}
 use Rattle.hive_model.specs.declared.pieces.Colour.TheVariants.{White, Black}
 use Rattle.hive_model.specs.Fields.{state_bytes}
 use Rattle.hive_model.specs.Strings.{string_under}
-use Rattle.match_core.specs.declared.answers.Setup.{Setup}
-use Rattle.match_core.specs.declared.answers.Cause.{Cause}
-use Rattle.match_core.specs.declared.answers.Cause.TheVariants.{NotAMove, Illegal, ErrLine, Flood, LongLine, Ended, Broke, Late}
-use Rattle.match_core.specs.declared.answers.Verdict.{Verdict}
-use Rattle.match_core.specs.declared.answers.Verdict.TheVariants.{Rules, Limit, Forfeit}
-use Rattle.match_core.specs.Standing.{Standing}
+use Rattle.match_core.specs.declared.setup.Setup.{Setup}
+use Rattle.match_core.specs.declared.verdict.Cause.{Cause}
+use Rattle.match_core.specs.declared.verdict.Cause.TheVariants.{NotAMove, Illegal, ErrLine, Flood, LongLine, Ended, Broke, Late}
+use Rattle.match_core.specs.declared.verdict.Verdict.{Verdict}
+use Rattle.match_core.specs.declared.verdict.Verdict.TheVariants.{Rules, Limit, Forfeit}
+use Rattle.match_core.specs.MatchState.{MatchState}
 
 -- a byte of an engine's line as it is written: each one outside 32 to 126 as a question mark (63)
 abbrev pub shown : ℕ → ℕ
@@ -53,7 +53,7 @@ ending_text setup (Some verdict) = verdict_text setup verdict
 
 -- the game string of the moves that were played, with the outcome under the setup's rule for its
 -- state, and the verdict, each with its LF (10)
-abbrev pub match_text : Setup → Standing → List ℕ
+abbrev pub match_text : Setup → MatchState → List ℕ
 match_text setup t =
     string_under setup.repetition setup.game_type t.moves ++ 10
     ∷ (ending_text setup t.verdict ++ 10 ∷ [])

@@ -2,7 +2,7 @@
 use Rattle.std.specs.Prelude.{◌≡◌, ℕ, ◌<◌, List, [], Some}
 use Rattle.io_edge.specs.Outside.{Told, ToldLists, Rose, Starts, Collects}
 use Rattle.match_core.specs.Setups.{FullSetup}
-use Rattle.match_core.specs.Standing.{Standing}
+use Rattle.match_core.specs.MatchState.{MatchState}
 use Rattle.match_runner.specs.Wires.{Wire}
 use Rattle.match_command.specs.Match.{IsPlayedBy, Means, PlayedOut}
 
@@ -25,7 +25,7 @@ pub record CountsEither (white_faults black_faults before after : ℕ) : Type 0 
 
 -- a match was played to its end over two links that began so, and both were closed
 pub record PlayedOver
-    (setup : FullSetup) (t : Standing) (w0 b0 : Wire) (before after : Means) : Type 0 where
+    (setup : FullSetup) (t : MatchState) (w0 b0 : Wire) (before after : Means) : Type 0 where
   pub out : PlayedOut setup t before after
   pub by_links :
       (white black : List ℕ)

@@ -3,7 +3,7 @@ ghost use Rattle.std.specs.Prelude.{◌≡◌, ◌<◌, ◌≤◌, length, map, 
 ghost use Rattle.io_edge.specs.Outside.{Told};
 ghost use Rattle.match_core.specs.Setups.{setup_from, setup_plain};
 ghost use Rattle.match_core.specs.Keeps.{IsSetup};
-ghost use Rattle.match_core.specs.Standing.{Standing};
+ghost use Rattle.match_core.specs.MatchState.{MatchState};
 ghost use Rattle.match_runner.specs.Wires.{wire, IsFresh};
 ghost use Rattle.match_command.specs.Texts.{match_text};
 ghost use Rattle.match_command.specs.Match.{MatchRun, MatchStarts, StartsNone, means, scene};
@@ -34,7 +34,7 @@ fn play_and_close<P: Spawner, C: Clock, G: Game + Drop>(
     requires kind { (G.course game).game_type ≡ setup.game_type }
     requires white_fresh { IsFresh (P.Engine.read_faults white) (P.Engine.write_faults white) }
     requires black_fresh { IsFresh (P.Engine.read_faults black) (P.Engine.write_faults black) }
-    ensures played { IfOk result (λ text. (t : Standing)
+    ensures played { IfOk result (λ text. (t : MatchState)
         × (text ≡ match_text setup t)
         × PlayedOver (setup_from setup (G.course game).made) t
         (wire (P.Engine.rest white) (P.Engine.written white)

@@ -7,14 +7,14 @@ use Rattle.hive_model.specs.Boards.{IsBoard}
 use Rattle.move_text.proofs.MoveLaws.{denotes_of}
 use Rattle.rule_laws.proofs.Games.{games_sound}
 use Rattle.match_core.specs.Setups.{FullSetup}
-use Rattle.match_core.specs.declared.answers.Task.{Task}
-use Rattle.match_core.specs.declared.answers.Task.TheVariants.{Greet, Begin, Ask, Tell}
-use Rattle.match_core.specs.declared.answers.Stage.{Stage}
-use Rattle.match_core.specs.declared.answers.Stage.TheVariants.{Send, Read, Before, After, Finished}
-use Rattle.match_core.specs.declared.answers.Act.TheVariants.{Read as ReadAct}
+use Rattle.match_core.specs.declared.stage.Task.{Task}
+use Rattle.match_core.specs.declared.stage.Task.TheVariants.{Greet, Begin, Ask, Tell}
+use Rattle.match_core.specs.declared.stage.Stage.{Stage}
+use Rattle.match_core.specs.declared.stage.Stage.TheVariants.{Send, Read, Before, After, Finished}
+use Rattle.match_core.specs.declared.stage.Act.TheVariants.{Read as ReadAct}
 use Rattle.match_core.specs.Keeps.{IsFullSetup, HasNext}
 use Rattle.match_core.specs.Texts.{read_of}
-use Rattle.match_core.specs.Standing.{Standing, Happening, start, match_after, next, after_all, act_at, answers, position_now}
+use Rattle.match_core.specs.MatchState.{MatchState, Happening, start, match_after, next, after_all, act_at, answers, position_now}
 use Rattle.match_core.specs.Fairness.{Answering, Reply, nothing_heard, heard, first_of, MovesOn, MatchesAreFair}
 use Rattle.match_core.specs.Plays.{left, IsBounded, IsPliesAt, given, reply_to, left_of_white, left_of_black, is_finished, happens, match_of, MatchesEnd, MatchesAreJudged}
 use Rattle.match_core.proofs.Fair.{reads, ReadsOn}
@@ -35,13 +35,13 @@ reply_answers Before asked white black e = refl
 reply_answers After asked white black e = refl
 reply_answers Finished asked white black e = absurd (cc)
 
-abbrev EndsSo : Standing → List Happening → Type 0
+abbrev EndsSo : MatchState → List Happening → Type 0
 EndsSo s hs = Answering s hs × (is_finished (after_all s hs).stage ≡ true)
 
-ends_none : (n : ℕ) (s : Standing) (white black : List Mark) → is_finished s.stage ≡ true → EndsSo s (happens n s white black)
+ends_none : (n : ℕ) (s : MatchState) (white black : List Mark) → is_finished s.stage ≡ true → EndsSo s (happens n s white black)
 ends_none n s white black e = rw (happens_none n s white black e) (tt, e)
 
-happens_ends : (n : ℕ) (s : Standing) (white black : List Mark) → IsBounded s → left s ≤ n → EndsSo s (happens n s white black)
+happens_ends : (n : ℕ) (s : MatchState) (white black : List Mark) → IsBounded s → left s ≤ n → EndsSo s (happens n s white black)
 happens_ends zero s white black b less =
     elim (is_finished s.stage) as (λ x. is_finished s.stage ≡ x → EndsSo s (happens zero s white black)) [
       | true ↦ λ e. ends_none zero s white black e
@@ -64,7 +64,7 @@ matches_end setup white black is =
     let r = happens_ends (left (start setup)) (start setup) white black (bounded_start setup is) (omega arith) in
     (r.0, (finish_is (match_after setup (match_of setup white black)).stage).1 r.1)
 
-pub bounded_along : (hs : List Happening) (s : Standing) → IsBounded s → Answering s hs → IsBounded (after_all s hs)
+pub bounded_along : (hs : List Happening) (s : MatchState) → IsBounded s → Answering s hs → IsBounded (after_all s hs)
 bounded_along [] s b a = b
 bounded_along (h ∷ hs) s b (t, a) = bounded_along hs (next s h) (matches_near_their_end s h b t).0 a
 
@@ -86,7 +86,7 @@ open_few Before given plies limit h e = omega (arith, h)
 open_few After given plies limit h e = omega (arith, h)
 open_few Finished given plies limit h e = absurd (cc)
 
-accepts : (s t : Standing) (reply : Reply) → IsBoard (position_now s).board → ReadsOn s t reply → MovesOn s t reply
+accepts : (s t : MatchState) (reply : Reply) → IsBoard (position_now s).board → ReadsOn s t reply → MovesOn s t reply
 unfolding read_of
 accepts s t reply board (inl e) = inl e
 accepts s t reply board (inr (m, e, r)) = inr (m, e, record { side = r.side; denotes = denotes_of s.setup.game_type (position_now s).board (first_of reply.lines) m board r.denotes; legal = r.legal })

@@ -5,17 +5,17 @@ use Rattle.hive_model.specs.declared.places.Move.{Move}
 use Rattle.hive_model.specs.Legal.{is_over_state}
 use Rattle.hive_model.specs.Courses.{is_listed}
 use Rattle.move_text.specs.declared.faults.MoveFault.{MoveFault}
-use Rattle.match_core.specs.declared.answers.Level.{Level}
-use Rattle.match_core.specs.declared.answers.Level.TheVariants.{Depth, Time}
-use Rattle.match_core.specs.declared.answers.Task.{Task}
-use Rattle.match_core.specs.declared.answers.Task.TheVariants.{Greet, Begin, Ask, Tell}
-use Rattle.match_core.specs.declared.answers.Stage.{Stage}
-use Rattle.match_core.specs.declared.answers.Stage.TheVariants.{Send, Read, Before, After, Finished}
-use Rattle.match_core.specs.declared.answers.Cause.TheVariants.{NotAMove, Illegal, ErrLine, Flood, LongLine, Ended as EndedCause, Broke as BrokeCause, Late}
-use Rattle.match_core.specs.declared.answers.Verdict.{Verdict}
-use Rattle.match_core.specs.declared.answers.Verdict.TheVariants.{Rules, Limit, Forfeit}
+use Rattle.match_core.specs.declared.setup.Level.{Level}
+use Rattle.match_core.specs.declared.setup.Level.TheVariants.{Depth, Time}
+use Rattle.match_core.specs.declared.stage.Task.{Task}
+use Rattle.match_core.specs.declared.stage.Task.TheVariants.{Greet, Begin, Ask, Tell}
+use Rattle.match_core.specs.declared.stage.Stage.{Stage}
+use Rattle.match_core.specs.declared.stage.Stage.TheVariants.{Send, Read, Before, After, Finished}
+use Rattle.match_core.specs.declared.verdict.Cause.TheVariants.{NotAMove, Illegal, ErrLine, Flood, LongLine, Ended as EndedCause, Broke as BrokeCause, Late}
+use Rattle.match_core.specs.declared.verdict.Verdict.{Verdict}
+use Rattle.match_core.specs.declared.verdict.Verdict.TheVariants.{Rules, Limit, Forfeit}
 use Rattle.match_core.specs.Replies.{is_ok, is_error}
-use Rattle.match_core.specs.Standing.{Standing, Happening, Sent, Line, TooLong, Ended, Broke, Reading, next, act_at, answers, position_now, go, finish, ask, judge, judge_read, decide, accept, first_line, at_stage, is_late, keep, reply_ends, hear, question, forfeit, answered, outcome_of}
+use Rattle.match_core.specs.MatchState.{MatchState, Happening, Sent, Line, TooLong, Ended, Broke, Reading, next, act_at, answers, position_now, go, finish, ask, judge, judge_read, decide, accept, first_line, at_stage, is_late, keep, reply_ends, hear, question, forfeit, answered, outcome_of}
 use Rattle.std.proofs.Common.{◌≡◌, ◌<◌, ◌≤◌, ℕ, ◌+◌, ◌-◌, ◌*◌, false, cond, List, [], ◌∷◌, ◌++◌, length, refl, length-append, IsTrue, arith, Result, Ok, Err}
 use Rattle.match_core.specs.Keeps.{HasNext}
 use Rattle.match_core.specs.Texts.{read_of}
@@ -23,52 +23,52 @@ use Rattle.match_core.specs.Plays.{left, left_at, IsPliesAt, IsBounded, MatchesN
 use Rattle.match_core.proofs.Fair.{either}
 
 -- t is a place nearer to the end than n
-pub record Falls (t : Standing) (n : ℕ) : Type 0 where
+pub record Falls (t : MatchState) (n : ℕ) : Type 0 where
   pub bounded : IsBounded t
   pub less : left_at t.stage (t.setup.limit - length t.moves) t.count < n
 
-ends_at : (s : Standing) (v : Verdict) (n : ℕ) → 0 < n → Falls (finish s v) n
+ends_at : (s : MatchState) (v : Verdict) (n : ℕ) → 0 < n → Falls (finish s v) n
 ends_at s v n h = record { bounded = record { plies = tt; count = omega arith; judged = refl }; less = h }
 
-asks_at : (s : Standing) (level : Level) (side : Colour) (n : ℕ) → length s.moves < s.setup.limit → 8008 * (s.setup.limit - length s.moves) + 3003 < n → false ≡ has_verdict s.verdict → Falls (go s (question level side)) n
+asks_at : (s : MatchState) (level : Level) (side : Colour) (n : ℕ) → length s.moves < s.setup.limit → 8008 * (s.setup.limit - length s.moves) + 3003 < n → false ≡ has_verdict s.verdict → Falls (go s (question level side)) n
 asks_at s (Depth depth) side n h l v = record { bounded = record { plies = h; count = omega arith; judged = v }; less = omega arith }
 asks_at s (Time budget margin) side n h l v = record { bounded = record { plies = h; count = omega arith; judged = v }; less = omega arith }
 
-asks : (s : Standing) (n : ℕ) → length s.moves < s.setup.limit → 8008 * (s.setup.limit - length s.moves) + 3003 < n → false ≡ has_verdict s.verdict → Falls (ask s) n
+asks : (s : MatchState) (n : ℕ) → length s.moves < s.setup.limit → 8008 * (s.setup.limit - length s.moves) + 3003 < n → false ≡ has_verdict s.verdict → Falls (ask s) n
 unfolding ask
 asks s n h l v = asks_at s s.setup.level (position_now s).side n h l v
 
 le_false : (m n : ℕ) → nat_le m n ≡ false → n < m
 le_false m n e = grind arith
 
-decides : (s : Standing) (n : ℕ) → 8008 * (s.setup.limit - length s.moves) + 3003 < n → false ≡ has_verdict s.verdict → Falls (decide s) n
+decides : (s : MatchState) (n : ℕ) → 8008 * (s.setup.limit - length s.moves) + 3003 < n → false ≡ has_verdict s.verdict → Falls (decide s) n
 unfolding decide
 decides s n l v =
-    let P : Standing → Type 0 = λ t. Falls t n in
+    let P : MatchState → Type 0 = λ t. Falls t n in
     either P (is_over_state (outcome_of s)) (finish s (Rules (outcome_of s))) (cond (nat_le s.setup.limit (length s.moves)) (finish s Limit) (ask s))
     (λ e. ends_at s (Rules (outcome_of s)) n (omega arith))
     (λ e. either P (nat_le s.setup.limit (length s.moves)) (finish s Limit) (ask s) (λ f. ends_at s Limit n (omega arith)) (λ f. asks s n (le_false s.setup.limit (length s.moves) f) l v))
 
-accepts : (s : Standing) (m : Move) (n : ℕ) → length s.moves < s.setup.limit → 8008 * (s.setup.limit - length s.moves) ≤ n → false ≡ has_verdict s.verdict → Falls (accept s m) n
+accepts : (s : MatchState) (m : Move) (n : ℕ) → length s.moves < s.setup.limit → 8008 * (s.setup.limit - length s.moves) ≤ n → false ≡ has_verdict s.verdict → Falls (accept s m) n
 accepts s m n h l v =
     let e : length (s.moves ++ m ∷ []) ≡ length s.moves + 1 = length-append s.moves (m ∷ []) in
     record { bounded = record { plies = omega (arith, e, h); count = omega arith; judged = v }; less = omega (arith, e, h, l) }
 
-judges_as : (s : Standing) (line : List ℕ) (o : Result Move MoveFault) (n : ℕ) → length s.moves < s.setup.limit → 8008 * (s.setup.limit - length s.moves) ≤ n → false ≡ has_verdict s.verdict → Falls (judge_read s line o) n
+judges_as : (s : MatchState) (line : List ℕ) (o : Result Move MoveFault) (n : ℕ) → length s.moves < s.setup.limit → 8008 * (s.setup.limit - length s.moves) ≤ n → false ≡ has_verdict s.verdict → Falls (judge_read s line o) n
 judges_as s line (Err fault) n h l v = ends_at s (Forfeit (position_now s).side (NotAMove line)) n (omega arith)
 judges_as s line (Ok m) n h l v =
-    let P : Standing → Type 0 = λ t. Falls t n in
+    let P : MatchState → Type 0 = λ t. Falls t n in
     either P (is_listed (position_now s) m) (accept s m) (forfeit s (position_now s).side (Illegal line)) (λ e. accepts s m n h l v) (λ e. ends_at s (Forfeit (position_now s).side (Illegal line)) n (omega arith))
 
-judges : (s : Standing) (n : ℕ) → length s.moves < s.setup.limit → 8008 * (s.setup.limit - length s.moves) ≤ n → false ≡ has_verdict s.verdict → Falls (judge s) n
+judges : (s : MatchState) (n : ℕ) → length s.moves < s.setup.limit → 8008 * (s.setup.limit - length s.moves) ≤ n → false ≡ has_verdict s.verdict → Falls (judge s) n
 unfolding judge
 judges s n h l v = judges_as s (first_line s) (read_of s.setup.game_type (position_now s).board (first_line s)) n h l v
 
-answers_as : (s : Standing) (level : Level) (n : ℕ) → s.count ≤ 1000 → length s.moves < s.setup.limit → 8008 * (s.setup.limit - length s.moves) < n → false ≡ has_verdict s.verdict → Falls (answered s level) n
+answers_as : (s : MatchState) (level : Level) (n : ℕ) → s.count ≤ 1000 → length s.moves < s.setup.limit → 8008 * (s.setup.limit - length s.moves) < n → false ≡ has_verdict s.verdict → Falls (answered s level) n
 answers_as s (Depth depth) n c h l v = judges s n h (omega arith) v
 answers_as s (Time budget margin) n c h l v = record { bounded = record { plies = h; count = c; judged = v }; less = l }
 
-ends_reply : (s : Standing) (job : Task) (side : Colour) → s.count ≤ 1000 → HasNext job (length s.setup.begin) (length s.moves) s.setup.limit → false ≡ has_verdict s.verdict → Falls (reply_ends s job side) (left_at (Read job side) (s.setup.limit - length s.moves) s.count)
+ends_reply : (s : MatchState) (job : Task) (side : Colour) → s.count ≤ 1000 → HasNext job (length s.setup.begin) (length s.moves) s.setup.limit → false ≡ has_verdict s.verdict → Falls (reply_ends s job side) (left_at (Read job side) (s.setup.limit - length s.moves) s.count)
 ends_reply s Greet White c h v = record { bounded = record { plies = h; count = omega arith; judged = v }; less = omega arith }
 ends_reply s Greet Black c h v = record { bounded = record { plies = h; count = omega arith; judged = v }; less = omega arith }
 ends_reply s Begin White c h v = record { bounded = record { plies = h; count = omega arith; judged = v }; less = omega arith }
@@ -102,10 +102,10 @@ one_line_less job side d c h = let r = reads_from job side d in let e = r.left c
 sent_less : (job : Task) (side : Colour) (d c : ℕ) → left_at (Read job side) d 0 < left_at (Send job side) d c
 sent_less job side d c = let r = reads_from job side d in let e = r.left 0 in let before = r.before c in omega (arith, e, before)
 
-hears : (s : Standing) (job : Task) (side : Colour) (line : List ℕ) → s.count ≤ 1000 → HasNext job (length s.setup.begin) (length s.moves) s.setup.limit → false ≡ has_verdict s.verdict → Falls (hear s job side line) (left_at (Read job side) (s.setup.limit - length s.moves) s.count)
+hears : (s : MatchState) (job : Task) (side : Colour) (line : List ℕ) → s.count ≤ 1000 → HasNext job (length s.setup.begin) (length s.moves) s.setup.limit → false ≡ has_verdict s.verdict → Falls (hear s job side line) (left_at (Read job side) (s.setup.limit - length s.moves) s.count)
 hears s job side line c h v =
     let n : ℕ = left_at (Read job side) (s.setup.limit - length s.moves) s.count in
-    let P : Standing → Type 0 = λ t. Falls t n in
+    let P : MatchState → Type 0 = λ t. Falls t n in
     let some : 0 < n = some_left job side (s.setup.limit - length s.moves) s.count c in
     either P (is_ok line) (reply_ends s job side) (cond (is_error line) (forfeit s side (ErrLine line)) (cond (nat_le 1000 s.count) (forfeit s side (Flood 1001)) (keep s (Read job side) line)))
     (λ e. ends_reply s job side c h v)
@@ -116,7 +116,7 @@ hears s job side line c h v =
     (λ k. let few : s.count < 1000 = le_false 1000 s.count k in
     record { bounded = record { plies = h; count = omega (arith, few); judged = v }; less = one_line_less job side (s.setup.limit - length s.moves) s.count few })))
 
-falls_at : (stage : Stage) (s : Standing) (h : Happening) → s.count ≤ 1000 → IsPliesAt stage (length s.setup.begin) (length s.moves) s.setup.limit → is_finished stage ≡ has_verdict s.verdict → IsTrue (answers (act_at stage) h) → Falls (at_stage s stage h) (left_at stage (s.setup.limit - length s.moves) s.count)
+falls_at : (stage : Stage) (s : MatchState) (h : Happening) → s.count ≤ 1000 → IsPliesAt stage (length s.setup.begin) (length s.moves) s.setup.limit → is_finished stage ≡ has_verdict s.verdict → IsTrue (answers (act_at stage) h) → Falls (at_stage s stage h) (left_at stage (s.setup.limit - length s.moves) s.count)
 falls_at (Send job side) s Sent c p v w = record {
   bounded = record { plies = p; count = omega arith; judged = v };
   less = sent_less job side (s.setup.limit - length s.moves) s.count;
@@ -140,7 +140,7 @@ falls_at Before s TooLong c p v w = absurd (cc)
 falls_at Before s Ended c p v w = absurd (cc)
 falls_at After s (Reading at) c p v w =
     let n : ℕ = 8008 * (s.setup.limit - length s.moves) in
-    let P : Standing → Type 0 = λ t. Falls t n in
+    let P : MatchState → Type 0 = λ t. Falls t n in
     either P (is_late s at) (forfeit s (position_now s).side (Late s.asked at)) (judge s) (λ e. ends_at s (Forfeit (position_now s).side (Late s.asked at)) n (omega (arith, p))) (λ e. judges s n p (omega arith) v)
 falls_at After s Sent c p v w = absurd (cc)
 falls_at After s Broke c p v w = absurd (cc)

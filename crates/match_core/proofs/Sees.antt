@@ -9,10 +9,10 @@ use Rattle.game_text.specs.declared.seen.Seen.{Seen}
 use Rattle.game_text.specs.Seen.{Sees}
 use Rattle.game_text.proofs.SeenLaws.{seen_few, sees_on}
 use Rattle.game_text.proofs.WriteLaws.{taken_size}
-use Rattle.match_core.specs.declared.answers.Task.{Task}
-use Rattle.match_core.specs.declared.answers.Task.TheVariants.{Greet, Begin, Ask, Tell}
-use Rattle.match_core.specs.declared.answers.Stage.{Stage}
-use Rattle.match_core.specs.declared.answers.Stage.TheVariants.{Send, Read, Before, After, Finished}
+use Rattle.match_core.specs.declared.stage.Task.{Task}
+use Rattle.match_core.specs.declared.stage.Task.TheVariants.{Greet, Begin, Ask, Tell}
+use Rattle.match_core.specs.declared.stage.Stage.{Stage}
+use Rattle.match_core.specs.declared.stage.Stage.TheVariants.{Send, Read, Before, After, Finished}
 use Rattle.match_core.specs.Keeps.{SeesBefore, SeesFor, SeesAt, IsTold, IsTelling, IsNotTold, IsSettled}
 
 -- where no move is being told, the keys are those of all positions

@@ -9,9 +9,9 @@ use Rattle.hive_model.specs.Positions.{opening}
 use Rattle.hive_model.specs.Legal.{state, is_over_state}
 use Rattle.hive_model.specs.Keys.{KeyParts, key}
 use Rattle.hive_model.specs.Repetition.{same_board, count_same, keys, times, ends_as, outcome_under}
-use Rattle.match_core.specs.declared.answers.Verdict.TheVariants.{Rules, Limit}
+use Rattle.match_core.specs.declared.verdict.Verdict.TheVariants.{Rules, Limit}
 use Rattle.match_core.specs.Setups.{FullSetup}
-use Rattle.match_core.specs.Standing.{Standing, ask, decide, finish, outcome_of}
+use Rattle.match_core.specs.MatchState.{MatchState, ask, decide, finish, outcome_of}
 use Rattle.match_core.specs.Fairness.{StandsFrom, PlainMatchesAsk}
 
 -- no list with an item is empty
@@ -48,7 +48,7 @@ open_start false t = refl
 open_start true t = ap (λ b. is_over_state (ends_as b (state (opening t)))) (one_key (key (opening t)))
 
 -- where the game is not over and its limit not reached, it goes on
-goes_on : (b c : Bool) (x y z : Standing) → b ≡ false → c ≡ false → cond b x (cond c y z) ≡ z
+goes_on : (b c : Bool) (x y z : MatchState) → b ≡ false → c ≡ false → cond b x (cond c y z) ≡ z
 goes_on true c x y z e f = absurd (cc)
 goes_on false true x y z e f = absurd (cc)
 goes_on false false x y z e f = refl

@@ -6,13 +6,13 @@ use Rattle.hive_model.specs.declared.pieces.Colour.TheVariants.{White, Black}
 use Rattle.hive_model.specs.declared.places.Move.{Move}
 use Rattle.hive_model.specs.Positions.{Position, opening}
 use Rattle.hive_model.specs.Games.{after, replay, AreLegal}
-use Rattle.match_core.specs.declared.answers.Setup.{Setup}
+use Rattle.match_core.specs.declared.setup.Setup.{Setup}
 use Rattle.match_core.specs.Setups.{FullSetup, setup_plain, IsBegin}
-use Rattle.match_core.specs.declared.answers.Task.TheVariants.{Greet, Begin, Ask, Tell}
-use Rattle.match_core.specs.declared.answers.Stage.{Stage}
-use Rattle.match_core.specs.declared.answers.Stage.TheVariants.{Send, Read, Before, After, Finished}
+use Rattle.match_core.specs.declared.stage.Task.TheVariants.{Greet, Begin, Ask, Tell}
+use Rattle.match_core.specs.declared.stage.Stage.{Stage}
+use Rattle.match_core.specs.declared.stage.Stage.TheVariants.{Send, Read, Before, After, Finished}
 use Rattle.match_core.specs.Texts.{tell_line}
-use Rattle.match_core.specs.Standing.{Standing, Happening, Sent, Line, TooLong, Ended, Broke, Reading, start, match_after, next}
+use Rattle.match_core.specs.MatchState.{MatchState, Happening, Sent, Line, TooLong, Ended, Broke, Reading, start, match_after, next}
 use Rattle.match_core.specs.Fairness.{Answering, Heard, nothing_heard, heard_at, sent_at, told_at, told, is_telling, telling_lines, tell_lines, StandsFrom, first_position, IsFair, IsPlainFair}
 use Rattle.match_core.proofs.Sees.{taken_back}
 use Rattle.match_core.proofs.Fair.{Good, ToldAt, steps, goes, good_start, told_some}
@@ -31,7 +31,7 @@ one_more p moves before tw m made known =
 none : (p : Position) (tw : List Move) → tell_lines p (tw ++ []) ≡ tell_lines p tw ++ []
 none p tw = ap (tell_lines p) (append-nil tw) ∙ sym (append-nil (tell_lines p tw))
 
-abbrev Telling : Stage → Standing → Happening → Colour → List Move → Type 0
+abbrev Telling : Stage → MatchState → Happening → Colour → List Move → Type 0
 Telling stage s h to known =
     tell_lines (opening s.setup.game_type) (known ++ told_at stage h to) ≡ tell_lines (opening s.setup.game_type) known ++ cond (is_telling stage) (sent_at s stage h to) []
 
@@ -44,7 +44,7 @@ known_more : (to : Colour) (tw tb : List Move) (more : Colour → List Move) →
 known_more White tw tb more = refl
 known_more Black tw tb more = refl
 
-tells_at : (stage : Stage) (s : Standing) (h : Happening) (to : Colour) (tw tb : List Move) → ToldAt stage s.moves tw tb → Telling stage s h to (known_of to tw tb)
+tells_at : (stage : Stage) (s : MatchState) (h : Happening) (to : Colour) (tw tb : List Move) → ToldAt stage s.moves tw tb → Telling stage s h to (known_of to tw tb)
 tells_at (Send Greet side) s h to tw tb t = none _ _
 tells_at (Send Begin side) s h to tw tb t = none _ _
 tells_at (Send Ask side) s h to tw tb t = none _ _
@@ -63,7 +63,7 @@ tells_at After s h to tw tb t = none _ _
 tells_at Finished s h to tw tb t = none _ _
 
 -- one event more, in front of those that follow
-in_front : (s : Standing) (h : Happening) (hs : List Happening) (to : Colour) (known : List Move) → (next s h).setup ≡ s.setup → Telling s.stage s h to known
+in_front : (s : MatchState) (h : Happening) (hs : List Happening) (to : Colour) (known : List Move) → (next s h).setup ≡ s.setup → Telling s.stage s h to known
     → tell_lines (opening (next s h).setup.game_type) ((known ++ told_at s.stage h to) ++ told (next s h) hs to)
     ≡ tell_lines (opening (next s h).setup.game_type) (known ++ told_at s.stage h to) ++ telling_lines (next s h) hs to
     → tell_lines (opening s.setup.game_type) (known ++ told s (h ∷ hs) to) ≡ tell_lines (opening s.setup.game_type) known ++ telling_lines s (h ∷ hs) to
@@ -75,7 +75,7 @@ in_front s h hs to known same now later =
     ∙ ap (λ (r : List (List ℕ)). r ++ telling_lines (next s h) hs to) now
     ∙ append_assoc (tell_lines (opening s.setup.game_type) known) (cond (is_telling s.stage) (sent_at s s.stage h to) []) (telling_lines (next s h) hs to)
 
-tells : (hs : List Happening) (s : Standing) (k : Heard) (to : Colour) (tw tb : List Move) → Good s k tw tb → Answering s hs
+tells : (hs : List Happening) (s : MatchState) (k : Heard) (to : Colour) (tw tb : List Move) → Good s k tw tb → Answering s hs
     → tell_lines (opening s.setup.game_type) (known_of to tw tb ++ told s hs to) ≡ tell_lines (opening s.setup.game_type) (known_of to tw tb) ++ telling_lines s hs to
 tells [] s k to tw tb g a = none (opening s.setup.game_type) (known_of to tw tb)
 tells (h ∷ hs) s k to tw tb g (w, a) =

@@ -9,18 +9,18 @@ use Rattle.hive_model.specs.Positions.{Position, opening}
 use Rattle.hive_model.specs.Games.{after, replay, IsGame}
 use Rattle.hive_model.specs.Repetition.{outcome_under, StandsUnder}
 use Rattle.hive_model.specs.Legal.{is_over_state, moves as legal_moves}
-use Rattle.match_core.specs.declared.answers.Setup.{Setup}
+use Rattle.match_core.specs.declared.setup.Setup.{Setup}
 use Rattle.match_core.specs.Setups.{FullSetup, setup_plain, IsBegin}
-use Rattle.match_core.specs.declared.answers.Task.TheVariants.{Greet, Begin, Ask, Tell}
-use Rattle.match_core.specs.declared.answers.Stage.{Stage}
-use Rattle.match_core.specs.declared.answers.Stage.TheVariants.{Send, Read, Before, After, Finished}
+use Rattle.match_core.specs.declared.stage.Task.TheVariants.{Greet, Begin, Ask, Tell}
+use Rattle.match_core.specs.declared.stage.Stage.{Stage}
+use Rattle.match_core.specs.declared.stage.Stage.TheVariants.{Send, Read, Before, After, Finished}
 use Rattle.match_core.specs.Replies.{is_ok}
 use Rattle.match_core.specs.Keeps.{IsFullSetup}
 use Rattle.match_core.specs.Texts.{tell_line}
-use Rattle.match_core.specs.Standing.{Standing, Happening, Sent, Line, TooLong, Ended, Broke, Reading, start, match_after, next, act_at, answers, ask, decide, line_for, position_now}
+use Rattle.match_core.specs.MatchState.{MatchState, Happening, Sent, Line, TooLong, Ended, Broke, Reading, start, match_after, next, act_at, answers, ask, decide, line_for, position_now}
 
 -- each of these answers the act to come
-abbrev pub Answering : Standing → List Happening → Type 0
+abbrev pub Answering : MatchState → List Happening → Type 0
 Answering s [] = Unit {0}
 Answering s (h ∷ hs) = IsTrue (answers (act_at s.stage) h) × Answering (next s h) hs
 
@@ -32,7 +32,7 @@ is_side Black White = false
 is_side Black Black = true
 
 -- the line that an event sends to a side
-abbrev pub sent_at : Standing → Stage → Happening → Colour → List (List ℕ)
+abbrev pub sent_at : MatchState → Stage → Happening → Colour → List (List ℕ)
 sent_at s (Send job side) Sent to = cond (is_side side to) (line_for s job ∷ []) []
 sent_at s (Send job side) (Line bytes) to = []
 sent_at s (Send job side) TooLong to = []
@@ -45,7 +45,7 @@ sent_at s After h to = []
 sent_at s Finished h to = []
 
 -- the lines that were sent to a side
-abbrev pub sent : Standing → List Happening → Colour → List (List ℕ)
+abbrev pub sent : MatchState → List Happening → Colour → List (List ℕ)
 sent s [] to = []
 sent s (h ∷ hs) to = sent_at s s.stage h to ++ sent (next s h) hs to
 
@@ -66,7 +66,7 @@ told_at After h to = []
 told_at Finished h to = []
 
 -- the moves that a side was told
-abbrev pub told : Standing → List Happening → Colour → List Move
+abbrev pub told : MatchState → List Happening → Colour → List Move
 told s [] to = []
 told s (h ∷ hs) to = told_at s.stage h to ++ told (next s h) hs to
 
@@ -82,7 +82,7 @@ is_telling After = false
 is_telling Finished = false
 
 -- those of the lines that were sent to a side that tell it a move
-abbrev pub telling_lines : Standing → List Happening → Colour → List (List ℕ)
+abbrev pub telling_lines : MatchState → List Happening → Colour → List (List ℕ)
 telling_lines s [] to = []
 telling_lines s (h ∷ hs) to =
     cond (is_telling s.stage) (sent_at s s.stage h to) [] ++ telling_lines (next s h) hs to
@@ -128,7 +128,7 @@ heard_at After k h = k
 heard_at Finished k h = k
 
 -- what was heard after all that happened
-abbrev pub heard : Standing → Heard → List Happening → Heard
+abbrev pub heard : MatchState → Heard → List Happening → Heard
 heard s k [] = k
 heard s k (h ∷ hs) = heard (next s h) (heard_at s.stage k h) hs
 
@@ -139,13 +139,13 @@ first_of (line ∷ lines) = line
 
 -- a move is accepted: it is legal, and is what the first line of the last whole reply, which the
 -- side to move gave, denotes
-pub record Accepts (s : Standing) (reply : Reply) (m : Move) : Type 0 where
+pub record Accepts (s : MatchState) (reply : Reply) (m : Move) : Type 0 where
   pub side : reply.side ≡ (position_now s).side
   pub denotes : Denotes s.setup.game_type (position_now s).board (first_of reply.lines) m
   pub legal : IsOn (legal_moves (position_now s)) m
 
 -- an event leaves the moves, or accepts one
-abbrev pub MovesOn : Standing → Standing → Reply → Type 0
+abbrev pub MovesOn : MatchState → MatchState → Reply → Type 0
 MovesOn s t reply =
     (t.moves ≡ s.moves) ⊎ ((m : Move) × (t.moves ≡ s.moves ++ m ∷ []) × Accepts s reply m)
 
@@ -201,4 +201,4 @@ pub record MatchesAreFair : Type 0 where
 -- before the first move of a match that may have a move, the side to move is asked once both sides
 -- were told to begin
 abbrev pub PlainMatchesAsk : Type 0
-PlainMatchesAsk = (s : Standing) → s.moves ≡ [] → 1 ≤ s.setup.limit → decide s ≡ ask s
+PlainMatchesAsk = (s : MatchState) → s.moves ≡ [] → 1 ≤ s.setup.limit → decide s ≡ ask s

@@ -3,13 +3,13 @@ use Rattle.std.specs.Prelude.{◌≡◌, ℕ, Bool, true, false, List, [], ◌�
 use Rattle.std.specs.Option.{option_map}
 use Rattle.hive_model.specs.declared.pieces.Colour.{Colour}
 use Rattle.hive_model.specs.Lines.{Line as Mark, Text, ToldLines, NoneAhead, LongAhead}
-use Rattle.match_core.specs.declared.answers.Stage.{Stage}
-use Rattle.match_core.specs.declared.answers.Stage.TheVariants.{Send, Read, Before, After, Finished}
+use Rattle.match_core.specs.declared.stage.Stage.{Stage}
+use Rattle.match_core.specs.declared.stage.Stage.TheVariants.{Send, Read, Before, After, Finished}
 use Rattle.hive_model.specs.declared.pieces.Colour.TheVariants.{White, Black}
 use Rattle.match_core.specs.Setups.{FullSetup}
-use Rattle.match_core.specs.declared.answers.Act.TheVariants.{Finish}
+use Rattle.match_core.specs.declared.stage.Act.TheVariants.{Finish}
 use Rattle.match_core.specs.Keeps.{IsFullSetup}
-use Rattle.match_core.specs.Standing.{Standing, Happening, Sent, Line, TooLong, Ended, Broke, Reading, next, is_late, after_all, start, match_after, act_at}
+use Rattle.match_core.specs.MatchState.{MatchState, Happening, Sent, Line, TooLong, Ended, Broke, Reading, next, is_late, after_all, start, match_after, act_at}
 use Rattle.match_core.specs.Fairness.{is_side, sent, Answering}
 use Rattle.match_core.specs.Plays.{match_of}
 
@@ -37,13 +37,13 @@ FeedsAt After h to old new = new ≡ old
 FeedsAt Finished h to old new = new ≡ old
 
 -- all that happened took just these lines of a side
-abbrev pub Feeds : Standing → List Happening → Colour → ToldLines → ToldLines → Type 0
+abbrev pub Feeds : MatchState → List Happening → Colour → ToldLines → ToldLines → Type 0
 Feeds s [] to old new = new ≡ old
 Feeds s (h ∷ hs) to old new =
     (mid : ToldLines) × FeedsAt s.stage h to old mid × Feeds (next s h) hs to mid new
 
 -- an event is no fault, and no answer is late
-abbrev pub IsInTime : Stage → Standing → Happening → Type 0
+abbrev pub IsInTime : Stage → MatchState → Happening → Type 0
 IsInTime After s (Reading at) = is_late s at ≡ false
 IsInTime After s Sent = Unit {0}
 IsInTime After s (Line bytes) = Unit {0}
@@ -61,16 +61,16 @@ IsInTime Before s h = Unit {0}
 IsInTime Finished s h = Unit {0}
 
 -- no event is a fault, and no answer is late
-abbrev pub AreInTime : Standing → List Happening → Type 0
+abbrev pub AreInTime : MatchState → List Happening → Type 0
 AreInTime s [] = Unit {0}
 AreInTime s (h ∷ hs) = IsInTime s.stage s h × AreInTime (next s h) hs
 
 -- the match, but for the moment at which the last question was asked
-abbrev pub with_asked : Standing → ℕ → Standing
+abbrev pub with_asked : MatchState → ℕ → MatchState
 with_asked s asked = record s { asked = asked }
 
 -- t and fs are s and hs, but for readings of the clock
-pub record AreSame (s : Standing) (hs : List Happening) (t : Standing)
+pub record AreSame (s : MatchState) (hs : List Happening) (t : MatchState)
     (fs : List Happening) : Type 0 where
   pub asked : ℕ
   pub match : after_all t fs ≡ with_asked (after_all s hs) asked

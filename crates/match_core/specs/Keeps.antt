@@ -4,18 +4,18 @@ use Rattle.hive_model.specs.Courses.{Course, without_last}
 use Rattle.hive_model.specs.Lines.{greatest_line}
 use Rattle.game_text.specs.declared.seen.Seen.{Seen}
 use Rattle.game_text.specs.Seen.{Sees}
-use Rattle.match_core.specs.declared.answers.Setup.{Setup}
+use Rattle.match_core.specs.declared.setup.Setup.{Setup}
 use Rattle.match_core.specs.Setups.{FullSetup, setup_of, IsBegin}
-use Rattle.match_core.specs.declared.answers.Level.{Level}
-use Rattle.match_core.specs.declared.answers.Level.TheVariants.{Depth, Time}
-use Rattle.match_core.specs.declared.answers.Task.{Task}
-use Rattle.match_core.specs.declared.answers.Task.TheVariants.{Greet, Begin, Ask, Tell}
-use Rattle.match_core.specs.declared.answers.Stage.{Stage}
-use Rattle.match_core.specs.declared.answers.Stage.TheVariants.{Send, Read, Before, After, Finished}
-use Rattle.match_core.specs.declared.answers.Event.{Event}
-use Rattle.match_core.specs.declared.answers.Event.TheVariants.{Sent, Line, TooLong, Ended, Broke, Reading}
+use Rattle.match_core.specs.declared.setup.Level.{Level}
+use Rattle.match_core.specs.declared.setup.Level.TheVariants.{Depth, Time}
+use Rattle.match_core.specs.declared.stage.Task.{Task}
+use Rattle.match_core.specs.declared.stage.Task.TheVariants.{Greet, Begin, Ask, Tell}
+use Rattle.match_core.specs.declared.stage.Stage.{Stage}
+use Rattle.match_core.specs.declared.stage.Stage.TheVariants.{Send, Read, Before, After, Finished}
+use Rattle.match_core.specs.declared.stage.Event.{Event}
+use Rattle.match_core.specs.declared.stage.Event.TheVariants.{Sent, Line, TooLong, Ended, Broke, Reading}
 use Rattle.match_core.specs.Texts.{most_sent, begin_line}
-use Rattle.match_core.specs.Standing.{Standing, line_for}
+use Rattle.match_core.specs.MatchState.{MatchState, line_for}
 
 -- A depth is from 1 to 64. A time is whole seconds, at most 99 hours, 59 minutes and 59 seconds; a
 -- margin is at most an hour.
@@ -42,14 +42,14 @@ HasNext Ask given plies limit = plies < limit
 HasNext (Tell told) given plies limit = plies ≤ limit
 
 -- the line of a task is ready; that to begin with is kept apart
-abbrev pub IsReady : Task → Standing → List ℕ → Type 0
+abbrev pub IsReady : Task → MatchState → List ℕ → Type 0
 IsReady Greet s text = text ≡ line_for s Greet
 IsReady Begin s text = Unit {0}
 IsReady Ask s text = text ≡ line_for s Ask
 IsReady (Tell told) s text = text ≡ line_for s (Tell told)
 
 -- the line to send is ready, and the game may go on
-abbrev pub FitsStage : Stage → Standing → List ℕ → Type 0
+abbrev pub FitsStage : Stage → MatchState → List ℕ → Type 0
 FitsStage (Send job side) s text =
     IsReady job s text
     × HasNext job (length s.setup.begin) (length s.moves) s.setup.limit
@@ -114,7 +114,7 @@ IsSettled Finished = ⊥
 -- The game is the one of the moves, those given among them, with room for the rest, and the rule of
 -- third repetition is the setup's. The keys of the positions are kept, and the line to send is
 -- ready.
-pub record IsReferee (s : Standing) (game : Course) (seen : Seen) (begin text : List ℕ)
+pub record IsReferee (s : MatchState) (game : Course) (seen : Seen) (begin text : List ℕ)
     (given room : ℕ) : Type 0 where
   pub kind : game.game_type ≡ s.setup.game_type
   pub same : game.made ≡ s.moves
@@ -139,7 +139,7 @@ IsSend After = ⊥
 IsSend Finished = ⊥
 
 -- the line to send
-abbrev pub line_at : Standing → Stage → List ℕ
+abbrev pub line_at : MatchState → Stage → List ℕ
 line_at s (Send job side) = line_for s job
 line_at s (Read job side) = []
 line_at s Before = []

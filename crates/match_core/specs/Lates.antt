@@ -2,16 +2,16 @@
 use Rattle.std.specs.Prelude.{◌≡◌, ℕ, ◌+◌, ◌<◌, List, Some}
 use Rattle.hive_model.specs.declared.pieces.Colour.{Colour}
 use Rattle.match_core.specs.Setups.{FullSetup}
-use Rattle.match_core.specs.declared.answers.Level.TheVariants.{Time}
-use Rattle.match_core.specs.declared.answers.Cause.TheVariants.{Late}
-use Rattle.match_core.specs.declared.answers.Verdict.TheVariants.{Forfeit}
-use Rattle.match_core.specs.Standing.{Standing, Happening, start, match_after, position_now}
+use Rattle.match_core.specs.declared.setup.Level.TheVariants.{Time}
+use Rattle.match_core.specs.declared.verdict.Cause.TheVariants.{Late}
+use Rattle.match_core.specs.declared.verdict.Verdict.TheVariants.{Forfeit}
+use Rattle.match_core.specs.MatchState.{MatchState, Happening, start, match_after, position_now}
 use Rattle.match_core.specs.Fairness.{Answering}
 
 -- The answer of a side was late by these two readings of the clock: it was this side's turn, sides
 -- are asked with a time, and it answered after the time and the margin had passed since it was
 -- asked.
-pub record IsLateBy (t : Standing) (side : Colour) (asked answered : ℕ) : Type 0 where
+pub record IsLateBy (t : MatchState) (side : Colour) (asked answered : ℕ) : Type 0 where
   pub turn : side ≡ (position_now t).side
   pub budget : ℕ
   pub margin : ℕ
@@ -19,7 +19,7 @@ pub record IsLateBy (t : Standing) (side : Colour) (asked answered : ℕ) : Type
   pub over : asked + budget + margin < answered
 
 -- where a side forfeits for a late answer, its answer was late by the readings that are told
-abbrev pub LatesAreLate : Standing → Type 0
+abbrev pub LatesAreLate : MatchState → Type 0
 LatesAreLate t =
     (side : Colour) (asked answered : ℕ)
     → t.verdict ≡ Some (Forfeit side (Late asked answered))

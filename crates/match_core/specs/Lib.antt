@@ -1,7 +1,7 @@
 pub mod Setups
 pub mod Replies
 pub mod Texts
-pub mod Standing
+pub mod MatchState
 pub mod Keeps
 pub mod Fairness
 pub mod Plays

@@ -3,13 +3,13 @@ use Rattle.std.specs.Prelude.{◌≡◌, ◌↔◌, ℕ, zero, suc, ◌+◌, ◌
 use Rattle.hive_model.specs.declared.pieces.Colour.TheVariants.{White, Black}
 use Rattle.hive_model.specs.Lines.{Line as Mark, Text, TooLong as LongMark}
 use Rattle.match_core.specs.Setups.{FullSetup}
-use Rattle.match_core.specs.declared.answers.Task.TheVariants.{Greet, Begin, Ask, Tell}
-use Rattle.match_core.specs.declared.answers.Stage.{Stage}
-use Rattle.match_core.specs.declared.answers.Stage.TheVariants.{Send, Read, Before, After, Finished}
-use Rattle.match_core.specs.declared.answers.Verdict.{Verdict}
-use Rattle.match_core.specs.declared.answers.Act.TheVariants.{Finish}
+use Rattle.match_core.specs.declared.stage.Task.TheVariants.{Greet, Begin, Ask, Tell}
+use Rattle.match_core.specs.declared.stage.Stage.{Stage}
+use Rattle.match_core.specs.declared.stage.Stage.TheVariants.{Send, Read, Before, After, Finished}
+use Rattle.match_core.specs.declared.verdict.Verdict.{Verdict}
+use Rattle.match_core.specs.declared.stage.Act.TheVariants.{Finish}
 use Rattle.match_core.specs.Keeps.{HasNext, IsFullSetup}
-use Rattle.match_core.specs.Standing.{Standing, Happening, Sent, Line, TooLong, Ended, Reading, start, match_after, next, act_at, answers}
+use Rattle.match_core.specs.MatchState.{MatchState, Happening, Sent, Line, TooLong, Ended, Reading, start, match_after, next, act_at, answers}
 use Rattle.match_core.specs.Fairness.{Answering}
 
 -- a match that is over has a verdict
@@ -46,7 +46,7 @@ left_at (Read (Tell m) Black) d c = 8008 * d + 4004 - c
 left_at Finished d c = 0
 
 -- at most so many events are left
-unfoldable pub left : Standing → ℕ
+unfoldable pub left : MatchState → ℕ
 left s = left_at s.stage (s.setup.limit - length s.moves) s.count
 
 -- the side's next line or mark, or else the end
@@ -88,7 +88,7 @@ left_of_black After black = black
 left_of_black Finished black = black
 
 -- what happens from here on, in at most n events, where the sides' lines are these
-unfoldable pub happens : ℕ → Standing → List Mark → List Mark → List Happening
+unfoldable pub happens : ℕ → MatchState → List Mark → List Mark → List Happening
 happens zero s white black = []
 happens (suc n) s white black =
     cond (is_finished s.stage) []
@@ -115,7 +115,7 @@ IsPliesAt Finished given plies limit = Unit {0}
 
 -- a match at its place: it has no more moves and lines than it may have, and is over exactly where
 -- it has a verdict
-pub record IsBounded (s : Standing) : Type 0 where
+pub record IsBounded (s : MatchState) : Type 0 where
   pub plies : IsPliesAt s.stage (length s.setup.begin) (length s.moves) s.setup.limit
   pub count : s.count ≤ 1000
   pub judged : is_finished s.stage ≡ has_verdict s.verdict
@@ -123,7 +123,7 @@ pub record IsBounded (s : Standing) : Type 0 where
 -- an event that answers the act brings the match nearer to its end
 abbrev pub MatchesNearTheirEnd : Type 0
 MatchesNearTheirEnd =
-    (s : Standing) (h : Happening) → IsBounded s → IsTrue (answers (act_at s.stage) h)
+    (s : MatchState) (h : Happening) → IsBounded s → IsTrue (answers (act_at s.stage) h)
     → IsBounded (next s h) × (left (next s h) < left s)
 
 -- the match of two sides is one to its end: what happens in it answers the acts, and is not cut

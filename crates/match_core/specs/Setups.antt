@@ -4,8 +4,8 @@ use Rattle.hive_model.specs.declared.pieces.GameType.{GameType}
 use Rattle.hive_model.specs.declared.places.Move.{Move}
 use Rattle.hive_model.specs.Games.{IsGame}
 use Rattle.hive_model.specs.Courses.{most_plies}
-use Rattle.match_core.specs.declared.answers.Setup.{Setup}
-use Rattle.match_core.specs.declared.answers.Level.{Level}
+use Rattle.match_core.specs.declared.setup.Setup.{Setup}
+use Rattle.match_core.specs.declared.setup.Level.{Level}
 
 -- a setup, and the moves of the game that the match begins with: none where it begins with the
 -- opening

@@ -11,8 +11,8 @@ use Rattle.hive_model.specs.Strings.{string}
 use Rattle.move_text.specs.declared.faults.MoveFault.{MoveFault}
 use Rattle.move_text.specs.Moves.{move_of}
 use Rattle.move_text.specs.Readers.{time_bytes}
-use Rattle.match_core.specs.declared.answers.Level.{Level}
-use Rattle.match_core.specs.declared.answers.Level.TheVariants.{Depth, Time}
+use Rattle.match_core.specs.declared.setup.Level.{Level}
+use Rattle.match_core.specs.declared.setup.Level.TheVariants.{Depth, Time}
 use Rattle.match_core.specs.Setups.{FullSetup}
 
 -- the move that a line denotes on a board, or why it denotes none

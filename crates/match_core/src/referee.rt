@@ -12,15 +12,17 @@ ghost use Rattle.std.specs.Prelude.{
   MatchOption,
 };
 ghost use Rattle.match_core.specs.Setups.{setup_from, setup_plain, IsBegin};
-ghost use Rattle.match_core.specs.Standing.{start, next, happening, act_at, answers};
+ghost use Rattle.match_core.specs.MatchState.{start, next, happening, act_at, answers};
 ghost use Rattle.match_core.specs.Keeps.{IsSetup, IsSend, line_at, IsEarly};
 ghost use Rattle.hive_model.specs.Lines.{greatest_line};
 
-mod judging;
 mod steps;
+mod whole_replies;
 
-use crate::answers::{Act, Event, Setup, Stage, Task, Verdict};
+use crate::setup::Setup;
+use crate::stage::{Act, Event, Stage, Task};
 use crate::texts::begin_line;
+use crate::verdict::Verdict;
 use game_text::{Seen, seen_under};
 use hive_model::{Colour, Game, LineText, ReplyText};
 use std::alloc::{AllocError, Global};
@@ -54,15 +56,15 @@ pub struct Referee<G: Game> {
 impl<G: Game> Model for Referee<G> {
     ghost use Rattle.std.specs.Prelude.{take, vec_capacity};
     ghost use Rattle.match_core.specs.Setups.{setup_from};
-    ghost use Rattle.match_core.specs.Standing.{Standing, standing};
+    ghost use Rattle.match_core.specs.MatchState.{MatchState, match_state};
     ghost use Rattle.match_core.specs.Keeps.{IsReferee};
 
-    ghost Value = { Standing };
+    ghost Value = { MatchState };
 
-    ghost view = { λ r. standing (setup_from r.setup (take r.given (G.course r.game).made))
+    ghost view = { λ r. match_state (setup_from r.setup (take r.given (G.course r.game).made))
         (G.course r.game).made r.stage r.asked r.first r.count r.verdict };
 
-    ghost invariant = { λ r. IsReferee (standing
+    ghost invariant = { λ r. IsReferee (match_state
         (setup_from r.setup (take r.given (G.course r.game).made)) (G.course r.game).made r.stage
         r.asked r.first r.count r.verdict)
         (G.course r.game) r.seen r.begin r.text.items r.given (vec_capacity r.text) };
@@ -171,7 +173,7 @@ impl<G: Game + Drop> Referee<G> {
     ///
     /// Only a line can want memory, for a copy or the key of a position that is kept. Then the
     /// match stands as before.
-    #[tactic(auto, unfolding(crate::specs::Standing::next))]
+    #[tactic(auto, unfolding(crate::specs::MatchState::next))]
     pub fn step(&mut self, event: Event, line: &[u8]) -> Result<(), AllocError>
         requires answers { IsTrue (answers (act_at self.old.stage) (happening event line.now)) }
         requires early { IsEarly event }

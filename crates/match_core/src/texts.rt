@@ -8,7 +8,7 @@ ghost use Rattle.match_core.specs.Setups.{setup_from};
 ghost use Rattle.match_core.specs.Keeps.{IsLevel};
 ghost use Rattle.match_core.specs.Texts.{read_of, begin_line, ask_line, tell_line, most_sent};
 
-use crate::answers::{Level, Setup};
+use crate::setup::{Level, Setup};
 use game_text::write_game;
 use hive_model::{Game, Move, ReplyText};
 use itoa::Buffer;

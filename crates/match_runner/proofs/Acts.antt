@@ -4,11 +4,11 @@ use Rattle.std.proofs.lemmas.List.{append-nil}
 use Rattle.io_edge.specs.Outside.{Told, behind, HasCause}
 use Rattle.hive_model.specs.declared.pieces.Colour.{Colour}
 use Rattle.hive_model.specs.declared.pieces.Colour.TheVariants.{White, Black}
-use Rattle.match_core.specs.declared.answers.Task.{Task}
-use Rattle.match_core.specs.declared.answers.Stage.{Stage}
-use Rattle.match_core.specs.declared.answers.Stage.TheVariants.{Send, Read, Before, After, Finished as FinishedStage}
-use Rattle.match_core.specs.declared.answers.Act.TheVariants.{Read as ReadAct, Clock}
-use Rattle.match_core.specs.Standing.{Standing, Happening, Reading, act_at, answers}
+use Rattle.match_core.specs.declared.stage.Task.{Task}
+use Rattle.match_core.specs.declared.stage.Stage.{Stage}
+use Rattle.match_core.specs.declared.stage.Stage.TheVariants.{Send, Read, Before, After, Finished as FinishedStage}
+use Rattle.match_core.specs.declared.stage.Act.TheVariants.{Read as ReadAct, Clock}
+use Rattle.match_core.specs.MatchState.{MatchState, Happening, Reading, act_at, answers}
 use Rattle.match_core.specs.Fairness.{sent_at}
 use Rattle.hive_model.specs.Lines.{ToldLines}
 use Rattle.match_core.specs.Feeds.{FeedsAt}
@@ -37,17 +37,17 @@ feeds_clock Before h to o e = refl
 feeds_clock After h to o e = refl
 feeds_clock FinishedStage h to o e = refl
 
-clock_sends : (stage : Stage) (s : Standing) (h : Happening) (to : Colour) → act_at stage ≡ Clock → sent_at s stage h to ≡ []
+clock_sends : (stage : Stage) (s : MatchState) (h : Happening) (to : Colour) → act_at stage ≡ Clock → sent_at s stage h to ≡ []
 clock_sends (Send job side) s h to e = absurd (cc)
 clock_sends (Read job side) s h to e = refl
 clock_sends Before s h to e = refl
 clock_sends After s h to e = refl
 clock_sends FinishedStage s h to e = refl
 
-looked_side : (s : Standing) (h : Happening) (to : Colour) (o : Side) → act_at s.stage ≡ Clock → OneSide s h to o o
+looked_side : (s : MatchState) (h : Happening) (to : Colour) (o : Side) → act_at s.stage ≡ Clock → OneSide s h to o o
 looked_side s h to o e = record { feeds = feeds_clock s.stage h to o.ahead e; stays = λ x. refl; wrote = rw (clock_sends s.stage s h to e) (behind-nil o.written) }
 
-pub looked : (turn : Acted) (s t : Standing) (w b : Side) (c0 c : ℕ) → act_at s.stage ≡ Clock → Looks turn s t c0 c → Turns turn s t w w b b c0 c
+pub looked : (turn : Acted) (s t : MatchState) (w b : Side) (c0 c : ℕ) → act_at s.stage ≡ Clock → Looks turn s t c0 c → Turns turn s t w w b b c0 c
 looked GoOn s t w b c0 c e (f, g) = (Reading c, record { time = (g, refl); next_is = f; fits = rw e refl; sound = refl; white = looked_side s (Reading c) White w e; black = looked_side s (Reading c) Black b e })
 looked (ReadFault at) s t w b c0 c e g = absurd g
 looked (WriteFault at) s t w b c0 c e g = absurd g

@@ -7,19 +7,19 @@ use Rattle.hive_model.specs.Legal.{is_over_state}
 use Rattle.hive_model.specs.Courses.{is_listed}
 use Rattle.move_text.specs.declared.faults.MoveFault.{MoveFault}
 use Rattle.match_core.specs.Setups.{FullSetup}
-use Rattle.match_core.specs.declared.answers.Level.{Level}
-use Rattle.match_core.specs.declared.answers.Level.TheVariants.{Depth, Time}
-use Rattle.match_core.specs.declared.answers.Task.{Task}
-use Rattle.match_core.specs.declared.answers.Task.TheVariants.{Greet, Begin, Ask, Tell}
-use Rattle.match_core.specs.declared.answers.Stage.{Stage}
-use Rattle.match_core.specs.declared.answers.Stage.TheVariants.{Send, Read, Before, After, Finished}
-use Rattle.match_core.specs.declared.answers.Cause.TheVariants.{NotAMove, Illegal, ErrLine, Flood, LongLine, Ended as EndedCause, Broke as BrokeCause, Late}
-use Rattle.match_core.specs.declared.answers.Verdict.{Verdict}
-use Rattle.match_core.specs.declared.answers.Verdict.TheVariants.{Rules, Limit, Forfeit}
+use Rattle.match_core.specs.declared.setup.Level.{Level}
+use Rattle.match_core.specs.declared.setup.Level.TheVariants.{Depth, Time}
+use Rattle.match_core.specs.declared.stage.Task.{Task}
+use Rattle.match_core.specs.declared.stage.Task.TheVariants.{Greet, Begin, Ask, Tell}
+use Rattle.match_core.specs.declared.stage.Stage.{Stage}
+use Rattle.match_core.specs.declared.stage.Stage.TheVariants.{Send, Read, Before, After, Finished}
+use Rattle.match_core.specs.declared.verdict.Cause.TheVariants.{NotAMove, Illegal, ErrLine, Flood, LongLine, Ended as EndedCause, Broke as BrokeCause, Late}
+use Rattle.match_core.specs.declared.verdict.Verdict.{Verdict}
+use Rattle.match_core.specs.declared.verdict.Verdict.TheVariants.{Rules, Limit, Forfeit}
 use Rattle.match_core.specs.Replies.{is_ok, is_error}
-use Rattle.match_core.specs.Standing.{Standing, Happening, Sent, Line, TooLong, Ended, Broke, Reading, start, next, after_all, act_at, position_now, finish, ask, judge, judge_read, decide, accept, first_line, at_stage, is_late, keep, reply_ends, hear, forfeit, answered, outcome_of}
+use Rattle.match_core.specs.MatchState.{MatchState, Happening, Sent, Line, TooLong, Ended, Broke, Reading, start, next, after_all, act_at, position_now, finish, ask, judge, judge_read, decide, accept, first_line, at_stage, is_late, keep, reply_ends, hear, forfeit, answered, outcome_of}
 use Rattle.match_core.specs.Texts.{read_of}
-use Rattle.match_core.specs.declared.answers.Act.TheVariants.{Send as SendAct, Read as ReadAct}
+use Rattle.match_core.specs.declared.stage.Act.TheVariants.{Send as SendAct, Read as ReadAct}
 use Rattle.std.proofs.Common.{◌≡◌, ◌⊎◌, inl, inr, ℕ, false, cond, List, [], ◌∷◌, length, refl, ap, sym, ◌∙◌, Some, subst, Ok, Err}
 use Rattle.std.specs.declared.result.Result.{Result}
 use Rattle.std.proofs.lemmas.Option.{same_Some}
@@ -33,35 +33,35 @@ use Rattle.match_runner.specs.Runs.{AreSound, FinalRun, Cut, BrokeOnly}
 abbrev IsUnbroken : Option Verdict → Type 0
 IsUnbroken v = (side : Colour) → v ≡ Some (Forfeit side BrokeCause) → ⊥
 
-finishes : (s : Standing) (v : Verdict) → ((side : Colour) → v ≡ Forfeit side BrokeCause → ⊥) → IsUnbroken (finish s v).verdict
+finishes : (s : MatchState) (v : Verdict) → ((side : Colour) → v ≡ Forfeit side BrokeCause → ⊥) → IsUnbroken (finish s v).verdict
 finishes s v f = λ side e. f side (same_Some _ _ e)
 
-asks : (s : Standing) → IsUnbroken s.verdict → IsUnbroken (ask s).verdict
+asks : (s : MatchState) → IsUnbroken s.verdict → IsUnbroken (ask s).verdict
 unfolding ask
 asks s u = u
 
-decides : (s : Standing) → IsUnbroken s.verdict → IsUnbroken (decide s).verdict
+decides : (s : MatchState) → IsUnbroken s.verdict → IsUnbroken (decide s).verdict
 unfolding decide
 decides s u =
-    let P : Standing → Type 0 = λ t. IsUnbroken t.verdict in
+    let P : MatchState → Type 0 = λ t. IsUnbroken t.verdict in
     either P (is_over_state (outcome_of s)) (finish s (Rules (outcome_of s))) (cond (nat_le s.setup.limit (length s.moves)) (finish s Limit) (ask s)) (λ e. finishes s (Rules (outcome_of s)) (λ side f. cc))
     (λ e. either P (nat_le s.setup.limit (length s.moves)) (finish s Limit) (ask s) (λ f. finishes s Limit (λ side g. cc)) (λ f. asks s u))
 
-judges_as : (s : Standing) (line : List ℕ) (o : Result Move MoveFault) → IsUnbroken s.verdict → IsUnbroken (judge_read s line o).verdict
+judges_as : (s : MatchState) (line : List ℕ) (o : Result Move MoveFault) → IsUnbroken s.verdict → IsUnbroken (judge_read s line o).verdict
 judges_as s line (Err fault) u = finishes s (Forfeit (position_now s).side (NotAMove line)) (λ side f. cc)
 judges_as s line (Ok m) u =
-    let P : Standing → Type 0 = λ t. IsUnbroken t.verdict in
+    let P : MatchState → Type 0 = λ t. IsUnbroken t.verdict in
     either P (is_listed (position_now s) m) (accept s m) (forfeit s (position_now s).side (Illegal line)) (λ e. u) (λ e. finishes s (Forfeit (position_now s).side (Illegal line)) (λ side f. cc))
 
-judges : (s : Standing) → IsUnbroken s.verdict → IsUnbroken (judge s).verdict
+judges : (s : MatchState) → IsUnbroken s.verdict → IsUnbroken (judge s).verdict
 unfolding judge
 judges s u = judges_as s (first_line s) (read_of s.setup.game_type (position_now s).board (first_line s)) u
 
-answers_as : (s : Standing) (level : Level) → IsUnbroken s.verdict → IsUnbroken (answered s level).verdict
+answers_as : (s : MatchState) (level : Level) → IsUnbroken s.verdict → IsUnbroken (answered s level).verdict
 answers_as s (Depth depth) u = judges s u
 answers_as s (Time budget margin) u = u
 
-ends_reply : (s : Standing) (job : Task) (side : Colour) → IsUnbroken s.verdict → IsUnbroken (reply_ends s job side).verdict
+ends_reply : (s : MatchState) (job : Task) (side : Colour) → IsUnbroken s.verdict → IsUnbroken (reply_ends s job side).verdict
 ends_reply s Greet White u = u
 ends_reply s Greet Black u = u
 ends_reply s Begin White u = u
@@ -70,15 +70,15 @@ ends_reply s Ask side u = answers_as s s.setup.level u
 ends_reply s (Tell m) White u = u
 ends_reply s (Tell m) Black u = decides s u
 
-hears : (s : Standing) (job : Task) (side : Colour) (line : List ℕ) → IsUnbroken s.verdict → IsUnbroken (hear s job side line).verdict
+hears : (s : MatchState) (job : Task) (side : Colour) (line : List ℕ) → IsUnbroken s.verdict → IsUnbroken (hear s job side line).verdict
 hears s job side line u =
-    let P : Standing → Type 0 = λ t. IsUnbroken t.verdict in
+    let P : MatchState → Type 0 = λ t. IsUnbroken t.verdict in
     either P (is_ok line) (reply_ends s job side) (cond (is_error line) (forfeit s side (ErrLine line)) (cond (nat_le 1000 s.count) (forfeit s side (Flood 1001)) (keep s (Read job side) line)))
     (λ e. ends_reply s job side u)
     (λ e. either P (is_error line) (forfeit s side (ErrLine line)) (cond (nat_le 1000 s.count) (forfeit s side (Flood 1001)) (keep s (Read job side) line)) (λ f. finishes s (Forfeit side (ErrLine line)) (λ at g. cc))
     (λ f. either P (nat_le 1000 s.count) (forfeit s side (Flood 1001)) (keep s (Read job side) line) (λ k. finishes s (Forfeit side (Flood 1001)) (λ at g. cc)) (λ k. u)))
 
-goes_at : (stage : Stage) (s : Standing) (h : Happening) → is_broke h ≡ false → IsUnbroken s.verdict → IsUnbroken (at_stage s stage h).verdict
+goes_at : (stage : Stage) (s : MatchState) (h : Happening) → is_broke h ≡ false → IsUnbroken s.verdict → IsUnbroken (at_stage s stage h).verdict
 goes_at (Send job side) s Sent v u = u
 goes_at (Send job side) s Broke v u = absurd (cc)
 goes_at (Send job side) s (Line bytes) v u = u
@@ -98,7 +98,7 @@ goes_at Before s (Line bytes) v u = u
 goes_at Before s TooLong v u = u
 goes_at Before s Ended v u = u
 goes_at After s (Reading at) v u =
-    let P : Standing → Type 0 = λ t. IsUnbroken t.verdict in
+    let P : MatchState → Type 0 = λ t. IsUnbroken t.verdict in
     either P (is_late s at) (forfeit s (position_now s).side (Late s.asked at)) (judge s) (λ e. finishes s (Forfeit (position_now s).side (Late s.asked at)) (λ side g. cc)) (λ e. judges s u)
 goes_at After s Sent v u = u
 goes_at After s Broke v u = u
@@ -107,14 +107,14 @@ goes_at After s TooLong v u = u
 goes_at After s Ended v u = u
 goes_at Finished s h v u = u
 
-unbroken : (hs : List Happening) (s : Standing) → AreSound hs → IsUnbroken s.verdict → IsUnbroken (after_all s hs).verdict
+unbroken : (hs : List Happening) (s : MatchState) → AreSound hs → IsUnbroken s.verdict → IsUnbroken (after_all s hs).verdict
 unbroken [] s v u = u
-unbroken (h ∷ hs) s (v, w) u = unbroken hs (next s h) w (subst (λ (x : Standing). IsUnbroken x.verdict) (sym (next_is s h)) (goes_at s.stage s h v u))
+unbroken (h ∷ hs) s (v, w) u = unbroken hs (next s h) w (subst (λ (x : MatchState). IsUnbroken x.verdict) (sym (next_is s h)) (goes_at s.stage s h v u))
 
 none_yet : (setup : FullSetup) → IsUnbroken (start setup).verdict
 none_yet setup = λ side e. cc
 
-verdict_broke : (stage : Stage) (s : Standing) (side : Colour) → (act_at stage ≡ SendAct side) ⊎ (act_at stage ≡ ReadAct side) → (at_stage s stage Broke).verdict ≡ Some (Forfeit side BrokeCause)
+verdict_broke : (stage : Stage) (s : MatchState) (side : Colour) → (act_at stage ≡ SendAct side) ⊎ (act_at stage ≡ ReadAct side) → (at_stage s stage Broke).verdict ≡ Some (Forfeit side BrokeCause)
 verdict_broke (Send job White) s White (inl e) = refl
 verdict_broke (Send job Black) s Black (inl e) = refl
 verdict_broke (Send job White) s Black (inl e) = absurd (cc)
@@ -132,15 +132,15 @@ verdict_broke After s side (inr e) = absurd (cc)
 verdict_broke Finished s side (inl e) = absurd (cc)
 verdict_broke Finished s side (inr e) = absurd (cc)
 
-pub cut_verdict : (side : Colour) (setup : FullSetup) (t : Standing) (w0 w b0 b : Side) (r0 r : Watch) → Cut side setup t w0 w b0 b r0 r → t.verdict ≡ Some (Forfeit side BrokeCause)
-cut_verdict side setup t w0 w b0 b r0 r (s, w1, b1, run, br, act) = ap (λ (x : Standing). x.verdict) (br.next_is ∙ next_is s Broke) ∙ verdict_broke s.stage s side act
+pub cut_verdict : (side : Colour) (setup : FullSetup) (t : MatchState) (w0 w b0 b : Side) (r0 r : Watch) → Cut side setup t w0 w b0 b r0 r → t.verdict ≡ Some (Forfeit side BrokeCause)
+cut_verdict side setup t w0 w b0 b r0 r (s, w1, b1, run, br, act) = ap (λ (x : MatchState). x.verdict) (br.next_is ∙ next_is s Broke) ∙ verdict_broke s.stage s side act
 
-pub broke_final : (setup : FullSetup) (t : Standing) (w0 w b0 b : Wire) (r0 r : Watch) → FinalRun setup t w0 w b0 b r0 r → BrokeOnly t w0 w b0 b
+pub broke_final : (setup : FullSetup) (t : MatchState) (w0 w b0 b : Wire) (r0 r : Watch) → FinalRun setup t w0 w b0 b r0 r → BrokeOnly t w0 w b0 b
 broke_final setup t w0 w b0 b r0 r final =
     elim final.ran.ended [
       | inl whole ↦
           let (hs, run) = whole.0 in
-          let u : IsUnbroken t.verdict = subst (λ (x : Standing). IsUnbroken x.verdict) (sym run.here) (unbroken hs (start setup) run.sound (none_yet setup)) in
+          let u : IsUnbroken t.verdict = subst (λ (x : MatchState). IsUnbroken x.verdict) (sym run.here) (unbroken hs (start setup) run.sound (none_yet setup)) in
           record { white = λ e. absurd (u White e); black = λ e. absurd (u Black e) }
       | inr cut ↦ elim cut [
         | inl c ↦ let v = cut_verdict White setup t _ _ _ _ _ _ c.0 in record { white = λ e. c.1; black = λ e. absurd (other (sym v ∙ e)) }

@@ -3,10 +3,10 @@ use Rattle.io_edge.proofs.Told.{behind-behind}
 use Rattle.hive_model.specs.declared.pieces.Colour.{Colour}
 use Rattle.hive_model.specs.declared.pieces.Colour.TheVariants.{White, Black}
 use Rattle.match_core.specs.Setups.{FullSetup}
-use Rattle.match_core.specs.declared.answers.Stage.{Stage}
-use Rattle.match_core.specs.declared.answers.Stage.TheVariants.{Send, Read, Before, After, Finished as FinishedStage}
-use Rattle.match_core.specs.declared.answers.Act.TheVariants.{Send as SendAct, Read as ReadAct, Finish}
-use Rattle.match_core.specs.Standing.{Standing, Happening, start, match_after, next, after_all, act_at, answers, at_stage, is_late, Sent, Line, TooLong, Ended, Broke, Reading}
+use Rattle.match_core.specs.declared.stage.Stage.{Stage}
+use Rattle.match_core.specs.declared.stage.Stage.TheVariants.{Send, Read, Before, After, Finished as FinishedStage}
+use Rattle.match_core.specs.declared.stage.Act.TheVariants.{Send as SendAct, Read as ReadAct, Finish}
+use Rattle.match_core.specs.MatchState.{MatchState, Happening, start, match_after, next, after_all, act_at, answers, at_stage, is_late, Sent, Line, TooLong, Ended, Broke, Reading}
 use Rattle.match_core.specs.Fairness.{Answering, sent, sent_at}
 use Rattle.match_core.specs.Plays.{joined, match_of}
 use Rattle.hive_model.specs.Lines.{ToldLines, Line as Mark, lines}
@@ -26,7 +26,7 @@ use Rattle.match_runner.proofs.Telling.{feeds_from}
 use Rattle.match_runner.proofs.Progress.{joined-append, sent-snoc, feeds-snoc, answering-snoc, sound-snoc}
 use Rattle.std.specs.Prelude.{take, drop}
 
-abbrev IsLateAt : Stage → Standing → Happening → Type 0
+abbrev IsLateAt : Stage → MatchState → Happening → Type 0
 IsLateAt After s (Reading at) = is_late s at ≡ true
 IsLateAt After s Sent = ⊥
 IsLateAt After s (Line bytes) = ⊥
@@ -38,7 +38,7 @@ IsLateAt (Read job side) s h = ⊥
 IsLateAt Before s h = ⊥
 IsLateAt FinishedStage s h = ⊥
 
-late_or : (stage : Stage) (s : Standing) (h : Happening) → is_broke h ≡ false → IsInTime stage s h ⊎ IsLateAt stage s h
+late_or : (stage : Stage) (s : MatchState) (h : Happening) → is_broke h ≡ false → IsInTime stage s h ⊎ IsLateAt stage s h
 late_or After s (Reading at) v = elim (is_late s at) as (λ b. is_late s at ≡ b → (is_late s at ≡ false) ⊎ (is_late s at ≡ true)) [ true ↦ λ l. inr l | false ↦ λ l. inl l ] refl
 late_or After s Sent v = inl tt
 late_or After s (Line bytes) v = inl tt
@@ -55,7 +55,7 @@ late_or (Read job side) s h v = inl tt
 late_or Before s h v = inl tt
 late_or FinishedStage s h v = inl tt
 
-late_over : (stage : Stage) (s : Standing) (h : Happening) → IsLateAt stage s h → (act_at (at_stage s stage h).stage ≡ Finish) × ((at_stage s stage h).moves ≡ s.moves)
+late_over : (stage : Stage) (s : MatchState) (h : Happening) → IsLateAt stage s h → (act_at (at_stage s stage h).stage ≡ Finish) × ((at_stage s stage h).moves ≡ s.moves)
 late_over After s (Reading at) l = rw l (refl, refl)
 late_over After s Sent l = absurd l
 late_over After s (Line bytes) l = absurd l
@@ -67,15 +67,15 @@ late_over (Read job side) s h l = absurd l
 late_over Before s h l = absurd l
 late_over FinishedStage s h l = absurd l
 
-over_moves : (hs : List Happening) (x : Standing) → act_at x.stage ≡ Finish → Answering x hs → (after_all x hs).moves ≡ x.moves
+over_moves : (hs : List Happening) (x : MatchState) → act_at x.stage ≡ Finish → Answering x hs → (after_all x hs).moves ≡ x.moves
 over_moves [] x e a = refl
 over_moves (k ∷ hs) x e (t, u) = let w : IsTrue (answers Finish k) = subst (λ z. IsTrue (answers z k)) e t in absurd (cc)
 
-over_sends : (hs : List Happening) (x : Standing) (to : Colour) → act_at x.stage ≡ Finish → Answering x hs → sent x hs to ≡ []
+over_sends : (hs : List Happening) (x : MatchState) (to : Colour) → act_at x.stage ≡ Finish → Answering x hs → sent x hs to ≡ []
 over_sends [] x to e a = refl
 over_sends (k ∷ hs) x to e (t, u) = let w : IsTrue (answers Finish k) = subst (λ z. IsTrue (answers z k)) e t in absurd (cc)
 
-late_sends : (stage : Stage) (s : Standing) (h : Happening) → IsLateAt stage s h → (to : Colour) (hs : List Happening) (x : Standing) → act_at x.stage ≡ Finish → Answering x hs → sent_at s stage h to ++ sent x hs to ≡ []
+late_sends : (stage : Stage) (s : MatchState) (h : Happening) → IsLateAt stage s h → (to : Colour) (hs : List Happening) (x : MatchState) → act_at x.stage ≡ Finish → Answering x hs → sent_at s stage h to ++ sent x hs to ≡ []
 late_sends After s h l to hs x e a = over_sends hs x to e a
 late_sends (Send job side) s h l to hs x e a = absurd l
 late_sends (Read job side) s h l to hs x e a = absurd l
@@ -83,7 +83,7 @@ late_sends Before s h l to hs x e a = absurd l
 late_sends FinishedStage s h l to hs x e a = absurd l
 
 -- the front of the events that is in time
-record InFront (s : Standing) (hs : List Happening) (o p : ToldLines) : Type 0 where
+record InFront (s : MatchState) (hs : List Happening) (o p : ToldLines) : Type 0 where
   fs : List Happening
   w : ToldLines
   b : ToldLines
@@ -95,7 +95,7 @@ record InFront (s : Standing) (hs : List Happening) (o p : ToldLines) : Type 0 w
   to_white : sent s hs White ≡ sent s fs White
   to_black : sent s hs Black ≡ sent s fs Black
 
-in_front_of : (hs : List Happening) (s : Standing) (o p w b : ToldLines) → Answering s hs → AreSound hs → Feeds s hs White o w → Feeds s hs Black p b → InFront s hs o p
+in_front_of : (hs : List Happening) (s : MatchState) (o p w b : ToldLines) → Answering s hs → AreSound hs → Feeds s hs White o w → Feeds s hs Black p b → InFront s hs o p
 in_front_of [] s o p w b a v e f = record { fs = []; w = o; b = p; fits = tt; time = tt; white = refl; black = refl; moves = refl; to_white = refl; to_black = refl }
 in_front_of (h ∷ hs) s o p w b (t, a) (v, vs) (mw, e, es) (mb, f, fs) =
     elim (late_or s.stage s h v) as (λ _. InFront s (h ∷ hs) o p) [
@@ -104,8 +104,8 @@ in_front_of (h ∷ hs) s o p w b (t, a) (v, vs) (mw, e, es) (mb, f, fs) =
           record { fs = h ∷ r.fs; w = r.w; b = r.b; fits = (t, r.fits); time = (i, r.time); white = (mw, e, r.white); black = (mb, f, r.black); moves = r.moves; to_white = ap (λ z. sent_at s s.stage h White ++ z) r.to_white; to_black = ap (λ z. sent_at s s.stage h Black ++ z) r.to_black }
       | inr l ↦
           let k = late_over s.stage s h l in
-          let fin : act_at (next s h).stage ≡ Finish = ap (λ (x : Standing). act_at x.stage) (next_is s h) ∙ k.0 in
-          let same : (next s h).moves ≡ s.moves = ap (λ (x : Standing). x.moves) (next_is s h) ∙ k.1 in
+          let fin : act_at (next s h).stage ≡ Finish = ap (λ (x : MatchState). act_at x.stage) (next_is s h) ∙ k.0 in
+          let same : (next s h).moves ≡ s.moves = ap (λ (x : MatchState). x.moves) (next_is s h) ∙ k.1 in
           record { fs = []; w = o; b = p; fits = tt; time = tt; white = refl; black = refl; moves = over_moves hs (next s h) fin a ∙ same; to_white = late_sends s.stage s h l White hs (next s h) fin a; to_black = late_sends s.stage s h l Black hs (next s h) fin a }
     ]
 
@@ -128,12 +128,12 @@ fronts setup hs white black w b is a v e f =
       to_black = subst (λ z. IsFront (joined z) (joined (sent (start setup) (match_of setup white black) Black))) (sym q.to_black) (joined_front _ _ g.to_black);
     }
 
-front_run : (setup : FullSetup) (t : Standing) (w_old b_old : Told) (w b : Side) (w_rest b_rest : Told) (r0 r : Watch) (white black : List ℕ) → IsFullSetup setup → w_rest ≡ Some white → b_rest ≡ Some black
+front_run : (setup : FullSetup) (t : MatchState) (w_old b_old : Told) (w b : Side) (w_rest b_rest : Told) (r0 r : Watch) (white black : List ℕ) → IsFullSetup setup → w_rest ≡ Some white → b_rest ≡ Some black
     → Run setup t (side_of fresh w_rest w_old) w (side_of fresh b_rest b_old) b r0 r → IsFrontOf setup (lines white) (lines black) t w_old w.written b_old b.written
 front_run setup t w_old b_old w b w_rest b_rest r0 r white black is e f (hs, run) =
     let g = fronts setup hs (lines white) (lines black) w.ahead b.ahead is run.fits run.sound (feeds_from setup hs White w_rest w_old w white e run.white) (feeds_from setup hs Black b_rest b_old b black f run.black) in
     record {
-      moves = subst (λ (z : Standing). IsFront z.moves (match_after setup (match_of setup (lines white) (lines black))).moves) (sym run.here) g.moves;
+      moves = subst (λ (z : MatchState). IsFront z.moves (match_after setup (match_of setup (lines white) (lines black))).moves) (sym run.here) g.moves;
       to_white = (joined (sent (start setup) hs White), run.white.wrote, g.to_white);
       to_black = (joined (sent (start setup) hs Black), run.black.wrote, g.to_black);
     }
@@ -155,7 +155,7 @@ sends_on Before side to o e = refl
 sends_on After side to o e = refl
 sends_on FinishedStage side to o e = refl
 
-read_nothing : (stage : Stage) (s : Standing) (side to : Colour) → act_at stage ≡ ReadAct side → sent_at s stage Sent to ≡ []
+read_nothing : (stage : Stage) (s : MatchState) (side to : Colour) → act_at stage ≡ ReadAct side → sent_at s stage Sent to ≡ []
 read_nothing (Read job at) s side to e = refl
 read_nothing (Send job at) s side to e = absurd (cc)
 read_nothing Before s side to e = refl
@@ -187,22 +187,22 @@ cut_fronts side setup hs white black w b is a v e f (inl x) =
 cut_sent : (old mid new : Told) (xs ys all : List ℕ) (n : ℕ) → mid ≡ behind old xs → new ≡ behind mid (take n ys) → IsFront (xs ++ take n ys) all → IsFrontSent old new all
 cut_sent old mid new xs ys all n e f g = (xs ++ take n ys, f ∙ (ap (λ z. behind z (take n ys)) e ∙ behind-behind old xs (take n ys)), g)
 
-front_cut : (side : Colour) (setup : FullSetup) (t : Standing) (w_old b_old : Told) (w b : Side) (w_rest b_rest : Told) (r0 r : Watch) (white black : List ℕ) → IsFullSetup setup → w_rest ≡ Some white → b_rest ≡ Some black
+front_cut : (side : Colour) (setup : FullSetup) (t : MatchState) (w_old b_old : Told) (w b : Side) (w_rest b_rest : Told) (r0 r : Watch) (white black : List ℕ) → IsFullSetup setup → w_rest ≡ Some white → b_rest ≡ Some black
     → Cut side setup t (side_of fresh w_rest w_old) w (side_of fresh b_rest b_old) b r0 r → IsFrontOf setup (lines white) (lines black) t w_old w.written b_old b.written
 front_cut side setup t w_old b_old w b w_rest b_rest r0 r white black is e f (s, w1, b1, (hs, run), br, act) =
-    let same : t.moves ≡ s.moves = ap (λ (x : Standing). x.moves) (br.next_is ∙ next_is s Broke) ∙ moves_broke s.stage s br.fits in
+    let same : t.moves ≡ s.moves = ap (λ (x : MatchState). x.moves) (br.next_is ∙ next_is s Broke) ∙ moves_broke s.stage s br.fits in
     let whole = front_run setup s w_old b_old w1 b1 w_rest b_rest r0 r white black is e f (hs, run) in
-    let here : (act_at (match_after setup hs).stage ≡ SendAct side) ⊎ (act_at (match_after setup hs).stage ≡ ReadAct side) = subst (λ (x : Standing). (act_at x.stage ≡ SendAct side) ⊎ (act_at x.stage ≡ ReadAct side)) run.here act in
+    let here : (act_at (match_after setup hs).stage ≡ SendAct side) ⊎ (act_at (match_after setup hs).stage ≡ ReadAct side) = subst (λ (x : MatchState). (act_at x.stage ≡ SendAct side) ⊎ (act_at x.stage ≡ ReadAct side)) run.here act in
     let g = cut_fronts side setup hs (lines white) (lines black) w1.ahead b1.ahead is run.fits run.sound (feeds_from setup hs White w_rest w_old w1 white e run.white) (feeds_from setup hs Black b_rest b_old b1 black f run.black) here in
-    let cw : CutSide (match_after setup hs) White w1 w = subst (λ (x : Standing). CutSide x White w1 w) run.here br.white in
-    let cb : CutSide (match_after setup hs) Black b1 b = subst (λ (x : Standing). CutSide x Black b1 b) run.here br.black in
+    let cw : CutSide (match_after setup hs) White w1 w = subst (λ (x : MatchState). CutSide x White w1 w) run.here br.white in
+    let cb : CutSide (match_after setup hs) Black b1 b = subst (λ (x : MatchState). CutSide x Black b1 b) run.here br.black in
     record {
       moves = subst (λ z. IsFront z (match_after setup (match_of setup (lines white) (lines black))).moves) (sym same) whole.moves;
       to_white = cut_sent w_old w1.written w.written (joined (sent (start setup) hs White)) _ _ cw.0 run.white.wrote cw.1 (g.to_white cw.0);
       to_black = cut_sent b_old b1.written b.written (joined (sent (start setup) hs Black)) _ _ cb.0 run.black.wrote cb.1 (g.to_black cb.0);
     }
 
-pub front_final : (setup : FullSetup) (t : Standing) (w0 w b0 b : Wire) (r0 r : Watch) → IsFullSetup setup → FinalRun setup t w0 w b0 b r0 r → FrontRun setup t w0 w b0 b
+pub front_final : (setup : FullSetup) (t : MatchState) (w0 w b0 b : Wire) (r0 r : Watch) → IsFullSetup setup → FinalRun setup t w0 w b0 b r0 r → FrontRun setup t w0 w b0 b
 front_final setup t w0 w b0 b r0 r is final = λ white black e f.
     by_end setup t _ _ _ _ r0 r (IsFrontOf setup (lines white) (lines black) t w0.written w.written b0.written b.written) final.ran
     (λ whole. front_run setup t w0.written b0.written (side_of final.white_reader w.rest w.written) (side_of final.black_reader b.rest b.written) w0.rest b0.rest r0 r white black is e f whole.0)

@@ -3,12 +3,12 @@ use Rattle.std.proofs.Common.{◌≡◌, ◌<◌, ◌≤◌, ◌+◌, ℕ, List,
 use Rattle.hive_model.specs.declared.pieces.Colour.{Colour}
 use Rattle.io_edge.specs.Outside.{Told}
 use Rattle.line_feed.specs.Feed.{Reading as Reader, Takes, FeedsShort, input_limit}
-use Rattle.line_feed.specs.declared.answers.ShortAnswer.TheVariants.{Full}
-use Rattle.match_core.specs.declared.answers.Stage.{Stage}
-use Rattle.match_core.specs.declared.answers.Stage.TheVariants.{Send, Read, Before, After, Finished}
-use Rattle.match_core.specs.declared.answers.Act.TheVariants.{Read as ReadAct}
+use Rattle.line_feed.specs.declared.line_answers.ShortAnswer.TheVariants.{Full}
+use Rattle.match_core.specs.declared.stage.Stage.{Stage}
+use Rattle.match_core.specs.declared.stage.Stage.TheVariants.{Send, Read, Before, After, Finished}
+use Rattle.match_core.specs.declared.stage.Act.TheVariants.{Read as ReadAct}
 use Rattle.match_core.specs.Plays.{is_finished}
-use Rattle.match_core.specs.Standing.{Standing, TooLong, Ended, next, at_stage, act_at, Happening, Sent, Line, Broke, Reading}
+use Rattle.match_core.specs.MatchState.{MatchState, TooLong, Ended, next, at_stage, act_at, Happening, Sent, Line, Broke, Reading}
 
 pub little : (before after : ℕ) → after ≤ before + 65537 → after ≤ before + 65538
 little before after h = omega arith
@@ -33,7 +33,7 @@ IsClosing (Line bytes) = ⊥
 IsClosing Broke = ⊥
 IsClosing (Reading at) = ⊥
 
-after_closing : (stage : Stage) (s : Standing) (side : Colour) (h : Happening) → IsClosing h → act_at stage ≡ ReadAct side → is_finished (at_stage s stage h).stage ≡ true
+after_closing : (stage : Stage) (s : MatchState) (side : Colour) (h : Happening) → IsClosing h → act_at stage ≡ ReadAct side → is_finished (at_stage s stage h).stage ≡ true
 after_closing (Read job at) s side TooLong c e = refl
 after_closing (Read job at) s side Ended c e = refl
 after_closing (Read job at) s side Sent c e = absurd c
@@ -45,7 +45,7 @@ after_closing Before s side h c e = absurd (cc)
 after_closing After s side h c e = absurd (cc)
 after_closing Finished s side h c e = absurd (cc)
 
-pub long_finishes : (s t : Standing) (side : Colour) → act_at s.stage ≡ ReadAct side → t ≡ next s TooLong → is_finished t.stage ≡ true
+pub long_finishes : (s t : MatchState) (side : Colour) → act_at s.stage ≡ ReadAct side → t ≡ next s TooLong → is_finished t.stage ≡ true
 unfolding next
 long_finishes s t side e f = rw f (after_closing s.stage s side TooLong tt e)
 

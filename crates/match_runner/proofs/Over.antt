@@ -5,7 +5,7 @@ use Rattle.hive_model.specs.declared.pieces.Colour.TheVariants.{White, Black}
 use Rattle.line_feed.specs.Feed.{Reading as Reader, HoldsLittle, fresh}
 use Rattle.match_core.specs.Setups.{FullSetup}
 use Rattle.match_core.specs.Keeps.{IsFullSetup}
-use Rattle.match_core.specs.Standing.{Standing}
+use Rattle.match_core.specs.MatchState.{MatchState}
 use Rattle.match_runner.specs.declared.turns.Acted.{Acted}
 use Rattle.match_runner.specs.declared.turns.Acted.TheVariants.{GoOn, Finished, ReadFault, WriteFault, Memory}
 use Rattle.match_runner.specs.Wires.{HasFailed, Watch, Wire}
@@ -23,7 +23,7 @@ use Rattle.match_runner.proofs.Telling.{told_run}
 use Rattle.match_runner.proofs.Verdicts.{verdict_run}
 
 -- all that is known of the match that a run answers
-ran_over : (setup : FullSetup) (t : Standing) (w0 w b0 b : Wire) (r0 r : Watch) → IsFullSetup setup → FinalRun setup t w0 w b0 b r0 r → RanOver setup t w0 w b0 b r0 r
+ran_over : (setup : FullSetup) (t : MatchState) (w0 w b0 b : Wire) (r0 r : Watch) → IsFullSetup setup → FinalRun setup t w0 w b0 b r0 r → RanOver setup t w0 w b0 b r0 r
 ran_over setup t w0 w b0 b r0 r is final = record {
   events = final;
   links = record {
@@ -67,7 +67,7 @@ rises turn w0 w b0 b w_reads w_writes b_reads b_writes wr ww br bw x y z u = rec
   black_writes = λ e. rose_from _ _ _ bw (u.rose e);
 }
 
-last_act : (turn : Acted) (setup : FullSetup) (s t : Standing) (w0 w2 b0 b2 : Wire) (x0 x x2 y0 y y2 : Side) (r0 r r2 : Watch) → IsLast turn → Run setup s x0 x y0 y r0 r → Turns turn s t x x2 y y2 r.last r2.last → r2.readings ≤ r.readings + looks_at s.stage
+last_act : (turn : Acted) (setup : FullSetup) (s t : MatchState) (w0 w2 b0 b2 : Wire) (x0 x x2 y0 y y2 : Side) (r0 r r2 : Watch) → IsLast turn → Run setup s x0 x y0 y r0 r → Turns turn s t x x2 y y2 r.last r2.last → r2.readings ≤ r.readings + looks_at s.stage
     → Rises turn w0 w2 b0 b2 → Ran setup t x0 x2 y0 y2 r0 r2 (HasFailed w0 w2) (HasFailed b0 b2)
 last_act GoOn setup s t w0 w2 b0 b2 x0 x x2 y0 y y2 r0 r r2 over run turned c rises = absurd over
 last_act Memory setup s t w0 w2 b0 b2 x0 x x2 y0 y y2 r0 r r2 over run turned c rises = absurd over
@@ -76,7 +76,7 @@ last_act (ReadFault side) setup s t w0 w2 b0 b2 x0 x x2 y0 y y2 r0 r r2 over run
 last_act (WriteFault side) setup s t w0 w2 b0 b2 x0 x x2 y0 y y2 r0 r r2 over run turned c rises = cut_at side setup s t x0 x x2 y0 y y2 r0 r r2 _ _ run (inl turned.0) turned.1 turned.2 c (λ e. inr (rises.white_writes (ap WriteFault e))) (λ e. inr (rises.black_writes (ap WriteFault e)))
 
 -- the run is over behind this act
-pub ends_over : (turn : Acted) (setup : FullSetup) (s t : Standing) (w_reader b_reader : Reader) (w0 w2 b0 b2 : Wire) (w b : Side) (r0 r r2 : Watch) → IsFullSetup setup → IsLast turn
+pub ends_over : (turn : Acted) (setup : FullSetup) (s t : MatchState) (w_reader b_reader : Reader) (w0 w2 b0 b2 : Wire) (w b : Side) (r0 r r2 : Watch) → IsFullSetup setup → IsLast turn
     → Run setup s (side_of fresh w0.rest w0.written) w (side_of fresh b0.rest b0.written) b r0 r
     → Turns turn s t w (side_of w_reader w2.rest w2.written) b (side_of b_reader b2.rest b2.written) r.last r2.last → r2.readings ≤ r.readings + looks_at s.stage
     → HoldsLittle w_reader → HoldsLittle b_reader → Rises turn w0 w2 b0 b2 → RanOver setup t w0 w2 b0 b2 r0 r2

@@ -1,13 +1,13 @@
 use Rattle.hive_model.specs.declared.pieces.Colour.TheVariants.{White, Black}
 use Rattle.match_core.specs.Setups.{FullSetup}
-use Rattle.match_core.specs.Standing.{Standing}
+use Rattle.match_core.specs.MatchState.{MatchState}
 use Rattle.match_runner.specs.Wires.{Watch, Wire}
 use Rattle.match_runner.specs.Runs.{IsLate, FinalRun, VerdictRun}
 use Rattle.std.proofs.Common.{◌⊎◌, inl, inr, refl, None, Some}
 use Rattle.match_core.specs.Keeps.{IsFullSetup}
-use Rattle.match_core.specs.declared.answers.Cause.TheVariants.{NotAMove, Illegal, ErrLine, Flood, LongLine, Ended as EndedCause, Broke as BrokeCause, Late}
-use Rattle.match_core.specs.declared.answers.Verdict.TheVariants.{Rules, Limit, Forfeit}
-use Rattle.match_core.specs.declared.answers.Verdict.{Verdict}
+use Rattle.match_core.specs.declared.verdict.Cause.TheVariants.{NotAMove, Illegal, ErrLine, Flood, LongLine, Ended as EndedCause, Broke as BrokeCause, Late}
+use Rattle.match_core.specs.declared.verdict.Verdict.TheVariants.{Rules, Limit, Forfeit}
+use Rattle.match_core.specs.declared.verdict.Verdict.{Verdict}
 use Rattle.std.specs.declared.option.Option.{Option}
 use Rattle.match_runner.proofs.Telling.{whole_told}
 use Rattle.match_runner.proofs.Causes.{cut_verdict}
@@ -25,7 +25,7 @@ late_or_not (Some (Forfeit side EndedCause)) = inr (λ x. x)
 late_or_not (Some (Forfeit side BrokeCause)) = inr (λ x. x)
 late_or_not (Some (Forfeit side (Late asked answered))) = inl tt
 
-pub verdict_run : (setup : FullSetup) (t : Standing) (w0 w b0 b : Wire) (r0 r : Watch) → IsFullSetup setup → FinalRun setup t w0 w b0 b r0 r → VerdictRun setup t w0 w b0 b
+pub verdict_run : (setup : FullSetup) (t : MatchState) (w0 w b0 b : Wire) (r0 r : Watch) → IsFullSetup setup → FinalRun setup t w0 w b0 b r0 r → VerdictRun setup t w0 w b0 b
 verdict_run setup t w0 w b0 b r0 r is final = λ white black e f.
     elim final.ran.ended [
       | inr cut ↦ elim cut [

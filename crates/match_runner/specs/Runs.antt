@@ -5,13 +5,13 @@ use Rattle.hive_model.specs.declared.pieces.Colour.{Colour}
 use Rattle.hive_model.specs.declared.pieces.Colour.TheVariants.{White, Black}
 use Rattle.line_feed.specs.Feed.{Reading as Reader, HoldsLittle, fresh}
 use Rattle.match_core.specs.Setups.{FullSetup}
-use Rattle.match_core.specs.declared.answers.Stage.TheVariants.{After}
-use Rattle.match_core.specs.declared.answers.Act.TheVariants.{Send as SendAct, Read as ReadAct, Finish}
+use Rattle.match_core.specs.declared.stage.Stage.TheVariants.{After}
+use Rattle.match_core.specs.declared.stage.Act.TheVariants.{Send as SendAct, Read as ReadAct, Finish}
 use Rattle.hive_model.specs.Lines.{Line as Mark, ToldLines, lines}
-use Rattle.match_core.specs.declared.answers.Cause.TheVariants.{NotAMove, Illegal, ErrLine, Flood, LongLine, Ended as EndedCause, Broke as BrokeCause, Late}
-use Rattle.match_core.specs.declared.answers.Verdict.{Verdict}
-use Rattle.match_core.specs.declared.answers.Verdict.TheVariants.{Rules, Limit, Forfeit}
-use Rattle.match_core.specs.Standing.{Standing, Happening, TooLong, start, match_after, next, act_at}
+use Rattle.match_core.specs.declared.verdict.Cause.TheVariants.{NotAMove, Illegal, ErrLine, Flood, LongLine, Ended as EndedCause, Broke as BrokeCause, Late}
+use Rattle.match_core.specs.declared.verdict.Verdict.{Verdict}
+use Rattle.match_core.specs.declared.verdict.Verdict.TheVariants.{Rules, Limit, Forfeit}
+use Rattle.match_core.specs.MatchState.{MatchState, Happening, TooLong, start, match_after, next, act_at}
 use Rattle.match_core.specs.Fairness.{Answering, sent}
 use Rattle.match_core.specs.Plays.{joined, IsBounded, match_of, has_verdict}
 use Rattle.match_core.specs.Feeds.{FeedsAt, IsFront}
@@ -25,7 +25,7 @@ AreSound [] = Unit {0}
 AreSound (h ∷ hs) = (is_broke h ≡ false) × AreSound hs
 
 -- how often the clock was read
-abbrev pub looks : Standing → List Happening → ℕ
+abbrev pub looks : MatchState → List Happening → ℕ
 looks s [] = 0
 looks s (h ∷ hs) = looks_at s.stage + looks (next s h) hs
 
@@ -38,19 +38,19 @@ KeepTime before (h ∷ hs) now = (mid : ℕ) × KeepsAt h before mid × KeepTime
 
 -- all that happened took just these lines of a side, and one that is too long was judged and not
 -- passed over: it is still the first of the lines to come
-abbrev pub JudgesAtOnce : Standing → List Happening → Colour → ToldLines → ToldLines → Type 0
+abbrev pub JudgesAtOnce : MatchState → List Happening → Colour → ToldLines → ToldLines → Type 0
 JudgesAtOnce s [] to old new = new ≡ old
 JudgesAtOnce s (h ∷ hs) to old new =
     (mid : ToldLines) × FeedsAt s.stage h to old mid × (h ≡ TooLong → mid ≡ old)
     × JudgesAtOnce (next s h) hs to mid new
 
 -- what the events did at a side
-pub record Served (s : Standing) (hs : List Happening) (to : Colour) (old new : Side) : Type 0 where
+pub record Served (s : MatchState) (hs : List Happening) (to : Colour) (old new : Side) : Type 0 where
   pub feeds : JudgesAtOnce s hs to old.ahead new.ahead
   pub wrote : new.written ≡ behind old.written (joined (sent s hs to))
 
 -- the match has come to this by these events
-pub record Runs (setup : FullSetup) (s : Standing) (w0 w b0 b : Side) (r0 r : Watch)
+pub record Runs (setup : FullSetup) (s : MatchState) (w0 w b0 b : Side) (r0 r : Watch)
     (hs : List Happening) : Type 0 where
   pub here : s ≡ match_after setup hs
   pub fits : Answering (start setup) hs
@@ -62,21 +62,21 @@ pub record Runs (setup : FullSetup) (s : Standing) (w0 w b0 b : Side) (r0 r : Wa
   pub bounded : IsBounded s
 
 -- some events have brought the match to this
-abbrev pub Run : FullSetup → Standing → Side → Side → Side → Side → Watch → Watch → Type 0
+abbrev pub Run : FullSetup → MatchState → Side → Side → Side → Side → Watch → Watch → Type 0
 Run setup s w0 w b0 b r0 r = (hs : List Happening) × Runs setup s w0 w b0 b r0 r hs
 
 -- the match has ended by itself
-abbrev pub Whole : FullSetup → Standing → Side → Side → Side → Side → Watch → Watch → Type 0
+abbrev pub Whole : FullSetup → MatchState → Side → Side → Side → Side → Watch → Watch → Type 0
 Whole setup t w0 w b0 b r0 r = Run setup t w0 w b0 b r0 r × (act_at t.stage ≡ Finish)
 
 -- it was ended by a fault of this side
-abbrev pub Cut : Colour → FullSetup → Standing → Side → Side → Side → Side → Watch → Watch → Type 0
+abbrev pub Cut : Colour → FullSetup → MatchState → Side → Side → Side → Side → Watch → Watch → Type 0
 Cut side setup t w0 w b0 b r0 r =
-    (s : Standing) × (w1 : Side) × (b1 : Side) × Run setup s w0 w1 b0 b1 r0 r × Breaks s t w1 w b1 b
+    (s : MatchState) × (w1 : Side) × (b1 : Side) × Run setup s w0 w1 b0 b1 r0 r × Breaks s t w1 w b1 b
     × ((act_at s.stage ≡ SendAct side) ⊎ (act_at s.stage ≡ ReadAct side))
 
 -- where a side breaks, one of its counts rose (or stands at its greatest value)
-pub record Ran (setup : FullSetup) (t : Standing) (w0 w b0 b : Side) (r0 r : Watch)
+pub record Ran (setup : FullSetup) (t : MatchState) (w0 w b0 b : Side) (r0 r : Watch)
     (white_rose black_rose : Type 0) : Type 0 where
   pub ended : (Whole setup t w0 w b0 b r0 r)
       ⊎ ((Cut White setup t w0 w b0 b r0 r × white_rose)
@@ -86,7 +86,7 @@ pub record Ran (setup : FullSetup) (t : Standing) (w0 w b0 b : Side) (r0 r : Wat
 -- come of each side are those of what its reader holds, the front of one line and at most one
 -- piece, and of what the link has left.
 pub record FinalRun
-    (setup : FullSetup) (t : Standing) (w0 w b0 b : Wire) (r0 r : Watch) : Type 0 where
+    (setup : FullSetup) (t : MatchState) (w0 w b0 b : Wire) (r0 r : Watch) : Type 0 where
   pub white_reader : Reader
   pub black_reader : Reader
   pub white_little : HoldsLittle white_reader
@@ -112,14 +112,14 @@ IsLate (Some (Forfeit side (Late asked answered))) = Unit {0}
 
 -- moves, verdict and the bytes sent are those of the match of these lines
 pub record IsMatch
-    (setup : FullSetup) (white black : List Mark) (t : Standing) (w0 w b0 b : Told) : Type 0 where
+    (setup : FullSetup) (white black : List Mark) (t : MatchState) (w0 w b0 b : Told) : Type 0 where
   pub moves : t.moves ≡ (match_after setup (match_of setup white black)).moves
   pub verdict : t.verdict ≡ (match_after setup (match_of setup white black)).verdict
   pub to_white : w ≡ behind w0 (joined (sent (start setup) (match_of setup white black) White))
   pub to_black : b ≡ behind b0 (joined (sent (start setup) (match_of setup white black) Black))
 
 -- where both links tell their bytes, no call failed and no answer was late
-abbrev pub ToldRun : FullSetup → Standing → Wire → Wire → Wire → Wire → Type 0
+abbrev pub ToldRun : FullSetup → MatchState → Wire → Wire → Wire → Wire → Type 0
 ToldRun setup t w0 w b0 b =
     (white black : List ℕ)
     → w0.rest ≡ Some white
@@ -130,12 +130,12 @@ ToldRun setup t w0 w b0 b =
     → IsMatch setup (lines white) (lines black) t w0.written w.written b0.written b.written
 
 -- a side is said to have broken only where a call of its link failed
-pub record BrokeOnly (t : Standing) (w0 w b0 b : Wire) : Type 0 where
+pub record BrokeOnly (t : MatchState) (w0 w b0 b : Wire) : Type 0 where
   pub white : t.verdict ≡ Some (Forfeit White BrokeCause) → HasFailed w0 w
   pub black : t.verdict ≡ Some (Forfeit Black BrokeCause) → HasFailed b0 b
 
 -- the match has a verdict
-abbrev pub IsJudged : Standing → Type 0
+abbrev pub IsJudged : MatchState → Type 0
 IsJudged t = has_verdict t.verdict ≡ true
 
 -- where an answer is late, it was asked for no earlier than the clock's last reading before the
@@ -159,14 +159,14 @@ abbrev pub IsFrontSent : Told → Told → List ℕ → Type 0
 IsFrontSent old new all = (bytes : List ℕ) × (new ≡ behind old bytes) × IsFront bytes all
 
 -- the moves, and the bytes sent to each side, are the first ones of the match of these lines
-pub record IsFrontOf (setup : FullSetup) (white black : List Mark) (t : Standing)
+pub record IsFrontOf (setup : FullSetup) (white black : List Mark) (t : MatchState)
     (w0 w b0 b : Told) : Type 0 where
   pub moves : IsFront t.moves (match_after setup (match_of setup white black)).moves
   pub to_white : IsFrontSent w0 w (joined (sent (start setup) (match_of setup white black) White))
   pub to_black : IsFrontSent b0 b (joined (sent (start setup) (match_of setup white black) Black))
 
 -- where both links tell their bytes, whatever failed and however late an answer was
-abbrev pub FrontRun : FullSetup → Standing → Wire → Wire → Wire → Wire → Type 0
+abbrev pub FrontRun : FullSetup → MatchState → Wire → Wire → Wire → Wire → Type 0
 FrontRun setup t w0 w b0 b =
     (white black : List ℕ)
     → w0.rest ≡ Some white
@@ -186,7 +186,7 @@ IsVerdict full verdict w0 w b0 b =
 
 -- where both links tell their bytes, the verdict is that of the match of these lines, or an answer
 -- was late, or a side broke
-abbrev pub VerdictRun : FullSetup → Standing → Wire → Wire → Wire → Wire → Type 0
+abbrev pub VerdictRun : FullSetup → MatchState → Wire → Wire → Wire → Wire → Type 0
 VerdictRun setup t w0 w b0 b =
     (white black : List ℕ)
     → w0.rest ≡ Some white
@@ -195,22 +195,22 @@ VerdictRun setup t w0 w b0 b =
     w0 w b0 b
 
 -- what happened in a match of this setup that stands so: each answers the act that was to come
-pub record IsCourse (setup : FullSetup) (t : Standing) (hs : List Happening) : Type 0 where
+pub record IsCourse (setup : FullSetup) (t : MatchState) (hs : List Happening) : Type 0 where
   pub here : t ≡ match_after setup hs
   pub fits : Answering (start setup) hs
 
 -- a match of this setup comes to stand so
-abbrev pub HasCourse : FullSetup → Standing → Type 0
+abbrev pub HasCourse : FullSetup → MatchState → Type 0
 HasCourse setup t = (hs : List Happening) × IsCourse setup t hs
 
 -- the same, by readings of a clock whose last one before the match and behind it are these
-abbrev pub HasTimedCourse : FullSetup → Standing → ℕ → ℕ → Type 0
+abbrev pub HasTimedCourse : FullSetup → MatchState → ℕ → ℕ → Type 0
 HasTimedCourse setup t before now =
     (hs : List Happening) × IsCourse setup t hs × KeepTime before hs now
 
 -- The moves, and the bytes sent to each side, are those of the match of these lines up to a reply:
 -- its last line was read, and next the clock is read.
-pub record IsUpToReply (setup : FullSetup) (white black : List Mark) (t : Standing)
+pub record IsUpToReply (setup : FullSetup) (white black : List Mark) (t : MatchState)
     (w0 w b0 b : Told) : Type 0 where
   pub hs : List Happening
   pub front : IsFront hs (match_of setup white black)
@@ -220,7 +220,7 @@ pub record IsUpToReply (setup : FullSetup) (white black : List Mark) (t : Standi
   pub to_black : b ≡ behind b0 (joined (sent (start setup) hs Black))
 
 -- where both links tell their bytes, no call failed and an answer was late
-abbrev pub LateRun : FullSetup → Standing → Wire → Wire → Wire → Wire → Type 0
+abbrev pub LateRun : FullSetup → MatchState → Wire → Wire → Wire → Wire → Type 0
 LateRun setup t w0 w b0 b =
     (white black : List ℕ)
     → w0.rest ≡ Some white
@@ -232,7 +232,7 @@ LateRun setup t w0 w b0 b =
 
 -- a match that was run over two links: it is of this setup and has a verdict, and this is known of
 -- it by the links
-pub record RanLinks (setup : FullSetup) (t : Standing) (w0 w b0 b : Wire) : Type 0 where
+pub record RanLinks (setup : FullSetup) (t : MatchState) (w0 w b0 b : Wire) : Type 0 where
   pub same : t.setup ≡ setup
   pub judged : IsJudged t
   pub broke : BrokeOnly t w0 w b0 b
@@ -246,7 +246,7 @@ pub record RanLinks (setup : FullSetup) (t : Standing) (w0 w b0 b : Wire) : Type
 -- a match that was run over two links and a clock, which is read at most twice for each move that
 -- was made in it, and twice more
 pub record RanOver
-    (setup : FullSetup) (t : Standing) (w0 w b0 b : Wire) (r0 r : Watch) : Type 0 where
+    (setup : FullSetup) (t : MatchState) (w0 w b0 b : Wire) (r0 r : Watch) : Type 0 where
   pub events : FinalRun setup t w0 w b0 b r0 r
   pub links : RanLinks setup t w0 w b0 b
   pub late : LateIn t.verdict r0.last r.last

@@ -5,11 +5,11 @@ use Rattle.hive_model.specs.declared.pieces.Colour.{Colour}
 use Rattle.hive_model.specs.declared.pieces.Colour.TheVariants.{White, Black}
 use Rattle.line_feed.specs.Feed.{Reading as Reader}
 use Rattle.line_feed.specs.Ahead.{ahead_of}
-use Rattle.match_core.specs.declared.answers.Stage.{Stage}
-use Rattle.match_core.specs.declared.answers.Act.{Act}
-use Rattle.match_core.specs.declared.answers.Act.TheVariants.{Send as SendAct, Read as ReadAct, Clock, Finish}
+use Rattle.match_core.specs.declared.stage.Stage.{Stage}
+use Rattle.match_core.specs.declared.stage.Act.{Act}
+use Rattle.match_core.specs.declared.stage.Act.TheVariants.{Send as SendAct, Read as ReadAct, Clock, Finish}
 use Rattle.match_core.specs.Keeps.{line_at}
-use Rattle.match_core.specs.Standing.{Standing, Happening, Sent, Line, TooLong, Ended, Broke, Reading, next, act_at, answers}
+use Rattle.match_core.specs.MatchState.{MatchState, Happening, Sent, Line, TooLong, Ended, Broke, Reading, next, act_at, answers}
 use Rattle.match_core.specs.Fairness.{sent_at}
 use Rattle.match_core.specs.Plays.{joined, is_finished}
 use Rattle.hive_model.specs.Lines.{ToldLines}
@@ -23,7 +23,7 @@ pub record Side : Type 0 where
   pub written : Told
 
 -- a line is sent
-abbrev pub Tells : Acted → Standing → Standing → Told → Told → Type 0
+abbrev pub Tells : Acted → MatchState → MatchState → Told → Told → Type 0
 Tells GoOn s t before after = (t ≡ next s Sent) × (after ≡ behind before (line_at s s.stage))
 Tells (WriteFault at) s t before after =
     (t ≡ next s Broke) × ((n : ℕ) × (after ≡ behind before (take n (line_at s s.stage))))
@@ -32,7 +32,7 @@ Tells Finished s t before after = ⊥
 Tells Memory s t before after = Unit {0}
 
 -- a line is read; one that is too long is judged, and not passed over
-abbrev pub Hears : Acted → Standing → Standing → ToldLines → ToldLines → Type 0
+abbrev pub Hears : Acted → MatchState → MatchState → ToldLines → ToldLines → Type 0
 Hears GoOn s t old new =
     (h : Happening) × (t ≡ next s h) × Gave h old new × (h ≡ TooLong → new ≡ old)
 Hears (ReadFault side) s t old new = (t ≡ next s Broke) × (new ≡ old)
@@ -41,7 +41,7 @@ Hears Finished s t old new = ⊥
 Hears Memory s t old new = Unit {0}
 
 -- a match that goes on is within this many bytes of lines
-abbrev pub Room : Acted → Standing → ℕ → Standing → ℕ → Type 0
+abbrev pub Room : Acted → MatchState → ℕ → MatchState → ℕ → Type 0
 Room GoOn s before t after = is_finished t.stage ≡ false → after ≤ before + 65538
 Room (ReadFault side) s before t after = Unit {0}
 Room (WriteFault side) s before t after = Unit {0}
@@ -49,7 +49,7 @@ Room Finished s before t after = Unit {0}
 Room Memory s before t after = Unit {0}
 
 -- the clock is read
-abbrev pub Looks : Acted → Standing → Standing → ℕ → ℕ → Type 0
+abbrev pub Looks : Acted → MatchState → MatchState → ℕ → ℕ → Type 0
 Looks GoOn s t before last = (t ≡ next s (Reading last)) × (before ≤ last)
 Looks (ReadFault side) s t before last = ⊥
 Looks (WriteFault side) s t before last = ⊥
@@ -90,18 +90,18 @@ abbrev pub looks_at : Stage → ℕ
 looks_at stage = if is_clock (act_at stage) then 1 else 0
 
 -- what an event does at a side
-pub record OneSide (s : Standing) (h : Happening) (to : Colour) (old new : Side) : Type 0 where
+pub record OneSide (s : MatchState) (h : Happening) (to : Colour) (old new : Side) : Type 0 where
   pub feeds : FeedsAt s.stage h to old.ahead new.ahead
   pub stays : h ≡ TooLong → new.ahead ≡ old.ahead
   pub wrote : new.written ≡ behind old.written (joined (sent_at s s.stage h to))
 
 -- a side has got a front of the line that was to be sent to it
-abbrev pub CutSide : Standing → Colour → Side → Side → Type 0
+abbrev pub CutSide : MatchState → Colour → Side → Side → Type 0
 CutSide s to old new =
     (n : ℕ) × (new.written ≡ behind old.written (take n (joined (sent_at s s.stage Sent to))))
 
 -- an event that is no fault, and what came of it at both sides
-pub record Goes (s : Standing) (h : Happening) (t : Standing) (w0 w b0 b : Side)
+pub record Goes (s : MatchState) (h : Happening) (t : MatchState) (w0 w b0 b : Side)
     (c0 c : ℕ) : Type 0 where
   pub time : KeepsAt h c0 c
   pub next_is : t ≡ next s h
@@ -111,14 +111,14 @@ pub record Goes (s : Standing) (h : Happening) (t : Standing) (w0 w b0 b : Side)
   pub black : OneSide s h Black b0 b
 
 -- a side breaks
-pub record Breaks (s t : Standing) (w0 w b0 b : Side) : Type 0 where
+pub record Breaks (s t : MatchState) (w0 w b0 b : Side) : Type 0 where
   pub next_is : t ≡ next s Broke
   pub fits : IsTrue (answers (act_at s.stage) Broke)
   pub white : CutSide s White w0 w
   pub black : CutSide s Black b0 b
 
 -- what an act did to the match, to both sides and to the clock
-abbrev pub Turns : Acted → Standing → Standing → Side → Side → Side → Side → ℕ → ℕ → Type 0
+abbrev pub Turns : Acted → MatchState → MatchState → Side → Side → Side → Side → ℕ → ℕ → Type 0
 Turns GoOn s t w0 w b0 b c0 c = (h : Happening) × Goes s h t w0 w b0 b c0 c
 Turns (ReadFault side) s t w0 w b0 b c0 c =
     (act_at s.stage ≡ ReadAct side) × Breaks s t w0 w b0 b × (c ≡ c0)

@@ -5,7 +5,7 @@ ghost use Rattle.hive_model.specs.Lines.{greatest_line};
 ghost use Rattle.io_edge.specs.Outside.{HasCause};
 ghost use Rattle.line_feed.specs.Feed.{HoldsLittle, input_limit};
 ghost use Rattle.line_feed.specs.Ahead.{ahead_of};
-ghost use Rattle.match_core.specs.Standing.{act_at};
+ghost use Rattle.match_core.specs.MatchState.{act_at};
 ghost use Rattle.match_core.specs.Plays.{is_finished};
 ghost use Rattle.match_runner.specs.Turns.{Tells, Hears, Looks, Turns, Room, side_of, looks_at};
 

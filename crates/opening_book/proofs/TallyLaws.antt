@@ -11,7 +11,7 @@ use Rattle.hive_model.specs.Legal.{moves}
 use Rattle.hive_model.specs.Games.{after}
 use Rattle.hive_model.specs.Keys.{key}
 use Rattle.hive_model.proofs.GetLemmas.{get_within, get_exists}
-use Rattle.opening_book.specs.Book.{Played, Counts, IsTally, IsBookMove, count, line_count, ply_count}
+use Rattle.opening_book.specs.Book.{BookGame, Counts, IsTally, IsBookMove, count, line_count, ply_count}
 use Rattle.opening_book.specs.Plies.{IsMost}
 
 -- a number at a place, both ways
@@ -21,13 +21,13 @@ index_of xs j n e = get_or_from_slice_get xs j n 0 e
 pub of_index : (xs : List ℕ) (j n : ℕ) → j < length xs → slice_index xs j ≡ n → slice_get xs j ≡ Some n
 of_index xs j n low e = let x = get_exists xs j low in x.1 ∙ ap Some (sym (index_of xs j x.0 x.1) ∙ e)
 
-more : (p : Position) (m : Move) (games : List Played) (g : Played) → count p m (games ++ g ∷ []) ≡ count p m games + line_count p m (opening g.game_type) g.made
+more : (p : Position) (m : Move) (games : List BookGame) (g : BookGame) → count p m (games ++ g ∷ []) ≡ count p m games + line_count p m (opening g.game_type) g.made
 more p m games g =
-    let one = sum_by-append (λ (h : Played). line_count p m (opening h.game_type) h.made) games (g ∷ []) in
+    let one = sum_by-append (λ (h : BookGame). line_count p m (opening h.game_type) h.made) games (g ∷ []) in
     omega (arith, one)
 
 -- one game more
-pub added : (p : Position) (games : List Played) (g : Played) (old new : Counts) → IsTally p games old
+pub added : (p : Position) (games : List BookGame) (g : BookGame) (old new : Counts) → IsTally p games old
     → new.key ≡ old.key → new.moves ≡ old.moves → length new.counts ≡ length old.counts → new.plies ≡ old.plies + length g.made
     → ((q : Position) → IsBoard q.board → old.key ≡ key q → (j : ℕ) (m : Move) → slice_get old.moves j ≡ Some m
     → slice_index new.counts j ≡ slice_index old.counts j + line_count q m (opening g.game_type) g.made)
@@ -42,7 +42,7 @@ added p games g old new h keys mo long plies counted = record {
       let up = counted p h.board h.key_is j m (ap (λ ms. slice_get ms j) h.moves_are ∙ e) in
       of_index new.counts j (count p m (games ++ g ∷ [])) small (up ∙ ap (λ n. n + line_count p m (opening g.game_type) g.made) (index_of old.counts j (count p m games) old_is) ∙ sym (more p m games g));
   plies_are =
-      let one = sum_by-append (λ (x : Played). length x.made) games (g ∷ []) in
+      let one = sum_by-append (λ (x : BookGame). length x.made) games (g ∷ []) in
       omega (arith, one, plies, h.plies_are);
 }
 
@@ -55,7 +55,7 @@ at_least (x ∷ ms) m on = elim on [
   | inr rest ↦ let r = at_least ms m rest in (suc r.0, r.1)
 ]
 
-module _ (p : Position) (games : List Played) (t : Counts) (h : IsTally p games t) (place most : ℕ) (is : IsMost t.counts (length t.counts) place most) where
+module _ (p : Position) (games : List BookGame) (t : Counts) (h : IsTally p games t) (place most : ℕ) (is : IsMost t.counts (length t.counts) place most) where
   below : (j : ℕ) (m : Move) → slice_get (moves p) j ≡ Some m → count p m games ≤ most
   below j m e =
       let here = h.counts_are j m e in

@@ -15,7 +15,7 @@ use Rattle.hive_model.specs.Keys.{KeyParts, key}
 use Rattle.symmetry.specs.Takes.{takes_move}
 
 -- a game that was played: its type and its moves
-pub record Played : Type 0 where
+pub record BookGame : Type 0 where
   pub game_type : GameType
   pub made : List Move
 
@@ -30,11 +30,11 @@ line_count p m r [] = 0
 line_count p m r (n ∷ ns) = ply_count p m r n + line_count p m (after r n) ns
 
 -- how often the move m of p was made in these games
-abbrev pub count : Position → Move → List Played → ℕ
+abbrev pub count : Position → Move → List BookGame → ℕ
 count p m games = sum_by (λ g. line_count p m (opening g.game_type) g.made) games
 
 -- m is the first of the legal moves that was made most often, n times, which is at least once
-pub record IsBookMove (p : Position) (games : List Played) (m : Move) (n : ℕ) : Type 0 where
+pub record IsBookMove (p : Position) (games : List BookGame) (m : Move) (n : ℕ) : Type 0 where
   pub place : ℕ
   pub move : slice_get (moves p) place ≡ Some m
   pub made : count p m games ≡ n
@@ -44,7 +44,7 @@ pub record IsBookMove (p : Position) (games : List Played) (m : Move) (n : ℕ) 
 
 -- what the book answers: its move and how often it was made, or none where no legal move was ever
 -- made
-abbrev pub IsBook : Position → List Played → Option (Move × ℕ) → Type 0
+abbrev pub IsBook : Position → List BookGame → Option (Move × ℕ) → Type 0
 IsBook p games None = (m : Move) → IsOn (moves p) m → count p m games ≡ 0
 IsBook p games (Some b) = IsBookMove p games b.0 b.1
 
@@ -59,7 +59,7 @@ pub record Counts : Type 0 where
   pub plies : ℕ
 
 -- it holds the counts of the legal moves of p over these games
-pub record IsTally (p : Position) (games : List Played) (t : Counts) : Type 0 where
+pub record IsTally (p : Position) (games : List BookGame) (t : Counts) : Type 0 where
   pub board : IsBoard p.board
   pub key_is : t.key ≡ key p
   pub moves_are : t.moves ≡ moves p

@@ -19,7 +19,7 @@ ghost use Rattle.hive_model.specs.Positions.{Position};
 ghost use Rattle.hive_model.specs.Legal.{is_over};
 ghost use Rattle.hive_model.specs.Courses.{position};
 ghost use Rattle.hive_model.specs.Stack.{level_of};
-ghost use Rattle.opening_book.specs.Book.{Played, IsTally, IsBook};
+ghost use Rattle.opening_book.specs.Book.{BookGame, IsTally, IsBook};
 ghost use Rattle.opening_book.specs.Plies.{IsMost};
 
 use crate::plies::count_plies;
@@ -81,7 +81,7 @@ impl Tally {
     /// than 2 to the power 40 plies are counted with it.
     pub fn add<G: Game>(&mut self, played: &mut G)
         requires { self.old.plies + length (G.course played.old).made < 2 ^ 40 }
-        ensures added { (p : Position) (games : List Played) → IsTally p games self.old → IsTally p
+        ensures added { (p : Position) (games : List BookGame) → IsTally p games self.old → IsTally p
             (games ++ record {
               game_type = (G.course played.old).game_type;
               made = (G.course played.old).made;
@@ -111,7 +111,7 @@ impl Tally {
     /// The first of the legal moves that was made most often, and how often; none where none was
     /// made.
     pub fn best(&self) -> Option<(Move, u64)>
-        ensures { (p : Position) (games : List Played) → IsTally p games self.now
+        ensures { (p : Position) (games : List BookGame) → IsTally p games self.now
             → IsBook p games result }
     {
         let (place, most) = most_made(self.counts.as_slice());

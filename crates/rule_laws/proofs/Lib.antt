@@ -4,3 +4,8 @@ pub mod Lands
 pub mod Moves
 pub mod Openings
 pub mod Games
+pub mod QueenLaws
+pub mod CountLaws
+pub mod StateLaws
+pub mod Pigeons
+pub mod SpanLaws

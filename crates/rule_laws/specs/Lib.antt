@@ -1,1 +1,3 @@
 pub mod Soundness
+pub mod Readings
+pub mod Spans

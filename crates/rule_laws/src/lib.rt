@@ -1,6 +1,11 @@
-//! Laws of positions and games: what a legal move leaves of a sound position, and what each game
-//! keeps. They have no code: a function here has its law as its contract, and an empty body.
+//! Laws of positions and games: what a legal move leaves of a sound position, what each game
+//! keeps, how far the places of one hive are from each other, and what the rules come to in a
+//! player's words. They have no code: a function here has its law as its contract, and an empty
+//! body.
 #![tactic(auto)]
+
+mod readings;
+mod spans;
 
 ghost use Rattle.rule_laws.specs.Soundness.{
   OpeningsAreSound,
@@ -9,6 +14,11 @@ ghost use Rattle.rule_laws.specs.Soundness.{
   GamesAreSound,
   GamesCountPlies,
 };
+
+pub use readings::{
+    evaluations_count_the_type, games_begin_and_go_on, near_places_are_beside, queens_come_first,
+};
+pub use spans::hives_are_short;
 
 /// The opening of every game type is a sound position, and no coordinate of a piece on its board is
 /// larger in size than 0.

@@ -3,7 +3,7 @@ use Rattle.std.proofs.Common.{◌≡◌, ℕ, ◌+◌, ◌-◌, ◌^◌, ◌<◌
 use Rattle.std.specs.Prelude.{is_some, ◌&&◌, if◌then◌else◌}
 use Rattle.std.proofs.lemmas.Bool.Decides.{nat_tests}
 use Rattle.io_edge.specs.Outside.{one_more}
-use Rattle.ticker.specs.Ticks.{Ticks, is_due, has_come, IsInTime, CountsPlays}
+use Rattle.search_core.specs.Ticks.{Ticks, is_due, has_come, IsInTime, CountsPlays}
 
 -- ---- in time
 

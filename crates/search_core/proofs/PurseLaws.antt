@@ -20,7 +20,7 @@ use Rattle.search_laws.proofs.FoundLaws.{found-cut}
 use Rattle.search_laws.proofs.CourseLaws.{position-with_move}
 use Rattle.search_laws.proofs.CostLaws.{tries-falls}
 use Rattle.search_laws.proofs.HintLaws.{tried-falls, reply-low}
-use Rattle.ticker.specs.Ticks.{Ticks, KeepsTime, HasStopped, IsInTime, has_come}
+use Rattle.search_core.specs.Ticks.{Ticks, KeepsTime, HasStopped, IsInTime, has_come}
 use Rattle.search_core.proofs.CountLaws.{in_time-then}
 use Rattle.search_core.specs.declared.purse.Purse.{Purse}
 use Rattle.search_core.specs.Times.{IsPaid, HasEnded, with_saved, counted, IsAtMost, IsTriedEarly}
@@ -40,7 +40,6 @@ paid-here a b n0 n1 n2 n3 c0 c1 before after x = record {
   mode = x.mode;
   plays = λ e. omega (arith, x.plays e, before, after);
   counts = λ e. omega (arith, x.counts e);
-}
 }
 
 abbrev one_if : Bool → ℕ

@@ -12,7 +12,7 @@ ghost use Rattle.hive_model.specs.Courses.{position};
 ghost use Rattle.search_laws.specs.Found.{IsFound, IsOpen};
 ghost use Rattle.search_laws.specs.Nodes.{HasRoom, IsNode, AreAsBefore};
 ghost use Rattle.search_laws.specs.Tries.{tried_cost};
-ghost use Rattle.ticker.specs.Ticks.{KeepsTime, IsInTime, CountsPlays};
+ghost use Rattle.search_core.specs.Ticks.{KeepsTime, IsInTime, CountsPlays};
 ghost use Rattle.search_core.specs.Times.{HasEnded, IsPaid, counted, with_saved};
 
 use crate::choice::{best_told, legal_choice, place_of};
@@ -20,10 +20,10 @@ use crate::early::search_early;
 use crate::entries::Tried;
 use crate::purse::Purse;
 use crate::replies::reply_with;
+use crate::ticker::Ticker;
 use hive_model::{Game, Move, MoveStack};
 use io_edge::Clock;
 use search_laws::Window;
-use ticker::Ticker;
 use value_table::ValueTable;
 
 /// Searches as `search` does where the game goes on and a ply is left to search; none where the

@@ -8,7 +8,7 @@ ghost use Rattle.hive_model.specs.Costs.{cost};
 ghost use Rattle.hive_model.specs.Courses.{position};
 ghost use Rattle.search_laws.specs.Found.{IsFound, IsOpen};
 ghost use Rattle.search_laws.specs.Nodes.{HasRoom, AreAsBefore};
-ghost use Rattle.ticker.specs.Ticks.{KeepsTime, IsInTime, CountsPlays};
+ghost use Rattle.search_core.specs.Ticks.{KeepsTime, IsInTime, CountsPlays};
 ghost use Rattle.search_core.specs.Times.{HasEnded, IfFound, IsPaid, counted, with_saved};
 ghost use Rattle.value_table.specs.Entries.{KnownParts};
 ghost use Rattle.value_table.specs.Kept.{kept};
@@ -19,10 +19,10 @@ use crate::entries::{answer_of, keep_found};
 use crate::found::Found;
 use crate::node_moves::search_moves;
 use crate::purse::Purse;
+use crate::ticker::Ticker;
 use hive_model::{Game, MoveStack};
 use io_edge::Clock;
 use search_laws::{Window, leaf_value};
-use ticker::Ticker;
 use value_table::ValueTable;
 
 /// Searches as `search` does, with this purse. `Stopped` also where an early try could not be paid

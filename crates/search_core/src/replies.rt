@@ -7,17 +7,17 @@ ghost use Rattle.hive_model.specs.Costs.{cost};
 ghost use Rattle.hive_model.specs.Courses.{position};
 ghost use Rattle.search_laws.specs.Found.{IsFound, IsOpen};
 ghost use Rattle.search_laws.specs.Nodes.{CanReply, AreAsBefore};
-ghost use Rattle.ticker.specs.Ticks.{HasStopped, KeepsTime, IsInTime, CountsPlays};
+ghost use Rattle.search_core.specs.Ticks.{HasStopped, KeepsTime, IsInTime, CountsPlays};
 ghost use Rattle.search_core.specs.Times.{HasEnded, IsPaid, counted, with_saved};
 
 use crate::found::Found;
 use crate::nodes::search_with;
 use crate::purse::Purse;
+use crate::ticker::Ticker;
 use crate::told::told_reply;
 use hive_model::{Game, Move, MoveStack};
 use io_edge::Clock;
 use search_laws::Window;
-use ticker::Ticker;
 use value_table::ValueTable;
 
 /// Searches for what a legal move is worth to the side that makes it, with `depth` plies of best

@@ -8,7 +8,7 @@ ghost use Rattle.hive_model.specs.Courses.{position};
 ghost use Rattle.search_laws.specs.Found.{IsFound, IsOpen};
 ghost use Rattle.search_laws.specs.Nodes.{IsNode, AreAsBefore};
 ghost use Rattle.search_laws.specs.Tries.{tried_cost};
-ghost use Rattle.ticker.specs.Ticks.{KeepsTime, IsInTime, CountsPlays};
+ghost use Rattle.search_core.specs.Ticks.{KeepsTime, IsInTime, CountsPlays};
 ghost use Rattle.search_core.specs.Times.{behind, sum_but};
 ghost use Rattle.search_core.specs.Times.{HasEnded, IsAtMost, IsPaid, counted, with_saved};
 
@@ -16,10 +16,10 @@ use crate::choice::move_at;
 use crate::entries::{Tried, better};
 use crate::purse::Purse;
 use crate::replies::reply_with;
+use crate::ticker::Ticker;
 use hive_model::{Game, MoveStack};
 use io_edge::Clock;
 use search_laws::Window;
-use ticker::Ticker;
 use value_table::ValueTable;
 
 /// The places of the moves that were tried before their turn, and of the best of them.

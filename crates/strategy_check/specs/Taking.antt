@@ -1,12 +1,12 @@
 -- What is told of indices at one moment of a walk.
 use Rattle.std.proofs.Common.{◌≡◌, ◌<◌, ◌≤◌, ◌+◌, ℕ, List, [], ◌∷◌, Option, None, Some, ap, arith, subst}
-use Rattle.claim_walks.specs.Items.{Supply}
-use Rattle.claim_walks.specs.Taking.{Moment, moment_of}
-use Rattle.claim_walks.specs.Answers.{looked}
-use Rattle.claim_walks.specs.Follows.{CarriesOn}
-use Rattle.claim_walks.specs.Walks.{Outcome, Fault, Halt, Step, Below, Ends}
-use Rattle.strategy_check.specs.declared.answers.Why.{Why}
-use Rattle.strategy_check.specs.declared.answers.Why.TheVariants.{TooShort}
+use Rattle.strategy_walks.specs.Items.{Supply}
+use Rattle.strategy_walks.specs.Taking.{Moment, moment_of}
+use Rattle.strategy_walks.specs.Answers.{looked}
+use Rattle.strategy_walks.specs.Follows.{CarriesOn}
+use Rattle.strategy_walks.specs.Walks.{WalkEnd, Fault, Halt, Step, Below, Ends}
+use Rattle.strategy_check.specs.declared.why.Why.{Why}
+use Rattle.strategy_check.specs.declared.why.Why.TheVariants.{TooShort}
 use Rattle.strategy_check.specs.declared.walk.IndexWalk.{IndexWalk}
 use Rattle.strategy_check.specs.Trace.{Steps, steps, take_index, index_rules}
 use Rattle.strategy_check.specs.Checks.{index_faults, index_sight}
@@ -26,14 +26,14 @@ below-on (Some j ∷ xs) n i t e =
     let more : n + 1 ≡ t.taken = ap (λ (u : Steps). u.taken) same in
     omega (arith, more)
 
-ends-on : (xs : List (Option ℕ)) (k : ℕ) (o : Outcome Steps Why) → take_index xs k ≡ Ends o
+ends-on : (xs : List (Option ℕ)) (k : ℕ) (o : WalkEnd Steps Why) → take_index xs k ≡ Ends o
     → k < looked index_faults (λ s. s.taken) o
 ends-on [] k o e =
     let same : Fault TooShort k ≡ o = cc in
-    subst (λ (u : Outcome Steps Why). k < looked index_faults (λ s. s.taken) u) same (omega arith)
+    subst (λ (u : WalkEnd Steps Why). k < looked index_faults (λ s. s.taken) u) same (omega arith)
 ends-on (None ∷ xs) k o e =
     let same : Halt k ≡ o = cc in
-    subst (λ (u : Outcome Steps Why). k < looked index_faults (λ s. s.taken) u) same (omega arith)
+    subst (λ (u : WalkEnd Steps Why). k < looked index_faults (λ s. s.taken) u) same (omega arith)
 ends-on (Some j ∷ xs) k o e = cc
 
 -- however a walk goes on, it looks for no fewer indices

@@ -8,38 +8,38 @@ use Rattle.hive_model.specs.Games.{after}
 use Rattle.hive_model.specs.Keys.{key}
 use Rattle.hive_model.specs.Minimax.{value}
 use Rattle.search_laws.specs.Leaves.{IsLeaf}
-use Rattle.claim_walks.specs.declared.limit.Limit.{Limit}
-use Rattle.claim_walks.specs.declared.limit.Limit.TheVariants.{AtMost, AtLeast}
-use Rattle.claim_walks.specs.Items.{is_none_left}
-use Rattle.claim_walks.specs.Limits.{is_kept}
-use Rattle.claim_walks.specs.Walks.{Outcome, Left, Fault, Halt, Step, Below, Ends, go_on, walk_all, walk_at, walk_step, leaf_outcome, walk, walk_moves, walk_root, place_of, certificate}
-use Rattle.claim_walks.proofs.WalkLaws.{walk-leaf, walk-suc, walk-ends}
-use Rattle.strategy_check.specs.declared.answers.Why.{Why}
-use Rattle.strategy_check.specs.declared.answers.Why.TheVariants.{BadIndex, Rest}
+use Rattle.strategy_walks.specs.declared.limit.Limit.{Limit}
+use Rattle.strategy_walks.specs.declared.limit.Limit.TheVariants.{AtMost, AtLeast}
+use Rattle.strategy_walks.specs.Items.{is_none_left}
+use Rattle.strategy_walks.specs.Limits.{is_kept}
+use Rattle.strategy_walks.specs.Walks.{WalkEnd, Left, Fault, Halt, Step, Below, Ends, go_on, walk_all, walk_at, walk_step, leaf_outcome, walk, walk_moves, walk_root, place_of, certificate}
+use Rattle.strategy_walks.proofs.WalkLaws.{walk-leaf, walk-suc, walk-ends}
+use Rattle.strategy_check.specs.declared.why.Why.{Why}
+use Rattle.strategy_check.specs.declared.why.Why.TheVariants.{BadIndex, Rest}
 use Rattle.strategy_check.specs.Trace.{Steps, steps, take_index, index_rules, trace, checked}
 use Rattle.strategy_lemmas.specs.declared.tokens.Token.{Token}
 use Rattle.strategy_lemmas.specs.declared.tokens.Token.TheVariants.{Index, Cite}
-use Rattle.lemma_list.specs.declared.lemmas.Lemma.{Lemma}
+use Rattle.strategy_lemmas.specs.declared.lemmas.Lemma.{Lemma}
 use Rattle.strategy_lemmas.specs.Short.{ShortSteps, short_steps, passes_over, writes_index, short_take, short_rules, of_indices, shortened}
-use Rattle.lemma_list.specs.Lemmas.{server}
+use Rattle.strategy_lemmas.specs.Lemmas.{server}
 
-go-same : (o : Outcome ShortSteps Why) (q : Outcome Steps Why) (f : ShortSteps → Outcome ShortSteps Why) (g : Steps → Outcome Steps Why) → of_indices o ≡ q →
+go-same : (o : WalkEnd ShortSteps Why) (q : WalkEnd Steps Why) (f : ShortSteps → WalkEnd ShortSteps Why) (g : Steps → WalkEnd Steps Why) → of_indices o ≡ q →
     ((t : ShortSteps) → of_indices (f t) ≡ g t.items) → of_indices (go_on o f) ≡ go_on q g
 go-same (Left t) q f g e h = h t ∙ ap (λ o. go_on o g) e
 go-same (Fault why n) q f g e h = ap (λ o. go_on o g) e
 go-same (Halt n) q f g e h = ap (λ o. go_on o g) e
 
-all-same : (f : Move → ShortSteps → Outcome ShortSteps Why) (g : Move → Steps → Outcome Steps Why) → ((m : Move) (t : ShortSteps) → of_indices (f m t) ≡ g m t.items) →
+all-same : (f : Move → ShortSteps → WalkEnd ShortSteps Why) (g : Move → Steps → WalkEnd Steps Why) → ((m : Move) (t : ShortSteps) → of_indices (f m t) ≡ g m t.items) →
     (ms : List Move) (t : ShortSteps) → of_indices (walk_all f ms t) ≡ walk_all g ms t.items
 all-same f g h [] t = refl
 all-same f g h (m ∷ ms) t = go-same (f m t) (g m t.items) (walk_all f ms) (walk_all g ms) (h m t) (λ u. all-same f g h ms u)
 
-at-same : (f : Move → ShortSteps → Outcome ShortSteps Why) (g : Move → Steps → Outcome Steps Why) → ((m : Move) (t : ShortSteps) → of_indices (f m t) ≡ g m t.items) →
+at-same : (f : Move → ShortSteps → WalkEnd ShortSteps Why) (g : Move → Steps → WalkEnd Steps Why) → ((m : Move) (t : ShortSteps) → of_indices (f m t) ≡ g m t.items) →
     (o : Option Move) (t : ShortSteps) → of_indices (walk_at BadIndex t.items.taken f o t) ≡ walk_at BadIndex t.items.taken g o t.items
 at-same f g h None t = refl
 at-same f g h (Some m) t = h m t
 
-pub passed-same : (o : Outcome Steps Why) (ls : List Lemma) (ws : List Token) → of_indices (passes_over o ls ws) ≡ o
+pub passed-same : (o : WalkEnd Steps Why) (ls : List Lemma) (ws : List Token) → of_indices (passes_over o ls ws) ≡ o
 passed-same (Left s) ls ws = refl
 passed-same (Fault why n) ls ws = refl
 passed-same (Halt n) ls ws = refl

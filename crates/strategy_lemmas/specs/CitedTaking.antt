@@ -2,13 +2,13 @@
 use Rattle.std.proofs.Common.{◌≡◌, ◌<◌, ◌≤◌, ◌+◌, ℕ, ℤ, Bool, true, false, cond, List, [], ◌∷◌, Option, None, Some, ap, arith, subst}
 use Rattle.std.specs.List.{slice_get}
 use Rattle.hive_model.specs.Keys.{KeyParts, key}
-use Rattle.claim_walks.specs.Items.{Supply}
-use Rattle.claim_walks.specs.Taking.{Moment, moment_of}
-use Rattle.claim_walks.specs.Answers.{looked}
-use Rattle.claim_walks.specs.Follows.{CarriesOn}
-use Rattle.claim_walks.specs.Walks.{Outcome, Left, Fault, Halt, Step, Below, Ends}
-use Rattle.lemma_list.specs.declared.lemmas.Lemma.{Lemma}
-use Rattle.lemma_list.specs.Lemmas.{serves}
+use Rattle.strategy_walks.specs.Items.{Supply}
+use Rattle.strategy_walks.specs.Taking.{Moment, moment_of}
+use Rattle.strategy_walks.specs.Answers.{looked}
+use Rattle.strategy_walks.specs.Follows.{CarriesOn}
+use Rattle.strategy_walks.specs.Walks.{WalkEnd, Left, Fault, Halt, Step, Below, Ends}
+use Rattle.strategy_lemmas.specs.declared.lemmas.Lemma.{Lemma}
+use Rattle.strategy_lemmas.specs.Lemmas.{serves}
 use Rattle.strategy_lemmas.specs.declared.tokens.Token.{Token}
 use Rattle.strategy_lemmas.specs.declared.tokens.Token.TheVariants.{Index, Cite}
 use Rattle.strategy_lemmas.specs.declared.tokens.WhyCited.{WhyCited}
@@ -43,7 +43,7 @@ below-on k e x (Some (Cite j) ∷ xs) n i ls t h =
     absurd (never-below k e x (slice_get ls j) xs (n + 1) i ls t h)
 
 -- more than so many are looked for
-abbrev LooksPast : ℕ → Outcome CitedSteps WhyCited → Type 0
+abbrev LooksPast : ℕ → WalkEnd CitedSteps WhyCited → Type 0
 LooksPast n o = n < looked cited_faults (λ s. s.taken) o
 
 served-on : (test : Bool) (xs : List (Option Token)) (n : ℕ) (ls : List Lemma)
@@ -52,7 +52,7 @@ served-on true xs n ls = omega arith
 served-on false xs n ls = omega arith
 
 pub cites-on : (k : KeyParts) (e : ℕ) (x : ℤ) (l : Option Lemma) (xs : List (Option Token)) (n : ℕ)
-    (ls : List Lemma) (o : Outcome CitedSteps WhyCited) → cites k e x l xs (n + 1) ls ≡ Ends o
+    (ls : List Lemma) (o : WalkEnd CitedSteps WhyCited) → cites k e x l xs (n + 1) ls ≡ Ends o
     → LooksPast n o
 cites-on k e x None xs n ls o h =
     let same : Fault BadCite (n + 1) ≡ o = cc in
@@ -63,7 +63,7 @@ cites-on k e x (Some l) xs n ls o h =
     subst (LooksPast n) same (served-on (serves k e x l) xs n ls)
 
 ends-on : (k : KeyParts) (e : ℕ) (x : ℤ) (xs : List (Option Token)) (n : ℕ) (ls : List Lemma)
-    (o : Outcome CitedSteps WhyCited) → take_token k e x xs n ls ≡ Ends o → LooksPast n o
+    (o : WalkEnd CitedSteps WhyCited) → take_token k e x xs n ls ≡ Ends o → LooksPast n o
 ends-on k e x [] n ls o h =
     let same : Fault TooShort n ≡ o = cc in
     subst (LooksPast n) same (omega arith)

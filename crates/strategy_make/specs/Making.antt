@@ -3,16 +3,16 @@ use Rattle.std.specs.Prelude.{◌≡◌, ℕ, ◌-◌, ◌<◌, List, [], ◌++�
 use Rattle.io_edge.specs.Outside.{Told, behind}
 use Rattle.hive_model.specs.declared.pieces.GameType.{GameType}
 use Rattle.hive_model.specs.declared.places.Move.{Move}
-use Rattle.hive_model.specs.declared.answers.Best.{Best}
+use Rattle.hive_model.specs.declared.best.Best.{Best}
 use Rattle.hive_model.specs.Positions.{Position, opening}
 use Rattle.hive_model.specs.Legal.{moves}
 use Rattle.hive_model.specs.Games.{replay}
 use Rattle.hive_model.specs.Courses.{Course, position}
 use Rattle.hive_model.specs.Minimax.{value, best}
-use Rattle.claim_walks.specs.Walks.{place_of}
+use Rattle.strategy_walks.specs.Walks.{place_of}
 use Rattle.strategy_check.specs.Least.{least_moves}
-use Rattle.certificate_text.specs.Text.{head_text}
-use Rattle.index_writing.specs.Writing.{index_lines}
+use Rattle.strategy_text.specs.Text.{head_text}
+use Rattle.strategy_indices.specs.Writing.{index_lines}
 use Rattle.strategy_make.specs.declared.fault.MakeFault.{MakeFault}
 use Rattle.strategy_make.specs.declared.fault.MakeFault.TheVariants.{WriteFault, Memory}
 

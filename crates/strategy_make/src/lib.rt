@@ -5,9 +5,9 @@
 mod fault;
 mod head;
 mod laws;
-mod making;
+mod make;
 mod roots;
 
 pub use fault::MakeFault;
 pub use laws::{certificates_are_read, least_indices_hold};
-pub use making::make;
+pub use make::make;

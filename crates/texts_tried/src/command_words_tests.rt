@@ -7,7 +7,7 @@ mod matches;
 mod tournaments;
 
 use command_words::{Asked, asked_of};
-use cup_core::Program;
+use cup::Program;
 use hive_model::GameType;
 use match_core::{Level, Setup};
 use std::alloc::{AllocError, Global};

@@ -19,7 +19,7 @@ use Rattle.torus_board.specs.declared.towers.Tower.{Tower}
 use Rattle.torus_board.specs.Grid.{IsSide, HasTowers, IsLinked, IsRinged, IsTurned}
 use Rattle.torus_board.proofs.RingLaws.{empty_ringed}
 use Rattle.torus_board.proofs.TowerLaws.{tower_of, towers_put, towers_lift, empty_towers, height_apart}
-use Rattle.residues.specs.Residues.{cell_of}
+use Rattle.torus_board.specs.Residues.{cell_of}
 use Rattle.torus_board.proofs.Links.{put_height, linked_put, spread_put, linked_lift, spread_lift, empty_spread}
 
 -- a height is no more than the number of the pieces

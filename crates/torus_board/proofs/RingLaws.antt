@@ -13,7 +13,7 @@ use Rattle.hive_model.proofs.GetLemmas.{get-set_same, get-set_other}
 use Rattle.hive_model.proofs.PlaceLemmas.{cases_place}
 use Rattle.hive_model.proofs.RuleLaws.{step_once}
 use Rattle.hive_model.proofs.LiftedMasks.{same_mask}
-use Rattle.residues.specs.Residues.{cell_of}
+use Rattle.torus_board.specs.Residues.{cell_of}
 use Rattle.torus_board.specs.declared.rings.Ring.{Ring}
 use Rattle.torus_board.specs.Grid.{HasMask, IsRinged, IsTurned}
 use Rattle.torus_board.proofs.Turns.{facing, step_back}

@@ -13,8 +13,8 @@ use Rattle.hive_model.proofs.BoardLemmas.{stack_at-put, stands_occupied}
 use Rattle.hive_model.proofs.CopyLaws.{not_occupied}
 use Rattle.hive_model.proofs.LiftLemmas as lifts
 use Rattle.hive_model.specs.Spread.{IsNearAll, IsSpread}
-use Rattle.residues.specs.Residues.{cell_of}
-use Rattle.residues.proofs.Cells.{cell_once, cell_within}
+use Rattle.torus_board.specs.Residues.{cell_of}
+use Rattle.torus_board.proofs.Cells.{cell_once, cell_within}
 use Rattle.torus_board.specs.declared.towers.Tower.{Tower}
 use Rattle.torus_board.specs.Grid.{HasTowers, tower_at}
 use Rattle.torus_board.proofs.Links.{put_height, put_top_here, put_top_there}

@@ -4,7 +4,7 @@ use Rattle.std.specs.Prelude.{List, length, Option, Some, slice_get}
 use Rattle.hive_model.specs.declared.places.Place.{Place}
 use Rattle.hive_model.specs.Boards.{Stacks, height_at, is_occupied, top_at, under_of}
 use Rattle.hive_model.specs.Neighbours.{ring, ring_mask}
-use Rattle.residues.specs.Residues.{cell_of}
+use Rattle.torus_board.specs.Residues.{cell_of}
 use Rattle.torus_board.specs.declared.rings.Ring.{Ring}
 use Rattle.torus_board.specs.declared.towers.Tower.{Tower}
 

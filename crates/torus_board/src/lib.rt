@@ -1,6 +1,7 @@
 //! A board on a wrapped grid.
 #![tactic(auto)]
 
+mod residues;
 mod rings;
 mod towers;
 
@@ -28,12 +29,13 @@ ghost use Rattle.hive_model.specs.Boards.{
 ghost use Rattle.hive_model.specs.Places.{IsWithin};
 ghost use Rattle.hive_model.specs.Spots.{board_of, IsSpots};
 ghost use Rattle.hive_model.specs.Spread.{IsSpread, IsNearAll};
-ghost use Rattle.residues.specs.Residues.{residue, cell_of};
+ghost use Rattle.torus_board.specs.Residues.{residue, cell_of};
 ghost use Rattle.torus_board.specs.Grid.{IsSide, IsLinked};
 
 use crate::rings::{Ring, mask_in, renew_round};
 use crate::towers::{Tower, height_in, top_in, tower_in};
 use hive_model::{Board, GameBoard, Piece, Place, Spot};
+pub use residues::residues_are_distinct;
 use std::alloc::{AllocError, Global};
 use std::marker::Model;
 

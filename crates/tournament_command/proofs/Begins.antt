@@ -8,7 +8,7 @@ use Rattle.command_runs.specs.declared.status.Status.{Status}
 use Rattle.command_runs.specs.declared.status.Status.TheVariants.{Memory}
 use Rattle.command_runs.proofs.OneGameLemmas.{all_were_read}
 use Rattle.cup_command.specs.Cup.{Scene}
-use Rattle.cup_core.specs.Engines.{Engine}
+use Rattle.cup.specs.Engines.{Engine}
 use Rattle.tournament_core.specs.declared.fixtures.GameEnd.{GameEnd}
 use Rattle.tournament_games.specs.Tournaments.{Terms}
 use Rattle.tournament_games.specs.Waves.{TournamentRun}

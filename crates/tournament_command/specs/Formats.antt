@@ -2,7 +2,7 @@
 use Rattle.std.specs.Prelude.{ℕ, ◌≤◌, List, [], ◌∷◌, length}
 use Rattle.hive_model.specs.declared.places.Move.{Move}
 use Rattle.match_core.specs.Keeps.{IsSetup}
-use Rattle.cup_core.specs.Engines.{Engine}
+use Rattle.cup.specs.Engines.{Engine}
 use Rattle.tournament_core.specs.declared.plan.Plan.{Plan}
 use Rattle.tournament_games.specs.Tournaments.{Terms, terms}
 use Rattle.tournament_command.specs.declared.format.Format.{Format}

@@ -7,7 +7,7 @@ use Rattle.command_runs.specs.Answered.{Inquiry, IsUnanswered, TellsNone}
 use Rattle.command_runs.specs.Input.{IsAllRead, WereRead, WhereTold}
 use Rattle.command_runs.specs.declared.no_game.NoGame.{NoGame}
 use Rattle.command_runs.specs.declared.status.Status.{Status}
-use Rattle.cup_core.specs.Engines.{Engine}
+use Rattle.cup.specs.Engines.{Engine}
 use Rattle.cup_command.specs.Cup.{Scene}
 use Rattle.tournament_games.specs.Waves.{TournamentRun}
 use Rattle.tournament_command.specs.declared.format.Format.{Format}
@@ -78,7 +78,7 @@ pub record IsTold (engines : ℕ) (f : Format) (input : List ℕ) (rest : Told) 
 
 -- This was read, and the tournament was played from these openings, behind the games that were
 -- played before.
-pub record Begun
+pub record PlayedFrom
     (engines : List Engine) (f : Format) (status : Status) (before after : ReadScene) (i : Intake)
     : Type 0 where
   pub told : WhereTold before.rest (λ input. IsTold (length engines) f input after.rest i)
@@ -99,5 +99,5 @@ pub record NoneRead
 -- what was read, written and played where a tournament of these engines ends with this status
 abbrev pub ReadTournamentRun : List Engine → Format → Status → ReadScene → ReadScene → Type 0
 ReadTournamentRun engines f status before after =
-    ((i : Intake) × Begun engines f status before after i)
+    ((i : Intake) × PlayedFrom engines f status before after i)
     ⊎ ((none : NoGame) × NoneRead (length engines) f status before after none)

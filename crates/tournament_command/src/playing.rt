@@ -12,7 +12,7 @@ use crate::format::Format;
 use crate::intake::plan_of;
 use crate::reading::read_intake;
 use command_runs::{Status, tell_none};
-use cup_core::Program;
+use cup::Program;
 use hive_model::{Game, MoveList};
 use io_edge::{Sink, Source, Spawner};
 use std::alloc::{AllocError, Global};

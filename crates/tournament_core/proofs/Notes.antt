@@ -10,12 +10,12 @@ use Rattle.hive_model.specs.declared.pieces.Colour.{Colour}
 use Rattle.hive_model.specs.Pieces.{other_side}
 use Rattle.tournament_core.specs.declared.fixtures.Fixture.{Fixture}
 use Rattle.tournament_core.specs.Schedules.{IsEngine, IsFixture}
-use Rattle.tournament_core.specs.Ends.{Played, player}
+use Rattle.tournament_core.specs.Ends.{PlayedFixture, player}
 use Rattle.tournament_core.specs.Counts.{Cells, Counts, Counting, count_at, one_at, has_beaten, have_drawn, has_forfeited, IsTallyOf}
 use Rattle.tournament_core.proofs.Results.{one-of-two}
 
 -- counts to which a game adds what it is to be counted for
-counting-more : (n : ℕ) (games : List Played) (g : Played) (old new : Cells) (test : ℕ → ℕ → Played → Bool) → Counting n games old test →
+counting-more : (n : ℕ) (games : List PlayedFixture) (g : PlayedFixture) (old new : Cells) (test : ℕ → ℕ → PlayedFixture → Bool) → Counting n games old test →
     ((i j : ℕ) → IsEngine n i → IsEngine n j → count_at new i j ≡ count_at old i j + cond (test i j g) 1 0) → Counting n (games ++ g ∷ []) new test
 counting-more n games g old new test was more i j row column =
     more i j row column
@@ -23,14 +23,14 @@ counting-more n games g old new test was more i j row column =
     ∙ sym (sum_by_push (λ x. cond (test i j x) 1 0) games g)
 
 -- what a game adds to each of the counts
-pub record Adds (n : ℕ) (g : Played) (old new : Counts) : Type 0 where
+pub record Adds (n : ℕ) (g : PlayedFixture) (old new : Counts) : Type 0 where
   engines : new.engines ≡ old.engines
   games : new.games ≡ old.games + 1
   wins : (i j : ℕ) → IsEngine n i → IsEngine n j → count_at new.wins i j ≡ count_at old.wins i j + cond (has_beaten i j g) 1 0
   draws : (i j : ℕ) → IsEngine n i → IsEngine n j → count_at new.draws i j ≡ count_at old.draws i j + cond (have_drawn i j g) 1 0
   forfeits : (i j : ℕ) → IsEngine n i → IsEngine n j → count_at new.forfeits i j ≡ count_at old.forfeits i j + cond (has_forfeited i j g) 1 0
 
-tally-more : (games : List Played) (g : Played) (old new : Counts) → IsFixture old.engines g.fixture → Adds old.engines g old new → IsTallyOf games old → IsTallyOf (games ++ g ∷ []) new
+tally-more : (games : List PlayedFixture) (g : PlayedFixture) (old new : Counts) → IsFixture old.engines g.fixture → Adds old.engines g old new → IsTallyOf games old → IsTallyOf (games ++ g ∷ []) new
 tally-more games g old new fixture adds was =
     let engines = sym adds.engines in
     record {
@@ -51,7 +51,7 @@ and-none false = refl
 both-drawn : (w b i j : ℕ) → w ≢ b → one_at w b i j + one_at b w i j ≡ cond (nat_eq w i && nat_eq b j || nat_eq b i && nat_eq w j) 1 0
 both-drawn w b i j other = sym (one-of-two (nat_eq w i && nat_eq b j) (nat_eq b i && nat_eq w j) (λ first second. other (grind (arith, nat_tests))))
 
-pub noted-draw : (games : List Played) (old new : Counts) (fixture : Fixture) (f : Bool) → IsFixture old.engines fixture →
+pub noted-draw : (games : List PlayedFixture) (old new : Counts) (fixture : Fixture) (f : Bool) → IsFixture old.engines fixture →
     new.engines ≡ old.engines → new.games ≡ old.games + 1 → new.wins ≡ old.wins → new.forfeits ≡ old.forfeits →
     ((i j : ℕ) → IsEngine old.engines i → IsEngine old.engines j → count_at new.draws i j ≡ count_at old.draws i j + one_at fixture.white fixture.black i j + one_at fixture.black fixture.white i j) →
     IsTallyOf games old → IsTallyOf (games ++ record { fixture = fixture; ended = record { winner = None; forfeited = f } } ∷ []) new
@@ -69,7 +69,7 @@ forfeit-more : (f : Bool) (loser winner i j : ℕ) → cond f (one_at loser winn
 forfeit-more true loser winner i j = refl
 forfeit-more false loser winner i j = refl
 
-pub noted-win : (games : List Played) (old new : Counts) (fixture : Fixture) (f : Bool) (side : Colour) → IsFixture old.engines fixture →
+pub noted-win : (games : List PlayedFixture) (old new : Counts) (fixture : Fixture) (f : Bool) (side : Colour) → IsFixture old.engines fixture →
     new.engines ≡ old.engines → new.games ≡ old.games + 1 → new.draws ≡ old.draws →
     ((i j : ℕ) → IsEngine old.engines i → IsEngine old.engines j → count_at new.wins i j ≡ count_at old.wins i j + one_at (player fixture side) (player fixture (other_side side)) i j) →
     ((i j : ℕ) → IsEngine old.engines i → IsEngine old.engines j → count_at new.forfeits i j ≡ count_at old.forfeits i j + cond f (one_at (player fixture (other_side side)) (player fixture side) i j) 0) →

@@ -7,7 +7,7 @@ use Rattle.hive_model.specs.declared.pieces.Colour.{Colour}
 use Rattle.hive_model.specs.declared.pieces.Colour.TheVariants.{White, Black}
 use Rattle.tournament_core.specs.declared.fixtures.Fixture.{Fixture}
 use Rattle.tournament_core.specs.Schedules.{IsEngine, IsFixture, numbers}
-use Rattle.tournament_core.specs.Ends.{Played, won_by, lost_by, points, worth_by}
+use Rattle.tournament_core.specs.Ends.{PlayedFixture, won_by, lost_by, points, worth_by}
 use Rattle.tournament_core.proofs.SumLaws.{sum-zero, sum-plus}
 use Rattle.tournament_core.proofs.Numbers.{pick, pick-back}
 
@@ -59,7 +59,7 @@ forfeit-one n e fixture f (Some White) is = pick (λ j. 1) (f && nat_eq fixture.
 forfeit-one n e fixture f (Some Black) is = pick (λ j. 1) (f && nat_eq fixture.white e) n fixture.black is.black
 
 -- the points of the engine that was beaten
-pub beaten-one : (games : List Played) (n e : ℕ) (fixture : Fixture) (o : Option Colour) → IsFixture n fixture →
+pub beaten-one : (games : List PlayedFixture) (n e : ℕ) (fixture : Fixture) (o : Option Colour) → IsFixture n fixture →
     sum_by (λ j. cond (won_by fixture o e && lost_by fixture o j) (points games j) 0) (numbers n) ≡ worth_by games fixture o e
 beaten-one games n e fixture None is = sum-zero (numbers n)
 beaten-one games n e fixture (Some White) is = pick (points games) (nat_eq fixture.white e) n fixture.black is.black

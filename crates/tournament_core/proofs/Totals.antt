@@ -8,23 +8,23 @@ use Rattle.hive_model.specs.declared.pieces.Colour.{Colour}
 use Rattle.hive_model.specs.declared.pieces.Colour.TheVariants.{White, Black}
 use Rattle.tournament_core.specs.declared.fixtures.Fixture.{Fixture}
 use Rattle.tournament_core.specs.declared.standing.Standing.{Standing}
-use Rattle.tournament_core.specs.Ends.{Played, plays, won, lost, drew, forfeited, points, worth_by, beaten, standing}
+use Rattle.tournament_core.specs.Ends.{PlayedFixture, plays, won, lost, drew, forfeited, points, worth_by, beaten, standing}
 use Rattle.tournament_core.specs.Laws.{OrderIsFree}
 
-same-sum : (f : Played → ℕ) (games others : List Played) → IsPermutation games others → sum_by f games ≡ sum_by f others
+same-sum : (f : PlayedFixture → ℕ) (games others : List PlayedFixture) → IsPermutation games others → sum_by f games ≡ sum_by f others
 same-sum f games others moved = sym (sum_by-IsPermutation f games others moved)
 
-same-points : (games others : List Played) → IsPermutation games others → (e : ℕ) → points games e ≡ points others e
+same-points : (games others : List PlayedFixture) → IsPermutation games others → (e : ℕ) → points games e ≡ points others e
 same-points games others moved e =
     ap (λ k. 2 * k + count_by (drew e) games) (same-sum (λ g. cond (won e g) 1 0) games others moved)
     ∙ ap (λ k. 2 * count_by (won e) others + k) (same-sum (λ g. cond (drew e g) 1 0) games others moved)
 
-same-worth : (games others : List Played) → IsPermutation games others → (f : Fixture) (o : Option Colour) (e : ℕ) → worth_by games f o e ≡ worth_by others f o e
+same-worth : (games others : List PlayedFixture) → IsPermutation games others → (f : Fixture) (o : Option Colour) (e : ℕ) → worth_by games f o e ≡ worth_by others f o e
 same-worth games others moved f None e = refl
 same-worth games others moved f (Some White) e = ap (λ k. cond (nat_eq f.white e) k 0) (same-points games others moved f.black)
 same-worth games others moved f (Some Black) e = ap (λ k. cond (nat_eq f.black e) k 0) (same-points games others moved f.white)
 
-same-beaten : (games others : List Played) → IsPermutation games others → (e : ℕ) → beaten games e ≡ beaten others e
+same-beaten : (games others : List PlayedFixture) → IsPermutation games others → (e : ℕ) → beaten games e ≡ beaten others e
 same-beaten games others moved e =
     (λ i. sum_by (λ g. same-worth games others moved g.fixture g.ended.winner e i) games)
     ∙ same-sum (λ g. worth_by others g.fixture g.ended.winner e) games others moved

@@ -2,7 +2,7 @@
 use Rattle.std.specs.Prelude.{◌≡◌, ℕ, ◌+◌, ◌*◌, ◌<◌, ◌≤◌, ◌^◌, Bool, ◌&&◌, ◌||◌, nat_eq, is_none, List, length, slice_index, if◌then◌else◌}
 use Rattle.std.specs.List.{All, count_by}
 use Rattle.tournament_core.specs.Schedules.{IsEngine, IsFixture}
-use Rattle.tournament_core.specs.Ends.{Played, won, lost, forfeited}
+use Rattle.tournament_core.specs.Ends.{PlayedFixture, won, lost, forfeited}
 
 -- a count for each two numbers below a width, row by row
 pub record Cells : Type 0 where
@@ -28,18 +28,18 @@ abbrev pub IsAtMost : ℕ → Cells → Type 0
 IsAtMost most grid = (i j : ℕ) → i < grid.width → j < grid.width → count_at grid i j ≤ most
 
 -- one engine beat another one
-abbrev pub has_beaten : ℕ → ℕ → Played → Bool
+abbrev pub has_beaten : ℕ → ℕ → PlayedFixture → Bool
 has_beaten i j g = won i g && lost j g
 
 -- two engines drew
-abbrev pub have_drawn : ℕ → ℕ → Played → Bool
+abbrev pub have_drawn : ℕ → ℕ → PlayedFixture → Bool
 have_drawn i j g =
     is_none g.ended.winner
     && (nat_eq g.fixture.white i && nat_eq g.fixture.black j
     || nat_eq g.fixture.black i && nat_eq g.fixture.white j)
 
 -- one engine lost to another one by forfeit
-abbrev pub has_forfeited : ℕ → ℕ → Played → Bool
+abbrev pub has_forfeited : ℕ → ℕ → PlayedFixture → Bool
 has_forfeited i j g = forfeited i g && won j g
 
 -- what a tally shows: the number of its engines and of the games, and for each two engines how
@@ -52,12 +52,12 @@ pub record Counts : Type 0 where
   pub forfeits : Cells
 
 -- for each two of n engines it counts the games that pass a test
-abbrev pub Counting : ℕ → List Played → Cells → (ℕ → ℕ → Played → Bool) → Type 0
+abbrev pub Counting : ℕ → List PlayedFixture → Cells → (ℕ → ℕ → PlayedFixture → Bool) → Type 0
 Counting n games grid test =
     (i j : ℕ) → IsEngine n i → IsEngine n j → count_at grid i j ≡ count_by (test i j) games
 
 -- these are the games that were noted, each of two of the engines
-pub record IsTallyOf (games : List Played) (t : Counts) : Type 0 where
+pub record IsTallyOf (games : List PlayedFixture) (t : Counts) : Type 0 where
   pub many : t.games ≡ length games
   pub fixtures : All (λ g. IsFixture t.engines g.fixture) games
   pub wins : Counting t.engines games t.wins has_beaten

@@ -11,7 +11,7 @@ use Rattle.tournament_core.specs.declared.standing.Standing.{Standing}
 use Rattle.tournament_core.specs.Schedules.{numbers}
 
 -- a game that was played: who played it, and how it ended
-pub record Played : Type 0 where
+pub record PlayedFixture : Type 0 where
   pub fixture : Fixture
   pub ended : GameEnd
 
@@ -21,7 +21,7 @@ player f White = f.white
 player f Black = f.black
 
 -- an engine plays in a game
-abbrev pub plays : ℕ → Played → Bool
+abbrev pub plays : ℕ → PlayedFixture → Bool
 plays e g = nat_eq g.fixture.white e || nat_eq g.fixture.black e
 
 -- an engine won a game: it played the side that won
@@ -29,7 +29,7 @@ abbrev pub won_by : Fixture → Option Colour → ℕ → Bool
 won_by f None e = false
 won_by f (Some side) e = nat_eq (player f side) e
 
-abbrev pub won : ℕ → Played → Bool
+abbrev pub won : ℕ → PlayedFixture → Bool
 won e g = won_by g.fixture g.ended.winner e
 
 -- it lost a game: it played the other side
@@ -37,32 +37,32 @@ abbrev pub lost_by : Fixture → Option Colour → ℕ → Bool
 lost_by f None e = false
 lost_by f (Some side) e = nat_eq (player f (other_side side)) e
 
-abbrev pub lost : ℕ → Played → Bool
+abbrev pub lost : ℕ → PlayedFixture → Bool
 lost e g = lost_by g.fixture g.ended.winner e
 
 -- it drew a game: it played, and neither side won
-abbrev pub drew : ℕ → Played → Bool
+abbrev pub drew : ℕ → PlayedFixture → Bool
 drew e g = is_none g.ended.winner && plays e g
 
 -- it lost a game by forfeit
-abbrev pub forfeited : ℕ → Played → Bool
+abbrev pub forfeited : ℕ → PlayedFixture → Bool
 forfeited e g = g.ended.forfeited && lost e g
 
 -- the points of an engine: 2 for a game that it won, and 1 for one that it drew
-abbrev pub points : List Played → ℕ → ℕ
+abbrev pub points : List PlayedFixture → ℕ → ℕ
 points games e = 2 * count_by (won e) games + count_by (drew e) games
 
 -- what a game counts for an engine that beat another one: the points that the other one has in all
-abbrev pub worth_by : List Played → Fixture → Option Colour → ℕ → ℕ
+abbrev pub worth_by : List PlayedFixture → Fixture → Option Colour → ℕ → ℕ
 worth_by games f None e = 0
 worth_by games f (Some side) e =
     if nat_eq (player f side) e then points games (player f (other_side side)) else 0
 
-abbrev pub beaten : List Played → ℕ → ℕ
+abbrev pub beaten : List PlayedFixture → ℕ → ℕ
 beaten games e = sum_by (λ g. worth_by games g.fixture g.ended.winner e) games
 
 -- where an engine stands after games
-abbrev pub standing : List Played → ℕ → Standing
+abbrev pub standing : List PlayedFixture → ℕ → Standing
 standing games e = record {
   engine = e;
   points = points games e;
@@ -93,6 +93,6 @@ IsInOrder [] = Unit {0}
 IsInOrder (s ∷ ss) = Each (λ t. IsTrue (is_ahead s t)) ss × IsInOrder ss
 
 -- the standings of n engines after games: each of them once, in order
-pub record AreStandings (n : ℕ) (games : List Played) (list : List Standing) : Type 0 where
+pub record AreStandings (n : ℕ) (games : List PlayedFixture) (list : List Standing) : Type 0 where
   pub every : IsPermutation (map (standing games) (numbers n)) list
   pub order : IsInOrder list

@@ -5,7 +5,7 @@ use Rattle.std.specs.List.Sorted.{IsPermutation}
 use Rattle.tournament_core.specs.declared.fixtures.Fixture.{Fixture}
 use Rattle.tournament_core.specs.declared.plan.Plan.{Plan}
 use Rattle.tournament_core.specs.Schedules.{IsFixture, numbers, schedule}
-use Rattle.tournament_core.specs.Ends.{Played, points, standing}
+use Rattle.tournament_core.specs.Ends.{PlayedFixture, points, standing}
 
 -- the same opening, the same white and the same black
 abbrev pub is_same : Fixture → Fixture → Bool
@@ -32,11 +32,11 @@ EquallyOften =
 -- the points of all engines add up to twice the number of games
 abbrev pub PointsAddUp : Type 0
 PointsAddUp =
-    (n : ℕ) (games : List Played) → All (λ g. IsFixture n g.fixture) games
+    (n : ℕ) (games : List PlayedFixture) → All (λ g. IsFixture n g.fixture) games
     → sum_by (points games) (numbers n) ≡ 2 * length games
 
 -- the order of the games is of no account
 abbrev pub OrderIsFree : Type 0
 OrderIsFree =
-    (games others : List Played) → IsPermutation games others
+    (games others : List PlayedFixture) → IsPermutation games others
     → (e : ℕ) → standing games e ≡ standing others e

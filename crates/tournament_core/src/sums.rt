@@ -3,7 +3,7 @@
 ghost use Rattle.std.specs.Prelude.{◌≡◌, ◌*◌, ◌≤◌, ◌^◌, List};
 ghost use Rattle.std.specs.List.{count_by, sum_by};
 ghost use Rattle.tournament_core.specs.Schedules.{IsEngine, numbers};
-ghost use Rattle.tournament_core.specs.Ends.{Played, points, beaten};
+ghost use Rattle.tournament_core.specs.Ends.{PlayedFixture, points, beaten};
 ghost use Rattle.tournament_core.specs.Counts.{IsTallyOf, count_at};
 
 use crate::tally::Tally;
@@ -67,7 +67,7 @@ pub(crate) fn forfeits_of(tally: &Tally, engine: u32) -> u64
 /// The points of an engine.
 pub(crate) fn points_of(tally: &Tally, engine: u32) -> u64
     requires engine { IsEngine tally.now.engines engine }
-    ensures points { (games : List Played) → IsTallyOf games tally.now
+    ensures points { (games : List PlayedFixture) → IsTallyOf games tally.now
         → result ≡ points games engine }
     ensures few { result ≤ 2 ^ 51 }
 {
@@ -77,7 +77,7 @@ pub(crate) fn points_of(tally: &Tally, engine: u32) -> u64
 /// The points that the losers of the games that an engine won have in all, for each such game.
 pub(crate) fn beaten_of(tally: &Tally, engine: u32) -> u128
     requires engine { IsEngine tally.now.engines engine }
-    ensures { (games : List Played) → IsTallyOf games tally.now → result ≡ beaten games engine }
+    ensures { (games : List PlayedFixture) → IsTallyOf games tally.now → result ≡ beaten games engine }
 {
     let mut sum = 0;
     for other in 1..tally.engines() + 1 {

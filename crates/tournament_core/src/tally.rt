@@ -2,7 +2,7 @@
 
 ghost use Rattle.std.specs.Prelude.{◌≡◌, ◌+◌, ◌<◌, ◌≤◌, ◌^◌, ◌≢◌, ℕ, [], ◌∷◌, ◌++◌, List, IfOk, if◌then◌else◌};
 ghost use Rattle.tournament_core.specs.Schedules.{IsEngine, IsFixture};
-ghost use Rattle.tournament_core.specs.Ends.{Played};
+ghost use Rattle.tournament_core.specs.Ends.{PlayedFixture};
 ghost use Rattle.tournament_core.specs.Counts.{IsTallyOf, count_at, one_at};
 
 use crate::fixtures::{Fixture, GameEnd};
@@ -150,7 +150,7 @@ impl Tally {
         requires room { self.old.games < 2 ^ 42 }
         ensures engines { self.new.engines ≡ self.old.engines }
         ensures count { self.new.games ≡ self.old.games + 1 }
-        ensures noted { (games : List Played) → IsTallyOf games self.old
+        ensures noted { (games : List PlayedFixture) → IsTallyOf games self.old
             → IsTallyOf (games ++ record { fixture = fixture; ended = ended } ∷ []) self.new }
     {
         match ended.winner {

@@ -3,9 +3,9 @@ use Rattle.std.proofs.Common.{◌≡◌, Some, refl}
 use Rattle.hive_model.specs.declared.pieces.Colour.{Colour}
 use Rattle.hive_model.specs.declared.pieces.Colour.TheVariants.{White, Black}
 use Rattle.hive_model.specs.declared.places.State.TheVariants.{NotStarted, InProgress, Draw, WhiteWins, BlackWins}
-use Rattle.match_core.specs.declared.answers.Setup.{Setup}
-use Rattle.match_core.specs.declared.answers.Verdict.{Verdict}
-use Rattle.match_core.specs.declared.answers.Verdict.TheVariants.{Rules, Limit, Forfeit}
+use Rattle.match_core.specs.declared.setup.Setup.{Setup}
+use Rattle.match_core.specs.declared.verdict.Verdict.{Verdict}
+use Rattle.match_core.specs.declared.verdict.Verdict.TheVariants.{Rules, Limit, Forfeit}
 use Rattle.match_command.specs.Texts.{ending_text}
 use Rattle.tournament_games.specs.Texts.{absence_text, end_by, forfeited_by}
 use Rattle.tournament_games.specs.Readback.{EndsAreReadBack, IsEnding, end_in_text}

@@ -18,7 +18,7 @@ use Rattle.tournament_core.specs.declared.fixtures.GameEnd.{GameEnd}
 use Rattle.tournament_core.specs.declared.plan.Plan.{Plan}
 use Rattle.tournament_core.specs.declared.standing.Standing.{Standing as Place}
 use Rattle.tournament_core.specs.Schedules.{numbers, schedule}
-use Rattle.tournament_core.specs.Ends.{Played, points}
+use Rattle.tournament_core.specs.Ends.{PlayedFixture, points}
 use Rattle.tournament_core.specs.Counts.{Counts, IsTallyOf}
 use Rattle.tournament_games.specs.Tournaments.{Terms}
 use Rattle.tournament_core.proofs.Tallies.{points-add-up}
@@ -41,7 +41,7 @@ pub resumed-more : (plan : Plan) (ends : List GameEnd) (i : ℕ) (f : Fixture) (
     → resumed plan (take (i + 1) ends) ≡ resumed plan (take i ends) ++ record { fixture = f; ended = e } ∷ []
 resumed-more plan ends i f e there low is =
     let fs = schedule plan in
-    let pair : Fixture × GameEnd → Played = λ g. record { fixture = g.0; ended = g.1 } in
+    let pair : Fixture × GameEnd → PlayedFixture = λ g. record { fixture = g.0; ended = g.1 } in
     let inside : i < length fs = slice_get_within fs i f there in
     let within : i < length (zip fs ends) = let many = length-zip fs ends in omega (arith, many, low, inside) in
     let both : get_or (zip fs ends) i (f, e) ≡ (f, e) =
@@ -65,7 +65,7 @@ resumed-none plan = ap (λ gs. map (λ (g : Fixture × GameEnd). record { fixtur
 pub wrote-none : (t : Terms) (first : ℕ) (tally : Counts) (a : Scene) → a.written ≡ behind a.written [] → WroteGames t first [] [] tally tally a a
 wrote-none t first tally a same = record {
   played = played-none t first a.engines;
-  noted = λ games is. subst (λ (gs : List Played). IsTallyOf gs tally) (sym (append-none games)) is;
+  noted = λ games is. subst (λ (gs : List PlayedFixture). IsTallyOf gs tally) (sym (append-none games)) is;
   wrote = same;
 }
 
@@ -153,7 +153,7 @@ all-points : (t : Terms) (ends : List GameEnd) (news : List Job) (tally : Counts
     → sum_by (points (all_games t ends news)) (numbers t.plan.engines) ≡ 2 * length (schedule t.plan)
 all-points t ends news tally all engines noted =
     let games = all_games t ends news in
-    let pair : Fixture × GameEnd → Played = λ g. record { fixture = g.0; ended = g.1 } in
+    let pair : Fixture × GameEnd → PlayedFixture = λ g. record { fixture = g.0; ended = g.1 } in
     let both = length-append (resumed t.plan ends) (map played_game news) in
     let before = length-map (zip (schedule t.plan) ends) pair in
     let few = length-zip (schedule t.plan) ends in

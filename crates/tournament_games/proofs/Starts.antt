@@ -8,7 +8,7 @@ use Rattle.std.proofs.lemmas.List.Elements.{All-nil, All-append}
 use Rattle.std.proofs.lemmas.List.Sums.{sum_by-append}
 use Rattle.io_edge.specs.Starts.{Engines}
 use Rattle.match_runner.specs.Wires.{Wire}
-use Rattle.cup_core.specs.Engines.{Engine}
+use Rattle.cup.specs.Engines.{Engine}
 use Rattle.cup_command.specs.Cup.{RoseBy, started_after}
 use Rattle.cup_command.specs.Links.{ClosesLinks, StartsAll}
 use Rattle.cup_command.proofs.Breaks.{append-none, started-more, started-none}
@@ -21,7 +21,6 @@ use Rattle.tournament_games.specs.Links.{AreStarted, CountsFaults, IsFreshJob, S
 
 pub counts-none : (a : ℕ) → CountsFaults 0 a a
 counts-none a = record { later = omega arith; rose = inl (omega arith); same = λ e. refl; below = λ some. absurd (omega (arith, some)) }
-}
 
 rises-then : (n m a b c : ℕ) → b ≤ c → c < 2 ^ 64 → RoseBy n a b → RoseBy m b c → RoseBy (n + m) a c
 rises-then n m a b c later below (inl more) (inl other) = inl (omega (arith, more, other))
@@ -45,7 +44,6 @@ counts-then n m a b c h k = elim (cases_lt 0 m) [
 ]
 
 -- The programs of one game
-}
 
 -- One game behind others
 

@@ -8,18 +8,18 @@ use Rattle.std.proofs.lemmas.List.Elements.{All-nil, All-push}
 use Rattle.std.proofs.lemmas.Option.{get_or_from_slice_get, slice_get_within}
 use Rattle.hive_model.specs.declared.places.Move.{Move}
 use Rattle.io_edge.specs.Starts.{Engines}
-use Rattle.match_core.specs.declared.answers.Setup.{Setup}
+use Rattle.match_core.specs.declared.setup.Setup.{Setup}
 use Rattle.match_core.specs.Setups.{setup_from}
-use Rattle.match_core.specs.Standing.{Standing}
+use Rattle.match_core.specs.MatchState.{MatchState}
 use Rattle.match_runner.specs.Wires.{Watch, Wire}
 use Rattle.match_runner.specs.Runs.{RanOver}
 use Rattle.cup_command.proofs.Breaks.{append-none}
 use Rattle.tournament_core.specs.declared.fixtures.Fixture.{Fixture}
 use Rattle.tournament_core.specs.declared.plan.Plan.{Plan}
 use Rattle.tournament_core.specs.Schedules.{IsFixture, schedule}
-use Rattle.tournament_core.specs.Ends.{Played}
+use Rattle.tournament_core.specs.Ends.{PlayedFixture}
 use Rattle.tournament_core.specs.Counts.{Counts, IsTallyOf}
-use Rattle.tournament_games.specs.declared.outcome.Outcome.{Outcome}
+use Rattle.tournament_games.specs.declared.outcome.ToldGame.{ToldGame}
 use Rattle.tournament_games.specs.Tournaments.{Terms, begin_of}
 use Rattle.tournament_games.specs.Texts.{match_outcome}
 use Rattle.tournament_games.specs.Games.{AreNext, Job, WasRun, played_game, told_text}
@@ -75,18 +75,18 @@ lined-none [] text tally none = record {
   lines = none;
   engines = refl;
   games = omega arith;
-  noted = λ games is. subst (λ (gs : List Played). IsTallyOf gs tally) (sym (append-none games)) is;
+  noted = λ games is. subst (λ (gs : List PlayedFixture). IsTallyOf gs tally) (sym (append-none games)) is;
 }
 lined-none (job ∷ jobs) text tally none = record {
   told = All-nil (λ (j : Job). j.outcome ≢ None);
   lines = none;
   engines = refl;
   games = omega arith;
-  noted = λ games is. subst (λ (gs : List Played). IsTallyOf gs tally) (sym (append-none games)) is;
+  noted = λ games is. subst (λ (gs : List PlayedFixture). IsTallyOf gs tally) (sym (append-none games)) is;
 }
 
 pub lined-more : (jobs : List Job) (i : ℕ) (job : Job) (text now : List ℕ) (tally0 tally next : Counts) → i < length jobs → job ≡ get_or jobs i job → job.outcome ≢ None → now ≡ text ++ told_text job → next.engines ≡ tally.engines → next.games ≡ tally.games + 1
-    → ((games : List Played) → IsTallyOf games tally → IsTallyOf (games ++ played_game job ∷ []) next) → Lined (take i jobs) i text tally0 tally → Lined (take (i + 1) jobs) (i + 1) now tally0 next
+    → ((games : List PlayedFixture) → IsTallyOf games tally → IsTallyOf (games ++ played_game job ∷ []) next) → Lined (take i jobs) i text tally0 tally → Lined (take (i + 1) jobs) (i + 1) now tally0 next
 lined-more jobs i job text now tally0 tally next low is some wrote engines games noted so =
     let more : take (i + 1) jobs ≡ take i jobs ++ job ∷ [] = take_more jobs i job low ∙ ap (λ (j : Job). take i jobs ++ j ∷ []) (sym is) in
     let was = so.games in
@@ -96,14 +96,14 @@ lined-more jobs i job text now tally0 tally next low is some wrote engines games
       engines = engines ∙ so.engines;
       games = omega (arith, games, was);
       noted = λ gs was.
-          subst (λ (xs : List Played). IsTallyOf xs next) (append_assoc gs (map played_game (take i jobs)) (played_game job ∷ []) ∙ ap (λ xs. gs ++ xs) (sym (map-append played_game (take i jobs) (job ∷ []))))
+          subst (λ (xs : List PlayedFixture). IsTallyOf xs next) (append_assoc gs (map played_game (take i jobs)) (played_game job ∷ []) ∙ ap (λ xs. gs ++ xs) (sym (map-append played_game (take i jobs) (job ∷ []))))
           (noted (gs ++ map played_game (take i jobs)) (so.noted gs was));
     })
 
 -- Matches
 
 -- the match of a game was run, by the setup and from the moves that are its own
-pub was-run : {t : Terms} {number : ℕ} {f : Fixture} {s : Setup} {made : List Move} {r : Standing} {w0 w b0 b : Wire} {c0 c : Watch} {told : Outcome} → RanOver (setup_from s made) r w0 w b0 b c0 c → made ≡ begin_of t f → s ≡ t.setup → told ≡ match_outcome s number f r → WasRun t number f w0 w b0 b told
+pub was-run : {t : Terms} {number : ℕ} {f : Fixture} {s : Setup} {made : List Move} {r : MatchState} {w0 w b0 b : Wire} {c0 c : Watch} {told : ToldGame} → RanOver (setup_from s made) r w0 w b0 b c0 c → made ≡ begin_of t f → s ≡ t.setup → told ≡ match_outcome s number f r → WasRun t number f w0 w b0 b told
 was-run {t} {number} {f} {s} {made} {r} {w0} {w} {b0} {b} {c0} {c} {told} ran begin same tells =
     let over : RanOver (setup_from t.setup (begin_of t f)) r w0 w b0 b c0 c =
     subst (λ x. RanOver (setup_from x (begin_of t f)) r w0 w b0 b c0 c) same (subst (λ ms. RanOver (setup_from s ms) r w0 w b0 b c0 c) begin ran) in

@@ -15,7 +15,7 @@ use Rattle.cup_command.specs.Links.{ClosesLinks, StartsAll, counted}
 use Rattle.cup_command.proofs.Breaks.{started-more, started-none}
 use Rattle.cup_command.proofs.Chains.{closes-append, counted-append, none-open, starts-append}
 use Rattle.tournament_core.specs.Schedules.{IsFixture}
-use Rattle.tournament_core.specs.Ends.{Played}
+use Rattle.tournament_core.specs.Ends.{PlayedFixture}
 use Rattle.tournament_core.specs.Counts.{Counts, IsTallyOf}
 use Rattle.tournament_games.specs.Tournaments.{Terms}
 use Rattle.tournament_games.specs.Games.{AreNext, IsSameGame, IsSettled, Job, played_game, told_text}
@@ -79,7 +79,7 @@ played-none t n a = record {
 
 pub notes-append : (us vs : List Job) (a b c : Counts) → Notes us a b → Notes vs b c → Notes (us ++ vs) a c
 notes-append us vs a b c n m = λ games is.
-    subst (λ (gs : List Played). IsTallyOf gs c) (append_assoc games (map played_game us) (map played_game vs) ∙ ap (λ gs. games ++ gs) (sym (map-append played_game us vs))) (m (games ++ map played_game us) (n games is))
+    subst (λ (gs : List PlayedFixture). IsTallyOf gs c) (append_assoc games (map played_game us) (map played_game vs) ∙ ap (λ gs. games ++ gs) (sym (map-append played_game us vs))) (m (games ++ map played_game us) (n games is))
 
 pub text-append : (us vs : List Job) → games_text (us ++ vs) ≡ games_text us ++ games_text vs
 text-append us vs = flat_map-append told_text us vs

@@ -2,14 +2,14 @@
 use Rattle.std.specs.Prelude.{◌≡◌, ◌⊎◌, ℕ, ◌+◌, is_none, List, [], ◌∷◌, ⊤, Option, Some, None, IsSomeAnd, slice_get}
 use Rattle.hive_model.specs.declared.pieces.Colour.{Colour}
 use Rattle.hive_model.specs.declared.pieces.Colour.TheVariants.{White, Black}
-use Rattle.match_core.specs.Standing.{Standing}
+use Rattle.match_core.specs.MatchState.{MatchState}
 use Rattle.match_runner.specs.Wires.{Wire}
 use Rattle.match_runner.specs.Runs.{HasTimedCourse, LateIn, RanLinks}
 use Rattle.tournament_core.specs.declared.fixtures.Fixture.{Fixture}
 use Rattle.tournament_core.specs.declared.plan.Plan.{Plan}
 use Rattle.tournament_core.specs.Schedules.{schedule}
-use Rattle.tournament_core.specs.Ends.{Played}
-use Rattle.tournament_games.specs.declared.outcome.Outcome.{Outcome}
+use Rattle.tournament_core.specs.Ends.{PlayedFixture}
+use Rattle.tournament_games.specs.declared.outcome.ToldGame.{ToldGame}
 use Rattle.tournament_games.specs.Tournaments.{Terms, begin_of, setup_in}
 use Rattle.tournament_games.specs.Texts.{absence_outcome, drawn, match_outcome}
 
@@ -20,7 +20,7 @@ pub record Job : Type 0 where
   pub fixture : Fixture
   pub white : Option Wire
   pub black : Option Wire
-  pub outcome : Option Outcome
+  pub outcome : Option ToldGame
 
 -- a game that was not played
 abbrev pub unplayed : ℕ → Fixture → Option Wire → Option Wire → Job
@@ -49,8 +49,8 @@ AreNext plan before (job ∷ jobs) = IsNext plan before job × AreNext plan (bef
 -- The match of a game was run over these links, from its opening to its verdict, by readings of a
 -- clock of its own, whose last one before the match and behind it are these; and this is told.
 pub record WasRun
-    (t : Terms) (number : ℕ) (f : Fixture) (w0 w b0 b : Wire) (told : Outcome) : Type 0 where
-  pub stands : Standing
+    (t : Terms) (number : ℕ) (f : Fixture) (w0 w b0 b : Wire) (told : ToldGame) : Type 0 where
+  pub stands : MatchState
   pub read_before : ℕ
   pub read_now : ℕ
   pub ran : RanLinks (setup_in t f) stands w0 w b0 b
@@ -60,7 +60,7 @@ pub record WasRun
 
 -- both programs have their links, and the match was run over them
 pub record IsMatch
-    (t : Terms) (number : ℕ) (f : Fixture) (w0 w b0 b : Option Wire) (told : Outcome)
+    (t : Terms) (number : ℕ) (f : Fixture) (w0 w b0 b : Option Wire) (told : ToldGame)
     : Type 0 where
   pub white_before : Wire
   pub white_after : Wire
@@ -81,7 +81,7 @@ absent_side (Some white) (Some black) = None
 -- No match was played, since a program could not be started; its side forfeits. The links are as
 -- they were.
 pub record IsForfeit
-    (t : Terms) (number : ℕ) (f : Fixture) (w0 w b0 b : Option Wire) (told : Outcome)
+    (t : Terms) (number : ℕ) (f : Fixture) (w0 w b0 b : Option Wire) (told : ToldGame)
     : Type 0 where
   pub side : Colour
   pub absent : absent_side w0 b0 ≡ Some side
@@ -91,7 +91,7 @@ pub record IsForfeit
 
 -- a game was played over links that stood so before and behind it, and this is told of it
 abbrev pub Goes
-    : Terms → ℕ → Fixture → Option Wire → Option Wire → Option Wire → Option Wire → Outcome
+    : Terms → ℕ → Fixture → Option Wire → Option Wire → Option Wire → Option Wire → ToldGame
     → Type 0
 Goes t number f w0 w b0 b told =
     IsMatch t number f w0 w b0 b told ⊎ IsForfeit t number f w0 w b0 b told
@@ -117,7 +117,7 @@ pub record IsSettled (t : Terms) (old new : Job) : Type 0 where
 -- What a game comes to
 
 -- the two lines that tell a game; none where nothing is told of it
-abbrev pub text_in : Option Outcome → List ℕ
+abbrev pub text_in : Option ToldGame → List ℕ
 text_in None = []
 text_in (Some told) = told.text
 
@@ -125,9 +125,9 @@ abbrev pub told_text : Job → List ℕ
 told_text job = text_in job.outcome
 
 -- the game for the standings
-abbrev pub played_in : Fixture → Option Outcome → Played
+abbrev pub played_in : Fixture → Option ToldGame → PlayedFixture
 played_in f None = record { fixture = f; ended = drawn }
 played_in f (Some told) = record { fixture = f; ended = told.ended }
 
-abbrev pub played_game : Job → Played
+abbrev pub played_game : Job → PlayedFixture
 played_game job = played_in job.fixture job.outcome

@@ -5,7 +5,7 @@ use Rattle.std.specs.Option.{option_to_list}
 use Rattle.io_edge.specs.Outside.{HasCause}
 use Rattle.io_edge.specs.Starts.{Engines}
 use Rattle.match_runner.specs.Wires.{IsFresh, Wire}
-use Rattle.cup_core.specs.Engines.{Engine}
+use Rattle.cup.specs.Engines.{Engine}
 use Rattle.cup_command.specs.Cup.{RoseBy, started_after, words_of}
 use Rattle.cup_command.specs.Links.{ClosesLinks, StartsAll}
 use Rattle.tournament_games.specs.Games.{Job}

@@ -4,18 +4,18 @@ use Rattle.hive_model.specs.declared.pieces.Colour.{Colour}
 use Rattle.hive_model.specs.declared.places.Move.{Move}
 use Rattle.hive_model.specs.Pieces.{other_side}
 use Rattle.hive_model.specs.Strings.{string_under}
-use Rattle.match_core.specs.declared.answers.Setup.{Setup}
-use Rattle.match_core.specs.declared.answers.Verdict.{Verdict}
-use Rattle.match_core.specs.declared.answers.Verdict.TheVariants.{Rules, Limit, Forfeit}
-use Rattle.match_core.specs.Standing.{Standing}
+use Rattle.match_core.specs.declared.setup.Setup.{Setup}
+use Rattle.match_core.specs.declared.verdict.Verdict.{Verdict}
+use Rattle.match_core.specs.declared.verdict.Verdict.TheVariants.{Rules, Limit, Forfeit}
+use Rattle.match_core.specs.MatchState.{MatchState}
 use Rattle.match_command.specs.Texts.{shown, side_text, ending_text}
-use Rattle.cup_core.specs.Cup.{state_winner}
-use Rattle.cup_core.specs.Engines.{Engine}
+use Rattle.cup.specs.Cup.{state_winner}
+use Rattle.cup.specs.Engines.{Engine}
 use Rattle.cup_command.specs.Texts.{text_of}
 use Rattle.tournament_core.specs.declared.fixtures.Fixture.{Fixture}
 use Rattle.tournament_core.specs.declared.fixtures.GameEnd.{GameEnd}
 use Rattle.tournament_core.specs.declared.standing.Standing.{Standing as Place}
-use Rattle.tournament_games.specs.declared.outcome.Outcome.{Outcome}
+use Rattle.tournament_games.specs.declared.outcome.ToldGame.{ToldGame}
 
 -- Games
 
@@ -70,7 +70,7 @@ end_in None = drawn
 end_in (Some v) = end_by v
 
 -- what is told of a game whose match stands so at its end
-abbrev pub match_outcome : Setup → ℕ → Fixture → Standing → Outcome
+abbrev pub match_outcome : Setup → ℕ → Fixture → MatchState → ToldGame
 match_outcome setup number f t = record {
   text = game_text setup number f t.moves (ending_text setup t.verdict);
   ended = end_in t.verdict;
@@ -78,7 +78,7 @@ match_outcome setup number f t = record {
 
 -- what is told of a game for which the program of this side could not be started: its opening, and
 -- the forfeit
-abbrev pub absence_outcome : Setup → ℕ → Fixture → List Move → Colour → Outcome
+abbrev pub absence_outcome : Setup → ℕ → Fixture → List Move → Colour → ToldGame
 absence_outcome setup number f begin side = record {
   text = game_text setup number f begin (absence_text side);
   ended = forfeited_by side;

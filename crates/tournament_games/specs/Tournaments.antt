@@ -5,10 +5,10 @@ use Rattle.hive_model.specs.declared.pieces.GameType.{GameType}
 use Rattle.hive_model.specs.declared.places.Move.{Move}
 use Rattle.hive_model.specs.Games.{IsGame}
 use Rattle.hive_model.specs.Courses.{most_plies}
-use Rattle.match_core.specs.declared.answers.Setup.{Setup}
+use Rattle.match_core.specs.declared.setup.Setup.{Setup}
 use Rattle.match_core.specs.Setups.{FullSetup, setup_from}
 use Rattle.match_core.specs.Keeps.{IsSetup}
-use Rattle.cup_core.specs.Engines.{Engine}
+use Rattle.cup.specs.Engines.{Engine}
 use Rattle.tournament_core.specs.declared.fixtures.Fixture.{Fixture}
 use Rattle.tournament_core.specs.declared.plan.Plan.{Plan}
 use Rattle.tournament_core.specs.Schedules.{IsPlan}

@@ -12,7 +12,7 @@ use Rattle.tournament_core.specs.declared.fixtures.GameEnd.{GameEnd}
 use Rattle.tournament_core.specs.declared.plan.Plan.{Plan}
 use Rattle.tournament_core.specs.declared.standing.Standing.{Standing as Place}
 use Rattle.tournament_core.specs.Schedules.{numbers, schedule}
-use Rattle.tournament_core.specs.Ends.{AreStandings, Played, points}
+use Rattle.tournament_core.specs.Ends.{AreStandings, PlayedFixture, points}
 use Rattle.tournament_core.specs.Counts.{Counts, IsTallyOf}
 use Rattle.tournament_games.specs.Tournaments.{Terms}
 use Rattle.tournament_games.specs.Texts.{standing_text}
@@ -49,7 +49,7 @@ games_text jobs = flat_map told_text jobs
 -- a tally has noted these games behind others
 abbrev pub Notes : List Job → Counts → Counts → Type 0
 Notes news before after =
-    (games : List Played)
+    (games : List PlayedFixture)
     → IsTallyOf games before
     → IsTallyOf (games ++ map played_game news) after
 
@@ -67,11 +67,11 @@ pub record IsWave
 -- The run
 
 -- the games that ended so before, which are the first ones of the plan
-abbrev pub resumed : Plan → List GameEnd → List Played
+abbrev pub resumed : Plan → List GameEnd → List PlayedFixture
 resumed plan ends = map (λ g. record { fixture = g.0; ended = g.1 }) (zip (schedule plan) ends)
 
 -- all games that were played: those before, and these
-abbrev pub all_games : Terms → List GameEnd → List Job → List Played
+abbrev pub all_games : Terms → List GameEnd → List Job → List PlayedFixture
 all_games t ends news = resumed t.plan ends ++ map played_game news
 
 -- the lines of the standings
@@ -191,7 +191,7 @@ GamesRun t first tally0 tally InputFull before after = ⊥
 -- the standings of all games that were noted
 abbrev pub AreNoted : Terms → Counts → List Place → Type 0
 AreNoted t tally places =
-    (games : List Played) → IsTallyOf games tally → AreStandings t.plan.engines games places
+    (games : List PlayedFixture) → IsTallyOf games tally → AreStandings t.plan.engines games places
 
 -- the lines of the standings were written
 pub record WroteStandings (t : Terms) (tally : Counts) (before after : Told) : Type 0 where

@@ -13,7 +13,7 @@ ghost use Rattle.tournament_games.specs.Games.{
 };
 
 use crate::clocks::Clocks;
-use crate::outcome::Outcome;
+use crate::outcome::ToldGame;
 use crate::texts::{tell_absence, tell_match};
 use crate::tournament::Tournament;
 use game_text::played;
@@ -32,7 +32,7 @@ pub(crate) struct Job<L: Link> {
     fixture: Fixture,
     white: Option<L>,
     black: Option<L>,
-    outcome: Option<Outcome>,
+    outcome: Option<ToldGame>,
 }
 
 impl<L: Link> Model for Job<L> {
@@ -62,7 +62,7 @@ fn run<L: Link, G: Game + Drop, M: Clocks>(
     fixture: Fixture,
     white: &mut L,
     black: &mut L,
-) -> Result<Outcome, AllocError>
+) -> Result<ToldGame, AllocError>
     ensures { IfOk result (λ told. WasRun tournament.now number fixture
         (wire (L.rest white.old) (L.written white.old)
         (L.read_faults white.old) (L.write_faults white.old))
@@ -87,7 +87,7 @@ fn forfeit<G: Game + Drop>(
     number: u64,
     fixture: Fixture,
     side: Colour,
-) -> Result<Outcome, AllocError>
+) -> Result<ToldGame, AllocError>
     ensures { IfOk result (λ told.
         told ≡ absence_outcome tournament.now.setup number fixture
         (begin_of tournament.now fixture) side) }
@@ -105,7 +105,7 @@ fn play_over<L: Link, G: Game + Drop, M: Clocks>(
     fixture: Fixture,
     white: &mut Option<L>,
     black: &mut Option<L>,
-) -> Result<Outcome, AllocError>
+) -> Result<ToldGame, AllocError>
     ensures white { is_none white.new ≡ is_none white.old }
     ensures black { is_none black.new ≡ is_none black.old }
     ensures goes { IfOk result (λ told. Goes tournament.now number fixture
@@ -181,7 +181,7 @@ impl<L: Link> Job<L> {
     }
 
     /// What is told of the game, once it was played.
-    pub(crate) fn outcome(&self) -> Option<&Outcome>
+    pub(crate) fn outcome(&self) -> Option<&ToldGame>
         ensures { MatchOption result (self.now.outcome ≡ None)
             (λ told. self.now.outcome ≡ Some told.now) }
     {

@@ -12,10 +12,10 @@ mod progress;
 mod readback;
 mod running;
 mod starting;
-mod telling;
 mod texts;
 mod tournament;
 mod wave;
+mod wave_text;
 
 pub use clocks::{Clocks, StepClocks};
 pub use laws::ends_are_read_back;

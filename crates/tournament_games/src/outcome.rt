@@ -4,7 +4,7 @@ use tournament_core::GameEnd;
 
 /// What is told of a game that was played: its two lines, and how it ended.
 #[derive(Drop)]
-pub(crate) struct Outcome {
+pub(crate) struct ToldGame {
     pub text: ReplyText,
     pub ended: GameEnd,
 }

@@ -28,7 +28,7 @@ ghost use Rattle.tournament_games.specs.Links.{AreStarted, IsStart, Shuts, all_l
 use crate::closing::{close_all, close_job};
 use crate::job::Job;
 use crate::tournament::Tournament;
-use cup_core::Program;
+use cup::Program;
 use io_edge::{Spawner, StartFault};
 use std::alloc::{AllocError, Global};
 use tournament_core::Fixture;

@@ -3,7 +3,7 @@ ghost use Rattle.std.specs.Prelude.{◌≡◌, ◌≤◌, ◌++◌, decimal, len
 ghost use Rattle.std.specs.List.{flat_map};
 ghost use Rattle.hive_model.specs.Games.{IsGame};
 ghost use Rattle.hive_model.specs.Courses.{most_plies};
-ghost use Rattle.cup_core.specs.Cup.{state_winner};
+ghost use Rattle.cup.specs.Cup.{state_winner};
 ghost use Rattle.match_command.specs.Texts.{ending_text, shown};
 ghost use Rattle.cup_command.specs.Texts.{text_of};
 ghost use Rattle.tournament_games.specs.Texts.{
@@ -21,8 +21,8 @@ ghost use Rattle.tournament_games.specs.Texts.{
   verdict_line,
 };
 
-use crate::outcome::Outcome;
-use cup_core::Program;
+use crate::outcome::ToldGame;
+use cup::Program;
 use game_text::{played, write_game_under};
 use hive_model::{Colour, Game, Move, ReplyText, State};
 use match_command::{write_ending, write_number, write_shown};
@@ -166,14 +166,14 @@ pub(crate) fn tell_match<G: Game + Drop>(
     number: u64,
     fixture: Fixture,
     referee: &Referee<G>,
-) -> Result<Outcome, AllocError>
+) -> Result<ToldGame, AllocError>
     requires { referee.now.setup.game_type ≡ setup.game_type }
     ensures { IfOk result (λ told. told ≡ match_outcome setup number fixture referee.now) }
 {
     let mut text = ReplyText::new(alloc);
     write_game(alloc, &mut text, setup, number, fixture, referee.game())?;
     write_verdict(&mut text, setup, number, fixture, referee)?;
-    Ok(Outcome {
+    Ok(ToldGame {
         text,
         ended: end_in(referee),
     })
@@ -188,7 +188,7 @@ pub(crate) fn tell_absence<G: Game + Drop>(
     fixture: Fixture,
     begin: &[Move],
     side: Colour,
-) -> Result<Outcome, AllocError>
+) -> Result<ToldGame, AllocError>
     requires game { IsGame setup.game_type begin.now }
     requires few { length begin.now ≤ most_plies }
     ensures { IfOk result (λ told.
@@ -198,7 +198,7 @@ pub(crate) fn tell_absence<G: Game + Drop>(
     let mut text = ReplyText::new(alloc);
     write_game(alloc, &mut text, setup, number, fixture, &game)?;
     write_forfeit(&mut text, number, fixture, side)?;
-    Ok(Outcome {
+    Ok(ToldGame {
         text,
         ended: forfeited_by(side),
     })

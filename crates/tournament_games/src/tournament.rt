@@ -6,7 +6,7 @@ ghost use Rattle.match_core.specs.Keeps.{IsSetup};
 ghost use Rattle.tournament_core.specs.Schedules.{IsPlan};
 ghost use Rattle.tournament_games.specs.Tournaments.{IsTerms, begin_of, terms};
 
-use cup_core::Program;
+use cup::Program;
 use hive_model::{Move, MoveList};
 use match_core::Setup;
 use std::marker::Model;

@@ -8,7 +8,7 @@ use Rattle.hive_model.specs.Lists.{IsOn}
 use Rattle.hive_model.specs.Minimax.{IsInner, IsBest, best}
 use Rattle.hive_model.specs.Positions.{Position}
 use Rattle.search_laws.proofs.BestLaws.{best-exists, best-is}
-use Rattle.uhp_session.specs.Answers.{Begun, reached, text_of_best}
+use Rattle.uhp_session.specs.Answers.{CurrentGame, reached, text_of_best}
 use Rattle.uhp_session.specs.Laws.{BestMovesAreNamed}
 use Rattle.hive_model.proofs.GetLemmas.{on-at}
 
@@ -22,5 +22,5 @@ best_named g depth goes_on some =
     (found.0, best-is (reached g) depth found.0 found.1, ap (text_of_best (reached g).board) found.1)
 
 -- the same of a course with the game's type and moves
-pub best_on_course : (c : Course) (g : Begun) (depth : ℕ) (m : Move) → position c ≡ reached g → best (position c) depth ≡ Some m → IsOn (moves (reached g)) m
+pub best_on_course : (c : Course) (g : CurrentGame) (depth : ℕ) (m : Move) → position c ≡ reached g → best (position c) depth ≡ Some m → IsOn (moves (reached g)) m
 best_on_course c g depth m same e = subst (λ p. IsOn (moves p) m) same (best_on (position c) depth m e)

@@ -8,14 +8,14 @@ use Rattle.uhp_words.specs.declared.command.Command.TheVariants.{Info, NewGame, 
 use Rattle.uhp_words.specs.declared.command.CommandFault.{CommandFault}
 use Rattle.uhp_words.specs.declared.command.CommandFault.TheVariants.{Unknown, Arguments}
 use Rattle.uhp_words.specs.Reading.{command_of}
-use Rattle.uhp_session.specs.Answers.{Begun, State, reached, is_ended, refuse, in_game, best_line, command_answer, words_answer, reply_of, after_of, reply, next}
+use Rattle.uhp_session.specs.Answers.{CurrentGame, SessionState, reached, is_ended, refuse, in_game, best_line, command_answer, words_answer, reply_of, after_of, reply, next}
 use Rattle.uhp_session.specs.Searches.{Search, asks, command_search, search_in}
 use Rattle.uhp_session.specs.Laws.{DepthsServeSearches}
 use Rattle.uhp_session.proofs.ReplyLaws.{best_keeps}
 
 -- The session afterwards
 
-command_kept : (s : State) (line : List ℕ) (d e : ℕ) (c : Command) → after_of s (command_answer s line d c) ≡ after_of s (command_answer s line e c)
+command_kept : (s : SessionState) (line : List ℕ) (d e : ℕ) (c : Command) → after_of s (command_answer s line d c) ≡ after_of s (command_answer s line e c)
 command_kept s line d e Info = refl
 command_kept s line d e (NewGame part) = refl
 command_kept s line d e (Play part) = refl
@@ -29,7 +29,7 @@ command_kept s line d e (OptionGet name) = refl
 command_kept s line d e (OptionSet name value) = refl
 command_kept s line d e Exit = refl
 
-pub depth_kept : (s : State) (line : List ℕ) (d e : ℕ) (r : Result Command CommandFault) → after_of s (words_answer s line d r) ≡ after_of s (words_answer s line e r)
+pub depth_kept : (s : SessionState) (line : List ℕ) (d e : ℕ) (r : Result Command CommandFault) → after_of s (words_answer s line d r) ≡ after_of s (words_answer s line e r)
 depth_kept s line d e (Ok c) = command_kept s line d e c
 depth_kept s line d e (Err Unknown) = refl
 depth_kept s line d e (Err Arguments) = refl
@@ -37,7 +37,7 @@ depth_kept s line d e (Err Arguments) = refl
 -- The reply
 
 -- a search that is refused has one reply
-time_same : (s : State) (o : Option Begun) (budget d e : ℕ) → search_in o budget ≡ None
+time_same : (s : SessionState) (o : Option CurrentGame) (budget d e : ℕ) → search_in o budget ≡ None
     → reply_of (in_game s o (λ g. if is_ended g then refuse s (codes "err 8 game over") else best_line s d g))
     ≡ reply_of (in_game s o (λ g. if is_ended g then refuse s (codes "err 8 game over") else best_line s e g))
 time_same s None budget d e none = refl
@@ -51,7 +51,7 @@ time_same s (Some g) budget d e none = go (is_ended g) none
     go true same = refl
     go false same = absurd (none-some _ (sym same))
 
-command_same : (s : State) (line : List ℕ) (d e : ℕ) (c : Command) → command_search s (Ok c) ≡ None → reply_of (command_answer s line d c) ≡ reply_of (command_answer s line e c)
+command_same : (s : SessionState) (line : List ℕ) (d e : ℕ) (c : Command) → command_search s (Ok c) ≡ None → reply_of (command_answer s line d c) ≡ reply_of (command_answer s line e c)
 command_same s line d e Info none = refl
 command_same s line d e (NewGame part) none = refl
 command_same s line d e (Play part) none = refl
@@ -65,7 +65,7 @@ command_same s line d e (OptionGet name) none = refl
 command_same s line d e (OptionSet name value) none = refl
 command_same s line d e Exit none = refl
 
-words_same : (s : State) (line : List ℕ) (d e : ℕ) (r : Result Command CommandFault) → command_search s r ≡ None → reply_of (words_answer s line d r) ≡ reply_of (words_answer s line e r)
+words_same : (s : SessionState) (line : List ℕ) (d e : ℕ) (r : Result Command CommandFault) → command_search s r ≡ None → reply_of (words_answer s line d r) ≡ reply_of (words_answer s line e r)
 words_same s line d e (Ok c) none = command_same s line d e c none
 words_same s line d e (Err Unknown) none = refl
 words_same s line d e (Err Arguments) none = refl

@@ -24,7 +24,7 @@ use Rattle.uhp_words.specs.declared.command.CommandFault.{CommandFault}
 use Rattle.uhp_words.specs.declared.command.CommandFault.TheVariants.{Unknown, Arguments}
 use Rattle.uhp_words.specs.Reading.{command_of}
 use Rattle.uhp_words.specs.Spans.{bytes_at}
-use Rattle.uhp_session.specs.Answers.{Begun, State, Answer, reached, is_ended, with_moves, refuse, go_on, in_game, begin, make, play, list, undo, change, set, setting_of, get, best_line, while_on, or_base, command_answer, words_answer, after_of, next}
+use Rattle.uhp_session.specs.Answers.{CurrentGame, SessionState, Answer, reached, is_ended, with_moves, refuse, go_on, in_game, begin, make, play, list, undo, change, set, setting_of, get, best_line, while_on, or_base, command_answer, words_answer, after_of, next}
 use Rattle.uhp_session.specs.declared.options.Setting.{Setting}
 use Rattle.uhp_session.specs.declared.options.Setting.TheVariants.{Table, Workers, Repetition}
 use Rattle.uhp_session.specs.declared.options.SettingFault.{SettingFault}
@@ -32,13 +32,13 @@ use Rattle.uhp_session.specs.Laws.{IsHeld, HoldsGame, SessionsHoldGames}
 use Rattle.uhp_session.proofs.ReplyLaws.{get_keeps, list_keeps, best_keeps, line_game, line_few, line_stands}
 use Rattle.uhp_session.proofs.StandLaws.{stands_part}
 
-abbrev Holds : State → Answer → Type 0
+abbrev Holds : SessionState → Answer → Type 0
 Holds s a = HoldsGame (after_of s a).game
 
-kept : (s : State) (a : Answer) → s ≡ after_of s a → HoldsGame s.game → Holds s a
-kept s a same h = subst (λ (z : State). HoldsGame z.game) same h
+kept : (s : SessionState) (a : Answer) → s ≡ after_of s a → HoldsGame s.game → Holds s a
+kept s a same h = subst (λ (z : SessionState). HoldsGame z.game) same h
 
-begin_holds : (s : State) (line : List ℕ) (r : Result Parsed GameFault) → game_under s.repetition line ≡ r → HoldsGame s.game → Holds s (begin s r)
+begin_holds : (s : SessionState) (line : List ℕ) (r : Result Parsed GameFault) → game_under s.repetition line ≡ r → HoldsGame s.game → Holds s (begin s r)
 begin_holds s line (Ok g) e h =
     let is = under_found s.repetition line g e in
     record {
@@ -48,7 +48,7 @@ begin_holds s line (Ok g) e h =
     }
 begin_holds s line (Err fault) e h = h
 
-in_holds : (s : State) (o : Option Begun) (f : Begun → Answer) → s.game ≡ o → HoldsGame s.game → ((g : Begun) → s.game ≡ Some g → Holds s (f g)) → Holds s (in_game s o f)
+in_holds : (s : SessionState) (o : Option CurrentGame) (f : CurrentGame → Answer) → s.game ≡ o → HoldsGame s.game → ((g : CurrentGame) → s.game ≡ Some g → Holds s (f g)) → Holds s (in_game s o f)
 in_holds s None f e h each = h
 in_holds s (Some g) f e h each = each g e
 
@@ -60,7 +60,7 @@ length_more : (ms : List Move) (m : Move) → length (ms ++ m ∷ []) ≡ suc (l
 length_more [] m = refl
 length_more (k ∷ ms) m = ap suc (length_more ms m)
 
-make_holds : (s : State) (g : Begun) (r : Result Move MoveFault) → HoldsGame s.game → IsHeld g → is_ended g ≡ false → length g.made < 5000 → Holds s (make s g r)
+make_holds : (s : SessionState) (g : CurrentGame) (r : Result Move MoveFault) → HoldsGame s.game → IsHeld g → is_ended g ≡ false → length g.made < 5000 → Holds s (make s g r)
 make_holds s g (Err fault) h held yet less = h
 make_holds s g (Ok m) h held yet less = go (is_listed (reached g) m) refl
   where
@@ -74,7 +74,7 @@ make_holds s g (Ok m) h held yet less = go (is_listed (reached g) m) refl
         }
     go false e = h
 
-play_holds : (s : State) (words : List ℕ) (g : Begun) → HoldsGame s.game → IsHeld g → Holds s (play s words g)
+play_holds : (s : SessionState) (words : List ℕ) (g : CurrentGame) → HoldsGame s.game → IsHeld g → Holds s (play s words g)
 play_holds s words g h held = go (is_ended g) (nat_le 5000 (length g.made)) refl refl
   where
     less : nat_le 5000 (length g.made) ≡ false → length g.made < 5000
@@ -85,7 +85,7 @@ play_holds s words g h held = go (is_ended g) (nat_le 5000 (length g.made)) refl
     go false true yet e = h
     go false false yet e = make_holds s g (move_of g.game_type (reached g).board words) h held yet (less e)
 
-undo_holds : (s : State) (plies : ℕ) (g : Begun) → HoldsGame s.game → IsHeld g → Holds s (undo s plies g)
+undo_holds : (s : SessionState) (plies : ℕ) (g : CurrentGame) → HoldsGame s.game → IsHeld g → Holds s (undo s plies g)
 undo_holds s plies g h held = go (nat_lt (length g.made) plies)
   where
     go : (b : Bool) → Holds s (if b then refuse s (codes "err 7 undo beyond start") else go_on s (with_moves g (take (length g.made - plies) g.made)))
@@ -99,16 +99,16 @@ undo_holds s plies g h held = go (nat_lt (length g.made) plies)
           stands = stands_part g.repetition g.game_type g.made (length g.made - plies) held.stands;
         }
 
-change_holds : (s : State) (r : Result Setting SettingFault) → HoldsGame s.game → Holds s (change s r)
+change_holds : (s : SessionState) (r : Result Setting SettingFault) → HoldsGame s.game → Holds s (change s r)
 change_holds s (Ok (Table n)) h = h
 change_holds s (Ok (Workers n)) h = h
 change_holds s (Ok (Repetition on)) h = h
 change_holds s (Err fault) h = h
 
-set_holds : (s : State) (name value : List ℕ) → HoldsGame s.game → Holds s (set s name value)
+set_holds : (s : SessionState) (name value : List ℕ) → HoldsGame s.game → Holds s (set s name value)
 set_holds s name value h = change_holds s (setting_of name value) h
 
-command_holds : (s : State) (line : List ℕ) (d : ℕ) (c : Command) → HoldsGame s.game → Holds s (command_answer s line d c)
+command_holds : (s : SessionState) (line : List ℕ) (d : ℕ) (c : Command) → HoldsGame s.game → Holds s (command_answer s line d c)
 command_holds s line d Info h = h
 command_holds s line d (NewGame part) h = begin_holds s (or_base (bytes_at line part)) (game_under s.repetition (or_base (bytes_at line part))) refl h
 command_holds s line d (Play part) h = in_holds s s.game (play s (bytes_at line part)) refl h (λ g e. play_holds s (bytes_at line part) g h (subst HoldsGame e h))
@@ -122,7 +122,7 @@ command_holds s line d (OptionGet name) h = kept s (get s (bytes_at line name)) 
 command_holds s line d (OptionSet name value) h = set_holds s (bytes_at line name) (bytes_at line value) h
 command_holds s line d Exit h = h
 
-words_holds : (s : State) (line : List ℕ) (d : ℕ) (r : Result Command CommandFault) → HoldsGame s.game → Holds s (words_answer s line d r)
+words_holds : (s : SessionState) (line : List ℕ) (d : ℕ) (r : Result Command CommandFault) → HoldsGame s.game → Holds s (words_answer s line d r)
 words_holds s line d (Ok c) h = command_holds s line d c h
 words_holds s line d (Err Unknown) h = h
 words_holds s line d (Err Arguments) h = h

@@ -19,14 +19,14 @@ use Rattle.game_text.proofs.WriteLaws.{taken_size}
 use Rattle.move_text.specs.Moves.{IsMoveWithin}
 use Rattle.move_text.proofs.LegalSpell.{listed_within}
 use Rattle.search_laws.proofs.CourseLaws.{take-all_but_last}
-use Rattle.uhp_session.specs.Answers.{Begun, reached}
+use Rattle.uhp_session.specs.Answers.{CurrentGame, reached}
 
 -- The position of a course that has the game's type and moves
 
-pub same_place : (c : Course) (g : Begun) → c.game_type ≡ g.game_type → c.made ≡ g.made → position c ≡ reached g
+pub same_place : (c : Course) (g : CurrentGame) → c.game_type ≡ g.game_type → c.made ≡ g.made → position c ≡ reached g
 same_place c g kind made = λ j. replay (opening (kind j)) (made j)
 
-pub kept_within : (c : Course) (g : Begun) (m : Move) → c.game_type ≡ g.game_type → c.made ≡ g.made → IsSound (position c) → IsOn (moves (reached g)) m → IsMoveWithin m
+pub kept_within : (c : Course) (g : CurrentGame) (m : Move) → c.game_type ≡ g.game_type → c.made ≡ g.made → IsSound (position c) → IsOn (moves (reached g)) m → IsMoveWithin m
 kept_within c g m kind made sound on =
     let here : IsOn (moves (position c)) m = subst (λ p. IsOn (moves p) m) (sym (same_place c g kind made)) on in
     listed_within (position c) m sound here

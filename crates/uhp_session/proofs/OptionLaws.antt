@@ -15,38 +15,38 @@ use Rattle.uhp_words.specs.declared.command.CommandFault.{CommandFault}
 use Rattle.uhp_words.specs.declared.command.CommandFault.TheVariants.{Unknown, Arguments}
 use Rattle.uhp_words.specs.Reading.{command_of}
 use Rattle.uhp_words.specs.Spans.{bytes_at}
-use Rattle.uhp_session.specs.Answers.{Begun, State, Answer, reached, is_ended, with_moves, refuse, go_on, in_game, while_on, begin, make, play, list, best_line, undo, or_base, written, ended, command_answer, words_answer, reply_of, after_of, reply, next}
+use Rattle.uhp_session.specs.Answers.{CurrentGame, SessionState, Answer, reached, is_ended, with_moves, refuse, go_on, in_game, while_on, begin, make, play, list, best_line, undo, or_base, written, ended, command_answer, words_answer, reply_of, after_of, reply, next}
 use Rattle.uhp_session.specs.Laws.{IsOfOptions, IsNewGame, OptionsChangeNoAnswer}
 
 -- the answers of two sessions have one reply, and leave one game
-abbrev Alike : State → State → Answer → Answer → Type 0
+abbrev Alike : SessionState → SessionState → Answer → Answer → Type 0
 Alike s t a b = (reply_of a ≡ reply_of b) × ((after_of s a).game ≡ (after_of t b).game)
 
-in_alike : (s t : State) (f h : Begun → Answer) → s.game ≡ t.game → ((g : Begun) → Alike s t (f g) (h g)) → Alike s t (in_game s s.game f) (in_game t t.game h)
-in_alike s t f h same each = subst (λ (o : Option Begun). Alike s t (in_game s s.game f) (in_game t o h)) same (go s.game)
+in_alike : (s t : SessionState) (f h : CurrentGame → Answer) → s.game ≡ t.game → ((g : CurrentGame) → Alike s t (f g) (h g)) → Alike s t (in_game s s.game f) (in_game t t.game h)
+in_alike s t f h same each = subst (λ (o : Option CurrentGame). Alike s t (in_game s s.game f) (in_game t o h)) same (go s.game)
   where
-    go : (o : Option Begun) → Alike s t (in_game s o f) (in_game t o h)
+    go : (o : Option CurrentGame) → Alike s t (in_game s o f) (in_game t o h)
     go None = (refl, same)
     go (Some g) = each g
 
-while_alike : (s t : State) (f h : Begun → Answer) → s.game ≡ t.game → ((g : Begun) → Alike s t (f g) (h g)) → Alike s t (while_on s f) (while_on t h)
+while_alike : (s t : SessionState) (f h : CurrentGame → Answer) → s.game ≡ t.game → ((g : CurrentGame) → Alike s t (f g) (h g)) → Alike s t (while_on s f) (while_on t h)
 while_alike s t f h same each = in_alike s t _ _ same (λ g. go g (is_ended g))
   where
-    go : (g : Begun) (over : Bool) → Alike s t (if over then refuse s (codes "err 8 game over") else f g) (if over then refuse t (codes "err 8 game over") else h g)
+    go : (g : CurrentGame) (over : Bool) → Alike s t (if over then refuse s (codes "err 8 game over") else f g) (if over then refuse t (codes "err 8 game over") else h g)
     go g true = (refl, same)
     go g false = each g
 
-begin_alike : (s t : State) (r : Result Parsed GameFault) → s.game ≡ t.game → s.repetition ≡ t.repetition → Alike s t (begin s r) (begin t r)
+begin_alike : (s t : SessionState) (r : Result Parsed GameFault) → s.game ≡ t.game → s.repetition ≡ t.repetition → Alike s t (begin s r) (begin t r)
 begin_alike s t (Ok g) same rule =
     let games : record { game_type = g.game_type; made = g.moves; repetition = s.repetition } ≡ record { game_type = g.game_type; made = g.moves; repetition = t.repetition } =
     λ j. record { game_type = g.game_type; made = g.moves; repetition = rule j } in
-    (ap (λ (z : Begun). Some (ended (written z ∷ (codes "ok" ∷ [])))) games, ap (λ (z : Begun). Some z) games)
+    (ap (λ (z : CurrentGame). Some (ended (written z ∷ (codes "ok" ∷ [])))) games, ap (λ (z : CurrentGame). Some z) games)
 begin_alike s t (Err fault) same rule = (refl, same)
 
-new_game_alike : (s t : State) (text : List ℕ) → s.game ≡ t.game → s.repetition ≡ t.repetition → Alike s t (begin s (game_under s.repetition text)) (begin t (game_under t.repetition text))
+new_game_alike : (s t : SessionState) (text : List ℕ) → s.game ≡ t.game → s.repetition ≡ t.repetition → Alike s t (begin s (game_under s.repetition text)) (begin t (game_under t.repetition text))
 new_game_alike s t text same rule = subst (λ r. Alike s t (begin s (game_under s.repetition text)) (begin t (game_under r text))) rule (begin_alike s t (game_under s.repetition text) same rule)
 
-make_alike : (s t : State) (g : Begun) (r : Result Move MoveFault) → s.game ≡ t.game → Alike s t (make s g r) (make t g r)
+make_alike : (s t : SessionState) (g : CurrentGame) (r : Result Move MoveFault) → s.game ≡ t.game → Alike s t (make s g r) (make t g r)
 make_alike s t g (Err fault) same = (refl, same)
 make_alike s t g (Ok m) same = go (is_listed (reached g) m)
   where
@@ -56,7 +56,7 @@ make_alike s t g (Ok m) same = go (is_listed (reached g) m)
     go true = (refl, refl)
     go false = (refl, same)
 
-play_alike : (s t : State) (words : List ℕ) → s.game ≡ t.game → (g : Begun) → Alike s t (play s words g) (play t words g)
+play_alike : (s t : SessionState) (words : List ℕ) → s.game ≡ t.game → (g : CurrentGame) → Alike s t (play s words g) (play t words g)
 play_alike s t words same g = go (is_ended g) (nat_le 5000 (length g.made))
   where
     go : (over full : Bool) → Alike s t
@@ -66,7 +66,7 @@ play_alike s t words same g = go (is_ended g) (nat_le 5000 (length g.made))
     go false true = (refl, same)
     go false false = make_alike s t g (move_of g.game_type (reached g).board words) same
 
-undo_alike : (s t : State) (plies : ℕ) → s.game ≡ t.game → (g : Begun) → Alike s t (undo s plies g) (undo t plies g)
+undo_alike : (s t : SessionState) (plies : ℕ) → s.game ≡ t.game → (g : CurrentGame) → Alike s t (undo s plies g) (undo t plies g)
 undo_alike s t plies same g = go (nat_lt (length g.made) plies)
   where
     go : (b : Bool) → Alike s t
@@ -75,7 +75,7 @@ undo_alike s t plies same g = go (nat_lt (length g.made) plies)
     go true = (refl, same)
     go false = (refl, refl)
 
-command_alike : (s t : State) (line : List ℕ) (d : ℕ) (c : Command) → s.game ≡ t.game → ¬ IsOfOptions (Ok c) → (IsNewGame (Ok c) → s.repetition ≡ t.repetition) → Alike s t (command_answer s line d c) (command_answer t line d c)
+command_alike : (s t : SessionState) (line : List ℕ) (d : ℕ) (c : Command) → s.game ≡ t.game → ¬ IsOfOptions (Ok c) → (IsNewGame (Ok c) → s.repetition ≡ t.repetition) → Alike s t (command_answer s line d c) (command_answer t line d c)
 command_alike s t line d Info same other rule = (refl, same)
 command_alike s t line d (NewGame part) same other rule = new_game_alike s t (or_base (bytes_at line part)) same (rule tt)
 command_alike s t line d (Play part) same other rule = in_alike s t (play s (bytes_at line part)) (play t (bytes_at line part)) same (play_alike s t (bytes_at line part) same)
@@ -89,7 +89,7 @@ command_alike s t line d (OptionGet name) same other rule = absurd (other tt)
 command_alike s t line d (OptionSet name value) same other rule = absurd (other tt)
 command_alike s t line d Exit same other rule = (refl, same)
 
-words_alike : (s t : State) (line : List ℕ) (d : ℕ) (r : Result Command CommandFault) → s.game ≡ t.game → ¬ IsOfOptions r → (IsNewGame r → s.repetition ≡ t.repetition) → Alike s t (words_answer s line d r) (words_answer t line d r)
+words_alike : (s t : SessionState) (line : List ℕ) (d : ℕ) (r : Result Command CommandFault) → s.game ≡ t.game → ¬ IsOfOptions r → (IsNewGame r → s.repetition ≡ t.repetition) → Alike s t (words_answer s line d r) (words_answer t line d r)
 words_alike s t line d (Ok c) same other rule = command_alike s t line d c same other rule
 words_alike s t line d (Err Unknown) same other rule = (refl, same)
 words_alike s t line d (Err Arguments) same other rule = (refl, same)

@@ -16,7 +16,7 @@ use Rattle.uhp_words.specs.declared.command.CommandFault.{CommandFault}
 use Rattle.uhp_words.specs.declared.command.CommandFault.TheVariants.{Unknown, Arguments}
 use Rattle.uhp_words.specs.Reading.{command_of}
 use Rattle.uhp_words.specs.Spans.{bytes_at}
-use Rattle.uhp_session.specs.Answers.{Begun, State, Answer, reached, is_ended, written, with_moves, refuse, go_on, in_game, begin, make, play, undo, change, set, setting_of, option_line, or_base, command_answer, words_answer, after_of, next}
+use Rattle.uhp_session.specs.Answers.{CurrentGame, SessionState, Answer, reached, is_ended, written, with_moves, refuse, go_on, in_game, begin, make, play, undo, change, set, setting_of, option_line, or_base, command_answer, words_answer, after_of, next}
 use Rattle.uhp_session.specs.declared.options.Setting.{Setting}
 use Rattle.uhp_session.specs.declared.options.Setting.TheVariants.{Table, Workers, Repetition}
 use Rattle.uhp_session.specs.declared.options.SettingFault.{SettingFault}
@@ -24,7 +24,7 @@ use Rattle.uhp_session.specs.Laws.{IsRefusal, RefusalsChangeNothing}
 use Rattle.uhp_session.proofs.DepthLaws.{depth_kept}
 use Rattle.uhp_session.proofs.ReplyLaws.{get_keeps, list_keeps, best_keeps}
 
-abbrev Keeps : State → Answer → Type 0
+abbrev Keeps : SessionState → Answer → Type 0
 Keeps s a = IsRefusal a → after_of s a ≡ s
 
 -- Lines that are no refusal
@@ -36,7 +36,7 @@ first (x ∷ xs) = x
 abbrev Starts : List ℕ → Type 0
 Starts line = (rest : List ℕ) × ((line ≡ codes "err " ++ rest) ⊎ (line ≡ codes "invalidmove " ++ rest))
 
-game_begins : (g : Begun) → first (written g) ≡ 66
+game_begins : (g : CurrentGame) → first (written g) ≡ 66
 unfolding string_under first
 game_begins g = refl
 
@@ -53,18 +53,18 @@ no_fault line n is low (rest, inr e) = let wrong : n ≡ 105 = sym is ∙ ap fir
 
 -- The commands
 
-go_on_keeps : (s : State) (g : Begun) → Keeps s (go_on s g)
+go_on_keeps : (s : SessionState) (g : CurrentGame) → Keeps s (go_on s g)
 go_on_keeps s g = λ h. absurd (no_fault (written g) 66 (game_begins g) (omega arith) h)
 
-begin_keeps : (s : State) (r : Result Parsed GameFault) → Keeps s (begin s r)
+begin_keeps : (s : SessionState) (r : Result Parsed GameFault) → Keeps s (begin s r)
 begin_keeps s (Ok g) = go_on_keeps s (record { game_type = g.game_type; made = g.moves; repetition = s.repetition })
 begin_keeps s (Err fault) = λ h. refl
 
-in_keeps : (s : State) (o : Option Begun) (f : Begun → Answer) → ((g : Begun) → Keeps s (f g)) → Keeps s (in_game s o f)
+in_keeps : (s : SessionState) (o : Option CurrentGame) (f : CurrentGame → Answer) → ((g : CurrentGame) → Keeps s (f g)) → Keeps s (in_game s o f)
 in_keeps s None f each = λ h. refl
 in_keeps s (Some g) f each = each g
 
-make_keeps : (s : State) (g : Begun) (r : Result Move MoveFault) → Keeps s (make s g r)
+make_keeps : (s : SessionState) (g : CurrentGame) (r : Result Move MoveFault) → Keeps s (make s g r)
 make_keeps s g (Err fault) = λ h. refl
 make_keeps s g (Ok m) = go (is_listed (reached g) m)
   where
@@ -72,7 +72,7 @@ make_keeps s g (Ok m) = go (is_listed (reached g) m)
     go true = go_on_keeps s (with_moves g (g.made ++ m ∷ []))
     go false = λ h. refl
 
-play_keeps : (s : State) (words : List ℕ) (g : Begun) → Keeps s (play s words g)
+play_keeps : (s : SessionState) (words : List ℕ) (g : CurrentGame) → Keeps s (play s words g)
 play_keeps s words g = go (is_ended g) (nat_le 5000 (length g.made))
   where
     go : (over full : Bool) → Keeps s (if over then refuse s (codes "invalidmove 4 game over") else if full then refuse s (codes "err 11 too many plies") else make s g (move_of g.game_type (reached g).board words))
@@ -80,21 +80,21 @@ play_keeps s words g = go (is_ended g) (nat_le 5000 (length g.made))
     go false true = λ h. refl
     go false false = make_keeps s g (move_of g.game_type (reached g).board words)
 
-undo_keeps : (s : State) (plies : ℕ) (g : Begun) → Keeps s (undo s plies g)
+undo_keeps : (s : SessionState) (plies : ℕ) (g : CurrentGame) → Keeps s (undo s plies g)
 undo_keeps s plies g = go (nat_lt (length g.made) plies)
   where
     go : (b : Bool) → Keeps s (if b then refuse s (codes "err 7 undo beyond start") else go_on s (with_moves g (take (length g.made - plies) g.made)))
     go true = λ h. refl
     go false = go_on_keeps s (with_moves g (take (length g.made - plies) g.made))
 
-change_keeps : (s : State) (r : Result Setting SettingFault) → Keeps s (change s r)
+change_keeps : (s : SessionState) (r : Result Setting SettingFault) → Keeps s (change s r)
 change_keeps s (Ok x) = let begins = option_begins x in λ h. absurd (no_fault (option_line x) begins.0 begins.1 begins.2 h)
 change_keeps s (Err fault) = λ h. refl
 
-set_keeps : (s : State) (name value : List ℕ) → Keeps s (set s name value)
+set_keeps : (s : SessionState) (name value : List ℕ) → Keeps s (set s name value)
 set_keeps s name value = change_keeps s (setting_of name value)
 
-command_keeps : (s : State) (line : List ℕ) (d : ℕ) (c : Command) → Keeps s (command_answer s line d c)
+command_keeps : (s : SessionState) (line : List ℕ) (d : ℕ) (c : Command) → Keeps s (command_answer s line d c)
 command_keeps s line d Info = λ h. refl
 command_keeps s line d (NewGame part) = begin_keeps s (game_under s.repetition (or_base (bytes_at line part)))
 command_keeps s line d (Play part) = in_keeps s s.game (play s (bytes_at line part)) (play_keeps s (bytes_at line part))
@@ -108,7 +108,7 @@ command_keeps s line d (OptionGet name) = λ h. sym (get_keeps s (bytes_at line 
 command_keeps s line d (OptionSet name value) = set_keeps s (bytes_at line name) (bytes_at line value)
 command_keeps s line d Exit = λ h. refl
 
-words_keeps : (s : State) (line : List ℕ) (d : ℕ) (r : Result Command CommandFault) → Keeps s (words_answer s line d r)
+words_keeps : (s : SessionState) (line : List ℕ) (d : ℕ) (r : Result Command CommandFault) → Keeps s (words_answer s line d r)
 words_keeps s line d (Ok c) = command_keeps s line d c
 words_keeps s line d (Err Unknown) = λ h. refl
 words_keeps s line d (Err Arguments) = λ h. refl

@@ -6,7 +6,7 @@ use Rattle.hive_model.specs.declared.places.State.{State}
 use Rattle.hive_model.specs.declared.places.State.TheVariants.{NotStarted, InProgress, Draw, WhiteWins, BlackWins}
 use Rattle.hive_model.specs.Legal.{state, is_over, is_over_state}
 use Rattle.hive_model.specs.Repetition.{ends_as, StandsUnder}
-use Rattle.uhp_session.specs.Answers.{Begun, reached, is_ended}
+use Rattle.uhp_session.specs.Answers.{CurrentGame, reached, is_ended}
 
 -- The outcome
 
@@ -19,7 +19,7 @@ ends_later true BlackWins e = e
 ends_later false s e = e
 
 -- while the game goes on its position is not over
-pub goes_on : (g : Begun) → is_ended g ≡ false → is_over (reached g) ≡ false
+pub goes_on : (g : CurrentGame) → is_ended g ≡ false → is_over (reached g) ≡ false
 goes_on g e = ends_later _ (state (reached g)) e
 
 -- Fronts that stand

@@ -43,46 +43,46 @@ use Rattle.uhp_session.specs.declared.lines.Reply.TheVariants.{Text as ReplyText
 
 -- a game that was begun: its type, its moves, and whether the rule of third repetition is switched
 -- on in it
-pub record Begun : Type 0 where
+pub record CurrentGame : Type 0 where
   pub game_type : GameType
   pub made : List Move
   pub repetition : Bool
 
 -- a session: no game or a game, and the values of the options Table, Workers and Repetition, of
 -- which the last is 1 where it is true
-pub record State : Type 0 where
-  pub game : Option Begun
+pub record SessionState : Type 0 where
+  pub game : Option CurrentGame
   pub table : ℕ
   pub workers : ℕ
   pub repetition : Bool
 
 -- no game was begun, and the options have their defaults
-abbrev pub fresh : State
+abbrev pub fresh : SessionState
 fresh = record { game = None; table = 65536; workers = 1; repetition = false }
 
 -- the position that the game has reached
-abbrev pub reached : Begun → Position
+abbrev pub reached : CurrentGame → Position
 reached g = replay (opening g.game_type) g.made
 
 -- the game is won or drawn: by its position, or where the rule is switched on because that stands
 -- for the third time
-abbrev pub is_ended : Begun → Bool
+abbrev pub is_ended : CurrentGame → Bool
 is_ended g = is_over_state (outcome_under g.repetition g.game_type g.made)
 
 -- the written form of the game, with its outcome
-abbrev pub written : Begun → List ℕ
+abbrev pub written : CurrentGame → List ℕ
 written g = string_under g.repetition g.game_type g.made
 
 -- the game with these moves in place of its own
-abbrev pub with_moves : Begun → List Move → Begun
+abbrev pub with_moves : CurrentGame → List Move → CurrentGame
 with_moves g ms = record g { made = ms }
 
 -- the session with this game in place of its own
-abbrev pub with_game : State → Begun → State
+abbrev pub with_game : SessionState → CurrentGame → SessionState
 with_game s g = record s { game = Some g }
 
 -- the session with this value of an option in place of its own
-abbrev pub with_setting : State → Setting → State
+abbrev pub with_setting : SessionState → Setting → SessionState
 with_setting s (Table entries) = record s { table = entries }
 with_setting s (Workers workers) = record s { workers = workers }
 with_setting s (Repetition on) = record s { repetition = on }
@@ -90,24 +90,24 @@ with_setting s (Repetition on) = record s { repetition = on }
 -- the lines of a reply but for the last, which is `ok`, and the session afterwards; or the session
 -- is left, with no reply
 pub data Answer : Type 0 where
-  Says : (lines : List (List ℕ)) → (after : State) → Answer
+  Says : (lines : List (List ℕ)) → (after : SessionState) → Answer
   Leaves : Answer
 
 -- one line, and nothing changes: so is every refusal
-abbrev pub refuse : State → List ℕ → Answer
+abbrev pub refuse : SessionState → List ℕ → Answer
 refuse s line = Says (line ∷ []) s
 
 -- the game is now this one, and its written form is answered
-abbrev pub go_on : State → Begun → Answer
+abbrev pub go_on : SessionState → CurrentGame → Answer
 go_on s g = Says (written g ∷ []) (with_game s g)
 
 -- in a session with a game
-abbrev pub in_game : State → Option Begun → (Begun → Answer) → Answer
+abbrev pub in_game : SessionState → Option CurrentGame → (CurrentGame → Answer) → Answer
 in_game s None f = refuse s (codes "err 3 no game")
 in_game s (Some g) f = f g
 
 -- in a session with a game that is not over
-abbrev pub while_on : State → (Begun → Answer) → Answer
+abbrev pub while_on : SessionState → (CurrentGame → Answer) → Answer
 while_on s f =
     in_game s s.game (λ g. if is_ended g then refuse s (codes "err 8 game over") else f g)
 
@@ -134,7 +134,7 @@ abbrev pub game_fault : GameFault → List ℕ
 game_fault fault = before_reason fault ++ reason fault
 
 -- the value that the option Repetition has now is the game's rule from now on
-abbrev pub begin : State → Result Parsed GameFault → Answer
+abbrev pub begin : SessionState → Result Parsed GameFault → Answer
 begin s (Ok g) =
     go_on s (record { game_type = g.game_type; made = g.moves; repetition = s.repetition })
 begin s (Err fault) = refuse s (game_fault fault)
@@ -146,7 +146,7 @@ move_fault (NotAMove at) = codes "invalidmove 1 unreadable"
 move_fault NoSuchPiece = codes "invalidmove 1 unreadable"
 move_fault (NotInPlay piece) = codes "invalidmove 2 not in play " ++ piece_text piece
 
-abbrev pub make : State → Begun → Result Move MoveFault → Answer
+abbrev pub make : SessionState → CurrentGame → Result Move MoveFault → Answer
 make s g (Err fault) = refuse s (move_fault fault)
 make s g (Ok m) =
     if is_listed (reached g) m then go_on s (with_moves g (g.made ++ m ∷ []))
@@ -156,7 +156,7 @@ make s g (Ok m) =
 abbrev pub most_plies : ℕ
 most_plies = 5000
 
-abbrev pub play : State → List ℕ → Begun → Answer
+abbrev pub play : SessionState → List ℕ → CurrentGame → Answer
 play s words g =
     if is_ended g then refuse s (codes "invalidmove 4 game over") else
     if nat_le most_plies (length g.made) then refuse s (codes "err 11 too many plies") else
@@ -170,7 +170,7 @@ joined [] = []
 joined (t ∷ ts) = joined_on t ts
 
 -- the legal moves, written
-abbrev pub list : State → Begun → Answer
+abbrev pub list : SessionState → CurrentGame → Answer
 list s g = Says (joined (map (text (reached g).board) (moves (reached g))) ∷ []) s
 
 -- The best move
@@ -183,17 +183,17 @@ text_of_best b (Some m) = text b m
 
 -- the first legal move of the greatest minimax value, so many plies deep, written; the options play
 -- no part in it
-abbrev pub best_text : Begun → ℕ → List ℕ
+abbrev pub best_text : CurrentGame → ℕ → List ℕ
 best_text g depth = text_of_best (reached g).board (best (reached g) depth)
 
 -- the line that names it; nothing changes
-abbrev pub best_line : State → ℕ → Begun → Answer
+abbrev pub best_line : SessionState → ℕ → CurrentGame → Answer
 best_line s depth g = Says (best_text g depth ∷ []) s
 
 -- Undo
 
 -- the game without its last moves
-abbrev pub undo : State → ℕ → Begun → Answer
+abbrev pub undo : SessionState → ℕ → CurrentGame → Answer
 undo s plies g =
     if nat_lt (length g.made) plies then refuse s (codes "err 7 undo beyond start")
     else go_on s (with_moves g (take (length g.made - plies) g.made))
@@ -222,7 +222,7 @@ setting_fault NoSuchOption = codes "err 9 no such option"
 setting_fault OutOfRange = codes "err 9 value out of range"
 
 -- the option of a name, with the value that it has
-abbrev pub option_of : State → List ℕ → Result Setting SettingFault
+abbrev pub option_of : SessionState → List ℕ → Result Setting SettingFault
 option_of s name =
     if bytes_eq name (codes "Table") then Ok (Table s.table) else
     if bytes_eq name (codes "Workers") then Ok (Workers s.workers) else
@@ -250,25 +250,25 @@ setting_of name value =
     then given (λ n. Repetition (nat_eq n 1)) (number_in value 0 1) else
     Err NoSuchOption
 
-abbrev pub tell : State → Result Setting SettingFault → Answer
+abbrev pub tell : SessionState → Result Setting SettingFault → Answer
 tell s (Ok setting) = Says (option_line setting ∷ []) s
 tell s (Err fault) = refuse s (setting_fault fault)
 
-abbrev pub get : State → List ℕ → Answer
+abbrev pub get : SessionState → List ℕ → Answer
 get s name = tell s (option_of s name)
 
-abbrev pub change : State → Result Setting SettingFault → Answer
+abbrev pub change : SessionState → Result Setting SettingFault → Answer
 change s (Ok setting) = Says (option_line setting ∷ []) (with_setting s setting)
 change s (Err fault) = refuse s (setting_fault fault)
 
-abbrev pub set : State → List ℕ → List ℕ → Answer
+abbrev pub set : SessionState → List ℕ → List ℕ → Answer
 set s name value = change s (setting_of name value)
 
 -- The table
 
 -- The answer to a command; the parts that it names are those of the line. The depth is that which a
 -- search for a time has completed, and serves `bestmove time` alone.
-abbrev pub command_answer : State → List ℕ → ℕ → Command → Answer
+abbrev pub command_answer : SessionState → List ℕ → ℕ → Command → Answer
 command_answer s line depth Info =
     Says (codes "id HiveReferee 1.0" ∷ (codes "Mosquito;Ladybug;Pillbug" ∷ [])) s
 command_answer s line depth (NewGame part) =
@@ -286,14 +286,14 @@ command_answer s line depth (OptionSet name value) =
     set s (bytes_at line name) (bytes_at line value)
 command_answer s line depth Exit = Leaves
 
-abbrev pub words_answer : State → List ℕ → ℕ → Result Command CommandFault → Answer
+abbrev pub words_answer : SessionState → List ℕ → ℕ → Result Command CommandFault → Answer
 words_answer s line depth (Ok command) = command_answer s line depth command
 words_answer s line depth (Err Unknown) = refuse s (codes "err 1 unknown command")
 words_answer s line depth (Err Arguments) = refuse s (codes "err 2 wrong arguments")
 
 -- the answer of a session to a line, at the depth that its search for a time, if it asks for one,
 -- has completed
-abbrev pub answer : State → Line → ℕ → Answer
+abbrev pub answer : SessionState → Line → ℕ → Answer
 answer s (TextLine bytes) depth = words_answer s bytes depth (command_of bytes)
 answer s LongLine depth = refuse s (codes "err 10 line too long")
 
@@ -309,16 +309,16 @@ abbrev pub reply_of : Answer → Option (List ℕ)
 reply_of (Says lines after) = Some (ended (lines ++ codes "ok" ∷ []))
 reply_of Leaves = None
 
-abbrev pub after_of : State → Answer → State
+abbrev pub after_of : SessionState → Answer → SessionState
 after_of s (Says lines after) = after
 after_of s Leaves = s
 
 -- the reply to a line, or none where the run ends
-unfoldable pub reply : State → Line → ℕ → Option (List ℕ)
+unfoldable pub reply : SessionState → Line → ℕ → Option (List ℕ)
 reply s line depth = reply_of (answer s line depth)
 
 -- the session after a line; a search leaves it as it is, whatever its depth
-unfoldable pub next : State → Line → State
+unfoldable pub next : SessionState → Line → SessionState
 next s line = after_of s (answer s line 1)
 
 -- A line that is handed to a session, and the reply
@@ -335,7 +335,7 @@ text_of ReplyExit = None
 
 -- A session in a state gave this answer: what the reply tells, and the state after it. After want
 -- of memory the state is as before.
-pub record Gave (told : Answer) (result : Result Reply AllocError) (old new : State) : Type 0 where
+pub record Gave (told : Answer) (result : Result Reply AllocError) (old new : SessionState) : Type 0 where
   pub reply : IfOk result (λ r. text_of r ≡ reply_of told)
   pub next : OnOk result (new ≡ after_of old told)
   pub err : OnErr result (new ≡ old)

@@ -11,7 +11,7 @@ use Rattle.uhp_words.specs.declared.command.Command.{Command}
 use Rattle.uhp_words.specs.declared.command.Command.TheVariants.{NewGame, Options, OptionGet, OptionSet}
 use Rattle.uhp_words.specs.declared.command.CommandFault.{CommandFault}
 use Rattle.uhp_words.specs.Reading.{command_of}
-use Rattle.uhp_session.specs.Answers.{Begun, State, Answer, Says, Leaves, reached, best_text, after_of, answer, reply, next}
+use Rattle.uhp_session.specs.Answers.{CurrentGame, SessionState, Answer, Says, Leaves, reached, best_text, after_of, answer, reply, next}
 use Rattle.uhp_session.specs.Searches.{asks}
 
 -- the first line of the answer begins with `err ` or with `invalidmove `
@@ -24,30 +24,30 @@ IsRefusal Leaves = ⊥
 -- a refusal leaves the session as it was
 abbrev pub RefusalsChangeNothing : Type 0
 RefusalsChangeNothing =
-    (s : State) (line : Line) (depth : ℕ) → IsRefusal (answer s line depth) → next s line ≡ s
+    (s : SessionState) (line : Line) (depth : ℕ) → IsRefusal (answer s line depth) → next s line ≡ s
 
 -- the game has at most 5,000 moves, each legal in the position before it, and none of them follows
 -- its end under its own rule
-pub record IsHeld (g : Begun) : Type 0 where
+pub record IsHeld (g : CurrentGame) : Type 0 where
   pub legal : IsGame g.game_type g.made
   pub few : length g.made ≤ 5000
   pub stands : StandsUnder g.repetition g.game_type g.made
 
 -- so it is with the game, if one was begun
-abbrev pub HoldsGame : Option Begun → Type 0
+abbrev pub HoldsGame : Option CurrentGame → Type 0
 HoldsGame None = Unit {0}
 HoldsGame (Some g) = IsHeld g
 
 -- a session that holds such a game, or none, does so after every line
 abbrev pub SessionsHoldGames : Type 0
-SessionsHoldGames = (s : State) (line : Line) → HoldsGame s.game → HoldsGame (next s line).game
+SessionsHoldGames = (s : SessionState) (line : Line) → HoldsGame s.game → HoldsGame (next s line).game
 
 -- In a position that is not over the text that `bestmove` answers is that of a legal move, at every
 -- depth from 1 on: of the first of those that are worth most at that depth. A search is of the
 -- position alone, whatever the rule of the game.
 abbrev pub BestMovesAreNamed : Type 0
 BestMovesAreNamed =
-    (g : Begun) (depth : ℕ) → is_over (reached g) ≡ false → 1 ≤ depth
+    (g : CurrentGame) (depth : ℕ) → is_over (reached g) ≡ false → 1 ≤ depth
     → (m : Move) × IsBest (reached g) depth m × (best_text g depth ≡ text (reached g).board m)
 
 -- a command that tells or sets the options
@@ -78,16 +78,16 @@ AsksGame LongLine = ⊥
 -- the same.
 abbrev pub OptionsChangeNoAnswer : Type 0
 OptionsChangeNoAnswer =
-    (s t : State) (line : Line) (depth : ℕ) → s.game ≡ t.game → ¬ AsksOptions line
+    (s t : SessionState) (line : Line) (depth : ℕ) → s.game ≡ t.game → ¬ AsksOptions line
     → (AsksGame line → s.repetition ≡ t.repetition)
     → (reply s line depth ≡ reply t line depth) × ((next s line).game ≡ (next t line).game)
 
 -- The depth of a search shows in the reply to the line that asks for it and in no other, and in no
 -- session after a line.
-pub record ServesSearches (s : State) (line : Line) (depth other : ℕ) : Type 0 where
+pub record ServesSearches (s : SessionState) (line : Line) (depth other : ℕ) : Type 0 where
   pub reply_same : asks s line ≡ None → reply s line depth ≡ reply s line other
   pub after_same : after_of s (answer s line depth) ≡ next s line
 
 abbrev pub DepthsServeSearches : Type 0
 DepthsServeSearches =
-    (s : State) (line : Line) (depth other : ℕ) → ServesSearches s line depth other
+    (s : SessionState) (line : Line) (depth other : ℕ) → ServesSearches s line depth other

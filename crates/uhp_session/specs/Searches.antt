@@ -2,7 +2,7 @@
 -- and what the answer took.
 use Rattle.std.specs.Prelude.{◌≡◌, ℕ, ◌+◌, ◌<◌, ◌≤◌, List, [], ◌∷◌, ◌++◌, Option, Some, None, Result, Ok, IfOk, OnOk, OnErr, codes, if◌then◌else◌}
 use Rattle.std.specs.declared.alloc.AllocError.{AllocError}
-use Rattle.hive_model.specs.declared.answers.Timed.{Timed}
+use Rattle.hive_model.specs.declared.best.Timed.{Timed}
 use Rattle.hive_model.specs.Positions.{Position}
 use Rattle.hive_model.specs.Lines.{Line, Text as TextLine, TooLong as LongLine}
 use Rattle.hive_model.specs.Minimax.{reads}
@@ -11,7 +11,7 @@ use Rattle.uhp_words.specs.declared.command.Command.TheVariants.{BestTime}
 use Rattle.uhp_words.specs.declared.command.CommandFault.{CommandFault}
 use Rattle.uhp_words.specs.Reading.{command_of}
 use Rattle.uhp_session.specs.declared.lines.Reply.{Reply}
-use Rattle.uhp_session.specs.Answers.{Begun, State, reached, is_ended, best_text, ended, text_of}
+use Rattle.uhp_session.specs.Answers.{CurrentGame, SessionState, reached, is_ended, best_text, ended, text_of}
 
 -- What a line asks for
 
@@ -21,12 +21,12 @@ pub record Search : Type 0 where
   pub position : Position
 
 -- a search with this budget, where a game was begun that is not over
-abbrev pub search_in : Option Begun → ℕ → Option Search
+abbrev pub search_in : Option CurrentGame → ℕ → Option Search
 search_in None budget = None
 search_in (Some g) budget =
     if is_ended g then None else Some (record { budget = budget; position = reached g })
 
-abbrev pub command_search : State → Result Command CommandFault → Option Search
+abbrev pub command_search : SessionState → Result Command CommandFault → Option Search
 command_search s (Ok (BestTime budget)) = search_in s.game budget
 command_search s _ = None
 
@@ -36,7 +36,7 @@ IsUntimed (BestTime budget) = ⊥
 IsUntimed _ = Unit {0}
 
 -- the search for a time that a line asks for, if it asks for one that is not refused
-unfoldable pub asks : State → Line → Option Search
+unfoldable pub asks : SessionState → Line → Option Search
 asks s (TextLine bytes) = command_search s (command_of bytes)
 asks s LongLine = None
 
@@ -96,7 +96,7 @@ pub record Answered {S : Type 0} (asked : Option Search) (told : ℕ → Option 
   pub later : before.last ≤ after.last
 
 -- the best move of this game at the depth of an entry was told, and the entry tells of this search
-abbrev pub HasTold : Search → Begun → Option (List ℕ) → Times → Times → Type 0
+abbrev pub HasTold : Search → CurrentGame → Option (List ℕ) → Times → Times → Type 0
 HasTold asked g answer before after =
     (entry : Timed) × (answer ≡ Some (ended (best_text g entry.depth ∷ (codes "ok" ∷ []))))
     × Searched asked entry before after

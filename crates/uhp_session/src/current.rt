@@ -31,7 +31,7 @@ ghost use Rattle.hive_model.specs.Stack.{with_level};
 ghost use Rattle.hive_model.specs.Lines.{greatest_line};
 ghost use Rattle.move_text.specs.Moves.{move_of};
 ghost use Rattle.uhp_session.specs.Answers.{
-  Begun,
+  CurrentGame,
   reached,
   is_ended,
   written,
@@ -72,9 +72,9 @@ impl<G: Game> Model for Current<G> {
     ghost use Rattle.hive_model.specs.Positions.{opening};
     ghost use Rattle.hive_model.specs.Strings.{texts};
     ghost use Rattle.game_text.specs.Seen.{Sees};
-    ghost use Rattle.uhp_session.specs.Answers.{Begun};
+    ghost use Rattle.uhp_session.specs.Answers.{CurrentGame};
 
-    ghost Value = { Begun };
+    ghost Value = { CurrentGame };
 
     ghost view = { λ c. record {
       game_type = (G.course c.game).game_type;

@@ -43,10 +43,10 @@ pub struct Session<G: Game> {
 
 impl<G: Game> Model for Session<G> {
     ghost use Rattle.std.specs.Prelude.{◌≡◌, ◌≤◌, IfSome};
-    ghost use Rattle.uhp_session.specs.Answers.{State};
+    ghost use Rattle.uhp_session.specs.Answers.{SessionState};
     ghost use Rattle.uhp_session.specs.Teams.{AreSearchersOf};
 
-    ghost Value = { State };
+    ghost Value = { SessionState };
 
     ghost view = { λ s. record {
       game = s.game;
@@ -94,14 +94,7 @@ impl<G: Game + Send + Drop> Session<G> {
     /// that is unreadable or not legal, more plies to take back than were played, no such option
     /// and a value out of range. A refusal is a line that begins with `err ` or `invalidmove `, and
     /// changes nothing. After want of memory the session is as before.
-    #[tactic(
-        auto,
-        unfolding(
-            crate::specs::Answers::reply,
-            crate::specs::Answers::next,
-            crate::specs::Searches::asks
-        )
-    )]
+    #[tactic(auto, unfolding(crate::specs::Answers::reply, crate::specs::Answers::next, crate::specs::Searches::asks))]
     pub fn command<R: Threads + Sync, C: Clock, T: Gate + Sync>(
         &mut self,
         rt: &R,
@@ -177,14 +170,7 @@ impl<G: Game + Send + Drop> Session<G> {
     }
 
     /// Answers a command that asks for no search for a time.
-    #[tactic(
-        auto,
-        using(
-            crate::proofs::ReplyLaws::get_keeps,
-            crate::proofs::ReplyLaws::list_keeps,
-            crate::proofs::ReplyLaws::best_keeps
-        )
-    )]
+    #[tactic(auto, using(crate::proofs::ReplyLaws::get_keeps, crate::proofs::ReplyLaws::list_keeps, crate::proofs::ReplyLaws::best_keeps))]
     fn perform_at_once<R: Threads + Sync, T: Gate + Sync>(
         &mut self,
         rt: &R,

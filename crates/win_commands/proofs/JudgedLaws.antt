@@ -8,23 +8,23 @@ use Rattle.hive_model.specs.Lines.{Line}
 use Rattle.hive_model.specs.Games.{replay}
 use Rattle.hive_model.specs.Positions.{opening}
 use Rattle.line_feed.specs.Feed.{Reading}
-use Rattle.certificate_text.specs.Text.{index_in}
+use Rattle.strategy_text.specs.Text.{index_in}
 use Rattle.command_runs.specs.OneGame.{last_position}
-use Rattle.text_verdicts.specs.declared.verdict.Verdict.{Verdict}
-use Rattle.text_verdicts.specs.declared.verdict.Unread.{Unread}
-use Rattle.text_verdicts.specs.Judging.{JudgesAhead}
-use Rattle.text_verdicts.specs.Reading.{Judges}
-use Rattle.text_verdicts.specs.Runs.{IsUndecided, Judgement}
-use Rattle.text_verdicts.proofs.TextLaws.{if-open}
+use Rattle.strategy_verdicts.specs.declared.verdict.TextVerdict.{TextVerdict}
+use Rattle.strategy_verdicts.specs.declared.verdict.Unread.{Unread}
+use Rattle.strategy_verdicts.specs.Judging.{JudgesAhead}
+use Rattle.strategy_verdicts.specs.Reading.{Judges}
+use Rattle.strategy_verdicts.specs.Runs.{IsUndecided, Judgement}
+use Rattle.strategy_verdicts.proofs.TextLaws.{if-open}
 use Rattle.win_commands.specs.declared.head.Head.{Head}
 use Rattle.win_commands.specs.Verdicts.{of_claim, of_items}
 
-pub judges-as : (head most : ℕ) (worth other : Judgement) (result : Result Verdict Unread) (reader : Reading) (source later : Aside) → ((left : List Line) → worth left ≡ other left) → JudgesAhead head worth most result reader source later → JudgesAhead head other most result reader source later
+pub judges-as : (head most : ℕ) (worth other : Judgement) (result : Result TextVerdict Unread) (reader : Reading) (source later : Aside) → ((left : List Line) → worth left ≡ other left) → JudgesAhead head worth most result reader source later → JudgesAhead head other most result reader source later
 judges-as head most worth other result reader source later same h = record {
-  judged = λ left told. subst (λ (v : Verdict). Judges result v) (same left) (h.judged left told);
+  judged = λ left told. subst (λ (v : TextVerdict). Judges result v) (same left) (h.judged left told);
   cause = h.cause;
   read = h.read;
-  unread = λ left told text r e. subst (λ (v : Verdict). IsUndecided head v text later.bytes) (same left) (h.unread left told text r e);
+  unread = λ left told text r e. subst (λ (v : TextVerdict). IsUndecided head v text later.bytes) (same left) (h.unread left told text r e);
 }
 
 -- the answer of a head, as one about the game under way

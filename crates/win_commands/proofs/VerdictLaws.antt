@@ -4,26 +4,26 @@ use Rattle.std.specs.Prelude.{Result, Ok, Err}
 use Rattle.hive_model.specs.Positions.{Position}
 use Rattle.hive_model.specs.Legal.{is_over}
 use Rattle.hive_model.specs.Lines.{Line}
-use Rattle.claim_walks.specs.Walks.{Outcome, Left, Fault, Halt}
-use Rattle.strategy_check.specs.declared.answers.Why.{Why}
+use Rattle.strategy_walks.specs.Walks.{WalkEnd, Left, Fault, Halt}
+use Rattle.strategy_check.specs.declared.why.Why.{Why}
 use Rattle.strategy_check.specs.Trace.{Steps}
-use Rattle.certificate_text.specs.declared.head.HeadFault.{HeadFault}
-use Rattle.certificate_text.specs.Text.{index_in}
+use Rattle.strategy_text.specs.declared.head.HeadFault.{HeadFault}
+use Rattle.strategy_text.specs.Text.{index_in}
 use Rattle.win_solver.specs.Solution.{solved}
 use Rattle.win_solver.specs.Solution.{Solves}
 use Rattle.win_solver.proofs.SolutionLaws.{solved-indices, solved-sound}
 use Rattle.command_runs.specs.OneGame.{last_position}
 use Rattle.win_commands.specs.declared.head.Head.{Head}
-use Rattle.text_verdicts.specs.declared.verdict.Verdict.TheVariants.{Accepted, GameOver}
-use Rattle.text_verdicts.specs.Verdicts.{of_walk}
-use Rattle.text_verdicts.proofs.TextLaws.{if-open, never-fault, verdict-is}
+use Rattle.strategy_verdicts.specs.declared.verdict.TextVerdict.TheVariants.{Accepted, GameOver}
+use Rattle.strategy_verdicts.specs.Verdicts.{of_walk}
+use Rattle.strategy_verdicts.proofs.TextLaws.{if-open, never-fault, verdict-is}
 use Rattle.win_commands.specs.Text.{is_forced}
 use Rattle.win_commands.specs.Verdicts.{head_of, of_claim, of_items, verdict}
 use Rattle.win_commands.specs.Laws.{AcceptedIsTrue, HoldsSolution, IsTrueText}
 
 -- ---- what is accepted is true
 
-walk-true : (p : Position) (n : ℕ) (answer : Bool) (items : List (Option ℕ)) (o : Outcome Steps Why) → solved p n p.side answer items ≡ o → of_walk 4 o ≡ Accepted → is_forced p n ≡ answer
+walk-true : (p : Position) (n : ℕ) (answer : Bool) (items : List (Option ℕ)) (o : WalkEnd Steps Why) → solved p n p.side answer items ≡ o → of_walk 4 o ≡ Accepted → is_forced p n ≡ answer
 walk-true p n answer items (Left s) e h = solved-sound p n p.side answer items s e
 walk-true p n answer items (Fault why k) e h = cc
 walk-true p n answer items (Halt k) e h = cc
@@ -46,7 +46,7 @@ accepted-true = λ lines h. go lines (head_of lines) refl h
 
 -- ---- what is accepted holds
 
-walk-holds : (p : Position) (n : ℕ) (answer : Bool) (items : List (Option ℕ)) (o : Outcome Steps Why) → solved p n p.side answer items ≡ o → of_walk 4 o ≡ Accepted →
+walk-holds : (p : Position) (n : ℕ) (answer : Bool) (items : List (Option ℕ)) (o : WalkEnd Steps Why) → solved p n p.side answer items ≡ o → of_walk 4 o ≡ Accepted →
     (indices : List ℕ) × (items ≡ map (λ i. Some i) indices) × Solves p n p.side answer indices
 walk-holds p n answer items (Left s) e h = solved-indices p n p.side answer items s e
 walk-holds p n answer items (Fault why k) e h = cc

@@ -5,19 +5,19 @@ use Rattle.hive_model.specs.Positions.{Position}
 use Rattle.hive_model.specs.Legal.{is_over}
 use Rattle.hive_model.specs.Games.{IsGame}
 use Rattle.hive_model.specs.Lines.{Line}
-use Rattle.certificate_text.specs.declared.head.HeadFault.{HeadFault}
-use Rattle.certificate_text.specs.Text.{and_then, field_in, game_in, index_in}
-use Rattle.claim_walks.specs.Walks.{Outcome}
+use Rattle.strategy_text.specs.declared.head.HeadFault.{HeadFault}
+use Rattle.strategy_text.specs.Text.{and_then, field_in, game_in, index_in}
+use Rattle.strategy_walks.specs.Walks.{WalkEnd}
 use Rattle.strategy_check.specs.Trace.{Steps}
-use Rattle.strategy_check.specs.declared.answers.Why.{Why}
+use Rattle.strategy_check.specs.declared.why.Why.{Why}
 use Rattle.win_solver.specs.Solution.{solved}
 use Rattle.command_runs.specs.OneGame.{last_position}
 use Rattle.win_commands.specs.declared.head.Head.{Head}
-use Rattle.text_verdicts.specs.declared.verdict.Verdict.{Verdict}
-use Rattle.text_verdicts.specs.declared.verdict.Verdict.TheVariants.{GameOver}
-use Rattle.text_verdicts.specs.Judging.{text_verdict}
-use Rattle.text_verdicts.specs.Runs.{IsDecidedBehind, not-yet}
-use Rattle.text_verdicts.specs.Verdicts.{index_refusal, of_walk}
+use Rattle.strategy_verdicts.specs.declared.verdict.TextVerdict.{TextVerdict}
+use Rattle.strategy_verdicts.specs.declared.verdict.TextVerdict.TheVariants.{GameOver}
+use Rattle.strategy_verdicts.specs.Judging.{text_verdict}
+use Rattle.strategy_verdicts.specs.Runs.{IsDecidedBehind, not-yet}
+use Rattle.strategy_verdicts.specs.Verdicts.{index_refusal, of_walk}
 use Rattle.win_commands.specs.Text.{version_at, plies_at, answer_at}
 
 -- The head
@@ -42,22 +42,22 @@ pub record IsHead (head : Head) : Type 0 where
 -- The verdict
 
 -- what the items of the lines behind the head make of its answer about a position
-abbrev pub of_items : Position → ℕ → Bool → List (Option ℕ) → Verdict
+abbrev pub of_items : Position → ℕ → Bool → List (Option ℕ) → TextVerdict
 of_items p plies answer items = of_walk 4 (solved p plies p.side answer items)
 
 -- the same of a head and the lines behind it; no answer is about a game that is over
-abbrev pub of_claim : Head → List Line → Verdict
+abbrev pub of_claim : Head → List Line → TextVerdict
 of_claim head rest =
     if is_over (last_position head.game) then GameOver
     else of_items (last_position head.game) head.plies head.answer (map index_in rest)
 
 -- the verdict on the lines of a text
-abbrev pub verdict : List Line → Verdict
+abbrev pub verdict : List Line → TextVerdict
 verdict = text_verdict 4 head_of of_claim
 
 -- it is never decided by lines of the head alone
 
-claim-later : (n : ℕ) (over : Bool) (o : Outcome Steps Why) → n < 4
+claim-later : (n : ℕ) (over : Bool) (o : WalkEnd Steps Why) → n < 4
     → IsDecidedBehind 4 (if over then GameOver else of_walk 4 o) n
 claim-later n true o less = less
 claim-later n false o less =

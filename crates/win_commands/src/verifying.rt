@@ -3,21 +3,21 @@
 ghost use Rattle.std.specs.Prelude.{◌≤◌, map};
 ghost use Rattle.hive_model.specs.Minimax.{IsInner};
 ghost use Rattle.hive_model.specs.Courses.{position};
-ghost use Rattle.certificate_text.specs.Text.{index_in};
+ghost use Rattle.strategy_text.specs.Text.{index_in};
 ghost use Rattle.command_runs.specs.Runs.{RunsAs, side_of};
-ghost use Rattle.text_verdicts.specs.Judging.{JudgesAhead};
+ghost use Rattle.strategy_verdicts.specs.Judging.{JudgesAhead};
 ghost use Rattle.win_commands.specs.Verdicts.{IsHead, claim-not-yet, head_of, of_claim, of_items};
 ghost use Rattle.win_commands.specs.Runs.{VerifyRun};
 
 use crate::head::{Head, read_head};
-use certificate_text::{HeadFault, LineIndices};
 use command_runs::{Status, is_over};
 use game_text::played;
 use hive_model::{Game, MoveStack};
 use io_edge::{Sink, Source};
 use line_feed::LineReader;
 use std::alloc::Global;
-use text_verdicts::{IndexReasons, TextForm, Unread, Verdict, check_text, verdict_of};
+use strategy_text::{HeadFault, LineIndices};
+use strategy_verdicts::{IndexReasons, TextForm, TextVerdict, Unread, check_text, verdict_of};
 use win_solver::check_solution;
 
 /// How many lines a head has.
@@ -31,7 +31,7 @@ fn judge_indices<S: Source, G: Game>(
     plies: u32,
     answer: bool,
     stack: &mut MoveStack,
-) -> Result<Verdict, Unread>
+) -> Result<TextVerdict, Unread>
     requires few { plies ≤ 16 }
     requires inner { IsInner (position (G.course game.old)) plies }
     requires spare { plies ≤ (G.course game.old).spare }
@@ -52,7 +52,7 @@ fn judge_claim<S: Source, G: Game + Drop>(
     head: Head,
     reader: &mut LineReader,
     input: &mut S,
-) -> Result<Verdict, Unread>
+) -> Result<TextVerdict, Unread>
     requires { IsHead head }
     ensures { JudgesAhead 4 (of_claim head) 4 result reader.old
         (side_of S.rest S.read_faults input.old) (side_of S.rest S.read_faults input.new) }
@@ -66,7 +66,7 @@ fn judge_claim<S: Source, G: Game + Drop>(
         return Err(Unread::Memory);
     };
     if is_over(&game) {
-        return Ok(Verdict::GameOver);
+        return Ok(TextVerdict::GameOver);
     }
     let Ok(mut stack) = MoveStack::new(alloc, head.plies) else {
         return Err(Unread::Memory);
@@ -112,7 +112,7 @@ impl TextForm for Solutions {
         head: Head,
         reader: &mut LineReader,
         input: &mut S,
-    ) -> Result<Verdict, Unread> {
+    ) -> Result<TextVerdict, Unread> {
         judge_claim::<S, G>(alloc, head, reader, input)
     }
 }

@@ -4,7 +4,7 @@ ghost use Rattle.hive_model.specs.Legal.{moves};
 ghost use Rattle.hive_model.specs.Lines.{greatest_line};
 ghost use Rattle.move_text.specs.Moves.{IsMoveWithin};
 ghost use Rattle.audit_core.specs.Drawing.{tried_of};
-ghost use Rattle.audit_core.specs.Standing.{
+ghost use Rattle.audit_core.specs.AuditState.{
   position_before,
   position_now,
   go,

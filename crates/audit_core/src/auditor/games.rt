@@ -1,6 +1,6 @@
 //! The games of an audit: how each begins and ends.
 ghost use Rattle.std.specs.Prelude.{◌≡◌, ◌+◌, IfOk, OnOk};
-ghost use Rattle.audit_core.specs.Standing.{
+ghost use Rattle.audit_core.specs.AuditState.{
   conclude,
   begin,
   next_game,

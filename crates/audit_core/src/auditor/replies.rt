@@ -4,7 +4,7 @@ ghost use Rattle.hive_model.specs.Legal.{moves};
 ghost use Rattle.hive_model.specs.Lists.{IsOn};
 ghost use Rattle.hive_model.specs.Lines.{greatest_line};
 ghost use Rattle.audit_core.specs.Judging.{wrong_list};
-ghost use Rattle.audit_core.specs.Standing.{
+ghost use Rattle.audit_core.specs.AuditState.{
   position_now,
   drawn_now,
   fresh,
@@ -25,7 +25,7 @@ use super::Auditor;
 use super::games::raised;
 use crate::drawing::draw;
 use crate::findings::{Fault, Finding};
-use crate::judging::wrong_list;
+use crate::listed_moves::wrong_list;
 use crate::lists::legal_moves;
 use crate::parts::named_in;
 use crate::plan::Stage;

@@ -1,6 +1,6 @@
 //! What each event does to a match.
 ghost use Rattle.std.specs.Prelude.{◌≡◌, ◌+◌, ◌<◌, ◌≤◌, ◌^◌, length, OnOk, OnErr, List, ℕ};
-ghost use Rattle.match_core.specs.Standing.{
+ghost use Rattle.match_core.specs.MatchState.{
   happening,
   reply_ends,
   hear,
@@ -17,10 +17,12 @@ ghost use Rattle.match_core.specs.Keeps.{IsLevel, IsEarly, HasNext, IsSettled};
 ghost use Rattle.hive_model.specs.Lines.{greatest_line};
 
 use super::Referee;
-use crate::answers::{Cause, Event, Level, Stage, Task};
 use crate::line_text::copy_line;
 use crate::lines::{is_error, is_ok};
+use crate::setup::Level;
+use crate::stage::{Event, Stage, Task};
 use crate::texts::write_ask;
+use crate::verdict::Cause;
 use hive_model::{Colour, Game, Move};
 use std::alloc::AllocError;
 

@@ -11,10 +11,9 @@ use game_text::{played, read_game};
 use hive_model::{Game, MoveStack, State};
 use io_edge::StepClock;
 use plain_game::PlainGame;
-use search_core::{Found, Window, search};
+use search_core::{Found, Ticker, Window, search};
 use std::alloc::{AllocError, Global};
 use std::test::Fail;
-use ticker::Ticker;
 use value_table::ValueTable;
 
 /// Games, and how many plies are searched from their ends.

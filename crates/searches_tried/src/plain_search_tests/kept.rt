@@ -5,10 +5,9 @@ use hive_model::{Game, MoveStack, Place};
 use io_edge::StepClock;
 use plain_game::PlainGame;
 use plain_search::minimax;
-use search_core::{Window, reply, search};
+use search_core::{Ticker, Window, reply, search};
 use std::alloc::{AllocError, Global};
 use std::test::Fail;
-use ticker::Ticker;
 use value_table::{Bound, Entry, ValueTable};
 
 /// What the position is worth with one ply searched, as an entry; none where the game is too long

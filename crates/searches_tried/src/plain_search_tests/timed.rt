@@ -8,10 +8,9 @@ use deepening::Searcher;
 use hive_model::{Best, Game, MoveStack, Timed};
 use io_edge::StepClock;
 use plain_game::PlainGame;
-use search_core::{Found, Window, search};
+use search_core::{Found, Ticker, Window, search};
 use std::alloc::{AllocError, Global};
 use std::test::Fail;
-use ticker::Ticker;
 use value_table::ValueTable;
 
 /// What a searcher answers in this time, by a clock that goes on by one millisecond at each

@@ -1,5 +1,5 @@
 use Rattle.std.proofs.Common.{arith}
-use Rattle.residues.proofs.Cells.{number_below, number_small}
+use Rattle.torus_board.proofs.Cells.{number_below, number_small}
 use Rattle.torus_board.proofs.index_in.Goals as goal
 
 pub overflow_mul-result : goal.overflow_mul-result

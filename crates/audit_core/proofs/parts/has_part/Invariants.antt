@@ -1,6 +1,6 @@
 use Rattle.std.proofs.Common.{◌≡◌, length}
 use Rattle.hive_model.specs.Strings.{parts}
-use Rattle.audit_core.specs.Standing.{has_part}
+use Rattle.audit_core.specs.AuditState.{has_part}
 use Rattle.audit_core.proofs.parts.has_part.Given as goal
 
 abbrev pub invariant-parts : goal.invariant-parts

@@ -1,13 +1,13 @@
 use Rattle.std.proofs.Common.{refl, ◌∙◌, ap, ℕ, List}
 use Rattle.hive_model.specs.Lines.{Text}
-use Rattle.audit_core.specs.Standing.{Standing, at_mark}
+use Rattle.audit_core.specs.AuditState.{AuditState, at_mark}
 use Rattle.audit_runner.proofs.Turning.{falls_line}
 use Rattle.audit_runner.proofs.turns.listen.Goals as goal
 
 pub returns-in-Ok-clause-hears : goal.returns-in-Ok-clause-hears
 returns-in-Ok-clause-hears g c =
-    let s : Standing = c.args.auditor.now in
-    let said : List ℕ → Standing = λ b. at_mark s (Text b) in
+    let s : AuditState = c.args.auditor.now in
+    let said : List ℕ → AuditState = λ b. at_mark s (Text b) in
     (Text c.next_short_line.new.self.last, c.in-Ok.ensures ∙ ap said c.line.ensures, c.in-Line.ensures.ahead)
 
 pub returns-in-Ok-clause-falls : goal.returns-in-Ok-clause-falls

@@ -1,6 +1,6 @@
 use Rattle.std.proofs.Common.{rules, ◌≡◌, ◌∷◌, ◌+◌, List, [], length, arith, ap, sym, ◌∙◌, refl, subst}
 use Rattle.std.specs.Vec.Iter.{into_iter_items, into_iter_len}
-use Rattle.cup_games.specs.Played.{Job}
+use Rattle.cup.specs.Played.{Job}
 use Rattle.cup_command.specs.Links.{ClosesLinks, all_links, counted, links_of}
 use Rattle.cup_command.proofs.Chains.{closes-append, counted-append, nothing-left}
 use Rattle.cup_command.proofs.closing.close_links.Goals as goal

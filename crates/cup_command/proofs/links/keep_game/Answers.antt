@@ -1,5 +1,5 @@
 use Rattle.std.proofs.Common.{◌≡◌, List, subst}
-use Rattle.cup_games.specs.Played.{Job}
+use Rattle.cup.specs.Played.{Job}
 use Rattle.cup_command.specs.Links.{ClosesLinks, all_links, links_of}
 use Rattle.cup_command.proofs.Chains.{closes-append}
 use Rattle.cup_command.proofs.links.keep_game.Goals as goal

@@ -1,7 +1,7 @@
 use Rattle.std.proofs.Common.{rules, ◌≡◌, ◌∷◌, ◌++◌, [], arith, ap, ◌∙◌, refl, subst}
 use Rattle.io_edge.specs.Starts.{Engines}
 use Rattle.match_runner.specs.Wires.{Wire, wire}
-use Rattle.cup_games.specs.Played.{Job}
+use Rattle.cup.specs.Played.{Job}
 use Rattle.cup_command.specs.Links.{ClosesLinks, all_links, links_of}
 use Rattle.cup_command.proofs.Chains.{closes-append}
 use Rattle.cup_command.proofs.Breaks.{gives-none, gives-one}

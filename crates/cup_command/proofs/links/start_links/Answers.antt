@@ -1,6 +1,6 @@
 use Rattle.std.proofs.Common.{◌<◌, ◌∙◌, List, length, map, get_or, ap, sym, refl, subst}
-use Rattle.cup_core.specs.declared.pairing.Pairing.{Pairing}
-use Rattle.cup_games.specs.Played.{pairing}
+use Rattle.cup.specs.declared.pairing.Pairing.{Pairing}
+use Rattle.cup.specs.Played.{pairing}
 use Rattle.cup_command.specs.Links.{IsPaired}
 use Rattle.cup_command.proofs.Breaks.{started-none}
 use Rattle.cup_command.proofs.Steps.{get_or-any, gives-up, kept-step, named-end, named-step, next-none, next-step, ready-none, ready-step}

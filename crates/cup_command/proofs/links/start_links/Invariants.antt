@@ -1,6 +1,6 @@
 use Rattle.std.proofs.Common.{◌≡◌, map, take}
 use Rattle.std.specs.List.{All, flat_map}
-use Rattle.cup_games.specs.Played.{pairing}
+use Rattle.cup.specs.Played.{pairing}
 use Rattle.cup_command.specs.Cup.{game_words, started_after}
 use Rattle.cup_command.specs.Links.{IsReady, StartsAll, all_links}
 use Rattle.cup_command.proofs.links.start_links.Given as goal

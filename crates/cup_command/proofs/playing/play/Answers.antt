@@ -1,6 +1,6 @@
 -- The text of a cup tells what was played, and wherever the cup ends all engines are closed.
 use Rattle.std.proofs.Common.{◌≡◌, ◌∙◌, List, length, drop}
-use Rattle.cup_games.specs.Played.{Job}
+use Rattle.cup.specs.Played.{Job}
 use Rattle.cup_command.proofs.Ends.{told-from}
 use Rattle.cup_command.proofs.Breaks.{breaks, gives-all}
 use Rattle.cup_command.proofs.Early.{early, early-all}

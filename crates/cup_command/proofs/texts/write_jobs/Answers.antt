@@ -1,5 +1,5 @@
 use Rattle.std.proofs.Common.{rules, ◌<◌, length, arith, ap, sym, ◌∙◌}
-use Rattle.cup_games.specs.Played.{Job}
+use Rattle.cup.specs.Played.{Job}
 use Rattle.cup_command.proofs.Steps.{text-step, text-end}
 use Rattle.cup_command.proofs.texts.write_jobs.Goals as goal
 

@@ -1,6 +1,6 @@
 use Rattle.std.proofs.Common.{◌≡◌, ◌-◌, false}
 use Rattle.line_feed.specs.Feed.{input_limit, settled}
-use Rattle.hive_cli.specs.Rounds.{standing}
+use Rattle.hive_cli.specs.Rounds.{service_state}
 use Rattle.hive_cli.specs.ServiceRun.{scene}
 use Rattle.hive_cli.proofs.Progress.{Run}
 use Rattle.hive_cli.proofs.service.serve.Given as goal
@@ -9,7 +9,7 @@ abbrev pub invariant-lines : goal.invariant-lines
 invariant-lines g l = record {
   run : Run g.V.LineService.service
       (scene (g.S.Source.rest l.fn.input) (g.K.Sink.written l.fn.output) (g.C.Clock.last l.fn.clock) (g.C.Clock.readings l.fn.clock) l.fn.timed)
-      (standing l.service l.reader (scene (g.S.Source.rest l.input) (g.K.Sink.written l.output) (g.C.Clock.last l.clock) (g.C.Clock.readings l.clock) l.timed));
+      (service_state l.service l.reader (scene (g.S.Source.rest l.input) (g.K.Sink.written l.output) (g.C.Clock.last l.clock) (g.C.Clock.readings l.clock) l.timed));
   reads : g.S.Source.read_faults l.input ≡ g.S.Source.read_faults l.fn.input;
   writes : g.K.Sink.write_faults l.output ≡ g.K.Sink.write_faults l.fn.output;
   clock : g.V.LineService.takes_time ≡ false → l.clock ≡ l.fn.clock;

@@ -1,13 +1,13 @@
 -- Each answer of the reader is an event.
 use Rattle.std.proofs.Common.{refl, ◌∙◌, ap, ℕ, List}
-use Rattle.match_core.specs.Standing.{Standing, Line, TooLong, Ended, next}
+use Rattle.match_core.specs.MatchState.{MatchState, Line, TooLong, Ended, next}
 use Rattle.match_runner.proofs.Hearing.{little, never_full, long_finishes, not_long, not_ended}
 use Rattle.match_runner.proofs.turns.listen.Goals as goal
 
 pub returns-in-Ok-clause-heard : goal.returns-in-Ok-clause-heard
 returns-in-Ok-clause-heard g c =
-    let s : Standing = c.args.referee.now in
-    let said : List ℕ → Standing = λ b. next s (Line b) in
+    let s : MatchState = c.args.referee.now in
+    let said : List ℕ → MatchState = λ b. next s (Line b) in
     (Line c.next_short_line.new.self.last, c.in-Ok.ensures.ok ∙ ap said c.line.ensures, c.in-Line.ensures.ahead, not_long _)
 
 pub returns-in-Ok-clause-room : goal.returns-in-Ok-clause-room

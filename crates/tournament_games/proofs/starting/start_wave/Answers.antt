@@ -1,5 +1,5 @@
 use Rattle.std.proofs.Common.{rules, ◌≡◌, ◌+◌, ◌∷◌, [], List, ap, subst}
-use Rattle.cup_core.specs.Engines.{Engine}
+use Rattle.cup.specs.Engines.{Engine}
 use Rattle.tournament_games.specs.Links.{AreStarted, all_links}
 use Rattle.tournament_games.proofs.Starts.{shuts-all}
 use Rattle.tournament_games.proofs.Steps.{begun-more, begun-none}

@@ -1,6 +1,6 @@
 -- Each answer of the part is an answer of the line.
 use Rattle.std.proofs.Common.{rules, arith, ◌≡◌, ◌≢◌, ap, length}
-use Rattle.line_feed.specs.declared.answers.LineAnswer.TheVariants.{Line}
+use Rattle.line_feed.specs.declared.line_answers.LineAnswer.TheVariants.{Line}
 use Rattle.line_feed.proofs.Feeding.{begins, feeds_ended, feeds_last, feeds_end, feeds_long, feeds_held_short, stays_reader, adds_up, empty_list, never}
 use Rattle.line_feed.proofs.reader.LineReader.read_short.Goals as goal
 

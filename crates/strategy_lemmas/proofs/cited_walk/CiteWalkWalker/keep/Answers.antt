@@ -3,7 +3,7 @@ use Rattle.std.proofs.lemmas.Int.{ints}
 use mir.Syntax.{w32}
 use Rattle.hive_model.specs.Courses.{position}
 use Rattle.hive_model.specs.Keys.{key}
-use Rattle.lemma_list.specs.Lemmas.{AreTrue, with_lemma}
+use Rattle.strategy_lemmas.specs.Lemmas.{AreTrue, with_lemma}
 use Rattle.strategy_lemmas.proofs.CitedLaws.{keeps-true-lemmas}
 use Rattle.strategy_lemmas.proofs.CiteWalks.{kept-is}
 use Rattle.strategy_lemmas.proofs.cited_walk.CiteWalkWalker.keep.Goals as goal

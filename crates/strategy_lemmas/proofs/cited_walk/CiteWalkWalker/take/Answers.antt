@@ -2,11 +2,11 @@ use Rattle.std.proofs.Common.{◌≡◌, subst, true, false}
 use Rattle.std.specs.List.{slice_get}
 use Rattle.hive_model.specs.Courses.{position}
 use Rattle.hive_model.specs.Keys.{key}
-use Rattle.lemma_list.specs.Lemmas.{serves_at}
+use Rattle.strategy_lemmas.specs.Lemmas.{serves_at}
 use Rattle.strategy_lemmas.specs.declared.tokens.Token.{Token}
 use Rattle.strategy_lemmas.specs.declared.tokens.Token.TheVariants.{Index}
-use Rattle.claim_walks.specs.declared.items.ItemAnswer.TheVariants.{Item}
-use Rattle.claim_walks.specs.Items.{Takes}
+use Rattle.strategy_walks.specs.declared.items.ItemAnswer.TheVariants.{Item}
+use Rattle.strategy_walks.specs.Items.{Takes}
 use Rattle.strategy_lemmas.proofs.CitedLaws.{serves-true}
 use Rattle.strategy_lemmas.proofs.CiteWalks.{index-took, unread-took, test-is, cite-ends, same-bound}
 use Rattle.strategy_lemmas.proofs.cited_walk.CiteWalkWalker.take.Goals as goal

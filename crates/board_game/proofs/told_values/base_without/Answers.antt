@@ -1,0 +1,47 @@
+use Rattle.std.proofs.Common.{◌∙◌, sym, ap, subst}
+use Rattle.hive_model.specs.Boards.{lift, without_at}
+use Rattle.hive_model.specs.declared.pieces.Colour.TheVariants.{White, Black}
+use Rattle.hive_model.specs.Hive.{OneHive}
+use Rattle.leaf_worth.specs.Bases.{IsFound}
+use Rattle.one_hive.specs.Separating.{MarksSeparating}
+use Rattle.board_game.proofs.TellLaws.{lifted_without, lifted_gone, lifted_open, spot_there}
+use Rattle.board_game.proofs.KeptLaws.{shrunk_lifted, lifted_back}
+use Rattle.board_game.proofs.told_values.base_without.Goals as goal
+
+pub returns-in-Some : goal.returns-in-Some
+returns-in-Some g c =
+    let same = lifted_without (g.B.Board.stacks c.args.board.now) c.args.piece _ (sym c.spot.ensures.spot ∙ c.in-Some.is) c.requires.loose in
+    subst (λ b. IsFound b c.args.side c.left_by.result) (c.new-left.ensures ∙ same) c.left_by.ensures
+
+pub removed_uncounted-delta-requires-clause-shrunk : goal.removed_uncounted-delta-requires-clause-shrunk
+removed_uncounted-delta-requires-clause-shrunk g c =
+    let b = g.B.Board.stacks c.args.board.now in
+    let stands = sym c.spot.ensures.spot ∙ c.in-Some.is in
+    shrunk_lifted b c.args.piece c.in-Some.spot c.spot.ensures.board c.requires.loose stands (lift (g.B.Board.stacks c.new-left.result.board.now) c.new-left.result.piece) c.in-Some.spot.place c.again-known.result
+    c.new-left.ensures (spot_there b c.args.piece c.in-Some.spot stands) c.requires.one_hive c.requires.left (subst (MarksSeparating b) (sym c.again-known.ensures) c.requires.marks)
+
+pub left_by-requires-clause-back : goal.left_by-requires-clause-back
+left_by-requires-clause-back g c =
+    let b = g.B.Board.stacks c.args.board.now in
+    let stands = sym c.spot.ensures.spot ∙ c.in-Some.is in
+    lifted_back b c.args.piece c.in-Some.spot c.spot.ensures.board c.requires.loose stands (lift (g.B.Board.stacks c.new-left.result.board.now) c.new-left.result.piece) c.in-Some.spot.place c.new-left.ensures (spot_there b c.args.piece c.in-Some.spot stands)
+
+pub left_by-requires-clause-absent : goal.left_by-requires-clause-absent
+left_by-requires-clause-absent g c = lifted_gone (g.B.Board.stacks c.args.board.now) c.args.piece _ (sym c.spot.ensures.spot ∙ c.in-Some.is) c.requires.loose c.spot.ensures.board _ c.new-left.ensures
+
+pub left_by-requires-clause-white : goal.left_by-requires-clause-white
+left_by-requires-clause-white g c = lifted_open (g.B.Board.stacks c.args.board.now) c.args.piece _ (sym c.spot.ensures.spot ∙ c.in-Some.is) c.requires.loose c.spot.ensures.board _ c.new-left.ensures White c.requires.white
+
+pub left_by-requires-clause-black : goal.left_by-requires-clause-black
+left_by-requires-clause-black g c = lifted_open (g.B.Board.stacks c.args.board.now) c.args.piece _ (sym c.spot.ensures.spot ∙ c.in-Some.is) c.requires.loose c.spot.ensures.board _ c.new-left.ensures Black c.requires.black
+
+pub left_by-requires-clause-one : goal.left_by-requires-clause-one
+left_by-requires-clause-one g c =
+    let same = lifted_without (g.B.Board.stacks c.args.board.now) c.args.piece _ (sym c.spot.ensures.spot ∙ c.in-Some.is) c.requires.loose in
+    λ _. subst OneHive (sym (c.new-left.ensures ∙ same)) c.requires.left
+
+pub returns-in-None : goal.returns-in-None
+returns-in-None g c =
+    let b = g.B.Board.stacks c.args.board.now in
+    let off = sym c.spot.ensures.spot ∙ c.in-None.is in
+    subst (λ d. IsFound d c.args.side c.again.result) (sym (ap (without_at b) off)) (subst (IsFound b c.args.side) (sym c.again.ensures) c.requires.whole)

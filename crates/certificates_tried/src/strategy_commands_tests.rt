@@ -1,0 +1,376 @@
+//! Certificates that are written, and texts that are checked.
+
+use command_runs::Status;
+use fast_game::FastGame;
+use io_edge::{MemSink, MemSource};
+use std::alloc::{AllocError, Global};
+use std::process::Abort;
+use std::test::Fail;
+use strategy_commands::{certify, check, migrate};
+
+/// The certificate of the opening of the base game, one ply deep.
+const ONE_PLY: &str = "hive-certificate 1\nBase;NotStarted;White[1]\ndepth 1\nmove wS1\nvalue 0\n";
+
+/// The same two plies deep, with its least indices.
+const TWO_PLIES: &str =
+    "hive-certificate 1\nBase;NotStarted;White[1]\ndepth 2\nmove wA1\nvalue 10\n0\n0\n0\n0\n";
+
+/// A finished game.
+const DRAWN: &str =
+    "Base;Draw;Black[7];wS1;bS1 wS1-;wQ /wS1;bQ bS1-;wQ wS1\\;bQ bS1\\;wG1 -wQ;bG1 bS1-;wB1 wG1\\;bB1 bQ-;wA1 -wB1;bA1 bQ\\;wA1 wQ\\";
+
+/// What is asked for: a certificate one ply or two deep, a check, or a certificate that cites.
+#[derive(Clone, Copy, Debug)]
+pub(crate) enum Asked {
+    OnePly,
+    TwoPlies,
+    Check,
+    Migrate,
+}
+
+/// The numbers, from 1, of the read and of the write that fail (0: none fails).
+#[derive(Clone, Copy, Debug)]
+pub(crate) struct Failing {
+    pub(crate) read: u64,
+    pub(crate) write: u64,
+}
+
+/// No call fails.
+const NONE: Failing = Failing { read: 0, write: 0 };
+
+/// Runs a command in memory, and compares the status and all that was written.
+pub(crate) fn expect_run<R: Abort>(
+    rt: &R,
+    alloc: Global,
+    asked: Asked,
+    input: &[u8],
+    pieces: &[usize],
+    failing: Failing,
+    status: Status,
+    written: &str,
+) -> Result<(), AllocError> {
+    let bytes = Vec::from_slice(alloc, input)?;
+    let reads = Vec::from_slice(alloc, &[failing.read])?;
+    let writes = Vec::from_slice(alloc, &[failing.write])?;
+    let mut source = MemSource::new(bytes, Vec::from_slice(alloc, pieces)?, reads);
+    let mut sink = MemSink::new(alloc, Vec::from_slice(alloc, pieces)?, writes);
+    let ended = match asked {
+        Asked::OnePly => certify::<MemSource, MemSink, FastGame>(alloc, 1, &mut source, &mut sink),
+        Asked::TwoPlies => certify::<MemSource, MemSink, FastGame>(
+            alloc,
+            2,
+            &mut source,
+            &mut sink,
+        ),
+        Asked::Check => check::<MemSource, MemSink, FastGame>(alloc, &mut source, &mut sink),
+        Asked::Migrate => migrate::<MemSource, MemSink, FastGame>(alloc, &mut source, &mut sink),
+    };
+    assert_eq!(rt;
+        ended,
+        status,
+        "{asked:?}, pieces of {pieces:?}, {failing:?}"
+    );
+    assert_eq!(rt;
+        sink.bytes(),
+        written.as_bytes(),
+        "{asked:?}, pieces of {pieces:?}, {failing:?}"
+    );
+    Ok(())
+}
+
+/// Runs a command, in which no call fails, in pieces of one byte, of seven, and without bound.
+pub(crate) fn expect_answer<R: Abort>(
+    rt: &R,
+    alloc: Global,
+    asked: Asked,
+    input: &[u8],
+    status: Status,
+    written: &str,
+) -> Result<(), AllocError> {
+    for pieces in [[1].as_slice(), [7].as_slice(), [].as_slice()] {
+        expect_run(rt, alloc, asked, input, pieces, NONE, status, written)?;
+    }
+    Ok(())
+}
+
+/// A text for the opening of the base game two plies deep, with this move and this value, and these
+/// lines behind it.
+fn text_of(alloc: Global, best: &str, value: &str, rest: &str) -> Result<Vec<u8>, AllocError> {
+    let mut text = Vec::from_slice(alloc, b"hive-certificate 1\nBase\ndepth 2\nmove ")?;
+    text.extend_from_slice(best.as_bytes())?;
+    text.extend_from_slice(b"\nvalue ".as_slice())?;
+    text.extend_from_slice(value.as_bytes())?;
+    text.push(b'\n')?;
+    text.extend_from_slice(rest.as_bytes())?;
+    Ok(text)
+}
+
+#[test]
+fn certificates_are_written(rt: HostRuntime) -> Result<(), Fail> {
+    for (asked, written) in [(Asked::OnePly, ONE_PLY), (Asked::TwoPlies, TWO_PLIES)] {
+        expect_answer(
+            &rt,
+            rt.alloc(),
+            asked,
+            b"Base\n".as_slice(),
+            Status::Done,
+            written,
+        )?;
+    }
+    Ok(())
+}
+
+#[test]
+fn input_that_is_no_game_is_named(rt: HostRuntime) -> Result<(), Fail> {
+    for (input, written) in [
+        ("", "bad no line\n"),
+        ("Base;NotStarted;White[2]\n", "bad other turn\n"),
+        (DRAWN, "bad game over\n"),
+        ("Base\nBase\n", "bad more lines\n"),
+    ] {
+        expect_answer(
+            &rt,
+            rt.alloc(),
+            Asked::TwoPlies,
+            input.as_bytes(),
+            Status::BadInput,
+            written,
+        )?;
+    }
+    Ok(())
+}
+
+#[test]
+fn claims_are_checked(rt: HostRuntime) -> Result<(), Fail> {
+    for (best, value, rest, status, written) in [
+        ("wA1", "10", "0\n0\n0\n0", Status::Done, "accepted\n"),
+        (
+            "wA1",
+            "10",
+            "24\n0\n0\n0\n",
+            Status::Refused,
+            "refused index 1\n",
+        ),
+        (
+            "wA1",
+            "11",
+            "0\n0\n0\n0\n",
+            Status::Refused,
+            "refused leaf 3\n",
+        ),
+        (
+            "wA1",
+            "10",
+            "0\n0\n0\n",
+            Status::Refused,
+            "refused short 3\n",
+        ),
+        (
+            "wA1",
+            "10",
+            "0\n0\n0\n0\n0\n",
+            Status::Refused,
+            "refused rest 4\n",
+        ),
+        (
+            "wA1",
+            "10",
+            "0\n0\n0\n0\nrest\n",
+            Status::Refused,
+            "refused rest 4\n",
+        ),
+        (
+            "wB1",
+            "8",
+            "0\n0\n0\n0\n",
+            Status::Refused,
+            "refused leaf 4\n",
+        ),
+        (
+            "wQ",
+            "10",
+            "0\n0\n0\n0\n",
+            Status::Refused,
+            "refused move 0\n",
+        ),
+        (
+            "queen",
+            "10",
+            "0\n0\n0\n0\n",
+            Status::Refused,
+            "refused move 0\n",
+        ),
+        (
+            "wA1",
+            "10",
+            "00\n0\n0\n0\n",
+            Status::BadInput,
+            "bad line 6\n",
+        ),
+        (
+            "wA1",
+            "10",
+            "0\n0\n5488\n0\n",
+            Status::BadInput,
+            "bad line 8\n",
+        ),
+        ("", "10", "0\n0\n0\n0\n", Status::BadInput, "bad line 4\n"),
+        (
+            "wA1",
+            "-0",
+            "0\n0\n0\n0\n",
+            Status::BadInput,
+            "bad line 5\n",
+        ),
+    ] {
+        let text = text_of(rt.alloc(), best, value, rest)?;
+        expect_answer(
+            &rt,
+            rt.alloc(),
+            Asked::Check,
+            text.as_slice(),
+            status,
+            written,
+        )?;
+    }
+    Ok(())
+}
+
+#[test]
+fn tokens_are_checked(rt: HostRuntime) -> Result<(), Fail> {
+    for (rest, status, written) in [
+        ("0\n0\n0\n0\n", Status::Done, "accepted\n"),
+        ("@0\n0\n0\n0\n", Status::Refused, "refused cite 1\n"),
+        ("0\n@0\n0\n0\n", Status::Refused, "refused cite 2\n"),
+        ("24\n0\n0\n0\n", Status::Refused, "refused index 1\n"),
+        ("0\n0\n0\n", Status::Refused, "refused short 3\n"),
+        ("0\n0\n0\n0\n@0\n", Status::Refused, "refused rest 4\n"),
+        ("@65536\n0\n0\n0\n", Status::BadInput, "bad line 6\n"),
+        ("0\n@\n0\n0\n", Status::BadInput, "bad line 7\n"),
+    ] {
+        let head = b"hive-certificate 2\nBase\ndepth 2\nmove wA1\nvalue 10\n".as_slice();
+        let mut text = Vec::from_slice(rt.alloc(), head)?;
+        text.extend_from_slice(rest.as_bytes())?;
+        expect_answer(
+            &rt,
+            rt.alloc(),
+            Asked::Check,
+            text.as_slice(),
+            status,
+            written,
+        )?;
+    }
+    Ok(())
+}
+
+#[test]
+fn heads_are_checked_line_by_line(rt: HostRuntime) -> Result<(), Fail> {
+    for (input, written) in [
+        ("", "bad line 1\n"),
+        ("hive-certificate 3\n", "bad line 1\n"),
+        ("hive-certificate 0\n", "bad line 1\n"),
+        ("hive-certificate 2\n", "bad line 2\n"),
+        ("hive-solution 1\n", "bad line 1\n"),
+        ("hive-certificate 1\n", "bad line 2\n"),
+        ("hive-certificate 1\nbase\n", "bad malformed part 1\n"),
+        (
+            "hive-certificate 1\nBase\ndepth 0\nmove wA1\nvalue 10\n",
+            "bad line 3\n",
+        ),
+        ("hive-certificate 1\nBase\ndepth 65\n", "bad line 3\n"),
+    ] {
+        expect_answer(
+            &rt,
+            rt.alloc(),
+            Asked::Check,
+            input.as_bytes(),
+            Status::BadInput,
+            written,
+        )?;
+    }
+    Ok(())
+}
+
+#[test]
+fn each_front_of_a_certificate_is_checked(rt: HostRuntime) -> Result<(), Fail> {
+    for (least, most, status, written) in [
+        (0, 17, Status::BadInput, "bad line 1\n"),
+        (18, 19, Status::BadInput, "bad line 2\n"),
+        (20, 22, Status::BadInput, "bad malformed part 1\n"),
+        (23, 23, Status::BadInput, "bad line 3\n"),
+        (24, 33, Status::BadInput, "bad malformed part 2\n"),
+        (34, 42, Status::BadInput, "bad malformed part 3\n"),
+        (43, 50, Status::BadInput, "bad line 3\n"),
+        (51, 57, Status::BadInput, "bad line 4\n"),
+        (58, 67, Status::BadInput, "bad line 5\n"),
+        (68, 70, Status::Refused, "refused short 0\n"),
+        (71, 72, Status::Refused, "refused short 1\n"),
+        (73, 74, Status::Refused, "refused short 2\n"),
+        (75, 76, Status::Refused, "refused short 3\n"),
+        (77, 78, Status::Done, "accepted\n"),
+    ] {
+        for bytes in least..=most {
+            let mut front = Vec::from_slice(rt.alloc(), TWO_PLIES.as_bytes())?;
+            front.truncate(bytes);
+            expect_run(
+                &rt,
+                rt.alloc(),
+                Asked::Check,
+                front.as_slice(),
+                &[7],
+                NONE,
+                status,
+                written,
+            )?;
+        }
+    }
+    Ok(())
+}
+
+#[test]
+fn no_claim_is_about_a_finished_game(rt: HostRuntime) -> Result<(), Fail> {
+    let mut text = Vec::from_slice(rt.alloc(), b"hive-certificate 1\n")?;
+    text.extend_from_slice(DRAWN.as_bytes())?;
+    text.extend_from_slice(b"\ndepth 1\nmove wA1\nvalue 0\n".as_slice())?;
+    expect_answer(
+        &rt,
+        rt.alloc(),
+        Asked::Check,
+        text.as_slice(),
+        Status::BadInput,
+        "bad game over\n",
+    )?;
+    Ok(())
+}
+
+#[test]
+fn a_failed_call_ends_a_run(rt: HostRuntime) -> Result<(), Fail> {
+    let read = Failing { read: 2, write: 0 };
+    let write = Failing { read: 0, write: 2 };
+    for (asked, input, written) in [
+        (Asked::TwoPlies, "Base\n", "hive-ce"),
+        (Asked::Check, TWO_PLIES, "accepte"),
+    ] {
+        expect_run(
+            &rt,
+            rt.alloc(),
+            asked,
+            input.as_bytes(),
+            &[1],
+            read,
+            Status::ReadFault,
+            "",
+        )?;
+        expect_run(
+            &rt,
+            rt.alloc(),
+            asked,
+            input.as_bytes(),
+            &[7],
+            write,
+            Status::WriteFault,
+            written,
+        )?;
+    }
+    Ok(())
+}

@@ -1,0 +1,155 @@
+//! Of `cup`: games of two engines over links in memory.
+
+mod meeting;
+
+ghost use Rattle.std.specs.Prelude.{◌≡◌, map, IfOk};
+ghost use Rattle.cup.specs.Cup.{pairings};
+ghost use Rattle.cup.specs.Played.{pairing};
+
+use cup::{CupJob, FreeCupGate, Pairing, Standing, run_cup, standings_of};
+use hive_model::{Colour, GameType};
+use io_edge::{Link, MemLink, MemSink, MemSource};
+use match_core::{Cause, Level, Setup, Verdict};
+use meeting::{Meeting, MeetingLink};
+use plain_game::PlainGame;
+use std::alloc::{AllocError, Global};
+use std::test::Fail;
+
+const ONE_PLY: Setup = Setup {
+    game_type: GameType {
+        mosquito: false,
+        ladybug: false,
+        pillbug: false,
+    },
+    level: Level::Depth { depth: 1 },
+    limit: 1,
+    repetition: false,
+};
+
+/// What white is sent in a game of one ply.
+const TO_WHITE: &[u8] = b"newgame Base\nbestmove depth 1\nplay wS1\n";
+
+/// What black is sent in it.
+const TO_BLACK: &[u8] = b"newgame Base\nplay wS1\n";
+
+/// A link that will say this.
+fn link_of(alloc: Global, text: &[u8]) -> Result<MemLink, AllocError> {
+    let bytes = Vec::from_slice(alloc, text)?;
+    let source = MemSource::new(bytes, Vec::new(alloc), Vec::new(alloc));
+    let sink = MemSink::new(alloc, Vec::new(alloc), Vec::new(alloc));
+    Ok(MemLink::new(source, sink))
+}
+
+/// The cup of two engines: in its first game white plays a move, in its second one white ends.
+fn cup_of_two(alloc: Global) -> Result<Vec<CupJob<MemLink, PlainGame>>, AllocError>
+    ensures { IfOk result (λ jobs. map pairing jobs.items ≡ pairings 2) }
+{
+    let mut jobs = Vec::new(alloc);
+    let a = link_of(alloc, b"id A\nok\nok\nwS1\nok\nok\n")?;
+    let b = link_of(alloc, b"id B\nok\nok\nok\n")?;
+    jobs.push(CupJob::new(Pairing { white: 1, black: 2 }, a, b, ONE_PLY))?;
+    let b = link_of(alloc, b"")?;
+    let a = link_of(alloc, b"id A\nok\n")?;
+    jobs.push(CupJob::new(Pairing { white: 2, black: 1 }, b, a, ONE_PLY))?;
+    Ok(jobs)
+}
+
+/// The verdict of the game at this place.
+fn verdict_at<L: Link>(jobs: &[CupJob<L, PlainGame>], place: usize) -> Option<&Verdict> {
+    jobs.get(place)?.referee()?.verdict()
+}
+
+#[test]
+fn two_engines_play_two_games(rt: HostRuntime) -> Result<(), Fail> {
+    let alloc = rt.alloc();
+    let mut jobs = cup_of_two(alloc)?;
+    assert!(rt; verdict_at(&jobs, 0).is_none());
+    run_cup(&rt, alloc, &mut jobs, &FreeCupGate)?;
+    assert!(rt; matches!(verdict_at(&jobs, 0), Some(Verdict::Limit)));
+    assert!(rt;
+        matches!(
+            verdict_at(&jobs, 1),
+            Some(Verdict::Forfeit {
+                side: Colour::White,
+                cause: Cause::Ended,
+            })
+        )
+    );
+    let list = standings_of(alloc, &jobs, 2)?;
+    let expected = [
+        Standing {
+            engine: 1,
+            points: 3,
+            games: 2,
+        },
+        Standing {
+            engine: 2,
+            points: 1,
+            games: 2,
+        },
+    ];
+    assert_eq!(rt; list.items(), expected.as_slice());
+    jobs.pop().ok_or("the second game")?;
+    let first = jobs.pop().ok_or("the first game")?;
+    let (white, black) = first.links();
+    assert_eq!(rt; white.sent(), TO_WHITE);
+    assert_eq!(rt; black.sent(), TO_BLACK);
+    Ok(())
+}
+
+/// The links to white and to black of a game of one ply, at this place. White's move comes once
+/// the other game has come to it too.
+fn links_that_meet<'a>(
+    alloc: Global,
+    game: usize,
+    meeting: &'a Meeting,
+) -> Result<(MeetingLink<'a>, MeetingLink<'a>), AllocError> {
+    let before = Vec::from_slice(alloc, b"id A\nok\nok\n".as_slice())?;
+    let reads = before.len();
+    let mut said = before;
+    said.extend_from_slice(b"wS1\nok\nok\n".as_slice())?;
+    let bytes_alone = Vec::from_slice(alloc, &[1])?;
+    let source = MemSource::new(said, bytes_alone, Vec::new(alloc));
+    let sink = MemSink::new(alloc, Vec::new(alloc), Vec::new(alloc));
+    let says = MeetingLink::meeting(MemLink::new(source, sink), game, reads, meeting);
+    let hears = link_of(alloc, b"id B\nok\nok\nok\n")?;
+    Ok((says, MeetingLink::alone(hears, meeting)))
+}
+
+/// The cup of two engines, of one ply in each game, over links that meet.
+fn cup_that_meets<'a>(
+    alloc: Global,
+    meeting: &'a Meeting,
+) -> Result<Vec<CupJob<MeetingLink<'a>, PlainGame>>, AllocError>
+    ensures { IfOk result (λ jobs. map pairing jobs.items ≡ pairings 2) }
+{
+    let mut jobs = Vec::new(alloc);
+    let (a, b) = links_that_meet(alloc, 0, meeting)?;
+    jobs.push(CupJob::new(Pairing { white: 1, black: 2 }, a, b, ONE_PLY))?;
+    let (b, a) = links_that_meet(alloc, 1, meeting)?;
+    jobs.push(CupJob::new(Pairing { white: 2, black: 1 }, b, a, ONE_PLY))?;
+    Ok(jobs)
+}
+
+#[test]
+fn two_games_meet_before_they_begin(rt: HostRuntime) -> Result<(), Fail> {
+    let meeting = Meeting::new();
+    let mut jobs = cup_of_two(rt.alloc())?;
+    run_cup(&rt, rt.alloc(), &mut jobs, &meeting)?;
+    for game in 0..2usize {
+        assert!(rt; meeting.has_met(game), "the game at place {game}");
+    }
+    Ok(())
+}
+
+#[test]
+fn two_games_meet_in_their_midst(rt: HostRuntime) -> Result<(), Fail> {
+    let meeting = Meeting::new();
+    let mut jobs = cup_that_meets(rt.alloc(), &meeting)?;
+    run_cup(&rt, rt.alloc(), &mut jobs, &FreeCupGate)?;
+    for game in 0..2usize {
+        assert!(rt; meeting.has_met(game), "the game at place {game}");
+        assert!(rt; matches!(verdict_at(&jobs, game), Some(Verdict::Limit)));
+    }
+    Ok(())
+}

@@ -1,0 +1,5 @@
+pub mod Cup
+pub mod Engines
+pub mod Laws
+pub mod Ranks
+pub mod Played

@@ -1,5 +1,0 @@
-pub mod Orders
-pub mod Games
-pub mod Sums
-pub mod Totals
-pub mod Places

@@ -1,4 +1,0 @@
-pub mod Cup
-pub mod Engines
-pub mod Laws
-pub mod Ranks

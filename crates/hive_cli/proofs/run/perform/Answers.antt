@@ -1,0 +1,19 @@
+-- What is done is what the words ask for: a match, a cup, a tournament, an audit, or what starts no program.
+use Rattle.std.proofs.Common.{arith, refl}
+use Rattle.hive_cli.proofs.RunLemmas.{is_alone, never_spawns}
+use Rattle.hive_cli.proofs.run.perform.Goals as goal
+
+pub returns-in_default : goal.returns-in_default
+returns-in_default g c =
+    let does = c.perform_alone.ensures.does (g.P.Spawner.engines c.args.spawner.now) in
+    let alone = is_alone c.args.asked c.in_default.not-Match c.in_default.not-Cup c.in_default.not-Audit c.in_default.not-Tournament in
+    record {
+      does = does;
+      starts = λ unstarted. record {
+        later = omega arith;
+        rose = λ e. absurd (never_spawns c.args.words.now c.args.asked c.perform_alone.result.status _ _ alone does.run e);
+        same = λ n. refl;
+      };
+      clock = c.perform_alone.ensures.clock;
+      spawner = λ n. refl;
+    }

@@ -1,3 +1,0 @@
-pub mod SameKeys
-pub mod IndexLaws
-pub mod FirstLaws

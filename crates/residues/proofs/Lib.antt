@@ -1,4 +1,0 @@
-pub mod Pigeons
-pub mod Spans
-pub mod Cells
-pub mod Residues

@@ -1,3 +1,0 @@
-pub mod QueenLaws
-pub mod CountLaws
-pub mod StateLaws

@@ -1,5 +1,0 @@
-use Rattle.rule_readings.proofs.CountLaws.{types_counted}
-use Rattle.rule_readings.proofs.evaluations_count_the_type.Goals as goal
-
-pub returns : goal.returns
-returns c = types_counted

@@ -1,8 +1,0 @@
-use Rattle.rule_readings.proofs.StateLaws.{begins, goes}
-use Rattle.rule_readings.proofs.games_begin_and_go_on.Goals as goal
-
-pub returns-clause-begins : goal.returns-clause-begins
-returns-clause-begins c = begins
-
-pub returns-clause-goes_on : goal.returns-clause-goes_on
-returns-clause-goes_on c = goes

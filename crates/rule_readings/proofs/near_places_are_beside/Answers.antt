@@ -1,5 +1,0 @@
-use Rattle.rule_readings.proofs.QueenLaws.{beside_near}
-use Rattle.rule_readings.proofs.near_places_are_beside.Goals as goal
-
-pub returns : goal.returns
-returns c = beside_near

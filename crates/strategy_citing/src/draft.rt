@@ -1,0 +1,65 @@
+//! What a walk has written and shown.
+
+ghost use Rattle.std.specs.Prelude.{◌≡◌, [], IfOk};
+ghost use Rattle.std.specs.Bool.{OnTrue};
+ghost use Rattle.strategy_citing.specs.TokenText.{cite_line};
+ghost use Rattle.strategy_citing.specs.Drafts.{with_index, with_cite};
+
+use arrayvec::ArrayString;
+use hive_model::ReplyText;
+use itoa::Buffer;
+use std::alloc::{AllocError, Global};
+use strategy_lemmas::Lemmas;
+use strategy_text::index_line;
+
+/// How many indices were taken, held at the greatest u64, what was shown, and the lines of the
+/// tokens that were written.
+#[derive(Drop)]
+pub struct Draft {
+    pub taken: u64,
+    pub lemmas: Lemmas,
+    pub text: ReplyText,
+}
+
+/// What is cited on a line of its own.
+fn cite_line(place: u32) -> ArrayString<16>
+    ensures { result.bytes ≡ cite_line place }
+{
+    let mut line = ArrayString::new();
+    let mut buffer = Buffer::new();
+    line.push_str("@");
+    line.push_str(buffer.format(place));
+    line.push_str("\n");
+    line
+}
+
+impl Draft {
+    /// Nothing was taken, shown or written. The room for what is shown is taken here.
+    pub fn new(alloc: Global) -> Result<Draft, AllocError>
+        ensures { IfOk result (λ d. d ≡ record { taken = 0; lemmas = []; text = [] }) }
+    {
+        let lemmas = Lemmas::new(alloc)?;
+        Ok(Draft {
+            taken: 0,
+            lemmas,
+            text: ReplyText::new(alloc),
+        })
+    }
+
+    /// Counts an index and writes it. The answer is whether there was memory for it.
+    pub fn add(&mut self, index: u32) -> bool
+        ensures { OnTrue result (self.new ≡ with_index index self.old) }
+    {
+        self.taken = self.taken.saturating_add(1);
+        let line = index_line(index);
+        self.text.push_all(line.as_str().as_bytes()).is_ok()
+    }
+
+    /// Writes what is cited. The answer is whether there was memory for it.
+    pub fn cite(&mut self, place: u32) -> bool
+        ensures { OnTrue result (self.new ≡ with_cite place self.old) }
+    {
+        let line = cite_line(place);
+        self.text.push_all(line.as_str().as_bytes()).is_ok()
+    }
+}

@@ -1,0 +1,104 @@
+//! A certificate becomes one that cites.
+
+ghost use Rattle.std.specs.Prelude.{◌≡◌, ◌≤◌, ◌⊎◌, ◌++◌, ℕ, List, Option, Some, None, false};
+ghost use Rattle.io_edge.specs.Outside.{HasCause};
+ghost use Rattle.hive_model.specs.Legal.{moves};
+ghost use Rattle.hive_model.specs.Courses.{position};
+ghost use Rattle.strategy_walks.specs.Claims.{IsClaimOf, IsTrueOf};
+ghost use Rattle.strategy_walks.specs.Walks.{place_of};
+ghost use Rattle.strategy_walks.specs.Ends.{ChecksItems};
+ghost use Rattle.strategy_check.specs.Checks.{index_faults};
+ghost use Rattle.strategy_check.specs.Trace.{checked};
+ghost use Rattle.strategy_indices.specs.Writing.{Wrote};
+ghost use Rattle.strategy_citing.specs.Migrating.{MigrateAnswers, WritesLate, answered};
+
+use crate::certificate::shorten_certificate;
+use crate::draft::Draft;
+use hive_model::{Game, MoveStack};
+use io_edge::{Sink, write_all};
+use std::alloc::Global;
+use strategy_check::Why;
+use strategy_walks::{Checked, Claim, Halt, Items};
+
+/// What a call answers that makes a certificate into one that cites.
+#[derive(Clone, Copy, Debug, PartialEq, Eq)]
+pub enum Migrated {
+    /// The claim is true, nothing is left over, and all was written.
+    Done,
+    /// The first fault, and how many indices were taken before it, at most the greatest u64; a bad
+    /// index counts as taken. Nothing was written.
+    Refused { place: u64, why: Why },
+    /// The last answer of the indices. Nothing was written.
+    Halted { answer: Halt },
+    /// A write failed: the sink's count of failed writes rose.
+    WriteFault,
+    /// There was not so much memory. Nothing was written.
+    Memory,
+}
+
+/// Writes a head and lines.
+fn write_both<K: Sink>(head: &[u8], lines: &[u8], sink: &mut K) -> bool
+    ensures wrote { Wrote result (head.now ++ lines.now) (K.written sink.old) (K.written sink.new) }
+    ensures cause { HasCause (result ≡ false)
+        (K.write_faults sink.old) (K.write_faults sink.new) }
+{
+    if !write_all(sink, head) {
+        return false;
+    }
+    write_all(sink, lines)
+}
+
+/// Makes a certificate into one that cites. All indices are read first, and nothing is written
+/// unless they show the claimed move to be the best one at the claimed depth, 1 to 64, and to be
+/// worth what is claimed, and none is left over. Then the head is written, and behind it the tokens
+/// that cite wherever something that was shown serves, each on a line of its own. All memory is
+/// taken before the first write. The game is not over, and has room for `depth` more plies, as the
+/// stack for levels. Game and stack are as before, whatever the answer.
+pub fn migrate<G: Game, I: Items<Item = u32>, K: Sink>(
+    alloc: Global,
+    game: &mut G,
+    claim: &Claim,
+    indices: &mut I,
+    head: &[u8],
+    stack: &mut MoveStack,
+    sink: &mut K,
+) -> Migrated
+    requires claim { IsClaimOf (G.course game.old) claim.now.depth claim.now.value }
+    requires room { claim.now.depth ≤ stack.old.free }
+    ensures accepted { result ≡ Migrated.Done
+        → IsTrueOf (position (G.course game.old)) claim.now }
+    ensures told { (items : List (Option ℕ)) → (I.supply indices.old).left ≡ Some items
+        → MigrateAnswers (position (G.course game.old))
+        claim.now.depth claim.now.best claim.now.value items head.now result
+        (K.written sink.old) (K.written sink.new) }
+    ensures late { WritesLate result (K.written sink.old) (K.written sink.new) }
+    ensures illegal { place_of claim.now.best (moves (position (G.course game.old))) ≡ None
+        → (result ≡ Migrated.Refused 0 Why.NoSuchMove) ⊎ (result ≡ Migrated.Memory) }
+    ensures legal { (place : ℕ) → result ≡ Migrated.Refused place Why.NoSuchMove
+        → place_of claim.now.best (moves (position (G.course game.old))) ≡ None }
+    ensures items { ChecksItems index_faults
+        (checked (position (G.course game.old))
+        claim.now.depth claim.now.best claim.now.value) (answered result)
+        (I.supply indices.old) (I.supply indices.new) }
+    ensures writes { HasCause (result ≡ Migrated.WriteFault)
+        (K.write_faults sink.old) (K.write_faults sink.new) }
+    ensures game { G.course game.new ≡ G.course game.old }
+    ensures stack { stack.new ≡ stack.old }
+{
+    let Ok(mut draft) = Draft::new(alloc) else {
+        return Migrated::Memory;
+    };
+    let Some(checked) = shorten_certificate(game, claim, indices, &mut draft, stack) else {
+        return Migrated::Memory;
+    };
+    match checked {
+        Checked::Accepted => {
+            if write_both(head, draft.text.items(), sink) {
+                return Migrated::Done;
+            }
+            Migrated::WriteFault
+        }
+        Checked::Refused { place, why } => Migrated::Refused { place, why },
+        Checked::Halted { answer } => Migrated::Halted { answer },
+    }
+}

@@ -1,0 +1,37 @@
+-- How a migration ends.
+use Rattle.std.proofs.Common.{◌≡◌, sym, subst, ◌∙◌, inl}
+use Rattle.std.specs.Prelude.{Err}
+use Rattle.io_edge.specs.Outside.{Told}
+use Rattle.hive_model.specs.Lines.{lines}
+use Rattle.command_runs.specs.Input.{Sides, WhereTold}
+use Rattle.command_runs.specs.declared.status.Status.{Status}
+use Rattle.command_runs.specs.declared.status.Status.TheVariants.{Done, WriteFault}
+use Rattle.strategy_verdicts.specs.declared.verdict.Unread.{Unread}
+use Rattle.strategy_verdicts.specs.declared.verdict.Unread.TheVariants.{ReadFault as UnreadFault, InputFull as UnreadFull, Memory as UnreadMemory}
+use Rattle.strategy_verdicts.specs.Reading.{TellsJudged, WasReadAs}
+use Rattle.strategy_commands.specs.declared.migrating.Taken.{Taken}
+use Rattle.strategy_commands.specs.declared.migrating.Taken.TheVariants.{Written, Cut, Missed}
+use Rattle.strategy_commands.specs.Migrating.{MigrateRun, MigratesTo, Writes, first_verdict, judged_of}
+
+-- what is told of the input where a text was taken so
+abbrev pub IsTaken : Taken → Sides → Told → Type 0
+IsTaken taken before now =
+    WhereTold before.rest (λ input. Writes (first_verdict (lines input)) (MigratesTo (lines input)) taken before.written now)
+
+abbrev pub IsReadAs : Taken → Sides → Told → Type 0
+IsReadAs taken before rest = WhereTold before.rest (λ input. WasReadAs 5 (judged_of taken) input rest)
+
+pub all-run : (before after : Sides) → IsTaken Written before after.written → IsReadAs Written before after.rest → MigrateRun Done before after
+all-run before after taken read = λ input told.
+    let h = taken input told in
+    record { text = h.0; is_text = h.1; wrote = h.2; was_read = read input told }
+
+pub cut-run : (before after : Sides) → IsTaken Cut before after.written → IsReadAs Cut before after.rest → MigrateRun WriteFault before after
+cut-run before after taken read = λ input told.
+    let h = taken input told in
+    inl (record { text = h.0; is_text = h.1; n = h.2; cut = h.3; wrote = h.4; was_read = read input told })
+
+pub missed-run : (u : Unread) (status : Status) (before after : Sides) (now : Told) → now ≡ before.written → IsReadAs (Missed u) before after.rest → TellsJudged (Err u) status now after.written → MigrateRun status before after
+missed-run UnreadFault status before after now same read (e, kept) = subst (λ (s : Status). MigrateRun s before after) (sym e) (kept ∙ same, read)
+missed-run UnreadFull status before after now same read (e, kept) = subst (λ (s : Status). MigrateRun s before after) (sym e) (kept ∙ same, read)
+missed-run UnreadMemory status before after now same read (e, kept) = subst (λ (s : Status). MigrateRun s before after) (sym e) (kept ∙ same)

@@ -1,0 +1,39 @@
+use Rattle.std.proofs.Common.{rules, arith, subst, sym}
+use Rattle.std.specs.Prelude.{Result}
+use Rattle.strategy_verdicts.specs.declared.verdict.TextVerdict.{TextVerdict}
+use Rattle.strategy_verdicts.specs.declared.verdict.Unread.{Unread}
+use Rattle.strategy_verdicts.specs.Reading.{WasReadAs}
+use Rattle.strategy_commands.specs.Verdicts.{of_claim}
+use Rattle.strategy_commands.specs.Migrating.{MigratesHead}
+use Rattle.strategy_commands.proofs.ClaimLaws.{no-cause}
+use Rattle.strategy_commands.proofs.MigrateLaws.{course-writes, judged-late, judged-writes}
+use Rattle.strategy_commands.proofs.migrating.migrate_claim.Goals as goal
+
+pub returns-in-Ok : goal.returns-in-Ok
+returns-in-Ok g c =
+    let head = c.args.head.now in
+    let made = c.in-Ok.field-0 in
+    let known = c.requires.known in
+    let old = c.requires.old in
+    let is = c.in-Ok.ensures.claims in record {
+      told = λ left told.
+          course-writes head left (g.G.Game.course made.game) made.claim c.migrate_move.result _ _ (omega (arith, known, old)) is (c.migrate_move.ensures.told left told);
+      late = c.migrate_move.ensures.late;
+      reads = search rules;
+      writes = search rules;
+      read = c.migrate_move.ensures.read;
+    }
+
+pub returns-in-Err : goal.returns-in-Err
+returns-in-Err g c =
+    let head = c.args.head.now in
+    let judged = c.in-Err.judged in
+    let none = c.in-Err.ensures.none in
+    let taken = c.taken_as.ensures in record {
+      told = λ left told. judged-writes (of_claim head left) (MigratesHead head left) judged c.taken_as.result _ _ taken.is (none.judges left);
+      late = judged-late judged c.taken_as.result _ _ none.refuses taken.is (search rules);
+      reads = no-cause _ (λ e. none.has_read (taken.missed.0 e));
+      writes = no-cause _ taken.uncut;
+      read = λ text r.
+          subst (λ (j : Result TextVerdict Unread). WasReadAs 5 j text (g.S.Source.rest c.args.input.now)) (sym taken.judged) (none.read text _ _ r);
+    }

@@ -1,0 +1,31 @@
+use Rattle.std.proofs.Common.{rules, ap, subst, sym}
+use Rattle.std.specs.Prelude.{ℕ, map, IfSome}
+use Rattle.hive_model.specs.Courses.{position}
+use Rattle.strategy_walks.specs.Answers.{CountsBad, CountsRefused}
+use Rattle.strategy_check.specs.Trace.{checked}
+use Rattle.strategy_text.specs.Text.{index_in}
+use Rattle.strategy_check.specs.Checks.{index_faults}
+use Rattle.strategy_citing.specs.Migrating.{answered}
+use Rattle.strategy_commands.proofs.MigrateLaws.{read-causes}
+use Rattle.strategy_commands.specs.Migrating.{judged_of}
+use Rattle.strategy_commands.proofs.LineReads.{walk-read}
+use Rattle.strategy_commands.proofs.migrating.migrate_lines.Goals as goal
+
+pub returns : goal.returns
+returns g c =
+    let causes = read-causes c.migrate-migrated.result _ _ _ c.migrate-migrated.ensures.items.cause in
+    record {
+      told = λ left e.
+          let claim = c.args.claim.now in
+          let bad = subst (λ (n : ℕ). IfSome (answered c.migrate-migrated.result) (λ answer. CountsBad (checked (position (g.G.Game.course c.args.game.now)) claim.depth claim.best claim.value (map index_in left)) answer n)) (sym c.lines.ensures)
+          (c.migrate-migrated.ensures.items.bad (map index_in left) (search rules) c.new-indices.ensures.none) in
+          search (rules, bad);
+      late = search rules;
+      reads = search (rules, causes);
+      writes = search rules;
+      read = λ text r.
+          let after = c.migrate-migrated.new.indices in
+          walk-read (λ lines. IfSome (answered c.migrate-migrated.result) (λ answer. CountsRefused index_faults answer lines)) (judged_of c.taken_of.result) text _ _ (g.S.Source.rest after.source.now) _ _ _ after.reader.now _ _ c.lines.result c.new-indices.ensures.same_reader (ap g.S.Source.rest c.new-indices.ensures.same_source)
+          c.new-indices.ensures.none c.lines.ensures (search rules) (c.migrate-migrated.ensures.items.known text 5) (c.migrate-migrated.ensures.items.refused c.new-indices.ensures.none)
+          (λ known few. c.taken_of.ensures.read text _ after.reader.now known few c.migrate-migrated.ensures.items.met) r;
+    }

@@ -1,0 +1,35 @@
+-- The claim that a head makes, and what is judged of a text whose head makes none.
+use Rattle.std.specs.Prelude.{◌≡◌, ◌≢◌, ℕ, List, Result, Ok, Err}
+use Rattle.io_edge.specs.Outside.{Told}
+use Rattle.hive_model.specs.Courses.{Course}
+use Rattle.hive_model.specs.Lines.{Line}
+use Rattle.line_feed.specs.Feed.{Reading}
+use Rattle.strategy_walks.specs.declared.claim.Claim.{Claim}
+use Rattle.strategy_text.specs.declared.head.Head.{Head}
+use Rattle.strategy_text.specs.Taken.{HasRead}
+use Rattle.strategy_verdicts.specs.declared.verdict.TextVerdict.{TextVerdict}
+use Rattle.strategy_verdicts.specs.declared.verdict.TextVerdict.TheVariants.{Accepted}
+use Rattle.strategy_verdicts.specs.declared.verdict.Unread.{Unread}
+use Rattle.strategy_verdicts.specs.declared.verdict.Unread.TheVariants.{ReadFault}
+use Rattle.strategy_verdicts.specs.Reading.{Judges, WasReadAs}
+use Rattle.strategy_walks.specs.Claims.{IsClaimOf}
+use Rattle.strategy_commands.specs.Verdicts.{claimed_move, of_claim}
+
+-- The game under way is that of the head, and goes on. The claim can be judged of it; it has the
+-- depth and the value of the head, and the move that the text of the head denotes.
+pub record Claims (head : Head) (course : Course) (claim : Claim) : Type 0 where
+  pub kind : course.game_type ≡ head.game_type
+  pub made : course.made ≡ head.moves
+  pub may_be : IsClaimOf course claim.depth claim.value
+  pub depth : claim.depth ≡ head.depth
+  pub value : claim.value ≡ head.value
+  pub denotes : claimed_move head ≡ Ok claim.best
+
+-- This is judged of a text by its head alone, whatever lines are behind it. It is not accepted, no
+-- read has failed, and no line was read behind the head.
+pub record NoClaim (head : Head) (judged : Result TextVerdict Unread) : Type 0 where
+  pub judges : (rest : List Line) → Judges judged (of_claim head rest)
+  pub refuses : judged ≢ Ok Accepted
+  pub has_read : judged ≢ Err ReadFault
+  pub read : (text : List ℕ) (left : Told) (reader : Reading) → HasRead text left reader 5
+      → WasReadAs 5 judged text left

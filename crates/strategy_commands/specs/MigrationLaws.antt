@@ -1,0 +1,26 @@
+-- Laws of certificates that become ones that cite.
+use Rattle.std.specs.Prelude.{ℕ, List}
+use Rattle.hive_model.specs.declared.places.Move.{Move}
+use Rattle.hive_model.specs.Lines.{lines}
+use Rattle.strategy_text.specs.declared.head.Head.{Head}
+use Rattle.command_runs.specs.Input.{Sides}
+use Rattle.command_runs.specs.Served.{RunsAreDone}
+use Rattle.command_runs.specs.declared.status.Status.TheVariants.{Done}
+use Rattle.strategy_verdicts.specs.Laws.{WritesAccepted}
+use Rattle.strategy_commands.specs.Laws.{HoldsOf}
+use Rattle.strategy_commands.specs.Verdicts.{verdict}
+use Rattle.strategy_commands.specs.Migrating.{MigrateRun}
+
+-- Where the streams served the run, and the input is a certificate of the first version, and holds,
+-- it is done, unless memory is wanting.
+abbrev pub MigrationsAreDone : Type 0
+MigrationsAreDone =
+    RunsAreDone MigrateRun
+    (λ input. (head : Head) × (m : Move) × (indices : List ℕ)
+    × HoldsOf (lines input) head m indices)
+
+-- what is written where a run is done is accepted
+abbrev pub MigratedIsAccepted : Type 0
+MigratedIsAccepted =
+    (before : Sides) → (after : Sides) → MigrateRun Done before after
+    → WritesAccepted verdict before after

@@ -1,0 +1,112 @@
+-- What the parts of the reading of a head answer.
+use Rattle.std.specs.Prelude.{◌≡◌, ◌≢◌, ℕ, ◌+◌, ◌-◌, ◌<◌, ◌≤◌, ◌⊎◌, ⊤, List, ◌∷◌, length, drop, Option, Some, Result, Ok, Err}
+use Rattle.io_edge.specs.Outside.{HasCause, Told}
+use Rattle.line_feed.specs.Feed.{Reading, input_limit}
+use Rattle.std.specs.Option.{option_map}
+use Rattle.hive_model.specs.Lines.{Line, Text, ToldLines, NoneAhead, LongAhead, greatest_line}
+use Rattle.hive_model.specs.Games.{IsGame}
+use Rattle.game_text.specs.declared.faults.GameFault.{GameFault}
+use Rattle.game_text.specs.declared.faults.GameFault.TheVariants.{Memory as NoMemory}
+use Rattle.game_text.specs.declared.parsed.Parsed.{Parsed}
+use Rattle.search_laws.specs.Laws.{IsSmall}
+use Rattle.strategy_text.specs.declared.head.Head.{Head}
+use Rattle.strategy_text.specs.declared.head.HeadFault.{HeadFault}
+use Rattle.strategy_text.specs.declared.head.HeadFault.TheVariants.{BadLine, BadGame, ReadFault, InputFull, Memory}
+use Rattle.strategy_text.specs.Text.{HeadRead}
+use Rattle.strategy_text.specs.Taken.{HasRead}
+
+-- how many bytes a reader has taken and its source is yet to give, where that is told
+abbrev pub in_all : Reading → Told → Option ℕ
+in_all reader rest = option_map (λ left. reader.taken + length left) rest
+
+-- the next line was taken; or it is missing or too long, which is the fault of the line of this
+-- number
+abbrev pub TakesLine : Result ⊤ HeadFault → ℕ → List ℕ → ToldLines → ToldLines → Type 0
+TakesLine (Ok done) n last old new = old ≡ option_map (λ left. Text last ∷ left) new
+TakesLine (Err (BadLine k)) n last old new = (k ≡ n) × (NoneAhead old ⊎ LongAhead old)
+TakesLine (Err (BadGame fault)) n last old new = ⊥
+TakesLine (Err ReadFault) n last old new = ⊤
+TakesLine (Err InputFull) n last old new = ⊤
+TakesLine (Err Memory) n last old new = ⊥
+
+-- the number of the last line that was taken at most where the reading of lines up to the n-th
+-- meets this fault: that of the bad line, or the second, which is the game; a line before the last
+-- where a read has failed
+abbrev pub fault_line : ℕ → HeadFault → ℕ
+fault_line n (BadLine k) = k
+fault_line n (BadGame fault) = 2
+fault_line n ReadFault = n - 1
+fault_line n InputFull = n
+fault_line n Memory = n
+
+-- the same of what the reading answers, which takes all n lines where it meets no fault
+abbrev pub last_line : {A : Type 0} → ℕ → Result A HeadFault → ℕ
+last_line n (Ok a) = n
+last_line n (Err fault) = fault_line n fault
+
+-- What the reading of k lines of a head, of which the n-th of its text is the last, leaves behind,
+-- by its answer: why the input could not be read. No byte of it is lost; and where the lines before
+-- these were read at most, so many were read at most.
+pub record TakesLines {A : Type 0} (k n : ℕ) (result : Result A HeadFault)
+    (reader reader' : Reading) (rest rest' : Told) (faults faults' : ℕ) : Type 0 where
+  pub full : result ≡ Err InputFull → reader'.taken ≡ input_limit
+  pub cause : HasCause (result ≡ Err ReadFault) faults faults'
+  pub bytes : in_all reader' rest' ≡ in_all reader rest
+  pub failed : result ≡ Err ReadFault → reader'.taken < input_limit
+  pub read : (input : List ℕ) (before : ℕ) → n ≡ before + k → HasRead input rest reader before
+      → HasRead input rest' reader' (last_line n result)
+
+-- the game of a line, or what is wrong with it, unless memory is wanting
+abbrev pub ReadsGame : Result Parsed HeadFault → Result Parsed GameFault → Type 0
+ReadsGame (Ok game) read = read ≡ Ok game
+ReadsGame (Err (BadLine n)) read = ⊥
+ReadsGame (Err (BadGame fault)) read = (read ≡ Err fault) × (fault ≢ NoMemory)
+ReadsGame (Err ReadFault) read = ⊥
+ReadsGame (Err InputFull) read = ⊥
+ReadsGame (Err Memory) read = ⊤
+
+-- What the reading of a part of a head answers where just these lines were to come: what the
+-- definition gives, and then all but their first k are to come; or the fault that the definition
+-- gives.
+abbrev pub Reads : {A : Type 0} → ℕ → Result A HeadFault → Result A HeadFault → List Line
+    → ToldLines → Type 0
+Reads k (Ok a) read lines later = (read ≡ Ok a) × (later ≡ Some (drop k lines))
+Reads k (Err (BadLine n)) read lines later = read ≡ Err (BadLine n)
+Reads k (Err (BadGame fault)) read lines later = read ≡ Err (BadGame fault)
+Reads k (Err ReadFault) read lines later = ⊤
+Reads k (Err InputFull) read lines later = ⊤
+Reads k (Err Memory) read lines later = ⊤
+
+-- A head was read, or its first fault is one of its lines behind the first so many: none of these
+-- is at fault.
+abbrev pub IsBehind : {A : Type 0} → ℕ → Result A HeadFault → Type 0
+IsBehind n (Ok a) = ⊤
+IsBehind n (Err (BadLine k)) = n < k
+IsBehind n (Err (BadGame fault)) = n < 2
+IsBehind n (Err ReadFault) = ⊥
+IsBehind n (Err InputFull) = ⊥
+IsBehind n (Err Memory) = ⊥
+
+-- Where a read has failed within a head of so many lines, whose lines give this head or fault: of
+-- the input fewer lines were read than it has, and none of them is at fault.
+pub record BreaksOff {A : Type 0} (n : ℕ) (read : Result A HeadFault) (input : List ℕ)
+    (rest : Told) (reader : Reading) : Type 0 where
+  pub lines : ℕ
+  pub fewer : lines < n
+  pub taken : HasRead input rest reader lines
+  pub sound : IsBehind lines read
+
+-- the same of a whole head, which is five lines
+abbrev pub ReadsHead : HeadRead → HeadRead → List Line → ToldLines → Type 0
+ReadsHead = Reads 5
+
+-- what every head keeps
+pub record IsHead (newest : ℕ) (head : Head) : Type 0 where
+  pub old : 1 ≤ head.version
+  pub known : head.version ≤ newest
+  pub game : IsGame head.game_type head.moves
+  pub few : length head.moves ≤ 5000
+  pub some : 1 ≤ head.depth
+  pub deep : head.depth ≤ 64
+  pub short : length head.claim_text ≤ greatest_line
+  pub small : IsSmall 1000064 head.value

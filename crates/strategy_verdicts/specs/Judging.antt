@@ -1,0 +1,69 @@
+-- What a check judges of a text: its head, and the lines behind it.
+use Rattle.std.specs.Prelude.{◌≡◌, ℕ, List, drop, Result, Ok, Err, Some}
+use Rattle.io_edge.specs.Outside.{Aside, HasCause}
+use Rattle.hive_model.specs.Lines.{Line, lines}
+use Rattle.line_feed.specs.Ahead.{ahead_of}
+use Rattle.line_feed.specs.Feed.{Reading}
+use Rattle.strategy_text.specs.declared.head.HeadFault.{HeadFault}
+use Rattle.strategy_text.specs.declared.head.HeadFault.TheVariants.{BadLine as LineFault, BadGame as NoGame, ReadFault as NoRead, InputFull as IsFull, Memory as NoMemory}
+use Rattle.strategy_text.specs.Heads.{BreaksOff, Reads, TakesLines}
+use Rattle.strategy_text.specs.Taken.{HasRead}
+use Rattle.command_runs.specs.Input.{WhereTold}
+use Rattle.strategy_verdicts.specs.declared.verdict.TextVerdict.{TextVerdict}
+use Rattle.strategy_verdicts.specs.declared.verdict.TextVerdict.TheVariants.{BadLine, BadGame}
+use Rattle.strategy_verdicts.specs.declared.verdict.Unread.{Unread}
+use Rattle.strategy_verdicts.specs.declared.verdict.Unread.TheVariants.{ReadFault}
+use Rattle.strategy_verdicts.specs.Reading.{Judges, WasReadAs}
+use Rattle.strategy_verdicts.specs.Runs.{IsUndecided, Judgement}
+
+-- the verdict on a head and the lines behind it, or on the fault of a head; the last three are no
+-- faults of lines
+abbrev pub of_head : {H : Type 0} → (H → Judgement) → Result H HeadFault → Judgement
+of_head worth (Ok head) rest = worth head rest
+of_head worth (Err (LineFault n)) rest = BadLine n
+of_head worth (Err (NoGame fault)) rest = BadGame fault
+of_head worth (Err NoRead) rest = BadLine 0
+of_head worth (Err IsFull) rest = BadLine 0
+of_head worth (Err NoMemory) rest = BadLine 0
+
+-- the verdict on the lines of a text whose head has so many
+unfoldable pub text_verdict : {H : Type 0} → ℕ → (List Line → Result H HeadFault) → (H → Judgement)
+    → Judgement
+text_verdict n head_of worth ls = of_head worth (head_of ls) (drop n ls)
+
+-- What the reading of a head of so many lines answers: the head of the lines to come, where they
+-- are told, or the first fault; and what it leaves behind. Where a read has failed, the lines that
+-- were read have no fault.
+pub record TakesHead {H : Type 0} (n : ℕ) (head_of : List Line → Result H HeadFault)
+    (result : Result H HeadFault) (reader reader' : Reading) (source source' : Aside) : Type 0 where
+  pub told : (ls : List Line) → ahead_of reader source.bytes ≡ Some ls
+      → Reads n result (head_of ls) ls (ahead_of reader' source'.bytes)
+  pub taken : TakesLines n n result reader reader' source.bytes source'.bytes source.faults
+      source'.faults
+  pub unread : (ls : List Line) → ahead_of reader source.bytes ≡ Some ls → (text : List ℕ)
+      → HasRead text source.bytes reader 0 → result ≡ Err NoRead
+      → BreaksOff n (head_of ls) text source'.bytes reader'
+
+-- What is judged of the lines to come, where the head of a text has so many lines and so many lines
+-- were read at most: what the lines are worth, where they are told, unless the input could not be
+-- read. Why it could not, and what was then read of it; where a read has failed the lines that were
+-- read do not decide.
+pub record JudgesAhead (head : ℕ) (worth : Judgement) (most : ℕ) (result : Result TextVerdict Unread)
+    (reader : Reading) (source source' : Aside) : Type 0 where
+  pub judged : (left : List Line) → ahead_of reader source.bytes ≡ Some left
+      → Judges result (worth left)
+  pub cause : HasCause (result ≡ Err ReadFault) source.faults source'.faults
+  pub read : (text : List ℕ) → HasRead text source.bytes reader most
+      → WasReadAs head result text source'.bytes
+  pub unread : (left : List Line) → ahead_of reader source.bytes ≡ Some left → (text : List ℕ)
+      → HasRead text source.bytes reader most → result ≡ Err ReadFault
+      → IsUndecided head (worth left) text source'.bytes
+
+-- The same of a whole input.
+pub record JudgesInput (head : ℕ) (worth : Judgement) (result : Result TextVerdict Unread)
+    (source source' : Aside) : Type 0 where
+  pub judged : WhereTold source.bytes (λ text. Judges result (worth (lines text)))
+  pub cause : HasCause (result ≡ Err ReadFault) source.faults source'.faults
+  pub read : WhereTold source.bytes (λ text. WasReadAs head result text source'.bytes)
+  pub unread : WhereTold source.bytes (λ text. result ≡ Err ReadFault
+      → IsUndecided head (worth (lines text)) text source'.bytes)

@@ -1,0 +1,20 @@
+-- A law of the checks of texts.
+use Rattle.std.specs.Prelude.{◌≡◌, ℕ, List, [], Some}
+use Rattle.hive_model.specs.Lines.{lines}
+use Rattle.command_runs.specs.Input.{Sides}
+use Rattle.command_runs.specs.Served.{RunsAreDone}
+use Rattle.strategy_verdicts.specs.declared.verdict.TextVerdict.TheVariants.{Accepted}
+use Rattle.strategy_verdicts.specs.Runs.{Judgement, VerdictRun}
+
+-- Where the streams served the run, a check of an input that is accepted is done, unless memory is
+-- wanting.
+abbrev pub AcceptedAreDone : Type 0
+AcceptedAreDone =
+    (head : ℕ) → (verdict : Judgement)
+    → RunsAreDone (VerdictRun head verdict) (λ input. verdict (lines input) ≡ Accepted)
+
+-- what a run has written, where nothing was written before, is accepted
+abbrev pub WritesAccepted : Judgement → Sides → Sides → Type 0
+WritesAccepted verdict before after =
+    (input : List ℕ) → before.rest ≡ Some input → before.written ≡ Some []
+    → (text : List ℕ) × (after.written ≡ Some text) × (verdict (lines text) ≡ Accepted)

@@ -1,0 +1,121 @@
+//! The check of a text, whatever its form.
+
+ghost use Rattle.std.specs.Prelude.{◌<◌, ℕ, List, Result, IfOk};
+ghost use Rattle.hive_model.specs.Lines.{Line as AnyLine};
+ghost use Rattle.strategy_text.specs.declared.head.HeadFault.{HeadFault as AnyFault};
+ghost use Rattle.command_runs.specs.Runs.{RunsAs, side_of};
+ghost use Rattle.strategy_verdicts.specs.Runs.{IsDecidedBehind, Judgement, VerdictRun};
+ghost use Rattle.strategy_verdicts.specs.Judging.{JudgesAhead, JudgesInput, TakesHead, text_verdict};
+
+use crate::told::tell_judged;
+use crate::verdict::{TextVerdict, Unread, fault_verdict};
+use command_runs::Status;
+use hive_model::Game;
+use io_edge::{Sink, Source};
+use line_feed::LineReader;
+use std::alloc::Global;
+use strategy_text::HeadFault;
+
+/// A form of texts: a head, which makes a claim, and behind it the lines that are to show that the
+/// claim is true.
+pub trait TextForm {
+    /// What a head says.
+    type Head;
+
+    /// How many lines a head has.
+    ghost head_lines: { ℕ };
+
+    /// The head of the lines of a text, or the first fault of these lines.
+    ghost head_of: { List AnyLine → Result Self.Head AnyFault };
+
+    /// What every head that was read keeps.
+    ghost keeps: { Self.Head → Type 0 };
+
+    /// What the lines behind a head are worth.
+    ghost worth: { Self.Head → Judgement };
+
+    /// It is never decided by lines of the head alone.
+    ghost not_yet: { (head : Self.Head) (ls : List AnyLine) (n : ℕ) → n < head_lines
+        → IsDecidedBehind head_lines (worth head ls) n };
+
+    /// Reads the head, whose game is played on one of the kind G. No line behind the first fault is
+    /// read.
+    ///
+    /// # Errors
+    ///
+    /// The first fault of the lines, a failed read, a reader that takes no more, and want of
+    /// memory.
+    fn read_head<S: Source, G: Game + Drop>(
+        &self,
+        alloc: Global,
+        reader: &mut LineReader,
+        input: &mut S,
+    ) -> Result<Self::Head, HeadFault>
+        ensures takes { TakesHead head_lines head_of result reader.old reader.new
+            (side_of S.rest S.read_faults input.old) (side_of S.rest S.read_faults input.new) }
+        ensures keeps { IfOk result keeps };
+
+    /// The verdict on the lines to come behind a head.
+    ///
+    /// # Errors
+    ///
+    /// A failed read, a reader that takes no more, and want of memory.
+    fn judge_claim<S: Source, G: Game + Drop>(
+        &self,
+        alloc: Global,
+        head: Self::Head,
+        reader: &mut LineReader,
+        input: &mut S,
+    ) -> Result<TextVerdict, Unread>
+        requires { keeps head }
+        ensures { JudgesAhead head_lines (worth head) head_lines result reader.old
+            (side_of S.rest S.read_faults input.old) (side_of S.rest S.read_faults input.new) };
+}
+
+/// The verdict on the lines to come.
+fn judge_lines<F: TextForm, S: Source, G: Game + Drop>(
+    alloc: Global,
+    form: &F,
+    reader: &mut LineReader,
+    input: &mut S,
+) -> Result<TextVerdict, Unread>
+    ensures { JudgesAhead F.head_lines (text_verdict F.head_lines F.head_of F.worth) 0 result
+        reader.old
+        (side_of S.rest S.read_faults input.old) (side_of S.rest S.read_faults input.new) }
+{
+    match form.read_head::<S, G>(alloc, reader, input) {
+        Ok(head) => form.judge_claim::<S, G>(alloc, head, reader, input),
+        Err(fault) => fault_verdict(fault),
+    }
+}
+
+/// The verdict on the input.
+fn judge<F: TextForm, S: Source, G: Game + Drop>(
+    alloc: Global,
+    form: &F,
+    input: &mut S,
+) -> Result<TextVerdict, Unread>
+    ensures { JudgesInput F.head_lines (text_verdict F.head_lines F.head_of F.worth) result
+        (side_of S.rest S.read_faults input.old) (side_of S.rest S.read_faults input.new) }
+{
+    let Ok(mut reader) = LineReader::new(alloc) else {
+        return Err(Unread::Memory);
+    };
+    judge_lines::<F, S, G>(alloc, form, &mut reader, input)
+}
+
+/// Checks the input, which is to be a text of this form, and writes the line of the verdict, as
+/// `tell_judged` does.
+pub fn check_text<F: TextForm, S: Source, K: Sink, G: Game + Drop>(
+    alloc: Global,
+    form: &F,
+    input: &mut S,
+    output: &mut K,
+) -> Status
+    ensures { RunsAs (VerdictRun F.head_lines (text_verdict F.head_lines F.head_of F.worth)) result
+        (side_of S.rest S.read_faults input.old) (side_of K.written K.write_faults output.old)
+        (side_of S.rest S.read_faults input.new) (side_of K.written K.write_faults output.new) }
+{
+    let judged = judge::<F, S, G>(alloc, form, input);
+    tell_judged(alloc, judged, output)
+}

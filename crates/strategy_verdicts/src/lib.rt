@@ -1,0 +1,15 @@
+//! What a text that is checked is worth, the line that says so, and the run of a command that
+//! checks one.
+#![tactic(auto)]
+
+mod check_text;
+mod laws;
+mod reasons;
+mod told;
+mod verdict;
+
+pub use check_text::{TextForm, check_text};
+pub use laws::accepted_texts_are_done;
+pub use reasons::{IndexReasons, Reasons};
+pub use told::tell_judged;
+pub use verdict::{TextVerdict, Unread, fault_verdict, verdict_of};

@@ -1,0 +1,107 @@
+//! What a text that is checked is worth.
+
+ghost use Rattle.std.specs.Prelude.{◌≡◌, ◌↔◌, ◌+◌, ◌<◌, ℕ, List, Option, Err};
+ghost use Rattle.io_edge.specs.Outside.{Told as AnyTold};
+ghost use Rattle.hive_model.specs.Lines.{Line};
+ghost use Rattle.line_feed.specs.Feed.{Reading, input_limit};
+ghost use Rattle.strategy_walks.specs.Walks.{WalkEnd};
+ghost use Rattle.strategy_walks.specs.Answers.{
+  Answers,
+  CountsBad,
+  CountsRefused,
+  Ended,
+  StopsUnread,
+};
+ghost use Rattle.strategy_text.specs.Heads.{fault_line};
+ghost use Rattle.strategy_text.specs.Taken.{HasRead, StopsAt};
+ghost use Rattle.strategy_verdicts.specs.Verdicts.{walk_verdict};
+ghost use Rattle.strategy_verdicts.specs.Reading.{Judges, WasReadAs, of_fault};
+ghost use Rattle.strategy_verdicts.specs.Runs.{IsUndecided};
+
+use crate::reasons::Reasons;
+use game_text::GameFault;
+use strategy_check::{Checked, Halt, Why};
+use strategy_text::HeadFault;
+
+/// What a text is worth: a head of so many lines, which makes a claim, and behind it indices that
+/// are to show it.
+#[derive(Clone, Copy, Debug, PartialEq, Eq)]
+pub enum TextVerdict {
+    /// It shows that its claim is true.
+    Accepted,
+    /// The first fault of its claim or its indices, and how many indices were taken before it, at
+    /// most the greatest u64; a bad index counts as taken.
+    Refused { place: u64, why: Why },
+    /// What is cited was not shown, or does not serve; and how many tokens were taken before, at
+    /// most the greatest u64, itself among them.
+    BadCite { place: u64 },
+    /// The first line that is missing, too long or not of its form, counted from 1.
+    BadLine { line: u64 },
+    /// What is wrong with the second line as a game. It is never want of memory.
+    BadGame { fault: GameFault },
+    /// The game is over.
+    GameOver,
+}
+
+/// Why a text could not be read.
+#[derive(Clone, Copy, Debug, PartialEq, Eq)]
+pub enum Unread {
+    /// A read of the input has failed.
+    ReadFault,
+    /// The input has 1,099,511,627,776 bytes or more before its end.
+    InputFull,
+    /// There was not enough memory.
+    Memory,
+}
+
+/// The verdict where there is no head.
+pub fn fault_verdict(fault: HeadFault) -> Result<TextVerdict, Unread>
+    ensures is { result ≡ of_fault fault }
+    ensures failed { (result ≡ Err Unread.ReadFault) ↔ (fault ≡ HeadFault.ReadFault) }
+    ensures full { result ≡ Err Unread.InputFull → fault ≡ HeadFault.InputFull }
+    ensures read { (head : ℕ) (text : List ℕ) (rest : AnyTold) (reader : Reading)
+        → HasRead text rest reader (fault_line head fault)
+        → (fault ≡ HeadFault.ReadFault → reader.taken < input_limit)
+        → (fault ≡ HeadFault.InputFull → reader.taken ≡ input_limit)
+        → WasReadAs head result text rest }
+{
+    match fault {
+        HeadFault::BadLine { line } => Ok(TextVerdict::BadLine { line: line as u64 }),
+        HeadFault::BadGame { fault } => Ok(TextVerdict::BadGame { fault }),
+        HeadFault::ReadFault => Err(Unread::ReadFault),
+        HeadFault::InputFull => Err(Unread::InputFull),
+        HeadFault::Memory => Err(Unread::Memory),
+    }
+}
+
+/// What the answer of a check means, where so many lines were taken behind a head of so many.
+pub fn verdict_of<R: Reasons>(
+    checked: Checked<R::Why>,
+    head: u32,
+    lines: u64,
+) -> Result<TextVerdict, Unread>
+    ensures judges { (o : WalkEnd R.Steps R.Why) → Answers o checked → CountsBad o checked lines
+        → Judges result (walk_verdict R.refusal head o) }
+    ensures failed { (result ≡ Err Unread.ReadFault) ↔ (checked ≡ Checked.Halted Halt.Failed) }
+    ensures full { result ≡ Err Unread.InputFull → checked ≡ Checked.Halted Halt.Full }
+    ensures read { (text : List ℕ) (rest : AnyTold) (reader : Reading) (item : Line → Option R.Item)
+        → HasRead text rest reader (head + lines) → CountsRefused R.faults checked lines
+        → Ended R.faults (λ answer. StopsAt item answer reader) checked
+        → WasReadAs head result text rest }
+    ensures unread { (o : WalkEnd R.Steps R.Why) → StopsUnread R.faults o checked lines
+        → (text : List ℕ) (rest : AnyTold) (reader : Reading)
+        → HasRead text rest reader (head + lines) → result ≡ Err Unread.ReadFault
+        → IsUndecided head (walk_verdict R.refusal head o) text rest }
+{
+    match checked {
+        Checked::Accepted => Ok(TextVerdict::Accepted),
+        Checked::Refused { place, why } => Ok(R::refused(why, place)),
+        Checked::Halted { answer: Halt::Bad } => Ok(TextVerdict::BadLine {
+            line: lines.saturating_add(head as u64),
+        }),
+        Checked::Halted {
+            answer: Halt::Failed,
+        } => Err(Unread::ReadFault),
+        Checked::Halted { answer: Halt::Full } => Err(Unread::InputFull),
+    }
+}
