@@ -10,6 +10,7 @@ use Rattle.io_edge.specs.Outside.{Told, ToldLists, Collects, HasCause, Rose, Sta
 use Rattle.io_edge.specs.Starts.{Engines}
 use Rattle.hive_model.specs.Lines.{Line as Mark, lines}
 use Rattle.command_runs.specs.Answered.{WritesAs}
+use Rattle.command_runs.specs.World.{World}
 use Rattle.command_runs.specs.declared.status.Status.{Status}
 use Rattle.command_runs.specs.declared.status.Status.TheVariants.{Done, Refused, WriteFault, SpawnFault}
 use Rattle.audit_core.specs.declared.plan.Plan.{Plan}
@@ -17,7 +18,7 @@ use Rattle.audit_core.specs.AuditState.{AuditState}
 use Rattle.audit_core.specs.Audits.{sent_in}
 use Rattle.audit_runner.specs.Wires.{HasFailed, Wire}
 use Rattle.audit_runner.specs.Runs.{Ends, RanOver}
-use Rattle.audit_command.specs.Audit.{AuditRun, AuditStarts, AuditedOver, CountsFault, Hears, IsStarted, IsWhole, NoneIsOpen, AuditOver, Scene, StartsOneOf, scene, verdict_of}
+use Rattle.audit_command.specs.Audit.{AuditRun, AuditStarts, AuditedOver, CountsFault, Hears, IsStarted, IsWhole, NoneIsOpen, AuditOver, StartsOneOf, verdict_of}
 
 -- a link that has failed has counted it
 failed : (w0 w : Wire) → w0.reads ≡ 0 → w0.writes ≡ 0 → HasFailed w0 w → 0 < w.reads + w.writes
@@ -92,12 +93,12 @@ some_of : (n : ℕ) → (n == 0) ≡ false → 0 < n
 some_of zero e = absurd (cc)
 some_of (suc n) e = omega arith
 
-whole_at : (plan : Plan) (t : AuditState) (status : Status) (before after : Scene) (b : Bool) → AuditOver plan t before.engines after.engines → after.written ≡ behind before.written t.text → (t.findings == 0) ≡ b
+whole_at : (plan : Plan) (t : AuditState) (status : Status) (before after : World) (b : Bool) → AuditOver plan t before.engines after.engines → after.sides.written ≡ behind before.sides.written t.text → (t.findings == 0) ≡ b
     → status ≡ (if b then Done else Refused) → AuditRun plan status before after
 whole_at plan t status before after true played wrote k e = subst (λ s. AuditRun plan s before after) (sym e) (t, eqb-true t.findings 0 k, record { played = played; wrote = wrote })
 whole_at plan t status before after false played wrote k e = subst (λ s. AuditRun plan s before after) (sym e) (t, some_of t.findings k, record { played = played; wrote = wrote })
 
-pub told_as : (plan : Plan) (t : AuditState) (status : Status) (before after : Scene) → AuditOver plan t before.engines after.engines → WritesAs t.text (verdict_of t.findings) status before.written after.written → AuditRun plan status before after
+pub told_as : (plan : Plan) (t : AuditState) (status : Status) (before after : World) → AuditOver plan t before.engines after.engines → WritesAs t.text (verdict_of t.findings) status before.sides.written after.sides.written → AuditRun plan status before after
 told_as plan t status before after played (inl (e, wrote)) = whole_at plan t status before after (t.findings == 0) played wrote refl e
 told_as plan t status before after played (inr (e, (n, low, wrote))) =
     subst (λ s. AuditRun plan s before after) (sym e) (t, n, record { played = played; cut = low; wrote = wrote })

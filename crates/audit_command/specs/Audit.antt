@@ -3,6 +3,7 @@ use Rattle.std.specs.Prelude.{◌≡◌, ◌⊎◌, ℕ, ◌+◌, ◌<◌, true,
 use Rattle.io_edge.specs.Outside.{Told, ToldLists, Collects, HasCause, Rose, behind, with_last}
 use Rattle.io_edge.specs.Starts.{Engines}
 use Rattle.hive_model.specs.Lines.{Line as Mark, lines}
+use Rattle.command_runs.specs.World.{World}
 use Rattle.command_runs.specs.declared.status.Status.{Status}
 use Rattle.command_runs.specs.declared.status.Status.TheVariants.{Done, Refused, Usage, ReadFault, WriteFault, SpawnFault, BadInput, Memory, InputFull}
 use Rattle.audit_core.specs.declared.plan.Plan.{Plan}
@@ -10,16 +11,6 @@ use Rattle.audit_core.specs.declared.findings.Fault.TheVariants.{Broke}
 use Rattle.audit_core.specs.AuditState.{AuditState, is_ended}
 use Rattle.audit_core.specs.Audits.{audit_of, sent_in}
 use Rattle.audit_runner.specs.Runs.{broken_off, unread}
-
--- What a run can change
-
--- what was written, and what is told of the programs that are started
-pub record Scene : Type 0 where
-  pub written : Told
-  pub engines : Engines
-
-abbrev pub scene : Told → Engines → Scene
-scene written engines = record { written = written; engines = engines }
 
 -- What was played
 
@@ -58,33 +49,33 @@ pub record AuditOver (plan : Plan) (t : AuditState) (before after : Engines) : T
 -- The run
 
 -- the text of an audit that came to its end was written
-pub record Tells (plan : Plan) (t : AuditState) (before after : Scene) : Type 0 where
+pub record Tells (plan : Plan) (t : AuditState) (before after : World) : Type 0 where
   pub played : AuditOver plan t before.engines after.engines
-  pub wrote : after.written ≡ behind before.written t.text
+  pub wrote : after.sides.written ≡ behind before.sides.written t.text
 
 -- of its text the first n bytes were written, and not all
-pub record TellsPart (plan : Plan) (t : AuditState) (n : ℕ) (before after : Scene) : Type 0 where
+pub record TellsPart (plan : Plan) (t : AuditState) (n : ℕ) (before after : World) : Type 0 where
   pub played : AuditOver plan t before.engines after.engines
   pub cut : n < length t.text
-  pub wrote : after.written ≡ behind before.written (take n t.text)
+  pub wrote : after.sides.written ≡ behind before.sides.written (take n t.text)
 
 -- no program was started, and nothing was written
-pub record NotBegun (before after : Scene) : Type 0 where
-  pub written : after.written ≡ before.written
+pub record NotBegun (before after : World) : Type 0 where
+  pub written : after.sides.written ≡ before.sides.written
   pub unsent : after.engines.sent ≡ before.engines.sent
 
 -- What was written and played where an audit ends with this status: `Done` says that there is no
 -- finding, and `Refused` that there are some. Where memory is wanting, or the program has written
 -- as many bytes as are read, nothing was written. Three statuses are not its own.
-abbrev pub AuditRun : Plan → Status → Scene → Scene → Type 0
+abbrev pub AuditRun : Plan → Status → World → World → Type 0
 AuditRun plan Done before after =
     (t : AuditState) × (t.findings ≡ 0) × Tells plan t before after
 AuditRun plan Refused before after =
     (t : AuditState) × (0 < t.findings) × Tells plan t before after
 AuditRun plan WriteFault before after = (t : AuditState) × (n : ℕ) × TellsPart plan t n before after
 AuditRun plan SpawnFault before after = NotBegun before after
-AuditRun plan Memory before after = after.written ≡ before.written
-AuditRun plan InputFull before after = after.written ≡ before.written
+AuditRun plan Memory before after = after.sides.written ≡ before.sides.written
+AuditRun plan InputFull before after = after.sides.written ≡ before.sides.written
 AuditRun plan Usage before after = ⊥
 AuditRun plan ReadFault before after = ⊥
 AuditRun plan BadInput before after = ⊥

@@ -2,6 +2,7 @@
 ghost use Rattle.std.specs.Prelude.{◌≡◌, ◌≢◌, ◌+◌, ◌<◌, length, map, string_bytes, IfOk};
 ghost use Rattle.io_edge.specs.Outside.{Collects, HasCause, Told};
 ghost use Rattle.command_runs.specs.Answered.{WritesAs};
+ghost use Rattle.command_runs.specs.World.{Times, sides, world};
 ghost use Rattle.audit_core.specs.Keeps.{IsPlan};
 ghost use Rattle.audit_command.specs.Audit.{
   AuditRun,
@@ -10,7 +11,6 @@ ghost use Rattle.audit_command.specs.Audit.{
   CountsFault,
   EndsAudit,
   StartsNone,
-  scene,
   verdict_of,
 };
 
@@ -100,9 +100,9 @@ pub fn audit_engine<P: Spawner, K: Sink, G: Game + Drop>(
 ) -> Status
     requires plan { IsPlan plan }
     requires some { 0 < length words.now }
-    ensures run { AuditRun plan result
-        (scene (K.written output.old) (P.engines spawner.old))
-        (scene (K.written output.new) (P.engines spawner.new)) }
+    ensures run { (rest : Told) (times : Times) → AuditRun plan result
+        (world (sides rest (K.written output.old)) times (P.engines spawner.old))
+        (world (sides rest (K.written output.new)) times (P.engines spawner.new)) }
     ensures ends { EndsAudit result (K.write_faults output.old) (K.write_faults output.new)
         (P.engines spawner.old) (P.engines spawner.new) }
     ensures started { AuditStarts result (map string_bytes words.now)

@@ -1,5 +1,6 @@
 pub mod Statuses
 pub mod Input
+pub mod World
 pub mod Reasons
 pub mod OneGame
 pub mod Asking

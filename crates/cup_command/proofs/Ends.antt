@@ -6,6 +6,7 @@ use Rattle.std.proofs.lemmas.List.Elements.{All-nil, All-cons, All-head, All-tai
 use Rattle.io_edge.specs.Outside.{behind}
 use Rattle.io_edge.specs.Starts.{Engines}
 use Rattle.command_runs.specs.Answered.{WritesAs}
+use Rattle.command_runs.specs.World.{World}
 use Rattle.command_runs.specs.declared.status.Status.{Status}
 use Rattle.command_runs.specs.declared.status.Status.TheVariants.{Done}
 use Rattle.match_core.specs.declared.setup.Setup.{Setup}
@@ -18,7 +19,7 @@ use Rattle.cup.proofs.Totals.{few-games, length-pairings}
 use Rattle.cup.specs.Played.{AreStandingsOf, IsPlayed, IsRefereed, Job, pairing, verdict_of}
 use Rattle.cup.specs.Engines.{Engine}
 use Rattle.cup_command.specs.Texts.{cup_text, games_text, standing_text}
-use Rattle.cup_command.specs.Cup.{AreCupStandings, CupRun, PlayedGames, Scene, cup_words, started_after}
+use Rattle.cup_command.specs.Cup.{AreCupStandings, CupRun, PlayedGames, cup_words, started_after}
 use Rattle.cup_command.specs.Links.{ClosesLinks, IsOf, IsReady, StartsAll, all_links, counted, ended_text, jobs_text}
 use Rattle.cup_command.proofs.Ended.{broke-rose, ended-all}
 use Rattle.cup_command.proofs.Heard.{Ran, played-by}
@@ -134,8 +135,8 @@ told-from engines setup games olds mid news shut text before between after whole
     told
 
 -- the text of a cup that was played was written, or a front of it and not all
-pub told-as : (engines : List Engine) (setup : Setup) (text : List ℕ) (status : Status) (before after : Scene) → IsToldCup engines setup before.engines after.engines text → WritesAs text Done status before.written after.written → CupRun engines setup status before after
+pub told-as : (engines : List Engine) (setup : Setup) (text : List ℕ) (status : Status) (before after : World) → IsToldCup engines setup before.engines after.engines text → WritesAs text Done status before.sides.written after.sides.written → CupRun engines setup status before after
 told-as engines setup text status before after (ends, places, played, standings, told) (inl (e, wrote)) =
-    subst (λ s. CupRun engines setup s before after) (sym e) (ends, places, record { played = played; standings = standings; wrote = wrote ∙ ap (λ x. behind before.written x) told })
+    subst (λ s. CupRun engines setup s before after) (sym e) (ends, places, record { played = played; standings = standings; wrote = wrote ∙ ap (λ x. behind before.sides.written x) told })
 told-as engines setup text status before after (ends, places, played, standings, told) (inr (e, (n, low, wrote))) =
-    subst (λ s. CupRun engines setup s before after) (sym e) (ends, places, n, record { played = played; standings = standings; cut = subst (λ x. n < length x) told low; wrote = wrote ∙ ap (λ x. behind before.written (take n x)) told })
+    subst (λ s. CupRun engines setup s before after) (sym e) (ends, places, n, record { played = played; standings = standings; cut = subst (λ x. n < length x) told low; wrote = wrote ∙ ap (λ x. behind before.sides.written (take n x)) told })

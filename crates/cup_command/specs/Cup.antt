@@ -2,9 +2,10 @@
 use Rattle.std.specs.Prelude.{◌≡◌, ◌⊎◌, ⊤, ℕ, ◌+◌, ◌-◌, ◌^◌, ◌<◌, ◌≤◌, Bool, false, List, [], ◌∷◌, ◌++◌, length, map, take, drop, replicate, Option, Some, None, slice_get, if◌then◌else◌}
 use Rattle.std.specs.List.{All, AllZip, flat_map, sum_by}
 use Rattle.std.specs.Option.{option_map}
-use Rattle.io_edge.specs.Outside.{Told, ToldLists, ToldPrograms, Rose, behind}
+use Rattle.io_edge.specs.Outside.{ToldLists, ToldPrograms, Rose, behind}
 use Rattle.io_edge.specs.Starts.{Engines}
 use Rattle.hive_model.specs.Lists.{IsOn}
+use Rattle.command_runs.specs.World.{World}
 use Rattle.command_runs.specs.declared.status.Status.{Status}
 use Rattle.command_runs.specs.declared.status.Status.TheVariants.{Done, Refused, Usage, ReadFault, WriteFault, SpawnFault, BadInput, Memory, InputFull}
 use Rattle.match_core.specs.declared.setup.Setup.{Setup}
@@ -19,16 +20,6 @@ use Rattle.cup.specs.declared.standing.Standing.{Standing as Place}
 use Rattle.cup.specs.Cup.{AreStandings, pairings}
 use Rattle.cup.specs.Engines.{Engine}
 use Rattle.cup_command.specs.Texts.{cup_text}
-
--- What a run can change
-
--- all that a run can change: what was written, and what is told of the programs that it starts
-pub record Scene : Type 0 where
-  pub written : Told
-  pub engines : Engines
-
-abbrev pub scene : Told → Engines → Scene
-scene written engines = record { written = written; engines = engines }
 
 -- What is started
 
@@ -156,19 +147,22 @@ AreCupStandings engines ends places =
 -- the text of a cup that was played was written
 pub record Tells
     (engines : List Engine) (setup : Setup) (ends : List MatchState) (places : List Place)
-    (before after : Scene) : Type 0 where
+    (before after : World) : Type 0 where
   pub played : PlayedGames engines setup ends before.engines after.engines
   pub standings : AreCupStandings (length engines) ends places
-  pub wrote : after.written ≡ behind before.written (cup_text setup engines ends places)
+  pub wrote :
+      after.sides.written ≡ behind before.sides.written (cup_text setup engines ends places)
 
 -- of the text of a cup that was played the first n bytes were written, and not all
 pub record TellsPart
     (engines : List Engine) (setup : Setup) (ends : List MatchState) (places : List Place) (n : ℕ)
-    (before after : Scene) : Type 0 where
+    (before after : World) : Type 0 where
   pub played : PlayedGames engines setup ends before.engines after.engines
   pub standings : AreCupStandings (length engines) ends places
   pub cut : n < length (cup_text setup engines ends places)
-  pub wrote : after.written ≡ behind before.written (take n (cup_text setup engines ends places))
+  pub wrote :
+      after.sides.written
+      ≡ behind before.sides.written (take n (cup_text setup engines ends places))
 
 -- so many programs were started in their order; where it is told what was to come, they were the
 -- first ones of those
@@ -192,8 +186,8 @@ pub record BreaksOff (engines : List Engine) (before after : Engines) : Type 0 w
       → Gains before.sent after.sent (replicate count [])
 
 -- no game was begun, and nothing was written
-pub record NotBegun (engines : List Engine) (before after : Scene) : Type 0 where
-  pub written : after.written ≡ before.written
+pub record NotBegun (engines : List Engine) (before after : World) : Type 0 where
+  pub written : after.sides.written ≡ before.sides.written
   pub starts : BreaksOff engines before.engines after.engines
 
 -- the first programs were started, perhaps all; where it is told what was to come, as many were
@@ -210,13 +204,13 @@ pub record EndsEarly (engines : List Engine) (before after : Engines) : Type 0 w
       × Gains before.sent after.sent gained
 
 -- memory was wanting: nothing was written
-pub record Starved (engines : List Engine) (before after : Scene) : Type 0 where
-  pub written : after.written ≡ before.written
+pub record Starved (engines : List Engine) (before after : World) : Type 0 where
+  pub written : after.sides.written ≡ before.sides.written
   pub starts : EndsEarly engines before.engines after.engines
 
 -- What was written and played where a cup of programs ends with this status. Five statuses are not
 -- its own.
-abbrev pub CupRun : List Engine → Setup → Status → Scene → Scene → Type 0
+abbrev pub CupRun : List Engine → Setup → Status → World → World → Type 0
 CupRun engines setup Done before after =
     (ends : List MatchState) × (places : List Place) × Tells engines setup ends places before after
 CupRun engines setup WriteFault before after =

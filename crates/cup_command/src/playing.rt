@@ -2,7 +2,8 @@
 //! written.
 ghost use Rattle.std.specs.Prelude.{◌≡◌, ◌<◌, ◌≤◌, ◌++◌, List, length, map, IfOk, OnOk, IsErrOf};
 ghost use Rattle.std.specs.List.{All, AllZip, flat_map, zip};
-ghost use Rattle.io_edge.specs.Outside.{HasCause};
+ghost use Rattle.io_edge.specs.Outside.{HasCause, Told};
+ghost use Rattle.command_runs.specs.World.{Times, sides, world};
 ghost use Rattle.match_core.specs.Keeps.{IsSetup};
 ghost use Rattle.match_core.specs.MatchState.{MatchState};
 ghost use Rattle.match_command.specs.Match.{NoneIsOpen};
@@ -16,7 +17,6 @@ ghost use Rattle.cup_command.specs.Cup.{
   CupRun,
   EndsEarly,
   PlayedGames,
-  scene,
 };
 ghost use Rattle.cup_command.specs.Links.{IsReady, jobs_text};
 ghost use Rattle.cup_command.specs.Texts.{cup_text, standing_text};
@@ -132,9 +132,9 @@ pub fn play_cup<R: Threads + Sync, P: Spawner, K: Sink, G: Game + Send + Drop, T
     requires few { length programs.now ≤ 8 }
     requires setup { IsSetup setup }
     requires depth { IsDepth setup.level }
-    ensures run { CupRun programs.now setup result
-        (scene (K.written output.old) (P.engines spawner.old))
-        (scene (K.written output.new) (P.engines spawner.new)) }
+    ensures run { (rest : Told) (times : Times) → CupRun programs.now setup result
+        (world (sides rest (K.written output.old)) times (P.engines spawner.old))
+        (world (sides rest (K.written output.new)) times (P.engines spawner.new)) }
     ensures ends { EndsRun result (K.write_faults output.old) (K.write_faults output.new)
         (P.engines spawner.old) (P.engines spawner.new) }
 {

@@ -4,11 +4,12 @@ use Rattle.std.specs.List.{list_any}
 use Rattle.hive_model.specs.Lines.{Line, lines}
 use Rattle.hive_cli.specs.Times.{depths}
 use Rattle.hive_cli.specs.Service.{HasExit, Service, joined, last_of, replies, searches}
-use Rattle.hive_cli.specs.ServiceRun.{EndsAs, Scene}
+use Rattle.hive_cli.specs.ServiceRun.{EndsAs}
 use Rattle.hive_cli.specs.Session.{session}
 use Rattle.hive_cli.specs.Replay.{refuses, replay_answer, replays}
 use Rattle.hive_cli.specs.Laws.{Replays, ReplaysAreDone, SessionsAreDone}
 use Rattle.command_runs.specs.Served.{Served}
+use Rattle.command_runs.specs.World.{World}
 use Rattle.command_runs.proofs.ServedLemmas.{no_failure, not_full}
 use Rattle.command_runs.specs.declared.status.Status.{Status}
 use Rattle.command_runs.specs.declared.status.Status.TheVariants.{Done, Refused, Usage, ReadFault, WriteFault, SpawnFault, BadInput, Memory, InputFull}
@@ -19,7 +20,7 @@ both : (b : Bool) → b ≡ true → b ≡ false → ⊥
 both b e f = cc
 
 -- the run of a service that refuses no line of its input
-ends_done : {S : Type 0} (v : Service S) (status : Status) (before after : Scene) → EndsAs v status before after
+ends_done : {S : Type 0} (v : Service S) (status : Status) (before after : World) → EndsAs v status before after
     → (input : List ℕ) → Served status before.sides input
     → ((left : List ℕ) → v.has_refused (last_of v v.begins left (lines input)) ≡ false)
     → (status ≡ Done) ⊎ (status ≡ Memory)

@@ -3,12 +3,13 @@ use Rattle.std.proofs.Common.{◌≡◌, ◌+◌, ◌∙◌, ℕ, List, [], leng
 use Rattle.io_edge.specs.Outside.{HasCause, Told, ToldLists}
 use Rattle.io_edge.specs.Starts.{Engines}
 use Rattle.hive_model.specs.declared.best.Timed.{Timed}
-use Rattle.uhp_session.specs.Searches.{TakesNoTime, Times}
+use Rattle.command_runs.specs.Input.{Sides}
+use Rattle.command_runs.specs.World.{LeavesInput, TakesNoTime, Times, World, once_read, times, world}
 use Rattle.hive_cli.specs.ServiceRun.{EndsAs}
 use Rattle.hive_cli.specs.Session.{session}
 use Rattle.hive_cli.specs.Replay.{replays}
 use Rattle.count_command.specs.Count.{CountRun}
-use Rattle.hive_cli.specs.Run.{RunOf, PlaysMatch, PlaysTournament, StartsAudited, UsesSpawner, World, audit_in, format_of, match_in, plan_of, tournament_in}
+use Rattle.hive_cli.specs.Run.{LeavesAllElse, RunOf, PlaysMatch, PlaysTournament, StartsAudited, UsesSpawner, format_of, plan_of}
 use Rattle.command_words.specs.Audits.{AreAuditWords}
 use Rattle.command_words.specs.Cups.{AreCupWords, AskForEngines, engine_of, program_texts}
 use Rattle.command_words.specs.Matches.{AreMatchWords, AskForPrograms, IsLevelOf, between_spaces}
@@ -20,9 +21,9 @@ use Rattle.std.specs.Prelude.{Option, None, Ok}
 use Rattle.std.proofs.lemmas.Option.{same_Some}
 use Rattle.command_words.specs.Words.{Words}
 use Rattle.cup_command.proofs.Early.{early-none}
-use Rattle.cup_command.specs.Cup.{CupRun, scene as cup_scene}
-use Rattle.match_command.specs.Match.{MatchRun, MatchStarts, NoneIsOpen, Scene as MatchScene}
-use Rattle.match_command.specs.Reads.{ReadMatchRun, ReadScene, read_scene, typed}
+use Rattle.cup_command.specs.Cup.{CupRun}
+use Rattle.match_command.specs.Match.{MatchRun, MatchStarts, NoneIsOpen}
+use Rattle.match_command.specs.Reads.{ReadMatchRun, typed}
 use Rattle.match_core.specs.declared.setup.Setup.{Setup}
 use Rattle.match_core.specs.Setups.{FullSetup, setup_from, setup_plain}
 use Rattle.command_runs.specs.Answered.{TellsNone}
@@ -45,7 +46,7 @@ use Rattle.win_commands.specs.Runs.{SolveRun, VerifyRun}
 use Rattle.tournament_command.specs.declared.format.Format.{Format}
 use Rattle.tournament_command.specs.Formats.{terms_of}
 use Rattle.tournament_command.specs.Intakes.{intake, nothing_read, take_lines}
-use Rattle.tournament_command.specs.Reads.{ReadScene as TournamentScene, ReadTournamentRun}
+use Rattle.tournament_command.specs.Reads.{ReadTournamentRun}
 use Rattle.command_runs.proofs.ReadLemmas.{none_were_read}
 use Rattle.tournament_games.specs.Waves.{TournamentRun}
 use Rattle.book_command.proofs.StartLaws.{unread}
@@ -59,50 +60,50 @@ none_usage NoRead status w0 w (is, same) e = cc
 none_usage TooMuch status w0 w (is, same) e = cc
 none_usage NoMemory status w0 w (is, same) e = cc
 
-read_usage : (setup : Setup) (white black : List (List ℕ)) (status : Status) (before after : ReadScene) → ReadMatchRun setup white black status before after → status ≡ Usage → ⊥
+read_usage : (setup : Setup) (white black : List (List ℕ)) (status : Status) (before after : World) → ReadMatchRun setup white black status before after → status ≡ Usage → ⊥
 read_usage setup white black status before after (inl (game, begun)) e =
-    subst (λ s. MatchRun (setup_from (typed setup game.game_type) game.moves) s before.scene after.scene) e begun.played
-read_usage setup white black status before after (inr (none, read)) e = none_usage none status before.scene.written after.scene.written read.told e
+    subst (λ s. MatchRun (setup_from (typed setup game.game_type) game.moves) s (once_read after.sides.rest before) after) e begun.played
+read_usage setup white black status before after (inr (none, read)) e = none_usage none status before.sides.written after.sides.written read.told e
 
-tournament_usage : (engines : List Engine) (format : Format) (status : Status) (before after : TournamentScene) → ReadTournamentRun engines format status before after → status ≡ Usage → ⊥
-tournament_usage engines format status before after (inl (i, begun)) e = subst (λ s. TournamentRun (terms_of engines format i.openings) i.ends s before.scene after.scene) e begun.played
-tournament_usage engines format status before after (inr (none, read)) e = none_usage none status before.scene.written after.scene.written read.told e
+tournament_usage : (engines : List Engine) (format : Format) (status : Status) (before after : World) → ReadTournamentRun engines format status before after → status ≡ Usage → ⊥
+tournament_usage engines format status before after (inl (i, begun)) e = subst (λ s. TournamentRun (terms_of engines format i.openings) i.ends s (once_read after.sides.rest before) after) e begun.played
+tournament_usage engines format status before after (inr (none, read)) e = none_usage none status before.sides.written after.sides.written read.told e
 
 -- a run that is asked for is no faulty command line
 pub never_usage : (words : List (String Global)) (asked : Asked) (status : Status) (before after : World) → RunOf words asked status before after → status ≡ Usage → ⊥
-never_usage words Session status before after run e = subst (λ s. EndsAs session s before.scene after.scene) e run.ends
-never_usage words (Replay r) status before after (run, time) e = subst (λ s. EndsAs (replays r) s before.scene after.scene) e run.ends
-never_usage words (Count plies) status before after (run, time) e = subst (λ s. CountRun plies s before.scene.sides after.scene.sides) e run
-never_usage words (Grow seed plies) status before after (run, time) e = subst (λ s. GrowRun seed plies s before.scene.sides.written after.scene.sides.written) e run.made
-never_usage words (Certify depth) status before after (run, time) e = subst (λ s. CertifyRun depth s before.scene.sides after.scene.sides) e run
-never_usage words Check status before after (run, time) e = subst (λ s. CheckRun s before.scene.sides after.scene.sides) e run
-never_usage words (Solve plies) status before after (run, time) e = subst (λ s. SolveRun plies s before.scene.sides after.scene.sides) e run
-never_usage words Verify status before after (run, time) e = subst (λ s. VerifyRun s before.scene.sides after.scene.sides) e run
-never_usage words Book status before after (run, time) e = subst (λ s. BookRun s before.scene.sides after.scene.sides) e run
-never_usage words Migrate status before after (run, time) e = subst (λ s. MigrateRun s before.scene.sides after.scene.sides) e run
+never_usage words Session status before after (run, none) e = subst (λ s. EndsAs session s before after) e run.ends
+never_usage words (Replay r) status before after (run, others) e = subst (λ s. EndsAs (replays r) s before after) e run.ends
+never_usage words (Count plies) status before after (run, others) e = subst (λ s. CountRun plies s before.sides after.sides) e run
+never_usage words (Grow seed plies) status before after (run, others) e = subst (λ s. GrowRun seed plies s before.sides.written after.sides.written) e run.made
+never_usage words (Certify depth) status before after (run, others) e = subst (λ s. CertifyRun depth s before.sides after.sides) e run
+never_usage words Check status before after (run, others) e = subst (λ s. CheckRun s before.sides after.sides) e run
+never_usage words (Solve plies) status before after (run, others) e = subst (λ s. SolveRun plies s before.sides after.sides) e run
+never_usage words Verify status before after (run, others) e = subst (λ s. VerifyRun s before.sides after.sides) e run
+never_usage words Book status before after (run, others) e = subst (λ s. BookRun s before.sides after.sides) e run
+never_usage words Migrate status before after (run, others) e = subst (λ s. MigrateRun s before.sides after.sides) e run
 never_usage words (Match setup false) status before after run e =
-    subst (λ s. MatchRun (setup_plain setup) s (match_in before).scene (match_in after).scene) e run.played.played
+    subst (λ s. MatchRun (setup_plain setup) s before after) e run.played.played
 never_usage words (Match setup true) status before after run e = let (white, black, asked, read) = run.played in
-    read_usage setup white black status (match_in before) (match_in after) read e
+    read_usage setup white black status before after read e
 never_usage words (Cup setup) status before after run e = let (engines, asked, played) = run.played in
-    subst (λ s. CupRun engines setup s (cup_scene before.scene.sides.written before.engines) (cup_scene after.scene.sides.written after.engines)) e played
+    subst (λ s. CupRun engines setup s before after) e played
 never_usage words (Audit games seed plies game_type stop patient) status before after run e =
-    subst (λ s. AuditRun (plan_of games seed plies game_type stop patient) s (audit_in before) (audit_in after)) e run.audited
+    subst (λ s. AuditRun (plan_of games seed plies game_type stop patient) s before after) e run.audited
 never_usage words (Tournament setup rounds gauntlet at_once resume) status before after run e = let (engines, asked, played) = run.played in
-    tournament_usage engines (format_of setup rounds gauntlet at_once resume) status (tournament_in before) (tournament_in after) played e
+    tournament_usage engines (format_of setup rounds gauntlet at_once resume) status before after played e
 
 -- no run but a match, a cup, a tournament and an audit starts a program
 pub never_spawns : (words : List (String Global)) (asked : Asked) (status : Status) (before after : World) → ¬ UsesSpawner asked → RunOf words asked status before after → status ≡ SpawnFault → ⊥
-never_spawns words Session status before after alone run e = subst (λ s. EndsAs session s before.scene after.scene) e run.ends
-never_spawns words (Replay r) status before after alone (run, time) e = subst (λ s. EndsAs (replays r) s before.scene after.scene) e run.ends
-never_spawns words (Count plies) status before after alone (run, time) e = subst (λ s. CountRun plies s before.scene.sides after.scene.sides) e run
-never_spawns words (Grow seed plies) status before after alone (run, time) e = subst (λ s. GrowRun seed plies s before.scene.sides.written after.scene.sides.written) e run.made
-never_spawns words (Certify depth) status before after alone (run, time) e = subst (λ s. CertifyRun depth s before.scene.sides after.scene.sides) e run
-never_spawns words Check status before after alone (run, time) e = subst (λ s. CheckRun s before.scene.sides after.scene.sides) e run
-never_spawns words (Solve plies) status before after alone (run, time) e = subst (λ s. SolveRun plies s before.scene.sides after.scene.sides) e run
-never_spawns words Verify status before after alone (run, time) e = subst (λ s. VerifyRun s before.scene.sides after.scene.sides) e run
-never_spawns words Book status before after alone (run, time) e = subst (λ s. BookRun s before.scene.sides after.scene.sides) e run
-never_spawns words Migrate status before after alone (run, time) e = subst (λ s. MigrateRun s before.scene.sides after.scene.sides) e run
+never_spawns words Session status before after alone (run, none) e = subst (λ s. EndsAs session s before after) e run.ends
+never_spawns words (Replay r) status before after alone (run, others) e = subst (λ s. EndsAs (replays r) s before after) e run.ends
+never_spawns words (Count plies) status before after alone (run, others) e = subst (λ s. CountRun plies s before.sides after.sides) e run
+never_spawns words (Grow seed plies) status before after alone (run, others) e = subst (λ s. GrowRun seed plies s before.sides.written after.sides.written) e run.made
+never_spawns words (Certify depth) status before after alone (run, others) e = subst (λ s. CertifyRun depth s before.sides after.sides) e run
+never_spawns words Check status before after alone (run, others) e = subst (λ s. CheckRun s before.sides after.sides) e run
+never_spawns words (Solve plies) status before after alone (run, others) e = subst (λ s. SolveRun plies s before.sides after.sides) e run
+never_spawns words Verify status before after alone (run, others) e = subst (λ s. VerifyRun s before.sides after.sides) e run
+never_spawns words Book status before after alone (run, others) e = subst (λ s. BookRun s before.sides after.sides) e run
+never_spawns words Migrate status before after alone (run, others) e = subst (λ s. MigrateRun s before.sides after.sides) e run
 never_spawns words (Match setup from) status before after alone run e = absurd (alone tt)
 never_spawns words (Cup setup) status before after alone run e = absurd (alone tt)
 never_spawns words (Audit games seed plies game_type stop patient) status before after alone run e = absurd (alone tt)
@@ -110,6 +111,9 @@ never_spawns words (Tournament setup rounds gauntlet at_once resume) status befo
 
 no_time : (t : Times) → TakesNoTime t t
 no_time t = record { last = refl; readings = refl; timed = refl }
+
+no_more : (w : World) → LeavesAllElse w w
+no_more w = (no_time w.times, refl)
 
 same_told : {a b : List (List ℕ)} (t : ToldLists) → t ≡ Some a → t ≡ Some b → a ≡ b
 same_told t e f = same_Some _ _ (sym e ∙ f)
@@ -139,7 +143,7 @@ named : (words : List (String Global)) (white black ws bs : List (List ℕ)) →
 named words white black ws bs asks w b = subst (λ x. AskForPrograms words x black) (sym w) (subst (λ x. AskForPrograms words ws x) (sym b) asks)
 
 -- a match that wanted memory before the input was read and before a program was started
-pub starved_plays : (words : List (String Global)) (setup : Setup) (from : Bool) (w : ReadScene) → AreMatchWords words setup from → PlaysMatch words setup from Memory w w
+pub starved_plays : (words : List (String Global)) (setup : Setup) (from : Bool) (w : World) → AreMatchWords words setup from → PlaysMatch words setup from Memory w w
 starved_plays words setup false w h = let (white, black, asked) = asks_programs words setup false h in record {
   played = refl;
   programs = (white, black, asked, inr (inl refl));
@@ -149,11 +153,11 @@ starved_plays words setup true w h = let (white, black, asked) = asks_programs w
   white,
   black,
   asked,
-  inr (NoMemory, record { shown = λ input told. none_read input w.rest told; told = (refl, refl); still = refl }),
+  inr (NoMemory, record { shown = λ input told. none_read input w.sides.rest told; told = (refl, refl); untimed = no_time w.times; unstarted = refl }),
 )
 
 -- a match from the opening does not end by a read that has failed
-pub plain_reads : (setup : FullSetup) (status : Status) (before after : MatchScene) (n : ℕ) → MatchRun setup status before after → HasCause (status ≡ ReadFault) n n
+pub plain_reads : (setup : FullSetup) (status : Status) (before after : World) (n : ℕ) → MatchRun setup status before after → HasCause (status ≡ ReadFault) n n
 plain_reads setup status before after n run = record {
   later = omega arith;
   rose = λ e. absurd (subst (λ s. MatchRun setup s before after) e run);
@@ -161,16 +165,16 @@ plain_reads setup status before after n run = record {
 }
 
 -- the match that was played is the one that the words ask for
-pub plays_read : (words : List (String Global)) (setup : Setup) (from : Bool) (white black ws bs : List (List ℕ)) (status : Status) (before after : ReadScene) → from ≡ true → AskForPrograms words ws bs → white ≡ ws → black ≡ bs
+pub plays_read : (words : List (String Global)) (setup : Setup) (from : Bool) (white black ws bs : List (List ℕ)) (status : Status) (before after : World) → from ≡ true → AskForPrograms words ws bs → white ≡ ws → black ≡ bs
     → ReadMatchRun setup white black status before after → PlaysMatch words setup from status before after
 plays_read words setup from white black ws bs status before after is asks w b run = subst (λ f. PlaysMatch words setup f status before after) (sym is) (white, black, named words white black ws bs asks w b, run)
 
-pub plays_plain : (words : List (String Global)) (setup : Setup) (from : Bool) (white black ws bs : List (List ℕ)) (status : Status) (rest : Told) (before after : MatchScene) → from ≡ false → AskForPrograms words ws bs → white ≡ ws → black ≡ bs
-    → MatchRun (setup_plain setup) status before after → MatchStarts status white black before.means.engines after.means.engines → PlaysMatch words setup from status (read_scene rest before) (read_scene rest after)
-plays_plain words setup from white black ws bs status rest before after is asks w b run starts = subst (λ f. PlaysMatch words setup f status (read_scene rest before) (read_scene rest after)) (sym is) (record {
+pub plays_plain : (words : List (String Global)) (setup : Setup) (from : Bool) (white black ws bs : List (List ℕ)) (status : Status) (before after : World) → from ≡ false → AskForPrograms words ws bs → white ≡ ws → black ≡ bs
+    → MatchRun (setup_plain setup) status before after → MatchStarts status white black before.engines after.engines → LeavesInput before after → PlaysMatch words setup from status before after
+plays_plain words setup from white black ws bs status before after is asks w b run starts unread = subst (λ f. PlaysMatch words setup f status before after) (sym is) (record {
   played = run;
   programs = (white, black, named words white black ws bs asks w b, starts);
-  unread = refl;
+  unread = unread;
 })
 
 -- the words of a cup ask for the engines that its option gives
@@ -191,7 +195,7 @@ cup_depth words setup h = level_is_depth h.options.depth h.setup_is.margin setup
 -- a match that wanted memory before anything was done
 starved_match : (words : List (String Global)) (setup : Setup) (from : Bool) (w : World) → AreMatchWords words setup from → RunOf words (Match setup from) Memory w w
 starved_match words setup from w asked = record {
-  played = starved_plays words setup from (match_in w) asked;
+  played = starved_plays words setup from w asked;
   closed = none_open w.engines;
   timed = refl;
 }
@@ -202,7 +206,7 @@ starved_cup words setup w asked = let (engines, asks) = asks_engines words setup
   played = (engines, asks, record { written = refl; starts = early-none engines w.engines });
   closed = none_open w.engines;
   unread = refl;
-  untimed = no_time w.scene.times;
+  untimed = no_time w.times;
 }
 
 -- the words of a tournament ask for the engines that its option gives
@@ -217,21 +221,21 @@ unfolding take_lines
 nothing_tells engines f = refl
 
 -- a tournament that wanted memory before the input was read
-pub starved_tournament : (words : List (String Global)) (setup : Setup) (rounds : ℕ) (gauntlet : Bool) (at_once : ℕ) (resume : Bool) (w : TournamentScene) → AreTournamentWords words setup rounds gauntlet at_once resume
+pub starved_tournament : (words : List (String Global)) (setup : Setup) (rounds : ℕ) (gauntlet : Bool) (at_once : ℕ) (resume : Bool) (w : World) → AreTournamentWords words setup rounds gauntlet at_once resume
     → PlaysTournament words (format_of setup rounds gauntlet at_once resume) Memory w w
 starved_tournament words setup rounds gauntlet at_once resume w h = let (engines, asks) = asks_tournament_engines words setup rounds gauntlet at_once resume h in (
   engines,
   asks,
-  inr (NoMemory, record { shown = λ input told. ([], [], nothing_read, none_were_read input w.rest told, nothing_tells (length engines) (format_of setup rounds gauntlet at_once resume), omega arith); told = (refl, refl); still = refl }),
+  inr (NoMemory, record { shown = λ input told. ([], [], nothing_read, none_were_read input w.sides.rest told, nothing_tells (length engines) (format_of setup rounds gauntlet at_once resume), omega arith); told = (refl, refl); unstarted = refl }),
 )
 
 -- a tournament that wanted memory before anything was done
 starved_contest : (words : List (String Global)) (setup : Setup) (rounds : ℕ) (gauntlet : Bool) (at_once : ℕ) (resume : Bool) (w : World) → AreTournamentWords words setup rounds gauntlet at_once resume
     → RunOf words (Tournament setup rounds gauntlet at_once resume) Memory w w
 starved_contest words setup rounds gauntlet at_once resume w h = record {
-  played = starved_tournament words setup rounds gauntlet at_once resume (tournament_in w) h;
+  played = starved_tournament words setup rounds gauntlet at_once resume w h;
   closed = none_open w.engines;
-  untimed = no_time w.scene.times;
+  untimed = no_time w.times;
 }
 
 -- where memory was wanting before the program of an audit was started, it was not
@@ -245,29 +249,34 @@ starved_audit words g s n t r p w asked = record {
   program = starved_audited words g s n t r p w.engines asked;
   closed = none_taken w.engines w.engines refl refl;
   unread = refl;
-  untimed = no_time w.scene.times;
+  untimed = no_time w.times;
 }
 
 starved_here : (words : List (String Global)) (asked : Asked) (w : World) → Words words asked → RunOf words asked Memory w w
-starved_here words Session w h = no_memory session w.scene w.scene refl (no_time w.scene.times)
-starved_here words (Replay r) w h = (no_memory (replays r) w.scene w.scene refl (no_time w.scene.times), no_time w.scene.times)
-starved_here words (Count plies) w h = ((refl, λ input told. none_read input w.scene.sides.rest told), no_time w.scene.times)
-starved_here words (Grow seed plies) w h = (record { made = refl; unread = refl }, no_time w.scene.times)
-starved_here words (Certify depth) w h = ((refl, λ input told. none_read input w.scene.sides.rest told), no_time w.scene.times)
-starved_here words Check w h = (refl, no_time w.scene.times)
-starved_here words (Solve plies) w h = ((refl, λ input told. none_read input w.scene.sides.rest told), no_time w.scene.times)
-starved_here words Verify w h = (refl, no_time w.scene.times)
-starved_here words Book w h = ((refl, unread w.scene.sides.rest), no_time w.scene.times)
-starved_here words Migrate w h = (refl, no_time w.scene.times)
+starved_here words Session w h = (no_memory session w w refl (no_time w.times), refl)
+starved_here words (Replay r) w h = (no_memory (replays r) w w refl (no_time w.times), no_more w)
+starved_here words (Count plies) w h = ((refl, λ input told. none_read input w.sides.rest told), no_more w)
+starved_here words (Grow seed plies) w h = (record { made = refl; unread = refl }, no_more w)
+starved_here words (Certify depth) w h = ((refl, λ input told. none_read input w.sides.rest told), no_more w)
+starved_here words Check w h = (refl, no_more w)
+starved_here words (Solve plies) w h = ((refl, λ input told. none_read input w.sides.rest told), no_more w)
+starved_here words Verify w h = (refl, no_more w)
+starved_here words Book w h = ((refl, unread w.sides.rest), no_more w)
+starved_here words Migrate w h = (refl, no_more w)
 starved_here words (Match setup from) w h = starved_match words setup from w h
 starved_here words (Cup setup) w h = starved_cup words setup w h
 starved_here words (Audit g s n t r p) w h = starved_audit words g s n t r p w h
 starved_here words (Tournament setup rounds gauntlet at_once resume) w h = starved_contest words setup rounds gauntlet at_once resume w h
 
 -- memory was wanting before anything was done
-pub starved : (words : List (String Global)) (asked : Asked) (w : World) (timed : List Timed) → Words words asked → timed ≡ w.scene.times.timed
-    → RunOf words asked Memory w (record { scene = record { sides = w.scene.sides; times = record { last = w.scene.times.last; readings = w.scene.times.readings; timed = timed } }; engines = w.engines })
-starved words asked w timed h same = subst (λ (t : List Timed). RunOf words asked Memory w (record { scene = record { sides = w.scene.sides; times = record { last = w.scene.times.last; readings = w.scene.times.readings; timed = t } }; engines = w.engines })) (sym same) (starved_here words asked w h)
+pub starved : (words : List (String Global)) (asked : Asked) (w : World) (timed : List Timed) → Words words asked → timed ≡ w.times.timed
+    → RunOf words asked Memory w (world w.sides (times w.times.last w.times.readings timed) w.engines)
+starved words asked w timed h same = subst (λ (t : List Timed). RunOf words asked Memory w (world w.sides (times w.times.last w.times.readings t) w.engines)) (sym same) (starved_here words asked w h)
+
+-- no entry stood in the list when the run began
+pub with_none : (words : List (String Global)) (asked : Asked) (status : Status) (s : Sides) (last readings : ℕ) (timed : List Timed) (e : Engines) (after : World) → RunOf words asked status (world s (times last readings timed) e) after → timed ≡ []
+    → RunOf words asked status (world s (times last readings []) e) after
+with_none words asked status s last readings timed e after run none = subst (λ (t : List Timed). RunOf words asked status (world s (times last readings t) e) after) none run
 
 -- what was done is what the words ask for
 pub run_of : (words : List (String Global)) (did asked : Asked) (status : Status) (before after : World) → RunOf words did status before after → Some did ≡ Some asked → RunOf words asked status before after

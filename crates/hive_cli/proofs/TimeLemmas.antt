@@ -4,7 +4,8 @@ use Rattle.std.specs.declared.option.Option.{Option}
 use Rattle.std.proofs.lemmas.List.{append-nil, map-append}
 use Rattle.hive_model.specs.declared.best.Timed.{Timed}
 use Rattle.hive_model.specs.Minimax.{reads}
-use Rattle.uhp_session.specs.Searches.{IsAnswered, Search, Searched, TakesNoTime, Times}
+use Rattle.command_runs.specs.World.{TakesNoTime, Times}
+use Rattle.uhp_session.specs.Searches.{IsAnswered, Search, Searched}
 use Rattle.hive_cli.specs.Times.{AreTold, TellsOf, depths, reads_of}
 use Rattle.hive_cli.specs.Service.{depth_for, depths_after, with_search}
 

@@ -2,17 +2,17 @@
 use Rattle.std.specs.Prelude.{◌≡◌, ◌⊎◌, ℕ, Bool, false, List, []}
 use Rattle.hive_model.specs.Lines.{Line, lines}
 use Rattle.hive_cli.specs.Service.{HasExit, last_of, output, searches}
-use Rattle.hive_cli.specs.ServiceRun.{Scene}
 use Rattle.hive_cli.specs.Replay.{ReplayRun, answers, replays, some_refused}
 use Rattle.hive_cli.specs.Session.{SessionRun}
 use Rattle.command_runs.specs.Served.{Served}
+use Rattle.command_runs.specs.World.{World}
 use Rattle.command_runs.specs.declared.status.Status.{Status}
 use Rattle.command_runs.specs.declared.status.Status.TheVariants.{Done, Memory}
 
 -- where the streams served the run, a session is done, unless memory is wanting
 abbrev pub SessionsAreDone : Type 0
 SessionsAreDone =
-    (status : Status) → (before : Scene) → (after : Scene) → SessionRun status before after
+    (status : Status) → (before : World) → (after : World) → SessionRun status before after
     → (input : List ℕ) → Served status before.sides input
     → (status ≡ Done) ⊎ (status ≡ Memory)
 
@@ -20,7 +20,7 @@ SessionsAreDone =
 -- unless memory is wanting. The lines are games under the rule of the replay.
 abbrev pub ReplaysAreDone : Type 0
 ReplaysAreDone =
-    (r : Bool) → (status : Status) → (before : Scene) → (after : Scene)
+    (r : Bool) → (status : Status) → (before : World) → (after : World)
     → ReplayRun r status before after
     → (input : List ℕ) → Served status before.sides input → some_refused r (lines input) ≡ false
     → (status ≡ Done) ⊎ (status ≡ Memory)

@@ -8,8 +8,9 @@ use Rattle.game_text.specs.declared.faults.GameFault.{GameFault}
 use Rattle.game_text.specs.declared.parsed.Parsed.{Parsed}
 use Rattle.game_text.specs.Reading.{game_under}
 use Rattle.command_runs.specs.Reasons.{reason}
+use Rattle.command_runs.specs.World.{World}
 use Rattle.hive_cli.specs.Service.{Service, joined}
-use Rattle.hive_cli.specs.ServiceRun.{Scene, ServiceRun}
+use Rattle.hive_cli.specs.ServiceRun.{ServiceRun}
 use Rattle.command_runs.specs.declared.status.Status.{Status}
 
 -- The answer to a line
@@ -61,5 +62,5 @@ replays r = record {
 }
 
 -- what was written and read where a replay ends with this status
-abbrev pub ReplayRun : Bool → Status → Scene → Scene → Type 0
+abbrev pub ReplayRun : Bool → Status → World → World → Type 0
 ReplayRun r status before after = ServiceRun (replays r) status before after

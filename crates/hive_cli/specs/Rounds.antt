@@ -4,9 +4,10 @@ use Rattle.std.specs.declared.option.Option.{Option}
 use Rattle.io_edge.specs.Outside.{Told, behind}
 use Rattle.hive_model.specs.Lines.{Line}
 use Rattle.line_feed.specs.Feed.{Reading, Ends, Gives, Holds, HoldsLittle, Takes, input_limit}
-use Rattle.uhp_session.specs.Searches.{IsAnswered, TakesNoTime, Times}
+use Rattle.command_runs.specs.Input.{Sides}
+use Rattle.command_runs.specs.World.{TakesNoTime, Times}
+use Rattle.uhp_session.specs.Searches.{IsAnswered}
 use Rattle.hive_cli.specs.Service.{Service}
-use Rattle.hive_cli.specs.ServiceRun.{Scene}
 use Rattle.command_runs.specs.declared.status.Status.{Status}
 use Rattle.command_runs.specs.declared.status.Status.TheVariants.{Done, Refused, ReadFault, WriteFault, Memory, InputFull}
 use Rattle.hive_cli.specs.declared.service.Stop.{Stop}
@@ -24,10 +25,16 @@ status_of refused NoMemory = Memory
 pub record ServiceState (S : Type 0) : Type 0 where
   pub state : S
   pub reader : Reading
-  pub scene : Scene
+  pub sides : Sides
+  pub times : Times
 
-abbrev pub service_state : {S : Type 0} → S → Reading → Scene → ServiceState S
-service_state state reader scene = record { state = state; reader = reader; scene = scene }
+abbrev pub service_state : {S : Type 0} → S → Reading → Sides → Times → ServiceState S
+service_state state reader sides times = record {
+  state = state;
+  reader = reader;
+  sides = sides;
+  times = times;
+}
 
 -- so is the line answered by a service that stands so
 abbrev pub IsReply : {S : Type 0} → Service S → S → Line → Option (List ℕ) → Times → Times → Type 0
@@ -67,9 +74,9 @@ Answers v (Some Full) line old new before after from to = ⊥
 abbrev pub Serves : {S : Type 0} → Service S → Option Stop → List ℕ → ServiceState S → ServiceState S
     → Type 0
 Serves v stop bytes old new =
-    (line : Line) × Gives old.reader bytes line new.reader new.scene.sides.rest
-    × Answers v stop line old.state new.state old.scene.sides.written new.scene.sides.written
-    old.scene.times new.scene.times
+    (line : Line) × Gives old.reader bytes line new.reader new.sides.rest
+    × Answers v stop line old.state new.state old.sides.written new.sides.written old.times
+    new.times
 
 -- no line was given: the input has ended, a read has failed, or the limit is reached
 abbrev pub Stops : Option Stop → List ℕ → Reading → Reading → Told → Type 0
@@ -83,16 +90,15 @@ Stops (Some NoMemory) bytes old new rest = ⊥
 -- and nothing was answered
 pub record Rests {S : Type 0} (stop : Option Stop) (bytes : List ℕ)
     (old new : ServiceState S) : Type 0 where
-  pub stops : Stops stop bytes old.reader new.reader new.scene.sides.rest
-  pub same : new.scene.sides.written ≡ old.scene.sides.written
+  pub stops : Stops stop bytes old.reader new.reader new.sides.rest
+  pub same : new.sides.written ≡ old.sides.written
   pub stands : new.state ≡ old.state
-  pub time : TakesNoTime old.scene.times new.scene.times
+  pub time : TakesNoTime old.times new.times
 
 -- a round, in which these bytes were read
 pub record Round {S : Type 0} (v : Service S) (stop : Option Stop) (bytes : List ℕ)
     (old new : ServiceState S) : Type 0 where
-  pub takes :
-      Takes old.scene.sides.rest new.scene.sides.rest old.reader.taken new.reader.taken bytes
+  pub takes : Takes old.sides.rest new.sides.rest old.reader.taken new.reader.taken bytes
   pub within : new.reader.taken ≤ input_limit
   pub little : HoldsLittle new.reader
   pub does : Serves v stop bytes old new ⊎ Rests stop bytes old new

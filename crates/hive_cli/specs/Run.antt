@@ -5,12 +5,13 @@ use Rattle.std.specs.declared.string.String.{String}
 use Rattle.std.specs.declared.alloc.Global.{Global}
 use Rattle.hive_model.specs.declared.pieces.GameType.{GameType}
 use Rattle.audit_core.specs.declared.plan.Plan.{Plan}
-use Rattle.audit_command.specs.Audit.{AuditRun, AuditStarts, NoneIsOpen as NoProgramIsOpen, Scene as AuditScene, scene as audit_scene}
+use Rattle.audit_command.specs.Audit.{AuditRun, AuditStarts, NoneIsOpen as NoProgramIsOpen}
 use Rattle.book_command.specs.Runs.{BookRun}
 use Rattle.strategy_commands.specs.Certifying.{CertifyRun}
 use Rattle.strategy_commands.specs.Verdicts.{CheckRun}
 use Rattle.strategy_commands.specs.Migrating.{MigrateRun}
 use Rattle.command_runs.specs.Input.{Sides}
+use Rattle.command_runs.specs.World.{LeavesEngines, LeavesInput, LeavesTimes, World}
 use Rattle.command_runs.specs.declared.status.Status.{Status}
 use Rattle.command_words.specs.Words.{Words}
 use Rattle.command_words.specs.Audits.{AskForAudited}
@@ -19,44 +20,29 @@ use Rattle.command_words.specs.Matches.{AskForPrograms}
 use Rattle.command_words.specs.Tournaments.{AskForTournamentEngines}
 use Rattle.command_words.specs.declared.asked.Asked.{Asked}
 use Rattle.command_words.specs.declared.asked.Asked.TheVariants.{Session, Replay, Count, Grow, Certify, Check, Solve, Verify, Match, Cup, Book, Migrate, Audit, Tournament}
-use Rattle.cup_command.specs.Cup.{CupRun, Scene as CupScene, scene as cup_scene}
+use Rattle.cup_command.specs.Cup.{CupRun}
 use Rattle.cup.specs.Engines.{Engine}
 use Rattle.grow_command.specs.Runs.{GrowRun}
-use Rattle.uhp_session.specs.Searches.{TakesNoTime}
 use Rattle.win_commands.specs.Runs.{SolveRun, VerifyRun}
 use Rattle.io_edge.specs.Starts.{Engines}
-use Rattle.match_command.specs.Match.{MatchRun, MatchStarts, Means, NoneIsOpen, means, scene as match_scene}
-use Rattle.match_command.specs.Reads.{ReadMatchRun, ReadScene, read_scene}
+use Rattle.match_command.specs.Match.{MatchRun, MatchStarts, NoneIsOpen}
+use Rattle.match_command.specs.Reads.{ReadMatchRun}
 use Rattle.match_core.specs.declared.setup.Setup.{Setup}
 use Rattle.match_core.specs.Setups.{setup_plain}
 use Rattle.hive_cli.specs.Session.{SessionRun}
 use Rattle.hive_cli.specs.Replay.{ReplayRun}
 use Rattle.count_command.specs.Count.{CountRun}
 use Rattle.tournament_command.specs.declared.format.Format.{Format}
-use Rattle.tournament_command.specs.Reads.{ReadScene as TournamentScene, ReadTournamentRun, read_scene as tournament_scene}
-use Rattle.hive_cli.specs.ServiceRun.{Scene}
+use Rattle.tournament_command.specs.Reads.{ReadTournamentRun}
 
--- all that a run can change
-pub record World : Type 0 where
-  pub scene : Scene
-  pub engines : Engines
-
-abbrev pub world : Scene → Engines → World
-world scene engines = record { scene = scene; engines = engines }
-
--- what a run says of its scene, where these are the engines before it, and those after it
-abbrev pub WithEngines : (Status → World → World → Type 0) → Engines → Engines → Status → Scene
-    → Scene → Type 0
-WithEngines Run from to status before after = Run status (world before from) (world after to)
+-- nothing but the two sides was changed
+abbrev pub LeavesAllElse : World → World → Type 0
+LeavesAllElse before after = LeavesTimes before after × LeavesEngines before after
 
 -- a game was made, and the input left alone
 pub record MadeGame (seed plies : ℕ) (status : Status) (before after : Sides) : Type 0 where
   pub made : GrowRun seed plies status before.written after.written
   pub unread : after.rest ≡ before.rest
-
--- what a match is played with
-abbrev pub means_in : World → Means
-means_in w = means w.scene.times.last w.scene.times.readings w.engines
 
 -- the programs of the match that the words ask for were started, white's and then black's, each by
 -- its words
@@ -65,44 +51,34 @@ StartsPrograms words status before after =
     (white : List (List ℕ)) × (black : List (List ℕ)) × AskForPrograms words white black
     × MatchStarts status white black before after
 
--- what a match reads, writes and is played with
-abbrev pub match_in : World → ReadScene
-match_in w = read_scene w.scene.sides.rest (match_scene w.scene.sides.written (means_in w))
-
 -- A match was played from the opening, told and ended with this status. The input was left alone.
 pub record PlaysPlain (words : List (String Global)) (setup : Setup) (status : Status)
-    (before after : ReadScene) : Type 0 where
-  pub played : MatchRun (setup_plain setup) status before.scene after.scene
-  pub programs :
-      StartsPrograms words status before.scene.means.engines after.scene.means.engines
-  pub unread : after.rest ≡ before.rest
+    (before after : World) : Type 0 where
+  pub played : MatchRun (setup_plain setup) status before after
+  pub programs : StartsPrograms words status before.engines after.engines
+  pub unread : LeavesInput before after
 
 -- A match of the programs that the words ask for was played from the game of the input, or there
 -- was none, and it ended with this status.
-abbrev pub PlaysRead : List (String Global) → Setup → Status → ReadScene → ReadScene → Type 0
+abbrev pub PlaysRead : List (String Global) → Setup → Status → World → World → Type 0
 PlaysRead words setup status before after =
     (white : List (List ℕ)) × (black : List (List ℕ)) × AskForPrograms words white black
     × ReadMatchRun setup white black status before after
 
 -- the match that the words ask for, by whether it begins with a game that is given
-abbrev pub PlaysMatch : List (String Global) → Setup → Bool → Status → ReadScene → ReadScene
-    → Type 0
+abbrev pub PlaysMatch : List (String Global) → Setup → Bool → Status → World → World → Type 0
 PlaysMatch words setup false status before after = PlaysPlain words setup status before after
 PlaysMatch words setup true status before after = PlaysRead words setup status before after
 
 -- A match was played, told and ended with this status. No search was answered.
 pub record PlayedMatch (words : List (String Global)) (setup : Setup) (from : Bool)
     (status : Status) (before after : World) : Type 0 where
-  pub played : PlaysMatch words setup from status (match_in before) (match_in after)
+  pub played : PlaysMatch words setup from status before after
   pub closed : NoneIsOpen before.engines after.engines
-  pub timed : after.scene.times.timed ≡ before.scene.times.timed
-
--- no search for a time was answered, and the clock was left alone
-abbrev pub Untimed : World → World → Type 0
-Untimed before after = TakesNoTime before.scene.times after.scene.times
+  pub timed : after.times.timed ≡ before.times.timed
 
 -- a cup of the engines that the words ask for was played, told and ended with this status
-abbrev pub PlaysEngines : List (String Global) → Setup → Status → CupScene → CupScene → Type 0
+abbrev pub PlaysEngines : List (String Global) → Setup → Status → World → World → Type 0
 PlaysEngines words setup status before after =
     (engines : List Engine) × AskForEngines words engines
     × CupRun engines setup status before after
@@ -110,13 +86,10 @@ PlaysEngines words setup status before after =
 -- The cup that the words ask for was played. The input was left alone, and no search was answered.
 pub record PlayedCup (words : List (String Global)) (setup : Setup) (status : Status)
     (before after : World) : Type 0 where
-  pub played :
-      PlaysEngines words setup status
-      (cup_scene before.scene.sides.written before.engines)
-      (cup_scene after.scene.sides.written after.engines)
+  pub played : PlaysEngines words setup status before after
   pub closed : NoneIsOpen before.engines after.engines
-  pub unread : after.scene.sides.rest ≡ before.scene.sides.rest
-  pub untimed : Untimed before after
+  pub unread : LeavesInput before after
+  pub untimed : LeavesTimes before after
 
 -- how a tournament is asked for
 abbrev pub format_of : Setup → ℕ → Bool → ℕ → Bool → Format
@@ -128,15 +101,9 @@ format_of setup rounds gauntlet at_once resume = record {
   resume = resume;
 }
 
--- what a tournament reads, writes and starts programs by
-abbrev pub tournament_in : World → TournamentScene
-tournament_in w =
-    tournament_scene w.scene.sides.rest (cup_scene w.scene.sides.written w.engines)
-
 -- a tournament of the engines that the words ask for was read and played, or there was none, and it
 -- ended with this status
-abbrev pub PlaysTournament : List (String Global) → Format → Status → TournamentScene
-    → TournamentScene → Type 0
+abbrev pub PlaysTournament : List (String Global) → Format → Status → World → World → Type 0
 PlaysTournament words format status before after =
     (engines : List Engine) × AskForTournamentEngines words engines
     × ReadTournamentRun engines format status before after
@@ -145,9 +112,9 @@ PlaysTournament words format status before after =
 -- run was left alone: each game has one of its own.
 pub record PlayedTournament (words : List (String Global)) (format : Format) (status : Status)
     (before after : World) : Type 0 where
-  pub played : PlaysTournament words format status (tournament_in before) (tournament_in after)
+  pub played : PlaysTournament words format status before after
   pub closed : NoneIsOpen before.engines after.engines
-  pub untimed : Untimed before after
+  pub untimed : LeavesTimes before after
 
 -- what an audit is made by
 abbrev pub plan_of : ℕ → ℕ → ℕ → Option GameType → Bool → Bool → Plan
@@ -166,44 +133,41 @@ StartsAudited words status before after =
     (program : List (List ℕ)) × AskForAudited words program
     × AuditStarts status program before after
 
--- what an audit writes to, and the program that it starts
-abbrev pub audit_in : World → AuditScene
-audit_in w = audit_scene w.scene.sides.written w.engines
-
 -- The program that the words name was audited, and the audit was told and ended with this status.
 -- The input was left alone, and no search was answered.
 pub record MadeAudit (words : List (String Global)) (plan : Plan) (status : Status)
     (before after : World) : Type 0 where
-  pub audited : AuditRun plan status (audit_in before) (audit_in after)
+  pub audited : AuditRun plan status before after
   pub program : StartsAudited words status before.engines after.engines
   pub closed : NoProgramIsOpen before.engines after.engines
-  pub unread : after.scene.sides.rest ≡ before.scene.sides.rest
-  pub untimed : Untimed before after
+  pub unread : LeavesInput before after
+  pub untimed : LeavesTimes before after
 
 -- what a run whose words ask for this does where it ends with this status
 abbrev pub RunOf : List (String Global) → Asked → Status → World → World → Type 0
-RunOf words Session status before after = SessionRun status before.scene after.scene
+RunOf words Session status before after =
+    SessionRun status before after × LeavesEngines before after
 RunOf words (Replay repetition) status before after =
-    ReplayRun repetition status before.scene after.scene × Untimed before after
+    ReplayRun repetition status before after × LeavesAllElse before after
 RunOf words (Count plies) status before after =
-    CountRun plies status before.scene.sides after.scene.sides × Untimed before after
+    CountRun plies status before.sides after.sides × LeavesAllElse before after
 RunOf words (Grow seed plies) status before after =
-    MadeGame seed plies status before.scene.sides after.scene.sides × Untimed before after
+    MadeGame seed plies status before.sides after.sides × LeavesAllElse before after
 RunOf words (Certify depth) status before after =
-    CertifyRun depth status before.scene.sides after.scene.sides × Untimed before after
+    CertifyRun depth status before.sides after.sides × LeavesAllElse before after
 RunOf words Check status before after =
-    CheckRun status before.scene.sides after.scene.sides × Untimed before after
+    CheckRun status before.sides after.sides × LeavesAllElse before after
 RunOf words (Solve plies) status before after =
-    SolveRun plies status before.scene.sides after.scene.sides × Untimed before after
+    SolveRun plies status before.sides after.sides × LeavesAllElse before after
 RunOf words Verify status before after =
-    VerifyRun status before.scene.sides after.scene.sides × Untimed before after
+    VerifyRun status before.sides after.sides × LeavesAllElse before after
 RunOf words (Match setup from) status before after =
     PlayedMatch words setup from status before after
 RunOf words (Cup setup) status before after = PlayedCup words setup status before after
 RunOf words Book status before after =
-    BookRun status before.scene.sides after.scene.sides × Untimed before after
+    BookRun status before.sides after.sides × LeavesAllElse before after
 RunOf words Migrate status before after =
-    MigrateRun status before.scene.sides after.scene.sides × Untimed before after
+    MigrateRun status before.sides after.sides × LeavesAllElse before after
 RunOf words (Audit games seed plies game_type stop patient) status before after =
     MadeAudit words (plan_of games seed plies game_type stop patient) status before after
 RunOf words (Tournament setup rounds gauntlet at_once resume) status before after =

@@ -6,32 +6,15 @@ use Rattle.hive_model.specs.declared.best.Timed.{Timed}
 use Rattle.hive_model.specs.Lines.{Line, lines, whole_lines}
 use Rattle.line_feed.specs.Feed.{input_limit}
 use Rattle.line_feed.specs.SoFar.{WasRead}
-use Rattle.command_runs.specs.Input.{IsAllRead, Sides, WereRead, WhereTold}
+use Rattle.command_runs.specs.Input.{IsAllRead, WereRead, WhereTold}
+use Rattle.command_runs.specs.World.{World}
 use Rattle.hive_cli.specs.Service.{HasExit, Service, joined, last_of, output, searches, texts}
-use Rattle.uhp_session.specs.Searches.{Times, times}
 use Rattle.hive_cli.specs.Times.{AreTold, TellsOf, depths}
 use Rattle.command_runs.specs.declared.status.Status.{Status}
 use Rattle.command_runs.specs.declared.status.Status.TheVariants.{Done, Refused, Usage, ReadFault, WriteFault, SpawnFault, BadInput, Memory, InputFull}
 
--- all that a run can change: what is told of both sides, and its times
-pub record Scene : Type 0 where
-  pub sides : Sides
-  pub times : Times
-
-abbrev pub scene : Told → Told → ℕ → ℕ → List Timed → Scene
-scene rest written last readings timed = record {
-  sides = record { rest = rest; written = written };
-  times = times last readings timed;
-}
-
--- what a run says of both sides, where its times are these before it, and those after it
-abbrev pub OverTime : (Status → Scene → Scene → Type 0) → Times → Times → Status → Sides → Sides
-    → Type 0
-OverTime Run from to status before after =
-    Run status (record { sides = before; times = from }) (record { sides = after; times = to })
-
 -- The searches that these lines ask for were answered, and these entries tell of them.
-abbrev pub TellsOfLines : {S : Type 0} → Service S → List Line → List Timed → Scene → Scene → Type 0
+abbrev pub TellsOfLines : {S : Type 0} → Service S → List Line → List Timed → World → World → Type 0
 TellsOfLines v ls entries before after =
     TellsOf (searches v v.begins (depths entries) ls) entries before.times after.times
 
@@ -44,7 +27,7 @@ ExitWasRead v left input rest =
 -- tell of the searches of these lines. The input was read to its end, or to the line that ends the
 -- run. The service stands so then.
 pub record WroteAll {S : Type 0} (v : Service S) (input : List ℕ) (entries : List Timed)
-    (before after : Scene) (last : S) : Type 0 where
+    (before after : World) (last : S) : Type 0 where
   pub wrote : after.sides.written ≡ behind before.sides.written
       (output v (depths entries) (lines input))
   pub tells : TellsOfLines v (lines input) entries before after
@@ -55,7 +38,7 @@ pub record WroteAll {S : Type 0} (v : Service S) (input : List ℕ) (entries : L
 -- The bytes that have left the source are these. None of their lines that end in LF ends the run,
 -- the output for these lines was written, and the entries tell of their searches.
 pub record WroteWhole {S : Type 0} (v : Service S) (input : List ℕ) (entries : List Timed)
-    (before after : Scene) (bytes left : List ℕ) : Type 0 where
+    (before after : World) (bytes left : List ℕ) : Type 0 where
   pub was_read : WasRead input after.sides.rest bytes left
   pub goes_on : ¬ HasExit v v.begins (depths entries) (whole_lines bytes)
   pub wrote :
@@ -68,7 +51,7 @@ pub record WroteWhole {S : Type 0} (v : Service S) (input : List ℕ) (entries :
 -- its first n bytes, and not all. All these lines were answered, and the entries tell of their
 -- searches.
 pub record WroteFront {S : Type 0} (v : Service S) (input : List ℕ) (entries : List Timed)
-    (before after : Scene) (read : List Line) (whole : List (List ℕ)) (last : List ℕ)
+    (before after : World) (read : List Line) (whole : List (List ℕ)) (last : List ℕ)
     (n : ℕ) : Type 0 where
   pub were_read : WereRead input after.sides.rest read
   pub goes_on : ¬ HasExit v v.begins (depths entries) read
@@ -81,7 +64,7 @@ pub record WroteFront {S : Type 0} (v : Service S) (input : List ℕ) (entries :
 -- those for these lines, and the entries tell of their searches. The clock may have been read for a
 -- search that has no entry.
 pub record WroteTexts {S : Type 0} (v : Service S) (input : List ℕ) (entries : List Timed)
-    (before after : Scene) (answered others : List Line) (n : ℕ) : Type 0 where
+    (before after : World) (answered others : List Line) (n : ℕ) : Type 0 where
   pub were_read : WereRead input after.sides.rest (answered ++ others)
   pub wrote :
       after.sides.written
@@ -94,21 +77,21 @@ pub record WroteTexts {S : Type 0} (v : Service S) (input : List ℕ) (entries :
 -- The ends of a run
 
 -- the run came to its end, where the service has refused a line, or none
-abbrev pub RunsToEnd : {S : Type 0} → Service S → Bool → Scene → Scene → Type 0
+abbrev pub RunsToEnd : {S : Type 0} → Service S → Bool → World → World → Type 0
 RunsToEnd {S} v refused before after =
     (last : S) × (v.has_refused last ≡ refused)
     × WhereTold before.sides.rest
     (λ input. (entries : List Timed) × WroteAll v input entries before after last)
 
 -- a read has failed, or the limit was reached: the bytes that were read are so many
-abbrev pub RunsWhile : {S : Type 0} → Service S → (ℕ → Type 0) → Scene → Scene → Type 0
+abbrev pub RunsWhile : {S : Type 0} → Service S → (ℕ → Type 0) → World → World → Type 0
 RunsWhile v many before after =
     WhereTold before.sides.rest (λ input.
     (entries : List Timed) × (bytes : List ℕ) × (left : List ℕ) × many (length bytes)
     × WroteWhole v input entries before after bytes left)
 
 -- a write has failed
-abbrev pub RunsToCut : {S : Type 0} → Service S → Scene → Scene → Type 0
+abbrev pub RunsToCut : {S : Type 0} → Service S → World → World → Type 0
 RunsToCut v before after =
     WhereTold before.sides.rest (λ input.
     (entries : List Timed) × (read : List Line) × (whole : List (List ℕ)) × (last : List ℕ)
@@ -116,7 +99,7 @@ RunsToCut v before after =
     × WroteFront v input entries before after read whole last n)
 
 -- memory was wanting
-abbrev pub RunsToWant : {S : Type 0} → Service S → Scene → Scene → Type 0
+abbrev pub RunsToWant : {S : Type 0} → Service S → World → World → Type 0
 RunsToWant v before after =
     WhereTold before.sides.rest (λ input.
     (entries : List Timed) × (answered : List Line) × (others : List Line) × (n : ℕ)
@@ -124,7 +107,7 @@ RunsToWant v before after =
 
 -- What was written and read, and which searches were answered, where the run of a service ends with
 -- this status. Three statuses are not a service's.
-abbrev pub EndsAs : {S : Type 0} → Service S → Status → Scene → Scene → Type 0
+abbrev pub EndsAs : {S : Type 0} → Service S → Status → World → World → Type 0
 EndsAs v Done before after = RunsToEnd v false before after
 EndsAs v Refused before after = RunsToEnd v true before after
 EndsAs v ReadFault before after = RunsWhile v (λ many. many < input_limit) before after
@@ -137,6 +120,6 @@ EndsAs v BadInput before after = ⊥
 
 -- The run of a service that ends with this status. The clock's last reading never falls.
 pub record ServiceRun {S : Type 0} (v : Service S) (status : Status)
-    (before after : Scene) : Type 0 where
+    (before after : World) : Type 0 where
   pub ends : EndsAs v status before after
   pub later : before.times.last ≤ after.times.last

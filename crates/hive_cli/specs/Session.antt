@@ -1,9 +1,10 @@
 -- A session as a service, and its run.
 use Rattle.std.specs.Prelude.{ℕ, false, List, codes}
+use Rattle.command_runs.specs.World.{World}
 use Rattle.uhp_session.specs.Answers.{SessionState, fresh, next, reply}
 use Rattle.uhp_session.specs.Searches.{asks}
 use Rattle.hive_cli.specs.Service.{Service}
-use Rattle.hive_cli.specs.ServiceRun.{Scene, ServiceRun}
+use Rattle.hive_cli.specs.ServiceRun.{ServiceRun}
 use Rattle.command_runs.specs.declared.status.Status.{Status}
 
 -- what is written before the first line is read
@@ -24,5 +25,5 @@ session = record {
 
 -- what was written and read, and which searches were answered, where the run of a session ends with
 -- this status
-abbrev pub SessionRun : Status → Scene → Scene → Type 0
+abbrev pub SessionRun : Status → World → World → Type 0
 SessionRun status before after = ServiceRun session status before after

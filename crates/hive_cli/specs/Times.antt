@@ -2,7 +2,8 @@
 use Rattle.std.specs.Prelude.{◌≡◌, ℕ, ◌+◌, ◌≤◌, List, [], ◌∷◌, ◌++◌, map}
 use Rattle.hive_model.specs.declared.best.Timed.{Timed}
 use Rattle.hive_model.specs.Minimax.{reads}
-use Rattle.uhp_session.specs.Searches.{IsToldOf, Search, Times}
+use Rattle.command_runs.specs.World.{Times}
+use Rattle.uhp_session.specs.Searches.{IsToldOf, Search}
 
 -- the depths that the searches of these entries completed
 abbrev pub depths : List Timed → List ℕ

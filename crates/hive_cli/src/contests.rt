@@ -1,19 +1,18 @@
 //! What starts programs: a match, a cup, a tournament and an audit.
-ghost use Rattle.std.specs.Prelude.{◌≡◌};
-ghost use Rattle.io_edge.specs.Outside.{HasCause};
+ghost use Rattle.std.specs.Prelude.{◌≡◌, List};
+ghost use Rattle.io_edge.specs.Outside.{HasCause, Told};
+ghost use Rattle.hive_model.specs.declared.best.Timed.{Timed};
+ghost use Rattle.command_runs.specs.World.{Times, sides, times, world};
 ghost use Rattle.command_words.specs.Audits.{AreAuditWords};
 ghost use Rattle.command_words.specs.Cups.{AreCupWords};
 ghost use Rattle.command_words.specs.Matches.{AreMatchWords};
 ghost use Rattle.command_words.specs.Tournaments.{AreTournamentWords};
 ghost use Rattle.audit_core.specs.Keeps.{IsPlan};
-ghost use Rattle.audit_command.specs.Audit.{AuditRun, EndsAudit, scene as audit_scene};
-ghost use Rattle.cup_command.specs.Cup.{scene as cup_scene};
+ghost use Rattle.audit_command.specs.Audit.{AuditRun, EndsAudit};
 ghost use Rattle.match_command.specs.Ends.{EndsRun};
-ghost use Rattle.match_command.specs.Match.{NoneIsOpen, means, scene as match_scene};
-ghost use Rattle.match_command.specs.Reads.{read_scene};
+ghost use Rattle.match_command.specs.Match.{NoneIsOpen};
 ghost use Rattle.match_core.specs.Keeps.{IsSetup};
 ghost use Rattle.tournament_command.specs.Formats.{IsFormat};
-ghost use Rattle.tournament_command.specs.Reads.{read_scene as tournament_scene};
 ghost use Rattle.hive_cli.specs.Run.{PlaysEngines, PlaysMatch, PlaysTournament, StartsAudited};
 
 use audit_command::audit_engine;
@@ -45,11 +44,11 @@ pub(crate) fn matched<S: Source, K: Sink, C: Clock, P: Spawner, G: Game + Drop>(
 ) -> Status
     requires words { AreMatchWords words.now setup from }
     requires setup { IsSetup setup }
-    ensures run { PlaysMatch words.now setup from result
-        (read_scene (S.rest input.old) (match_scene (K.written output.old)
-        (means (C.last clock.old) (C.readings clock.old) (P.engines spawner.old))))
-        (read_scene (S.rest input.new) (match_scene (K.written output.new)
-        (means (C.last clock.new) (C.readings clock.new) (P.engines spawner.new)))) }
+    ensures run { (timed : List Timed) → PlaysMatch words.now setup from result
+        (world (sides (S.rest input.old) (K.written output.old))
+        (times (C.last clock.old) (C.readings clock.old) timed) (P.engines spawner.old))
+        (world (sides (S.rest input.new) (K.written output.new))
+        (times (C.last clock.new) (C.readings clock.new) timed) (P.engines spawner.new)) }
     ensures ends { EndsRun result (K.write_faults output.old) (K.write_faults output.new)
         (P.engines spawner.old) (P.engines spawner.new) }
     ensures reads { HasCause (result ≡ Status.ReadFault) (S.read_faults input.old)
@@ -78,9 +77,9 @@ pub(crate) fn cupped<R: Threads + Sync, K: Sink, P: Spawner, G: Game + Send + Dr
 ) -> Status
     requires words { AreCupWords words.now setup }
     requires setup { IsSetup setup }
-    ensures run { PlaysEngines words.now setup result
-        (cup_scene (K.written output.old) (P.engines spawner.old))
-        (cup_scene (K.written output.new) (P.engines spawner.new)) }
+    ensures run { (rest : Told) (times : Times) → PlaysEngines words.now setup result
+        (world (sides rest (K.written output.old)) times (P.engines spawner.old))
+        (world (sides rest (K.written output.new)) times (P.engines spawner.new)) }
     ensures ends { EndsRun result (K.write_faults output.old) (K.write_faults output.new)
         (P.engines spawner.old) (P.engines spawner.new) }
 {
@@ -119,11 +118,9 @@ pub(crate) fn contested<
     requires words { AreTournamentWords words.now format.setup format.rounds format.gauntlet
         format.at_once format.resume }
     requires format { IsFormat format }
-    ensures run { PlaysTournament words.now format result
-        (tournament_scene (S.rest input.old)
-        (cup_scene (K.written output.old) (P.engines spawner.old)))
-        (tournament_scene (S.rest input.new)
-        (cup_scene (K.written output.new) (P.engines spawner.new))) }
+    ensures run { (times : Times) → PlaysTournament words.now format result
+        (world (sides (S.rest input.old) (K.written output.old)) times (P.engines spawner.old))
+        (world (sides (S.rest input.new) (K.written output.new)) times (P.engines spawner.new)) }
     ensures closed { NoneIsOpen (P.engines spawner.old) (P.engines spawner.new) }
     ensures writes { HasCause (result ≡ Status.WriteFault) (K.write_faults output.old)
         (K.write_faults output.new) }
@@ -149,9 +146,9 @@ pub(crate) fn audited<K: Sink, P: Spawner, G: Game + Drop>(
     requires words { AreAuditWords words.now plan.games plan.seed plan.plies plan.game_type
         plan.stop plan.patient }
     requires plan { IsPlan plan }
-    ensures run { AuditRun plan result
-        (audit_scene (K.written output.old) (P.engines spawner.old))
-        (audit_scene (K.written output.new) (P.engines spawner.new)) }
+    ensures run { (rest : Told) (times : Times) → AuditRun plan result
+        (world (sides rest (K.written output.old)) times (P.engines spawner.old))
+        (world (sides rest (K.written output.new)) times (P.engines spawner.new)) }
     ensures program { StartsAudited words.now result (P.engines spawner.old)
         (P.engines spawner.new) }
     ensures ends { EndsAudit result (K.write_faults output.old) (K.write_faults output.new)

@@ -1,9 +1,9 @@
 //! A replay as a service: each line is answered by the written form of its game, or refused.
 ghost use Rattle.std.specs.Prelude.{◌≡◌, Bool, true, false};
-ghost use Rattle.command_runs.specs.Runs.{RunsAs, side_of};
-ghost use Rattle.uhp_session.specs.Searches.{times};
+ghost use Rattle.io_edge.specs.Outside.{HasCause};
+ghost use Rattle.io_edge.specs.Starts.{Engines};
+ghost use Rattle.command_runs.specs.World.{sides, times, world};
 ghost use Rattle.hive_cli.specs.Replay.{ReplayRun, replays};
-ghost use Rattle.hive_cli.specs.ServiceRun.{OverTime};
 
 use crate::replay_lines::answer_line;
 use crate::service::{LineService, serve};
@@ -116,11 +116,15 @@ pub(crate) fn serve_replay<R: Threads + Sync, S: Source, K: Sink, C: Clock, G: G
     clock: &mut C,
     timed: &mut TimedList,
 ) -> Status
-    ensures run { RunsAs (OverTime (ReplayRun repetition)
-        (times (C.last clock.old) (C.readings clock.old) timed.old)
-        (times (C.last clock.new) (C.readings clock.new) timed.new)) result
-        (side_of S.rest S.read_faults input.old) (side_of K.written K.write_faults output.old)
-        (side_of S.rest S.read_faults input.new) (side_of K.written K.write_faults output.new) }
+    ensures run { (engines : Engines) → ReplayRun repetition result
+        (world (sides (S.rest input.old) (K.written output.old))
+        (times (C.last clock.old) (C.readings clock.old) timed.old) engines)
+        (world (sides (S.rest input.new) (K.written output.new))
+        (times (C.last clock.new) (C.readings clock.new) timed.new) engines) }
+    ensures reads { HasCause (result ≡ Status.ReadFault) (S.read_faults input.old)
+        (S.read_faults input.new) }
+    ensures writes { HasCause (result ≡ Status.WriteFault) (K.write_faults output.old)
+        (K.write_faults output.new) }
     ensures clock { clock.new ≡ clock.old }
     ensures timed { timed.new ≡ timed.old }
 {

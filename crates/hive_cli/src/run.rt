@@ -3,18 +3,8 @@ ghost use Rattle.std.specs.Prelude.{◌≡◌, ◌⊎◌, [], map, string_bytes}
 ghost use Rattle.io_edge.specs.Outside.{HasCause};
 ghost use Rattle.io_edge.specs.Starts.{Engines};
 ghost use Rattle.command_words.specs.Words.{AreOfNoCommand, IsInRange, TakeOption, Words};
-ghost use Rattle.command_runs.specs.Runs.{RunsAs, side_of};
-ghost use Rattle.uhp_session.specs.Searches.{times};
-ghost use Rattle.hive_cli.specs.Run.{
-  GoesOnUnstarted,
-  Never,
-  RunOf,
-  UsesClock,
-  UsesSpawner,
-  WithEngines,
-  world,
-};
-ghost use Rattle.hive_cli.specs.ServiceRun.{OverTime, scene};
+ghost use Rattle.command_runs.specs.World.{sides, times, world};
+ghost use Rattle.hive_cli.specs.Run.{GoesOnUnstarted, Never, RunOf, UsesClock, UsesSpawner};
 ghost use Rattle.command_words.specs.declared.asked.Asked.{Asked};
 
 use crate::contests::{audited, contested, cupped, matched};
@@ -110,10 +100,10 @@ pub fn run<
     ensures unwritten { AreOfNoCommand words.now → output.new ≡ output.old }
     ensures untimed { AreOfNoCommand words.now → result.timed ≡ [] }
     ensures does { (asked : Asked) → Words words.now asked → RunOf words.now asked result.status
-        (world (scene (S.rest input.old) (K.written output.old)
-        (C.last clock.old) (C.readings clock.old) []) (P.engines spawner.old))
-        (world (scene (S.rest input.new) (K.written output.new)
-        (C.last clock.new) (C.readings clock.new) result.timed) (P.engines spawner.new)) }
+        (world (sides (S.rest input.old) (K.written output.old))
+        (times (C.last clock.old) (C.readings clock.old) []) (P.engines spawner.old))
+        (world (sides (S.rest input.new) (K.written output.new))
+        (times (C.last clock.new) (C.readings clock.new) result.timed) (P.engines spawner.new)) }
     ensures reads { HasCause (result.status ≡ Status.ReadFault) (S.read_faults input.old)
         (S.read_faults input.new) }
     ensures writes { HasCause (result.status ≡ Status.WriteFault) (K.write_faults output.old)
@@ -163,13 +153,15 @@ fn perform<
 ) -> Outcome
     requires asked { Words words.now asked }
     requires range { IsInRange asked }
-    requires none { timed ≡ [] }
-    ensures does { RunsAs (OverTime
-        (WithEngines (RunOf words.now asked) (P.engines spawner.old) (P.engines spawner.new))
-        (times (C.last clock.old) (C.readings clock.old) [])
-        (times (C.last clock.new) (C.readings clock.new) result.timed)) result.status
-        (side_of S.rest S.read_faults input.old) (side_of K.written K.write_faults output.old)
-        (side_of S.rest S.read_faults input.new) (side_of K.written K.write_faults output.new) }
+    ensures does { RunOf words.now asked result.status
+        (world (sides (S.rest input.old) (K.written output.old))
+        (times (C.last clock.old) (C.readings clock.old) timed) (P.engines spawner.old))
+        (world (sides (S.rest input.new) (K.written output.new))
+        (times (C.last clock.new) (C.readings clock.new) result.timed) (P.engines spawner.new)) }
+    ensures reads { HasCause (result.status ≡ Status.ReadFault) (S.read_faults input.old)
+        (S.read_faults input.new) }
+    ensures writes { HasCause (result.status ≡ Status.WriteFault) (K.write_faults output.old)
+        (K.write_faults output.new) }
     ensures starts { ¬ GoesOnUnstarted asked → HasCause (result.status ≡ Status.SpawnFault)
         (P.engines spawner.old).start_faults (P.engines spawner.new).start_faults }
     ensures clock { ¬ UsesClock asked → clock.new ≡ clock.old }
@@ -247,13 +239,15 @@ fn perform_alone<R: Threads + Sync, S: Source, K: Sink, C: Clock, G: Game + Send
 ) -> Outcome
     requires alone { ¬ UsesSpawner asked }
     requires range { IsInRange asked }
-    requires none { timed ≡ [] }
-    ensures does { (engines : Engines) → RunsAs (OverTime
-        (WithEngines (RunOf words.now asked) engines engines)
-        (times (C.last clock.old) (C.readings clock.old) [])
-        (times (C.last clock.new) (C.readings clock.new) result.timed)) result.status
-        (side_of S.rest S.read_faults input.old) (side_of K.written K.write_faults output.old)
-        (side_of S.rest S.read_faults input.new) (side_of K.written K.write_faults output.new) }
+    ensures does { (engines : Engines) → RunOf words.now asked result.status
+        (world (sides (S.rest input.old) (K.written output.old))
+        (times (C.last clock.old) (C.readings clock.old) timed) engines)
+        (world (sides (S.rest input.new) (K.written output.new))
+        (times (C.last clock.new) (C.readings clock.new) result.timed) engines) }
+    ensures reads { HasCause (result.status ≡ Status.ReadFault) (S.read_faults input.old)
+        (S.read_faults input.new) }
+    ensures writes { HasCause (result.status ≡ Status.WriteFault) (K.write_faults output.old)
+        (K.write_faults output.new) }
     ensures clock { ¬ UsesClock asked → clock.new ≡ clock.old }
 {
     let status = match asked {

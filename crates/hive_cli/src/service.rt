@@ -3,12 +3,13 @@
 ghost use Rattle.std.specs.Prelude.{◌≡◌, Bool, false, Some};
 ghost use Rattle.std.specs.Thread.{IsSync};
 ghost use Rattle.io_edge.specs.Outside.{HasCause};
-ghost use Rattle.command_runs.specs.Runs.{RunsAs, side_of};
+ghost use Rattle.io_edge.specs.Starts.{Engines};
+ghost use Rattle.command_runs.specs.World.{sides, times, world};
 ghost use Rattle.uhp_session.specs.Answers.{line_in, IsShort};
-ghost use Rattle.uhp_session.specs.Searches.{Answered, times};
+ghost use Rattle.uhp_session.specs.Searches.{Answered};
 ghost use Rattle.hive_cli.specs.Rounds.{Answers, Rounds, service_state, status_of};
 ghost use Rattle.hive_cli.specs.Service.{Service};
-ghost use Rattle.hive_cli.specs.ServiceRun.{OverTime, ServiceRun, scene};
+ghost use Rattle.hive_cli.specs.ServiceRun.{ServiceRun};
 ghost use Rattle.hive_cli.specs.Times.{IsStill};
 
 use command_runs::Status;
@@ -138,10 +139,10 @@ fn serve_line<R: Threads + Sync, S: Source, K: Sink, C: Clock, V: LineService>(
     timed: &mut TimedList,
 ) -> Option<Stop>
     ensures round { Rounds V.service result
-        (service_state service.old reader.old (scene (S.rest input.old) (K.written output.old)
-        (C.last clock.old) (C.readings clock.old) timed.old))
-        (service_state service.new reader.new (scene (S.rest input.new) (K.written output.new)
-        (C.last clock.new) (C.readings clock.new) timed.new)) }
+        (service_state service.old reader.old (sides (S.rest input.old) (K.written output.old))
+        (times (C.last clock.old) (C.readings clock.old) timed.old))
+        (service_state service.new reader.new (sides (S.rest input.new) (K.written output.new))
+        (times (C.last clock.new) (C.readings clock.new) timed.new)) }
     ensures reads { HasCause (result ≡ Some Stop.ReadFailed) (S.read_faults input.old)
         (S.read_faults input.new) }
     ensures writes { HasCause (result ≡ Some Stop.WriteFailed) (K.write_faults output.old)
@@ -170,11 +171,15 @@ pub(crate) fn serve<R: Threads + Sync, S: Source, K: Sink, C: Clock, V: LineServ
     timed: &mut TimedList,
 ) -> Status
     requires { service.old ≡ V.service.begins }
-    ensures run { RunsAs (OverTime (ServiceRun V.service)
-        (times (C.last clock.old) (C.readings clock.old) timed.old)
-        (times (C.last clock.new) (C.readings clock.new) timed.new)) result
-        (side_of S.rest S.read_faults input.old) (side_of K.written K.write_faults output.old)
-        (side_of S.rest S.read_faults input.new) (side_of K.written K.write_faults output.new) }
+    ensures run { (engines : Engines) → ServiceRun V.service result
+        (world (sides (S.rest input.old) (K.written output.old))
+        (times (C.last clock.old) (C.readings clock.old) timed.old) engines)
+        (world (sides (S.rest input.new) (K.written output.new))
+        (times (C.last clock.new) (C.readings clock.new) timed.new) engines) }
+    ensures reads { HasCause (result ≡ Status.ReadFault) (S.read_faults input.old)
+        (S.read_faults input.new) }
+    ensures writes { HasCause (result ≡ Status.WriteFault) (K.write_faults output.old)
+        (K.write_faults output.new) }
     ensures still { IsStill (V.takes_time ≡ false) clock.old clock.new timed.old timed.new }
 {
     let Ok(mut reader) = LineReader::new(alloc) else {

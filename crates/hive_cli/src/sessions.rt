@@ -1,8 +1,8 @@
 //! A session as a service: the greeting, and then the reply to each line.
-ghost use Rattle.std.specs.Prelude.{true};
-ghost use Rattle.command_runs.specs.Runs.{RunsAs, side_of};
-ghost use Rattle.uhp_session.specs.Searches.{times};
-ghost use Rattle.hive_cli.specs.ServiceRun.{OverTime};
+ghost use Rattle.std.specs.Prelude.{◌≡◌, true};
+ghost use Rattle.io_edge.specs.Outside.{HasCause};
+ghost use Rattle.io_edge.specs.Starts.{Engines};
+ghost use Rattle.command_runs.specs.World.{sides, times, world};
 ghost use Rattle.hive_cli.specs.Session.{SessionRun, session};
 
 use crate::service::{LineService, serve};
@@ -52,11 +52,15 @@ pub(crate) fn serve_session<R: Threads + Sync, S: Source, K: Sink, C: Clock>(
     clock: &mut C,
     timed: &mut TimedList,
 ) -> Status
-    ensures { RunsAs (OverTime SessionRun
-        (times (C.last clock.old) (C.readings clock.old) timed.old)
-        (times (C.last clock.new) (C.readings clock.new) timed.new)) result
-        (side_of S.rest S.read_faults input.old) (side_of K.written K.write_faults output.old)
-        (side_of S.rest S.read_faults input.new) (side_of K.written K.write_faults output.new) }
+    ensures run { (engines : Engines) → SessionRun result
+        (world (sides (S.rest input.old) (K.written output.old))
+        (times (C.last clock.old) (C.readings clock.old) timed.old) engines)
+        (world (sides (S.rest input.new) (K.written output.new))
+        (times (C.last clock.new) (C.readings clock.new) timed.new) engines) }
+    ensures reads { HasCause (result ≡ Status.ReadFault) (S.read_faults input.old)
+        (S.read_faults input.new) }
+    ensures writes { HasCause (result ≡ Status.WriteFault) (K.write_faults output.old)
+        (K.write_faults output.new) }
 {
     let mut session: Session<FastGame> = Session::new();
     serve(rt, alloc, &mut session, input, output, clock, timed)

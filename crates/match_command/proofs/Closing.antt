@@ -7,6 +7,8 @@ use Rattle.std.proofs.lemmas.Option.{same_Some}
 use Rattle.io_edge.specs.Outside.{Told, ToldLists, Rose, behind}
 use Rattle.io_edge.specs.Starts.{Engines}
 use Rattle.hive_model.specs.declared.pieces.Colour.TheVariants.{White, Black}
+use Rattle.hive_model.specs.declared.best.Timed.{Timed}
+use Rattle.command_runs.specs.World.{Times, times}
 use Rattle.match_core.specs.Setups.{FullSetup, setup_of}
 use Rattle.match_core.specs.declared.verdict.Verdict.{Verdict}
 use Rattle.hive_model.specs.Lines.{lines}
@@ -15,7 +17,7 @@ use Rattle.match_core.specs.Fairness.{sent}
 use Rattle.match_core.specs.Plays.{joined}
 use Rattle.match_runner.specs.Wires.{HasFailed, IsFresh, Watch, Wire}
 use Rattle.match_runner.specs.Runs.{BrokeOnly, IsFrontSent, IsUpToReply as IsUpToReplyBy, IsVerdict as IsVerdictBy, RanLinks, RanOver}
-use Rattle.match_command.specs.Match.{AreFronts, AreSent, AreSentBy, Gains, IsBroke, IsPlayedBy, IsUpToReply, IsVerdict, Means, means, sent_in}
+use Rattle.match_command.specs.Match.{AreFronts, AreSent, AreSentBy, Gains, IsBroke, IsPlayedBy, IsUpToReply, IsVerdict, sent_in}
 use Rattle.match_command.specs.Texts.{match_text}
 use Rattle.match_command.specs.Wires.{ClosesTwo, CountsEither, PlayedOver}
 
@@ -71,19 +73,19 @@ some_gained setup hs before after w0 w b0 b closes e f x y =
     let to_black = joined (sent (start setup) hs Black) in
     gains_of before after w b to_white to_black (AreSentBy setup hs) closes (from_none w0 w to_white e x) (from_none b0 b to_black f y) (record { white_got = refl; black_got = refl })
 
-up_to : (setup : FullSetup) (t : MatchState) (white black : List ℕ) (w0 w b0 b : Told) (before after : Means) → ClosesTwo before.engines.sent after.engines.sent w b → w0 ≡ Some [] → b0 ≡ Some []
+up_to : (setup : FullSetup) (t : MatchState) (white black : List ℕ) (w0 w b0 b : Told) (before after : Engines) → ClosesTwo before.sent after.sent w b → w0 ≡ Some [] → b0 ≡ Some []
     → IsUpToReplyBy setup (lines white) (lines black) t w0 w b0 b → IsUpToReply setup white black t before after
 up_to setup t white black w0 w b0 b before after closes e f m = record {
   hs = m.hs;
   front = m.front;
   replied = m.replied;
   moves = m.moves;
-  gains = some_gained setup m.hs before.engines.sent after.engines.sent w0 w b0 b closes e f m.to_white m.to_black;
+  gains = some_gained setup m.hs before.sent after.sent w0 w b0 b closes e f m.to_white m.to_black;
 }
 
 -- The verdict
 
-verdict_part : (full v : Option Verdict) (w0 w b0 b : Wire) (before after : Means) → (HasFailed w0 w → Rose before.engines.engine_faults after.engines.engine_faults) → (HasFailed b0 b → Rose before.engines.engine_faults after.engines.engine_faults)
+verdict_part : (full v : Option Verdict) (w0 w b0 b : Wire) (before after : Engines) → (HasFailed w0 w → Rose before.engine_faults after.engine_faults) → (HasFailed b0 b → Rose before.engine_faults after.engine_faults)
     → IsVerdictBy full v w0 w b0 b → IsVerdict full v before after
 verdict_part full v w0 w b0 b before after white black (inl x) = inl x
 verdict_part full v w0 w b0 b before after white black (inr (inl x)) = inr (inl x)
@@ -93,15 +95,15 @@ verdict_part full v w0 w b0 b before after white black (inr (inr (inr x))) = inr
 -- The match
 
 -- by the links' bytes
-played_by_links : (setup : FullSetup) (t : MatchState) (w0 w b0 b : Wire) (r0 r : Watch) (before after : Engines) → RanLinks setup t w0 w b0 b
+played_by_links : (setup : FullSetup) (t : MatchState) (w0 w b0 b : Wire) (before after : Engines) → RanLinks setup t w0 w b0 b
     → (HasFailed w0 w → Rose before.engine_faults after.engine_faults) → (HasFailed b0 b → Rose before.engine_faults after.engine_faults) → ClosesTwo before.sent after.sent w.written b.written
     → (white black : List ℕ) → w0.rest ≡ Some white → b0.rest ≡ Some black → w0.written ≡ Some [] → b0.written ≡ Some []
-    → IsPlayedBy setup white black t (means r0.last r0.readings before) (means r.last r.readings after)
-played_by_links setup t w0 w b0 b r0 r before after ran white_counted black_counted closes white black wr br ww bw = record {
+    → IsPlayedBy setup white black t before after
+played_by_links setup t w0 w b0 b before after ran white_counted black_counted closes white black wr br ww bw = record {
   part =
       let f = ran.front white black wr br in record {
         moves = f.moves;
-        verdict = verdict_part _ t.verdict w0 w b0 b (means r0.last r0.readings before) (means r.last r.readings after) white_counted black_counted (ran.verdict white black wr br);
+        verdict = verdict_part _ t.verdict w0 w b0 b before after white_counted black_counted (ran.verdict white black wr br);
         gains = parts_gained setup white black before.sent after.sent w0.written w.written b0.written b.written closes ww bw f.to_white f.to_black;
       };
   whole = λ calm in_time.
@@ -111,15 +113,15 @@ played_by_links setup t w0 w b0 b r0 r before after ran white_counted black_coun
         gains = all_gained setup white black before.sent after.sent w0.written w.written b0.written b.written closes ww bw m.to_white m.to_black;
       };
   late = λ calm is.
-      up_to setup t white black w0.written w.written b0.written b.written (means r0.last r0.readings before) (means r.last r.readings after) closes ww bw
+      up_to setup t white black w0.written w.written b0.written b.written before after closes ww bw
       (ran.late white black wr br (λ x. calm (white_counted x)) (λ x. calm (black_counted x)) is);
 }
 
 -- the match that was run, once both links are closed
-pub played_over : (setup : FullSetup) (t : MatchState) (w0 w b0 b : Wire) (r0 r : Watch) (before after : Engines) → IsFresh w0.reads w0.writes → IsFresh b0.reads b0.writes → RanOver setup t w0 w b0 b r0 r
+pub played_over : (setup : FullSetup) (t : MatchState) (w0 w b0 b : Wire) (r0 r : Watch) (timed : List Timed) (before after : Engines) → IsFresh w0.reads w0.writes → IsFresh b0.reads b0.writes → RanOver setup t w0 w b0 b r0 r
     → CountsEither (w.reads + w.writes) (b.reads + b.writes) before.engine_faults after.engine_faults → ClosesTwo before.sent after.sent w.written b.written
-    → PlayedOver setup t w0 b0 (means r0.last r0.readings before) (means r.last r.readings after)
-played_over setup t w0 w b0 b r0 r before after wf bf ran counts closes =
+    → PlayedOver setup t w0 b0 (times r0.last r0.readings timed) (times r.last r.readings timed) before after
+played_over setup t w0 w b0 b r0 r timed before after wf bf ran counts closes =
     let white : HasFailed w0 w → Rose before.engine_faults after.engine_faults = λ x. counts.white (failed w0 w wf x) in
     let black : HasFailed b0 b → Rose before.engine_faults after.engine_faults = λ x. counts.black (failed b0 b bf x) in
     record {
@@ -132,11 +134,11 @@ played_over setup t w0 w b0 b r0 r before after wf bf ran counts closes =
         course = ran.course;
         broke = broke_counted t w0 w b0 b ran.links.broke white black;
       };
-      by_links = played_by_links setup t w0 w b0 b r0 r before after ran.links white black closes;
+      by_links = played_by_links setup t w0 w b0 b before after ran.links white black closes;
     }
 
 -- the text tells the match that was played
-pub told_match : {X : Type 0} (o : Result (List ℕ) X) (setup : FullSetup) (t : MatchState) (w b : Wire) (before after : Means) → IfOk o (λ text. text ≡ match_text (setup_of setup) t) → PlayedOver setup t w b before after
-    → IfOk o (λ text. (t : MatchState) × (text ≡ match_text (setup_of setup) t) × PlayedOver setup t w b before after)
-told_match (Ok text) setup t w b before after e p = (t, e, p)
-told_match (Err x) setup t w b before after e p = tt
+pub told_match : {X : Type 0} (o : Result (List ℕ) X) (setup : FullSetup) (t : MatchState) (w b : Wire) (from to : Times) (before after : Engines) → IfOk o (λ text. text ≡ match_text (setup_of setup) t) → PlayedOver setup t w b from to before after
+    → IfOk o (λ text. (t : MatchState) × (text ≡ match_text (setup_of setup) t) × PlayedOver setup t w b from to before after)
+told_match (Ok text) setup t w b from to before after e p = (t, e, p)
+told_match (Err x) setup t w b from to before after e p = tt

@@ -10,6 +10,7 @@ use Rattle.command_runs.specs.Answered.{TellsNone}
 use Rattle.command_runs.specs.Asking.{IsReplayOf}
 use Rattle.command_runs.specs.Input.{WhereTold}
 use Rattle.command_runs.specs.OneGame.{IsAsked}
+use Rattle.command_runs.specs.World.{World, once_read}
 use Rattle.command_runs.specs.declared.no_game.NoGame.{NoGame}
 use Rattle.command_runs.specs.declared.no_game.NoGame.TheVariants.{Bad, ReadFault as NoRead, InputFull as TooMuch, Memory as NoMemory}
 use Rattle.command_runs.specs.declared.status.Status.{Status}
@@ -17,8 +18,8 @@ use Rattle.command_runs.specs.declared.status.Status.TheVariants.{ReadFault, Spa
 use Rattle.command_runs.proofs.WrittenLemmas.{ends_so}
 use Rattle.match_core.specs.Setups.{FullSetup, setup_from}
 use Rattle.match_core.specs.declared.setup.Setup.{Setup}
-use Rattle.match_command.specs.Match.{MatchRun, MatchStarts, NoneIsOpen, Scene}
-use Rattle.match_command.specs.Reads.{ReadMatchRun, ReadScene, typed}
+use Rattle.match_command.specs.Match.{MatchRun, MatchStarts, NoneIsOpen}
+use Rattle.match_command.specs.Reads.{ReadMatchRun, typed}
 
 -- A game was read
 
@@ -27,24 +28,24 @@ same_game : (c : Course) (game : Parsed) → IsReplayOf c game → game ≡ reco
 same_game c game end = λ j. record { game_type = sym end.kind j; moves = sym end.made j }
 
 -- the match was played from the game under way
-pub begun_from : (setup used : Setup) (white black : List (List ℕ)) (status : Status) (c : Course) (before after : ReadScene) → used ≡ typed setup c.game_type
-    → WhereTold before.rest (λ input. (game : Parsed) × IsAsked input after.rest game × IsReplayOf c game) → MatchRun (setup_from used c.made) status before.scene after.scene
-    → MatchStarts status white black before.scene.means.engines after.scene.means.engines → ReadMatchRun setup white black status before after
+pub begun_from : (setup used : Setup) (white black : List (List ℕ)) (status : Status) (c : Course) (before after : World) → used ≡ typed setup c.game_type
+    → WhereTold before.sides.rest (λ input. (game : Parsed) × IsAsked input after.sides.rest game × IsReplayOf c game) → MatchRun (setup_from used c.made) status (once_read after.sides.rest before) after
+    → MatchStarts status white black before.engines after.engines → ReadMatchRun setup white black status before after
 begun_from setup used white black status c before after same given played started = inl (
   record { game_type = c.game_type; moves = c.made },
   record {
-    asked = λ input told. let (game, is, end) = given input told in subst (λ g. IsAsked input after.rest g) (same_game c game end) is;
-    played = subst (λ s. MatchRun (setup_from s c.made) status before.scene after.scene) same played;
+    asked = λ input told. let (game, is, end) = given input told in subst (λ g. IsAsked input after.sides.rest g) (same_game c game end) is;
+    played = subst (λ s. MatchRun (setup_from s c.made) status (once_read after.sides.rest before) after) same played;
     started = started;
   },
 )
 
 -- a match does not end by a read that has failed
-no_read : (setup : FullSetup) (status : Status) (before after : Scene) → MatchRun setup status before after → status ≡ ReadFault → ⊥
+no_read : (setup : FullSetup) (status : Status) (before after : World) → MatchRun setup status before after → status ≡ ReadFault → ⊥
 no_read setup status before after run e = subst (λ s. MatchRun setup s before after) e run
 
 -- where no read has failed before it, the count stands
-pub read_well : {X : Type 0} (setup : FullSetup) (status : Status) (before after : Scene) (a b : ℕ) → MatchRun setup status before after → HasCause X a b → ¬ X → HasCause (status ≡ ReadFault) a b
+pub read_well : {X : Type 0} (setup : FullSetup) (status : Status) (before after : World) (a b : ℕ) → MatchRun setup status before after → HasCause X a b → ¬ X → HasCause (status ≡ ReadFault) a b
 read_well setup status before after a b run cause well = record {
   later = cause.later;
   rose = λ e. absurd (no_read setup status before after run e);

@@ -4,6 +4,7 @@ use Rattle.std.proofs.lemmas.Option.{same_Some}
 use Rattle.io_edge.specs.Outside.{HasCause, Rose, Told, ToldLists, behind}
 use Rattle.io_edge.specs.Starts.{Engines}
 use Rattle.command_runs.specs.Answered.{WritesAs}
+use Rattle.command_runs.specs.World.{Times, World}
 use Rattle.command_runs.specs.declared.status.Status.{Status}
 use Rattle.command_runs.specs.declared.status.Status.TheVariants.{Done, SpawnFault}
 use Rattle.command_runs.proofs.WrittenLemmas.{ends_so}
@@ -11,7 +12,7 @@ use Rattle.match_core.specs.Setups.{FullSetup, setup_of}
 use Rattle.match_core.specs.MatchState.{MatchState}
 use Rattle.match_runner.specs.Wires.{Wire}
 use Rattle.match_runner.specs.Runs.{IsLate}
-use Rattle.match_command.specs.Match.{AreFronts, AreSent, AreSentBy, BothStarted, Gains, IsBroke, IsPlayedBy, MatchRun, MatchStarts, Means, NoneIsOpen, PlayedByPrograms, Scene, end_of, means}
+use Rattle.match_command.specs.Match.{AreFronts, AreSent, AreSentBy, BothStarted, Gains, IsBroke, IsPlayedBy, MatchRun, MatchStarts, NoneIsOpen, PlayedByPrograms, end_of}
 use Rattle.match_command.specs.Texts.{match_text}
 use Rattle.match_command.specs.Wires.{ClosesTwo, PlayedOver, StartsTwo}
 
@@ -44,35 +45,35 @@ two_started (Some xs) (Some zs) w b all (Some ys, (white, xe, wr, ww), (black, y
 }
 
 -- what was played, from before the starts
-played_before : (setup : FullSetup) (white black : List ℕ) (t : MatchState) (last readings : ℕ) (before between : Engines) (after : Means) → between.sent ≡ before.sent → between.engine_faults ≡ before.engine_faults
-    → IsPlayedBy setup white black t (means last readings between) after → IsPlayedBy setup white black t (means last readings before) after
-played_before setup white black t last readings before between after sent faults by = record {
+played_before : (setup : FullSetup) (white black : List ℕ) (t : MatchState) (before between after : Engines) → between.sent ≡ before.sent → between.engine_faults ≡ before.engine_faults
+    → IsPlayedBy setup white black t between after → IsPlayedBy setup white black t before after
+played_before setup white black t before between after sent faults by = record {
   part = record {
     moves = by.part.moves;
-    verdict = subst (λ n. (t.verdict ≡ (end_of setup white black).verdict) ⊎ (IsLate t.verdict ⊎ (IsBroke t.verdict × Rose n after.engines.engine_faults))) faults by.part.verdict;
-    gains = subst (λ s. Gains s after.engines.sent (AreFronts setup white black)) sent by.part.gains;
+    verdict = subst (λ n. (t.verdict ≡ (end_of setup white black).verdict) ⊎ (IsLate t.verdict ⊎ (IsBroke t.verdict × Rose n after.engine_faults))) faults by.part.verdict;
+    gains = subst (λ s. Gains s after.sent (AreFronts setup white black)) sent by.part.gains;
   };
   whole = λ calm in_time.
-      let m = by.whole (λ rose. calm (subst (λ n. Rose n after.engines.engine_faults) faults rose)) in_time in record {
+      let m = by.whole (λ rose. calm (subst (λ n. Rose n after.engine_faults) faults rose)) in_time in record {
         moves = m.moves;
         verdict = m.verdict;
-        gains = subst (λ s. Gains s after.engines.sent (AreSent setup white black)) sent m.gains;
+        gains = subst (λ s. Gains s after.sent (AreSent setup white black)) sent m.gains;
       };
   late = λ calm is.
-      let m = by.late (λ rose. calm (subst (λ n. Rose n after.engines.engine_faults) faults rose)) is in record {
+      let m = by.late (λ rose. calm (subst (λ n. Rose n after.engine_faults) faults rose)) is in record {
         hs = m.hs;
         front = m.front;
         replied = m.replied;
         moves = m.moves;
-        gains = subst (λ s. Gains s after.engines.sent (AreSentBy setup m.hs)) sent m.gains;
+        gains = subst (λ s. Gains s after.sent (AreSentBy setup m.hs)) sent m.gains;
       };
 }
 
 -- the match of two programs, from before they were started
-played_from : (setup : FullSetup) (t : MatchState) (w b : Wire) (last readings : ℕ) (before between : Engines) (after : Means) → StartsTwo before.to_come between.to_come w.rest w.written b.rest b.written → after.engines.to_come ≡ between.to_come
-    → between.sent ≡ before.sent → between.engine_faults ≡ before.engine_faults → PlayedOver setup t w b (means last readings between) after → PlayedByPrograms setup t (means last readings before) after
-played_from setup t w b last readings before between after starts_two stays sent faults p =
-    let counted : Rose between.engine_faults after.engines.engine_faults → Rose before.engine_faults after.engines.engine_faults = λ rose. subst (λ n. Rose n after.engines.engine_faults) faults rose in
+played_from : (setup : FullSetup) (t : MatchState) (w b : Wire) (from to : Times) (before between after : Engines) → StartsTwo before.to_come between.to_come w.rest w.written b.rest b.written → after.to_come ≡ between.to_come
+    → between.sent ≡ before.sent → between.engine_faults ≡ before.engine_faults → PlayedOver setup t w b from to between after → PlayedByPrograms setup t from to before after
+played_from setup t w b from to before between after starts_two stays sent faults p =
+    let counted : Rose between.engine_faults after.engine_faults → Rose before.engine_faults after.engine_faults = λ rose. subst (λ n. Rose n after.engine_faults) faults rose in
     record {
       out = record {
         judged = p.out.judged;
@@ -91,27 +92,27 @@ played_from setup t w b last readings before between after starts_two stays sent
             others = two.others;
             first_two = two.first_two;
             left = stays ∙ two.left;
-            played = played_before setup two.white two.black t last readings before between after sent faults by;
+            played = played_before setup two.white two.black t before between after sent faults by;
           };
     }
 
 -- What was written of it
 
 -- what is told of a match that was played
-abbrev pub IsTold : FullSetup → List ℕ → Means → Means → Type 0
-IsTold setup text before after = (t : MatchState) × (text ≡ match_text (setup_of setup) t) × PlayedByPrograms setup t before after
+abbrev pub IsTold : FullSetup → List ℕ → Times → Times → Engines → Engines → Type 0
+IsTold setup text from to before after = (t : MatchState) × (text ≡ match_text (setup_of setup) t) × PlayedByPrograms setup t from to before after
 
 -- the same from before the two programs were started
-pub told_from : (setup : FullSetup) (text : List ℕ) (w b : Wire) (last readings : ℕ) (before between : Engines) (after : Means) → ((t : MatchState) × (text ≡ match_text (setup_of setup) t) × PlayedOver setup t w b (means last readings between) after) → StartsTwo before.to_come between.to_come w.rest w.written b.rest b.written → after.engines.to_come ≡ between.to_come
-    → between.sent ≡ before.sent → between.engine_faults ≡ before.engine_faults → IsTold setup text (means last readings before) after
-told_from setup text w b last readings before between after (t, told, played) starts_two stays sent faults = (t, told, played_from setup t w b last readings before between after starts_two stays sent faults played)
+pub told_from : (setup : FullSetup) (text : List ℕ) (w b : Wire) (from to : Times) (before between after : Engines) → ((t : MatchState) × (text ≡ match_text (setup_of setup) t) × PlayedOver setup t w b from to between after) → StartsTwo before.to_come between.to_come w.rest w.written b.rest b.written → after.to_come ≡ between.to_come
+    → between.sent ≡ before.sent → between.engine_faults ≡ before.engine_faults → IsTold setup text from to before after
+told_from setup text w b from to before between after (t, told, played) starts_two stays sent faults = (t, told, played_from setup t w b from to before between after starts_two stays sent faults played)
 
 -- all of it was written, or a front of it and not all
-pub told_as : (setup : FullSetup) (text : List ℕ) (status : Status) (before after : Scene) → IsTold setup text before.means after.means → WritesAs text Done status before.written after.written → MatchRun setup status before after
+pub told_as : (setup : FullSetup) (text : List ℕ) (status : Status) (before after : World) → IsTold setup text before.times after.times before.engines after.engines → WritesAs text Done status before.sides.written after.sides.written → MatchRun setup status before after
 told_as setup text status before after (t, told, played) (inl (e, wrote)) =
-    subst (λ s. MatchRun setup s before after) (sym e) (t, record { played = played; wrote = wrote ∙ ap (λ x. behind before.written x) told })
+    subst (λ s. MatchRun setup s before after) (sym e) (t, record { played = played; wrote = wrote ∙ ap (λ x. behind before.sides.written x) told })
 told_as setup text status before after (t, told, played) (inr (e, (n, low, wrote))) =
-    subst (λ s. MatchRun setup s before after) (sym e) (t, n, record { played = played; cut = subst (λ x. n < length x) told low; wrote = wrote ∙ ap (λ x. behind before.written (take n x)) told })
+    subst (λ s. MatchRun setup s before after) (sym e) (t, n, record { played = played; cut = subst (λ x. n < length x) told low; wrote = wrote ∙ ap (λ x. behind before.sides.written (take n x)) told })
 
 -- both programs were started
 pub both_as : (text : List ℕ) (status : Status) (w0 w : Told) (white black : List (List ℕ)) (before after : Engines) → WritesAs text Done status w0 w → BothStarted white black before after → MatchStarts status white black before after

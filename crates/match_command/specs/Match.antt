@@ -1,10 +1,11 @@
 -- What a match of two programs writes, plays, sends and counts, by the status with which it ends.
 use Rattle.std.specs.Prelude.{◌≡◌, ◌⊎◌, ℕ, ◌+◌, ◌-◌, ◌*◌, ◌<◌, ◌≤◌, List, [], ◌∷◌, ◌++◌, length, take, Option, Some, None}
-use Rattle.io_edge.specs.Outside.{Told, ToldLists, Collects, Rose, behind, with_last}
+use Rattle.io_edge.specs.Outside.{ToldLists, Collects, Rose, behind, with_last}
 use Rattle.io_edge.specs.Starts.{Engines}
 use Rattle.hive_model.specs.declared.pieces.Colour.{Colour}
 use Rattle.hive_model.specs.declared.pieces.Colour.TheVariants.{White, Black}
 use Rattle.hive_model.specs.Lines.{lines}
+use Rattle.command_runs.specs.World.{LeavesTimes, Times, World}
 use Rattle.command_runs.specs.declared.status.Status.{Status}
 use Rattle.command_runs.specs.declared.status.Status.TheVariants.{Done, Refused, Usage, ReadFault, WriteFault, SpawnFault, BadInput, Memory, InputFull}
 use Rattle.match_core.specs.Setups.{FullSetup, setup_of}
@@ -19,26 +20,6 @@ use Rattle.match_core.specs.Feeds.{IsFront}
 use Rattle.match_core.specs.Lates.{LatesAreLate}
 use Rattle.match_runner.specs.Runs.{HasTimedCourse, IsJudged, IsLate, LateIn}
 use Rattle.match_command.specs.Texts.{match_text}
-
--- What a run can change
-
--- what a match is played with: the clock's last reading and how often it was read, and what is told
--- of the programs that are started
-pub record Means : Type 0 where
-  pub last : ℕ
-  pub readings : ℕ
-  pub engines : Engines
-
-abbrev pub means : ℕ → ℕ → Engines → Means
-means last readings engines = record { last = last; readings = readings; engines = engines }
-
--- all that a run can change: what was written, and what the match is played with
-pub record Scene : Type 0 where
-  pub written : Told
-  pub means : Means
-
-abbrev pub scene : Told → Means → Scene
-scene written means = record { written = written; means = means }
 
 -- The match of two programs
 
@@ -87,96 +68,104 @@ pub record AreSentBy (setup : FullSetup) (hs : List Happening) (to_white to_blac
 -- moves and bytes sent are those of the match of these programs up to a reply: its last line was
 -- read, and next the clock is read
 pub record IsUpToReply
-    (setup : FullSetup) (white black : List ℕ) (t : MatchState) (before after : Means) : Type 0 where
+    (setup : FullSetup) (white black : List ℕ) (t : MatchState) (before after : Engines)
+    : Type 0 where
   pub hs : List Happening
   pub front : IsFront hs (match_of setup (lines white) (lines black))
   pub replied : (match_after setup hs).stage ≡ After
   pub moves : t.moves ≡ (match_after setup hs).moves
-  pub gains : Gains before.engines.sent after.engines.sent (AreSentBy setup hs)
+  pub gains : Gains before.sent after.sent (AreSentBy setup hs)
 
 -- moves, verdict and bytes sent are those of the match of these programs
 pub record IsWhole
-    (setup : FullSetup) (white black : List ℕ) (t : MatchState) (before after : Means) : Type 0 where
+    (setup : FullSetup) (white black : List ℕ) (t : MatchState) (before after : Engines)
+    : Type 0 where
   pub moves : t.moves ≡ (end_of setup white black).moves
   pub verdict : t.verdict ≡ (end_of setup white black).verdict
-  pub gains : Gains before.engines.sent after.engines.sent (AreSent setup white black)
+  pub gains : Gains before.sent after.sent (AreSent setup white black)
 
 -- the verdict is this, or an answer was late, or a side broke and a program's failure was counted
-abbrev pub IsVerdict : Option Verdict → Option Verdict → Means → Means → Type 0
+abbrev pub IsVerdict : Option Verdict → Option Verdict → Engines → Engines → Type 0
 IsVerdict full verdict before after =
     (verdict ≡ full)
     ⊎ (IsLate verdict
-    ⊎ (IsBroke verdict × Rose before.engines.engine_faults after.engines.engine_faults))
+    ⊎ (IsBroke verdict × Rose before.engine_faults after.engine_faults))
 
 -- moves and bytes sent are the first ones of the match of these programs, and the verdict is its
 -- verdict, or an answer was late, or a side broke
 pub record IsPart
-    (setup : FullSetup) (white black : List ℕ) (t : MatchState) (before after : Means) : Type 0 where
+    (setup : FullSetup) (white black : List ℕ) (t : MatchState) (before after : Engines)
+    : Type 0 where
   pub moves : IsFront t.moves (end_of setup white black).moves
   pub verdict : IsVerdict (end_of setup white black).verdict t.verdict before after
-  pub gains : Gains before.engines.sent after.engines.sent (AreFronts setup white black)
+  pub gains : Gains before.sent after.sent (AreFronts setup white black)
 
 -- What was played and sent where the two programs say this: always a part of their match. Where no
 -- program's failure was counted it is the whole of it, or the match up to a reply whose answer was
 -- late.
 pub record IsPlayedBy
-    (setup : FullSetup) (white black : List ℕ) (t : MatchState) (before after : Means) : Type 0 where
+    (setup : FullSetup) (white black : List ℕ) (t : MatchState) (before after : Engines)
+    : Type 0 where
   pub part : IsPart setup white black t before after
   pub whole :
-      ¬ Rose before.engines.engine_faults after.engines.engine_faults
+      ¬ Rose before.engine_faults after.engine_faults
       → ¬ IsLate t.verdict
       → IsWhole setup white black t before after
   pub late :
-      ¬ Rose before.engines.engine_faults after.engines.engine_faults
+      ¬ Rose before.engine_faults after.engine_faults
       → IsLate t.verdict
       → IsUpToReply setup white black t before after
 
 -- of the programs to come the first two were started, as white and as black, and played; no others
 -- were started
 pub record StartsTwoOf
-    (all : List (List ℕ)) (setup : FullSetup) (t : MatchState) (before after : Means) : Type 0 where
+    (all : List (List ℕ)) (setup : FullSetup) (t : MatchState) (before after : Engines) : Type 0 where
   pub white : List ℕ
   pub black : List ℕ
   pub others : List (List ℕ)
   pub first_two : all ≡ white ∷ (black ∷ others)
-  pub left : after.engines.to_come ≡ Some others
+  pub left : after.to_come ≡ Some others
   pub played : IsPlayedBy setup white black t before after
 
 -- A match was played to its verdict, and stands so, whatever its programs say. What happened in it
 -- answers the acts that were to come, by readings of the clock in their order. A side forfeits for
 -- a late answer only at its turn, where it was asked with a time and answered after this and the
 -- margin.
-pub record PlayedOut (setup : FullSetup) (t : MatchState) (before after : Means) : Type 0 where
+pub record PlayedOut
+    (setup : FullSetup) (t : MatchState) (from to : Times) (before after : Engines) : Type 0 where
   pub judged : IsJudged t
   pub same : t.setup ≡ setup
-  pub readings : after.readings
-      ≤ before.readings + (2 * (length t.moves - length setup.begin) + 2)
-  pub late : LateIn t.verdict before.last after.last
+  pub readings : to.readings
+      ≤ from.readings + (2 * (length t.moves - length setup.begin) + 2)
+  pub late : LateIn t.verdict from.last to.last
   pub lates : LatesAreLate t
-  pub course : HasTimedCourse setup t before.last after.last
-  pub broke : IsBroke t.verdict → Rose before.engines.engine_faults after.engines.engine_faults
+  pub course : HasTimedCourse setup t from.last to.last
+  pub broke : IsBroke t.verdict → Rose before.engine_faults after.engine_faults
 
 -- a match was played to its verdict, and stands so; and what its programs say tells what was played
-pub record PlayedByPrograms (setup : FullSetup) (t : MatchState) (before after : Means) : Type 0 where
-  pub out : PlayedOut setup t before after
+pub record PlayedByPrograms
+    (setup : FullSetup) (t : MatchState) (from to : Times) (before after : Engines) : Type 0 where
+  pub out : PlayedOut setup t from to before after
   pub programs :
       (all : List (List ℕ))
-      → before.engines.to_come ≡ Some all
+      → before.to_come ≡ Some all
       → StartsTwoOf all setup t before after
 
 -- The run
 
 -- the two lines of a match that was played were written
-pub record Tells (setup : FullSetup) (t : MatchState) (before after : Scene) : Type 0 where
-  pub played : PlayedByPrograms setup t before.means after.means
-  pub wrote : after.written ≡ behind before.written (match_text (setup_of setup) t)
+pub record Tells (setup : FullSetup) (t : MatchState) (before after : World) : Type 0 where
+  pub played : PlayedByPrograms setup t before.times after.times before.engines after.engines
+  pub wrote : after.sides.written ≡ behind before.sides.written (match_text (setup_of setup) t)
 
 -- of the two lines of a match that was played the first n bytes were written, and not all
-pub record TellsPart (setup : FullSetup) (t : MatchState) (n : ℕ) (before after : Scene)
+pub record TellsPart (setup : FullSetup) (t : MatchState) (n : ℕ) (before after : World)
     : Type 0 where
-  pub played : PlayedByPrograms setup t before.means after.means
+  pub played : PlayedByPrograms setup t before.times after.times before.engines after.engines
   pub cut : n < length (match_text (setup_of setup) t)
-  pub wrote : after.written ≡ behind before.written (take n (match_text (setup_of setup) t))
+  pub wrote :
+      after.sides.written
+      ≡ behind before.sides.written (take n (match_text (setup_of setup) t))
 
 -- where it is told what was to come, no program got a byte: none was closed, or one to which
 -- nothing was written
@@ -187,19 +176,18 @@ SendsNothing before after =
     → (after.sent ≡ before.sent) ⊎ Collects before.sent after.sent (Some [])
 
 -- no match was begun: nothing was written, no program got a byte, and the clock was not read
-pub record NotBegun (before after : Scene) : Type 0 where
-  pub written : after.written ≡ before.written
-  pub unsent : SendsNothing before.means.engines after.means.engines
-  pub last : after.means.last ≡ before.means.last
-  pub readings : after.means.readings ≡ before.means.readings
+pub record NotBegun (before after : World) : Type 0 where
+  pub written : after.sides.written ≡ before.sides.written
+  pub unsent : SendsNothing before.engines after.engines
+  pub untimed : LeavesTimes before after
 
 -- What was written and played where a match of two programs ends with this status. Where memory is
 -- wanting nothing was written. Five statuses are not its own.
-abbrev pub MatchRun : FullSetup → Status → Scene → Scene → Type 0
+abbrev pub MatchRun : FullSetup → Status → World → World → Type 0
 MatchRun setup Done before after = (t : MatchState) × Tells setup t before after
 MatchRun setup WriteFault before after = (t : MatchState) × (n : ℕ) × TellsPart setup t n before after
 MatchRun setup SpawnFault before after = NotBegun before after
-MatchRun setup Memory before after = after.written ≡ before.written
+MatchRun setup Memory before after = after.sides.written ≡ before.sides.written
 MatchRun setup Refused before after = ⊥
 MatchRun setup Usage before after = ⊥
 MatchRun setup ReadFault before after = ⊥

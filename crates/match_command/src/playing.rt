@@ -1,12 +1,14 @@
 //! The command: both programs are started, the match is played, and its two lines are written.
-ghost use Rattle.std.specs.Prelude.{◌≡◌, ◌<◌, ◌≤◌, length, map, string_bytes, IfOk};
+ghost use Rattle.std.specs.Prelude.{◌≡◌, ◌<◌, ◌≤◌, List, length, map, string_bytes, IfOk};
 ghost use Rattle.io_edge.specs.Outside.{Told};
+ghost use Rattle.hive_model.specs.declared.best.Timed.{Timed};
+ghost use Rattle.command_runs.specs.World.{sides, times, world};
 ghost use Rattle.match_core.specs.Setups.{setup_from, setup_plain};
 ghost use Rattle.match_core.specs.Keeps.{IsSetup};
 ghost use Rattle.match_core.specs.MatchState.{MatchState};
 ghost use Rattle.match_runner.specs.Wires.{wire, IsFresh};
 ghost use Rattle.match_command.specs.Texts.{match_text};
-ghost use Rattle.match_command.specs.Match.{MatchRun, MatchStarts, StartsNone, means, scene};
+ghost use Rattle.match_command.specs.Match.{MatchRun, MatchStarts, StartsNone};
 ghost use Rattle.match_command.specs.Ends.{EndsRun};
 ghost use Rattle.match_command.specs.Wires.{ClosesTwo, PlayedOver};
 
@@ -34,15 +36,16 @@ fn play_and_close<P: Spawner, C: Clock, G: Game + Drop>(
     requires kind { (G.course game).game_type ≡ setup.game_type }
     requires white_fresh { IsFresh (P.Engine.read_faults white) (P.Engine.write_faults white) }
     requires black_fresh { IsFresh (P.Engine.read_faults black) (P.Engine.write_faults black) }
-    ensures played { IfOk result (λ text. (t : MatchState)
+    ensures played { (timed : List Timed) → IfOk result (λ text. (t : MatchState)
         × (text ≡ match_text setup t)
         × PlayedOver (setup_from setup (G.course game).made) t
         (wire (P.Engine.rest white) (P.Engine.written white)
         (P.Engine.read_faults white) (P.Engine.write_faults white))
         (wire (P.Engine.rest black) (P.Engine.written black)
         (P.Engine.read_faults black) (P.Engine.write_faults black))
-        (means (C.last clock.old) (C.readings clock.old) (P.engines spawner.old))
-        (means (C.last clock.new) (C.readings clock.new) (P.engines spawner.new))) }
+        (times (C.last clock.old) (C.readings clock.old) timed)
+        (times (C.last clock.new) (C.readings clock.new) timed)
+        (P.engines spawner.old) (P.engines spawner.new)) }
     ensures closes { (w : Told) × (b : Told)
         × ClosesTwo (P.engines spawner.old).sent (P.engines spawner.new).sent w b }
     ensures none_started { StartsNone (P.engines spawner.old) (P.engines spawner.new) }
@@ -73,11 +76,11 @@ pub fn play_match<P: Spawner, K: Sink, C: Clock, G: Game + Drop>(
     requires setup { IsSetup setup }
     requires white_some { 0 < length white.now }
     requires black_some { 0 < length black.now }
-    ensures run { MatchRun (setup_plain setup) result
-        (scene (K.written output.old)
-        (means (C.last clock.old) (C.readings clock.old) (P.engines spawner.old)))
-        (scene (K.written output.new)
-        (means (C.last clock.new) (C.readings clock.new) (P.engines spawner.new))) }
+    ensures run { (rest : Told) (timed : List Timed) → MatchRun (setup_plain setup) result
+        (world (sides rest (K.written output.old))
+        (times (C.last clock.old) (C.readings clock.old) timed) (P.engines spawner.old))
+        (world (sides rest (K.written output.new))
+        (times (C.last clock.new) (C.readings clock.new) timed) (P.engines spawner.new)) }
     ensures ends { EndsRun result (K.write_faults output.old) (K.write_faults output.new)
         (P.engines spawner.old) (P.engines spawner.new) }
     ensures started { MatchStarts result
@@ -129,11 +132,12 @@ pub fn play_match_from<P: Spawner, K: Sink, C: Clock, G: Game + Drop>(
     requires kind { (G.course game).game_type ≡ setup.game_type }
     requires white_some { 0 < length white.now }
     requires black_some { 0 < length black.now }
-    ensures run { MatchRun (setup_from setup (G.course game).made) result
-        (scene (K.written output.old)
-        (means (C.last clock.old) (C.readings clock.old) (P.engines spawner.old)))
-        (scene (K.written output.new)
-        (means (C.last clock.new) (C.readings clock.new) (P.engines spawner.new))) }
+    ensures run { (rest : Told) (timed : List Timed) →
+        MatchRun (setup_from setup (G.course game).made) result
+        (world (sides rest (K.written output.old))
+        (times (C.last clock.old) (C.readings clock.old) timed) (P.engines spawner.old))
+        (world (sides rest (K.written output.new))
+        (times (C.last clock.new) (C.readings clock.new) timed) (P.engines spawner.new)) }
     ensures ends { EndsRun result (K.write_faults output.old) (K.write_faults output.new)
         (P.engines spawner.old) (P.engines spawner.new) }
     ensures started { MatchStarts result

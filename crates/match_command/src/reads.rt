@@ -1,10 +1,11 @@
 //! The command that reads first: the game of the input is read, and the match is played from it.
-ghost use Rattle.std.specs.Prelude.{◌≡◌, ◌<◌, ◌≤◌, length, map, string_bytes};
+ghost use Rattle.std.specs.Prelude.{◌≡◌, ◌<◌, ◌≤◌, List, length, map, string_bytes};
 ghost use Rattle.io_edge.specs.Outside.{HasCause};
+ghost use Rattle.hive_model.specs.declared.best.Timed.{Timed};
+ghost use Rattle.command_runs.specs.World.{sides, times, world};
 ghost use Rattle.match_core.specs.Keeps.{IsSetup};
 ghost use Rattle.match_command.specs.Ends.{EndsRun};
-ghost use Rattle.match_command.specs.Match.{means, scene};
-ghost use Rattle.match_command.specs.Reads.{ReadMatchRun, read_scene, typed};
+ghost use Rattle.match_command.specs.Reads.{ReadMatchRun, typed};
 
 use crate::playing::play_match_from;
 use command_runs::{Status, read_one_game, tell_none};
@@ -41,12 +42,12 @@ pub fn play_read_match<S: Source, P: Spawner, K: Sink, C: Clock, G: Game + Drop>
     requires setup { IsSetup setup }
     requires white_some { 0 < length white.now }
     requires black_some { 0 < length black.now }
-    ensures run { ReadMatchRun setup
+    ensures run { (timed : List Timed) → ReadMatchRun setup
         (map string_bytes white.now) (map string_bytes black.now) result
-        (read_scene (S.rest input.old) (scene (K.written output.old)
-        (means (C.last clock.old) (C.readings clock.old) (P.engines spawner.old))))
-        (read_scene (S.rest input.new) (scene (K.written output.new)
-        (means (C.last clock.new) (C.readings clock.new) (P.engines spawner.new)))) }
+        (world (sides (S.rest input.old) (K.written output.old))
+        (times (C.last clock.old) (C.readings clock.old) timed) (P.engines spawner.old))
+        (world (sides (S.rest input.new) (K.written output.new))
+        (times (C.last clock.new) (C.readings clock.new) timed) (P.engines spawner.new)) }
     ensures ends { EndsRun result (K.write_faults output.old) (K.write_faults output.new)
         (P.engines spawner.old) (P.engines spawner.new) }
     ensures reads { HasCause (result ≡ Status.ReadFault) (S.read_faults input.old)

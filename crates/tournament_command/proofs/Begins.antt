@@ -1,13 +1,13 @@
 -- The tournament that the input tells is played; or memory was wanting before it began.
-use Rattle.std.proofs.Common.{◌≡◌, ℕ, List, [], length, refl, ap, sym, subst, inl, inr, arith}
+use Rattle.std.proofs.Common.{◌≡◌, ℕ, List, [], length, refl, sym, subst, inl, inr, arith}
 use Rattle.std.proofs.lemmas.List.{append-nil}
 use Rattle.hive_model.specs.Lines.{lines}
 use Rattle.command_runs.specs.Input.{WereRead, WhereTold}
+use Rattle.command_runs.specs.World.{World, once_read}
 use Rattle.command_runs.specs.declared.no_game.NoGame.TheVariants.{Memory as NoMemory}
 use Rattle.command_runs.specs.declared.status.Status.{Status}
 use Rattle.command_runs.specs.declared.status.Status.TheVariants.{Memory}
 use Rattle.command_runs.proofs.OneGameLemmas.{all_were_read}
-use Rattle.cup_command.specs.Cup.{Scene}
 use Rattle.cup.specs.Engines.{Engine}
 use Rattle.tournament_core.specs.declared.fixtures.GameEnd.{GameEnd}
 use Rattle.tournament_games.specs.Tournaments.{Terms}
@@ -15,37 +15,37 @@ use Rattle.tournament_games.specs.Waves.{TournamentRun}
 use Rattle.tournament_command.specs.declared.format.Format.{Format}
 use Rattle.tournament_command.specs.Formats.{terms_of}
 use Rattle.tournament_command.specs.Intakes.{Intake}
-use Rattle.tournament_command.specs.Reads.{IsTold, ReadScene, ReadTournamentRun}
+use Rattle.tournament_command.specs.Reads.{IsTold, ReadTournamentRun}
 
 -- the tournament that was read was played
-pub begun_run : (engines : List Engine) (count : ℕ) (f : Format) (status : Status) (before after : ReadScene) (i : Intake) (t : Terms) (ends : List GameEnd) → count ≡ length engines
-    → WhereTold before.rest (λ input. IsTold count f input after.rest i) → t ≡ terms_of engines f i.openings → ends ≡ i.ends → TournamentRun t ends status before.scene after.scene → ReadTournamentRun engines f status before after
+pub begun_run : (engines : List Engine) (count : ℕ) (f : Format) (status : Status) (before after : World) (i : Intake) (t : Terms) (ends : List GameEnd) → count ≡ length engines
+    → WhereTold before.sides.rest (λ input. IsTold count f input after.sides.rest i) → t ≡ terms_of engines f i.openings → ends ≡ i.ends → TournamentRun t ends status (once_read after.sides.rest before) after → ReadTournamentRun engines f status before after
 begun_run engines count f status before after i t ends many told is_terms is_ends run = inl (
   i,
   record {
-    told = subst (λ n. WhereTold before.rest (λ input. IsTold n f input after.rest i)) many told;
+    told = subst (λ n. WhereTold before.sides.rest (λ input. IsTold n f input after.sides.rest i)) many told;
     played =
-        subst (λ (u : Terms). TournamentRun u i.ends status before.scene after.scene) is_terms
-        (subst (λ (es : List GameEnd). TournamentRun t es status before.scene after.scene) is_ends run);
+        subst (λ (u : Terms). TournamentRun u i.ends status (once_read after.sides.rest before) after) is_terms
+        (subst (λ (es : List GameEnd). TournamentRun t es status (once_read after.sides.rest before) after) is_ends run);
   },
 )
 
 -- the input was read to its end, and memory was wanting: nothing was begun
-pub none_begun : (engines : List Engine) (count : ℕ) (f : Format) (before after : ReadScene) (i : Intake) → count ≡ length engines → WhereTold before.rest (λ input. IsTold count f input after.rest i) → after.scene ≡ before.scene
+pub none_begun : (engines : List Engine) (count : ℕ) (f : Format) (before after : World) (i : Intake) → count ≡ length engines → WhereTold before.sides.rest (λ input. IsTold count f input after.sides.rest i) → after.sides.written ≡ before.sides.written → after.engines ≡ before.engines
     → ReadTournamentRun engines f Memory before after
-none_begun engines count f before after i many told same = inr (
+none_begun engines count f before after i many told unwritten unstarted = inr (
   NoMemory,
   record {
     shown = λ input is.
-        let all = subst (λ n. WhereTold before.rest (λ bytes. IsTold n f bytes after.rest i)) many told input is in (
+        let all = subst (λ n. WhereTold before.sides.rest (λ bytes. IsTold n f bytes after.sides.rest i)) many told input is in (
           lines input,
           [],
           i,
-          subst (λ ls. WereRead input after.rest ls) (sym (append-nil (lines input))) (all_were_read all.over),
+          subst (λ ls. WereRead input after.sides.rest ls) (sym (append-nil (lines input))) (all_were_read all.over),
           all.tells,
           omega arith,
         );
-    told = (refl, ap (λ (s : Scene). s.written) same);
-    still = ap (λ (s : Scene). s.engines) same;
+    told = (refl, unwritten);
+    unstarted = unstarted;
   },
 )

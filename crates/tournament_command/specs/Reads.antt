@@ -5,10 +5,10 @@ use Rattle.hive_model.specs.Lines.{Line, lines, whole_lines}
 use Rattle.line_feed.specs.SoFar.{WasRead}
 use Rattle.command_runs.specs.Answered.{Inquiry, IsUnanswered, TellsNone}
 use Rattle.command_runs.specs.Input.{IsAllRead, WereRead, WhereTold}
+use Rattle.command_runs.specs.World.{LeavesEngines, World, once_read}
 use Rattle.command_runs.specs.declared.no_game.NoGame.{NoGame}
 use Rattle.command_runs.specs.declared.status.Status.{Status}
 use Rattle.cup.specs.Engines.{Engine}
-use Rattle.cup_command.specs.Cup.{Scene}
 use Rattle.tournament_games.specs.Waves.{TournamentRun}
 use Rattle.tournament_command.specs.declared.format.Format.{Format}
 use Rattle.tournament_command.specs.Formats.{terms_of}
@@ -61,15 +61,6 @@ about_tournament engines f = record {
 
 -- The run
 
--- all that such a run can change: what is left to be read, what was written, and what is told of
--- the programs that it starts
-pub record ReadScene : Type 0 where
-  pub rest : Told
-  pub scene : Scene
-
-abbrev pub read_scene : Told → Scene → ReadScene
-read_scene rest scene = record { rest = rest; scene = scene }
-
 -- the lines of the input tell this, and it was read to its end
 pub record IsTold (engines : ℕ) (f : Format) (input : List ℕ) (rest : Told) (i : Intake)
     : Type 0 where
@@ -79,25 +70,28 @@ pub record IsTold (engines : ℕ) (f : Format) (input : List ℕ) (rest : Told) 
 -- This was read, and the tournament was played from these openings, behind the games that were
 -- played before.
 pub record PlayedFrom
-    (engines : List Engine) (f : Format) (status : Status) (before after : ReadScene) (i : Intake)
+    (engines : List Engine) (f : Format) (status : Status) (before after : World) (i : Intake)
     : Type 0 where
-  pub told : WhereTold before.rest (λ input. IsTold (length engines) f input after.rest i)
+  pub told :
+      WhereTold before.sides.rest
+      (λ input. IsTold (length engines) f input after.sides.rest i)
   pub played :
-      TournamentRun (terms_of engines f i.openings) i.ends status before.scene after.scene
+      TournamentRun (terms_of engines f i.openings) i.ends status
+      (once_read after.sides.rest before) after
 
 -- The input tells no tournament, for this reason, and nothing was begun: no program was started.
 -- Where the input is at fault, the line that says why was written, or a part of it.
 pub record NoneRead
-    (engines : ℕ) (f : Format) (status : Status) (before after : ReadScene) (none : NoGame)
+    (engines : ℕ) (f : Format) (status : Status) (before after : World) (none : NoGame)
     : Type 0 where
   pub shown :
-      WhereTold before.rest
-      (λ input. IsUnanswered (about_tournament engines f) none input after.rest)
-  pub told : TellsNone none status before.scene.written after.scene.written
-  pub still : after.scene.engines ≡ before.scene.engines
+      WhereTold before.sides.rest
+      (λ input. IsUnanswered (about_tournament engines f) none input after.sides.rest)
+  pub told : TellsNone none status before.sides.written after.sides.written
+  pub unstarted : LeavesEngines before after
 
 -- what was read, written and played where a tournament of these engines ends with this status
-abbrev pub ReadTournamentRun : List Engine → Format → Status → ReadScene → ReadScene → Type 0
+abbrev pub ReadTournamentRun : List Engine → Format → Status → World → World → Type 0
 ReadTournamentRun engines f status before after =
     ((i : Intake) × PlayedFrom engines f status before after i)
     ⊎ ((none : NoGame) × NoneRead (length engines) f status before after none)

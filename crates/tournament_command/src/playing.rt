@@ -2,11 +2,11 @@
 ghost use Rattle.std.specs.Prelude.{◌≡◌, ◌≤◌, length, IfOk};
 ghost use Rattle.std.specs.List.{All};
 ghost use Rattle.io_edge.specs.Outside.{HasCause};
-ghost use Rattle.cup_command.specs.Cup.{scene};
+ghost use Rattle.command_runs.specs.World.{Times, sides, world};
 ghost use Rattle.match_command.specs.Match.{NoneIsOpen};
 ghost use Rattle.tournament_games.specs.Tournaments.{IsOpening};
 ghost use Rattle.tournament_command.specs.Formats.{IsFormat, openings_of, terms_of};
-ghost use Rattle.tournament_command.specs.Reads.{ReadTournamentRun, read_scene};
+ghost use Rattle.tournament_command.specs.Reads.{ReadTournamentRun};
 
 use crate::format::Format;
 use crate::intake::plan_of;
@@ -92,9 +92,9 @@ pub fn play_read_tournament<
     requires format { IsFormat format }
     requires some { 2 ≤ length programs.items }
     requires few { length programs.items ≤ 64 }
-    ensures run { ReadTournamentRun programs.items format result
-        (read_scene (S.rest input.old) (scene (K.written output.old) (P.engines spawner.old)))
-        (read_scene (S.rest input.new) (scene (K.written output.new) (P.engines spawner.new))) }
+    ensures run { (times : Times) → ReadTournamentRun programs.items format result
+        (world (sides (S.rest input.old) (K.written output.old)) times (P.engines spawner.old))
+        (world (sides (S.rest input.new) (K.written output.new)) times (P.engines spawner.new)) }
     ensures closed { NoneIsOpen (P.engines spawner.old) (P.engines spawner.new) }
     ensures writes { HasCause (result ≡ Status.WriteFault) (K.write_faults output.old)
         (K.write_faults output.new) }

@@ -8,10 +8,11 @@ use Rattle.std.proofs.lemmas.Slice.Zip.{get_or-zip, length-zip}
 use Rattle.io_edge.specs.Outside.{Told, behind}
 use Rattle.io_edge.specs.Starts.{Engines}
 use Rattle.io_edge.proofs.Told.{behind-behind}
+use Rattle.command_runs.specs.Answered.{WritesAs}
+use Rattle.command_runs.specs.World.{World, sides, world}
 use Rattle.command_runs.specs.declared.status.Status.{Status}
 use Rattle.command_runs.specs.declared.status.Status.TheVariants.{Done, Refused, Usage, ReadFault, WriteFault, SpawnFault, BadInput, Memory, InputFull}
 use Rattle.match_command.specs.Match.{NoneIsOpen}
-use Rattle.cup_command.specs.Cup.{Scene, scene}
 use Rattle.cup_command.proofs.Breaks.{append-none}
 use Rattle.tournament_core.specs.declared.fixtures.Fixture.{Fixture}
 use Rattle.tournament_core.specs.declared.fixtures.GameEnd.{GameEnd}
@@ -62,14 +63,14 @@ resumed-none plan = ap (λ gs. map (λ (g : Fixture × GameEnd). record { fixtur
 
 -- A wave more
 
-pub wrote-none : (t : Terms) (first : ℕ) (tally : Counts) (a : Scene) → a.written ≡ behind a.written [] → WroteGames t first [] [] tally tally a a
+pub wrote-none : (t : Terms) (first : ℕ) (tally : Counts) (a : World) → a.sides.written ≡ behind a.sides.written [] → WroteGames t first [] [] tally tally a a
 wrote-none t first tally a same = record {
   played = played-none t first a.engines;
   noted = λ games is. subst (λ (gs : List PlayedFixture). IsTallyOf gs tally) (sym (append-none games)) is;
   wrote = same;
 }
 
-pub wrote-more : (t : Terms) (first done count : ℕ) (olds news : List Job) (tally0 tally now : Counts) (a b c : Scene) → done ≡ first + length news → WroteGames t first olds news tally0 tally a b → WroteWave t done count tally now b c
+pub wrote-more : (t : Terms) (first done count : ℕ) (olds news : List Job) (tally0 tally now : Counts) (a b c : World) → done ≡ first + length news → WroteGames t first olds news tally0 tally a b → WroteWave t done count tally now b c
     → (os ns : List Job) × (done + count ≡ first + length ns) × WroteGames t first os ns tally0 now a c
 wrote-more t first done count olds news tally0 tally now a b c at so w =
     let v = w.wave in
@@ -84,14 +85,14 @@ wrote-more t first done count olds news tally0 tally now a b c at so w =
         wrote =
             w.wrote
             ∙ (ap (λ told. behind told w.text) so.wrote
-            ∙ (behind-behind a.written (games_text news) w.text
-            ∙ (ap (λ text. behind a.written (games_text news ++ text)) v.told
-            ∙ ap (behind a.written) (sym (text-append news v.news)))));
+            ∙ (behind-behind a.sides.written (games_text news) w.text
+            ∙ (ap (λ text. behind a.sides.written (games_text news ++ text)) v.told
+            ∙ ap (behind a.sides.written) (sym (text-append news v.news)))));
       },
     )
 
 -- the last wave was cut off
-cut-more : (t : Terms) (first done count : ℕ) (olds news : List Job) (tally0 tally now : Counts) (a b c : Scene) → done ≡ first + length news → count ≤ t.at_once → WroteGames t first olds news tally0 tally a b → CutWave t done count tally now b c
+cut-more : (t : Terms) (first done count : ℕ) (olds news : List Job) (tally0 tally now : Counts) (a b c : World) → done ≡ first + length news → count ≤ t.at_once → WroteGames t first olds news tally0 tally a b → CutWave t done count tally now b c
     → (os whole cut : List Job) × (n : ℕ) × CutInGames t first os whole cut n a c
 cut-more t first done count olds news tally0 tally now a b c at few so w =
     let v = w.wave in
@@ -107,13 +108,13 @@ cut-more t first done count olds news tally0 tally now a b c at few so w =
         wrote =
             w.wrote
             ∙ (ap (λ told. behind told (take w.n w.text)) so.wrote
-            ∙ (behind-behind a.written (games_text news) (take w.n w.text)
-            ∙ ap (λ text. behind a.written (games_text news ++ take w.n text)) v.told));
+            ∙ (behind-behind a.sides.written (games_text news) (take w.n w.text)
+            ∙ ap (λ text. behind a.sides.written (games_text news ++ take w.n text)) v.told));
       },
     )
 
 -- memory was wanting for the last wave
-none-more : (t : Terms) (first : ℕ) (olds news : List Job) (tally0 tally : Counts) (a b c : Scene) → WroteGames t first olds news tally0 tally a b → NoWave b c → (os ns : List Job) × (between : Engines) × Starved t first os ns between a c
+none-more : (t : Terms) (first : ℕ) (olds news : List Job) (tally0 tally : Counts) (a b c : World) → WroteGames t first olds news tally0 tally a b → NoWave b c → (os ns : List Job) × (between : Engines) × Starved t first os ns between a c
 none-more t first olds news tally0 tally a b c so w = (
   olds,
   news,
@@ -122,7 +123,7 @@ none-more t first olds news tally0 tally a b c so w = (
 )
 
 -- a wave that ends the run
-pub ends-games : (t : Terms) (first done count : ℕ) (olds news : List Job) (tally0 tally now : Counts) (status : Status) (a b c : Scene) → done ≡ first + length news → count ≤ t.at_once → status ≢ Done → WroteGames t first olds news tally0 tally a b → WaveRun t done count tally now status b c
+pub ends-games : (t : Terms) (first done count : ℕ) (olds news : List Job) (tally0 tally now : Counts) (status : Status) (a b c : World) → done ≡ first + length news → count ≤ t.at_once → status ≢ Done → WroteGames t first olds news tally0 tally a b → WaveRun t done count tally now status b c
     → GamesRun t first tally0 now status a c
 ends-games t first done count olds news tally0 tally now Done a b c at few other so w = absurd (other refl)
 ends-games t first done count olds news tally0 tally now WriteFault a b c at few other so w = cut-more t first done count olds news tally0 tally now a b c at few so w
@@ -137,7 +138,7 @@ ends-games t first done count olds news tally0 tally now InputFull a b c at few 
 -- Behind the last game
 
 -- the games were not all played
-pub ends-run : (t : Terms) (ends : List GameEnd) (tally0 tally : Counts) (status : Status) (a b : Scene) → status ≢ Done → GamesRun t (length ends) tally0 tally status a b → TournamentRun t ends status a b
+pub ends-run : (t : Terms) (ends : List GameEnd) (tally0 tally : Counts) (status : Status) (a b : World) → status ≢ Done → GamesRun t (length ends) tally0 tally status a b → TournamentRun t ends status a b
 ends-run t ends tally0 tally Done a b other g = absurd (other refl)
 ends-run t ends tally0 tally WriteFault a b other g = inl g
 ends-run t ends tally0 tally Memory a b other g = g
@@ -161,7 +162,7 @@ all-points t ends news tally all engines noted =
     let long : length games ≡ length (schedule t.plan) = omega (arith, both, before, few, behind, all) in
     subst (λ n. sum_by (points games) (numbers n) ≡ 2 * length (schedule t.plan)) engines (points-add-up tally.engines games noted.fixtures ∙ ap (λ k. 2 * k) long)
 
-played-out : (t : Terms) (ends : List GameEnd) (olds news : List Job) (places : List Place) (tally0 tally : Counts) (a b : Scene) → length ends + length news ≡ length (schedule t.plan) → tally.engines ≡ t.plan.engines → IsTallyOf (resumed t.plan ends) tally0 → WroteGames t (length ends) olds news tally0 tally a b
+played-out : (t : Terms) (ends : List GameEnd) (olds news : List Job) (places : List Place) (tally0 tally : Counts) (a b : World) → length ends + length news ≡ length (schedule t.plan) → tally.engines ≡ t.plan.engines → IsTallyOf (resumed t.plan ends) tally0 → WroteGames t (length ends) olds news tally0 tally a b
     → AreNoted t tally places → IsPlayedOut t ends olds news places a.engines b.engines
 played-out t ends olds news places tally0 tally a b all engines before so noted = record {
   played = so.played;
@@ -174,15 +175,15 @@ told-after : (w0 w1 w2 : Told) (x y : List ℕ) → w1 ≡ behind w0 x → w2 �
 told-after w0 w1 w2 x y one other = other ∙ (ap (λ told. behind told y) one ∙ behind-behind w0 x y)
 
 -- the games were all played, and the standings were to be written
-pub tells-run : (t : Terms) (ends : List GameEnd) (tally0 tally : Counts) (status : Status) (a b : Scene) (written : Told) → tally.engines ≡ t.plan.engines → IsTallyOf (resumed t.plan ends) tally0 → GamesRun t (length ends) tally0 tally Done a b → StandingsRun t tally status b.written written
-    → TournamentRun t ends status a (scene written b.engines)
+pub tells-run : (t : Terms) (ends : List GameEnd) (tally0 tally : Counts) (status : Status) (a b : World) (written : Told) → tally.engines ≡ t.plan.engines → IsTallyOf (resumed t.plan ends) tally0 → GamesRun t (length ends) tally0 tally Done a b → StandingsRun t tally status b.sides.written written
+    → TournamentRun t ends status a (world (sides b.sides.rest written) b.times b.engines)
 tells-run t ends tally0 tally Done a b written engines before (olds, news, all, so) w = (
   olds,
   news,
   w.places,
   record {
     out = played-out t ends olds news w.places tally0 tally a b all engines before so w.noted;
-    wrote = told-after a.written b.written written (games_text news) (standings_text t w.places) so.wrote w.wrote;
+    wrote = told-after a.sides.written b.sides.written written (games_text news) (standings_text t w.places) so.wrote w.wrote;
   },
 )
 tells-run t ends tally0 tally WriteFault a b written engines before (olds, news, all, so) w = inr (
@@ -193,7 +194,7 @@ tells-run t ends tally0 tally WriteFault a b written engines before (olds, news,
   record {
     out = played-out t ends olds news w.places tally0 tally a b all engines before so w.noted;
     part = w.part;
-    wrote = told-after a.written b.written written (games_text news) (take w.n (standings_text t w.places)) so.wrote w.wrote;
+    wrote = told-after a.sides.written b.sides.written written (games_text news) (take w.n (standings_text t w.places)) so.wrote w.wrote;
   },
 )
 tells-run t ends tally0 tally Memory a b written engines before (olds, news, all, so) w = (
@@ -214,7 +215,7 @@ tells-run t ends tally0 tally BadInput a b written engines before g w = absurd w
 tells-run t ends tally0 tally InputFull a b written engines before g w = absurd w
 
 -- nothing was played
-pub starved-first : (t : Terms) (ends : List GameEnd) (a : Scene) → a.written ≡ behind a.written [] → TournamentRun t ends Memory a a
+pub starved-first : (t : Terms) (ends : List GameEnd) (a : World) → a.sides.written ≡ behind a.sides.written [] → TournamentRun t ends Memory a a
 starved-first t ends a same = (
   [],
   [],
@@ -231,7 +232,7 @@ told-none None = refl
 told-none (Some bytes) = ap (λ bs. Some bs) (sym (append-none bytes))
 
 -- however the games end, no program is left open
-pub games-open : (t : Terms) (first : ℕ) (tally0 tally : Counts) (status : Status) (a b : Scene) → GamesRun t first tally0 tally status a b → NoneIsOpen a.engines b.engines
+pub games-open : (t : Terms) (first : ℕ) (tally0 tally : Counts) (status : Status) (a b : World) → GamesRun t first tally0 tally status a b → NoneIsOpen a.engines b.engines
 games-open t first tally0 tally Done a b (olds, news, all, so) = played-open t first olds news a.engines b.engines so.played
 games-open t first tally0 tally WriteFault a b (olds, whole, cut, n, w) = played-open t first olds (whole ++ cut) a.engines b.engines w.played
 games-open t first tally0 tally Memory a b (olds, news, between, w) = shut-open t first olds news a.engines between b.engines w.played w.shut

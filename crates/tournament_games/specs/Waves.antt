@@ -4,9 +4,10 @@ use Rattle.std.specs.Prelude.{◌≡◌, ◌⊎◌, ℕ, ◌+◌, ◌*◌, ◌<�
 use Rattle.std.specs.List.{All, AllZip, flat_map, sum_by, zip}
 use Rattle.io_edge.specs.Outside.{Told, behind}
 use Rattle.io_edge.specs.Starts.{Engines}
+use Rattle.command_runs.specs.World.{World}
 use Rattle.command_runs.specs.declared.status.Status.{Status}
 use Rattle.command_runs.specs.declared.status.Status.TheVariants.{Done, Refused, Usage, ReadFault, WriteFault, SpawnFault, BadInput, Memory, InputFull}
-use Rattle.cup_command.specs.Cup.{Scene, started_after}
+use Rattle.cup_command.specs.Cup.{started_after}
 use Rattle.cup_command.specs.Links.{ClosesLinks, StartsAll, counted}
 use Rattle.tournament_core.specs.declared.fixtures.GameEnd.{GameEnd}
 use Rattle.tournament_core.specs.declared.plan.Plan.{Plan}
@@ -93,63 +94,66 @@ pub record IsPlayedOut
 -- the lines of all these games were written, and then the standings
 pub record Tells
     (t : Terms) (ends : List GameEnd) (olds news : List Job) (places : List Place)
-    (before after : Scene) : Type 0 where
+    (before after : World) : Type 0 where
   pub out : IsPlayedOut t ends olds news places before.engines after.engines
-  pub wrote : after.written ≡ behind before.written (games_text news ++ standings_text t places)
+  pub wrote :
+      after.sides.written
+      ≡ behind before.sides.written (games_text news ++ standings_text t places)
 
 -- The lines of whole games were written, and of those of a wave of further ones, which were played
 -- too, the first n bytes, and not all.
 pub record CutInGames
-    (t : Terms) (first : ℕ) (olds whole cut : List Job) (n : ℕ) (before after : Scene)
+    (t : Terms) (first : ℕ) (olds whole cut : List Job) (n : ℕ) (before after : World)
     : Type 0 where
   pub played : ArePlayed t first olds (whole ++ cut) before.engines after.engines
   pub wave : length cut ≤ t.at_once
   pub part : n < length (games_text cut)
   pub wrote :
-      after.written ≡ behind before.written (games_text whole ++ take n (games_text cut))
+      after.sides.written
+      ≡ behind before.sides.written (games_text whole ++ take n (games_text cut))
 
 -- the lines of all games were written, and of the standings the first n bytes, and not all
 pub record CutInStandings
     (t : Terms) (ends : List GameEnd) (olds news : List Job) (places : List Place) (n : ℕ)
-    (before after : Scene) : Type 0 where
+    (before after : World) : Type 0 where
   pub out : IsPlayedOut t ends olds news places before.engines after.engines
   pub part : n < length (standings_text t places)
   pub wrote :
-      after.written
-      ≡ behind before.written (games_text news ++ take n (standings_text t places))
+      after.sides.written
+      ≡ behind before.sides.written (games_text news ++ take n (standings_text t places))
 
 -- Memory was wanting: the lines of games were written, whole and in their order. Whatever was
 -- started behind them was closed.
 pub record Starved
     (t : Terms) (first : ℕ) (olds news : List Job) (between : Engines)
-    (before after : Scene) : Type 0 where
+    (before after : World) : Type 0 where
   pub played : ArePlayed t first olds news before.engines between
   pub shut : Shuts 0 between after.engines
-  pub wrote : after.written ≡ behind before.written (games_text news)
+  pub wrote : after.sides.written ≡ behind before.sides.written (games_text news)
 
 -- the lines of a wave were written
 pub record WroteWave
-    (t : Terms) (first count : ℕ) (tally0 tally : Counts) (before after : Scene) : Type 0 where
+    (t : Terms) (first count : ℕ) (tally0 tally : Counts) (before after : World) : Type 0 where
   pub text : List ℕ
   pub wave : IsWave t first count text tally0 tally before.engines after.engines
-  pub wrote : after.written ≡ behind before.written text
+  pub wrote : after.sides.written ≡ behind before.sides.written text
 
 -- of the lines of a wave the first n bytes were written, and not all
 pub record CutWave
-    (t : Terms) (first count : ℕ) (tally0 tally : Counts) (before after : Scene) : Type 0 where
+    (t : Terms) (first count : ℕ) (tally0 tally : Counts) (before after : World) : Type 0 where
   pub text : List ℕ
   pub n : ℕ
   pub wave : IsWave t first count text tally0 tally before.engines after.engines
   pub part : n < length text
-  pub wrote : after.written ≡ behind before.written (take n text)
+  pub wrote : after.sides.written ≡ behind before.sides.written (take n text)
 
 -- nothing of a wave was written, and whatever was started for it was closed
-pub record NoWave (before after : Scene) : Type 0 where
+pub record NoWave (before after : World) : Type 0 where
   pub shut : Shuts 0 before.engines after.engines
-  pub wrote : after.written ≡ before.written
+  pub wrote : after.sides.written ≡ before.sides.written
 
 -- what was written and played of a wave, by the status with which it ends
-abbrev pub WaveRun : Terms → ℕ → ℕ → Counts → Counts → Status → Scene → Scene → Type 0
+abbrev pub WaveRun : Terms → ℕ → ℕ → Counts → Counts → Status → World → World → Type 0
 WaveRun t first count tally0 tally Done before after =
     WroteWave t first count tally0 tally before after
 WaveRun t first count tally0 tally WriteFault before after =
@@ -164,15 +168,15 @@ WaveRun t first count tally0 tally InputFull before after = ⊥
 
 -- the lines of games were written, whole and in their order, and the games were noted
 pub record WroteGames
-    (t : Terms) (first : ℕ) (olds news : List Job) (tally0 tally : Counts) (before after : Scene)
+    (t : Terms) (first : ℕ) (olds news : List Job) (tally0 tally : Counts) (before after : World)
     : Type 0 where
   pub played : ArePlayed t first olds news before.engines after.engines
   pub noted : Notes news tally0 tally
-  pub wrote : after.written ≡ behind before.written (games_text news)
+  pub wrote : after.sides.written ≡ behind before.sides.written (games_text news)
 
 -- what was written and played of all games, when so many were played before them, by the status
 -- with which they end
-abbrev pub GamesRun : Terms → ℕ → Counts → Counts → Status → Scene → Scene → Type 0
+abbrev pub GamesRun : Terms → ℕ → Counts → Counts → Status → World → World → Type 0
 GamesRun t first tally0 tally Done before after =
     (olds news : List Job)
     × (first + length news ≡ length (schedule t.plan))
@@ -221,7 +225,7 @@ StandingsRun t tally InputFull before after = ⊥
 
 -- What was written, played and started where a tournament ends with this status, of which the first
 -- games ended so before. Six statuses are not its own.
-abbrev pub TournamentRun : Terms → List GameEnd → Status → Scene → Scene → Type 0
+abbrev pub TournamentRun : Terms → List GameEnd → Status → World → World → Type 0
 TournamentRun t ends Done before after =
     (olds news : List Job) × (places : List Place) × Tells t ends olds news places before after
 TournamentRun t ends WriteFault before after =

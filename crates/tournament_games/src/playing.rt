@@ -1,7 +1,7 @@
 //! The run of a tournament: its games wave after wave, and its standings.
 ghost use Rattle.std.specs.Prelude.{◌≡◌, ◌≤◌, ◌<◌, ◌+◌, ◌^◌, List, length, IfOk};
-ghost use Rattle.io_edge.specs.Outside.{HasCause};
-ghost use Rattle.cup_command.specs.Cup.{scene};
+ghost use Rattle.io_edge.specs.Outside.{HasCause, Told};
+ghost use Rattle.command_runs.specs.World.{Times, sides, world};
 ghost use Rattle.match_command.specs.Match.{NoneIsOpen};
 ghost use Rattle.tournament_core.specs.Schedules.{IsPlan, schedule};
 ghost use Rattle.tournament_core.specs.Counts.{IsTallyOf};
@@ -76,9 +76,10 @@ fn write_wave<R: Threads + Sync, P: Spawner, K: Sink, G: Game + Send + Drop, M: 
     requires few { first + count ≤ 2 ^ 42 }
     requires engines { tally.old.engines ≡ tournament.now.plan.engines }
     requires noted { tally.old.games ≡ first }
-    ensures run { WaveRun tournament.now first count tally.old tally.new result
-        (scene (K.written output.old) (P.engines spawner.old))
-        (scene (K.written output.new) (P.engines spawner.new)) }
+    ensures run { (rest : Told) (times : Times) →
+        WaveRun tournament.now first count tally.old tally.new result
+        (world (sides rest (K.written output.old)) times (P.engines spawner.old))
+        (world (sides rest (K.written output.new)) times (P.engines spawner.new)) }
     ensures engines { tally.new.engines ≡ tally.old.engines }
     ensures count { result ≡ Status.Done → tally.new.games ≡ tally.old.games + count }
     ensures cause { HasCause (result ≡ Status.WriteFault) (K.write_faults output.old)
@@ -114,9 +115,10 @@ fn write_games<
     requires within { first ≤ games }
     requires engines { tally.old.engines ≡ tournament.now.plan.engines }
     requires noted { tally.old.games ≡ first }
-    ensures run { GamesRun tournament.now first tally.old tally.new result
-        (scene (K.written output.old) (P.engines spawner.old))
-        (scene (K.written output.new) (P.engines spawner.new)) }
+    ensures run { (rest : Told) (times : Times) →
+        GamesRun tournament.now first tally.old tally.new result
+        (world (sides rest (K.written output.old)) times (P.engines spawner.old))
+        (world (sides rest (K.written output.new)) times (P.engines spawner.new)) }
     ensures engines { tally.new.engines ≡ tally.old.engines }
     ensures cause { HasCause (result ≡ Status.WriteFault) (K.write_faults output.old)
         (K.write_faults output.new) }
@@ -221,9 +223,10 @@ pub fn play_tournament<
     clocks: &M,
 ) -> Status
     requires { length played.now ≤ length (schedule tournament.now.plan) }
-    ensures run { TournamentRun tournament.now played.now result
-        (scene (K.written output.old) (P.engines spawner.old))
-        (scene (K.written output.new) (P.engines spawner.new)) }
+    ensures run { (rest : Told) (times : Times) →
+        TournamentRun tournament.now played.now result
+        (world (sides rest (K.written output.old)) times (P.engines spawner.old))
+        (world (sides rest (K.written output.new)) times (P.engines spawner.new)) }
     ensures closed { NoneIsOpen (P.engines spawner.old) (P.engines spawner.new) }
     ensures cause { HasCause (result ≡ Status.WriteFault) (K.write_faults output.old)
         (K.write_faults output.new) }

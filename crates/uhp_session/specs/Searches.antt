@@ -6,6 +6,7 @@ use Rattle.hive_model.specs.declared.best.Timed.{Timed}
 use Rattle.hive_model.specs.Positions.{Position}
 use Rattle.hive_model.specs.Lines.{Line, Text as TextLine, TooLong as LongLine}
 use Rattle.hive_model.specs.Minimax.{reads}
+use Rattle.command_runs.specs.World.{TakesNoTime, Times}
 use Rattle.uhp_words.specs.declared.command.Command.{Command}
 use Rattle.uhp_words.specs.declared.command.Command.TheVariants.{BestTime}
 use Rattle.uhp_words.specs.declared.command.CommandFault.{CommandFault}
@@ -50,22 +51,6 @@ pub record IsToldOf (asked : Search) (entry : Timed) : Type 0 where
   pub high : entry.depth ≤ 64
   pub late : entry.depth < 64 → entry.started + entry.budget ≤ entry.stopped
   pub order : entry.started ≤ entry.stopped
-
--- the clock's last reading, how often it was read, and an entry for each search for a time that was
--- answered
-pub record Times : Type 0 where
-  pub last : ℕ
-  pub readings : ℕ
-  pub timed : List Timed
-
-abbrev pub times : ℕ → ℕ → List Timed → Times
-times last readings timed = record { last = last; readings = readings; timed = timed }
-
--- the clock was not read, and no search for a time was answered
-pub record TakesNoTime (before after : Times) : Type 0 where
-  pub last : after.last ≡ before.last
-  pub readings : after.readings ≡ before.readings
-  pub timed : after.timed ≡ before.timed
 
 -- a search was answered, and an entry that tells of it was appended
 pub record Searched (asked : Search) (entry : Timed) (before after : Times) : Type 0 where

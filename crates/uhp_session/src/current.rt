@@ -28,6 +28,7 @@ ghost use Rattle.hive_model.specs.Minimax.{best};
 ghost use Rattle.hive_model.specs.Repetition.{outcome_under};
 ghost use Rattle.hive_model.specs.Denotes.{text};
 ghost use Rattle.hive_model.specs.Stack.{with_level};
+ghost use Rattle.command_runs.specs.World.{times};
 ghost use Rattle.hive_model.specs.Lines.{greatest_line};
 ghost use Rattle.move_text.specs.Moves.{move_of};
 ghost use Rattle.uhp_session.specs.Answers.{
@@ -41,7 +42,7 @@ ghost use Rattle.uhp_session.specs.Answers.{
   joined,
   best_text,
 };
-ghost use Rattle.uhp_session.specs.Searches.{HasTold, times};
+ghost use Rattle.uhp_session.specs.Searches.{HasTold};
 ghost use Rattle.uhp_session.specs.Teams.{AreSearchersOf, IsTeam};
 
 use crate::lines::Reply;

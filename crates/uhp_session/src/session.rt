@@ -1,6 +1,7 @@
 //! A session over any game.
 
 ghost use Rattle.std.specs.Prelude.{◌≡◌, ◌≤◌, length, Ok, IfOk, OnOk, OnErr};
+ghost use Rattle.command_runs.specs.World.{times};
 ghost use Rattle.game_text.specs.Reading.{game_under};
 ghost use Rattle.uhp_words.specs.Grammar.{IsCommand, AreWithin};
 ghost use Rattle.uhp_words.specs.Reading.{command_of};
@@ -8,8 +9,7 @@ ghost use Rattle.uhp_session.specs.Answers.{Gave, IsShort, after_of, begin, best
 ghost use Rattle.uhp_session.specs.Answers.{command_answer, fresh, go_on, in_game, line_in, list};
 ghost use Rattle.uhp_session.specs.Answers.{next, or_base, play, reply, reply_of, text_of, undo};
 ghost use Rattle.uhp_session.specs.Answers.{while_on, words_answer};
-ghost use Rattle.uhp_session.specs.Searches.{Answered, IsUntimed, asks, command_search};
-ghost use Rattle.uhp_session.specs.Searches.{search_in, times};
+ghost use Rattle.uhp_session.specs.Searches.{Answered, IsUntimed, asks, command_search, search_in};
 ghost use Rattle.hive_model.specs.Lines.{greatest_line};
 
 mod settings;

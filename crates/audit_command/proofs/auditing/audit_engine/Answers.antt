@@ -1,14 +1,14 @@
 -- What is written tells the audit that was run.
 use Rattle.std.proofs.Common.{◌∙◌}
-use Rattle.audit_command.specs.Audit.{scene}
+use Rattle.command_runs.specs.World.{sides, world}
 use Rattle.audit_command.proofs.Closing.{none_failed, none_open, played_from, started_as, told_as}
 use Rattle.audit_command.proofs.auditing.audit_engine.Goals as goal
 
 pub returns-in-Ok-audit_and_close-clause-run : goal.returns-in-Ok-audit_and_close-clause-run
-returns-in-Ok-audit_and_close-clause-run g c =
+returns-in-Ok-audit_and_close-clause-run g c rest times =
     let old = g.P.Spawner.engines c.args.spawner.now in
     let new = g.P.Spawner.engines c.audit_and_close.new.spawner in
-    told_as c.args.plan c.in-Ok-audit_and_close.auditor c.tell.result (scene (g.K.Sink.written c.args.output.now) old) (scene (g.K.Sink.written c.tell.new.output) new)
+    told_as c.args.plan c.in-Ok-audit_and_close.auditor c.tell.result (world (sides rest (g.K.Sink.written c.args.output.now)) times old) (world (sides rest (g.K.Sink.written c.tell.new.output)) times new)
     (played_from c.args.plan c.in-Ok-audit_and_close.auditor _ _ old (g.P.Spawner.engines c.start.new.self) new c.in-Ok.ensures.next c.in-Ok-audit_and_close.ensures.none_started.to_come c.in-Ok.ensures.others.1 c.in-Ok.ensures.others.0 c.in-Ok-audit_and_close.ensures.audited)
     c.tell.ensures.told
 

@@ -7,7 +7,7 @@ use Rattle.cup_command.proofs.Ends.{told-as}
 use Rattle.cup_command.proofs.playing.play_cup.Goals as goal
 
 pub returns-in-Ok-clause-run : goal.returns-in-Ok-clause-run
-returns-in-Ok-clause-run g c =
+returns-in-Ok-clause-run g c rest times =
     told-as _ _ _ c.end_with.result _ _ c.in-Ok.ensures.told
     (subst (λ (x : List ℕ). WritesAs x Done c.end_with.result (g.K.Sink.written c.args.output.now) (g.K.Sink.written c.end_with.new.output)) c.items.ensures c.end_with.ensures.told)
 

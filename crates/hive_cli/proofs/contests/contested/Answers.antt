@@ -1,10 +1,9 @@
 -- A tournament that wants memory before it begins reads nothing and starts no program.
-use Rattle.cup_command.specs.Cup.{scene as cup_scene}
-use Rattle.tournament_command.specs.Reads.{read_scene as tournament_scene}
+use Rattle.command_runs.specs.World.{sides, world}
 use Rattle.hive_cli.proofs.RunLemmas.{starved_tournament}
 use Rattle.hive_cli.proofs.contests.contested.Goals as goal
 
 pub returns-in_default-clause-run : goal.returns-in_default-clause-run
-returns-in_default-clause-run g c =
+returns-in_default-clause-run g c times =
     starved_tournament c.args.words.now c.args.format.setup c.args.format.rounds c.args.format.gauntlet c.args.format.at_once c.args.format.resume
-    (tournament_scene (g.S.Source.rest c.args.input.now) (cup_scene (g.K.Sink.written c.args.output.now) (g.P.Spawner.engines c.args.spawner.now))) c.requires.words
+    (world (sides (g.S.Source.rest c.args.input.now) (g.K.Sink.written c.args.output.now)) times (g.P.Spawner.engines c.args.spawner.now)) c.requires.words

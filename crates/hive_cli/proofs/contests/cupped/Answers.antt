@@ -8,7 +8,7 @@ pub play_cup-requires-clause-depth : goal.play_cup-requires-clause-depth
 play_cup-requires-clause-depth g c κs within = cup_depth c.args.words.now c.args.setup c.requires.words
 
 pub returns-in_default-clause-run : goal.returns-in_default-clause-run
-returns-in_default-clause-run g c =
+returns-in_default-clause-run g c rest times =
     let (engines, asks) = asks_engines c.args.words.now c.args.setup c.requires.words in (
       engines,
       asks,

@@ -9,9 +9,11 @@ returns-in_default g c =
     let alone = is_alone c.args.asked c.in_default.not-Match c.in_default.not-Cup c.in_default.not-Audit c.in_default.not-Tournament in
     record {
       does = does;
+      reads = c.perform_alone.ensures.reads;
+      writes = c.perform_alone.ensures.writes;
       starts = λ unstarted. record {
         later = omega arith;
-        rose = λ e. absurd (never_spawns c.args.words.now c.args.asked c.perform_alone.result.status _ _ alone does.run e);
+        rose = λ e. absurd (never_spawns c.args.words.now c.args.asked c.perform_alone.result.status _ _ alone does e);
         same = λ n. refl;
       };
       clock = c.perform_alone.ensures.clock;

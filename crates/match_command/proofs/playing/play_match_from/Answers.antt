@@ -6,9 +6,9 @@ use Rattle.match_command.proofs.Starting.{both_as, none_failed, none_open, told_
 use Rattle.match_command.proofs.playing.play_match_from.Goals as goal
 
 pub returns-in-Ok-clause-run : goal.returns-in-Ok-clause-run
-returns-in-Ok-clause-run g c =
+returns-in-Ok-clause-run g c rest timed =
     told_as _ _ c.end_with.result _ _
-    (told_from _ _ _ _ _ _ _ _ _ c.in-Ok-play_and_close.ensures.played c.in-Ok.ensures.next c.in-Ok-play_and_close.ensures.none_started.to_come c.in-Ok.ensures.sent c.in-Ok.ensures.failed)
+    (told_from _ _ _ _ _ _ _ _ _ (c.in-Ok-play_and_close.ensures.played timed) c.in-Ok.ensures.next c.in-Ok-play_and_close.ensures.none_started.to_come c.in-Ok.ensures.sent c.in-Ok.ensures.failed)
     (subst (λ (x : List ℕ). WritesAs x Done c.end_with.result (g.K.Sink.written c.args.output.now) (g.K.Sink.written c.end_with.new.output)) c.items.ensures c.end_with.ensures.told)
 
 pub returns-in-Ok-clause-started : goal.returns-in-Ok-clause-started

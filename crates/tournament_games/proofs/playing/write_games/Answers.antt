@@ -1,14 +1,19 @@
 use Rattle.std.proofs.Common.{◌≡◌, ◌+◌, ◌≤◌, ◌∙◌, [], refl, ap, sym, subst, arith}
 use Rattle.io_edge.specs.Outside.{HasCause}
+use Rattle.command_runs.specs.World.{sides, world}
 use Rattle.command_runs.specs.declared.status.Status.TheVariants.{WriteFault}
-use Rattle.cup_command.specs.Cup.{scene}
 use Rattle.tournament_games.proofs.Runs.{ends-games, told-none, wrote-more, wrote-none}
 use Rattle.tournament_games.proofs.playing.write_games.Goals as goal
 
 pub loop-done-init : goal.loop-done-init
 loop-done-init g c = record {
   within = c.requires.within;
-  so_far = ([], [], omega arith, wrote-none c.args.tournament.now c.args.first c.args.tally.now (scene (g.K.Sink.written c.args.output.now) (g.P.Spawner.engines c.args.spawner.now)) (told-none (g.K.Sink.written c.args.output.now)));
+  so_far = λ rest times. (
+    [],
+    [],
+    omega arith,
+    wrote-none c.args.tournament.now c.args.first c.args.tally.now (world (sides rest (g.K.Sink.written c.args.output.now)) times (g.P.Spawner.engines c.args.spawner.now)) (told-none (g.K.Sink.written c.args.output.now)),
+  );
   engines = refl;
   noted = c.requires.noted;
   faults = refl;
@@ -17,17 +22,17 @@ loop-done-init g c = record {
 pub loop-done-preserved : goal.loop-done-preserved
 loop-done-preserved g c =
     let so = c.loop-done.invariant in
-    let (olds, news, at, wrote) = so.so_far in
     let from : c.from-done.result ≡ c.wave_of-count.result = c.from-done.ensures in
     let left = c.wave_of-count.ensures.within in
     let low = c.loop-done-test.true in
     let step : c.loop-done.done + c.wave_of-count.result ≡ c.loop-done.done + c.from-done.result = ap (λ n. c.loop-done.done + n) (sym from) in
-    let (os, ns, more, now) = wrote-more c.args.tournament.now c.args.first c.loop-done.done c.wave_of-count.result olds news c.args.tally.now c.loop-done.tally c.write_wave.new.tally
-    (scene (g.K.Sink.written c.args.output.now) (g.P.Spawner.engines c.args.spawner.now)) (scene (g.K.Sink.written c.loop-done.output) (g.P.Spawner.engines c.loop-done.spawner)) (scene (g.K.Sink.written c.write_wave.new.output) (g.P.Spawner.engines c.write_wave.new.spawner))
-    at wrote c.in-Done.ensures.run in
     record {
       within = omega (arith, from, left, low);
-      so_far = (os, ns, sym step ∙ more, now);
+      so_far = λ rest times.
+          let (olds, news, at, wrote) = so.so_far rest times in
+          let (os, ns, more, now) = wrote-more c.args.tournament.now c.args.first c.loop-done.done c.wave_of-count.result olds news c.args.tally.now c.loop-done.tally c.write_wave.new.tally
+          (world (sides rest (g.K.Sink.written c.args.output.now)) times (g.P.Spawner.engines c.args.spawner.now)) (world (sides rest (g.K.Sink.written c.loop-done.output)) times (g.P.Spawner.engines c.loop-done.spawner)) (world (sides rest (g.K.Sink.written c.write_wave.new.output)) times (g.P.Spawner.engines c.write_wave.new.spawner))
+          at wrote (c.in-Done.ensures.run rest times) in (os, ns, sym step ∙ more, now);
       engines = c.in-Done.ensures.engines ∙ so.engines;
       noted = c.in-Done.ensures.count refl ∙ (ap (λ n. n + c.wave_of-count.result) so.noted ∙ step);
       faults = c.in-Done.ensures.cause.same (λ e. cc) ∙ so.faults;
@@ -36,12 +41,13 @@ loop-done-preserved g c =
 pub returns-in_default : goal.returns-in_default
 returns-in_default g c =
     let so = c.loop-done.invariant in
-    let (olds, news, at, wrote) = so.so_far in
     let few : c.wave_of-count.result ≤ c.args.tournament.now.at_once = omega (arith, c.wave_of-count.ensures.few, c.at_once-at_once.ensures.value) in
     record {
-      run = ends-games c.args.tournament.now c.args.first c.loop-done.done c.wave_of-count.result olds news c.args.tally.now c.loop-done.tally c.write_wave.new.tally c.write_wave.result
-          (scene (g.K.Sink.written c.args.output.now) (g.P.Spawner.engines c.args.spawner.now)) (scene (g.K.Sink.written c.loop-done.output) (g.P.Spawner.engines c.loop-done.spawner)) (scene (g.K.Sink.written c.write_wave.new.output) (g.P.Spawner.engines c.write_wave.new.spawner))
-          at few c.in_default.not-Done wrote c.write_wave.ensures.run;
+      run = λ rest times.
+          let (olds, news, at, wrote) = so.so_far rest times in
+          ends-games c.args.tournament.now c.args.first c.loop-done.done c.wave_of-count.result olds news c.args.tally.now c.loop-done.tally c.write_wave.new.tally c.write_wave.result
+          (world (sides rest (g.K.Sink.written c.args.output.now)) times (g.P.Spawner.engines c.args.spawner.now)) (world (sides rest (g.K.Sink.written c.loop-done.output)) times (g.P.Spawner.engines c.loop-done.spawner)) (world (sides rest (g.K.Sink.written c.write_wave.new.output)) times (g.P.Spawner.engines c.write_wave.new.spawner))
+          at few c.in_default.not-Done wrote (c.write_wave.ensures.run rest times);
       engines = c.write_wave.ensures.engines ∙ so.engines;
       cause = subst (λ n. HasCause (c.write_wave.result ≡ WriteFault) n (g.K.Sink.write_faults c.write_wave.new.output)) so.faults c.write_wave.ensures.cause;
     }
