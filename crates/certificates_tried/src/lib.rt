@@ -1,5 +1,4 @@
-//! Certificates and forced wins, tried: the public calls of their crates over texts, sources and
-//! sinks in memory.
+//! Certificates, tried: the public calls of their crates over texts, sources and sinks in memory.
 #![tactic(auto)]
 
 #[cfg(test)]
@@ -14,7 +13,3 @@ mod strategy_lemmas_tests;
 mod strategy_make_tests;
 #[cfg(test)]
 mod strategy_verdicts_tests;
-#[cfg(test)]
-mod win_commands_tests;
-#[cfg(test)]
-mod win_solver_tests;

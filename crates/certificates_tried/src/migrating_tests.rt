@@ -70,42 +70,45 @@ fn certificates_become_citing_ones(rt: HostRuntime) -> Result<(), Fail> {
     Ok(())
 }
 
+/// Texts of which none is made that cites, and what is answered.
+const REFUSED: [(&str, Status, &str); 8] = [
+    ("", Status::BadInput, "bad line 1\n"),
+    (SECOND, Status::BadInput, "bad line 1\n"),
+    (
+        "hive-certificate 1\nbase\n",
+        Status::BadInput,
+        "bad malformed part 1\n",
+    ),
+    (
+        "hive-certificate 1\nBase\ndepth 2\nmove wA1\nvalue 10\n0\n@0\n0\n0\n",
+        Status::BadInput,
+        "bad line 7\n",
+    ),
+    (
+        "hive-certificate 1\nBase\ndepth 2\nmove wA1\nvalue 11\n0\n0\n0\n0\n",
+        Status::Refused,
+        "refused leaf 3\n",
+    ),
+    (
+        "hive-certificate 1\nBase\ndepth 2\nmove wA1\nvalue 10\n0\n0\n0\n",
+        Status::Refused,
+        "refused short 3\n",
+    ),
+    (
+        "hive-certificate 1\nBase\ndepth 2\nmove wQ\nvalue 10\n0\n0\n0\n0\n",
+        Status::Refused,
+        "refused move 0\n",
+    ),
+    (
+        "hive-certificate 1\nBase\ndepth 2\nmove queen\nvalue 10\n0\n0\n0\n0\n",
+        Status::Refused,
+        "refused move 0\n",
+    ),
+];
+
 #[test]
 fn other_texts_are_named(rt: HostRuntime) -> Result<(), Fail> {
-    for (input, status, written) in [
-        ("", Status::BadInput, "bad line 1\n"),
-        (SECOND, Status::BadInput, "bad line 1\n"),
-        (
-            "hive-certificate 1\nbase\n",
-            Status::BadInput,
-            "bad malformed part 1\n",
-        ),
-        (
-            "hive-certificate 1\nBase\ndepth 2\nmove wA1\nvalue 10\n0\n@0\n0\n0\n",
-            Status::BadInput,
-            "bad line 7\n",
-        ),
-        (
-            "hive-certificate 1\nBase\ndepth 2\nmove wA1\nvalue 11\n0\n0\n0\n0\n",
-            Status::Refused,
-            "refused leaf 3\n",
-        ),
-        (
-            "hive-certificate 1\nBase\ndepth 2\nmove wA1\nvalue 10\n0\n0\n0\n",
-            Status::Refused,
-            "refused short 3\n",
-        ),
-        (
-            "hive-certificate 1\nBase\ndepth 2\nmove wQ\nvalue 10\n0\n0\n0\n0\n",
-            Status::Refused,
-            "refused move 0\n",
-        ),
-        (
-            "hive-certificate 1\nBase\ndepth 2\nmove queen\nvalue 10\n0\n0\n0\n0\n",
-            Status::Refused,
-            "refused move 0\n",
-        ),
-    ] {
+    for (input, status, written) in REFUSED {
         expect_answer(
             &rt,
             rt.alloc(),

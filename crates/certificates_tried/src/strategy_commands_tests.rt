@@ -16,8 +16,10 @@ const TWO_PLIES: &str =
     "hive-certificate 1\nBase;NotStarted;White[1]\ndepth 2\nmove wA1\nvalue 10\n0\n0\n0\n0\n";
 
 /// A finished game.
-const DRAWN: &str =
-    "Base;Draw;Black[7];wS1;bS1 wS1-;wQ /wS1;bQ bS1-;wQ wS1\\;bQ bS1\\;wG1 -wQ;bG1 bS1-;wB1 wG1\\;bB1 bQ-;wA1 -wB1;bA1 bQ\\;wA1 wQ\\";
+const DRAWN: &str = concat!(
+    "Base;Draw;Black[7];wS1;bS1 wS1-;wQ /wS1;bQ bS1-;wQ wS1\\;bQ bS1\\;wG1 -wQ;bG1 bS1-;",
+    "wB1 wG1\\;bB1 bQ-;wA1 -wB1;bA1 bQ\\;wA1 wQ\\",
+);
 
 /// What is asked for: a certificate one ply or two deep, a check, or a certificate that cites.
 #[derive(Clone, Copy, Debug)]
@@ -38,6 +40,16 @@ pub(crate) struct Failing {
 /// No call fails.
 const NONE: Failing = Failing { read: 0, write: 0 };
 
+/// Runs a command over these two sides, and says with which status it ended.
+fn ended(alloc: Global, asked: Asked, source: &mut MemSource, sink: &mut MemSink) -> Status {
+    match asked {
+        Asked::OnePly => certify::<MemSource, MemSink, FastGame>(alloc, 1, source, sink),
+        Asked::TwoPlies => certify::<MemSource, MemSink, FastGame>(alloc, 2, source, sink),
+        Asked::Check => check::<MemSource, MemSink, FastGame>(alloc, source, sink),
+        Asked::Migrate => migrate::<MemSource, MemSink, FastGame>(alloc, source, sink),
+    }
+}
+
 /// Runs a command in memory, and compares the status and all that was written.
 pub(crate) fn expect_run<R: Abort>(
     rt: &R,
@@ -54,17 +66,7 @@ pub(crate) fn expect_run<R: Abort>(
     let writes = Vec::from_slice(alloc, &[failing.write])?;
     let mut source = MemSource::new(bytes, Vec::from_slice(alloc, pieces)?, reads);
     let mut sink = MemSink::new(alloc, Vec::from_slice(alloc, pieces)?, writes);
-    let ended = match asked {
-        Asked::OnePly => certify::<MemSource, MemSink, FastGame>(alloc, 1, &mut source, &mut sink),
-        Asked::TwoPlies => certify::<MemSource, MemSink, FastGame>(
-            alloc,
-            2,
-            &mut source,
-            &mut sink,
-        ),
-        Asked::Check => check::<MemSource, MemSink, FastGame>(alloc, &mut source, &mut sink),
-        Asked::Migrate => migrate::<MemSource, MemSink, FastGame>(alloc, &mut source, &mut sink),
-    };
+    let ended = ended(alloc, asked, &mut source, &mut sink);
     assert_eq!(rt;
         ended,
         status,
@@ -120,14 +122,17 @@ fn certificates_are_written(rt: HostRuntime) -> Result<(), Fail> {
     Ok(())
 }
 
+/// Inputs of which no certificate is made, and the lines that say so.
+const BAD_INPUTS: [(&str, &str); 4] = [
+    ("", "bad no line\n"),
+    ("Base;NotStarted;White[2]\n", "bad other turn\n"),
+    (DRAWN, "bad game over\n"),
+    ("Base\nBase\n", "bad more lines\n"),
+];
+
 #[test]
 fn input_that_is_no_game_is_named(rt: HostRuntime) -> Result<(), Fail> {
-    for (input, written) in [
-        ("", "bad no line\n"),
-        ("Base;NotStarted;White[2]\n", "bad other turn\n"),
-        (DRAWN, "bad game over\n"),
-        ("Base\nBase\n", "bad more lines\n"),
-    ] {
+    for (input, written) in BAD_INPUTS {
         expect_answer(
             &rt,
             rt.alloc(),
@@ -140,89 +145,93 @@ fn input_that_is_no_game_is_named(rt: HostRuntime) -> Result<(), Fail> {
     Ok(())
 }
 
+/// The move, the value and the other lines of texts that claim what the opening of the base game is
+/// worth two plies deep, and what a check of each answers.
+const CLAIMS: [(&str, &str, &str, Status, &str); 13] = [
+    ("wA1", "10", "0\n0\n0\n0", Status::Done, "accepted\n"),
+    (
+        "wA1",
+        "10",
+        "24\n0\n0\n0\n",
+        Status::Refused,
+        "refused index 1\n",
+    ),
+    (
+        "wA1",
+        "11",
+        "0\n0\n0\n0\n",
+        Status::Refused,
+        "refused leaf 3\n",
+    ),
+    (
+        "wA1",
+        "10",
+        "0\n0\n0\n",
+        Status::Refused,
+        "refused short 3\n",
+    ),
+    (
+        "wA1",
+        "10",
+        "0\n0\n0\n0\n0\n",
+        Status::Refused,
+        "refused rest 4\n",
+    ),
+    (
+        "wA1",
+        "10",
+        "0\n0\n0\n0\nrest\n",
+        Status::Refused,
+        "refused rest 4\n",
+    ),
+    (
+        "wB1",
+        "8",
+        "0\n0\n0\n0\n",
+        Status::Refused,
+        "refused leaf 4\n",
+    ),
+    (
+        "wQ",
+        "10",
+        "0\n0\n0\n0\n",
+        Status::Refused,
+        "refused move 0\n",
+    ),
+    (
+        "queen",
+        "10",
+        "0\n0\n0\n0\n",
+        Status::Refused,
+        "refused move 0\n",
+    ),
+    (
+        "wA1",
+        "10",
+        "00\n0\n0\n0\n",
+        Status::BadInput,
+        "bad line 6\n",
+    ),
+    (
+        "wA1",
+        "10",
+        "0\n0\n5488\n0\n",
+        Status::BadInput,
+        "bad line 8\n",
+    ),
+    ("", "10", "0\n0\n0\n0\n", Status::BadInput, "bad line 4\n"),
+    (
+        "wA1",
+        "-0",
+        "0\n0\n0\n0\n",
+        Status::BadInput,
+        "bad line 5\n",
+    ),
+];
+
 #[test]
 fn claims_are_checked(rt: HostRuntime) -> Result<(), Fail> {
-    for (best, value, rest, status, written) in [
-        ("wA1", "10", "0\n0\n0\n0", Status::Done, "accepted\n"),
-        (
-            "wA1",
-            "10",
-            "24\n0\n0\n0\n",
-            Status::Refused,
-            "refused index 1\n",
-        ),
-        (
-            "wA1",
-            "11",
-            "0\n0\n0\n0\n",
-            Status::Refused,
-            "refused leaf 3\n",
-        ),
-        (
-            "wA1",
-            "10",
-            "0\n0\n0\n",
-            Status::Refused,
-            "refused short 3\n",
-        ),
-        (
-            "wA1",
-            "10",
-            "0\n0\n0\n0\n0\n",
-            Status::Refused,
-            "refused rest 4\n",
-        ),
-        (
-            "wA1",
-            "10",
-            "0\n0\n0\n0\nrest\n",
-            Status::Refused,
-            "refused rest 4\n",
-        ),
-        (
-            "wB1",
-            "8",
-            "0\n0\n0\n0\n",
-            Status::Refused,
-            "refused leaf 4\n",
-        ),
-        (
-            "wQ",
-            "10",
-            "0\n0\n0\n0\n",
-            Status::Refused,
-            "refused move 0\n",
-        ),
-        (
-            "queen",
-            "10",
-            "0\n0\n0\n0\n",
-            Status::Refused,
-            "refused move 0\n",
-        ),
-        (
-            "wA1",
-            "10",
-            "00\n0\n0\n0\n",
-            Status::BadInput,
-            "bad line 6\n",
-        ),
-        (
-            "wA1",
-            "10",
-            "0\n0\n5488\n0\n",
-            Status::BadInput,
-            "bad line 8\n",
-        ),
-        ("", "10", "0\n0\n0\n0\n", Status::BadInput, "bad line 4\n"),
-        (
-            "wA1",
-            "-0",
-            "0\n0\n0\n0\n",
-            Status::BadInput,
-            "bad line 5\n",
-        ),
-    ] {
+    for (best, value, rest, status, written) in CLAIMS {
         let text = text_of(rt.alloc(), best, value, rest)?;
         expect_answer(
             &rt,
@@ -236,18 +245,21 @@ fn claims_are_checked(rt: HostRuntime) -> Result<(), Fail> {
     Ok(())
 }
 
+/// The tokens of texts for the same claim that may cite, and what a check of each answers.
+const TOKENS: [(&str, Status, &str); 8] = [
+    ("0\n0\n0\n0\n", Status::Done, "accepted\n"),
+    ("@0\n0\n0\n0\n", Status::Refused, "refused cite 1\n"),
+    ("0\n@0\n0\n0\n", Status::Refused, "refused cite 2\n"),
+    ("24\n0\n0\n0\n", Status::Refused, "refused index 1\n"),
+    ("0\n0\n0\n", Status::Refused, "refused short 3\n"),
+    ("0\n0\n0\n0\n@0\n", Status::Refused, "refused rest 4\n"),
+    ("@65536\n0\n0\n0\n", Status::BadInput, "bad line 6\n"),
+    ("0\n@\n0\n0\n", Status::BadInput, "bad line 7\n"),
+];
+
 #[test]
 fn tokens_are_checked(rt: HostRuntime) -> Result<(), Fail> {
-    for (rest, status, written) in [
-        ("0\n0\n0\n0\n", Status::Done, "accepted\n"),
-        ("@0\n0\n0\n0\n", Status::Refused, "refused cite 1\n"),
-        ("0\n@0\n0\n0\n", Status::Refused, "refused cite 2\n"),
-        ("24\n0\n0\n0\n", Status::Refused, "refused index 1\n"),
-        ("0\n0\n0\n", Status::Refused, "refused short 3\n"),
-        ("0\n0\n0\n0\n@0\n", Status::Refused, "refused rest 4\n"),
-        ("@65536\n0\n0\n0\n", Status::BadInput, "bad line 6\n"),
-        ("0\n@\n0\n0\n", Status::BadInput, "bad line 7\n"),
-    ] {
+    for (rest, status, written) in TOKENS {
         let head = b"hive-certificate 2\nBase\ndepth 2\nmove wA1\nvalue 10\n".as_slice();
         let mut text = Vec::from_slice(rt.alloc(), head)?;
         text.extend_from_slice(rest.as_bytes())?;
@@ -263,22 +275,25 @@ fn tokens_are_checked(rt: HostRuntime) -> Result<(), Fail> {
     Ok(())
 }
 
+/// Heads that are cut or faulty, and the lines that say so.
+const HEADS: [(&str, &str); 9] = [
+    ("", "bad line 1\n"),
+    ("hive-certificate 3\n", "bad line 1\n"),
+    ("hive-certificate 0\n", "bad line 1\n"),
+    ("hive-certificate 2\n", "bad line 2\n"),
+    ("hive-solution 1\n", "bad line 1\n"),
+    ("hive-certificate 1\n", "bad line 2\n"),
+    ("hive-certificate 1\nbase\n", "bad malformed part 1\n"),
+    (
+        "hive-certificate 1\nBase\ndepth 0\nmove wA1\nvalue 10\n",
+        "bad line 3\n",
+    ),
+    ("hive-certificate 1\nBase\ndepth 65\n", "bad line 3\n"),
+];
+
 #[test]
 fn heads_are_checked_line_by_line(rt: HostRuntime) -> Result<(), Fail> {
-    for (input, written) in [
-        ("", "bad line 1\n"),
-        ("hive-certificate 3\n", "bad line 1\n"),
-        ("hive-certificate 0\n", "bad line 1\n"),
-        ("hive-certificate 2\n", "bad line 2\n"),
-        ("hive-solution 1\n", "bad line 1\n"),
-        ("hive-certificate 1\n", "bad line 2\n"),
-        ("hive-certificate 1\nbase\n", "bad malformed part 1\n"),
-        (
-            "hive-certificate 1\nBase\ndepth 0\nmove wA1\nvalue 10\n",
-            "bad line 3\n",
-        ),
-        ("hive-certificate 1\nBase\ndepth 65\n", "bad line 3\n"),
-    ] {
+    for (input, written) in HEADS {
         expect_answer(
             &rt,
             rt.alloc(),
@@ -291,24 +306,28 @@ fn heads_are_checked_line_by_line(rt: HostRuntime) -> Result<(), Fail> {
     Ok(())
 }
 
+/// The fronts of the certificate, by how many bytes they have at least and at most, and what a
+/// check of each of them answers.
+const FRONTS: [(usize, usize, Status, &str); 14] = [
+    (0, 17, Status::BadInput, "bad line 1\n"),
+    (18, 19, Status::BadInput, "bad line 2\n"),
+    (20, 22, Status::BadInput, "bad malformed part 1\n"),
+    (23, 23, Status::BadInput, "bad line 3\n"),
+    (24, 33, Status::BadInput, "bad malformed part 2\n"),
+    (34, 42, Status::BadInput, "bad malformed part 3\n"),
+    (43, 50, Status::BadInput, "bad line 3\n"),
+    (51, 57, Status::BadInput, "bad line 4\n"),
+    (58, 67, Status::BadInput, "bad line 5\n"),
+    (68, 70, Status::Refused, "refused short 0\n"),
+    (71, 72, Status::Refused, "refused short 1\n"),
+    (73, 74, Status::Refused, "refused short 2\n"),
+    (75, 76, Status::Refused, "refused short 3\n"),
+    (77, 78, Status::Done, "accepted\n"),
+];
+
 #[test]
 fn each_front_of_a_certificate_is_checked(rt: HostRuntime) -> Result<(), Fail> {
-    for (least, most, status, written) in [
-        (0, 17, Status::BadInput, "bad line 1\n"),
-        (18, 19, Status::BadInput, "bad line 2\n"),
-        (20, 22, Status::BadInput, "bad malformed part 1\n"),
-        (23, 23, Status::BadInput, "bad line 3\n"),
-        (24, 33, Status::BadInput, "bad malformed part 2\n"),
-        (34, 42, Status::BadInput, "bad malformed part 3\n"),
-        (43, 50, Status::BadInput, "bad line 3\n"),
-        (51, 57, Status::BadInput, "bad line 4\n"),
-        (58, 67, Status::BadInput, "bad line 5\n"),
-        (68, 70, Status::Refused, "refused short 0\n"),
-        (71, 72, Status::Refused, "refused short 1\n"),
-        (73, 74, Status::Refused, "refused short 2\n"),
-        (75, 76, Status::Refused, "refused short 3\n"),
-        (77, 78, Status::Done, "accepted\n"),
-    ] {
+    for (least, most, status, written) in FRONTS {
         for bytes in least..=most {
             let mut front = Vec::from_slice(rt.alloc(), TWO_PLIES.as_bytes())?;
             front.truncate(bytes);

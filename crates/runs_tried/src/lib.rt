@@ -1,4 +1,4 @@
-//! The program's one top call, tried: sessions, commands, matches and cups over sources, sinks,
+//! The program's one top call, tried: commands, matches, cups and tournaments over sources, sinks,
 //! clocks and programs in memory.
 #![tactic(auto)]
 

@@ -14,8 +14,10 @@ use uhp_session::{LineIn, Reply, Session};
 const WORKERS: &str = "options set Workers 2";
 
 /// A game begins in which one move wins.
-const GAME: &str =
-    "newgame Base;InProgress;White[7];wS1;bS1 wS1-;wQ /wS1;bQ bS1-;wQ /bS1;bQ wQ-;wG1 -wS1;bG1 bS1-;wB1 /wQ;bB1 bQ-;wA1 -wB1;bA1 /bB1";
+const GAME: &str = concat!(
+    "newgame Base;InProgress;White[7];wS1;bS1 wS1-;wQ /wS1;bQ bS1-;wQ /bS1;bQ wQ-;",
+    "wG1 -wS1;bG1 bS1-;wB1 /wQ;bB1 bQ-;wA1 -wB1;bA1 /bB1",
+);
 
 /// The reply to a search for its best move.
 const BEST: &[u8] = b"wA1 wB1-\nok\n";

@@ -21,88 +21,66 @@ const GROWN: &str =
     "seed 0\ntype Base+MLP\nplies 1\nstate InProgress\nmoves 7\nundone 1\nbest bS1 -wG1\n\
                      game Base+MLP;InProgress;Black[1];wG1\n";
 
+/// Words, an input, the status with which the run of them ends, and what it writes.
+const COMMANDS: [(&[&str], &str, Status, &str); 18] = [
+    (
+        &["certify", "--depth", "2"],
+        "Base\n",
+        Status::Done,
+        CERTIFICATE,
+    ),
+    (
+        &["certify", "--depth=2"],
+        "",
+        Status::BadInput,
+        "bad no line\n",
+    ),
+    (&["check"], CERTIFICATE, Status::Done, "accepted\n"),
+    (&["check"], SOLUTION, Status::BadInput, "bad line 1\n"),
+    (&["solve", "--plies", "2"], "Base\n", Status::Done, SOLUTION),
+    (&["verify"], SOLUTION, Status::Done, "accepted\n"),
+    (&["verify"], CERTIFICATE, Status::BadInput, "bad line 1\n"),
+    (
+        &["grow", "--seed", "0", "--plies", "1"],
+        "x\n",
+        Status::Done,
+        GROWN,
+    ),
+    (&["grow", "1"], "", Status::Usage, ""),
+    (
+        &["match", "--white", "a", "--black", "b"],
+        "",
+        Status::SpawnFault,
+        "",
+    ),
+    (&["match", "--white", "a"], "", Status::Usage, ""),
+    (
+        &["audit", "--engine", "a", "--games", "1", "--seed", "0"],
+        "",
+        Status::SpawnFault,
+        "",
+    ),
+    (&["audit", "--engine", "a"], "", Status::Usage, ""),
+    (&["migrate"], CERTIFICATE, Status::Done, CITING),
+    (&["check"], CITING, Status::Done, "accepted\n"),
+    (&["migrate"], CITING, Status::BadInput, "bad line 1\n"),
+    (
+        &["book"],
+        "Base\nBase;InProgress;White[2];wS1;bA1 wS1-\n",
+        Status::Done,
+        "book wS1 1\n",
+    ),
+    (
+        &["book"],
+        "Base\nBase;Draw;Black[1];wS1\n",
+        Status::BadInput,
+        "bad line 2\n",
+    ),
+];
+
 #[test]
 fn each_command_answers(rt: HostRuntime) -> Result<(), Fail> {
-    for (words, input, status, written) in [
-        (
-            ["certify", "--depth", "2"].as_slice(),
-            "Base\n",
-            Status::Done,
-            CERTIFICATE,
-        ),
-        (
-            ["certify", "--depth=2"].as_slice(),
-            "",
-            Status::BadInput,
-            "bad no line\n",
-        ),
-        (
-            ["check"].as_slice(),
-            CERTIFICATE,
-            Status::Done,
-            "accepted\n",
-        ),
-        (
-            ["check"].as_slice(),
-            SOLUTION,
-            Status::BadInput,
-            "bad line 1\n",
-        ),
-        (
-            ["solve", "--plies", "2"].as_slice(),
-            "Base\n",
-            Status::Done,
-            SOLUTION,
-        ),
-        (["verify"].as_slice(), SOLUTION, Status::Done, "accepted\n"),
-        (
-            ["verify"].as_slice(),
-            CERTIFICATE,
-            Status::BadInput,
-            "bad line 1\n",
-        ),
-        (
-            ["grow", "--seed", "0", "--plies", "1"].as_slice(),
-            "x\n",
-            Status::Done,
-            GROWN,
-        ),
-        (["grow", "1"].as_slice(), "", Status::Usage, ""),
-        (
-            ["match", "--white", "a", "--black", "b"].as_slice(),
-            "",
-            Status::SpawnFault,
-            "",
-        ),
-        (["match", "--white", "a"].as_slice(), "", Status::Usage, ""),
-        (
-            ["audit", "--engine", "a", "--games", "1", "--seed", "0"].as_slice(),
-            "",
-            Status::SpawnFault,
-            "",
-        ),
-        (["audit", "--engine", "a"].as_slice(), "", Status::Usage, ""),
-        (["migrate"].as_slice(), CERTIFICATE, Status::Done, CITING),
-        (["check"].as_slice(), CITING, Status::Done, "accepted\n"),
-        (
-            ["migrate"].as_slice(),
-            CITING,
-            Status::BadInput,
-            "bad line 1\n",
-        ),
-        (
-            ["book"].as_slice(),
-            "Base\nBase;InProgress;White[2];wS1;bA1 wS1-\n",
-            Status::Done,
-            "book wS1 1\n",
-        ),
-        (
-            ["book"].as_slice(),
-            "Base\nBase;Draw;Black[1];wS1\n",
-            Status::BadInput,
-            "bad line 2\n",
-        ),
-    ] {
+    for (words, input, status, written) in COMMANDS {
         let setting = Setting {
             words,
             input: input.as_bytes(),

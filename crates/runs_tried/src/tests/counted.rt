@@ -1,6 +1,6 @@
 //! Counts of lists of legal moves, input that is no game to count, and words that ask for no count.
 
-use crate::tests::{Setting, expect_run, joined};
+use crate::tests::{Setting, expect_run};
 use hive_cli::Status;
 use std::alloc::{AllocError, Global};
 use std::process::Abort;
@@ -55,33 +55,39 @@ fn lists_of_four_plies_are_counted(rt: HostRuntime) -> Result<(), Fail> {
     Ok(())
 }
 
+/// Games, and the counts of up to two plies behind each.
+const BEGUN: [(&str, &str); 3] = [
+    ("Base", "1 4\n2 96\n"),
+    ("Base;InProgress;Black[1];wS1\r\n", "1 24\n2 360\n"),
+    ("Base+MLP;InProgress;Black[1];wS1\n", "1 42\n2 1008\n"),
+];
+
 #[test]
 fn counts_begin_after_the_moves_of_the_game(rt: HostRuntime) -> Result<(), Fail> {
-    for (input, written) in [
-        ("Base", "1 4\n2 96\n"),
-        ("Base;InProgress;Black[1];wS1\r\n", "1 24\n2 360\n"),
-        ("Base+MLP;InProgress;Black[1];wS1\n", "1 42\n2 1008\n"),
-    ] {
+    for (input, written) in BEGUN {
         expect_counts(&rt, rt.alloc(), input.as_bytes(), Status::Done, written)?;
     }
     Ok(())
 }
 
+/// Inputs that are no game to count, and how that is said.
+const BAD_INPUTS: [(&str, &str); 8] = [
+    ("", "bad no line\n"),
+    ("\n", "bad malformed part 1\n"),
+    (
+        "Base;InProgress;Black[2];wS1;bS1 wS1-;wQ -wS1;bQ -wS1\n",
+        "bad illegal move 4\n",
+    ),
+    ("Base;Draw;Black[1];wS1\n", "bad other state\n"),
+    ("Base;InProgress;White[1];wS1\nBase\n", "bad other turn\n"),
+    (DRAW, "bad game over\n"),
+    ("Base\n\n", "bad more lines\n"),
+    ("Base\nBase", "bad more lines\n"),
+];
+
 #[test]
 fn bad_input_is_named(rt: HostRuntime) -> Result<(), Fail> {
-    for (input, written) in [
-        ("", "bad no line\n"),
-        ("\n", "bad malformed part 1\n"),
-        (
-            "Base;InProgress;Black[2];wS1;bS1 wS1-;wQ -wS1;bQ -wS1\n",
-            "bad illegal move 4\n",
-        ),
-        ("Base;Draw;Black[1];wS1\n", "bad other state\n"),
-        ("Base;InProgress;White[1];wS1\nBase\n", "bad other turn\n"),
-        (DRAW, "bad game over\n"),
-        ("Base\n\n", "bad more lines\n"),
-        ("Base\nBase", "bad more lines\n"),
-    ] {
+    for (input, written) in BAD_INPUTS {
         expect_counts(&rt, rt.alloc(), input.as_bytes(), Status::BadInput, written)?;
     }
     Ok(())
@@ -97,7 +103,7 @@ fn a_game_may_be_too_long(rt: HostRuntime) -> Result<(), Fail> {
         Status::BadInput,
         "bad line too long\n",
     )?;
-    let mut game = joined(rt.alloc(), "Base;InProgress;White[2501]", &[])?;
+    let mut game = Vec::from_slice(rt.alloc(), b"Base;InProgress;White[2501]")?;
     for _ in 0..5001 {
         game.extend_from_slice(b";wS1")?;
     }
@@ -129,23 +135,26 @@ fn an_option_is_written_in_one_word_or_in_two(rt: HostRuntime) -> Result<(), Fai
     Ok(())
 }
 
+/// Words that begin like those of a count, and are none.
+const OTHER_WORDS: [&[&str]; 13] = [
+    &["count"],
+    &["count", "2"],
+    &["count", "--plies"],
+    &["count", "--plies="],
+    &["count", "--plies", "0"],
+    &["count", "--plies", "9"],
+    &["count", "--plies", "02"],
+    &["count", "--plies", "-2"],
+    &["count", "--plys", "2"],
+    &["count", "-plies", "2"],
+    &["count", "--plies", "2", "--plies", "2"],
+    &["count", "--plies=2", "x"],
+    &["--plies=2", "count"],
+];
+
 #[test]
 fn other_words_ask_for_no_count(rt: HostRuntime) -> Result<(), Fail> {
-    for words in [
-        ["count"].as_slice(),
-        ["count", "2"].as_slice(),
-        ["count", "--plies"].as_slice(),
-        ["count", "--plies="].as_slice(),
-        ["count", "--plies", "0"].as_slice(),
-        ["count", "--plies", "9"].as_slice(),
-        ["count", "--plies", "02"].as_slice(),
-        ["count", "--plies", "-2"].as_slice(),
-        ["count", "--plys", "2"].as_slice(),
-        ["count", "-plies", "2"].as_slice(),
-        ["count", "--plies", "2", "--plies", "2"].as_slice(),
-        ["count", "--plies=2", "x"].as_slice(),
-        ["--plies=2", "count"].as_slice(),
-    ] {
+    for words in OTHER_WORDS {
         let setting = Setting {
             words,
             input: b"Base\n".as_slice(),
@@ -176,15 +185,18 @@ fn a_failed_read_ends_a_count(rt: HostRuntime) -> Result<(), Fail> {
     Ok(())
 }
 
+/// An input, the greatest size of a piece, the number of the write that fails, and what is written.
+const CUT: [(&str, usize, u64, &str); 5] = [
+    ("Base\n", 1, 1, ""),
+    ("Base\n", 1, 6, "1 4\n2"),
+    ("Base\n", 7, 2, "1 4\n"),
+    ("Base\n\n", 1, 4, "bad"),
+    ("Base\n\n", 7, 2, "bad mor"),
+];
+
 #[test]
 fn a_failed_write_ends_a_count(rt: HostRuntime) -> Result<(), Fail> {
-    for (input, piece, failing_write, written) in [
-        ("Base\n", 1, 1, ""),
-        ("Base\n", 1, 6, "1 4\n2"),
-        ("Base\n", 7, 2, "1 4\n"),
-        ("Base\n\n", 1, 4, "bad"),
-        ("Base\n\n", 7, 2, "bad mor"),
-    ] {
+    for (input, piece, failing_write, written) in CUT {
         let setting = Setting {
             words: &["count", "--plies", "2"],
             input: input.as_bytes(),

@@ -45,15 +45,18 @@ fn a_match_begins_with_the_game_of_the_input(rt: HostRuntime) -> Result<(), Fail
 const WON: &str = "Base;WhiteWins;Black[7];wS1;bS1 wS1-;wQ /wS1;bQ bS1-;wQ /bS1;bQ wQ-;wG1 -wS1;\
                    bG1 bS1-;wB1 /wQ;bB1 bQ-;wA1 -wB1;bA1 /bB1;wA1 wB1-\n";
 
+/// Inputs from which no match begins, and how that is said.
+const REFUSED: [(&str, &str); 5] = [
+    (WON, "bad game over\n"),
+    ("", "bad no line\n"),
+    ("Base;InProgress\n", "bad malformed part 3\n"),
+    ("Base;InProgress;Black[1];wQ\n", "bad illegal move 1\n"),
+    ("Base\n\n", "bad more lines\n"),
+];
+
 #[test]
 fn no_match_begins_without_a_game_that_goes_on(rt: HostRuntime) -> Result<(), Fail> {
-    for (input, written) in [
-        (WON, "bad game over\n"),
-        ("", "bad no line\n"),
-        ("Base;InProgress\n", "bad malformed part 3\n"),
-        ("Base;InProgress;Black[1];wQ\n", "bad illegal move 1\n"),
-        ("Base\n\n", "bad more lines\n"),
-    ] {
+    for (input, written) in REFUSED {
         let said = [WHITE, BLACK];
         let mut clock = StepClock::new(0, 1);
         let bytes = input.as_bytes();

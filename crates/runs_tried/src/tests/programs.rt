@@ -1,35 +1,14 @@
 //! Matches and cups by the words that ask for them, over programs that stand in memory.
 
-use hive_cli::{Status, run};
-use io_edge::{Clock, MemLink, MemSink, MemSource, MemSpawner, StepClock};
+use crate::tests::{Played, play, sink_of, source_of, spawner_of};
+use hive_cli::Status;
+use io_edge::{Clock, StepClock};
 use std::alloc::{AllocError, Global};
 use std::test::Fail;
 use std::thread::Threads;
-use tournament_games::StepClocks;
-
-/// A link that will say this.
-fn link_of(alloc: Global, text: &[u8]) -> Result<MemLink, AllocError> {
-    let source = MemSource::new(
-        Vec::from_slice(alloc, text)?,
-        Vec::new(alloc),
-        Vec::new(alloc),
-    );
-    Ok(MemLink::new(
-        source,
-        MemSink::new(alloc, Vec::new(alloc), Vec::new(alloc)),
-    ))
-}
-
-/// How a run over programs ended, what it wrote, and the starter with the closed links.
-#[derive(Drop)]
-pub(crate) struct Played {
-    pub(crate) status: Status,
-    pub(crate) output: MemSink,
-    spawner: MemSpawner,
-}
 
 /// What was sent to the closed link of this number, where there is one.
-pub(crate) fn sent(played: &Played, number: usize) -> &[u8] {
+pub(super) fn sent(played: &Played, number: usize) -> &[u8] {
     match played.spawner.closed().get(number) {
         Some(link) => link.sent(),
         None => b"none was closed".as_slice(),
@@ -38,7 +17,7 @@ pub(crate) fn sent(played: &Played, number: usize) -> &[u8] {
 
 /// Runs these words by this clock, with no input, over programs that say this, in the order of
 /// their starts; the start of this number fails (0: none fails).
-pub(crate) fn run_over<R: Threads + Sync, C: Clock>(
+pub(super) fn run_over<R: Threads + Sync, C: Clock>(
     rt: &R,
     alloc: Global,
     words: &[&str],
@@ -50,7 +29,7 @@ pub(crate) fn run_over<R: Threads + Sync, C: Clock>(
 }
 
 /// The same with this input.
-pub(crate) fn run_over_input<R: Threads + Sync, C: Clock>(
+pub(super) fn run_over_input<R: Threads + Sync, C: Clock>(
     rt: &R,
     alloc: Global,
     words: &[&str],
@@ -59,33 +38,10 @@ pub(crate) fn run_over_input<R: Threads + Sync, C: Clock>(
     failing_start: u64,
     clock: &mut C,
 ) -> Result<Played, AllocError> {
-    let mut owned = Vec::new(alloc);
-    for word in words {
-        owned.push(String::from_str(alloc, word)?)?;
-    }
-    let mut links = Vec::new(alloc);
-    for text in said {
-        links.push(link_of(alloc, text)?)?;
-    }
-    let bytes = Vec::from_slice(alloc, input)?;
-    let mut input = MemSource::new(bytes, Vec::new(alloc), Vec::new(alloc));
-    let mut output = MemSink::new(alloc, Vec::new(alloc), Vec::new(alloc));
-    let mut spawner = MemSpawner::new(alloc, links, Vec::from_slice(alloc, &[failing_start])?);
-    let outcome = run(
-        rt,
-        alloc,
-        owned.as_slice(),
-        &mut input,
-        &mut output,
-        clock,
-        &mut spawner,
-        &StepClocks { start: 0, step: 1 },
-    );
-    Ok(Played {
-        status: outcome.status,
-        output,
-        spawner,
-    })
+    let source = source_of(alloc, input, &[], 0)?;
+    let sink = sink_of(alloc, &[], 0)?;
+    let spawner = spawner_of(alloc, said, failing_start)?;
+    play(rt, alloc, words, source, sink, clock, spawner)
 }
 
 /// What the programs of a cup of two engines say, in the order of their starts: in the second game

@@ -11,17 +11,20 @@ fn without_a_game_there_is_nothing_to_play(rt: HostRuntime) -> Result<(), Fail> 
     Ok(())
 }
 
+/// Lines that are no command, and the answer to each.
+const NO_COMMANDS: [(&str, &str); 7] = [
+    ("\n", "err 1 unknown command"),
+    ("help\n", "err 1 unknown command"),
+    ("bestmove depth 65\n", "err 2 wrong arguments"),
+    ("undo 0\n", "err 2 wrong arguments"),
+    ("info x\n", "err 2 wrong arguments"),
+    ("options set Workers 17\n", "err 9 value out of range"),
+    ("options get Hash\n", "err 9 no such option"),
+];
+
 #[test]
 fn a_line_that_is_no_command_is_refused(rt: HostRuntime) -> Result<(), Fail> {
-    for (line, reply) in [
-        ("\n", "err 1 unknown command"),
-        ("help\n", "err 1 unknown command"),
-        ("bestmove depth 65\n", "err 2 wrong arguments"),
-        ("undo 0\n", "err 2 wrong arguments"),
-        ("info x\n", "err 2 wrong arguments"),
-        ("options set Workers 17\n", "err 9 value out of range"),
-        ("options get Hash\n", "err 9 no such option"),
-    ] {
+    for (line, reply) in NO_COMMANDS {
         let lines = [line, "options\n"];
         let replies = [
             reply,
@@ -35,21 +38,24 @@ fn a_line_that_is_no_command_is_refused(rt: HostRuntime) -> Result<(), Fail> {
     Ok(())
 }
 
+/// Games that are refused, and the answer to each.
+const REFUSED_GAMES: [(&str, &str); 5] = [
+    ("Base;InProgress;Black[1];wS1;bS1 wS1-", "err 5 other turn"),
+    ("Base;Draw;Black[1];wS1", "err 5 other state"),
+    (
+        "Base;InProgress;Black[2];wS1;bS1 wS1-;wQ -wS1;bQ -wS1",
+        "err 6 illegal move 4",
+    ),
+    (
+        "Base;InProgress;White[2];wS1;bS1 wS1-;",
+        "err 4 malformed part 6",
+    ),
+    ("Base+PM", "err 4 malformed part 1"),
+];
+
 #[test]
 fn a_game_that_is_refused_leaves_the_old_one(rt: HostRuntime) -> Result<(), Fail> {
-    for (game, reply) in [
-        ("Base;InProgress;Black[1];wS1;bS1 wS1-", "err 5 other turn"),
-        ("Base;Draw;Black[1];wS1", "err 5 other state"),
-        (
-            "Base;InProgress;Black[2];wS1;bS1 wS1-;wQ -wS1;bQ -wS1",
-            "err 6 illegal move 4",
-        ),
-        (
-            "Base;InProgress;White[2];wS1;bS1 wS1-;",
-            "err 4 malformed part 6",
-        ),
-        ("Base+PM", "err 4 malformed part 1"),
-    ] {
+    for (game, reply) in REFUSED_GAMES {
         let lines = ["newgame\nnewgame ", game, "\nvalidmoves\n"];
         let replies = [
             "Base;NotStarted;White[1]\nok\n",
@@ -61,15 +67,18 @@ fn a_game_that_is_refused_leaves_the_old_one(rt: HostRuntime) -> Result<(), Fail
     Ok(())
 }
 
+/// Lines that are refused after `wS1`, and the answer to each.
+const REFUSED_MOVES: [(&str, &str); 5] = [
+    ("play wS1", "invalidmove 1 unreadable"),
+    ("play bS1 wA1-", "invalidmove 2 not in play wA1"),
+    ("play bQ wS1-", "invalidmove 3 not legal"),
+    ("pass", "invalidmove 3 not legal"),
+    ("undo 2", "err 7 undo beyond start"),
+];
+
 #[test]
 fn a_move_that_is_refused_is_not_made(rt: HostRuntime) -> Result<(), Fail> {
-    for (line, reply) in [
-        ("play wS1", "invalidmove 1 unreadable"),
-        ("play bS1 wA1-", "invalidmove 2 not in play wA1"),
-        ("play bQ wS1-", "invalidmove 3 not legal"),
-        ("pass", "invalidmove 3 not legal"),
-        ("undo 2", "err 7 undo beyond start"),
-    ] {
+    for (line, reply) in REFUSED_MOVES {
         let lines = ["newgame\nplay wS1\n", line, "\nundo\n"];
         let replies = [
             "Base;NotStarted;White[1]\nok\nBase;InProgress;Black[1];wS1\nok\n",

@@ -12,12 +12,16 @@ use win_commands::{solve, verify};
 const OPENING: &str = "hive-solution 1\nBase;NotStarted;White[1]\nplies 2\nanswer no\n0\n0\n0\n0\n";
 
 /// A game whose side to move wins with its next move.
-const WON: &str =
-    "Base;InProgress;White[7];wS1;bS1 wS1-;wQ /wS1;bQ bS1-;wQ /bS1;bQ wQ-;wG1 -wS1;bG1 bS1-;wB1 /wQ;bB1 bQ-;wA1 -wB1;bA1 /bB1";
+const WON: &str = concat!(
+    "Base;InProgress;White[7];wS1;bS1 wS1-;wQ /wS1;bQ bS1-;wQ /bS1;bQ wQ-;wG1 -wS1;",
+    "bG1 bS1-;wB1 /wQ;bB1 bQ-;wA1 -wB1;bA1 /bB1",
+);
 
 /// A finished game.
-const DRAWN: &str =
-    "Base;Draw;Black[7];wS1;bS1 wS1-;wQ /wS1;bQ bS1-;wQ wS1\\;bQ bS1\\;wG1 -wQ;bG1 bS1-;wB1 wG1\\;bB1 bQ-;wA1 -wB1;bA1 bQ\\;wA1 wQ\\";
+const DRAWN: &str = concat!(
+    "Base;Draw;Black[7];wS1;bS1 wS1-;wQ /wS1;bQ bS1-;wQ wS1\\;bQ bS1\\;wG1 -wQ;bG1 bS1-;",
+    "wB1 wG1\\;bB1 bQ-;wA1 -wB1;bA1 bQ\\;wA1 wQ\\",
+);
 
 /// What is asked for: a solution within one ply or two, or a check.
 #[derive(Clone, Copy, Debug)]
@@ -37,6 +41,15 @@ struct Failing {
 /// No call fails.
 const NONE: Failing = Failing { read: 0, write: 0 };
 
+/// Runs a command over these two sides, and says with which status it ended.
+fn ended(alloc: Global, asked: Asked, source: &mut MemSource, sink: &mut MemSink) -> Status {
+    match asked {
+        Asked::OnePly => solve::<MemSource, MemSink, FastGame>(alloc, 1, source, sink),
+        Asked::TwoPlies => solve::<MemSource, MemSink, FastGame>(alloc, 2, source, sink),
+        Asked::Verify => verify::<MemSource, MemSink, FastGame>(alloc, source, sink),
+    }
+}
+
 /// Runs a command in memory, and compares the status and all that was written.
 fn expect_run<R: Abort>(
     rt: &R,
@@ -53,11 +66,7 @@ fn expect_run<R: Abort>(
     let writes = Vec::from_slice(alloc, &[failing.write])?;
     let mut source = MemSource::new(bytes, Vec::from_slice(alloc, pieces)?, reads);
     let mut sink = MemSink::new(alloc, Vec::from_slice(alloc, pieces)?, writes);
-    let ended = match asked {
-        Asked::OnePly => solve::<MemSource, MemSink, FastGame>(alloc, 1, &mut source, &mut sink),
-        Asked::TwoPlies => solve::<MemSource, MemSink, FastGame>(alloc, 2, &mut source, &mut sink),
-        Asked::Verify => verify::<MemSource, MemSink, FastGame>(alloc, &mut source, &mut sink),
-    };
+    let ended = ended(alloc, asked, &mut source, &mut sink);
     assert_eq!(rt;
         ended,
         status,
@@ -144,14 +153,17 @@ fn a_win_is_told_by_one_index(rt: HostRuntime) -> Result<(), Fail> {
     Ok(())
 }
 
+/// Inputs of which no solution is made, and the lines that say so.
+const BAD_INPUTS: [(&str, &str); 4] = [
+    ("", "bad no line\n"),
+    ("Base;NotStarted;White[2]\n", "bad other turn\n"),
+    (DRAWN, "bad game over\n"),
+    ("Base\nBase\n", "bad more lines\n"),
+];
+
 #[test]
 fn input_that_is_no_game_is_named(rt: HostRuntime) -> Result<(), Fail> {
-    for (input, written) in [
-        ("", "bad no line\n"),
-        ("Base;NotStarted;White[2]\n", "bad other turn\n"),
-        (DRAWN, "bad game over\n"),
-        ("Base\nBase\n", "bad more lines\n"),
-    ] {
+    for (input, written) in BAD_INPUTS {
         expect_answer(
             &rt,
             rt.alloc(),
@@ -164,6 +176,20 @@ fn input_that_is_no_game_is_named(rt: HostRuntime) -> Result<(), Fail> {
     Ok(())
 }
 
+/// The answer and the other lines of texts about the opening of the base game, and what a check of
+/// each answers.
+const ANSWERS: [(&str, &str, Status, &str); 9] = [
+    ("no", "0\n0\n0\n0", Status::Done, "accepted\n"),
+    ("no", "0\n0\n0\n", Status::Refused, "refused short 3\n"),
+    ("no", "24\n0\n0\n0\n", Status::Refused, "refused index 1\n"),
+    ("no", "0\n0\n0\n0\n0\n", Status::Refused, "refused rest 4\n"),
+    ("yes", "4\n", Status::Refused, "refused index 1\n"),
+    ("yes", "0\n", Status::Refused, "refused leaf 1\n"),
+    ("no", "0\n00\n0\n0\n", Status::BadInput, "bad line 6\n"),
+    ("no", "0\n0\n0\n5488\n", Status::BadInput, "bad line 8\n"),
+    ("maybe", "0\n", Status::BadInput, "bad line 4\n"),
+];
+
 #[test]
 fn indices_are_checked(rt: HostRuntime) -> Result<(), Fail> {
     expect_answer(
@@ -174,17 +200,7 @@ fn indices_are_checked(rt: HostRuntime) -> Result<(), Fail> {
         Status::Done,
         "accepted\n",
     )?;
-    for (answer, rest, status, written) in [
-        ("no", "0\n0\n0\n0", Status::Done, "accepted\n"),
-        ("no", "0\n0\n0\n", Status::Refused, "refused short 3\n"),
-        ("no", "24\n0\n0\n0\n", Status::Refused, "refused index 1\n"),
-        ("no", "0\n0\n0\n0\n0\n", Status::Refused, "refused rest 4\n"),
-        ("yes", "4\n", Status::Refused, "refused index 1\n"),
-        ("yes", "0\n", Status::Refused, "refused leaf 1\n"),
-        ("no", "0\n00\n0\n0\n", Status::BadInput, "bad line 6\n"),
-        ("no", "0\n0\n0\n5488\n", Status::BadInput, "bad line 8\n"),
-        ("maybe", "0\n", Status::BadInput, "bad line 4\n"),
-    ] {
+    for (answer, rest, status, written) in ANSWERS {
         let text = text_of(rt.alloc(), answer, rest)?;
         expect_answer(
             &rt,
@@ -198,21 +214,24 @@ fn indices_are_checked(rt: HostRuntime) -> Result<(), Fail> {
     Ok(())
 }
 
+/// Heads that are cut or faulty, and the lines that say so.
+const HEADS: [(&str, &str); 8] = [
+    ("", "bad line 1\n"),
+    ("hive-solution 2\n", "bad line 1\n"),
+    ("hive-certificate 1\n", "bad line 1\n"),
+    ("hive-solution 1\n", "bad line 2\n"),
+    ("hive-solution 1\nbase\n", "bad malformed part 1\n"),
+    ("hive-solution 1\nBase\nplies 0\n", "bad line 3\n"),
+    (
+        "hive-solution 1\nBase\nplies 17\nanswer no\n",
+        "bad line 3\n",
+    ),
+    ("hive-solution 1\nBase\nplies 16\n", "bad line 4\n"),
+];
+
 #[test]
 fn heads_are_checked_line_by_line(rt: HostRuntime) -> Result<(), Fail> {
-    for (input, written) in [
-        ("", "bad line 1\n"),
-        ("hive-solution 2\n", "bad line 1\n"),
-        ("hive-certificate 1\n", "bad line 1\n"),
-        ("hive-solution 1\n", "bad line 2\n"),
-        ("hive-solution 1\nbase\n", "bad malformed part 1\n"),
-        ("hive-solution 1\nBase\nplies 0\n", "bad line 3\n"),
-        (
-            "hive-solution 1\nBase\nplies 17\nanswer no\n",
-            "bad line 3\n",
-        ),
-        ("hive-solution 1\nBase\nplies 16\n", "bad line 4\n"),
-    ] {
+    for (input, written) in HEADS {
         expect_answer(
             &rt,
             rt.alloc(),

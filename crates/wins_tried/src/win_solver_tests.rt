@@ -9,8 +9,10 @@ use std::test::Fail;
 use win_solver::Solver;
 
 /// A game whose side to move wins with its next move.
-const WON: &str =
-    "Base;InProgress;White[7];wS1;bS1 wS1-;wQ /wS1;bQ bS1-;wQ /bS1;bQ wQ-;wG1 -wS1;bG1 bS1-;wB1 /wQ;bB1 bQ-;wA1 -wB1;bA1 /bB1";
+const WON: &str = concat!(
+    "Base;InProgress;White[7];wS1;bS1 wS1-;wQ /wS1;bQ bS1-;wQ /bS1;bQ wQ-;wG1 -wS1;",
+    "bG1 bS1-;wB1 /wQ;bB1 bQ-;wA1 -wB1;bA1 /bB1",
+);
 
 /// A text that is to be read.
 fn source_of(alloc: Global, text: &str) -> Result<MemSource, AllocError> {

@@ -21,6 +21,9 @@ const SECONDS: &str = "bS1 -wS1;bS1 /wS1;bS1 \\wS1;bS1 wS1\\;bS1 wS1/;bS1 wS1-;\
                        bG1 -wS1;bG1 /wS1;bG1 \\wS1;bG1 wS1\\;bG1 wS1/;bG1 wS1-;\
                        bA1 -wS1;bA1 /wS1;bA1 \\wS1;bA1 wS1\\;bA1 wS1/;bA1 wS1-\nok\n";
 
+/// What is asked of most sessions at their end.
+const ALL: &str = "options\nvalidmoves\n";
+
 /// Lines, further lines that are refused after them with the reply to each, and lines that are
 /// asked at the end with their replies.
 #[derive(Clone, Copy)]
@@ -93,83 +96,85 @@ fn expect_kept<R: Threads + Sync + Abort>(
     expect_no_trace(rt, alloc, talk, talk.refused)
 }
 
+/// Talks about short games, or none.
+const SHORT: [Talk<'static>; 5] = [
+    Talk {
+        before: &["newgame\nplay wS1\n"],
+        refused: &[
+            ("pass\n", "invalidmove 3 not legal"),
+            ("play pass\n", "invalidmove 3 not legal"),
+            ("play wS1\n", "invalidmove 1 unreadable"),
+            ("play bS1 wA1-\n", "invalidmove 2 not in play wA1"),
+            ("play bQ wS1-\n", "invalidmove 3 not legal"),
+            ("undo 2\n", "err 7 undo beyond start"),
+        ],
+        asked: ALL,
+        told: &[OPTIONS, SECONDS],
+    },
+    Talk {
+        before: &["newgame\nplay wS1\nplay bS1 wS1-\n"],
+        refused: &[("undo 3\n", "err 7 undo beyond start")],
+        asked: "options\nundo 2\nvalidmoves\n",
+        told: &[OPTIONS, "Base;NotStarted;White[1]\nok\n", FIRSTS],
+    },
+    Talk {
+        before: &["newgame\n"],
+        refused: &[
+            (
+                "newgame Base;InProgress;Black[1];wS1;bS1 wS1-\n",
+                "err 5 other turn",
+            ),
+            ("newgame Base;Draw;Black[1];wS1\n", "err 5 other state"),
+            (
+                "newgame Base;InProgress;Black[2];wS1;bS1 wS1-;wQ -wS1;bQ -wS1\n",
+                "err 6 illegal move 4",
+            ),
+            (
+                "newgame Base;InProgress;White[2];wS1;bS1 wS1-;\n",
+                "err 4 malformed part 6",
+            ),
+            ("newgame Base+PM\n", "err 4 malformed part 1"),
+            ("\n", "err 1 unknown command"),
+            ("help\n", "err 1 unknown command"),
+            ("bestmove depth 65\n", "err 2 wrong arguments"),
+            ("undo 0\n", "err 2 wrong arguments"),
+            ("info x\n", "err 2 wrong arguments"),
+        ],
+        asked: ALL,
+        told: &[OPTIONS, FIRSTS],
+    },
+    Talk {
+        before: &[""],
+        refused: &[
+            ("play wS1\n", "err 3 no game"),
+            ("pass\n", "err 3 no game"),
+            ("undo\n", "err 3 no game"),
+            ("validmoves\n", "err 3 no game"),
+            ("bestmove depth 1\n", "err 3 no game"),
+            ("newgame Base+PM\n", "err 4 malformed part 1"),
+        ],
+        asked: ALL,
+        told: &[OPTIONS, "err 3 no game\nok\n"],
+    },
+    Talk {
+        before: &["newgame\noptions set Workers 2\n"],
+        refused: &[
+            ("options set Workers 17\n", "err 9 value out of range"),
+            ("options get Hash\n", "err 9 no such option"),
+        ],
+        asked: ALL,
+        told: &[
+            "Table;int;65536;65536;1;1048576\nWorkers;int;2;1;1;16\n",
+            "Repetition;int;0;0;0;1\nok\n",
+            FIRSTS,
+        ],
+    },
+];
+
 #[test]
 fn refused_lines_of_a_short_game_leave_no_trace(rt: HostRuntime) -> Result<(), Fail> {
-    let all = "options\nvalidmoves\n";
-    for talk in [
-        Talk {
-            before: &["newgame\nplay wS1\n"],
-            refused: &[
-                ("pass\n", "invalidmove 3 not legal"),
-                ("play pass\n", "invalidmove 3 not legal"),
-                ("play wS1\n", "invalidmove 1 unreadable"),
-                ("play bS1 wA1-\n", "invalidmove 2 not in play wA1"),
-                ("play bQ wS1-\n", "invalidmove 3 not legal"),
-                ("undo 2\n", "err 7 undo beyond start"),
-            ],
-            asked: all,
-            told: &[OPTIONS, SECONDS],
-        },
-        Talk {
-            before: &["newgame\nplay wS1\nplay bS1 wS1-\n"],
-            refused: &[("undo 3\n", "err 7 undo beyond start")],
-            asked: "options\nundo 2\nvalidmoves\n",
-            told: &[OPTIONS, "Base;NotStarted;White[1]\nok\n", FIRSTS],
-        },
-        Talk {
-            before: &["newgame\n"],
-            refused: &[
-                (
-                    "newgame Base;InProgress;Black[1];wS1;bS1 wS1-\n",
-                    "err 5 other turn",
-                ),
-                ("newgame Base;Draw;Black[1];wS1\n", "err 5 other state"),
-                (
-                    "newgame Base;InProgress;Black[2];wS1;bS1 wS1-;wQ -wS1;bQ -wS1\n",
-                    "err 6 illegal move 4",
-                ),
-                (
-                    "newgame Base;InProgress;White[2];wS1;bS1 wS1-;\n",
-                    "err 4 malformed part 6",
-                ),
-                ("newgame Base+PM\n", "err 4 malformed part 1"),
-                ("\n", "err 1 unknown command"),
-                ("help\n", "err 1 unknown command"),
-                ("bestmove depth 65\n", "err 2 wrong arguments"),
-                ("undo 0\n", "err 2 wrong arguments"),
-                ("info x\n", "err 2 wrong arguments"),
-            ],
-            asked: all,
-            told: &[OPTIONS, FIRSTS],
-        },
-        Talk {
-            before: &[""],
-            refused: &[
-                ("play wS1\n", "err 3 no game"),
-                ("pass\n", "err 3 no game"),
-                ("undo\n", "err 3 no game"),
-                ("validmoves\n", "err 3 no game"),
-                ("bestmove depth 1\n", "err 3 no game"),
-                ("newgame Base+PM\n", "err 4 malformed part 1"),
-            ],
-            asked: all,
-            told: &[OPTIONS, "err 3 no game\nok\n"],
-        },
-        Talk {
-            before: &["newgame\noptions set Workers 2\n"],
-            refused: &[
-                ("options set Workers 17\n", "err 9 value out of range"),
-                ("options get Hash\n", "err 9 no such option"),
-            ],
-            asked: all,
-            told: &[
-                "Table;int;65536;65536;1;1048576\nWorkers;int;2;1;1;16\n",
-                "Repetition;int;0;0;0;1\nok\n",
-                FIRSTS,
-            ],
-        },
-    ] {
-        expect_kept(&rt, rt.alloc(), &talk)?;
+    for talk in &SHORT {
+        expect_kept(&rt, rt.alloc(), talk)?;
     }
     Ok(())
 }
@@ -205,45 +210,48 @@ const BEFORE_A_DRAW: &str = concat!(
 const PASSING: &str =
     "wB1;bS1 wB1-;wQ \\wB1;bQ bS1-;wQ wB1/;bQ bS1\\;wB1 bS1;bQ wB1-;wB2 /wB1;bQ wB2-;wB2 bQ";
 
+/// Talks about a game that is over, and about one in which black has to pass.
+const LONG: [Talk<'static>; 2] = [
+    Talk {
+        before: &["newgame Base;Draw;Black[7];", BEFORE_A_DRAW, ";wA1 wB1-\n"],
+        refused: &[
+            ("validmoves\n", "err 8 game over"),
+            ("bestmove depth 1\n", "err 8 game over"),
+            ("play pass\n", "invalidmove 4 game over"),
+            ("pass\n", "invalidmove 4 game over"),
+            ("undo 14\n", "err 7 undo beyond start"),
+        ],
+        asked: "options\nvalidmoves\nundo\nplay wA1 wB1-\n",
+        told: &[
+            OPTIONS,
+            "err 8 game over\nok\nBase;InProgress;White[7];",
+            BEFORE_A_DRAW,
+            "\nok\nBase;Draw;Black[7];",
+            BEFORE_A_DRAW,
+            ";wA1 wB1-\nok\n",
+        ],
+    },
+    Talk {
+        before: &["newgame Base;InProgress;Black[6];", PASSING, "\n"],
+        refused: &[
+            ("play wQ -bS1\n", "invalidmove 3 not legal"),
+            ("undo 12\n", "err 7 undo beyond start"),
+            ("play pass x\n", "invalidmove 1 unreadable"),
+        ],
+        asked: "options\nvalidmoves\npass\n",
+        told: &[
+            OPTIONS,
+            "pass\nok\nBase;InProgress;White[7];",
+            PASSING,
+            ";pass\nok\n",
+        ],
+    },
+];
+
 #[test]
 fn refused_lines_of_long_games_leave_no_trace(rt: HostRuntime) -> Result<(), Fail> {
-    for talk in [
-        Talk {
-            before: &["newgame Base;Draw;Black[7];", BEFORE_A_DRAW, ";wA1 wB1-\n"],
-            refused: &[
-                ("validmoves\n", "err 8 game over"),
-                ("bestmove depth 1\n", "err 8 game over"),
-                ("play pass\n", "invalidmove 4 game over"),
-                ("pass\n", "invalidmove 4 game over"),
-                ("undo 14\n", "err 7 undo beyond start"),
-            ],
-            asked: "options\nvalidmoves\nundo\nplay wA1 wB1-\n",
-            told: &[
-                OPTIONS,
-                "err 8 game over\nok\nBase;InProgress;White[7];",
-                BEFORE_A_DRAW,
-                "\nok\nBase;Draw;Black[7];",
-                BEFORE_A_DRAW,
-                ";wA1 wB1-\nok\n",
-            ],
-        },
-        Talk {
-            before: &["newgame Base;InProgress;Black[6];", PASSING, "\n"],
-            refused: &[
-                ("play wQ -bS1\n", "invalidmove 3 not legal"),
-                ("undo 12\n", "err 7 undo beyond start"),
-                ("play pass x\n", "invalidmove 1 unreadable"),
-            ],
-            asked: "options\nvalidmoves\npass\n",
-            told: &[
-                OPTIONS,
-                "pass\nok\nBase;InProgress;White[7];",
-                PASSING,
-                ";pass\nok\n",
-            ],
-        },
-    ] {
-        expect_kept(&rt, rt.alloc(), &talk)?;
+    for talk in &LONG {
+        expect_kept(&rt, rt.alloc(), talk)?;
     }
     Ok(())
 }

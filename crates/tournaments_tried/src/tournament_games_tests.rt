@@ -2,10 +2,10 @@
 ghost use Rattle.std.specs.Prelude.{◌≤◌, length};
 ghost use Rattle.tournament_core.specs.Schedules.{schedule};
 
+use crate::engines::{BASE, Seen, expect_seen, links_of, two_programs};
 use command_runs::Status;
-use cup::Program;
-use hive_model::{GameType, MoveList};
-use io_edge::{MemLink, MemSink, MemSource, MemSpawner};
+use hive_model::MoveList;
+use io_edge::{MemLink, MemSink, MemSpawner};
 use match_core::{Level, Setup};
 use plain_game::PlainGame;
 use std::alloc::{AllocError, Global};
@@ -15,11 +15,7 @@ use tournament_core::{GameEnd, Plan};
 use tournament_games::{StepClocks, Tournament, play_tournament};
 
 const ONE_PLY: Setup = Setup {
-    game_type: GameType {
-        mosquito: false,
-        ladybug: false,
-        pillbug: false,
-    },
+    game_type: BASE,
     level: Level::Depth { depth: 1 },
     limit: 1,
     repetition: false,
@@ -68,53 +64,13 @@ const RESUMED: &[u8] = b"game 7 1 2 Base;InProgress;Black[1];wS1\nverdict 7 1 2 
     a points 8 games 8 wins 0 draws 8 losses 0 forfeits 0\n\
     b points 8 games 8 wins 0 draws 8 losses 0 forfeits 0\n";
 
-/// A link that will say this.
-pub(crate) fn link_of(alloc: Global, text: &[u8]) -> Result<MemLink, AllocError> {
-    let source = MemSource::new(
-        Vec::from_slice(alloc, text)?,
-        Vec::new(alloc),
-        Vec::new(alloc),
-    );
-    Ok(MemLink::new(
-        source,
-        MemSink::new(alloc, Vec::new(alloc), Vec::new(alloc)),
-    ))
-}
-
-/// The links of so many games.
-fn links_of(alloc: Global, games: u32) -> Result<Vec<MemLink>, AllocError> {
-    let mut links = Vec::new(alloc);
-    for _ in 0..games {
-        links.push(link_of(alloc, WHITE)?)?;
-        links.push(link_of(alloc, BLACK)?)?;
-    }
-    Ok(links)
-}
-
-/// The program of this name and no other words.
-pub(crate) fn program_of(alloc: Global, name: &str) -> Result<Program, AllocError> {
-    let mut words = Vec::new(alloc);
-    words.push(String::from_str(alloc, name)?)?;
-    Ok(Program::new(String::from_str(alloc, name)?, words))
-}
-
 /// A tournament of the programs `a` and `b`, three games at once.
 fn tournament_of(alloc: Global) -> Result<Tournament, AllocError> {
-    let mut programs = Vec::new(alloc);
-    programs.push(program_of(alloc, "a")?)?;
-    programs.push(program_of(alloc, "b")?)?;
+    let programs = two_programs(alloc)?;
     let mut openings = Vec::new(alloc);
     openings.push(MoveList::new(alloc))?;
     openings.push(MoveList::new(alloc))?;
     Ok(Tournament::new(programs, TWO_ROUNDS, ONE_PLY, openings, 3))
-}
-
-/// How a tournament ended, what it wrote, and the starter with the closed links.
-#[derive(Drop)]
-struct Seen {
-    status: Status,
-    output: MemSink,
-    spawner: MemSpawner,
 }
 
 /// Plays a tournament over these links; the start of the first number fails, and the write of the
@@ -154,10 +110,9 @@ fn play_over<R: Threads + Sync>(
 fn eight_games_are_played_in_waves(rt: HostRuntime) -> Result<(), Fail> {
     let alloc = rt.alloc();
     let tournament = tournament_of(alloc)?;
-    let seen = play_over(&rt, alloc, &tournament, &[], links_of(alloc, 8)?, 0, 0)?;
-    assert_eq!(rt; seen.status, Status::Done);
-    assert_eq!(rt; seen.output.bytes(), TEXT);
-    assert_eq!(rt; seen.spawner.closed().len(), 16);
+    let links = links_of(alloc, WHITE, BLACK, 8)?;
+    let seen = play_over(&rt, alloc, &tournament, &[], links, 0, 0)?;
+    expect_seen(&rt, &seen, Status::Done, TEXT, 16);
     Ok(())
 }
 
@@ -165,10 +120,9 @@ fn eight_games_are_played_in_waves(rt: HostRuntime) -> Result<(), Fail> {
 fn a_program_that_does_not_start_forfeits_its_game(rt: HostRuntime) -> Result<(), Fail> {
     let alloc = rt.alloc();
     let tournament = tournament_of(alloc)?;
-    let seen = play_over(&rt, alloc, &tournament, &[], links_of(alloc, 7)?, 5, 0)?;
-    assert_eq!(rt; seen.status, Status::Done);
-    assert_eq!(rt; seen.output.bytes(), ABSENT);
-    assert_eq!(rt; seen.spawner.closed().len(), 14);
+    let links = links_of(alloc, WHITE, BLACK, 7)?;
+    let seen = play_over(&rt, alloc, &tournament, &[], links, 5, 0)?;
+    expect_seen(&rt, &seen, Status::Done, ABSENT, 14);
     Ok(())
 }
 
@@ -182,10 +136,9 @@ fn games_that_were_played_count_and_are_not_played_again(rt: HostRuntime) -> Res
     };
     let played = [drawn; 6];
     assert!(rt; tournament.plan().games() >= 6);
-    let links = links_of(alloc, 2)?;
+    let links = links_of(alloc, WHITE, BLACK, 2)?;
     let seen = play_over(&rt, alloc, &tournament, played.as_slice(), links, 0, 0)?;
-    assert_eq!(rt; seen.status, Status::Done);
-    assert_eq!(rt; seen.output.bytes(), RESUMED);
+    expect_seen(&rt, &seen, Status::Done, RESUMED, 4);
     Ok(())
 }
 
@@ -194,7 +147,7 @@ fn a_write_of_the_output_fails(rt: HostRuntime) -> Result<(), Fail> {
     let alloc = rt.alloc();
     let tournament = tournament_of(alloc)?;
     for (write, bytes, closed) in [(1, 0, 6), (2, 7, 6), (29, 193, 12)] {
-        let links = links_of(alloc, 8)?;
+        let links = links_of(alloc, WHITE, BLACK, 8)?;
         let seen = play_over(&rt, alloc, &tournament, &[], links, 0, write)?;
         assert_eq!(rt; seen.status, Status::WriteFault);
         assert_eq!(rt; seen.output.bytes().len(), bytes);

@@ -1,10 +1,9 @@
 //! Tournaments of programs that stand in memory, whose openings and earlier games are read.
 ghost use Rattle.tournament_command.specs.Formats.{IsFormat};
 
-use crate::tournament_games_tests::{link_of, program_of};
+use crate::engines::{BASE, Seen, expect_seen, links_of, two_programs};
 use command_runs::Status;
-use hive_model::GameType;
-use io_edge::{MemLink, MemSink, MemSource, MemSpawner};
+use io_edge::{MemSink, MemSource, MemSpawner};
 use match_core::{Level, Setup};
 use plain_game::PlainGame;
 use std::alloc::{AllocError, Global};
@@ -14,11 +13,7 @@ use tournament_command::{Format, play_read_tournament};
 use tournament_games::StepClocks;
 
 const THREE_PLIES: Setup = Setup {
-    game_type: GameType {
-        mosquito: false,
-        ladybug: false,
-        pillbug: false,
-    },
+    game_type: BASE,
     level: Level::Depth { depth: 1 },
     limit: 3,
     repetition: false,
@@ -93,24 +88,6 @@ const BEHIND_ONE: &[u8] = b"game 2 2 1 Base;InProgress;Black[2];wS1;bS1 wS1-;wQ 
     a points 4 games 4 wins 0 draws 4 losses 0 forfeits 0\n\
     b points 4 games 4 wins 0 draws 4 losses 0 forfeits 0\n";
 
-/// How a tournament ended, what it wrote, and the starter with the closed links.
-#[derive(Drop)]
-struct Seen {
-    status: Status,
-    output: MemSink,
-    spawner: MemSpawner,
-}
-
-/// The links of so many games.
-fn links_of(alloc: Global, games: u32) -> Result<Vec<MemLink>, AllocError> {
-    let mut links = Vec::new(alloc);
-    for _ in 0..games {
-        links.push(link_of(alloc, WHITE)?)?;
-        links.push(link_of(alloc, BLACK)?)?;
-    }
-    Ok(links)
-}
-
 /// Plays the tournament of the programs `a` and `b` that this input tells, over the links of so
 /// many games.
 fn play_over<R: Threads + Sync>(
@@ -122,13 +99,12 @@ fn play_over<R: Threads + Sync>(
 ) -> Result<Seen, AllocError>
     requires { IsFormat format }
 {
-    let mut programs = Vec::new(alloc);
-    programs.push(program_of(alloc, "a")?)?;
-    programs.push(program_of(alloc, "b")?)?;
+    let programs = two_programs(alloc)?;
     let bytes = Vec::from_slice(alloc, text)?;
     let mut input = MemSource::new(bytes, Vec::from_slice(alloc, &[7])?, Vec::new(alloc));
     let mut output = MemSink::new(alloc, Vec::from_slice(alloc, &[7])?, Vec::new(alloc));
-    let mut spawner = MemSpawner::new(alloc, links_of(alloc, games)?, Vec::new(alloc));
+    let links = links_of(alloc, WHITE, BLACK, games)?;
+    let mut spawner = MemSpawner::new(alloc, links, Vec::new(alloc));
     let clocks = StepClocks { start: 0, step: 1 };
     let status = play_read_tournament::<R, MemSource, MemSpawner, MemSink, PlainGame, StepClocks>(
         rt,
@@ -150,35 +126,27 @@ fn play_over<R: Threads + Sync>(
 #[test]
 fn openings_are_read_and_each_pair_plays_from_each(rt: HostRuntime) -> Result<(), Fail> {
     let seen = play_over(&rt, rt.alloc(), TWO_ROUNDS, OPENINGS, 8)?;
-    assert_eq!(rt; seen.status, Status::Done);
-    assert_eq!(rt; seen.output.bytes(), TEXT);
-    assert_eq!(rt; seen.spawner.closed().len(), 16);
+    expect_seen(&rt, &seen, Status::Done, TEXT, 16);
     Ok(())
 }
 
 #[test]
 fn games_that_are_handed_in_are_not_played_again(rt: HostRuntime) -> Result<(), Fail> {
     let seen = play_over(&rt, rt.alloc(), RESUMED, HANDED_IN, 4)?;
-    assert_eq!(rt; seen.status, Status::Done);
-    assert_eq!(rt; seen.output.bytes(), BEHIND_TWO);
-    assert_eq!(rt; seen.spawner.closed().len(), 4);
+    expect_seen(&rt, &seen, Status::Done, BEHIND_TWO, 4);
     Ok(())
 }
 
 #[test]
 fn a_game_whose_verdict_is_cut_is_played_again(rt: HostRuntime) -> Result<(), Fail> {
     let seen = play_over(&rt, rt.alloc(), RESUMED, CUT, 4)?;
-    assert_eq!(rt; seen.status, Status::Done);
-    assert_eq!(rt; seen.output.bytes(), BEHIND_ONE);
-    assert_eq!(rt; seen.spawner.closed().len(), 6);
+    expect_seen(&rt, &seen, Status::Done, BEHIND_ONE, 6);
     Ok(())
 }
 
 #[test]
 fn an_opening_that_is_illegal_is_refused(rt: HostRuntime) -> Result<(), Fail> {
     let seen = play_over(&rt, rt.alloc(), TWO_ROUNDS, ILLEGAL, 8)?;
-    assert_eq!(rt; seen.status, Status::BadInput);
-    assert_eq!(rt; seen.output.bytes(), b"bad line 2\n".as_slice());
-    assert_eq!(rt; seen.spawner.closed().len(), 0);
+    expect_seen(&rt, &seen, Status::BadInput, b"bad line 2\n".as_slice(), 0);
     Ok(())
 }

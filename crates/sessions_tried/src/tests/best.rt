@@ -36,14 +36,17 @@ fn the_first_of_equal_moves_is_named(rt: HostRuntime) -> Result<(), Fail> {
     Ok(())
 }
 
+/// Lines that set an option, and the answer to each.
+const OPTIONS: [(&str, &str); 4] = [
+    ("options set Table 1\n", "Table;int;1;65536;1;1048576\nok\n"),
+    ("options set Workers 1\n", "Workers;int;1;1;1;16\nok\n"),
+    ("options set Workers 2\n", "Workers;int;2;1;1;16\nok\n"),
+    ("options set Workers 16\n", "Workers;int;16;1;1;16\nok\n"),
+];
+
 #[test]
 fn a_win_is_found_whatever_the_options(rt: HostRuntime) -> Result<(), Fail> {
-    for (options, told) in [
-        ("options set Table 1\n", "Table;int;1;65536;1;1048576\nok\n"),
-        ("options set Workers 1\n", "Workers;int;1;1;1;16\nok\n"),
-        ("options set Workers 2\n", "Workers;int;2;1;1;16\nok\n"),
-        ("options set Workers 16\n", "Workers;int;16;1;1;16\nok\n"),
-    ] {
+    for (options, told) in OPTIONS {
         let lines = [
             options,
             "newgame Base;InProgress;White[7];",

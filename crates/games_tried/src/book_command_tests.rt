@@ -11,16 +11,20 @@ use std::test::Fail;
 /// A lone spider.
 const SPIDER: &str = "Base;InProgress;Black[1];wS1";
 
+const FIRST: &str = "Base;InProgress;White[2];wS1;bG1 wS1/";
+
+const SECOND: &str = "Base;InProgress;White[2];wS1;bG1 -wS1";
+
+const THIRD: &str = "Base;InProgress;White[2];wS1;bA1 wS1-";
+
 /// Black answers a lone spider with a grasshopper in two games, and with an ant in one.
-const REPLIES: [&str; 3] = [
-    "Base;InProgress;White[2];wS1;bG1 wS1/",
-    "Base;InProgress;White[2];wS1;bG1 -wS1",
-    "Base;InProgress;White[2];wS1;bA1 wS1-",
-];
+const REPLIES: [&str; 3] = [FIRST, SECOND, THIRD];
 
 /// A finished game, in which Black answers with a spider.
-const DRAWN: &str =
-    "Base;Draw;Black[7];wS1;bS1 wS1-;wQ /wS1;bQ bS1-;wQ wS1\\;bQ bS1\\;wG1 -wQ;bG1 bS1-;wB1 wG1\\;bB1 bQ-;wA1 -wB1;bA1 bQ\\;wA1 wQ\\";
+const DRAWN: &str = concat!(
+    "Base;Draw;Black[7];wS1;bS1 wS1-;wQ /wS1;bQ bS1-;wQ wS1\\;bQ bS1\\;wG1 -wQ;bG1 bS1-;",
+    "wB1 wG1\\;bB1 bQ-;wA1 -wB1;bA1 bQ\\;wA1 wQ\\",
+);
 
 /// No game: a spider alone is no drawn game.
 const NO_GAME: &str = "Base;Draw;Black[1];wS1";
@@ -110,16 +114,19 @@ fn expect_book<R: Abort>(
     Ok(())
 }
 
+/// A position, games, and what the book of these games names there.
+const BOOKS: [(&str, &[&str], &str); 5] = [
+    (SPIDER, &REPLIES, "book bG1 -wS1 2\n"),
+    ("Base", &REPLIES, "book wS1 3\n"),
+    (SPIDER, &[], "book none\n"),
+    (SPIDER, &[DRAWN], "book bS1 -wS1 1\n"),
+    (SPIDER, &["Base+M"], "book none\n"),
+];
+
 #[test]
 fn the_move_that_was_made_most_often(rt: HostRuntime) -> Result<(), Fail> {
     let done = Status::Done;
-    for (position, games, written) in [
-        (SPIDER, REPLIES.as_slice(), "book bG1 -wS1 2\n"),
-        ("Base", REPLIES.as_slice(), "book wS1 3\n"),
-        (SPIDER, [].as_slice(), "book none\n"),
-        (SPIDER, [DRAWN].as_slice(), "book bS1 -wS1 1\n"),
-        (SPIDER, ["Base+M"].as_slice(), "book none\n"),
-    ] {
+    for (position, games, written) in BOOKS {
         expect_book(&rt, rt.alloc(), position, games, done, written)?;
     }
     Ok(())
@@ -138,19 +145,21 @@ fn a_turned_or_mirrored_game_counts(rt: HostRuntime) -> Result<(), Fail> {
     Ok(())
 }
 
+/// A game in which the first piece of white went to its other pieces.
+const STANDING: &str =
+    "Base;InProgress;Black[4];wA1;bG1 wA1-;wQ \\wA1;bA1 bG1\\;wQ \\bG1;bQ bA1-;wA1 \\wQ";
+
 /// The same pieces stand around the grasshopper, which was put on another side of the first piece.
+const SHIFTED: &str = concat!(
+    "Base;InProgress;White[5];wA1;bG1 /wA1;wQ \\wA1;bA1 bG1\\;wQ \\bG1;bQ bA1-;wA1 \\wQ;",
+    "bG2 bQ-",
+);
+
 #[test]
 fn a_shifted_game_counts(rt: HostRuntime) -> Result<(), Fail> {
-    expect_book(
-        &rt,
-        rt.alloc(),
-        "Base;InProgress;Black[4];wA1;bG1 wA1-;wQ \\wA1;bA1 bG1\\;wQ \\bG1;bQ bA1-;wA1 \\wQ",
-        [
-            "Base;InProgress;White[5];wA1;bG1 /wA1;wQ \\wA1;bA1 bG1\\;wQ \\bG1;bQ bA1-;wA1 \\wQ;bG2 bQ-",
-        ].as_slice(),
-        Status::Done,
-        "book bG2 bQ- 1\n",
-    )?;
+    let games = [SHIFTED].as_slice();
+    let done = Status::Done;
+    expect_book(&rt, rt.alloc(), STANDING, games, done, "book bG2 bQ- 1\n")?;
     Ok(())
 }
 
@@ -168,25 +177,19 @@ fn a_mirrored_move_counts_once(rt: HostRuntime) -> Result<(), Fail> {
     Ok(())
 }
 
+/// A position and games of which a line is none, and how that is said.
+const BAD_LINES: [(&str, &[&str], &str); 5] = [
+    ("", &[], "bad malformed part 1\n"),
+    ("Base;NotStarted;White[2]", &[NO_GAME], "bad other turn\n"),
+    (DRAWN, &[], "bad game over\n"),
+    (SPIDER, &[FIRST, SECOND, THIRD, NO_GAME], "bad line 5\n"),
+    (SPIDER, &[FIRST, "", NO_GAME], "bad line 3\n"),
+];
+
 #[test]
 fn the_first_bad_line_is_named(rt: HostRuntime) -> Result<(), Fail> {
     let bad = Status::BadInput;
-    let [one, two, three] = REPLIES;
-    for (position, games, written) in [
-        ("", [].as_slice(), "bad malformed part 1\n"),
-        (
-            "Base;NotStarted;White[2]",
-            [NO_GAME].as_slice(),
-            "bad other turn\n",
-        ),
-        (DRAWN, [].as_slice(), "bad game over\n"),
-        (
-            SPIDER,
-            [one, two, three, NO_GAME].as_slice(),
-            "bad line 5\n",
-        ),
-        (SPIDER, [one, "", NO_GAME].as_slice(), "bad line 3\n"),
-    ] {
+    for (position, games, written) in BAD_LINES {
         expect_book(&rt, rt.alloc(), position, games, bad, written)?;
     }
     expect_run(

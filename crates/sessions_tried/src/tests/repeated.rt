@@ -226,7 +226,8 @@ fn the_rule_is_that_of_the_beginning(rt: HostRuntime) -> Result<(), Fail> {
         HOME,
         ROUND,
         ROUND_BUT_ONE,
-        "\noptions set Repetition 0\nplay bQ bA1-\noptions set Repetition 2\noptions get Repetition\n",
+        "\noptions set Repetition 0\nplay bQ bA1-\n",
+        "options set Repetition 2\noptions get Repetition\n",
     ];
     let replies = [
         "Base;InProgress;Black[6];",
