@@ -1,7 +1,7 @@
 //! The game.
 
 ghost use Rattle.std.specs.Prelude.{◌≡◌, refl};
-ghost use Rattle.hive_model.specs.Courses.{position, most_plies};
+ghost use Rattle.hive_model.specs.Courses.{position};
 
 use crate::before::Before;
 use crate::evaluation::worth_after;
@@ -52,6 +52,7 @@ impl<B: GameBoard> Model for BoardGame<B> {
     ghost use Rattle.board_game.specs.InHand.{ArePlaced};
     ghost use Rattle.hive_model.specs.Pieces.{other_side};
     ghost use Rattle.rule_laws.specs.Soundness.{side_after};
+    ghost use Rattle.hive_model.specs.Courses.{most_plies};
 
     ghost Value = { PlayedCourse };
 

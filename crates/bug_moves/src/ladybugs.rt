@@ -2,7 +2,7 @@
 
 ghost use Rattle.bug_moves.specs.Ways.{DownToward, OnTop, Onward};
 
-use crate::steps::may_climb_amid;
+use crate::beetles::may_climb_amid;
 use crate::ways::{Way, add_ways};
 use gates::has_dir;
 use hive_model::{Board, Dir, Place, PlaceList, add_place};

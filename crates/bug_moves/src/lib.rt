@@ -4,11 +4,12 @@
 #![tactic(auto)]
 
 mod ants;
+mod beetles;
 mod found;
-mod hops;
+mod grasshoppers;
 mod ladybugs;
+mod queens;
 mod spiders;
-mod steps;
 mod trail;
 mod ways;
 
@@ -21,10 +22,11 @@ ghost use Rattle.hive_model.specs.Reach.{Reach};
 ghost use Rattle.bug_moves.specs.Counts.{AreMany};
 
 use crate::ants::{ant_ways, count_ant_ways};
-use crate::hops::OverRow;
+use crate::beetles::Creep;
+use crate::grasshoppers::OverRow;
 use crate::ladybugs::{Climb, Down};
+use crate::queens::Slide;
 use crate::spiders::First;
-use crate::steps::{Creep, Slide};
 use crate::ways::{add_slides, add_ways};
 pub use ants::list_in_order;
 pub use found::add_new;

@@ -1,9 +1,9 @@
 //! The command that makes a game from a number and tells of it in eight lines.
 #![tactic(auto)]
 
-mod grow;
+mod growing;
 mod laws;
 mod texts;
 
-pub use grow::grow;
+pub use growing::grow;
 pub use laws::{best_moves_are_told, grows_are_done};

@@ -109,6 +109,10 @@ never_spawns words (Cup setup) status before after alone run e = absurd (alone t
 never_spawns words (Audit games seed plies game_type stop patient) status before after alone run e = absurd (alone tt)
 never_spawns words (Tournament setup rounds gauntlet at_once resume) status before after alone run e = absurd (alone tt)
 
+-- a cup reads nothing
+pub cups_read_nothing : (engines : List Engine) (setup : Setup) (status : Status) (before after : World) → CupRun engines setup status before after → status ≡ ReadFault → ⊥
+cups_read_nothing engines setup status before after run e = subst (λ s. CupRun engines setup s before after) e run
+
 no_time : (t : Times) → TakesNoTime t t
 no_time t = record { last = refl; readings = refl; timed = refl }
 

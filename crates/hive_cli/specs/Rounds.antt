@@ -71,7 +71,8 @@ Answers v (Some ReadFailed) line old new before after from to = ⊥
 Answers v (Some Full) line old new before after from to = ⊥
 
 -- a line was given, and answered
-abbrev pub Serves : {S : Type 0} → Service S → Option Stop → List ℕ → ServiceState S → ServiceState S
+abbrev pub Serves : {S : Type 0} → Service S → Option Stop → List ℕ → ServiceState S
+    → ServiceState S
     → Type 0
 Serves v stop bytes old new =
     (line : Line) × Gives old.reader bytes line new.reader new.sides.rest
@@ -104,5 +105,6 @@ pub record Round {S : Type 0} (v : Service S) (stop : Option Stop) (bytes : List
   pub does : Serves v stop bytes old new ⊎ Rests stop bytes old new
 
 -- a round, in which some bytes were read
-abbrev pub Rounds : {S : Type 0} → Service S → Option Stop → ServiceState S → ServiceState S → Type 0
+abbrev pub Rounds : {S : Type 0} → Service S → Option Stop → ServiceState S → ServiceState S
+    → Type 0
 Rounds v stop old new = (bytes : List ℕ) × Round v stop bytes old new

@@ -119,7 +119,8 @@ pub record IsPlayedBy
 -- of the programs to come the first two were started, as white and as black, and played; no others
 -- were started
 pub record StartsTwoOf
-    (all : List (List ℕ)) (setup : FullSetup) (t : MatchState) (before after : Engines) : Type 0 where
+    (all : List (List ℕ)) (setup : FullSetup) (t : MatchState) (before after : Engines)
+    : Type 0 where
   pub white : List ℕ
   pub black : List ℕ
   pub others : List (List ℕ)
@@ -185,7 +186,8 @@ pub record NotBegun (before after : World) : Type 0 where
 -- wanting nothing was written. Five statuses are not its own.
 abbrev pub MatchRun : FullSetup → Status → World → World → Type 0
 MatchRun setup Done before after = (t : MatchState) × Tells setup t before after
-MatchRun setup WriteFault before after = (t : MatchState) × (n : ℕ) × TellsPart setup t n before after
+MatchRun setup WriteFault before after =
+    (t : MatchState) × (n : ℕ) × TellsPart setup t n before after
 MatchRun setup SpawnFault before after = NotBegun before after
 MatchRun setup Memory before after = after.sides.written ≡ before.sides.written
 MatchRun setup Refused before after = ⊥

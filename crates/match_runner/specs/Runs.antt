@@ -45,7 +45,8 @@ JudgesAtOnce s (h ∷ hs) to old new =
     × JudgesAtOnce (next s h) hs to mid new
 
 -- what the events did at a side
-pub record Served (s : MatchState) (hs : List Happening) (to : Colour) (old new : Side) : Type 0 where
+pub record Served (s : MatchState) (hs : List Happening) (to : Colour) (old new : Side)
+    : Type 0 where
   pub feeds : JudgesAtOnce s hs to old.ahead new.ahead
   pub wrote : new.written ≡ behind old.written (joined (sent s hs to))
 
@@ -70,9 +71,11 @@ abbrev pub Whole : FullSetup → MatchState → Side → Side → Side → Side 
 Whole setup t w0 w b0 b r0 r = Run setup t w0 w b0 b r0 r × (act_at t.stage ≡ Finish)
 
 -- it was ended by a fault of this side
-abbrev pub Cut : Colour → FullSetup → MatchState → Side → Side → Side → Side → Watch → Watch → Type 0
+abbrev pub Cut : Colour → FullSetup → MatchState → Side → Side → Side → Side → Watch → Watch
+    → Type 0
 Cut side setup t w0 w b0 b r0 r =
-    (s : MatchState) × (w1 : Side) × (b1 : Side) × Run setup s w0 w1 b0 b1 r0 r × Breaks s t w1 w b1 b
+    (s : MatchState) × (w1 : Side) × (b1 : Side) × Run setup s w0 w1 b0 b1 r0 r
+    × Breaks s t w1 w b1 b
     × ((act_at s.stage ≡ SendAct side) ⊎ (act_at s.stage ≡ ReadAct side))
 
 -- where a side breaks, one of its counts rose (or stands at its greatest value)

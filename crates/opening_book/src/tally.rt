@@ -81,8 +81,8 @@ impl Tally {
     /// than 2 to the power 40 plies are counted with it.
     pub fn add<G: Game>(&mut self, played: &mut G)
         requires { self.old.plies + length (G.course played.old).made < 2 ^ 40 }
-        ensures added { (p : Position) (games : List BookGame) → IsTally p games self.old → IsTally p
-            (games ++ record {
+        ensures added { (p : Position) (games : List BookGame) → IsTally p games self.old
+            → IsTally p (games ++ record {
               game_type = (G.course played.old).game_type;
               made = (G.course played.old).made;
             } ∷ [])

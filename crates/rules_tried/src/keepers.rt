@@ -1,4 +1,5 @@
-//! Of `cut_keeper`: a line and a beetle on it, a ring that is opened, and how often a keeper asks a board.
+//! Of `cut_keeper`: a line and a beetle on it, a ring that is opened, and how often a keeper asks a
+//! board.
 
 ghost use Rattle.std.specs.Prelude.{◌<◌, IsTrue};
 ghost use Rattle.hive_model.specs.Boards.{is_on_top};

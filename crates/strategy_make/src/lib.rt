@@ -5,9 +5,9 @@
 mod fault;
 mod head;
 mod laws;
-mod make;
+mod maker;
 mod roots;
 
 pub use fault::MakeFault;
 pub use laws::{certificates_are_read, least_indices_hold};
-pub use make::make;
+pub use maker::make;

@@ -48,7 +48,8 @@ pub record TakesHead {H : Type 0} (n : ℕ) (head_of : List Line → Result H He
 -- were read at most: what the lines are worth, where they are told, unless the input could not be
 -- read. Why it could not, and what was then read of it; where a read has failed the lines that were
 -- read do not decide.
-pub record JudgesAhead (head : ℕ) (worth : Judgement) (most : ℕ) (result : Result TextVerdict Unread)
+pub record JudgesAhead
+    (head : ℕ) (worth : Judgement) (most : ℕ) (result : Result TextVerdict Unread)
     (reader : Reading) (source source' : Aside) : Type 0 where
   pub judged : (left : List Line) → ahead_of reader source.bytes ≡ Some left
       → Judges result (worth left)

@@ -2,13 +2,13 @@
 //! checks one.
 #![tactic(auto)]
 
-mod check_text;
+mod checks;
 mod laws;
 mod reasons;
 mod told;
 mod verdict;
 
-pub use check_text::{TextForm, check_text};
+pub use checks::{TextForm, check_text};
 pub use laws::accepted_texts_are_done;
 pub use reasons::{IndexReasons, Reasons};
 pub use told::tell_judged;

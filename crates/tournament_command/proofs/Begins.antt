@@ -1,12 +1,12 @@
 -- The tournament that the input tells is played; or memory was wanting before it began.
-use Rattle.std.proofs.Common.{◌≡◌, ℕ, List, [], length, refl, sym, subst, inl, inr, arith}
+use Rattle.std.proofs.Common.{◌≡◌, ◌≢◌, ℕ, List, [], length, refl, sym, subst, inl, inr, arith}
 use Rattle.std.proofs.lemmas.List.{append-nil}
 use Rattle.hive_model.specs.Lines.{lines}
 use Rattle.command_runs.specs.Input.{WereRead, WhereTold}
 use Rattle.command_runs.specs.World.{World, once_read}
 use Rattle.command_runs.specs.declared.no_game.NoGame.TheVariants.{Memory as NoMemory}
 use Rattle.command_runs.specs.declared.status.Status.{Status}
-use Rattle.command_runs.specs.declared.status.Status.TheVariants.{Memory}
+use Rattle.command_runs.specs.declared.status.Status.TheVariants.{Memory, ReadFault}
 use Rattle.command_runs.proofs.OneGameLemmas.{all_were_read}
 use Rattle.cup.specs.Engines.{Engine}
 use Rattle.tournament_core.specs.declared.fixtures.GameEnd.{GameEnd}
@@ -49,3 +49,7 @@ none_begun engines count f before after i many told unwritten unstarted = inr (
     unstarted = unstarted;
   },
 )
+
+-- a tournament that is played reads nothing
+pub never_reads : (t : Terms) (ends : List GameEnd) (status : Status) (before after : World) → TournamentRun t ends status before after → status ≢ ReadFault
+never_reads t ends status before after run e = subst (λ s. TournamentRun t ends s before after) e run

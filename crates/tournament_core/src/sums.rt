@@ -77,7 +77,8 @@ pub(crate) fn points_of(tally: &Tally, engine: u32) -> u64
 /// The points that the losers of the games that an engine won have in all, for each such game.
 pub(crate) fn beaten_of(tally: &Tally, engine: u32) -> u128
     requires engine { IsEngine tally.now.engines engine }
-    ensures { (games : List PlayedFixture) → IsTallyOf games tally.now → result ≡ beaten games engine }
+    ensures { (games : List PlayedFixture) → IsTallyOf games tally.now
+        → result ≡ beaten games engine }
 {
     let mut sum = 0;
     for other in 1..tally.engines() + 1 {

@@ -9,7 +9,7 @@ use Rattle.hive_model.specs.Positions.{Position, opening}
 use Rattle.hive_model.specs.Legal.{moves, is_over_state}
 use Rattle.hive_model.specs.Minimax.{best}
 use Rattle.hive_model.specs.Games.{replay}
-use Rattle.hive_model.specs.Courses.{is_listed, most_plies}
+use Rattle.hive_model.specs.Courses.{is_listed}
 use Rattle.hive_model.specs.Texts.{piece_text}
 use Rattle.hive_model.specs.Denotes.{text}
 use Rattle.hive_model.specs.Repetition.{outcome_under}
@@ -152,14 +152,14 @@ make s g (Ok m) =
     if is_listed (reached g) m then go_on s (with_moves g (g.made ++ m ∷ []))
     else refuse s (codes "invalidmove 3 not legal")
 
--- the most plies of a game
-abbrev pub most_plies : ℕ
-most_plies = 5000
+-- a game of a session has at most so many plies
+abbrev pub longest_game : ℕ
+longest_game = 5000
 
 abbrev pub play : SessionState → List ℕ → CurrentGame → Answer
 play s words g =
     if is_ended g then refuse s (codes "invalidmove 4 game over") else
-    if nat_le most_plies (length g.made) then refuse s (codes "err 11 too many plies") else
+    if nat_le longest_game (length g.made) then refuse s (codes "err 11 too many plies") else
     make s g (move_of g.game_type (reached g).board words)
 
 -- Lists of moves
@@ -335,7 +335,8 @@ text_of ReplyExit = None
 
 -- A session in a state gave this answer: what the reply tells, and the state after it. After want
 -- of memory the state is as before.
-pub record Gave (told : Answer) (result : Result Reply AllocError) (old new : SessionState) : Type 0 where
+pub record Gave (told : Answer) (result : Result Reply AllocError) (old new : SessionState)
+    : Type 0 where
   pub reply : IfOk result (λ r. text_of r ≡ reply_of told)
   pub next : OnOk result (new ≡ after_of old told)
   pub err : OnErr result (new ≡ old)

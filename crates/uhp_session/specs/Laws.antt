@@ -40,7 +40,8 @@ HoldsGame (Some g) = IsHeld g
 
 -- a session that holds such a game, or none, does so after every line
 abbrev pub SessionsHoldGames : Type 0
-SessionsHoldGames = (s : SessionState) (line : Line) → HoldsGame s.game → HoldsGame (next s line).game
+SessionsHoldGames =
+    (s : SessionState) (line : Line) → HoldsGame s.game → HoldsGame (next s line).game
 
 -- In a position that is not over the text that `bestmove` answers is that of a legal move, at every
 -- depth from 1 on: of the first of those that are worth most at that depth. A search is of the

@@ -1,7 +1,7 @@
-use Rattle.std.proofs.Common.{◌≡◌, ◌∙◌, ap, length, refl, rules}
-use Rattle.command_runs.specs.World.{sides, world}
+use Rattle.std.proofs.Common.{◌≡◌, ◌∙◌, [], ap, length, refl, rules}
+use Rattle.command_runs.specs.World.{sides, times as these_times, world}
 use Rattle.tournament_command.specs.Formats.{terms_of}
-use Rattle.tournament_command.proofs.Begins.{begun_run, none_begun}
+use Rattle.tournament_command.proofs.Begins.{begun_run, never_reads, none_begun}
 use Rattle.tournament_command.proofs.playing.play_read_tournament.Goals as goal
 
 pub returns-in_default-clause-run : goal.returns-in_default-clause-run
@@ -21,3 +21,16 @@ returns-in-Ok-tournament_of-clause-run g c times =
     (world (sides (g.S.Source.rest c.args.input.now) (g.K.Sink.written c.args.output.now)) times (g.P.Spawner.engines c.args.spawner.now))
     (world (sides rest (g.K.Sink.written new.output)) times (g.P.Spawner.engines new.spawner))
     c.in-Ok.intake c.in-Ok-tournament_of.tournament c.as_slice.result.now count c.in-Ok.ensures.told is_terms (c.as_slice.ensures.value ∙ c.parts-openings.ensures.ends) (c.play_tournament.ensures.run rest times)
+
+pub returns-in-Ok-tournament_of-clause-reads : goal.returns-in-Ok-tournament_of-clause-reads
+returns-in-Ok-tournament_of-clause-reads g c =
+    let cause = c.in-Ok.ensures.cause in
+    let new = c.play_tournament.new in
+    let rest = g.S.Source.rest c.args.input.now in
+    let none = these_times 0 0 [] in
+    let run = c.play_tournament.ensures.run rest none in
+    record {
+      later = cause.later;
+      rose = λ e. absurd (never_reads c.in-Ok-tournament_of.tournament c.as_slice.result.now c.play_tournament.result (world (sides rest (g.K.Sink.written c.args.output.now)) none (g.P.Spawner.engines c.args.spawner.now)) (world (sides rest (g.K.Sink.written new.output)) none (g.P.Spawner.engines new.spawner)) run e);
+      same = λ _. cause.same (λ wrong. cc);
+    }

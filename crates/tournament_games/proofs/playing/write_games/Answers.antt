@@ -51,3 +51,12 @@ returns-in_default g c =
       engines = c.write_wave.ensures.engines ∙ so.engines;
       cause = subst (λ n. HasCause (c.write_wave.result ≡ WriteFault) n (g.K.Sink.write_faults c.write_wave.new.output)) so.faults c.write_wave.ensures.cause;
     }
+
+pub returns-clause-run : goal.returns-clause-run
+returns-clause-run g c = λ rest times.
+    let so = c.loop-done.invariant in
+    let (olds, news, at, wrote) = so.so_far rest times in
+    let within = so.within in
+    let over = c.loop-done-test.false in
+    let all = c.requires.all in
+    (olds, news, omega (arith, at, within, over, all), wrote)
