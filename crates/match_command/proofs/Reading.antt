@@ -1,6 +1,6 @@
 -- The match that begins with the game of the input, and the end where there is none.
-use Rattle.std.proofs.Common.{◌≡◌, ℕ, ◌+◌, ◌≤◌, List, [], length, Some, Err, refl, ap, sym, ◌∙◌, subst, inl, inr, arith}
-use Rattle.std.specs.Prelude.{Result, Ok}
+use Rattle.std.proofs.Common.{◌≡◌, ℕ, ◌+◌, List, length, Some, Err, refl, ap, sym, ◌∙◌, subst, inl, arith}
+use Rattle.std.specs.Prelude.{Result}
 use Rattle.std.proofs.lemmas.Option.{same_Some}
 use Rattle.io_edge.specs.Outside.{HasCause, Told, ToldLists}
 use Rattle.io_edge.specs.Starts.{Engines}

@@ -1,12 +1,12 @@
 -- What is told of the two links of a match, and what was done over them.
 use Rattle.std.specs.Prelude.{◌≡◌, ℕ, ◌<◌, List, [], Some}
-use Rattle.io_edge.specs.Outside.{Told, ToldLists, Rose, Starts, Collects}
+use Rattle.io_edge.specs.Outside.{Told, ToldLists, Rose, Starts, Collects, with_last}
 use Rattle.io_edge.specs.Starts.{Engines}
 use Rattle.command_runs.specs.World.{Times}
 use Rattle.match_core.specs.Setups.{FullSetup}
 use Rattle.match_core.specs.MatchState.{MatchState}
-use Rattle.match_runner.specs.Wires.{Wire}
-use Rattle.match_command.specs.Match.{IsPlayedBy, PlayedOut}
+use Rattle.match_runner.specs.Wires.{IsFresh, Wire}
+use Rattle.match_command.specs.Match.{BothStarted, FewerStarted, IsPlayedBy, NoneIsOpen, PlayedOut, SendsNothing}
 
 -- two programs were started, one after the other; told of each: what it will say, what it got
 abbrev pub StartsTwo : ToldLists → ToldLists → Told → Told → Told → Told → Type 0
@@ -14,6 +14,39 @@ StartsTwo before after white_says white_got black_says black_got =
     (between : ToldLists)
     × Starts before between white_says white_got
     × Starts between after black_says black_got
+
+-- A program was started by these words, and this is its link, of which no call has failed. None was
+-- closed, and no failure of one was counted.
+pub record StartsOne (words : List (List ℕ)) (link : Wire) (before after : Engines) : Type 0 where
+  pub fresh : IsFresh link.reads link.writes
+  pub next : Starts before.to_come after.to_come link.rest link.written
+  pub named : after.started ≡ with_last before.started words
+  pub sent : after.sent ≡ before.sent
+  pub failed : after.engine_faults ≡ before.engine_faults
+
+-- White's program was started by its words, then black's, and these are their links, of which no
+-- call has failed. None was closed, and no failure of one was counted.
+pub record StartsBoth
+    (white black : List (List ℕ)) (w b : Wire) (before after : Engines) : Type 0 where
+  pub white_fresh : IsFresh w.reads w.writes
+  pub black_fresh : IsFresh b.reads b.writes
+  pub next : StartsTwo before.to_come after.to_come w.rest w.written b.rest b.written
+  pub named : BothStarted white black before after
+  pub sent : after.sent ≡ before.sent
+  pub failed : after.engine_faults ≡ before.engine_faults
+
+-- no program was started, and one that had been was closed, which had got this
+pub record ClosesOne (got : Told) (before after : Engines) : Type 0 where
+  pub to_come : after.to_come ≡ before.to_come
+  pub started : after.started ≡ before.started
+  pub closed : Collects before.sent after.sent got
+
+-- Of two programs none was started, or white's alone, by its words. No byte was sent to it, and it
+-- is not left open.
+pub record StartsFewer (white : List (List ℕ)) (before after : Engines) : Type 0 where
+  pub named : FewerStarted white before after
+  pub unsent : SendsNothing before after
+  pub closed : NoneIsOpen before after
 
 -- two programs were closed, one after the other; told of each: what it got
 abbrev pub ClosesTwo : ToldLists → ToldLists → Told → Told → Type 0

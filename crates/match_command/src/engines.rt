@@ -1,15 +1,16 @@
 //! The two programs of a match: their start and their end.
 ghost use Rattle.std.specs.Prelude.{◌≡◌, ◌+◌, ◌<◌, length, map, string_bytes, IfOk, OnErr, IsErrOf};
-ghost use Rattle.io_edge.specs.Outside.{Collects, HasCause, Starts, with_last};
-ghost use Rattle.match_runner.specs.Wires.{IsFresh};
-ghost use Rattle.match_command.specs.Match.{
-  BothStarted,
-  FewerStarted,
-  NoneIsOpen,
-  SendsNothing,
-  StartsNone,
+ghost use Rattle.io_edge.specs.Outside.{HasCause};
+ghost use Rattle.match_runner.specs.Wires.{wire};
+ghost use Rattle.match_command.specs.Match.{StartsNone};
+ghost use Rattle.match_command.specs.Wires.{
+  ClosesOne,
+  ClosesTwo,
+  CountsEither,
+  StartsBoth,
+  StartsFewer,
+  StartsOne,
 };
-ghost use Rattle.match_command.specs.Wires.{ClosesTwo, CountsEither, StartsTwo};
 
 use io_edge::{Spawner, StartFault};
 
@@ -20,22 +21,12 @@ fn start_black<P: Spawner>(
     spawner: &mut P,
 ) -> Result<(P::Engine, P::Engine), StartFault>
     requires { 0 < length words.now }
-    ensures first { IfOk result (λ e. e.0 ≡ first) }
-    ensures fresh { IfOk result (λ e. IsFresh
-        (P.Engine.read_faults e.1) (P.Engine.write_faults e.1)) }
-    ensures next { IfOk result (λ e. Starts (P.engines spawner.old).to_come
-        (P.engines spawner.new).to_come (P.Engine.rest e.1) (P.Engine.written e.1)) }
-    ensures failed { IfOk result (λ e. (P.engines spawner.new).engine_faults
-        ≡ (P.engines spawner.old).engine_faults) }
-    ensures sent { IfOk result (λ e. (P.engines spawner.new).sent ≡ (P.engines spawner.old).sent) }
-    ensures named { IfOk result (λ e. (P.engines spawner.new).started
-        ≡ with_last (P.engines spawner.old).started (map string_bytes words.now)) }
-    ensures refused { OnErr result ((P.engines spawner.new).to_come
-        ≡ (P.engines spawner.old).to_come) }
-    ensures unnamed { OnErr result ((P.engines spawner.new).started
-        ≡ (P.engines spawner.old).started) }
-    ensures closed { OnErr result (Collects (P.engines spawner.old).sent
-        (P.engines spawner.new).sent (P.Engine.written first)) }
+    ensures started { IfOk result (λ e. (e.0 ≡ first) × StartsOne (map string_bytes words.now)
+        (wire (P.Engine.rest e.1) (P.Engine.written e.1)
+        (P.Engine.read_faults e.1) (P.Engine.write_faults e.1))
+        (P.engines spawner.old) (P.engines spawner.new)) }
+    ensures refused { OnErr result (ClosesOne (P.Engine.written first)
+        (P.engines spawner.old) (P.engines spawner.new)) }
     ensures cause { HasCause (IsErrOf result StartFault.Failed)
         (P.engines spawner.old).start_faults (P.engines spawner.new).start_faults }
 {
@@ -56,23 +47,15 @@ pub(crate) fn start_both<P: Spawner>(
 ) -> Result<(P::Engine, P::Engine), StartFault>
     requires white_some { 0 < length white.now }
     requires black_some { 0 < length black.now }
-    ensures white_fresh { IfOk result (λ e. IsFresh
-        (P.Engine.read_faults e.0) (P.Engine.write_faults e.0)) }
-    ensures black_fresh { IfOk result (λ e. IsFresh
-        (P.Engine.read_faults e.1) (P.Engine.write_faults e.1)) }
-    ensures next { IfOk result (λ e. StartsTwo (P.engines spawner.old).to_come
-        (P.engines spawner.new).to_come
-        (P.Engine.rest e.0) (P.Engine.written e.0) (P.Engine.rest e.1) (P.Engine.written e.1)) }
-    ensures failed { IfOk result (λ e. (P.engines spawner.new).engine_faults
-        ≡ (P.engines spawner.old).engine_faults) }
-    ensures sent { IfOk result (λ e. (P.engines spawner.new).sent ≡ (P.engines spawner.old).sent) }
-    ensures both { IfOk result (λ e. BothStarted
+    ensures started { IfOk result (λ e. StartsBoth
         (map string_bytes white.now) (map string_bytes black.now)
+        (wire (P.Engine.rest e.0) (P.Engine.written e.0)
+        (P.Engine.read_faults e.0) (P.Engine.write_faults e.0))
+        (wire (P.Engine.rest e.1) (P.Engine.written e.1)
+        (P.Engine.read_faults e.1) (P.Engine.write_faults e.1))
         (P.engines spawner.old) (P.engines spawner.new)) }
-    ensures fewer { OnErr result (FewerStarted
-        (map string_bytes white.now) (P.engines spawner.old) (P.engines spawner.new)) }
-    ensures unsent { OnErr result (SendsNothing (P.engines spawner.old) (P.engines spawner.new)) }
-    ensures closed { OnErr result (NoneIsOpen (P.engines spawner.old) (P.engines spawner.new)) }
+    ensures refused { OnErr result (StartsFewer (map string_bytes white.now)
+        (P.engines spawner.old) (P.engines spawner.new)) }
     ensures cause { HasCause (IsErrOf result StartFault.Failed)
         (P.engines spawner.old).start_faults (P.engines spawner.new).start_faults }
 {

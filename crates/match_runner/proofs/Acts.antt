@@ -8,7 +8,7 @@ use Rattle.match_core.specs.declared.stage.Task.{Task}
 use Rattle.match_core.specs.declared.stage.Stage.{Stage}
 use Rattle.match_core.specs.declared.stage.Stage.TheVariants.{Send, Read, Before, After, Finished as FinishedStage}
 use Rattle.match_core.specs.declared.stage.Act.TheVariants.{Read as ReadAct, Clock}
-use Rattle.match_core.specs.MatchState.{MatchState, Happening, Reading, act_at, answers}
+use Rattle.match_core.specs.MatchState.{MatchState, Happening, Reading, act_at}
 use Rattle.match_core.specs.Fairness.{sent_at}
 use Rattle.hive_model.specs.Lines.{ToldLines}
 use Rattle.match_core.specs.Feeds.{FeedsAt}

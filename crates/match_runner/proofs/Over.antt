@@ -1,6 +1,6 @@
 -- The match that a run answers, by both links and the clock.
 use Rattle.std.proofs.Common.{◌≡◌, ◌≤◌, ℕ, ◌+◌, inl, inr, ap}
-use Rattle.io_edge.specs.Outside.{HasCause, Rose}
+use Rattle.io_edge.specs.Outside.{Rose}
 use Rattle.hive_model.specs.declared.pieces.Colour.TheVariants.{White, Black}
 use Rattle.line_feed.specs.Feed.{Reading as Reader, HoldsLittle, fresh}
 use Rattle.match_core.specs.Setups.{FullSetup}
@@ -9,7 +9,7 @@ use Rattle.match_core.specs.MatchState.{MatchState}
 use Rattle.match_runner.specs.declared.turns.Acted.{Acted}
 use Rattle.match_runner.specs.declared.turns.Acted.TheVariants.{GoOn, Finished, ReadFault, WriteFault, Memory}
 use Rattle.match_runner.specs.Wires.{HasFailed, Watch, Wire}
-use Rattle.match_runner.specs.Turns.{Side, Turns, looks_at, side_of}
+use Rattle.match_runner.specs.Turns.{Side, HasCauses, LeavesClock, Turns, looks_at, side_of}
 use Rattle.match_runner.specs.Runs.{FinalRun, Ran, RanOver, Run}
 use Rattle.match_runner.proofs.Causes.{broke_final}
 use Rattle.match_runner.proofs.Courses.{course_final, late_run_final, lates_final, timed_final}
@@ -58,13 +58,12 @@ pub record Rises (turn : Acted) (w0 w b0 b : Wire) : Type 0 where
   pub black_writes : turn ≡ WriteFault Black → Rose b0.writes b.writes
 
 pub rises : (turn : Acted) (w0 w b0 b : Wire) (w_reads w_writes b_reads b_writes : ℕ) → w0.reads ≤ w_reads → w0.writes ≤ w_writes → b0.reads ≤ b_reads → b0.writes ≤ b_writes
-    → HasCause (turn ≡ ReadFault White) w_reads w.reads → HasCause (turn ≡ WriteFault White) w_writes w.writes → HasCause (turn ≡ ReadFault Black) b_reads b.reads → HasCause (turn ≡ WriteFault Black) b_writes b.writes
-    → Rises turn w0 w b0 b
-rises turn w0 w b0 b w_reads w_writes b_reads b_writes wr ww br bw x y z u = record {
-  white_reads = λ e. rose_from _ _ _ wr (x.rose e);
-  white_writes = λ e. rose_from _ _ _ ww (y.rose e);
-  black_reads = λ e. rose_from _ _ _ br (z.rose e);
-  black_writes = λ e. rose_from _ _ _ bw (u.rose e);
+    → HasCauses turn White w_reads w.reads w_writes w.writes → HasCauses turn Black b_reads b.reads b_writes b.writes → Rises turn w0 w b0 b
+rises turn w0 w b0 b w_reads w_writes b_reads b_writes wr ww br bw white black = record {
+  white_reads = λ e. rose_from _ _ _ wr (white.reads.rose e);
+  white_writes = λ e. rose_from _ _ _ ww (white.writes.rose e);
+  black_reads = λ e. rose_from _ _ _ br (black.reads.rose e);
+  black_writes = λ e. rose_from _ _ _ bw (black.writes.rose e);
 }
 
 last_act : (turn : Acted) (setup : FullSetup) (s t : MatchState) (w0 w2 b0 b2 : Wire) (x0 x x2 y0 y y2 : Side) (r0 r r2 : Watch) → IsLast turn → Run setup s x0 x y0 y r0 r → Turns turn s t x x2 y y2 r.last r2.last → r2.readings ≤ r.readings + looks_at s.stage
@@ -78,13 +77,13 @@ last_act (WriteFault side) setup s t w0 w2 b0 b2 x0 x x2 y0 y y2 r0 r r2 over ru
 -- the run is over behind this act
 pub ends_over : (turn : Acted) (setup : FullSetup) (s t : MatchState) (w_reader b_reader : Reader) (w0 w2 b0 b2 : Wire) (w b : Side) (r0 r r2 : Watch) → IsFullSetup setup → IsLast turn
     → Run setup s (side_of fresh w0.rest w0.written) w (side_of fresh b0.rest b0.written) b r0 r
-    → Turns turn s t w (side_of w_reader w2.rest w2.written) b (side_of b_reader b2.rest b2.written) r.last r2.last → r2.readings ≤ r.readings + looks_at s.stage
+    → Turns turn s t w (side_of w_reader w2.rest w2.written) b (side_of b_reader b2.rest b2.written) r.last r2.last → LeavesClock s.stage r r2
     → HoldsLittle w_reader → HoldsLittle b_reader → Rises turn w0 w2 b0 b2 → RanOver setup t w0 w2 b0 b2 r0 r2
-ends_over turn setup s t w_reader b_reader w0 w2 b0 b2 w b r0 r r2 is over run turned c wl bl rises =
+ends_over turn setup s t w_reader b_reader w0 w2 b0 b2 w b r0 r r2 is over run turned clock wl bl rises =
     ran_over setup t w0 w2 b0 b2 r0 r2 is (record {
       white_reader = w_reader;
       black_reader = b_reader;
       white_little = wl;
       black_little = bl;
-      ran = last_act turn setup s t w0 w2 b0 b2 _ w _ _ b _ r0 r r2 over run turned c rises;
+      ran = last_act turn setup s t w0 w2 b0 b2 _ w _ _ b _ r0 r r2 over run turned clock.no_more rises;
     })

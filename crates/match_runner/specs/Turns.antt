@@ -1,9 +1,9 @@
 -- One act of a match, done over two links and a clock.
-use Rattle.std.specs.Prelude.{◌≡◌, ℕ, ◌+◌, ◌≤◌, Bool, true, false, if◌then◌else◌, take, IsTrue}
-use Rattle.io_edge.specs.Outside.{Told, behind}
+use Rattle.std.specs.Prelude.{◌≡◌, ℕ, ◌+◌, ◌<◌, ◌≤◌, Bool, true, false, if◌then◌else◌, take, IsTrue}
+use Rattle.io_edge.specs.Outside.{Told, HasCause, behind}
 use Rattle.hive_model.specs.declared.pieces.Colour.{Colour}
 use Rattle.hive_model.specs.declared.pieces.Colour.TheVariants.{White, Black}
-use Rattle.line_feed.specs.Feed.{Reading as Reader}
+use Rattle.line_feed.specs.Feed.{Reading as Reader, HoldsLittle, input_limit}
 use Rattle.line_feed.specs.Ahead.{ahead_of}
 use Rattle.match_core.specs.declared.stage.Stage.{Stage}
 use Rattle.match_core.specs.declared.stage.Act.{Act}
@@ -12,41 +12,65 @@ use Rattle.match_core.specs.Keeps.{line_at}
 use Rattle.match_core.specs.MatchState.{MatchState, Happening, Sent, Line, TooLong, Ended, Broke, Reading, next, act_at, answers}
 use Rattle.match_core.specs.Fairness.{sent_at}
 use Rattle.match_core.specs.Plays.{joined, is_finished}
-use Rattle.hive_model.specs.Lines.{ToldLines}
+use Rattle.hive_model.specs.Lines.{ToldLines, greatest_line}
 use Rattle.match_core.specs.Feeds.{Gave, FeedsAt}
 use Rattle.match_runner.specs.declared.turns.Acted.{Acted}
 use Rattle.match_runner.specs.declared.turns.Acted.TheVariants.{GoOn, Finished, ReadFault, WriteFault, Memory}
+use Rattle.match_runner.specs.Wires.{Watch}
 
 -- one side: the lines to come, the bytes that were sent to it
 pub record Side : Type 0 where
   pub ahead : ToldLines
   pub written : Told
 
--- a line is sent
-abbrev pub Tells : Acted → MatchState → MatchState → Told → Told → Type 0
-Tells GoOn s t before after = (t ≡ next s Sent) × (after ≡ behind before (line_at s s.stage))
-Tells (WriteFault at) s t before after =
-    (t ≡ next s Broke) × ((n : ℕ) × (after ≡ behind before (take n (line_at s s.stage))))
-Tells (ReadFault side) s t before after = ⊥
-Tells Finished s t before after = ⊥
-Tells Memory s t before after = Unit {0}
+-- a line is sent to this side
+abbrev pub Tells : Colour → Acted → MatchState → MatchState → Told → Told → Type 0
+Tells side GoOn s t before after =
+    (t ≡ next s Sent) × (after ≡ behind before (line_at s s.stage))
+Tells side (WriteFault at) s t before after =
+    (at ≡ side)
+    × (t ≡ next s Broke)
+    × ((n : ℕ) × (after ≡ behind before (take n (line_at s s.stage))))
+Tells side (ReadFault at) s t before after = ⊥
+Tells side Finished s t before after = ⊥
+Tells side Memory s t before after = Unit {0}
 
--- a line is read; one that is too long is judged, and not passed over
-abbrev pub Hears : Acted → MatchState → MatchState → ToldLines → ToldLines → Type 0
-Hears GoOn s t old new =
+-- a line of this side is read; one that is too long is judged, and not passed over
+abbrev pub Hears : Colour → Acted → MatchState → MatchState → ToldLines → ToldLines → Type 0
+Hears side GoOn s t old new =
     (h : Happening) × (t ≡ next s h) × Gave h old new × (h ≡ TooLong → new ≡ old)
-Hears (ReadFault side) s t old new = (t ≡ next s Broke) × (new ≡ old)
-Hears (WriteFault side) s t old new = ⊥
-Hears Finished s t old new = ⊥
-Hears Memory s t old new = Unit {0}
+Hears side (ReadFault at) s t old new = (at ≡ side) × (t ≡ next s Broke) × (new ≡ old)
+Hears side (WriteFault at) s t old new = ⊥
+Hears side Finished s t old new = ⊥
+Hears side Memory s t old new = Unit {0}
 
 -- a match that goes on is within this many bytes of lines
-abbrev pub Room : Acted → MatchState → ℕ → MatchState → ℕ → Type 0
-Room GoOn s before t after = is_finished t.stage ≡ false → after ≤ before + 65538
-Room (ReadFault side) s before t after = Unit {0}
-Room (WriteFault side) s before t after = Unit {0}
-Room Finished s before t after = Unit {0}
-Room Memory s before t after = Unit {0}
+abbrev pub Room : Acted → ℕ → MatchState → ℕ → Type 0
+Room GoOn before t after = is_finished t.stage ≡ false → after ≤ before + 65538
+Room (ReadFault side) before t after = Unit {0}
+Room (WriteFault side) before t after = Unit {0}
+Room Finished before t after = Unit {0}
+Room Memory before t after = Unit {0}
+
+-- a reader from which a line may be read in this match: it holds little, and is further from its
+-- limit than a line is long, unless the match is over
+pub record MayRead (s : MatchState) (reader : Reader) : Type 0 where
+  pub little : HoldsLittle reader
+  pub room : is_finished s.stage ≡ false → reader.passed + greatest_line < input_limit
+
+-- what an act leaves of a reader: it holds little, and where the match goes on it is one line
+-- further at the most
+pub record LeavesReader (turn : Acted) (old : Reader) (t : MatchState) (new : Reader)
+    : Type 0 where
+  pub little : HoldsLittle new
+  pub room : Room turn old.passed t new.passed
+
+-- The faults of this side that an act tells have their causes: its count of failed reads rose where
+-- the act says that a read of it failed, and stands where not; and so its count of failed writes.
+pub record HasCauses (turn : Acted) (side : Colour)
+    (reads_before reads_now writes_before writes_now : ℕ) : Type 0 where
+  pub reads : HasCause (turn ≡ ReadFault side) reads_before reads_now
+  pub writes : HasCause (turn ≡ WriteFault side) writes_before writes_now
 
 -- the clock is read
 abbrev pub Looks : Acted → MatchState → MatchState → ℕ → ℕ → Type 0
@@ -88,6 +112,13 @@ is_clock Finish = false
 -- how often the clock is read at a place
 abbrev pub looks_at : Stage → ℕ
 looks_at stage = if is_clock (act_at stage) then 1 else 0
+
+-- what an act leaves of the clock: it does not go back, and was read at most once, and only where
+-- the match asks for its reading
+pub record LeavesClock (stage : Stage) (before after : Watch) : Type 0 where
+  pub later : before.last ≤ after.last
+  pub no_fewer : before.readings ≤ after.readings
+  pub no_more : after.readings ≤ before.readings + looks_at stage
 
 -- what an event does at a side
 pub record OneSide (s : MatchState) (h : Happening) (to : Colour) (old new : Side) : Type 0 where

@@ -1,13 +1,22 @@
 //! One act of a match.
-ghost use Rattle.std.specs.Prelude.{◌≡◌, ◌+◌, ◌<◌, ◌≤◌, false};
+ghost use Rattle.std.specs.Prelude.{◌≡◌, ◌+◌, ◌<◌};
 ghost use Rattle.hive_model.specs.declared.pieces.Colour.{Colour};
 ghost use Rattle.hive_model.specs.Lines.{greatest_line};
-ghost use Rattle.io_edge.specs.Outside.{HasCause};
-ghost use Rattle.line_feed.specs.Feed.{HoldsLittle, input_limit};
+ghost use Rattle.line_feed.specs.Feed.{input_limit};
 ghost use Rattle.line_feed.specs.Ahead.{ahead_of};
 ghost use Rattle.match_core.specs.MatchState.{act_at};
-ghost use Rattle.match_core.specs.Plays.{is_finished};
-ghost use Rattle.match_runner.specs.Turns.{Tells, Hears, Looks, Turns, Room, side_of, looks_at};
+ghost use Rattle.match_runner.specs.Wires.{watch};
+ghost use Rattle.match_runner.specs.Turns.{
+  HasCauses,
+  Hears,
+  LeavesClock,
+  LeavesReader,
+  Looks,
+  MayRead,
+  Tells,
+  Turns,
+  side_of,
+};
 
 use hive_model::{Colour, Game};
 use io_edge::{Clock, Link, write_all};
@@ -32,12 +41,11 @@ pub enum Acted {
 /// Moves a referee on; there may be no memory for a line.
 fn tell<L: Link, G: Game + Drop>(referee: &mut Referee<G>, link: &mut L, side: Colour) -> Acted
     requires { act_at referee.old.stage ≡ Act.Send side }
-    ensures told { Tells result referee.old referee.new (L.written link.old) (L.written link.new) }
+    ensures told { Tells side result referee.old referee.new
+        (L.written link.old) (L.written link.new) }
     ensures rest { L.rest link.new ≡ L.rest link.old }
-    ensures reads { L.read_faults link.new ≡ L.read_faults link.old }
-    ensures side { (at : Colour) → result ≡ Acted.WriteFault at → at ≡ side }
-    ensures cause { HasCause (result ≡ Acted.WriteFault side) (L.write_faults link.old)
-        (L.write_faults link.new) }
+    ensures causes { HasCauses result side (L.read_faults link.old) (L.read_faults link.new)
+        (L.write_faults link.old) (L.write_faults link.new) }
 {
     if write_all(link, referee.text()) {
         match referee.step(Event::Sent, &[]) {
@@ -62,15 +70,12 @@ fn listen<L: Link, G: Game + Drop>(
 ) -> Acted
     requires act { act_at referee.old.stage ≡ Act.Read side }
     requires room { reader.old.passed + greatest_line < input_limit }
-    ensures little { HoldsLittle reader.new }
-    ensures heard { Hears result referee.old referee.new (ahead_of reader.old (L.rest link.old))
-        (ahead_of reader.new (L.rest link.new)) }
-    ensures room { Room result referee.old reader.old.passed referee.new reader.new.passed }
+    ensures heard { Hears side result referee.old referee.new
+        (ahead_of reader.old (L.rest link.old)) (ahead_of reader.new (L.rest link.new)) }
+    ensures reader { LeavesReader result reader.old referee.new reader.new }
     ensures written { L.written link.new ≡ L.written link.old }
-    ensures writes { L.write_faults link.new ≡ L.write_faults link.old }
-    ensures side { (at : Colour) → result ≡ Acted.ReadFault at → at ≡ side }
-    ensures cause { HasCause (result ≡ Acted.ReadFault side) (L.read_faults link.old)
-        (L.read_faults link.new) }
+    ensures causes { HasCauses result side (L.read_faults link.old) (L.read_faults link.new)
+        (L.write_faults link.old) (L.write_faults link.new) }
 {
     match reader.next_short_line(link) {
         ShortAnswer::Line => match referee.step(Event::Line, reader.line()) {
@@ -100,9 +105,9 @@ fn listen<L: Link, G: Game + Drop>(
 fn look<C: Clock, G: Game + Drop>(referee: &mut Referee<G>, clock: &mut C) -> Acted
     requires { act_at referee.old.stage ≡ Act.Clock }
     ensures looked { Looks result referee.old referee.new (C.last clock.old) (C.last clock.new) }
-    ensures later { C.last clock.old ≤ C.last clock.new }
-    ensures counted { (C.readings clock.old ≤ C.readings clock.new)
-        × (C.readings clock.new ≤ C.readings clock.old + 1) }
+    ensures clock { LeavesClock referee.old.stage
+        (watch (C.last clock.old) (C.readings clock.old))
+        (watch (C.last clock.new) (C.readings clock.new)) }
 {
     let at = clock.now();
     match referee.step(Event::Reading { at }, &[]) {
@@ -121,35 +126,25 @@ pub(crate) fn one_act<L: Link, C: Clock, G: Game + Drop>(
     black_lines: &mut LineReader,
     clock: &mut C,
 ) -> Acted
-    requires white_room { is_finished referee.old.stage ≡ false
-        → white_lines.old.passed + greatest_line < input_limit }
-    requires black_room { is_finished referee.old.stage ≡ false
-        → black_lines.old.passed + greatest_line < input_limit }
-    requires white_little { HoldsLittle white_lines.old }
-    requires black_little { HoldsLittle black_lines.old }
-    ensures white_little { HoldsLittle white_lines.new }
-    ensures black_little { HoldsLittle black_lines.new }
+    requires white_reader { MayRead referee.old white_lines.old }
+    requires black_reader { MayRead referee.old black_lines.old }
     ensures turned { Turns result referee.old referee.new
         (side_of white_lines.old (L.rest white.old) (L.written white.old))
         (side_of white_lines.new (L.rest white.new) (L.written white.new))
         (side_of black_lines.old (L.rest black.old) (L.written black.old))
         (side_of black_lines.new (L.rest black.new) (L.written black.new)) (C.last clock.old)
         (C.last clock.new) }
-    ensures white_room { Room result referee.old white_lines.old.passed referee.new
-        white_lines.new.passed }
-    ensures black_room { Room result referee.old black_lines.old.passed referee.new
-        black_lines.new.passed }
-    ensures white_reads { HasCause (result ≡ Acted.ReadFault Colour.White) (L.read_faults white.old)
-        (L.read_faults white.new) }
-    ensures white_writes { HasCause (result ≡ Acted.WriteFault Colour.White)
+    ensures white_reader { LeavesReader result white_lines.old referee.new white_lines.new }
+    ensures black_reader { LeavesReader result black_lines.old referee.new black_lines.new }
+    ensures white_causes { HasCauses result Colour.White
+        (L.read_faults white.old) (L.read_faults white.new)
         (L.write_faults white.old) (L.write_faults white.new) }
-    ensures black_reads { HasCause (result ≡ Acted.ReadFault Colour.Black) (L.read_faults black.old)
-        (L.read_faults black.new) }
-    ensures black_writes { HasCause (result ≡ Acted.WriteFault Colour.Black)
+    ensures black_causes { HasCauses result Colour.Black
+        (L.read_faults black.old) (L.read_faults black.new)
         (L.write_faults black.old) (L.write_faults black.new) }
-    ensures later { C.last clock.old ≤ C.last clock.new }
-    ensures counted { (C.readings clock.old ≤ C.readings clock.new)
-        × (C.readings clock.new ≤ C.readings clock.old + looks_at referee.old.stage) }
+    ensures clock { LeavesClock referee.old.stage
+        (watch (C.last clock.old) (C.readings clock.old))
+        (watch (C.last clock.new) (C.readings clock.new)) }
 {
     match referee.next() {
         Act::Send {

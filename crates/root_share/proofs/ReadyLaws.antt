@@ -1,5 +1,5 @@
 -- What a worker knows of the child that it tried first, and that it is ready for the others.
-use Rattle.std.proofs.Common.{◌≡◌, ℕ, subst, ◌-◌, sym, ap, ◌∙◌, arith, ℤ, ◌≤ℤ◌, Some}
+use Rattle.std.proofs.Common.{◌≡◌, ℕ, List, subst, ◌-◌, sym, ap, ◌∙◌, arith, ℤ, ◌≤ℤ◌, Some}
 use Rattle.std.proofs.lemmas.Int.{ints}
 use Rattle.std.specs.List.{slice_get}
 use Rattle.hive_model.specs.Lists.{IsOn}
@@ -9,8 +9,10 @@ use Rattle.hive_model.specs.Positions.{Position}
 use Rattle.hive_model.specs.Legal.{moves}
 use Rattle.hive_model.specs.Minimax.{reply_value}
 use Rattle.hive_model.specs.Courses.{Course, position}
-use Rattle.root_share.specs.Ready.{IsReady}
-use Rattle.root_share.specs.Word.{Known, known}
+use Rattle.atomic_table.specs.Seated.{TableId}
+use Rattle.atomic_table.specs.declared.shared.Seat.{Seat}
+use Rattle.root_share.specs.Ready.{IsReady, MayBegin}
+use Rattle.root_share.specs.Word.{Known, known, IsSeat}
 use Rattle.root_share.specs.Answer.{IsKnown}
 
 pub known-still : (p : Position) (d : ℕ) (g h : ℤ) (first : ℕ) → g ≤ℤ h → IsKnown p d g first → IsKnown p d h first
@@ -28,6 +30,16 @@ ready-still p q k known depth game later n more old at agreed same kept = record
   deep = old.deep;
   spare = omega (arith, ap (λ (h : Course). h.spare) same, old.spare);
   enough = omega (arith, kept, old.enough);
+}
+
+-- the same of a worker that can take children
+pub begin-still : (id : TableId) (lists : List (List Move)) (game later : Course) (n more depth parts : ℕ) (seat next : Seat (Unit {0}) Known) → MayBegin id lists game n depth parts seat →
+    IsSeat id next → next.me.0.root ≡ seat.me.0.root → next.me.0.depth ≡ depth → later ≡ game → more ≡ n → MayBegin id lists later more depth parts next
+begin-still id lists game later n more depth parts seat next may seated root agreed same kept = record {
+  seated = seated;
+  ready = ready-still seat.me.0.root next.me.0.root seat.me.0.depth next.me.0.depth depth game later n more may.ready root agreed same kept;
+  listed = rw root may.listed;
+  some = may.some;
 }
 
 -- what a view knows

@@ -1,11 +1,12 @@
 //! Children that are played and not searched.
 
-ghost use Rattle.std.specs.Prelude.{◌≡◌, ◌+◌, ◌<◌, ◌≤◌, false, pos, ◌≤ℤ◌, ◌<ℤ◌, MatchOption};
+ghost use Rattle.std.specs.Prelude.{◌≡◌, ◌+◌, ◌<◌, ◌≤◌, false, pos, ◌≤ℤ◌, MatchOption};
 ghost use Rattle.hive_model.specs.Lists.{IsOn};
 ghost use Rattle.hive_model.specs.Legal.{moves, is_over};
 ghost use Rattle.hive_model.specs.Games.{after};
 ghost use Rattle.hive_model.specs.Minimax.{reply_value};
 ghost use Rattle.hive_model.specs.Courses.{position};
+ghost use Rattle.root_share.specs.Children.{IsTested};
 
 use hive_model::{Game, Move};
 use search_laws::end_value;
@@ -38,10 +39,7 @@ pub(crate) fn value_behind<G: Game>(game: &mut G, m: Move, depth: u32, bound: i3
     requires deep { depth < 64 }
     requires spare { 1 ≤ (G.course game.old).spare }
     requires least { pos (1000000 + depth) ≤ℤ bound }
-    ensures exact { bound ≤ℤ result → result
-        ≡ reply_value (position (G.course game.old)) depth m }
-    ensures below { result <ℤ bound →
-        reply_value (position (G.course game.old)) depth m <ℤ bound }
+    ensures tested { IsTested (reply_value (position (G.course game.old)) depth m) bound result }
     ensures game { G.course game.new ≡ G.course game.old }
     ensures played { G.played game.new ≤ G.played game.old + 1 }
 {

@@ -1,17 +1,18 @@
 //! How a worker begins that does not have the move that looks best: the bound is not known yet, and
 //! its first child is left as soon as another worker raises it.
 
-ghost use Rattle.std.specs.Prelude.{◌≡◌, ◌+◌, ◌-◌, ◌%◌, ◌<◌, ◌≤◌, [], ◌∷◌, length, slice_get};
-ghost use Rattle.std.specs.Prelude.{Some, IfSome, pos, negsuc, ◌-ℤ◌, ◌≤ℤ◌, ◌<ℤ◌};
-ghost use Rattle.hive_model.specs.Lists.{IsOn};
+ghost use Rattle.std.specs.Prelude.{◌≡◌, ◌+◌, ◌-◌, ◌%◌, ◌<◌, ◌≤◌, length, slice_get};
+ghost use Rattle.std.specs.Prelude.{Some, IfSome, pos, ◌-ℤ◌, ◌≤ℤ◌};
 ghost use Rattle.hive_model.specs.Legal.{moves};
 ghost use Rattle.hive_model.specs.Games.{after};
-ghost use Rattle.hive_model.specs.Minimax.{value, reply_value, lowest};
+ghost use Rattle.hive_model.specs.Minimax.{reply_value, lowest};
 ghost use Rattle.hive_model.specs.Costs.{cost, share};
 ghost use Rattle.hive_model.specs.Courses.{position};
-ghost use Rattle.root_share.specs.Word.{IsSeat};
+ghost use Rattle.root_share.specs.Word.{IsSeat, IsSeatOf};
 ghost use Rattle.root_share.specs.Answer.{IsAnswer, IsTried};
-ghost use Rattle.root_share.specs.Ready.{IsReady};
+ghost use Rattle.root_share.specs.Ready.{IsReady, MayBegin};
+ghost use Rattle.root_share.specs.Children.{MaySearch, IsBound, IsTested};
+ghost use Rattle.root_share.specs.Workers.{HasPlayed};
 
 use crate::bell::{Bell, STRIKE};
 use crate::candidate::{Candidate, better};
@@ -41,23 +42,14 @@ fn value_until_raised<G: Game>(
 ) -> Option<i32>
     requires seat { IsSeat word.now.table_id seat.old }
     requires known { seat.old.me.0.depth ≤ 64 }
-    requires legal { IsOn (moves (position (G.course worker.old.game))) m }
-    requires deep { depth < 64 }
-    requires spare { depth < (G.course worker.old.game).spare }
-    requires prepared { depth ≤ worker.old.searcher }
-    requires low { negsuc 1000089 ≤ℤ bound }
-    requires high { bound ≤ℤ pos 1000064 }
-    ensures exact { IfSome result (λ v. bound ≤ℤ v → v
-        ≡ reply_value (position (G.course worker.old.game)) depth m) }
-    ensures below { IfSome result (λ v. v <ℤ bound →
-        reply_value (position (G.course worker.old.game)) depth m <ℤ bound) }
+    requires child { MaySearch (G.course worker.old.game) worker.old.searcher m depth }
+    requires bound { IsBound bound }
+    ensures tested { IfSome result
+        (IsTested (reply_value (position (G.course worker.old.game)) depth m) bound) }
     ensures seat { IsSeat word.now.table_id seat.new }
     ensures view { seat.new.me.0 ≡ seat.old.me.0 }
-    ensures game { G.course worker.new.game ≡ G.course worker.old.game }
-    ensures searcher { worker.new.searcher ≡ worker.old.searcher }
-    ensures played { G.played worker.new.game
-        ≤ G.played worker.old.game
-        + (1 + cost (after (position (G.course worker.old.game)) m) depth lowest
+    ensures worker { HasPlayed G.course G.played worker.old worker.new
+        (1 + cost (after (position (G.course worker.old.game)) m) depth lowest
         (pos 1 -ℤ bound)) }
 {
     let other = halve(word, seat);
@@ -93,16 +85,11 @@ fn try_beside<G: Game, T: Gate>(
     requires ready { IsReady seat.old.me.0.root seat.old.me.0.depth depth (G.course worker.old.game)
         worker.old.searcher }
     requires here { slice_get (moves seat.old.me.0.root) child ≡ Some m }
-    ensures seat { IsSeat word.now.table_id seat.new }
-    ensures root { seat.new.me.0.root ≡ seat.old.me.0.root }
-    ensures depth { seat.new.me.0.depth ≡ depth }
+    ensures seat { IsSeatOf word.now.table_id seat.old.me.0.root depth seat.new }
     ensures tried { IsTried seat.old.me.0.root depth child seat.new.me.0.top result }
     ensures top { seat.old.me.0.top ≤ℤ seat.new.me.0.top }
-    ensures game { G.course worker.new.game ≡ G.course worker.old.game }
-    ensures searcher { worker.new.searcher ≡ worker.old.searcher }
-    ensures played { G.played worker.new.game
-        ≤ G.played worker.old.game
-        + (1 + cost (after seat.old.me.0.root m) (depth - 1) lowest
+    ensures worker { HasPlayed G.course G.played worker.old worker.new
+        (1 + cost (after seat.old.me.0.root m) (depth - 1) lowest
         (pos 1 -ℤ seat.old.me.0.top)) }
 {
     gate.before_child(part, child);
@@ -132,21 +119,14 @@ pub(crate) fn run_beside<G: Game, T: Gate>(
     seat: &mut BoundSeat,
     worker: &mut Worker<G>,
 ) -> Option<Candidate>
-    requires seat { IsSeat word.now.table_id seat.old }
-    requires ready { IsReady seat.old.me.0.root seat.old.me.0.depth depth (G.course worker.old.game)
-        worker.old.searcher }
-    requires listed { root.now.lists ≡ moves seat.old.me.0.root ∷ [] }
-    requires parts { 0 < parts }
+    requires begin { MayBegin word.now.table_id root.now.lists (G.course worker.old.game)
+        worker.old.searcher depth parts seat.old }
     requires mine { first % parts ≡ part }
     requires place { first < length (moves seat.old.me.0.root) }
-    ensures seat { IsSeat word.now.table_id seat.new }
-    ensures root { seat.new.me.0.root ≡ seat.old.me.0.root }
-    ensures depth { seat.new.me.0.depth ≡ depth }
+    ensures seat { IsSeatOf word.now.table_id seat.old.me.0.root depth seat.new }
     ensures answer { IsAnswer seat.old.me.0.root depth (λ i. i % parts ≡ part) result }
-    ensures game { G.course worker.new.game ≡ G.course worker.old.game }
-    ensures searcher { worker.new.searcher ≡ worker.old.searcher }
-    ensures played { G.played worker.new.game
-        ≤ G.played worker.old.game + share seat.old.me.0.root depth part parts }
+    ensures worker { HasPlayed G.course G.played worker.old worker.new
+        (share seat.old.me.0.root depth part parts) }
 {
     let m = root.get(0, first);
     match try_beside(word, gate, m, depth, part, first, seat, worker) {

@@ -1,10 +1,10 @@
 //! The call that runs all workers at a root.
 
-ghost use Rattle.std.specs.Prelude.{◌≡◌, ◌+◌, ◌<◌, ◌≤◌, [], ◌∷◌, map, length, Some, IfOk, OnErr, false};
-ghost use Rattle.std.specs.List.{All};
-ghost use Rattle.hive_model.specs.Legal.{moves, is_over};
+ghost use Rattle.std.specs.Prelude.{◌≡◌, ◌<◌, ◌≤◌, [], ◌∷◌, length, Some, IfOk, OnErr};
+ghost use Rattle.hive_model.specs.Legal.{moves};
 ghost use Rattle.hive_model.specs.Minimax.{value, best};
-ghost use Rattle.root_share.specs.Answer.{PlaysWithin, root_of, AreEqualGames};
+ghost use Rattle.root_share.specs.Answer.{PlaysWithin};
+ghost use Rattle.root_share.specs.Workers.{CanSearch, AreAsBefore, plays_of, root_at};
 
 use crate::gate::Gate;
 use crate::part::{RootWork, run_parts};
@@ -19,13 +19,9 @@ fn list_root<G: Game>(workers: &mut [Worker<G>], root: &mut MoveStack)
     requires some { 0 < length workers.old }
     requires empty { root.old.lists ≡ [] }
     requires free { 1 ≤ root.old.free }
-    ensures listed { root.new.lists
-        ≡ moves (root_of (map (λ w. G.course w.game) workers.old)) ∷ [] }
-    ensures games { map (λ w. G.course w.game) workers.new
-        ≡ map (λ w. G.course w.game) workers.old }
-    ensures searchers { map (λ w. w.searcher) workers.new ≡ map (λ w. w.searcher) workers.old }
-    ensures played { map (λ w. G.played w.game) workers.new
-        ≡ map (λ w. G.played w.game) workers.old }
+    ensures listed { root.new.lists ≡ moves (root_at G.course workers.old) ∷ [] }
+    ensures kept { AreAsBefore G.course workers.old workers.new }
+    ensures played { plays_of G.played workers.new ≡ plays_of G.played workers.old }
 {
     workers[0].game.list(root);
 }
@@ -44,26 +40,16 @@ pub fn best_shared<R: Threads + Sync, G: Game + Send, T: Gate + Sync>(
     depth: u32,
     gate: &T,
 ) -> Result<Best, AllocError>
-    requires some { 1 ≤ length workers.old }
-    requires few { length workers.old ≤ 16 }
     requires depth { 1 ≤ depth }
     requires deep { depth ≤ 64 }
-    requires goes_on { is_over (root_of (map (λ w. G.course w.game) workers.old)) ≡ false }
-    requires equal { AreEqualGames (map (λ w. G.course w.game) workers.old) }
-    requires spare { All (λ c. depth ≤ c.spare) (map (λ w. G.course w.game) workers.old) }
-    requires prepared { All (λ n. depth ≤ n) (map (λ w. w.searcher) workers.old) }
-    ensures first { let p = root_of (map (λ w. G.course w.game) workers.old) in
-        IfOk result (λ b. best p depth ≡ Some b.best) }
-    ensures worth { let p = root_of (map (λ w. G.course w.game) workers.old) in
-        IfOk result (λ b. b.value ≡ value p depth) }
-    ensures games { map (λ w. G.course w.game) workers.new
-        ≡ map (λ w. G.course w.game) workers.old }
-    ensures searchers { map (λ w. w.searcher) workers.new ≡ map (λ w. w.searcher) workers.old }
-    ensures played { let p = root_of (map (λ w. G.course w.game) workers.old) in
-        PlaysWithin p depth (length workers.old) 0
-        (map (λ w. G.played w.game) workers.old) (map (λ w. G.played w.game) workers.new) }
-    ensures unplayed { OnErr result (map (λ w. G.played w.game) workers.new
-        ≡ map (λ w. G.played w.game) workers.old) }
+    requires workers { CanSearch G.course depth workers.old }
+    ensures first { IfOk result (λ b. best (root_at G.course workers.old) depth ≡ Some b.best) }
+    ensures worth { IfOk result (λ b. b.value ≡ value (root_at G.course workers.old) depth) }
+    ensures kept { AreAsBefore G.course workers.old workers.new }
+    ensures played { PlaysWithin (root_at G.course workers.old) depth (length workers.old) 0
+        (plays_of G.played workers.old) (plays_of G.played workers.new) }
+    ensures unplayed { OnErr result
+        (plays_of G.played workers.new ≡ plays_of G.played workers.old) }
 {
     let mut root = MoveStack::new(alloc, 1)?;
     list_root(workers, &mut root);

@@ -6,6 +6,7 @@ ghost use Rattle.hive_model.specs.Minimax.{value};
 ghost use Rattle.hive_model.specs.Courses.{position};
 ghost use Rattle.root_share.specs.Word.{IsSeat, IsReply, known};
 ghost use Rattle.root_share.specs.Ready.{IsReady};
+ghost use Rattle.root_share.specs.Workers.{HasPlayed};
 
 use crate::behind::end_behind;
 use crate::word::{BoundSeat, Word, look, raise};
@@ -51,9 +52,7 @@ pub(crate) fn look_for_win<G: Game>(
     ensures view { seat.new.me.0 ≡ known seat.old.me.0.root depth result }
     ensures grows { seat.old.me.0.top ≤ℤ result }
     ensures most { result ≤ℤ value seat.old.me.0.root depth }
-    ensures game { G.course worker.new.game ≡ G.course worker.old.game }
-    ensures searcher { worker.new.searcher ≡ worker.old.searcher }
-    ensures played { G.played worker.new.game ≤ G.played worker.old.game + 1 }
+    ensures worker { HasPlayed G.course G.played worker.old worker.new 1 }
 {
     let bound = look(word, seat);
     if bound >= 1_000_000 + (depth - 1) as i32 {

@@ -1,16 +1,17 @@
 //! What one worker does.
 
 ghost use Rattle.std.specs.Prelude.{◌≡◌, ◌+◌, ◌-◌, ◌%◌, ◌<◌, ◌≤◌, [], ◌∷◌, length, slice_get};
-ghost use Rattle.std.specs.Prelude.{Some, pos, negsuc, ◌-ℤ◌, ◌≤ℤ◌, ◌<ℤ◌};
-ghost use Rattle.hive_model.specs.Lists.{IsOn};
+ghost use Rattle.std.specs.Prelude.{Some, pos, ◌-ℤ◌, ◌≤ℤ◌};
 ghost use Rattle.hive_model.specs.Legal.{moves};
 ghost use Rattle.hive_model.specs.Games.{after};
-ghost use Rattle.hive_model.specs.Minimax.{value, reply_value, IsInner, lowest};
+ghost use Rattle.hive_model.specs.Minimax.{reply_value, lowest};
 ghost use Rattle.hive_model.specs.Costs.{cost, share};
 ghost use Rattle.hive_model.specs.Courses.{position};
-ghost use Rattle.root_share.specs.Word.{IsSeat};
+ghost use Rattle.root_share.specs.Word.{IsSeat, IsSeatOf};
 ghost use Rattle.root_share.specs.Answer.{IsAnswer, IsKnown, turns_share};
-ghost use Rattle.root_share.specs.Ready.{IsReady};
+ghost use Rattle.root_share.specs.Ready.{IsReady, MayBegin};
+ghost use Rattle.root_share.specs.Children.{MaySearch, IsBound, IsTested, IsDepth, IsLatest};
+ghost use Rattle.root_share.specs.Workers.{HasPlayed};
 
 use crate::behind::value_behind;
 use crate::beside::run_beside;
@@ -33,21 +34,12 @@ pub struct Worker<G> {
 /// What the search of a child shows: its value where that is at least the bound, and else that it
 /// is below.
 fn value_searched<G: Game>(worker: &mut Worker<G>, m: Move, depth: u32, bound: i32) -> i32
-    requires legal { IsOn (moves (position (G.course worker.old.game))) m }
-    requires deep { depth < 64 }
-    requires spare { depth < (G.course worker.old.game).spare }
-    requires prepared { depth ≤ worker.old.searcher }
-    requires low { negsuc 1000089 ≤ℤ bound }
-    requires high { bound ≤ℤ pos 1000064 }
-    ensures exact { bound ≤ℤ result → result
-        ≡ reply_value (position (G.course worker.old.game)) depth m }
-    ensures below { result <ℤ bound →
-        reply_value (position (G.course worker.old.game)) depth m <ℤ bound }
-    ensures game { G.course worker.new.game ≡ G.course worker.old.game }
-    ensures searcher { worker.new.searcher ≡ worker.old.searcher }
-    ensures played { G.played worker.new.game
-        ≤ G.played worker.old.game
-        + (1 + cost (after (position (G.course worker.old.game)) m) depth lowest
+    requires child { MaySearch (G.course worker.old.game) worker.old.searcher m depth }
+    requires bound { IsBound bound }
+    ensures tested { IsTested (reply_value (position (G.course worker.old.game)) depth m) bound
+        result }
+    ensures worker { HasPlayed G.course G.played worker.old worker.new
+        (1 + cost (after (position (G.course worker.old.game)) m) depth lowest
         (pos 1 -ℤ bound)) }
 {
     worker.game.play(m);
@@ -63,21 +55,12 @@ fn value_searched<G: Game>(worker: &mut Worker<G>, m: Move, depth: u32, bound: i
 /// What a child is worth where that is at least the bound, and else a number below the bound. Where
 /// only a child that ends the game could be worth the bound, it is played and not searched.
 fn child_worth<G: Game>(worker: &mut Worker<G>, m: Move, depth: u32, bound: i32) -> i32
-    requires legal { IsOn (moves (position (G.course worker.old.game))) m }
-    requires deep { depth < 64 }
-    requires spare { depth < (G.course worker.old.game).spare }
-    requires prepared { depth ≤ worker.old.searcher }
-    requires low { negsuc 1000089 ≤ℤ bound }
-    requires high { bound ≤ℤ pos 1000064 }
-    ensures exact { bound ≤ℤ result → result
-        ≡ reply_value (position (G.course worker.old.game)) depth m }
-    ensures below { result <ℤ bound →
-        reply_value (position (G.course worker.old.game)) depth m <ℤ bound }
-    ensures game { G.course worker.new.game ≡ G.course worker.old.game }
-    ensures searcher { worker.new.searcher ≡ worker.old.searcher }
-    ensures played { G.played worker.new.game
-        ≤ G.played worker.old.game
-        + (1 + cost (after (position (G.course worker.old.game)) m) depth lowest
+    requires child { MaySearch (G.course worker.old.game) worker.old.searcher m depth }
+    requires bound { IsBound bound }
+    ensures tested { IsTested (reply_value (position (G.course worker.old.game)) depth m) bound
+        result }
+    ensures worker { HasPlayed G.course G.played worker.old worker.new
+        (1 + cost (after (position (G.course worker.old.game)) m) depth lowest
         (pos 1 -ℤ bound)) }
 {
     if bound >= 1_000_000 + depth as i32 {
@@ -98,18 +81,11 @@ pub(crate) fn settle<G: Game>(
     seat: &mut BoundSeat,
 ) -> Option<Candidate>
     requires seat { IsSeat word.now.table_id seat.old }
-    requires inner { IsInner seat.old.me.0.root depth }
-    requires agreed { seat.old.me.0.depth ≡ depth }
-    requires deep { depth ≤ 64 }
+    requires depth { IsDepth seat.old.me.0.root seat.old.me.0.depth depth }
     requires here { slice_get (moves seat.old.me.0.root) child ≡ Some m }
-    requires stands { seat.old.me.0.top ≡ bound }
-    requires most { bound ≤ℤ value seat.old.me.0.root depth }
-    requires exact { bound ≤ℤ worth → worth
-        ≡ reply_value seat.old.me.0.root (depth - 1) m }
-    requires below { worth <ℤ bound → reply_value seat.old.me.0.root (depth - 1) m <ℤ bound }
-    ensures seat { IsSeat word.now.table_id seat.new }
-    ensures root { seat.new.me.0.root ≡ seat.old.me.0.root }
-    ensures depth { seat.new.me.0.depth ≡ depth }
+    requires bound { IsLatest seat.old.me.0.root depth seat.old.me.0.top bound }
+    requires tested { IsTested (reply_value seat.old.me.0.root (depth - 1) m) bound worth }
+    ensures seat { IsSeatOf word.now.table_id seat.old.me.0.root depth seat.new }
     ensures answer { IsAnswer seat.old.me.0.root depth (λ i. i ≡ child) result }
     ensures top { (bound ≤ℤ seat.new.me.0.top)
         × (reply_value seat.old.me.0.root (depth - 1) m ≤ℤ seat.new.me.0.top) }
@@ -139,19 +115,13 @@ pub(crate) fn close_child<G: Game>(
     requires ready { IsReady seat.old.me.0.root seat.old.me.0.depth depth (G.course worker.old.game)
         worker.old.searcher }
     requires here { slice_get (moves seat.old.me.0.root) child ≡ Some m }
-    requires stands { seat.old.me.0.top ≡ bound }
-    requires most { bound ≤ℤ value seat.old.me.0.root depth }
-    ensures seat { IsSeat word.now.table_id seat.new }
-    ensures root { seat.new.me.0.root ≡ seat.old.me.0.root }
-    ensures depth { seat.new.me.0.depth ≡ depth }
+    requires bound { IsLatest seat.old.me.0.root depth seat.old.me.0.top bound }
+    ensures seat { IsSeatOf word.now.table_id seat.old.me.0.root depth seat.new }
     ensures answer { IsAnswer seat.old.me.0.root depth (λ i. i ≡ child) result }
     ensures top { (bound ≤ℤ seat.new.me.0.top)
         × (reply_value seat.old.me.0.root (depth - 1) m ≤ℤ seat.new.me.0.top) }
-    ensures game { G.course worker.new.game ≡ G.course worker.old.game }
-    ensures searcher { worker.new.searcher ≡ worker.old.searcher }
-    ensures played { G.played worker.new.game
-        ≤ G.played worker.old.game
-        + (1 + cost (after seat.old.me.0.root m) (depth - 1) lowest
+    ensures worker { HasPlayed G.course G.played worker.old worker.new
+        (1 + cost (after seat.old.me.0.root m) (depth - 1) lowest
         (pos 1 -ℤ bound)) }
 {
     let worth = child_worth(worker, m.again(), depth - 1, bound);
@@ -174,17 +144,12 @@ fn try_child<G: Game, T: Gate>(
     requires ready { IsReady seat.old.me.0.root seat.old.me.0.depth depth (G.course worker.old.game)
         worker.old.searcher }
     requires here { slice_get (moves seat.old.me.0.root) child ≡ Some m }
-    ensures seat { IsSeat word.now.table_id seat.new }
-    ensures root { seat.new.me.0.root ≡ seat.old.me.0.root }
-    ensures depth { seat.new.me.0.depth ≡ depth }
+    ensures seat { IsSeatOf word.now.table_id seat.old.me.0.root depth seat.new }
     ensures answer { IsAnswer seat.old.me.0.root depth (λ i. i ≡ child) result }
     ensures top { (seat.old.me.0.top ≤ℤ seat.new.me.0.top)
         × (reply_value seat.old.me.0.root (depth - 1) m ≤ℤ seat.new.me.0.top) }
-    ensures game { G.course worker.new.game ≡ G.course worker.old.game }
-    ensures searcher { worker.new.searcher ≡ worker.old.searcher }
-    ensures played { G.played worker.new.game
-        ≤ G.played worker.old.game
-        + (1 + cost (after seat.old.me.0.root m) (depth - 1) lowest
+    ensures worker { HasPlayed G.course G.played worker.old worker.new
+        (1 + cost (after seat.old.me.0.root m) (depth - 1) lowest
         (pos 1 -ℤ seat.old.me.0.top)) }
 {
     gate.before_child(part, child);
@@ -211,17 +176,12 @@ fn try_first<G: Game, T: Gate>(
         worker.old.searcher }
     requires listed { root.now.lists ≡ moves seat.old.me.0.root ∷ [] }
     requires here { slice_get (moves seat.old.me.0.root) child ≡ Some m }
-    ensures seat { IsSeat word.now.table_id seat.new }
-    ensures root { seat.new.me.0.root ≡ seat.old.me.0.root }
-    ensures depth { seat.new.me.0.depth ≡ depth }
+    ensures seat { IsSeatOf word.now.table_id seat.old.me.0.root depth seat.new }
     ensures answer { IsAnswer seat.old.me.0.root depth (λ i. i ≡ child) result }
     ensures top { (seat.old.me.0.top ≤ℤ seat.new.me.0.top)
         × (reply_value seat.old.me.0.root (depth - 1) m ≤ℤ seat.new.me.0.top) }
-    ensures game { G.course worker.new.game ≡ G.course worker.old.game }
-    ensures searcher { worker.new.searcher ≡ worker.old.searcher }
-    ensures played { G.played worker.new.game
-        ≤ G.played worker.old.game
-        + (2 + cost (after seat.old.me.0.root m) (depth - 1) lowest
+    ensures worker { HasPlayed G.course G.played worker.old worker.new
+        (2 + cost (after seat.old.me.0.root m) (depth - 1) lowest
         (pos 1 -ℤ seat.old.me.0.top)) }
 {
     gate.before_child(part, child);
@@ -243,22 +203,15 @@ pub(crate) fn run_in_turn<G: Game, T: Gate>(
     seat: &mut BoundSeat,
     worker: &mut Worker<G>,
 ) -> Option<Candidate>
-    requires seat { IsSeat word.now.table_id seat.old }
-    requires ready { IsReady seat.old.me.0.root seat.old.me.0.depth depth (G.course worker.old.game)
-        worker.old.searcher }
-    requires listed { root.now.lists ≡ moves seat.old.me.0.root ∷ [] }
-    requires parts { 0 < parts }
+    requires begin { MayBegin word.now.table_id root.now.lists (G.course worker.old.game)
+        worker.old.searcher depth parts seat.old }
     requires mine { tried < length (moves seat.old.me.0.root) → tried % parts ≡ part }
     requires known { IsKnown seat.old.me.0.root depth seat.old.me.0.top tried }
-    ensures seat { IsSeat word.now.table_id seat.new }
-    ensures root { seat.new.me.0.root ≡ seat.old.me.0.root }
-    ensures depth { seat.new.me.0.depth ≡ depth }
+    ensures seat { IsSeatOf word.now.table_id seat.old.me.0.root depth seat.new }
     ensures answer { IsAnswer seat.old.me.0.root depth
         (λ i. (i % parts ≡ part) × ¬ (i ≡ tried)) result }
-    ensures game { G.course worker.new.game ≡ G.course worker.old.game }
-    ensures searcher { worker.new.searcher ≡ worker.old.searcher }
-    ensures played { G.played worker.new.game
-        ≤ G.played worker.old.game + turns_share seat.old.me.0.root depth part parts }
+    ensures worker { HasPlayed G.course G.played worker.old worker.new
+        (turns_share seat.old.me.0.root depth part parts) }
     ensures spared { tried < length (moves seat.old.me.0.root) → G.played worker.new.game + 1
         ≤ G.played worker.old.game + turns_share seat.old.me.0.root depth part parts }
 {
@@ -291,21 +244,14 @@ fn run_ahead<G: Game, T: Gate>(
     seat: &mut BoundSeat,
     worker: &mut Worker<G>,
 ) -> Option<Candidate>
-    requires seat { IsSeat word.now.table_id seat.old }
-    requires ready { IsReady seat.old.me.0.root seat.old.me.0.depth depth (G.course worker.old.game)
-        worker.old.searcher }
-    requires listed { root.now.lists ≡ moves seat.old.me.0.root ∷ [] }
-    requires parts { 0 < parts }
+    requires begin { MayBegin word.now.table_id root.now.lists (G.course worker.old.game)
+        worker.old.searcher depth parts seat.old }
     requires mine { first % parts ≡ part }
     requires place { first < length (moves seat.old.me.0.root) }
-    ensures seat { IsSeat word.now.table_id seat.new }
-    ensures root { seat.new.me.0.root ≡ seat.old.me.0.root }
-    ensures depth { seat.new.me.0.depth ≡ depth }
+    ensures seat { IsSeatOf word.now.table_id seat.old.me.0.root depth seat.new }
     ensures answer { IsAnswer seat.old.me.0.root depth (λ i. i % parts ≡ part) result }
-    ensures game { G.course worker.new.game ≡ G.course worker.old.game }
-    ensures searcher { worker.new.searcher ≡ worker.old.searcher }
-    ensures played { G.played worker.new.game
-        ≤ G.played worker.old.game + share seat.old.me.0.root depth part parts }
+    ensures worker { HasPlayed G.course G.played worker.old worker.new
+        (share seat.old.me.0.root depth part parts) }
 {
     let m = root.get(0, first);
     let one = try_first(word, gate, root, m, depth, part, first, seat, worker);
@@ -327,19 +273,12 @@ pub fn run_one<G: Game, T: Gate>(
     seat: &mut BoundSeat,
     worker: &mut Worker<G>,
 ) -> Option<Candidate>
-    requires seat { IsSeat word.now.table_id seat.old }
-    requires ready { IsReady seat.old.me.0.root seat.old.me.0.depth depth (G.course worker.old.game)
-        worker.old.searcher }
-    requires listed { root.now.lists ≡ moves seat.old.me.0.root ∷ [] }
-    requires parts { 0 < parts }
-    ensures seat { IsSeat word.now.table_id seat.new }
-    ensures root { seat.new.me.0.root ≡ seat.old.me.0.root }
-    ensures depth { seat.new.me.0.depth ≡ depth }
+    requires begin { MayBegin word.now.table_id root.now.lists (G.course worker.old.game)
+        worker.old.searcher depth parts seat.old }
+    ensures seat { IsSeatOf word.now.table_id seat.old.me.0.root depth seat.new }
     ensures answer { IsAnswer seat.old.me.0.root depth (λ i. i % parts ≡ part) result }
-    ensures game { G.course worker.new.game ≡ G.course worker.old.game }
-    ensures searcher { worker.new.searcher ≡ worker.old.searcher }
-    ensures played { G.played worker.new.game
-        ≤ G.played worker.old.game + share seat.old.me.0.root depth part parts }
+    ensures worker { HasPlayed G.course G.played worker.old worker.new
+        (share seat.old.me.0.root depth part parts) }
 {
     let Some(first) = first_child(&mut worker.game, root, part, parts) else {
         return None;

@@ -1,11 +1,13 @@
 -- Laws of the certificates that are written.
 use Rattle.std.specs.Prelude.{◌≡◌, ℕ, ◌≤◌, List, length, drop, map, ℤ, Some, Ok}
 use Rattle.hive_model.specs.declared.pieces.GameType.{GameType}
+use Rattle.hive_model.specs.declared.best.Best.{Best}
 use Rattle.hive_model.specs.declared.places.Move.{Move}
 use Rattle.hive_model.specs.Lists.{IsOn}
 use Rattle.hive_model.specs.Positions.{Position, opening}
 use Rattle.hive_model.specs.Legal.{moves}
 use Rattle.hive_model.specs.Games.{replay, IsGame}
+use Rattle.hive_model.specs.Courses.{Course, position}
 use Rattle.hive_model.specs.Minimax.{IsInner, value, best}
 use Rattle.hive_model.specs.Denotes.{text}
 use Rattle.hive_model.specs.Lines.{lines}
@@ -41,6 +43,12 @@ pub record MayClaim (t : GameType) (ms : List Move) (d : ℕ) (m : Move) (v : �
   pub some : 1 ≤ d
   pub deep : d ≤ 64
   pub small : IsSmall 1000064 v
+
+-- the best move of a game at a depth, and what it is worth; a certificate may be of both
+pub record IsBestAnswer (c : Course) (depth : ℕ) (b : Best) : Type 0 where
+  pub first : best (position c) depth ≡ Some b.best
+  pub worth : b.value ≡ value (position c) depth
+  pub claim : MayClaim c.game_type c.made depth b.best b.value
 
 -- the lines of a certificate have just the head that was written
 abbrev pub HeadsAreRead : Type 0

@@ -1,11 +1,11 @@
 -- The text of the certificate of a best move.
-use Rattle.std.specs.Prelude.{◌≡◌, ℕ, ◌-◌, ◌<◌, List, [], ◌++◌, length, take, ℤ, Option, Some, None, Result, Ok, Err}
+use Rattle.std.specs.Prelude.{◌≡◌, ℕ, ◌-◌, ◌<◌, ◌≤◌, List, [], ◌++◌, length, take, ℤ, Option, Some, None, Result, Ok, Err, false}
 use Rattle.io_edge.specs.Outside.{Told, behind}
 use Rattle.hive_model.specs.declared.pieces.GameType.{GameType}
 use Rattle.hive_model.specs.declared.places.Move.{Move}
 use Rattle.hive_model.specs.declared.best.Best.{Best}
 use Rattle.hive_model.specs.Positions.{Position, opening}
-use Rattle.hive_model.specs.Legal.{moves}
+use Rattle.hive_model.specs.Legal.{is_over, moves}
 use Rattle.hive_model.specs.Games.{replay}
 use Rattle.hive_model.specs.Courses.{Course, position}
 use Rattle.hive_model.specs.Minimax.{value, best}
@@ -15,6 +15,15 @@ use Rattle.strategy_text.specs.Text.{head_text}
 use Rattle.strategy_indices.specs.Writing.{index_lines}
 use Rattle.strategy_make.specs.declared.fault.MakeFault.{MakeFault}
 use Rattle.strategy_make.specs.declared.fault.MakeFault.TheVariants.{WriteFault, Memory}
+
+-- a game of whose best move at a depth a certificate may be made: it is not over, and has at most
+-- 5,000 moves; the depth is from 1 to 64, and there is room for as many plies
+pub record MayMake (c : Course) (depth : ℕ) : Type 0 where
+  pub goes_on : is_over (position c) ≡ false
+  pub few : length c.made ≤ 5000
+  pub some : 1 ≤ depth
+  pub deep : depth ≤ 64
+  pub spare : depth ≤ c.spare
 
 -- with the place of the move among the legal moves, if it is there
 abbrev pub least_at : Position → ℕ → Move → ℤ → Option ℕ → List ℕ

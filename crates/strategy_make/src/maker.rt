@@ -1,12 +1,9 @@
 //! Writing the certificate of a game's best move.
 
-ghost use Rattle.std.specs.Prelude.{◌≡◌, ◌≤◌, Some, Err, IfOk, false, length};
+ghost use Rattle.std.specs.Prelude.{◌≡◌, ◌≤◌, Err, IfOk};
 ghost use Rattle.io_edge.specs.Outside.{HasCause};
-ghost use Rattle.hive_model.specs.Legal.{is_over};
-ghost use Rattle.hive_model.specs.Minimax.{value, best};
-ghost use Rattle.hive_model.specs.Courses.{position};
-ghost use Rattle.strategy_make.specs.Making.{Makes};
-ghost use Rattle.strategy_make.specs.Laws.{MayClaim};
+ghost use Rattle.strategy_make.specs.Making.{Makes, MayMake};
+ghost use Rattle.strategy_make.specs.Laws.{IsBestAnswer};
 
 use crate::fault::MakeFault;
 use crate::head::head_of;
@@ -31,16 +28,9 @@ pub fn make<G: Game + Drop, K: Sink>(
     depth: u32,
     sink: &mut K,
 ) -> Result<Best, MakeFault>
-    requires goes_on { is_over (position (G.course game.old)) ≡ false }
-    requires some { 1 ≤ depth }
-    requires deep { depth ≤ 64 }
+    requires game { MayMake (G.course game.old) depth }
     requires prepared { depth ≤ searcher.old }
-    requires spare { depth ≤ (G.course game.old).spare }
-    requires few { length (G.course game.old).made ≤ 5000 }
-    ensures first { IfOk result (λ b. best (position (G.course game.old)) depth ≡ Some b.best) }
-    ensures worth { IfOk result (λ b. b.value ≡ value (position (G.course game.old)) depth) }
-    ensures claim { IfOk result (λ b. MayClaim
-        (G.course game.old).game_type (G.course game.old).made depth b.best b.value) }
+    ensures best { IfOk result (λ b. IsBestAnswer (G.course game.old) depth b) }
     ensures written { Makes result (G.course game.old) depth (K.written sink.old)
         (K.written sink.new) }
     ensures cause { HasCause (result ≡ Err MakeFault.WriteFault)

@@ -10,15 +10,18 @@ returns-in-Ok-clause-heard g c =
     let said : List ℕ → MatchState = λ b. next s (Line b) in
     (Line c.next_short_line.new.self.last, c.in-Ok.ensures.ok ∙ ap said c.line.ensures, c.in-Line.ensures.ahead, not_long _)
 
-pub returns-in-Ok-clause-room : goal.returns-in-Ok-clause-room
-returns-in-Ok-clause-room g c = λ _. little _ _ c.in-Line.ensures.passes
+pub returns-in-Ok-clause-reader : goal.returns-in-Ok-clause-reader
+returns-in-Ok-clause-reader g c = record { little = c.in-Line.ensures.little; room = λ _. little _ _ c.in-Line.ensures.passes }
 
 pub returns-in-Ok-step-clause-heard : goal.returns-in-Ok-step-clause-heard
 returns-in-Ok-step-clause-heard g c = (TooLong, c.in-Ok-step.ensures.ok, c.in-Long.ensures.ahead.0, λ e. c.in-Long.ensures.ahead.1)
 
-pub returns-in-Ok-step-clause-room : goal.returns-in-Ok-step-clause-room
-returns-in-Ok-step-clause-room g c = λ goes_on.
-    let done = long_finishes c.args.referee.now c.step-in-Long.new.self c.args.side c.requires.act c.in-Ok-step.ensures.ok in absurd (cc)
+pub returns-in-Ok-step-clause-reader : goal.returns-in-Ok-step-clause-reader
+returns-in-Ok-step-clause-reader g c = record {
+  little = c.in-Long.ensures.little;
+  room = λ goes_on.
+      let done = long_finishes c.args.referee.now c.step-in-Long.new.self c.args.side c.requires.act c.in-Ok-step.ensures.ok in absurd (cc);
+}
 
 pub returns-in-Ok-step-2-clause-heard : goal.returns-in-Ok-step-2-clause-heard
 returns-in-Ok-step-2-clause-heard g c =

@@ -9,21 +9,23 @@ use Rattle.root_share.proofs.worker.try_first.Goals as goal
 pub close_child-requires-clause-ready : goal.close_child-requires-clause-ready
 close_child-requires-clause-ready g c =
     let view = c.look_for_win-bound.ensures.view in
-    ready-still _ _ _ _ _ _ _ _ _ c.requires.ready (root-of view) (ap (λ (v : Known). v.depth) view) c.look_for_win-bound.ensures.game c.look_for_win-bound.ensures.searcher
+    ready-still _ _ _ _ _ _ _ _ _ c.requires.ready (root-of view) (ap (λ (v : Known). v.depth) view) c.look_for_win-bound.ensures.worker.game c.look_for_win-bound.ensures.worker.searcher
 
 pub close_child-requires-clause-here : goal.close_child-requires-clause-here
 close_child-requires-clause-here g c = rw (root-of c.look_for_win-bound.ensures.view) c.requires.here
 
-pub close_child-requires-clause-stands : goal.close_child-requires-clause-stands
-close_child-requires-clause-stands g c = top-of c.look_for_win-bound.ensures.view ∙ sym (to_z-of_z w32 c.look_for_win-bound.result (search rules))
-
-pub close_child-requires-clause-most : goal.close_child-requires-clause-most
-close_child-requires-clause-most g c =
+pub close_child-requires-clause-bound : goal.close_child-requires-clause-bound
+close_child-requires-clause-bound g c =
     let kept : to_z w32 (of_z w32 c.look_for_win-bound.result) ≡ c.look_for_win-bound.result = to_z-of_z w32 c.look_for_win-bound.result (search rules) in
-    rw (kept, root-of c.look_for_win-bound.ensures.view) c.look_for_win-bound.ensures.most
+    record {
+      stands = top-of c.look_for_win-bound.ensures.view ∙ sym kept;
+      most = rw (kept, root-of c.look_for_win-bound.ensures.view) c.look_for_win-bound.ensures.most;
+    }
 
-pub returns-clause-root : goal.returns-clause-root
-returns-clause-root g c = c.close_child.ensures.root ∙ root-of c.look_for_win-bound.ensures.view
+pub returns-clause-seat : goal.returns-clause-seat
+returns-clause-seat g c =
+    let made = c.close_child.ensures.seat in
+    record { seated = made.seated; root = made.root ∙ root-of c.look_for_win-bound.ensures.view; depth = made.depth }
 
 pub returns-clause-answer : goal.returns-clause-answer
 returns-clause-answer g c = rw (root-of c.look_for_win-bound.ensures.view) at c.close_child.ensures.answer
@@ -34,13 +36,12 @@ returns-clause-top g c =
     let least = made.0 in
     (omega (arith, ints, least, c.look_for_win-bound.ensures.grows), rw (root-of c.look_for_win-bound.ensures.view) at made.1)
 
-pub returns-clause-game : goal.returns-clause-game
-returns-clause-game g c = c.close_child.ensures.game ∙ c.look_for_win-bound.ensures.game
-
-pub returns-clause-searcher : goal.returns-clause-searcher
-returns-clause-searcher g c = c.close_child.ensures.searcher ∙ c.look_for_win-bound.ensures.searcher
-
-pub returns-clause-played : goal.returns-clause-played
-returns-clause-played g c =
+pub returns-clause-worker : goal.returns-clause-worker
+returns-clause-worker g c =
+    let made = c.close_child.ensures.worker in
     let kept : to_z w32 (of_z w32 c.look_for_win-bound.result) ≡ c.look_for_win-bound.result = to_z-of_z w32 c.look_for_win-bound.result (search rules) in
-    first-more _ _ c.args.depth c.args.m c.args.seat.now.me.0.top c.look_for_win-bound.result _ _ _ (root-of c.look_for_win-bound.ensures.view) c.look_for_win-bound.ensures.grows c.look_for_win-bound.ensures.played (rw kept at c.close_child.ensures.played)
+    record {
+      game = made.game ∙ c.look_for_win-bound.ensures.worker.game;
+      searcher = made.searcher ∙ c.look_for_win-bound.ensures.worker.searcher;
+      plays = first-more _ _ c.args.depth c.args.m c.args.seat.now.me.0.top c.look_for_win-bound.result _ _ _ (root-of c.look_for_win-bound.ensures.view) c.look_for_win-bound.ensures.grows c.look_for_win-bound.ensures.worker.plays (rw kept at made.plays);
+    }

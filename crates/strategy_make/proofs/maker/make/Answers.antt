@@ -19,7 +19,7 @@ returns-then-not-write_all-clause-written g c =
     c.write_all.ensures.all c.write_all.ensures.part c.best_at-best.ensures.first c.best_at-best.ensures.worth (search rules)
 
 pub write_least-requires-clause-small : goal.write_least-requires-clause-small
-write_least-requires-clause-small g c = value-fits (position (g.G.Game.course c.args.game.now)) c.args.depth c.best_at-best.result.value c.requires.deep c.best_at-best.ensures.worth
+write_least-requires-clause-small g c = value-fits (position (g.G.Game.course c.args.game.now)) c.args.depth c.best_at-best.result.value c.requires.game.deep c.best_at-best.ensures.worth
 
 pub write_least-requires-clause-legal : goal.write_least-requires-clause-legal
 write_least-requires-clause-legal g c =
@@ -46,14 +46,18 @@ returns-clause-written g c =
     let done : c.write_least.result ≡ true = search rules in
     subst (λ r. Wrote r (whole start c.args.depth m v) (g.K.Sink.written c.args.sink.now) (g.K.Sink.written c.write_least.new.sink)) done all
 
-pub returns-clause-claim : goal.returns-clause-claim
-returns-clause-claim g c =
+pub returns-clause-best : goal.returns-clause-best
+returns-clause-best g c =
     let start = g.G.Game.course c.args.game.now in
     record {
-      game = subst (λ (h : Course). IsGame h.game_type h.made) c.best_at-best.ensures.game c.in-Ok.ensures.game;
-      few = c.requires.few;
-      legal = best-on (position start) c.args.depth c.best_at-best.result.best c.best_at-best.ensures.first;
-      some = c.requires.some;
-      deep = c.requires.deep;
-      small = value-fits (position start) c.args.depth c.best_at-best.result.value c.requires.deep c.best_at-best.ensures.worth;
+      first = c.best_at-best.ensures.first;
+      worth = c.best_at-best.ensures.worth;
+      claim = record {
+        game = subst (λ (h : Course). IsGame h.game_type h.made) c.best_at-best.ensures.game c.in-Ok.ensures.game;
+        few = c.requires.game.few;
+        legal = best-on (position start) c.args.depth c.best_at-best.result.best c.best_at-best.ensures.first;
+        some = c.requires.game.some;
+        deep = c.requires.game.deep;
+        small = value-fits (position start) c.args.depth c.best_at-best.result.value c.requires.game.deep c.best_at-best.ensures.worth;
+      };
     }

@@ -10,36 +10,31 @@ use Rattle.uhp_session.proofs.workers.best_by.Goals as goal
 each : {A B : Type 0} (xs : List A) (f : A → B) (P : B → Type 0) → All (λ x. P (f x)) xs → All P (map f xs)
 each xs f P all = each-image f P xs all
 
-pub best_shared-requires-clause-equal : goal.best_shared-requires-clause-equal
-best_shared-requires-clause-equal g c κs within =
+pub best_shared-requires-clause-workers : goal.best_shared-requires-clause-workers
+best_shared-requires-clause-workers g c κs within =
     let t = c.args.game_type in
     let ms = c.args.moves.now in
-    equal-games t ms c.args.depth _ (each c.deref_mut.result.now (λ w. g.G.Game.course w.game) (IsGameOf t ms c.args.depth) (rw c.deref_mut.ensures.value c.in_ok-workers.ensures.games))
-
-pub best_shared-requires-clause-spare : goal.best_shared-requires-clause-spare
-best_shared-requires-clause-spare g c κs within =
-    let t = c.args.game_type in
-    let ms = c.args.moves.now in
-    all-spare t ms c.args.depth _ (each c.deref_mut.result.now (λ w. g.G.Game.course w.game) (IsGameOf t ms c.args.depth) (rw c.deref_mut.ensures.value c.in_ok-workers.ensures.games))
-
-pub best_shared-requires-clause-prepared : goal.best_shared-requires-clause-prepared
-best_shared-requires-clause-prepared g c κs within =
     let ws = c.deref_mut.result.now in
-    each ws (λ w. w.searcher) (λ (n : ℕ). c.args.depth ≤ n) (all-deep ws (λ w. w.searcher) c.args.depth c.requires.deep (rw c.deref_mut.ensures.value c.in_ok-workers.ensures.prepared))
-
-pub best_shared-requires-clause-goes_on : goal.best_shared-requires-clause-goes_on
-best_shared-requires-clause-goes_on g c κs within =
-    let ws = c.deref_mut.result.now in
-    let some : 1 ≤ length ws = rw c.deref_mut.ensures.value (rw c.in_ok-workers.ensures.count (rw c.in_ok-searchers.ensures.taken.count c.requires.team.workers)) in
-    let root = root-is c.args.game_type c.args.moves.now c.args.depth ws (λ w. g.G.Game.course w.game) some (rw c.deref_mut.ensures.value c.in_ok-workers.ensures.games) in
-    subst (λ p. is_over p ≡ false) (sym root) c.requires.goes_on
+    let taken = c.in_ok-searchers.ensures.taken in
+    let images = each ws (λ w. g.G.Game.course w.game) (IsGameOf t ms c.args.depth) (rw c.deref_mut.ensures.value c.in_ok-workers.ensures.games) in
+    let some : 1 ≤ length ws = rw c.deref_mut.ensures.value (rw c.in_ok-workers.ensures.count (rw taken.count c.requires.team.workers)) in
+    let root = root-is t ms c.args.depth ws (λ w. g.G.Game.course w.game) some (rw c.deref_mut.ensures.value c.in_ok-workers.ensures.games) in
+    record {
+      some = some;
+      few = rw c.deref_mut.ensures.value (rw c.in_ok-workers.ensures.count (rw taken.count c.requires.team.few));
+      equal = equal-games t ms c.args.depth _ images;
+      goes_on = subst (λ p. is_over p ≡ false) (sym root) c.requires.goes_on;
+      spare = all-spare t ms c.args.depth _ images;
+      prepared = each ws (λ w. w.searcher) (λ (n : ℕ). c.args.depth ≤ n)
+          (all-deep ws (λ w. w.searcher) c.args.depth c.requires.deep (rw c.deref_mut.ensures.value c.in_ok-workers.ensures.prepared));
+    }
 
 pub give_back-requires-clause-prepared : goal.give_back-requires-clause-prepared
 give_back-requires-clause-prepared g c =
     let ws = c.deref_mut.result.now in
     let now = c.best_shared.new.workers in
     back-prepared ws now (drop (length now) c.in_ok-workers.workers.items) (λ w. w.searcher) c.in_ok-workers.workers.len
-    c.in_ok-found.ensures.searchers c.deref_mut.ensures.len (rw c.deref_mut.ensures.value c.in_ok-workers.ensures.prepared)
+    c.in_ok-found.ensures.kept.searchers c.deref_mut.ensures.len (rw c.deref_mut.ensures.value c.in_ok-workers.ensures.prepared)
 
 pub returns-clause-best : goal.returns-clause-best
 returns-clause-best g c =

@@ -1,24 +1,32 @@
-use Rattle.std.proofs.Common.{ℕ, ◌≤◌, List, map}
+use Rattle.std.proofs.Common.{rules, ◌≡◌, ℕ, ◌≤◌, List, [], ◌∷◌, map, length, get_or, false, ap, sym, subst, arith}
 use Rattle.std.specs.List.{All}
-use Rattle.root_share.specs.Answer.{IsGameOf}
+use Rattle.hive_model.specs.Legal.{is_over}
+use Rattle.hive_model.specs.Courses.{Course, position}
+use Rattle.root_share.specs.Answer.{IsGameOf, root_of}
 use Rattle.root_share.proofs.EqualLaws.{each-image, equal-games, all-spare}
 use Rattle.searches_tried.proofs.plain_search_tests.workers.found_by.Goals as goal
 
 each : {A B : Type 0} (xs : List A) (f : A → B) (P : B → Type 0) → All (λ x. P (f x)) xs → All P (map f xs)
 each xs f P all = each-image f P xs all
 
-pub best_shared-requires-clause-equal : goal.best_shared-requires-clause-equal
-best_shared-requires-clause-equal g c κs within =
+first-root : {A : Type 0} (f : A → Course) (xs : List A) (x : A) → 1 ≤ length xs → x ≡ get_or xs 0 x → root_of (map f xs) ≡ position (f x)
+first-root f [] x some e = absurd (omega (arith, some))
+first-root f (y ∷ ys) x some e = ap (λ w. position (f w)) (sym e)
+
+pub best_shared-requires-clause-workers : goal.best_shared-requires-clause-workers
+best_shared-requires-clause-workers g c κs within =
     let t = c.in-Ok.parsed.game_type in
     let ms = c.in-Ok.parsed.moves in
-    equal-games t ms c.args.depth _ (each c.deref_mut.result.now (λ w. w.game.course) (IsGameOf t ms c.args.depth) (rw c.deref_mut.ensures.value c.in_ok-workers.ensures.games))
-
-pub best_shared-requires-clause-spare : goal.best_shared-requires-clause-spare
-best_shared-requires-clause-spare g c κs within =
-    let t = c.in-Ok.parsed.game_type in
-    let ms = c.in-Ok.parsed.moves in
-    all-spare t ms c.args.depth _ (each c.deref_mut.result.now (λ w. w.game.course) (IsGameOf t ms c.args.depth) (rw c.deref_mut.ensures.value c.in_ok-workers.ensures.games))
-
-pub best_shared-requires-clause-prepared : goal.best_shared-requires-clause-prepared
-best_shared-requires-clause-prepared g c κs within =
-    each c.deref_mut.result.now (λ w. w.searcher) (λ (n : ℕ). c.args.depth ≤ n) (rw c.deref_mut.ensures.value c.in_ok-workers.ensures.searchers)
+    let ws = c.deref_mut.result.now in
+    let images = each ws (λ w. w.game.course) (IsGameOf t ms c.args.depth) (rw c.deref_mut.ensures.value c.in_ok-workers.ensures.games) in
+    let closed : is_over (position c.index.result.now.game.course) ≡ false = search rules in
+    let some : 1 ≤ length ws = search rules in
+    let here : c.index.result.now ≡ get_or ws 0 c.index.result.now = rw c.deref_mut.ensures.value c.index.ensures in
+    record {
+      some = some;
+      few = search rules;
+      equal = equal-games t ms c.args.depth _ images;
+      goes_on = subst (λ p. is_over p ≡ false) (sym (first-root (λ w. w.game.course) ws c.index.result.now some here)) closed;
+      spare = all-spare t ms c.args.depth _ images;
+      prepared = each ws (λ w. w.searcher) (λ (n : ℕ). c.args.depth ≤ n) (rw c.deref_mut.ensures.value c.in_ok-workers.ensures.searchers);
+    }

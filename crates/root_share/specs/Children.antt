@@ -1,0 +1,38 @@
+-- What a worker needs to search a child of a root, and what it learns of the child.
+use Rattle.std.specs.Prelude.{◌≡◌, ℕ, ◌<◌, ◌≤◌, ℤ, pos, ◌≤ℤ◌, ◌<ℤ◌}
+use Rattle.hive_model.specs.declared.places.Move.{Move}
+use Rattle.hive_model.specs.Positions.{Position}
+use Rattle.hive_model.specs.Lists.{IsOn}
+use Rattle.hive_model.specs.Legal.{moves}
+use Rattle.hive_model.specs.Minimax.{value, IsInner}
+use Rattle.hive_model.specs.Courses.{Course, position}
+use Rattle.root_share.specs.Run.{first_bound}
+
+-- so many plies can be searched behind a move: it is legal where the game stands, and game and
+-- searcher have room for the plies, 63 at most
+pub record MaySearch (game : Course) (prepared : ℕ) (m : Move) (depth : ℕ) : Type 0 where
+  pub legal : IsOn (moves (position game)) m
+  pub deep : depth < 64
+  pub spare : depth < game.spare
+  pub enough : depth ≤ prepared
+
+-- no lower than the bound that a word begins with, and no higher than any root's value
+pub record IsBound (bound : ℤ) : Type 0 where
+  pub low : first_bound ≤ℤ bound
+  pub high : bound ≤ℤ pos 1000064
+
+-- what was found is the worth where it is at least the bound, and else the worth is below the bound
+pub record IsTested (worth bound found : ℤ) : Type 0 where
+  pub exact : bound ≤ℤ found → found ≡ worth
+  pub below : found <ℤ bound → worth <ℤ bound
+
+-- a ply is to be searched at the root, and 64 at most; the seat knows how many
+pub record IsDepth (root : Position) (known depth : ℕ) : Type 0 where
+  pub inner : IsInner root depth
+  pub agreed : known ≡ depth
+  pub deep : depth ≤ 64
+
+-- the bound is the one that the seat knows, and no higher than what the root is worth
+pub record IsLatest (root : Position) (depth : ℕ) (top bound : ℤ) : Type 0 where
+  pub stands : top ≡ bound
+  pub most : bound ≤ℤ value root depth

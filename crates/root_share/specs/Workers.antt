@@ -1,0 +1,48 @@
+-- The workers at a root: what they need to search it, and how they are afterwards.
+use Rattle.std.specs.Prelude.{◌≡◌, ℕ, ◌+◌, ◌≤◌, false, List, map, length}
+use Rattle.std.specs.List.{All}
+use Rattle.hive_model.specs.Positions.{Position}
+use Rattle.hive_model.specs.Legal.{is_over}
+use Rattle.hive_model.specs.Courses.{Course}
+use Rattle.root_share.specs.declared.worker.Worker.{Worker}
+use Rattle.root_share.specs.Answer.{root_of, AreEqualGames}
+
+-- the workers' games, in their order
+abbrev pub games_of : {G : Type 0} → (G → Course) → List (Worker G) → List Course
+games_of course workers = map (λ w. course w.game) workers
+
+-- for how many plies each worker's searcher is prepared
+abbrev pub searchers_of : {G : Type 0} → List (Worker G) → List ℕ
+searchers_of workers = map (λ w. w.searcher) workers
+
+-- how many moves each worker's game has played
+abbrev pub plays_of : {G : Type 0} → (G → ℕ) → List (Worker G) → List ℕ
+plays_of played workers = map (λ w. played w.game) workers
+
+-- where the workers' games stand
+abbrev pub root_at : {G : Type 0} → (G → Course) → List (Worker G) → Position
+root_at course workers = root_of (games_of course workers)
+
+-- 1 to 16 workers that can search so many plies at one root: their games are equal and go on, and
+-- each game has room, and each searcher is prepared, for the plies
+pub record CanSearch {G : Type 0} (course : G → Course) (depth : ℕ)
+    (workers : List (Worker G)) : Type 0 where
+  pub some : 1 ≤ length workers
+  pub few : length workers ≤ 16
+  pub equal : AreEqualGames (games_of course workers)
+  pub goes_on : is_over (root_at course workers) ≡ false
+  pub spare : All (λ (c : Course). depth ≤ c.spare) (games_of course workers)
+  pub prepared : All (λ (n : ℕ). depth ≤ n) (searchers_of workers)
+
+-- games and searchers are as before
+pub record AreAsBefore {G : Type 0} (course : G → Course)
+    (workers later : List (Worker G)) : Type 0 where
+  pub games : games_of course later ≡ games_of course workers
+  pub searchers : searchers_of later ≡ searchers_of workers
+
+-- a worker's game and searcher are as before, and it has played no more than so many moves
+pub record HasPlayed {G : Type 0} (course : G → Course) (played : G → ℕ)
+    (worker later : Worker G) (most : ℕ) : Type 0 where
+  pub game : course later.game ≡ course worker.game
+  pub searcher : later.searcher ≡ worker.searcher
+  pub plays : played later.game ≤ played worker.game + most
