@@ -129,7 +129,7 @@ pub fn run<
 {
     let timed = TimedList::new(alloc);
     match asked_of(alloc, words) {
-        Ok(Some(asked)) => perform::<R, S, K, C, P, H, ProgramGame>(
+        Ok(Some(asked)) => run_command::<R, S, K, C, P, H, ProgramGame>(
             rt, alloc, words, asked, input, output, clock, spawner, hall, timed,
         ),
         Ok(None) => Outcome {
@@ -144,7 +144,7 @@ pub fn run<
 }
 
 /// Does what the words ask for.
-fn perform<
+fn run_command<
     R: Threads + Sync,
     S: Source,
     K: Sink,
@@ -234,13 +234,13 @@ fn perform<
             }
         }
         other => {
-            perform_alone::<R, S, K, C, G>(rt, alloc, words, other, input, output, clock, timed)
+            run_alone::<R, S, K, C, G>(rt, alloc, words, other, input, output, clock, timed)
         }
     }
 }
 
 /// Does what is asked for, if it is no match, cup, tournament or audit.
-fn perform_alone<R: Threads + Sync, S: Source, K: Sink, C: Clock, G: Game + Send + Drop>(
+fn run_alone<R: Threads + Sync, S: Source, K: Sink, C: Clock, G: Game + Send + Drop>(
     rt: &R,
     alloc: Global,
     words: &[String],

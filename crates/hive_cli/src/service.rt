@@ -96,7 +96,7 @@ impl Stop {
 }
 
 /// Answers a line, and writes the reply; or says why the run stops.
-fn answer<R: Threads + Sync, K: Sink, C: Clock, V: LineService>(
+fn write_reply<R: Threads + Sync, K: Sink, C: Clock, V: LineService>(
     rt: &R,
     alloc: Global,
     service: &mut V,
@@ -156,7 +156,7 @@ fn serve_line<R: Threads + Sync, S: Source, K: Sink, C: Clock, V: LineService>(
         LineAnswer::Failed => return Some(Stop::ReadFailed),
         LineAnswer::Full => return Some(Stop::Full),
     };
-    answer(rt, alloc, service, line, output, clock, timed)
+    write_reply(rt, alloc, service, line, output, clock, timed)
 }
 
 /// Runs a service: writes its preface, and then the reply to each line before the next line is

@@ -20,21 +20,19 @@ ghost use Rattle.std.specs.Prelude.{
 };
 ghost use Rattle.hive_model.specs.Boards.{
   Stacks,
-  IsBoard,
   spot_of,
   put,
   lift,
   is_on_top,
 };
 ghost use Rattle.hive_model.specs.Places.{IsWithin};
-ghost use Rattle.hive_model.specs.Spots.{board_of, IsSpots};
 ghost use Rattle.hive_model.specs.Spread.{IsSpread, IsNearAll};
 ghost use Rattle.torus_board.specs.Residues.{residue, cell_of};
 ghost use Rattle.torus_board.specs.Grid.{IsSide, IsLinked};
 
 use crate::rings::{Ring, mask_in, renew_round};
 use crate::towers::{Tower, height_in, top_in, tower_in};
-use hive_model::{Board, GameBoard, Piece, Place, Spot};
+use hive_model::{Board, GameBoard, Piece, Place, Spot, spot_in, spots_are_board};
 pub use residues::residues_are_distinct;
 use std::alloc::{AllocError, Global};
 use std::marker::Model;
@@ -71,21 +69,6 @@ fn index_in(side: usize, place: Place) -> usize
 {
     side * residue(place.q, side) + residue(place.r, side)
 }
-
-/// Where the piece stands.
-fn spot_in(spots: &[Option<Spot>; 28], piece: Piece) -> Option<Spot>
-    requires { IsSpots spots.now }
-    ensures answer { result ≡ spot_of (board_of spots.now) piece }
-    ensures board { IsBoard (board_of spots.now) }
-{
-    spots[piece.index() as usize]
-}
-
-/// What is kept where each piece stands is a board; nothing is computed.
-fn spots_are_board(spots: &[Option<Spot>; 28])
-    requires { IsSpots spots.now }
-    ensures { IsBoard (board_of spots.now) }
-{}
 
 /// What is directly below the piece.
 fn under_in(below: &[Option<Piece>; 28], piece: Piece) -> Option<Piece>

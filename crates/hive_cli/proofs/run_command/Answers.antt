@@ -2,22 +2,22 @@
 use Rattle.std.proofs.Common.{[], arith, refl}
 use Rattle.command_runs.specs.World.{sides, times as these_times, world}
 use Rattle.hive_cli.proofs.RunLemmas.{cups_read_nothing, is_alone, never_spawns}
-use Rattle.hive_cli.proofs.perform.Goals as goal
+use Rattle.hive_cli.proofs.run_command.Goals as goal
 
 pub returns-in_default : goal.returns-in_default
 returns-in_default g c =
-    let does = c.perform_alone.ensures.does (g.P.Spawner.engines c.args.spawner.now) in
+    let does = c.run_alone.ensures.does (g.P.Spawner.engines c.args.spawner.now) in
     let alone = is_alone c.args.asked c.in_default.not-Match c.in_default.not-Cup c.in_default.not-Audit c.in_default.not-Tournament in
     record {
       does = does;
-      reads = c.perform_alone.ensures.reads;
-      writes = c.perform_alone.ensures.writes;
+      reads = c.run_alone.ensures.reads;
+      writes = c.run_alone.ensures.writes;
       starts = λ unstarted. record {
         later = omega arith;
-        rose = λ e. absurd (never_spawns c.args.words.now c.args.asked c.perform_alone.result.status _ _ alone does e);
+        rose = λ e. absurd (never_spawns c.args.words.now c.args.asked c.run_alone.result.status _ _ alone does e);
         same = λ n. refl;
       };
-      clock = c.perform_alone.ensures.clock;
+      clock = c.run_alone.ensures.clock;
       spawner = λ n. refl;
     }
 

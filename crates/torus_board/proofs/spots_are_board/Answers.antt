@@ -1,5 +1,0 @@
-use Rattle.hive_model.proofs.SpotLemmas.{is_board}
-use Rattle.torus_board.proofs.spots_are_board.Goals as goal
-
-pub returns : goal.returns
-returns c = is_board c.args.spots.now c.requires
