@@ -1,9 +1,10 @@
 //! Certificates that become certificates that cite.
 
-use crate::strategy_commands_tests::{Asked, Failing, expect_answer, expect_run};
-use command_runs::Status;
+use crate::strategy_commands_tests::{Asked, expect_answer, expect_run};
+use command_runs::Status::{self, BadInput, Done, ReadFault, Refused, WriteFault};
 use fast_game::FastGame;
 use io_edge::{MemSink, MemSource};
+use memory_sides::MemSetting;
 use std::alloc::{AllocError, Global};
 use std::test::Fail;
 use strategy_commands::{certify, migrate};
@@ -20,9 +21,9 @@ const BEGUN: &str = "Base;InProgress;White[2];wS1;bS1 wS1-\n";
 
 /// What is written of this input, as the certificate four plies deep where it is a game.
 fn written_of(alloc: Global, is_game: bool, input: &[u8]) -> Result<Vec<u8>, AllocError> {
-    let bytes = Vec::from_slice(alloc, input)?;
-    let mut source = MemSource::new(bytes, Vec::new(alloc), Vec::new(alloc));
-    let mut sink = MemSink::new(alloc, Vec::new(alloc), Vec::new(alloc));
+    let setting = MemSetting::of(input);
+    let mut source = setting.source(alloc)?;
+    let mut sink = setting.sink(alloc)?;
     if is_game {
         certify::<MemSource, MemSink, FastGame>(alloc, 4, &mut source, &mut sink);
     } else {
@@ -33,75 +34,55 @@ fn written_of(alloc: Global, is_game: bool, input: &[u8]) -> Result<Vec<u8>, All
 
 #[test]
 fn a_longer_certificate_cites(rt: HostRuntime) -> Result<(), Fail> {
-    let certificate = written_of(rt.alloc(), true, BEGUN.as_bytes())?;
-    let citing = written_of(rt.alloc(), false, certificate.as_slice())?;
+    let alloc = rt.alloc();
+    let certificate = written_of(alloc, true, BEGUN.as_bytes())?;
+    let citing = written_of(alloc, false, certificate.as_slice())?;
     assert!(rt; citing.as_slice().contains(&b'@'));
-    expect_run(
-        &rt,
-        rt.alloc(),
-        Asked::Check,
-        citing.as_slice(),
-        &[],
-        Failing { read: 0, write: 0 },
-        Status::Done,
-        "accepted\n",
-    )?;
+    let setting = MemSetting::of(citing.as_slice());
+    expect_run(&rt, alloc, Asked::Check, setting, Done, "accepted\n")?;
     Ok(())
 }
 
 #[test]
 fn certificates_become_citing_ones(rt: HostRuntime) -> Result<(), Fail> {
-    expect_answer(
-        &rt,
-        rt.alloc(),
-        Asked::Migrate,
-        FIRST.as_bytes(),
-        Status::Done,
-        SECOND,
-    )?;
-    expect_answer(
-        &rt,
-        rt.alloc(),
-        Asked::Check,
-        SECOND.as_bytes(),
-        Status::Done,
-        "accepted\n",
-    )?;
+    let alloc = rt.alloc();
+    expect_answer(&rt, alloc, Asked::Migrate, FIRST, Done, SECOND)?;
+    expect_answer(&rt, alloc, Asked::Check, SECOND, Done, "accepted\n")?;
     Ok(())
 }
 
 /// Texts of which none is made that cites, and what is answered.
 const REFUSED: [(&str, Status, &str); 8] = [
-    ("", Status::BadInput, "bad line 1\n"),
-    (SECOND, Status::BadInput, "bad line 1\n"),
+    ("", BadInput, "bad line 1\n"),
+    (SECOND, BadInput, "bad line 1\n"),
     (
         "hive-certificate 1\nbase\n",
-        Status::BadInput,
+        BadInput,
         "bad malformed part 1\n",
     ),
     (
         "hive-certificate 1\nBase\ndepth 2\nmove wA1\nvalue 10\n0\n@0\n0\n0\n",
-        Status::BadInput,
+        BadInput,
         "bad line 7\n",
     ),
     (
         "hive-certificate 1\nBase\ndepth 2\nmove wA1\nvalue 11\n0\n0\n0\n0\n",
-        Status::Refused,
+        Refused,
         "refused leaf 3\n",
     ),
     (
         "hive-certificate 1\nBase\ndepth 2\nmove wA1\nvalue 10\n0\n0\n0\n",
-        Status::Refused,
+        Refused,
         "refused short 3\n",
     ),
     (
         "hive-certificate 1\nBase\ndepth 2\nmove wQ\nvalue 10\n0\n0\n0\n0\n",
-        Status::Refused,
+        Refused,
         "refused move 0\n",
     ),
     (
         "hive-certificate 1\nBase\ndepth 2\nmove queen\nvalue 10\n0\n0\n0\n0\n",
-        Status::Refused,
+        Refused,
         "refused move 0\n",
     ),
 ];
@@ -109,36 +90,19 @@ const REFUSED: [(&str, Status, &str); 8] = [
 #[test]
 fn other_texts_are_named(rt: HostRuntime) -> Result<(), Fail> {
     for (input, status, written) in REFUSED {
-        expect_answer(
-            &rt,
-            rt.alloc(),
-            Asked::Migrate,
-            input.as_bytes(),
-            status,
-            written,
-        )?;
+        expect_answer(&rt, rt.alloc(), Asked::Migrate, input, status, written)?;
     }
     Ok(())
 }
 
 #[test]
 fn a_failed_call_ends_a_migration(rt: HostRuntime) -> Result<(), Fail> {
-    let read = Failing { read: 2, write: 0 };
-    let write = Failing { read: 0, write: 2 };
+    let setting = MemSetting::of(FIRST.as_bytes()).cut(&[7]);
     for (failing, status, written) in [
-        (read, Status::ReadFault, ""),
-        (write, Status::WriteFault, "hive-ce"),
+        (setting.failing(2, 0), ReadFault, ""),
+        (setting.failing(0, 2), WriteFault, "hive-ce"),
     ] {
-        expect_run(
-            &rt,
-            rt.alloc(),
-            Asked::Migrate,
-            FIRST.as_bytes(),
-            &[7],
-            failing,
-            status,
-            written,
-        )?;
+        expect_run(&rt, rt.alloc(), Asked::Migrate, failing, status, written)?;
     }
     Ok(())
 }

@@ -5,8 +5,9 @@ ghost use Rattle.hive_model.specs.Courses.{position};
 ghost use Rattle.hive_model.specs.Legal as rules;
 
 use hive_model::{Game, GameType, Move, MoveStack, Piece, Place, State};
-use io_edge::{MemSink, MemSource};
+use io_edge::MemSink;
 use line_feed::LineReader;
+use memory_sides::{CUTS, MemSetting};
 use plain_game::PlainGame;
 use std::alloc::{AllocError, Global};
 use std::test::Fail;
@@ -44,13 +45,10 @@ fn claim() -> Claim
     }
 }
 
-/// What a check of these lines answers, of which the read of this number fails, and how many lines
-/// it took; none if the opening were over.
+/// What a check of these lines answers, and how many lines it took; none if the opening were over.
 fn cited(
     alloc: Global,
-    lines: &[u8],
-    pieces: &[usize],
-    read: u64,
+    setting: MemSetting<'_>,
 ) -> Result<Option<(Checked<WhyCited>, u64)>, AllocError> {
     let mut game = PlainGame::opening(alloc, BASE)?;
     if is_over(&game) {
@@ -59,9 +57,7 @@ fn cited(
     game.reserve(2)?;
     let mut stack = MoveStack::new(alloc, 2)?;
     let mut lemmas = Lemmas::new(alloc)?;
-    let bytes = Vec::from_slice(alloc, lines)?;
-    let fails = Vec::from_slice(alloc, &[read])?;
-    let mut source = MemSource::new(bytes, Vec::from_slice(alloc, pieces)?, fails);
+    let mut source = setting.source(alloc)?;
     let mut reader = LineReader::new(alloc)?;
     let mut tokens = LineTokens::new(&mut reader, &mut source);
     let answer = check_cited(&mut game, &claim(), &mut tokens, &mut lemmas, &mut stack);
@@ -87,15 +83,17 @@ fn tokens_stand_one_a_line(rt: HostRuntime) -> Result<(), Fail> {
         ("0\n0\n0", refused(3, WhyCited::TooShort), 3),
     ];
     for (lines, answer, taken) in rows {
-        for pieces in [[1].as_slice(), [7].as_slice(), [].as_slice()] {
-            let found = cited(rt.alloc(), lines.as_bytes(), pieces, 0)?.ok_or("the opening")?;
-            assert_eq!(rt; found, (answer, taken), "{lines:?}, pieces of {pieces:?}");
+        for pieces in CUTS {
+            let setting = MemSetting::of(lines.as_bytes()).cut(pieces);
+            let found = cited(rt.alloc(), setting)?.ok_or("the opening")?;
+            assert_eq!(rt; found, (answer, taken), "{lines:?}, {setting}");
         }
     }
     let failed = Checked::Halted {
         answer: Halt::Failed,
     };
-    let found = cited(rt.alloc(), b"0\n0\n", &[2], 2)?.ok_or("the opening")?;
+    let setting = MemSetting::of(b"0\n0\n").cut(&[2]).failing(2, 0);
+    let found = cited(rt.alloc(), setting)?.ok_or("the opening")?;
     assert_eq!(rt; found, (failed, 1));
     Ok(())
 }
@@ -124,12 +122,6 @@ fn migrated(
     )))
 }
 
-/// A sink of which the write of this number fails.
-fn sink_of(alloc: Global, fails: u64) -> Result<MemSink, AllocError> {
-    let pieces = Vec::new(alloc);
-    Ok(MemSink::new(alloc, pieces, Vec::from_slice(alloc, &[fails])?))
-}
-
 #[test]
 fn indices_become_tokens(rt: HostRuntime) -> Result<(), Fail> {
     let zeros: &[u32] = &[0, 0, 0, 0];
@@ -151,7 +143,7 @@ fn indices_become_tokens(rt: HostRuntime) -> Result<(), Fail> {
         (short, 0, why_short, ""),
     ];
     for (indices, fails, answer, written) in rows {
-        let mut sink = sink_of(rt.alloc(), fails)?;
+        let mut sink = MemSetting::of(b"").failing(0, fails).sink(rt.alloc())?;
         let found = migrated(rt.alloc(), indices, &mut sink)?.ok_or("the opening")?;
         assert_eq!(rt; found, answer);
         assert_eq!(rt; sink.bytes(), written.as_bytes());

@@ -1,8 +1,9 @@
 //! Certificates that are written, and texts that are checked.
 
-use command_runs::Status;
+use command_runs::Status::{self, BadInput, Done, ReadFault, Refused, WriteFault};
 use fast_game::FastGame;
 use io_edge::{MemSink, MemSource};
+use memory_sides::{CUTS, MemSetting};
 use std::alloc::{AllocError, Global};
 use std::process::Abort;
 use std::test::Fail;
@@ -30,16 +31,6 @@ pub(crate) enum Asked {
     Migrate,
 }
 
-/// The numbers, from 1, of the read and of the write that fail (0: none fails).
-#[derive(Clone, Copy, Debug)]
-pub(crate) struct Failing {
-    pub(crate) read: u64,
-    pub(crate) write: u64,
-}
-
-/// No call fails.
-const NONE: Failing = Failing { read: 0, write: 0 };
-
 /// Runs a command over these two sides, and says with which status it ended.
 fn ended(alloc: Global, asked: Asked, source: &mut MemSource, sink: &mut MemSink) -> Status {
     match asked {
@@ -55,28 +46,15 @@ pub(crate) fn expect_run<R: Abort>(
     rt: &R,
     alloc: Global,
     asked: Asked,
-    input: &[u8],
-    pieces: &[usize],
-    failing: Failing,
+    setting: MemSetting<'_>,
     status: Status,
     written: &str,
 ) -> Result<(), AllocError> {
-    let bytes = Vec::from_slice(alloc, input)?;
-    let reads = Vec::from_slice(alloc, &[failing.read])?;
-    let writes = Vec::from_slice(alloc, &[failing.write])?;
-    let mut source = MemSource::new(bytes, Vec::from_slice(alloc, pieces)?, reads);
-    let mut sink = MemSink::new(alloc, Vec::from_slice(alloc, pieces)?, writes);
+    let mut source = setting.source(alloc)?;
+    let mut sink = setting.sink(alloc)?;
     let ended = ended(alloc, asked, &mut source, &mut sink);
-    assert_eq!(rt;
-        ended,
-        status,
-        "{asked:?}, pieces of {pieces:?}, {failing:?}"
-    );
-    assert_eq!(rt;
-        sink.bytes(),
-        written.as_bytes(),
-        "{asked:?}, pieces of {pieces:?}, {failing:?}"
-    );
+    assert_eq!(rt; ended, status, "{asked:?}, {setting}");
+    assert_eq!(rt; sink.bytes(), written.as_bytes(), "{asked:?}, {setting}");
     Ok(())
 }
 
@@ -85,39 +63,21 @@ pub(crate) fn expect_answer<R: Abort>(
     rt: &R,
     alloc: Global,
     asked: Asked,
-    input: &[u8],
+    input: &str,
     status: Status,
     written: &str,
 ) -> Result<(), AllocError> {
-    for pieces in [[1].as_slice(), [7].as_slice(), [].as_slice()] {
-        expect_run(rt, alloc, asked, input, pieces, NONE, status, written)?;
+    for pieces in CUTS {
+        let setting = MemSetting::of(input.as_bytes()).cut(pieces);
+        expect_run(rt, alloc, asked, setting, status, written)?;
     }
     Ok(())
-}
-
-/// A text for the opening of the base game two plies deep, with this move and this value, and these
-/// lines behind it.
-fn text_of(alloc: Global, best: &str, value: &str, rest: &str) -> Result<Vec<u8>, AllocError> {
-    let mut text = Vec::from_slice(alloc, b"hive-certificate 1\nBase\ndepth 2\nmove ")?;
-    text.extend_from_slice(best.as_bytes())?;
-    text.extend_from_slice(b"\nvalue ".as_slice())?;
-    text.extend_from_slice(value.as_bytes())?;
-    text.push(b'\n')?;
-    text.extend_from_slice(rest.as_bytes())?;
-    Ok(text)
 }
 
 #[test]
 fn certificates_are_written(rt: HostRuntime) -> Result<(), Fail> {
     for (asked, written) in [(Asked::OnePly, ONE_PLY), (Asked::TwoPlies, TWO_PLIES)] {
-        expect_answer(
-            &rt,
-            rt.alloc(),
-            asked,
-            b"Base\n".as_slice(),
-            Status::Done,
-            written,
-        )?;
+        expect_answer(&rt, rt.alloc(), asked, "Base\n", Done, written)?;
     }
     Ok(())
 }
@@ -133,14 +93,7 @@ const BAD_INPUTS: [(&str, &str); 4] = [
 #[test]
 fn input_that_is_no_game_is_named(rt: HostRuntime) -> Result<(), Fail> {
     for (input, written) in BAD_INPUTS {
-        expect_answer(
-            &rt,
-            rt.alloc(),
-            Asked::TwoPlies,
-            input.as_bytes(),
-            Status::BadInput,
-            written,
-        )?;
+        expect_answer(&rt, rt.alloc(), Asked::TwoPlies, input, BadInput, written)?;
     }
     Ok(())
 }
@@ -148,129 +101,57 @@ fn input_that_is_no_game_is_named(rt: HostRuntime) -> Result<(), Fail> {
 /// The move, the value and the other lines of texts that claim what the opening of the base game is
 /// worth two plies deep, and what a check of each answers.
 const CLAIMS: [(&str, &str, &str, Status, &str); 13] = [
-    ("wA1", "10", "0\n0\n0\n0", Status::Done, "accepted\n"),
-    (
-        "wA1",
-        "10",
-        "24\n0\n0\n0\n",
-        Status::Refused,
-        "refused index 1\n",
-    ),
-    (
-        "wA1",
-        "11",
-        "0\n0\n0\n0\n",
-        Status::Refused,
-        "refused leaf 3\n",
-    ),
-    (
-        "wA1",
-        "10",
-        "0\n0\n0\n",
-        Status::Refused,
-        "refused short 3\n",
-    ),
-    (
-        "wA1",
-        "10",
-        "0\n0\n0\n0\n0\n",
-        Status::Refused,
-        "refused rest 4\n",
-    ),
+    ("wA1", "10", "0\n0\n0\n0", Done, "accepted\n"),
+    ("wA1", "10", "24\n0\n0\n0\n", Refused, "refused index 1\n"),
+    ("wA1", "11", "0\n0\n0\n0\n", Refused, "refused leaf 3\n"),
+    ("wA1", "10", "0\n0\n0\n", Refused, "refused short 3\n"),
+    ("wA1", "10", "0\n0\n0\n0\n0\n", Refused, "refused rest 4\n"),
     (
         "wA1",
         "10",
         "0\n0\n0\n0\nrest\n",
-        Status::Refused,
+        Refused,
         "refused rest 4\n",
     ),
-    (
-        "wB1",
-        "8",
-        "0\n0\n0\n0\n",
-        Status::Refused,
-        "refused leaf 4\n",
-    ),
-    (
-        "wQ",
-        "10",
-        "0\n0\n0\n0\n",
-        Status::Refused,
-        "refused move 0\n",
-    ),
-    (
-        "queen",
-        "10",
-        "0\n0\n0\n0\n",
-        Status::Refused,
-        "refused move 0\n",
-    ),
-    (
-        "wA1",
-        "10",
-        "00\n0\n0\n0\n",
-        Status::BadInput,
-        "bad line 6\n",
-    ),
-    (
-        "wA1",
-        "10",
-        "0\n0\n5488\n0\n",
-        Status::BadInput,
-        "bad line 8\n",
-    ),
-    ("", "10", "0\n0\n0\n0\n", Status::BadInput, "bad line 4\n"),
-    (
-        "wA1",
-        "-0",
-        "0\n0\n0\n0\n",
-        Status::BadInput,
-        "bad line 5\n",
-    ),
+    ("wB1", "8", "0\n0\n0\n0\n", Refused, "refused leaf 4\n"),
+    ("wQ", "10", "0\n0\n0\n0\n", Refused, "refused move 0\n"),
+    ("queen", "10", "0\n0\n0\n0\n", Refused, "refused move 0\n"),
+    ("wA1", "10", "00\n0\n0\n0\n", BadInput, "bad line 6\n"),
+    ("wA1", "10", "0\n0\n5488\n0\n", BadInput, "bad line 8\n"),
+    ("", "10", "0\n0\n0\n0\n", BadInput, "bad line 4\n"),
+    ("wA1", "-0", "0\n0\n0\n0\n", BadInput, "bad line 5\n"),
 ];
 
 #[test]
 fn claims_are_checked(rt: HostRuntime) -> Result<(), Fail> {
+    let alloc = rt.alloc();
     for (best, value, rest, status, written) in CLAIMS {
-        let text = text_of(rt.alloc(), best, value, rest)?;
-        expect_answer(
-            &rt,
-            rt.alloc(),
-            Asked::Check,
-            text.as_slice(),
-            status,
-            written,
-        )?;
+        let head = "hive-certificate 1\nBase\ndepth 2\nmove ";
+        let text = [head, best, "\nvalue ", value, "\n", rest].concat(alloc)?;
+        expect_answer(&rt, alloc, Asked::Check, text.as_str(), status, written)?;
     }
     Ok(())
 }
 
 /// The tokens of texts for the same claim that may cite, and what a check of each answers.
 const TOKENS: [(&str, Status, &str); 8] = [
-    ("0\n0\n0\n0\n", Status::Done, "accepted\n"),
-    ("@0\n0\n0\n0\n", Status::Refused, "refused cite 1\n"),
-    ("0\n@0\n0\n0\n", Status::Refused, "refused cite 2\n"),
-    ("24\n0\n0\n0\n", Status::Refused, "refused index 1\n"),
-    ("0\n0\n0\n", Status::Refused, "refused short 3\n"),
-    ("0\n0\n0\n0\n@0\n", Status::Refused, "refused rest 4\n"),
-    ("@65536\n0\n0\n0\n", Status::BadInput, "bad line 6\n"),
-    ("0\n@\n0\n0\n", Status::BadInput, "bad line 7\n"),
+    ("0\n0\n0\n0\n", Done, "accepted\n"),
+    ("@0\n0\n0\n0\n", Refused, "refused cite 1\n"),
+    ("0\n@0\n0\n0\n", Refused, "refused cite 2\n"),
+    ("24\n0\n0\n0\n", Refused, "refused index 1\n"),
+    ("0\n0\n0\n", Refused, "refused short 3\n"),
+    ("0\n0\n0\n0\n@0\n", Refused, "refused rest 4\n"),
+    ("@65536\n0\n0\n0\n", BadInput, "bad line 6\n"),
+    ("0\n@\n0\n0\n", BadInput, "bad line 7\n"),
 ];
 
 #[test]
 fn tokens_are_checked(rt: HostRuntime) -> Result<(), Fail> {
+    let alloc = rt.alloc();
     for (rest, status, written) in TOKENS {
-        let head = b"hive-certificate 2\nBase\ndepth 2\nmove wA1\nvalue 10\n".as_slice();
-        let mut text = Vec::from_slice(rt.alloc(), head)?;
-        text.extend_from_slice(rest.as_bytes())?;
-        expect_answer(
-            &rt,
-            rt.alloc(),
-            Asked::Check,
-            text.as_slice(),
-            status,
-            written,
-        )?;
+        let head = "hive-certificate 2\nBase\ndepth 2\nmove wA1\nvalue 10\n";
+        let text = [head, rest].concat(alloc)?;
+        expect_answer(&rt, alloc, Asked::Check, text.as_str(), status, written)?;
     }
     Ok(())
 }
@@ -294,14 +175,7 @@ const HEADS: [(&str, &str); 9] = [
 #[test]
 fn heads_are_checked_line_by_line(rt: HostRuntime) -> Result<(), Fail> {
     for (input, written) in HEADS {
-        expect_answer(
-            &rt,
-            rt.alloc(),
-            Asked::Check,
-            input.as_bytes(),
-            Status::BadInput,
-            written,
-        )?;
+        expect_answer(&rt, rt.alloc(), Asked::Check, input, BadInput, written)?;
     }
     Ok(())
 }
@@ -309,38 +183,31 @@ fn heads_are_checked_line_by_line(rt: HostRuntime) -> Result<(), Fail> {
 /// The fronts of the certificate, by how many bytes they have at least and at most, and what a
 /// check of each of them answers.
 const FRONTS: [(usize, usize, Status, &str); 14] = [
-    (0, 17, Status::BadInput, "bad line 1\n"),
-    (18, 19, Status::BadInput, "bad line 2\n"),
-    (20, 22, Status::BadInput, "bad malformed part 1\n"),
-    (23, 23, Status::BadInput, "bad line 3\n"),
-    (24, 33, Status::BadInput, "bad malformed part 2\n"),
-    (34, 42, Status::BadInput, "bad malformed part 3\n"),
-    (43, 50, Status::BadInput, "bad line 3\n"),
-    (51, 57, Status::BadInput, "bad line 4\n"),
-    (58, 67, Status::BadInput, "bad line 5\n"),
-    (68, 70, Status::Refused, "refused short 0\n"),
-    (71, 72, Status::Refused, "refused short 1\n"),
-    (73, 74, Status::Refused, "refused short 2\n"),
-    (75, 76, Status::Refused, "refused short 3\n"),
-    (77, 78, Status::Done, "accepted\n"),
+    (0, 17, BadInput, "bad line 1\n"),
+    (18, 19, BadInput, "bad line 2\n"),
+    (20, 22, BadInput, "bad malformed part 1\n"),
+    (23, 23, BadInput, "bad line 3\n"),
+    (24, 33, BadInput, "bad malformed part 2\n"),
+    (34, 42, BadInput, "bad malformed part 3\n"),
+    (43, 50, BadInput, "bad line 3\n"),
+    (51, 57, BadInput, "bad line 4\n"),
+    (58, 67, BadInput, "bad line 5\n"),
+    (68, 70, Refused, "refused short 0\n"),
+    (71, 72, Refused, "refused short 1\n"),
+    (73, 74, Refused, "refused short 2\n"),
+    (75, 76, Refused, "refused short 3\n"),
+    (77, 78, Done, "accepted\n"),
 ];
 
 #[test]
 fn each_front_of_a_certificate_is_checked(rt: HostRuntime) -> Result<(), Fail> {
+    let alloc = rt.alloc();
     for (least, most, status, written) in FRONTS {
         for bytes in least..=most {
-            let mut front = Vec::from_slice(rt.alloc(), TWO_PLIES.as_bytes())?;
+            let mut front = Vec::from_slice(alloc, TWO_PLIES.as_bytes())?;
             front.truncate(bytes);
-            expect_run(
-                &rt,
-                rt.alloc(),
-                Asked::Check,
-                front.as_slice(),
-                &[7],
-                NONE,
-                status,
-                written,
-            )?;
+            let setting = MemSetting::of(front.as_slice()).cut(&[7]);
+            expect_run(&rt, alloc, Asked::Check, setting, status, written)?;
         }
     }
     Ok(())
@@ -348,48 +215,29 @@ fn each_front_of_a_certificate_is_checked(rt: HostRuntime) -> Result<(), Fail> {
 
 #[test]
 fn no_claim_is_about_a_finished_game(rt: HostRuntime) -> Result<(), Fail> {
-    let mut text = Vec::from_slice(rt.alloc(), b"hive-certificate 1\n")?;
-    text.extend_from_slice(DRAWN.as_bytes())?;
-    text.extend_from_slice(b"\ndepth 1\nmove wA1\nvalue 0\n".as_slice())?;
-    expect_answer(
-        &rt,
-        rt.alloc(),
-        Asked::Check,
-        text.as_slice(),
-        Status::BadInput,
-        "bad game over\n",
-    )?;
+    let alloc = rt.alloc();
+    let parts = [
+        "hive-certificate 1\n",
+        DRAWN,
+        "\ndepth 1\nmove wA1\nvalue 0\n",
+    ];
+    let text = parts.concat(alloc)?;
+    let input = text.as_str();
+    expect_answer(&rt, alloc, Asked::Check, input, BadInput, "bad game over\n")?;
     Ok(())
 }
 
 #[test]
 fn a_failed_call_ends_a_run(rt: HostRuntime) -> Result<(), Fail> {
-    let read = Failing { read: 2, write: 0 };
-    let write = Failing { read: 0, write: 2 };
     for (asked, input, written) in [
         (Asked::TwoPlies, "Base\n", "hive-ce"),
         (Asked::Check, TWO_PLIES, "accepte"),
     ] {
-        expect_run(
-            &rt,
-            rt.alloc(),
-            asked,
-            input.as_bytes(),
-            &[1],
-            read,
-            Status::ReadFault,
-            "",
-        )?;
-        expect_run(
-            &rt,
-            rt.alloc(),
-            asked,
-            input.as_bytes(),
-            &[7],
-            write,
-            Status::WriteFault,
-            written,
-        )?;
+        let setting = MemSetting::of(input.as_bytes());
+        let read = setting.cut(&[1]).failing(2, 0);
+        expect_run(&rt, rt.alloc(), asked, read, ReadFault, "")?;
+        let write = setting.cut(&[7]).failing(0, 2);
+        expect_run(&rt, rt.alloc(), asked, write, WriteFault, written)?;
     }
     Ok(())
 }

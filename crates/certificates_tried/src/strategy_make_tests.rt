@@ -7,6 +7,7 @@ ghost use Rattle.hive_model.specs.Legal as rules;
 use deepening::Searcher;
 use hive_model::{Best, Game, GameType, Move, MoveStack, Piece, Place, State};
 use io_edge::MemSink;
+use memory_sides::MemSetting;
 use plain_game::PlainGame;
 use std::alloc::{AllocError, Global};
 use std::test::Fail;
@@ -59,17 +60,11 @@ fn first(index: u8) -> Move {
     }
 }
 
-/// A sink of which the writes of these numbers fail.
-fn sink_of(alloc: Global, fails: &[u64]) -> Result<MemSink, AllocError> {
-    let pieces = Vec::new(alloc);
-    Ok(MemSink::new(alloc, pieces, Vec::from_slice(alloc, fails)?))
-}
-
 #[test]
 fn certificates_are_written(rt: HostRuntime) -> Result<(), Fail> {
     let rows = [(1, 1, 0, ONE_PLY), (2, 8, 10, TWO_PLIES)];
     for (depth, index, value, text) in rows {
-        let mut sink = sink_of(rt.alloc(), &[])?;
+        let mut sink = MemSetting::of(b"").sink(rt.alloc())?;
         let answer = made(rt.alloc(), depth, &mut sink)?.ok_or("the opening")?;
         let best = first(index);
         assert_eq!(rt; answer, Ok(Best { best, value }));
@@ -81,7 +76,7 @@ fn certificates_are_written(rt: HostRuntime) -> Result<(), Fail> {
 #[test]
 fn failed_writes_end_a_certificate(rt: HostRuntime) -> Result<(), Fail> {
     for (call, bytes) in [(1, 0), (2, 70), (4, 74)] {
-        let mut sink = sink_of(rt.alloc(), &[call])?;
+        let mut sink = MemSetting::of(b"").failing(0, call).sink(rt.alloc())?;
         let answer = made(rt.alloc(), 2, &mut sink)?.ok_or("the opening")?;
         assert_eq!(rt; answer, Err(MakeFault::WriteFault));
         assert_eq!(rt; sink.bytes().len(), bytes);

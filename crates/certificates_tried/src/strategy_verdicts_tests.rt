@@ -1,8 +1,10 @@
 //! The lines of verdicts, and what the answers of checks mean.
 
-use command_runs::Status;
+use command_runs::Status::{
+    self, BadInput, Done, InputFull, Memory, ReadFault, Refused, WriteFault,
+};
 use game_text::GameFault;
-use io_edge::MemSink;
+use memory_sides::MemSetting;
 use std::alloc::{AllocError, Global};
 use std::process::Abort;
 use std::test::Fail;
@@ -22,8 +24,8 @@ fn expect_told<R: Abort>(
     status: Status,
     written: &str,
 ) -> Result<(), AllocError> {
-    let pieces = Vec::from_slice(alloc, [7].as_slice())?;
-    let mut sink = MemSink::new(alloc, pieces, Vec::from_slice(alloc, &[failing])?);
+    let setting = MemSetting::of(b"").cut(&[7]).failing(0, failing);
+    let mut sink = setting.sink(alloc)?;
     let ended = tell_judged(alloc, judged, &mut sink);
     assert_eq!(rt; ended, status, "{written}");
     assert_eq!(rt; sink.bytes(), written.as_bytes(), "{written}");
@@ -41,58 +43,32 @@ fn verdicts_are_told(rt: HostRuntime) -> Result<(), Fail> {
         fault: GameFault::Malformed { part: 3 },
     };
     for (judged, status, written) in [
-        (Ok(TextVerdict::Accepted), Status::Done, "accepted\n"),
-        (
-            refused(0, Why::NoSuchMove),
-            Status::Refused,
-            "refused move 0\n",
-        ),
-        (
-            refused(1, Why::BadIndex),
-            Status::Refused,
-            "refused index 1\n",
-        ),
-        (
-            refused(3, Why::LeafFails),
-            Status::Refused,
-            "refused leaf 3\n",
-        ),
-        (
-            refused(12, Why::TooShort),
-            Status::Refused,
-            "refused short 12\n",
-        ),
-        (refused(4, Why::Rest), Status::Refused, "refused rest 4\n"),
+        (Ok(TextVerdict::Accepted), Done, "accepted\n"),
+        (refused(0, Why::NoSuchMove), Refused, "refused move 0\n"),
+        (refused(1, Why::BadIndex), Refused, "refused index 1\n"),
+        (refused(3, Why::LeafFails), Refused, "refused leaf 3\n"),
+        (refused(12, Why::TooShort), Refused, "refused short 12\n"),
+        (refused(4, Why::Rest), Refused, "refused rest 4\n"),
         (
             Ok(TextVerdict::BadCite { place: 2 }),
-            Status::Refused,
+            Refused,
             "refused cite 2\n",
         ),
         (
             Ok(TextVerdict::BadLine { line: 6 }),
-            Status::BadInput,
+            BadInput,
             "bad line 6\n",
         ),
-        (Ok(bad), Status::BadInput, "bad malformed part 3\n"),
-        (
-            Ok(TextVerdict::GameOver),
-            Status::BadInput,
-            "bad game over\n",
-        ),
-        (Err(Unread::ReadFault), Status::ReadFault, ""),
-        (Err(Unread::InputFull), Status::InputFull, ""),
-        (Err(Unread::Memory), Status::Memory, ""),
+        (Ok(bad), BadInput, "bad malformed part 3\n"),
+        (Ok(TextVerdict::GameOver), BadInput, "bad game over\n"),
+        (Err(Unread::ReadFault), ReadFault, ""),
+        (Err(Unread::InputFull), InputFull, ""),
+        (Err(Unread::Memory), Memory, ""),
     ] {
         expect_told(&rt, rt.alloc(), judged, 0, status, written)?;
     }
-    expect_told(
-        &rt,
-        rt.alloc(),
-        Ok(TextVerdict::Accepted),
-        2,
-        Status::WriteFault,
-        "accepte",
-    )?;
+    let accepted = Ok(TextVerdict::Accepted);
+    expect_told(&rt, rt.alloc(), accepted, 2, WriteFault, "accepte")?;
     Ok(())
 }
 

@@ -5,8 +5,9 @@ use command_runs::Status;
 use cup::{FreeCupGate, Program};
 use cup_command::play_cup;
 use hive_model::GameType;
-use io_edge::{MemLink, MemSink, MemSource, MemSpawner};
+use io_edge::{MemLink, MemSink, MemSpawner};
 use match_core::{Level, Setup};
+use memory_sides::{MemSetting, Played, links_saying, owned_words, spawner_of};
 use plain_game::PlainGame;
 use std::alloc::{AllocError, Global};
 use std::test::Fail;
@@ -35,41 +36,9 @@ const TO_WHITE: &[u8] = b"newgame Base\nbestmove depth 1\nplay wS1\n";
 /// What black is sent in it.
 const TO_BLACK: &[u8] = b"newgame Base\nplay wS1\n";
 
-/// A link that will say this, whose write of this number fails (0: none fails).
-fn link_of(alloc: Global, text: &[u8], failing_write: u64) -> Result<MemLink, AllocError> {
-    let source = MemSource::new(
-        Vec::from_slice(alloc, text)?,
-        Vec::new(alloc),
-        Vec::new(alloc),
-    );
-    let sink = MemSink::new(
-        alloc,
-        Vec::new(alloc),
-        Vec::from_slice(alloc, &[failing_write])?,
-    );
-    Ok(MemLink::new(source, sink))
-}
-
-/// How a cup ended, what it wrote, and the starter with the closed links.
-#[derive(Drop)]
-struct Seen {
-    status: Status,
-    output: MemSink,
-    spawner: MemSpawner,
-}
-
-/// What was sent to the closed link of this number, where there is one.
-fn sent(seen: &Seen, number: usize) -> &[u8] {
-    match seen.spawner.closed().get(number) {
-        Some(link) => link.sent(),
-        None => b"none was closed".as_slice(),
-    }
-}
-
 /// The program of this name and no other words.
 fn program_of(alloc: Global, name: &str) -> Result<Program, AllocError> {
-    let mut words = Vec::new(alloc);
-    words.push(String::from_str(alloc, name)?)?;
+    let words = owned_words(alloc, &[name])?;
     Ok(Program::new(String::from_str(alloc, name)?, words))
 }
 
@@ -82,13 +51,13 @@ fn play_over<R: Threads + Sync>(
     links: Vec<MemLink>,
     failing_start: u64,
     failing_write: u64,
-) -> Result<Seen, AllocError>
+) -> Result<Played<Status>, AllocError>
     requires some { 2 ≤ length programs.now }
     requires few { length programs.now ≤ 8 }
 {
-    let sizes = Vec::from_slice(alloc, &[7])?;
-    let mut output = MemSink::new(alloc, sizes, Vec::from_slice(alloc, &[failing_write])?);
-    let mut spawner = MemSpawner::new(alloc, links, Vec::from_slice(alloc, &[failing_start])?);
+    let output = MemSetting::of(b"").cut(&[7]).failing(0, failing_write);
+    let mut output = output.sink(alloc)?;
+    let mut spawner = spawner_of(alloc, links, failing_start)?;
     let status = play_cup::<R, MemSpawner, MemSink, PlainGame, FreeCupGate>(
         rt,
         alloc,
@@ -98,40 +67,23 @@ fn play_over<R: Threads + Sync>(
         &mut spawner,
         &FreeCupGate,
     );
-    Ok(Seen {
+    Ok(Played {
         status,
         output,
         spawner,
     })
 }
 
-/// Plays a cup of the programs `a` and `b`.
+/// Plays a cup of the programs `a` and `b`, in whose second game white ends at once.
 fn play_two<R: Threads + Sync>(
     rt: &R,
     alloc: Global,
     failing_start: u64,
     failing_write: u64,
-) -> Result<Seen, AllocError> {
+) -> Result<Played<Status>, AllocError> {
     let programs = [program_of(alloc, "a")?, program_of(alloc, "b")?];
-    let links = two_games(alloc)?;
-    play_over(
-        rt,
-        alloc,
-        programs.as_slice(),
-        links,
-        failing_start,
-        failing_write,
-    )
-}
-
-/// The links of a cup of two engines: in its second game white ends at once.
-fn two_games(alloc: Global) -> Result<Vec<MemLink>, AllocError> {
-    let mut links = Vec::new(alloc);
-    links.push(link_of(alloc, WHITE, 0)?)?;
-    links.push(link_of(alloc, BLACK, 0)?)?;
-    links.push(link_of(alloc, b"".as_slice(), 0)?)?;
-    links.push(link_of(alloc, b"id A\nok\n".as_slice(), 0)?)?;
-    Ok(links)
+    let links = links_saying(alloc, &[WHITE, BLACK, b"", b"id A\nok\n"])?;
+    play_over(rt, alloc, &programs, links, failing_start, failing_write)
 }
 
 /// The text of that cup.
@@ -146,9 +98,9 @@ fn two_programs_play_a_cup(rt: HostRuntime) -> Result<(), Fail> {
     assert_eq!(rt; seen.status, Status::Done);
     assert_eq!(rt; seen.output.bytes(), TEXT);
     assert_eq!(rt; seen.spawner.closed().len(), 4);
-    assert_eq!(rt; sent(&seen, 0), TO_WHITE);
-    assert_eq!(rt; sent(&seen, 1), TO_BLACK);
-    assert!(rt; sent(&seen, 2).is_empty());
+    assert_eq!(rt; seen.sent(0), TO_WHITE);
+    assert_eq!(rt; seen.sent(1), TO_BLACK);
+    assert!(rt; seen.sent(2).is_empty());
     Ok(())
 }
 
@@ -160,7 +112,7 @@ fn a_program_does_not_start(rt: HostRuntime) -> Result<(), Fail> {
         assert_eq!(rt; seen.status, Status::SpawnFault);
         assert!(rt; seen.output.bytes().is_empty());
         assert_eq!(rt; seen.spawner.closed().len() as u64, start - 1);
-        assert!(rt; start == 1 || sent(&seen, 0).is_empty());
+        assert!(rt; start == 1 || seen.sent(0).is_empty());
     }
     Ok(())
 }
@@ -193,8 +145,9 @@ fn a_program_breaks(rt: HostRuntime) -> Result<(), Fail> {
     let alloc = rt.alloc();
     let mut links = Vec::new(alloc);
     for game in 0..6u64 {
-        links.push(link_of(alloc, WHITE, 0)?)?;
-        links.push(link_of(alloc, BLACK, if game == 0 { 1 } else { 0 })?)?;
+        links.push(MemSetting::of(WHITE).link(alloc)?)?;
+        let failing = if game == 0 { 1 } else { 0 };
+        links.push(MemSetting::of(BLACK).failing(0, failing).link(alloc)?)?;
     }
     let programs = [
         program_of(alloc, "a")?,
@@ -205,7 +158,7 @@ fn a_program_breaks(rt: HostRuntime) -> Result<(), Fail> {
     assert_eq!(rt; seen.status, Status::Done);
     assert_eq!(rt; seen.output.bytes(), BROKEN);
     assert_eq!(rt; seen.spawner.closed().len(), 12);
-    assert_eq!(rt; sent(&seen, 2), TO_WHITE);
-    assert_eq!(rt; sent(&seen, 11), TO_BLACK);
+    assert_eq!(rt; seen.sent(2), TO_WHITE);
+    assert_eq!(rt; seen.sent(11), TO_BLACK);
     Ok(())
 }

@@ -8,9 +8,10 @@ ghost use Rattle.cup.specs.Played.{pairing};
 
 use cup::{CupJob, FreeCupGate, Pairing, Standing, run_cup, standings_of};
 use hive_model::{Colour, GameType};
-use io_edge::{Link, MemLink, MemSink, MemSource};
+use io_edge::{Link, MemLink};
 use match_core::{Cause, Level, Setup, Verdict};
 use meeting::{Meeting, MeetingLink};
+use memory_sides::MemSetting;
 use plain_game::PlainGame;
 use std::alloc::{AllocError, Global};
 use std::test::Fail;
@@ -32,24 +33,16 @@ const TO_WHITE: &[u8] = b"newgame Base\nbestmove depth 1\nplay wS1\n";
 /// What black is sent in it.
 const TO_BLACK: &[u8] = b"newgame Base\nplay wS1\n";
 
-/// A link that will say this.
-fn link_of(alloc: Global, text: &[u8]) -> Result<MemLink, AllocError> {
-    let bytes = Vec::from_slice(alloc, text)?;
-    let source = MemSource::new(bytes, Vec::new(alloc), Vec::new(alloc));
-    let sink = MemSink::new(alloc, Vec::new(alloc), Vec::new(alloc));
-    Ok(MemLink::new(source, sink))
-}
-
 /// The cup of two engines: in its first game white plays a move, in its second one white ends.
 fn cup_of_two(alloc: Global) -> Result<Vec<CupJob<MemLink, PlainGame>>, AllocError>
     ensures { IfOk result (λ jobs. map pairing jobs.items ≡ pairings 2) }
 {
     let mut jobs = Vec::new(alloc);
-    let a = link_of(alloc, b"id A\nok\nok\nwS1\nok\nok\n")?;
-    let b = link_of(alloc, b"id B\nok\nok\nok\n")?;
+    let a = MemSetting::of(b"id A\nok\nok\nwS1\nok\nok\n").link(alloc)?;
+    let b = MemSetting::of(b"id B\nok\nok\nok\n").link(alloc)?;
     jobs.push(CupJob::new(Pairing { white: 1, black: 2 }, a, b, ONE_PLY))?;
-    let b = link_of(alloc, b"")?;
-    let a = link_of(alloc, b"id A\nok\n")?;
+    let b = MemSetting::of(b"").link(alloc)?;
+    let a = MemSetting::of(b"id A\nok\n").link(alloc)?;
     jobs.push(CupJob::new(Pairing { white: 2, black: 1 }, b, a, ONE_PLY))?;
     Ok(jobs)
 }
@@ -104,15 +97,12 @@ fn links_that_meet<'a>(
     game: usize,
     meeting: &'a Meeting,
 ) -> Result<(MeetingLink<'a>, MeetingLink<'a>), AllocError> {
-    let before = Vec::from_slice(alloc, b"id A\nok\nok\n".as_slice())?;
-    let reads = before.len();
-    let mut said = before;
-    said.extend_from_slice(b"wS1\nok\nok\n".as_slice())?;
-    let bytes_alone = Vec::from_slice(alloc, &[1])?;
-    let source = MemSource::new(said, bytes_alone, Vec::new(alloc));
-    let sink = MemSink::new(alloc, Vec::new(alloc), Vec::new(alloc));
-    let says = MeetingLink::meeting(MemLink::new(source, sink), game, reads, meeting);
-    let hears = link_of(alloc, b"id B\nok\nok\nok\n")?;
+    let link = MemSetting::of(b"id A\nok\nok\nwS1\nok\nok\n")
+        .cut(&[1])
+        .link(alloc)?;
+    let reads = b"id A\nok\nok\n".len();
+    let says = MeetingLink::meeting(link, game, reads, meeting);
+    let hears = MemSetting::of(b"id B\nok\nok\nok\n").link(alloc)?;
     Ok((says, MeetingLink::alone(hears, meeting)))
 }
 

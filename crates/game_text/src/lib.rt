@@ -23,6 +23,3 @@ pub use reading::{read_game, read_game_under};
 pub use seen::Seen;
 pub use texts::MoveTexts;
 pub use writing::{seen_under, texts_of, write_game, write_game_under};
-
-#[cfg(test)]
-mod tests;

@@ -1,9 +1,10 @@
 //! What a book names, and how its run ends.
 
 use book_command::book;
-use command_runs::Status;
+use command_runs::Status::{self, BadInput, Done, ReadFault, WriteFault};
 use fast_game::FastGame;
 use io_edge::{MemSink, MemSource};
+use memory_sides::{CUTS, MemSetting};
 use std::alloc::{AllocError, Global};
 use std::process::Abort;
 use std::test::Fail;
@@ -48,16 +49,6 @@ const TURNED: [&str; 12] = [
     "Base;InProgress;White[3];wS1;bG1 wS1\\;wA1 -wS1;bA1 bG1\\",
 ];
 
-/// The numbers, from 1, of the read and of the write that fail (0: none fails).
-#[derive(Clone, Copy, Debug)]
-struct Failing {
-    read: u64,
-    write: u64,
-}
-
-/// No call fails.
-const NONE: Failing = Failing { read: 0, write: 0 };
-
 /// The input of these lines, each ended by LF.
 fn input_of(alloc: Global, lines: &[&str]) -> Result<Vec<u8>, AllocError> {
     let mut input = Vec::new(alloc);
@@ -72,28 +63,15 @@ fn input_of(alloc: Global, lines: &[&str]) -> Result<Vec<u8>, AllocError> {
 fn expect_run<R: Abort>(
     rt: &R,
     alloc: Global,
-    input: &[u8],
-    pieces: &[usize],
-    failing: Failing,
+    setting: MemSetting<'_>,
     status: Status,
     written: &str,
 ) -> Result<(), AllocError> {
-    let bytes = Vec::from_slice(alloc, input)?;
-    let reads = Vec::from_slice(alloc, &[failing.read])?;
-    let writes = Vec::from_slice(alloc, &[failing.write])?;
-    let mut source = MemSource::new(bytes, Vec::from_slice(alloc, pieces)?, reads);
-    let mut sink = MemSink::new(alloc, Vec::from_slice(alloc, pieces)?, writes);
+    let mut source = setting.source(alloc)?;
+    let mut sink = setting.sink(alloc)?;
     let ended = book::<MemSource, MemSink, FastGame>(alloc, &mut source, &mut sink);
-    assert_eq!(rt;
-        ended,
-        status,
-        "{written}, pieces of {pieces:?}, {failing:?}"
-    );
-    assert_eq!(rt;
-        sink.bytes(),
-        written.as_bytes(),
-        "pieces of {pieces:?}, {failing:?}"
-    );
+    assert_eq!(rt; ended, status, "{written}, {setting}");
+    assert_eq!(rt; sink.bytes(), written.as_bytes(), "{setting}");
     Ok(())
 }
 
@@ -108,8 +86,9 @@ fn expect_book<R: Abort>(
 ) -> Result<(), AllocError> {
     let mut input = input_of(alloc, &[position])?;
     input.extend_from_slice(input_of(alloc, games)?.as_slice())?;
-    for pieces in [[1].as_slice(), [7].as_slice(), [].as_slice()] {
-        expect_run(rt, alloc, input.as_slice(), pieces, NONE, status, written)?;
+    for pieces in CUTS {
+        let setting = MemSetting::of(input.as_slice()).cut(pieces);
+        expect_run(rt, alloc, setting, status, written)?;
     }
     Ok(())
 }
@@ -125,23 +104,19 @@ const BOOKS: [(&str, &[&str], &str); 5] = [
 
 #[test]
 fn the_move_that_was_made_most_often(rt: HostRuntime) -> Result<(), Fail> {
-    let done = Status::Done;
     for (position, games, written) in BOOKS {
-        expect_book(&rt, rt.alloc(), position, games, done, written)?;
+        expect_book(&rt, rt.alloc(), position, games, Done, written)?;
     }
     Ok(())
 }
 
 #[test]
 fn a_turned_or_mirrored_game_counts(rt: HostRuntime) -> Result<(), Fail> {
-    let done = Status::Done;
+    let alloc = rt.alloc();
     for game in TURNED {
-        let games = [game];
-        let games = games.as_slice();
-        expect_book(&rt, rt.alloc(), CROOKED, games, done, "book bA1 bG1- 1\n")?;
+        expect_book(&rt, alloc, CROOKED, &[game], Done, "book bA1 bG1- 1\n")?;
     }
-    let games = TURNED.as_slice();
-    expect_book(&rt, rt.alloc(), CROOKED, games, done, "book bA1 bG1- 12\n")?;
+    expect_book(&rt, alloc, CROOKED, &TURNED, Done, "book bA1 bG1- 12\n")?;
     Ok(())
 }
 
@@ -158,22 +133,16 @@ const SHIFTED: &str = concat!(
 #[test]
 fn a_shifted_game_counts(rt: HostRuntime) -> Result<(), Fail> {
     let games = [SHIFTED].as_slice();
-    let done = Status::Done;
-    expect_book(&rt, rt.alloc(), STANDING, games, done, "book bG2 bQ- 1\n")?;
+    expect_book(&rt, rt.alloc(), STANDING, games, Done, "book bG2 bQ- 1\n")?;
     Ok(())
 }
 
 /// The position is its own mirror image, so either side counts for both, and once.
 #[test]
 fn a_mirrored_move_counts_once(rt: HostRuntime) -> Result<(), Fail> {
-    expect_book(
-        &rt,
-        rt.alloc(),
-        "Base;InProgress;White[2];wS1;bG1 wS1-",
-        [CROOKED].as_slice(),
-        Status::Done,
-        "book wA1 /wS1 1\n",
-    )?;
+    let position = "Base;InProgress;White[2];wS1;bG1 wS1-";
+    let games = [CROOKED].as_slice();
+    expect_book(&rt, rt.alloc(), position, games, Done, "book wA1 /wS1 1\n")?;
     Ok(())
 }
 
@@ -188,73 +157,38 @@ const BAD_LINES: [(&str, &[&str], &str); 5] = [
 
 #[test]
 fn the_first_bad_line_is_named(rt: HostRuntime) -> Result<(), Fail> {
-    let bad = Status::BadInput;
     for (position, games, written) in BAD_LINES {
-        expect_book(&rt, rt.alloc(), position, games, bad, written)?;
+        expect_book(&rt, rt.alloc(), position, games, BadInput, written)?;
     }
-    expect_run(
-        &rt,
-        rt.alloc(),
-        [].as_slice(),
-        [].as_slice(),
-        NONE,
-        bad,
-        "bad no line\n",
-    )?;
+    let empty = MemSetting::of(b"".as_slice());
+    expect_run(&rt, rt.alloc(), empty, BadInput, "bad no line\n")?;
     Ok(())
 }
 
 #[test]
 fn a_line_that_is_too_long_is_named(rt: HostRuntime) -> Result<(), Fail> {
-    let bad = Status::BadInput;
-    let long = vec![in rt.alloc(); b'x'; 65_537]?;
-    let mut input = Vec::from_slice(rt.alloc(), b"Base\nBase\n".as_slice())?;
+    let alloc = rt.alloc();
+    let long = vec![in alloc; b'x'; 65_537]?;
+    let mut input = Vec::from_slice(alloc, b"Base\nBase\n".as_slice())?;
     input.extend_from_slice(long.as_slice())?;
-    let pieces = [].as_slice();
-    expect_run(
-        &rt,
-        rt.alloc(),
-        long.as_slice(),
-        pieces,
-        NONE,
-        bad,
-        "bad line too long\n",
-    )?;
-    expect_run(
-        &rt,
-        rt.alloc(),
-        input.as_slice(),
-        pieces,
-        NONE,
-        bad,
-        "bad line 3\n",
-    )?;
+    for (input, written) in [
+        (long.as_slice(), "bad line too long\n"),
+        (input.as_slice(), "bad line 3\n"),
+    ] {
+        expect_run(&rt, alloc, MemSetting::of(input), BadInput, written)?;
+    }
     Ok(())
 }
 
 #[test]
 fn a_read_or_a_write_that_fails_ends_the_run(rt: HostRuntime) -> Result<(), Fail> {
     let input = input_of(rt.alloc(), &[SPIDER, DRAWN])?;
-    let pieces = [7].as_slice();
-    let read = Failing { read: 6, write: 0 };
-    let write = Failing { read: 0, write: 2 };
-    expect_run(
-        &rt,
-        rt.alloc(),
-        input.as_slice(),
-        pieces,
-        read,
-        Status::ReadFault,
-        "",
-    )?;
-    expect_run(
-        &rt,
-        rt.alloc(),
-        input.as_slice(),
-        pieces,
-        write,
-        Status::WriteFault,
-        "book bS",
-    )?;
+    let setting = MemSetting::of(input.as_slice()).cut(&[7]);
+    for (failing, status, written) in [
+        (setting.failing(6, 0), ReadFault, ""),
+        (setting.failing(0, 2), WriteFault, "book bS"),
+    ] {
+        expect_run(&rt, rt.alloc(), failing, status, written)?;
+    }
     Ok(())
 }

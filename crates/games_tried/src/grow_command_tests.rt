@@ -7,6 +7,7 @@ use fast_game::FastGame;
 use game_text::read_game;
 use grow_command::grow;
 use io_edge::MemSink;
+use memory_sides::{CUTS, MemSetting};
 use move_text::read_number;
 use std::alloc::{AllocError, Global};
 use std::test::Fail;
@@ -22,21 +23,12 @@ struct Seen {
     written: Vec<u8>,
 }
 
-/// Makes a game over a sink in memory: the greatest sizes of the pieces that it takes (none: no
-/// bound), and the number, from 1, of the write that fails (0: none fails).
-fn told(
-    alloc: Global,
-    seed: u64,
-    plies: u32,
-    pieces: &[usize],
-    failing_write: u64,
-) -> Result<Seen, AllocError>
+/// Makes a game over a sink in memory.
+fn told(alloc: Global, seed: u64, plies: u32, setting: MemSetting<'_>) -> Result<Seen, AllocError>
     requires some { 1 ≤ plies }
     requires few { plies ≤ 1000 }
 {
-    let pieces = Vec::from_slice(alloc, pieces)?;
-    let writes = Vec::from_slice(alloc, &[failing_write])?;
-    let mut sink = MemSink::new(alloc, pieces, writes);
+    let mut sink = setting.sink(alloc)?;
     let status = grow::<MemSink, FastGame>(alloc, seed, plies, &mut sink);
     let written = Vec::from_slice(alloc, sink.bytes())?;
     Ok(Seen { status, written })
@@ -72,8 +64,8 @@ fn moves_in(alloc: Global, game: &[u8]) -> Option<u64> {
 
 #[test]
 fn one_ply_of_seed_zero(rt: HostRuntime) -> Result<(), Fail> {
-    for pieces in [[].as_slice(), [1].as_slice(), [7].as_slice()] {
-        let seen = told(rt.alloc(), 0, 1, pieces, 0)?;
+    for pieces in CUTS {
+        let seen = told(rt.alloc(), 0, 1, MemSetting::of(b"").cut(pieces))?;
         assert_eq!(rt; seen.status, Status::Done);
         assert_eq!(rt; seen.written.as_slice(), ONE_PLY.as_bytes());
     }
@@ -82,8 +74,8 @@ fn one_ply_of_seed_zero(rt: HostRuntime) -> Result<(), Fail> {
 
 #[test]
 fn a_seed_is_told_the_same_twice(rt: HostRuntime) -> Result<(), Fail> {
-    let one = told(rt.alloc(), 7, 200, &[], 0)?;
-    let two = told(rt.alloc(), 7, 200, &[], 0)?;
+    let one = told(rt.alloc(), 7, 200, MemSetting::of(b""))?;
+    let two = told(rt.alloc(), 7, 200, MemSetting::of(b""))?;
     assert_eq!(rt; one.status, Status::Done);
     assert_eq!(rt; two.status, Status::Done);
     assert_eq!(rt; one.written.as_slice(), two.written.as_slice());
@@ -98,7 +90,7 @@ fn a_seed_is_told_the_same_twice(rt: HostRuntime) -> Result<(), Fail> {
 #[test]
 fn what_is_told_is_of_the_game(rt: HostRuntime) -> Result<(), Fail> {
     for seed in 0..10 {
-        let seen = told(rt.alloc(), seed, 60, &[7], 0)?;
+        let seen = told(rt.alloc(), seed, 60, MemSetting::of(b"").cut(&[7]))?;
         let text = seen.written.as_slice();
         let plies = field(text, b"plies ").ok_or("no line of the plies")?;
         let state = field(text, b"state ").ok_or("no line of the state")?;
@@ -116,7 +108,8 @@ fn what_is_told_is_of_the_game(rt: HostRuntime) -> Result<(), Fail> {
 #[test]
 fn a_write_that_fails_ends_the_telling(rt: HostRuntime) -> Result<(), Fail> {
     for (failing_write, front) in [(1, ""), (3, "seed 0\ntype Ba")] {
-        let seen = told(rt.alloc(), 0, 1, &[7], failing_write)?;
+        let setting = MemSetting::of(b"").cut(&[7]).failing(0, failing_write);
+        let seen = told(rt.alloc(), 0, 1, setting)?;
         assert_eq!(rt; seen.status, Status::WriteFault);
         assert_eq!(rt; seen.written.as_slice(), front.as_bytes());
     }

@@ -7,27 +7,14 @@
 
 ghost use Rattle.std.specs.Prelude.{◌≡◌, ◌≢◌, ◌⊎◌, drop, map, option_map, string_bytes};
 ghost use Rattle.command_words.specs.Words.{AreOfNoCommand, TakeOption};
+ghost use Rattle.hive.specs.Audits.{begin_with_audit};
 ghost use Rattle.hive.specs.Complaints.{complaint};
 
-mod engines;
-mod games;
-mod hall;
-mod machine_clock;
-mod marks;
-mod patience;
-mod programs;
-mod streams;
-#[cfg(test)]
-mod system_tests;
-#[cfg(test)]
-mod tests;
-
+use command_runs::Status;
 use command_words::care_of;
-use games::are_counted;
-use hall::Hall;
-use hive_cli::{Status, run};
-use machine_clock::MachineClock;
-use programs::Programs;
+use hive_cli::run;
+use libc::{STDERR_FILENO, isatty};
+use machine_edge::{Counted, Hall, MachineClock, Programs};
 use std::env::Env;
 use std::io::{Eprint, ErrorKind};
 use std::os::fd::AsRawFd;
@@ -35,7 +22,6 @@ use std::process::{ExitCode, OpenProcess, Processes};
 use std::random::RandomSource;
 use std::thread::Threads;
 use std::{env, io, time};
-use streams::Counted;
 
 /// The status of a run whose words cannot be had: memory is wanting, or a word is not UTF-8.
 fn status_of(kind: ErrorKind) -> Status
@@ -66,7 +52,23 @@ fn words<R: Env + AllocGlobal>(rt: &R) -> Result<Vec<String>, Status> {
     Ok(without_name(words))
 }
 
-/// Runs over standard input and output, the machine's clock, and programs of the system.
+/// Whether the words are those of an audit: the first one says so.
+fn is_audit(words: &[String]) -> bool
+    ensures { result ≡ begin_with_audit (map string_bytes words.now) }
+{
+    match words {
+        [] => false,
+        [word, ..] => word.as_str() == "audit",
+    }
+}
+
+/// Whether standard error is a terminal.
+fn is_terminal() -> bool {
+    isatty(STDERR_FILENO) == 1
+}
+
+/// Runs over standard input and output, the machine's clock, and programs of the system. Where
+/// standard error is a terminal, it shows how far an audit or a tournament is.
 fn run_on_streams<
     R: Input
         + Print
@@ -95,8 +97,9 @@ where
     let mut input = Counted::new(rt.reader());
     let mut output = Counted::new(io::writer(rt));
     let mut clock = MachineClock::new(rt);
-    let hall = Hall::new(rt, rt.alloc());
-    let counts_games = are_counted(words);
+    let is_shown = is_terminal();
+    let hall = Hall::new(rt, rt.alloc(), is_shown);
+    let counts_games = is_shown && is_audit(words);
     let mut spawner = Programs::new(rt, rt.alloc(), care.limit, care.quiet, counts_games);
     let outcome = run(
         rt,

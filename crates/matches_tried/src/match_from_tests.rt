@@ -1,6 +1,6 @@
 //! Matches of two programs that stand in memory, from a given game.
 
-use crate::match_command_tests::{Seen, sent, sound, spawner_of};
+use crate::match_command_tests::in_sevens;
 use command_runs::Status;
 use fast_game::FastGame;
 use game_text::{played, read_game_under};
@@ -8,8 +8,8 @@ use hive_model::Game;
 use io_edge::{MemSink, MemSpawner, StepClock};
 use match_command::play_match_from;
 use match_core::{Level, Setup};
+use memory_sides::{MemSetting, Played, links_of, owned_words, spawner_of};
 use std::alloc::{AllocError, Global};
-use std::process::Abort;
 use std::test::Fail;
 
 /// What a match begins with: the line of a game, the rule, and the limit of plies.
@@ -26,7 +26,7 @@ fn play_from(
     given: Given<'_>,
     white: &[u8],
     black: &[u8],
-) -> Result<Option<Seen>, AllocError> {
+) -> Result<Option<Played<Status>>, AllocError> {
     if given.line.len() > 1000 || given.limit < 1 || given.limit > 1000 {
         return Ok(None);
     }
@@ -41,11 +41,10 @@ fn play_from(
         limit: given.limit,
         repetition: given.repetition,
     };
-    let mut words = Vec::new(alloc);
-    words.push(String::from_str(alloc, "engine")?)?;
-    let sizes = Vec::from_slice(alloc, &[7])?;
-    let mut output = MemSink::new(alloc, sizes, Vec::from_slice(alloc, &[0])?);
-    let mut spawner = spawner_of(alloc, sound(white, 7), sound(black, 7), 0)?;
+    let words = owned_words(alloc, &["engine"])?;
+    let mut output = MemSetting::of(b"").cut(&[7]).sink(alloc)?;
+    let links = links_of(alloc, &[in_sevens(white), in_sevens(black)])?;
+    let mut spawner = spawner_of(alloc, links, 0)?;
     let mut clock = StepClock::new(0, 1);
     let status = play_match_from::<MemSpawner, MemSink, StepClock, FastGame>(
         alloc,
@@ -57,7 +56,7 @@ fn play_from(
         &mut clock,
         &mut spawner,
     );
-    Ok(Some(Seen {
+    Ok(Some(Played {
         status,
         output,
         spawner,
@@ -93,8 +92,8 @@ fn a_match_goes_on_from_a_given_game(rt: HostRuntime) -> Result<(), Fail> {
     if let Some(seen) = &played {
         assert_eq!(rt; seen.status, Status::Done);
         assert_eq!(rt; seen.output.bytes(), TOLD);
-        assert_eq!(rt; sent(seen, 0), TO_WHITE);
-        assert_eq!(rt; sent(seen, 1), TO_BLACK);
+        assert_eq!(rt; seen.sent(0), TO_WHITE);
+        assert_eq!(rt; seen.sent(1), TO_BLACK);
     }
     Ok(())
 }
@@ -148,14 +147,6 @@ const ROWS: [Row; 3] = [
     },
 ];
 
-/// The words in front of the line, the line, and an LF.
-fn line_of(alloc: Global, front: &str, line: &str) -> Result<Vec<u8>, AllocError> {
-    let mut text = Vec::from_slice(alloc, front.as_bytes())?;
-    text.extend_from_slice(line.as_bytes())?;
-    text.extend_from_slice(b"\n".as_slice())?;
-    Ok(text)
-}
-
 #[test]
 fn a_given_game_that_is_over_has_its_verdict_at_once(rt: HostRuntime) -> Result<(), Fail> {
     for row in &ROWS {
@@ -167,14 +158,12 @@ fn a_given_game_that_is_over_has_its_verdict_at_once(rt: HostRuntime) -> Result<
         let played = play_from(rt.alloc(), given, b"ok\nok\n", b"ok\nok\n")?;
         assert!(rt; played.is_some());
         if let Some(seen) = &played {
-            let told = line_of(rt.alloc(), "newgame ", row.told)?;
-            let mut text = line_of(rt.alloc(), "", row.line)?;
-            text.extend_from_slice(row.ending.as_bytes())?;
-            text.extend_from_slice(b"\n".as_slice())?;
+            let told = ["newgame ", row.told, "\n"].concat(rt.alloc())?;
+            let text = [row.line, "\n", row.ending, "\n"].concat(rt.alloc())?;
             assert_eq!(rt; seen.status, Status::Done);
-            assert_eq!(rt; seen.output.bytes(), text.as_slice());
-            assert_eq!(rt; sent(seen, 0), told.as_slice());
-            assert_eq!(rt; sent(seen, 1), told.as_slice());
+            assert_eq!(rt; seen.output.bytes(), text.as_bytes());
+            assert_eq!(rt; seen.sent(0), told.as_bytes());
+            assert_eq!(rt; seen.sent(1), told.as_bytes());
         }
     }
     Ok(())

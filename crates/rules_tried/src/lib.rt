@@ -1,9 +1,11 @@
-//! The rules, the boards, the cut places and the symmetries, tried on small boards whose answers
-//! were found by hand.
+//! The rules, the boards, the cut places, the symmetries and the bounds of a win, tried on small
+//! boards whose answers were found by hand.
 #![tactic(auto)]
 
 #[cfg(test)]
 mod boards;
+#[cfg(test)]
+mod bounds;
 #[cfg(test)]
 mod bugs;
 #[cfg(test)]
@@ -17,7 +19,11 @@ mod keepers;
 #[cfg(test)]
 mod leaves;
 #[cfg(test)]
+mod masks;
+#[cfg(test)]
 mod mosquitoes;
+#[cfg(test)]
+mod stacks;
 #[cfg(test)]
 mod symmetries;
 #[cfg(test)]

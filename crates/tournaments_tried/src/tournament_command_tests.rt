@@ -1,10 +1,11 @@
 //! Tournaments of programs that stand in memory, whose openings and earlier games are read.
 ghost use Rattle.tournament_command.specs.Formats.{IsFormat};
 
-use crate::engines::{BASE, Seen, expect_seen, links_of, two_programs};
+use crate::engines::{BASE, expect_seen, links_of, two_programs};
 use command_runs::Status;
 use io_edge::{MemSink, MemSource, MemSpawner};
 use match_core::{Level, Setup};
+use memory_sides::{MemSetting, Played, spawner_of};
 use plain_game::PlainGame;
 use std::alloc::{AllocError, Global};
 use std::test::Fail;
@@ -95,16 +96,15 @@ fn play_over<R: Threads + Sync>(
     alloc: Global,
     format: Format,
     text: &[u8],
-    games: u32,
-) -> Result<Seen, AllocError>
+    games: usize,
+) -> Result<Played<Status>, AllocError>
     requires { IsFormat format }
 {
     let programs = two_programs(alloc)?;
-    let bytes = Vec::from_slice(alloc, text)?;
-    let mut input = MemSource::new(bytes, Vec::from_slice(alloc, &[7])?, Vec::new(alloc));
-    let mut output = MemSink::new(alloc, Vec::from_slice(alloc, &[7])?, Vec::new(alloc));
-    let links = links_of(alloc, WHITE, BLACK, games)?;
-    let mut spawner = MemSpawner::new(alloc, links, Vec::new(alloc));
+    let setting = MemSetting::of(text).cut(&[7]);
+    let mut input = setting.source(alloc)?;
+    let mut output = setting.sink(alloc)?;
+    let mut spawner = spawner_of(alloc, links_of(alloc, WHITE, BLACK, games)?, 0)?;
     let clocks = StepClocks { start: 0, step: 1 };
     let status = play_read_tournament::<R, MemSource, MemSpawner, MemSink, PlainGame, StepClocks>(
         rt,
@@ -116,7 +116,7 @@ fn play_over<R: Threads + Sync>(
         &mut spawner,
         &clocks,
     );
-    Ok(Seen {
+    Ok(Played {
         status,
         output,
         spawner,

@@ -2,11 +2,12 @@
 ghost use Rattle.std.specs.Prelude.{◌≤◌, length};
 ghost use Rattle.tournament_core.specs.Schedules.{schedule};
 
-use crate::engines::{BASE, Seen, expect_seen, links_of, two_programs};
+use crate::engines::{BASE, expect_seen, links_of, two_programs};
 use command_runs::Status;
 use hive_model::MoveList;
 use io_edge::{MemLink, MemSink, MemSpawner};
 use match_core::{Level, Setup};
+use memory_sides::{MemSetting, Played, spawner_of};
 use plain_game::PlainGame;
 use std::alloc::{AllocError, Global};
 use std::test::Fail;
@@ -83,12 +84,12 @@ fn play_over<R: Threads + Sync>(
     links: Vec<MemLink>,
     failing_start: u64,
     failing_write: u64,
-) -> Result<Seen, AllocError>
+) -> Result<Played<Status>, AllocError>
     requires { length played.now ≤ length (schedule tournament.now.plan) }
 {
-    let sizes = Vec::from_slice(alloc, &[7])?;
-    let mut output = MemSink::new(alloc, sizes, Vec::from_slice(alloc, &[failing_write])?);
-    let mut spawner = MemSpawner::new(alloc, links, Vec::from_slice(alloc, &[failing_start])?);
+    let output = MemSetting::of(b"").cut(&[7]).failing(0, failing_write);
+    let mut output = output.sink(alloc)?;
+    let mut spawner = spawner_of(alloc, links, failing_start)?;
     let clocks = StepClocks { start: 0, step: 1 };
     let status = play_tournament::<R, MemSpawner, MemSink, PlainGame, StepClocks>(
         rt,
@@ -99,7 +100,7 @@ fn play_over<R: Threads + Sync>(
         &mut spawner,
         &clocks,
     );
-    Ok(Seen {
+    Ok(Played {
         status,
         output,
         spawner,

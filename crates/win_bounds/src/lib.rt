@@ -7,6 +7,3 @@ mod laws;
 
 pub use far::{is_far_from_loss, is_far_from_win};
 pub use laws::{far_positions_are_not_won, safe_positions_are_not_lost};
-
-#[cfg(test)]
-mod tests;

@@ -1,8 +1,9 @@
 //! Solutions that are written, and texts that are checked.
 
-use command_runs::Status;
+use command_runs::Status::{self, BadInput, Done, ReadFault, Refused, WriteFault};
 use fast_game::FastGame;
 use io_edge::{MemSink, MemSource};
+use memory_sides::{CUTS, MemSetting};
 use std::alloc::{AllocError, Global};
 use std::process::Abort;
 use std::test::Fail;
@@ -31,16 +32,6 @@ enum Asked {
     Verify,
 }
 
-/// The numbers, from 1, of the read and of the write that fail (0: none fails).
-#[derive(Clone, Copy, Debug)]
-struct Failing {
-    read: u64,
-    write: u64,
-}
-
-/// No call fails.
-const NONE: Failing = Failing { read: 0, write: 0 };
-
 /// Runs a command over these two sides, and says with which status it ended.
 fn ended(alloc: Global, asked: Asked, source: &mut MemSource, sink: &mut MemSink) -> Status {
     match asked {
@@ -55,28 +46,15 @@ fn expect_run<R: Abort>(
     rt: &R,
     alloc: Global,
     asked: Asked,
-    input: &[u8],
-    pieces: &[usize],
-    failing: Failing,
+    setting: MemSetting<'_>,
     status: Status,
     written: &str,
 ) -> Result<(), AllocError> {
-    let bytes = Vec::from_slice(alloc, input)?;
-    let reads = Vec::from_slice(alloc, &[failing.read])?;
-    let writes = Vec::from_slice(alloc, &[failing.write])?;
-    let mut source = MemSource::new(bytes, Vec::from_slice(alloc, pieces)?, reads);
-    let mut sink = MemSink::new(alloc, Vec::from_slice(alloc, pieces)?, writes);
+    let mut source = setting.source(alloc)?;
+    let mut sink = setting.sink(alloc)?;
     let ended = ended(alloc, asked, &mut source, &mut sink);
-    assert_eq!(rt;
-        ended,
-        status,
-        "{asked:?}, pieces of {pieces:?}, {failing:?}"
-    );
-    assert_eq!(rt;
-        sink.bytes(),
-        written.as_bytes(),
-        "{asked:?}, pieces of {pieces:?}, {failing:?}"
-    );
+    assert_eq!(rt; ended, status, "{asked:?}, {setting}");
+    assert_eq!(rt; sink.bytes(), written.as_bytes(), "{asked:?}, {setting}");
     Ok(())
 }
 
@@ -85,71 +63,36 @@ fn expect_answer<R: Abort>(
     rt: &R,
     alloc: Global,
     asked: Asked,
-    input: &[u8],
+    input: &str,
     status: Status,
     written: &str,
 ) -> Result<(), AllocError> {
-    for pieces in [[1].as_slice(), [7].as_slice(), [].as_slice()] {
-        expect_run(rt, alloc, asked, input, pieces, NONE, status, written)?;
+    for pieces in CUTS {
+        let setting = MemSetting::of(input.as_bytes()).cut(pieces);
+        expect_run(rt, alloc, asked, setting, status, written)?;
     }
     Ok(())
 }
 
-/// A head for the opening of the base game within two plies, with this answer, and these lines
-/// behind it.
-fn text_of(alloc: Global, answer: &str, rest: &str) -> Result<Vec<u8>, AllocError> {
-    let mut text = Vec::from_slice(alloc, b"hive-solution 1\nBase\nplies 2\nanswer ")?;
-    text.extend_from_slice(answer.as_bytes())?;
-    text.push(b'\n')?;
-    text.extend_from_slice(rest.as_bytes())?;
-    Ok(text)
-}
-
 #[test]
 fn solutions_are_written(rt: HostRuntime) -> Result<(), Fail> {
-    for (asked, written) in [
-        (
-            Asked::OnePly,
-            "hive-solution 1\nBase;NotStarted;White[1]\nplies 1\nanswer no\n",
-        ),
-        (Asked::TwoPlies, OPENING),
-    ] {
-        expect_answer(
-            &rt,
-            rt.alloc(),
-            asked,
-            b"Base\n".as_slice(),
-            Status::Done,
-            written,
-        )?;
+    let none = "hive-solution 1\nBase;NotStarted;White[1]\nplies 1\nanswer no\n";
+    for (asked, written) in [(Asked::OnePly, none), (Asked::TwoPlies, OPENING)] {
+        expect_answer(&rt, rt.alloc(), asked, "Base\n", Done, written)?;
     }
     Ok(())
 }
 
 #[test]
 fn a_win_is_told_by_one_index(rt: HostRuntime) -> Result<(), Fail> {
-    let mut text = Vec::from_slice(rt.alloc(), b"hive-solution 1\n")?;
-    text.extend_from_slice(WON.as_bytes())?;
-    text.extend_from_slice(b"\nplies 1\nanswer yes\n35\n".as_slice())?;
-    let Ok(written) = str::from_utf8(text.as_slice()) else {
-        return Ok(());
-    };
-    expect_answer(
-        &rt,
-        rt.alloc(),
-        Asked::OnePly,
-        WON.as_bytes(),
-        Status::Done,
-        written,
-    )?;
-    expect_answer(
-        &rt,
-        rt.alloc(),
-        Asked::Verify,
-        text.as_slice(),
-        Status::Done,
-        "accepted\n",
-    )?;
+    let parts = ["hive-solution 1\n", WON, "\nplies 1\nanswer yes\n35\n"];
+    let text = parts.concat(rt.alloc())?;
+    for (asked, input, written) in [
+        (Asked::OnePly, WON, text.as_str()),
+        (Asked::Verify, text.as_str(), "accepted\n"),
+    ] {
+        expect_answer(&rt, rt.alloc(), asked, input, Done, written)?;
+    }
     Ok(())
 }
 
@@ -164,14 +107,7 @@ const BAD_INPUTS: [(&str, &str); 4] = [
 #[test]
 fn input_that_is_no_game_is_named(rt: HostRuntime) -> Result<(), Fail> {
     for (input, written) in BAD_INPUTS {
-        expect_answer(
-            &rt,
-            rt.alloc(),
-            Asked::OnePly,
-            input.as_bytes(),
-            Status::BadInput,
-            written,
-        )?;
+        expect_answer(&rt, rt.alloc(), Asked::OnePly, input, BadInput, written)?;
     }
     Ok(())
 }
@@ -179,37 +115,30 @@ fn input_that_is_no_game_is_named(rt: HostRuntime) -> Result<(), Fail> {
 /// The answer and the other lines of texts about the opening of the base game, and what a check of
 /// each answers.
 const ANSWERS: [(&str, &str, Status, &str); 9] = [
-    ("no", "0\n0\n0\n0", Status::Done, "accepted\n"),
-    ("no", "0\n0\n0\n", Status::Refused, "refused short 3\n"),
-    ("no", "24\n0\n0\n0\n", Status::Refused, "refused index 1\n"),
-    ("no", "0\n0\n0\n0\n0\n", Status::Refused, "refused rest 4\n"),
-    ("yes", "4\n", Status::Refused, "refused index 1\n"),
-    ("yes", "0\n", Status::Refused, "refused leaf 1\n"),
-    ("no", "0\n00\n0\n0\n", Status::BadInput, "bad line 6\n"),
-    ("no", "0\n0\n0\n5488\n", Status::BadInput, "bad line 8\n"),
-    ("maybe", "0\n", Status::BadInput, "bad line 4\n"),
+    ("no", "0\n0\n0\n0", Done, "accepted\n"),
+    ("no", "0\n0\n0\n", Refused, "refused short 3\n"),
+    ("no", "24\n0\n0\n0\n", Refused, "refused index 1\n"),
+    ("no", "0\n0\n0\n0\n0\n", Refused, "refused rest 4\n"),
+    ("yes", "4\n", Refused, "refused index 1\n"),
+    ("yes", "0\n", Refused, "refused leaf 1\n"),
+    ("no", "0\n00\n0\n0\n", BadInput, "bad line 6\n"),
+    ("no", "0\n0\n0\n5488\n", BadInput, "bad line 8\n"),
+    ("maybe", "0\n", BadInput, "bad line 4\n"),
 ];
 
 #[test]
 fn indices_are_checked(rt: HostRuntime) -> Result<(), Fail> {
-    expect_answer(
-        &rt,
-        rt.alloc(),
-        Asked::Verify,
-        OPENING.as_bytes(),
-        Status::Done,
-        "accepted\n",
-    )?;
+    let alloc = rt.alloc();
+    expect_answer(&rt, alloc, Asked::Verify, OPENING, Done, "accepted\n")?;
     for (answer, rest, status, written) in ANSWERS {
-        let text = text_of(rt.alloc(), answer, rest)?;
-        expect_answer(
-            &rt,
-            rt.alloc(),
-            Asked::Verify,
-            text.as_slice(),
-            status,
-            written,
-        )?;
+        let parts = [
+            "hive-solution 1\nBase\nplies 2\nanswer ",
+            answer,
+            "\n",
+            rest,
+        ];
+        let text = parts.concat(alloc)?;
+        expect_answer(&rt, alloc, Asked::Verify, text.as_str(), status, written)?;
     }
     Ok(())
 }
@@ -232,29 +161,22 @@ const HEADS: [(&str, &str); 8] = [
 #[test]
 fn heads_are_checked_line_by_line(rt: HostRuntime) -> Result<(), Fail> {
     for (input, written) in HEADS {
-        expect_answer(
-            &rt,
-            rt.alloc(),
-            Asked::Verify,
-            input.as_bytes(),
-            Status::BadInput,
-            written,
-        )?;
+        expect_answer(&rt, rt.alloc(), Asked::Verify, input, BadInput, written)?;
     }
     Ok(())
 }
 
 #[test]
 fn no_answer_is_about_a_finished_game(rt: HostRuntime) -> Result<(), Fail> {
-    let mut text = Vec::from_slice(rt.alloc(), b"hive-solution 1\n")?;
-    text.extend_from_slice(DRAWN.as_bytes())?;
-    text.extend_from_slice(b"\nplies 1\nanswer no\n".as_slice())?;
+    let alloc = rt.alloc();
+    let text = ["hive-solution 1\n", DRAWN, "\nplies 1\nanswer no\n"].concat(alloc)?;
+    let input = text.as_str();
     expect_answer(
         &rt,
-        rt.alloc(),
+        alloc,
         Asked::Verify,
-        text.as_slice(),
-        Status::BadInput,
+        input,
+        BadInput,
         "bad game over\n",
     )?;
     Ok(())
@@ -262,32 +184,15 @@ fn no_answer_is_about_a_finished_game(rt: HostRuntime) -> Result<(), Fail> {
 
 #[test]
 fn a_failed_call_ends_a_run(rt: HostRuntime) -> Result<(), Fail> {
-    let read = Failing { read: 2, write: 0 };
-    let write = Failing { read: 0, write: 2 };
     for (asked, input, written) in [
         (Asked::TwoPlies, "Base\n", "hive-so"),
         (Asked::Verify, OPENING, "accepte"),
     ] {
-        expect_run(
-            &rt,
-            rt.alloc(),
-            asked,
-            input.as_bytes(),
-            &[1],
-            read,
-            Status::ReadFault,
-            "",
-        )?;
-        expect_run(
-            &rt,
-            rt.alloc(),
-            asked,
-            input.as_bytes(),
-            &[7],
-            write,
-            Status::WriteFault,
-            written,
-        )?;
+        let setting = MemSetting::of(input.as_bytes());
+        let read = setting.cut(&[1]).failing(2, 0);
+        expect_run(&rt, rt.alloc(), asked, read, ReadFault, "")?;
+        let write = setting.cut(&[7]).failing(0, 2);
+        expect_run(&rt, rt.alloc(), asked, write, WriteFault, written)?;
     }
     Ok(())
 }

@@ -3,6 +3,7 @@
 use command_runs::read_one_game;
 use hive_model::Game;
 use io_edge::{MemSink, MemSource};
+use memory_sides::MemSetting;
 use plain_game::PlainGame;
 use std::alloc::{AllocError, Global};
 use std::test::Fail;
@@ -14,16 +15,10 @@ const WON: &str = concat!(
     "bG1 bS1-;wB1 /wQ;bB1 bQ-;wA1 -wB1;bA1 /bB1",
 );
 
-/// A text that is to be read.
-fn source_of(alloc: Global, text: &str) -> Result<MemSource, AllocError> {
-    let bytes = Vec::from_slice(alloc, text.as_bytes())?;
-    Ok(MemSource::new(bytes, Vec::new(alloc), Vec::new(alloc)))
-}
-
 /// Whether a win can be forced within 1, 2 and 3 plies in the game of a text, or none where it is
 /// no game.
 fn answers(alloc: Global, text: &str) -> Result<Option<[bool; 3]>, AllocError> {
-    let mut source = source_of(alloc, text)?;
+    let mut source = MemSetting::of(text.as_bytes()).source(alloc)?;
     let Ok(mut game) = read_one_game::<MemSource, PlainGame>(alloc, &mut source, 3) else {
         return Ok(None);
     };
@@ -37,7 +32,7 @@ fn answers(alloc: Global, text: &str) -> Result<Option<[bool; 3]>, AllocError> {
 /// How many moves are played where a solver tells twice of the game of a text whether a win can be
 /// forced within two plies: the first time, and the second; none where it is no game.
 fn plays_of_two_tells(alloc: Global, text: &str) -> Result<Option<(u64, u64)>, AllocError> {
-    let mut source = source_of(alloc, text)?;
+    let mut source = MemSetting::of(text.as_bytes()).source(alloc)?;
     let Ok(mut game) = read_one_game::<MemSource, PlainGame>(alloc, &mut source, 2) else {
         return Ok(None);
     };
@@ -53,9 +48,10 @@ fn plays_of_two_tells(alloc: Global, text: &str) -> Result<Option<(u64, u64)>, A
 /// What is written of the opening within two plies, in pieces of so many bytes, where the write of
 /// this number fails, and whether all was written.
 fn written(alloc: Global, piece: usize, fails: u64) -> Result<(bool, MemSink), AllocError> {
-    let pieces = Vec::from_slice(alloc, &[piece])?;
-    let mut sink = MemSink::new(alloc, pieces, Vec::from_slice(alloc, &[fails])?);
-    let mut source = source_of(alloc, "Base")?;
+    let setting = MemSetting::of(b"Base".as_slice()).failing(0, fails);
+    let mut source = setting.source(alloc)?;
+    let sizes = [piece];
+    let mut sink = setting.cut(&sizes).sink(alloc)?;
     let Ok(mut game) = read_one_game::<MemSource, PlainGame>(alloc, &mut source, 2) else {
         return Ok((false, sink));
     };

@@ -1,7 +1,8 @@
 //! What black says, and the forfeit that comes of it.
 
-use super::{Says, TO_BLACK, TO_WHITE, WHITE, play_deep, sent, sound};
+use super::{TO_BLACK, TO_WHITE, WHITE, play_deep};
 use command_runs::Status;
+use memory_sides::MemSetting;
 use std::alloc::{AllocError, Global};
 use std::process::Abort;
 use std::test::Fail;
@@ -14,37 +15,19 @@ const BEGUN: &[u8] = b"id B\nok\nx\nok\n";
 
 const GAME: &[u8] = b"Base;InProgress;Black[1];wS1\n";
 
-/// These texts, one after another.
-fn joined(alloc: Global, parts: &[&[u8]]) -> Result<Vec<u8>, AllocError> {
-    let mut text = Vec::new(alloc);
-    for part in parts {
-        text.extend_from_slice(part)?;
-    }
-    Ok(text)
-}
-
-/// A line so many times.
-fn repeated(alloc: Global, line: &[u8], times: u32) -> Result<Vec<u8>, AllocError> {
-    let mut text = Vec::new(alloc);
-    for _ in 0..times {
-        text.extend_from_slice(line)?;
-    }
-    Ok(text)
-}
-
 /// Plays the match in which black says this, and compares the verdict.
 fn expect_verdict<R: Abort>(
     rt: &R,
     alloc: Global,
-    black: Says<'_>,
+    black: MemSetting<'_>,
     verdict: &[u8],
 ) -> Result<(), AllocError> {
-    let seen = play_deep(alloc, sound(WHITE, 4096), black)?;
-    let text = joined(alloc, &[GAME, verdict])?;
+    let seen = play_deep(alloc, MemSetting::of(WHITE), black)?;
+    let text = [GAME, verdict].concat(alloc)?;
     assert_eq!(rt; seen.status, Status::Done);
     assert_eq!(rt; seen.output.bytes(), text.as_slice());
-    assert_eq!(rt; sent(&seen, 0), TO_WHITE);
-    assert_eq!(rt; sent(&seen, 1), TO_BLACK);
+    assert_eq!(rt; seen.sent(0), TO_WHITE);
+    assert_eq!(rt; seen.sent(1), TO_BLACK);
     Ok(())
 }
 
@@ -64,13 +47,10 @@ const CAUSES: [(&[u8], &[u8]); 8] = [
 fn each_reply_has_its_cause(rt: HostRuntime) -> Result<(), Fail> {
     let alloc = rt.alloc();
     for (last, verdict) in CAUSES {
-        let text = joined(alloc, &[HEARD, last])?;
-        expect_verdict(&rt, alloc, sound(text.as_slice(), 4096), verdict)?;
+        let text = [HEARD, last].concat(alloc)?;
+        expect_verdict(&rt, alloc, MemSetting::of(text.as_slice()), verdict)?;
     }
-    let broken = Says {
-        failing_read: 2,
-        ..sound(HEARD, 4096)
-    };
+    let broken = MemSetting::of(HEARD).failing(2, 0);
     expect_verdict(&rt, alloc, broken, b"forfeit black broke\n".as_slice())?;
     Ok(())
 }
@@ -83,9 +63,9 @@ fn a_reply_has_a_thousand_lines_at_most(rt: HostRuntime) -> Result<(), Fail> {
         (1000, b"forfeit black notamove y\n".as_slice()),
         (1001, flood),
     ] {
-        let lines = repeated(alloc, b"y\n".as_slice(), times)?;
-        let text = joined(alloc, &[HEARD, lines.as_slice(), b"ok\n"])?;
-        expect_verdict(&rt, alloc, sound(text.as_slice(), 4096), verdict)?;
+        let lines = b"y\n".as_slice().repeat(alloc, times)?;
+        let text = [HEARD, lines.as_slice(), b"ok\n"].concat(alloc)?;
+        expect_verdict(&rt, alloc, MemSetting::of(text.as_slice()), verdict)?;
     }
     Ok(())
 }
@@ -93,17 +73,17 @@ fn a_reply_has_a_thousand_lines_at_most(rt: HostRuntime) -> Result<(), Fail> {
 #[test]
 fn a_line_is_not_too_long(rt: HostRuntime) -> Result<(), Fail> {
     let alloc = rt.alloc();
-    let line = repeated(alloc, b"y".as_slice(), 65537)?;
-    let text = joined(alloc, &[HEARD, line.as_slice(), b"\nok\n"])?;
+    let line = b"y".as_slice().repeat(alloc, 65537)?;
+    let text = [HEARD, line.as_slice(), b"\nok\n"].concat(alloc)?;
     let verdict = b"forfeit black longline\n".as_slice();
-    expect_verdict(&rt, alloc, sound(text.as_slice(), 4096), verdict)?;
+    expect_verdict(&rt, alloc, MemSetting::of(text.as_slice()), verdict)?;
     Ok(())
 }
 
 /// Black's reply to `play`, of so many lines, and then its illegal move.
-fn told(alloc: Global, line: &[u8], times: u32) -> Result<Vec<u8>, AllocError> {
-    let lines = repeated(alloc, line, times)?;
-    joined(alloc, &[BEGUN, lines.as_slice(), b"ok\nbQ -wS1\nok\n"])
+fn told(alloc: Global, line: &[u8], times: usize) -> Result<Vec<u8>, AllocError> {
+    let lines = line.repeat(alloc, times)?;
+    [BEGUN, lines.as_slice(), b"ok\nbQ -wS1\nok\n"].concat(alloc)
 }
 
 #[test]
@@ -111,9 +91,9 @@ fn a_reply_to_a_move_is_not_looked_at(rt: HostRuntime) -> Result<(), Fail> {
     let alloc = rt.alloc();
     let illegal = b"forfeit black illegal bQ -wS1\n".as_slice();
     let text = told(alloc, b"Base;Draw;White[9];bA1\n".as_slice(), 1)?;
-    expect_verdict(&rt, alloc, sound(text.as_slice(), 4096), illegal)?;
+    expect_verdict(&rt, alloc, MemSetting::of(text.as_slice()), illegal)?;
     let text = told(alloc, b"y\n".as_slice(), 1000)?;
-    expect_verdict(&rt, alloc, sound(text.as_slice(), 4096), illegal)?;
+    expect_verdict(&rt, alloc, MemSetting::of(text.as_slice()), illegal)?;
     Ok(())
 }
 
@@ -121,10 +101,11 @@ fn a_reply_to_a_move_is_not_looked_at(rt: HostRuntime) -> Result<(), Fail> {
 fn a_reply_to_a_move_is_no_flood(rt: HostRuntime) -> Result<(), Fail> {
     let alloc = rt.alloc();
     let text = told(alloc, b"y\n".as_slice(), 1001)?;
-    let seen = play_deep(alloc, sound(WHITE, 4096), sound(text.as_slice(), 4096))?;
-    let told = joined(alloc, &[GAME, b"forfeit black flood 1001\n".as_slice()])?;
+    let black = MemSetting::of(text.as_slice());
+    let seen = play_deep(alloc, MemSetting::of(WHITE), black)?;
+    let told = [GAME, b"forfeit black flood 1001\n".as_slice()].concat(alloc)?;
     assert_eq!(rt; seen.status, Status::Done);
     assert_eq!(rt; seen.output.bytes(), told.as_slice());
-    assert_eq!(rt; sent(&seen, 1), b"newgame Base\nplay wS1\n".as_slice());
+    assert_eq!(rt; seen.sent(1), b"newgame Base\nplay wS1\n".as_slice());
     Ok(())
 }

@@ -1,20 +1,21 @@
 //! Starts, reads and writes that fail.
 
 use super::{
-    BLACK, DEPTH_ONE, ILLEGAL, Says, Seen, TO_BLACK, TO_WHITE, WHITE, play_deep, play_with, sent,
-    sound, spawner_of,
+    BLACK, DEPTH_ONE, ILLEGAL, TO_BLACK, TO_WHITE, WHITE, in_sevens, play_deep, play_with,
 };
 use command_runs::Status;
 use hive_model::Colour;
 use io_edge::StepClock;
+use memory_sides::{MemSetting, Played, links_of, spawner_of};
 use std::alloc::{AllocError, Global};
 use std::process::Abort;
 use std::test::Fail;
 
 /// Plays the match in which the start of this number fails, or the write of the output of this
 /// number.
-fn play_failing(alloc: Global, start: u64, write: u64) -> Result<Seen, AllocError> {
-    let spawner = spawner_of(alloc, sound(WHITE, 7), sound(BLACK, 7), start)?;
+fn play_failing(alloc: Global, start: u64, write: u64) -> Result<Played<Status>, AllocError> {
+    let links = links_of(alloc, &[in_sevens(WHITE), in_sevens(BLACK)])?;
+    let spawner = spawner_of(alloc, links, start)?;
     play_with(alloc, spawner, DEPTH_ONE, &mut StepClock::new(0, 1), write)
 }
 
@@ -28,7 +29,7 @@ fn a_program_does_not_start(rt: HostRuntime) -> Result<(), Fail> {
     assert_eq!(rt; seen.status, Status::SpawnFault);
     assert!(rt; seen.output.bytes().is_empty());
     assert_eq!(rt; seen.spawner.closed().len(), 1);
-    assert!(rt; sent(&seen, 0).is_empty());
+    assert!(rt; seen.sent(0).is_empty());
     Ok(())
 }
 
@@ -57,16 +58,6 @@ fn tells_broke(text: &[u8], side: &[u8]) -> bool {
     }
 }
 
-/// What a side says of which one call fails, in pieces of four bytes.
-fn failing(text: &[u8], failing_read: u64, failing_write: u64) -> Says<'_> {
-    Says {
-        text,
-        piece: 4,
-        failing_read,
-        failing_write,
-    }
-}
-
 /// Plays the match in which this call of a side's link fails: the side breaks, and both sides are
 /// sent a front of what they would be sent.
 fn expect_broke<R: Abort>(
@@ -76,21 +67,28 @@ fn expect_broke<R: Abort>(
     read: u64,
     write: u64,
 ) -> Result<(), AllocError> {
-    let (seen, verdict) = match side {
+    let (white, black) = (
+        MemSetting::of(WHITE).cut(&[4]),
+        MemSetting::of(BLACK).cut(&[4]),
+    );
+    let (white, black, verdict) = match side {
         Colour::White => (
-            play_deep(alloc, failing(WHITE, read, write), sound(BLACK, 4))?,
+            white.failing(read, write),
+            black,
             b"forfeit white broke\n".as_slice(),
         ),
         Colour::Black => (
-            play_deep(alloc, sound(WHITE, 4), failing(BLACK, read, write))?,
+            white,
+            black.failing(read, write),
             b"forfeit black broke\n".as_slice(),
         ),
     };
+    let seen = play_deep(alloc, white, black)?;
     assert_eq!(rt; seen.status, Status::Done);
     assert!(rt; tells_broke(seen.output.bytes(), verdict));
     assert_eq!(rt; seen.spawner.closed().len(), 2);
-    assert!(rt; TO_WHITE.starts_with(sent(&seen, 0)));
-    assert!(rt; TO_BLACK.starts_with(sent(&seen, 1)));
+    assert!(rt; TO_WHITE.starts_with(seen.sent(0)));
+    assert!(rt; TO_BLACK.starts_with(seen.sent(1)));
     Ok(())
 }
 
@@ -135,12 +133,16 @@ fn a_link_fails(rt: HostRuntime) -> Result<(), Fail> {
 
 #[test]
 fn a_link_has_no_more_calls(rt: HostRuntime) -> Result<(), Fail> {
-    let white = failing(WHITE, WHITE_READS + 1, WRITES + 1);
-    let black = failing(BLACK, BLACK_READS + 1, WRITES + 1);
+    let white = MemSetting::of(WHITE)
+        .cut(&[4])
+        .failing(WHITE_READS + 1, WRITES + 1);
+    let black = MemSetting::of(BLACK)
+        .cut(&[4])
+        .failing(BLACK_READS + 1, WRITES + 1);
     let seen = play_deep(rt.alloc(), white, black)?;
     assert_eq!(rt; seen.status, Status::Done);
     assert_eq!(rt; seen.output.bytes(), ILLEGAL);
-    assert_eq!(rt; sent(&seen, 0), TO_WHITE);
-    assert_eq!(rt; sent(&seen, 1), TO_BLACK);
+    assert_eq!(rt; seen.sent(0), TO_WHITE);
+    assert_eq!(rt; seen.sent(1), TO_BLACK);
     Ok(())
 }

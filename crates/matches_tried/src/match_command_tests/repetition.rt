@@ -1,12 +1,12 @@
 //! A match whose last position stands for the third time.
 ghost use Rattle.match_core.specs.Keeps.{IsSetup};
 
-use super::{BASE, Seen, play_with, said_by, sound, spawner_of};
+use super::{BASE, in_sevens, play_with, said_by};
 use command_runs::Status;
 use io_edge::StepClock;
 use match_core::{Level, Setup};
+use memory_sides::{Played, links_of, spawner_of};
 use std::alloc::{AllocError, Global};
-use std::process::Abort;
 use std::test::Fail;
 
 /// Both queens leave their places and come back, twice.
@@ -42,17 +42,13 @@ const WITHOUT_RULE: Setup = Setup {
 };
 
 /// Plays that game.
-fn play_back(alloc: Global, setup: Setup) -> Result<Seen, AllocError>
+fn play_back(alloc: Global, setup: Setup) -> Result<Played<Status>, AllocError>
     requires { IsSetup setup }
 {
     let white = said_by(alloc, &BACK_TWICE, 0)?;
     let black = said_by(alloc, &BACK_TWICE, 1)?;
-    let spawner = spawner_of(
-        alloc,
-        sound(white.as_slice(), 7),
-        sound(black.as_slice(), 7),
-        0,
-    )?;
+    let said = [in_sevens(white.as_slice()), in_sevens(black.as_slice())];
+    let spawner = spawner_of(alloc, links_of(alloc, &said)?, 0)?;
     play_with(alloc, spawner, setup, &mut StepClock::new(0, 1), 0)
 }
 

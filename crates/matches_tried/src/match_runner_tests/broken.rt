@@ -1,10 +1,8 @@
 //! Matches of which a read or a write fails.
 
-use super::{
-    BLACK, Ending, Faults, NONE, TO_BLACK, TO_WHITE, WHITE, ends_so, is_ending, link_of, played,
-    said,
-};
+use super::{BLACK, Ending, TO_BLACK, TO_WHITE, WHITE, ends_so, is_ending, played, said};
 use hive_model::Colour;
+use memory_sides::MemSetting;
 use std::alloc::{AllocError, Global};
 use std::test::Fail;
 
@@ -24,24 +22,25 @@ const WHITE_BROKE: Ending = Ending {
 
 #[test]
 fn a_read_that_fails_breaks_its_side(rt: HostRuntime) -> Result<(), Fail> {
-    let faults = Faults { read: 2, write: 0 };
-    let mut black = link_of(rt.alloc(), BLACK, 4096, faults)?;
+    let mut black = MemSetting::of(BLACK).failing(2, 0).link(rt.alloc())?;
     let holds = ends_so(rt.alloc(), &mut black, BLACK_BROKE)?;
     assert!(rt; holds, "at the second read");
     Ok(())
 }
 
-/// Whether the match that an illegal move ends, with these faults, ends so, fronts of the lines
-/// being sent.
+/// Whether the match that an illegal move ends, where the read and the write of these numbers fail
+/// of white's link, and of black's, ends so, fronts of the lines being sent.
 fn fails_so(
     alloc: Global,
-    white: Faults,
-    black: Faults,
+    white: (u64, u64),
+    black: (u64, u64),
     ending: Ending,
 ) -> Result<bool, AllocError> {
     let text = said(alloc, "bQ -wS1\n", 1, "ok\n")?;
-    let mut white = link_of(alloc, WHITE, 7, white)?;
-    let mut black = link_of(alloc, text.as_slice(), 7, black)?;
+    let setting = MemSetting::of(WHITE).cut(&[7]);
+    let mut white = setting.failing(white.0, white.1).link(alloc)?;
+    let setting = MemSetting::of(text.as_slice()).cut(&[7]);
+    let mut black = setting.failing(black.0, black.1).link(alloc)?;
     let referee = played(alloc, &mut white, &mut black)?;
     Ok(
         is_ending(referee.verdict(), ending)
@@ -53,11 +52,7 @@ fn fails_so(
 #[test]
 fn a_read_of_white_breaks_white(rt: HostRuntime) -> Result<(), Fail> {
     for call in 1..5u64 {
-        let faults = Faults {
-            read: call,
-            write: 0,
-        };
-        let holds = fails_so(rt.alloc(), faults, NONE, WHITE_BROKE)?;
+        let holds = fails_so(rt.alloc(), (call, 0), (0, 0), WHITE_BROKE)?;
         assert!(rt; holds, "at read {call}");
     }
     Ok(())
@@ -66,11 +61,7 @@ fn a_read_of_white_breaks_white(rt: HostRuntime) -> Result<(), Fail> {
 #[test]
 fn a_write_of_white_breaks_white(rt: HostRuntime) -> Result<(), Fail> {
     for call in 1..5u64 {
-        let faults = Faults {
-            read: 0,
-            write: call,
-        };
-        let holds = fails_so(rt.alloc(), faults, NONE, WHITE_BROKE)?;
+        let holds = fails_so(rt.alloc(), (0, call), (0, 0), WHITE_BROKE)?;
         assert!(rt; holds, "at write {call}");
     }
     Ok(())
@@ -79,11 +70,7 @@ fn a_write_of_white_breaks_white(rt: HostRuntime) -> Result<(), Fail> {
 #[test]
 fn a_read_of_black_breaks_black(rt: HostRuntime) -> Result<(), Fail> {
     for call in 1..5u64 {
-        let faults = Faults {
-            read: call,
-            write: 0,
-        };
-        let holds = fails_so(rt.alloc(), NONE, faults, BLACK_BROKE)?;
+        let holds = fails_so(rt.alloc(), (0, 0), (call, 0), BLACK_BROKE)?;
         assert!(rt; holds, "at read {call}");
     }
     Ok(())
@@ -92,11 +79,7 @@ fn a_read_of_black_breaks_black(rt: HostRuntime) -> Result<(), Fail> {
 #[test]
 fn a_write_of_black_breaks_black(rt: HostRuntime) -> Result<(), Fail> {
     for call in 1..5u64 {
-        let faults = Faults {
-            read: 0,
-            write: call,
-        };
-        let holds = fails_so(rt.alloc(), NONE, faults, BLACK_BROKE)?;
+        let holds = fails_so(rt.alloc(), (0, 0), (0, call), BLACK_BROKE)?;
         assert!(rt; holds, "at write {call}");
     }
     Ok(())
@@ -104,16 +87,12 @@ fn a_write_of_black_breaks_black(rt: HostRuntime) -> Result<(), Fail> {
 
 #[test]
 fn a_fault_that_does_not_come_breaks_none(rt: HostRuntime) -> Result<(), Fail> {
-    let faults = Faults {
-        read: 99,
-        write: 99,
-    };
     let ending = Ending {
         side: Colour::Black,
         cause: "illegal",
         line: "bQ -wS1",
     };
-    let holds = fails_so(rt.alloc(), faults, faults, ending)?;
+    let holds = fails_so(rt.alloc(), (99, 99), (99, 99), ending)?;
     assert!(rt; holds, "at no fault");
     Ok(())
 }

@@ -1,10 +1,11 @@
 //! Matches in a time, by the readings of a clock.
 
-use super::{BASE, BLACK, NONE, WHITE, link_of};
+use super::{BASE, BLACK, WHITE};
 use hive_model::{Colour, Game};
 use io_edge::MemClock;
 use match_core::{Cause, Level, Referee, Setup, Verdict};
 use match_runner::run_match;
+use memory_sides::MemSetting;
 use plain_game::PlainGame;
 use std::alloc::{AllocError, Global};
 use std::test::Fail;
@@ -21,8 +22,8 @@ const IN_A_SECOND: Setup = Setup {
 
 /// Runs a match of one ply in a second by these readings of a clock.
 fn timed(alloc: Global, readings: &[u64]) -> Result<Referee<PlainGame>, AllocError> {
-    let mut white = link_of(alloc, WHITE, 7, NONE)?;
-    let mut black = link_of(alloc, BLACK, 7, NONE)?;
+    let mut white = MemSetting::of(WHITE).cut(&[7]).link(alloc)?;
+    let mut black = MemSetting::of(BLACK).cut(&[7]).link(alloc)?;
     let mut clock = MemClock::new(Vec::from_slice(alloc, readings)?);
     run_match(alloc, &mut white, &mut black, &mut clock, IN_A_SECOND)
 }

@@ -1,7 +1,8 @@
 //! Each command by its words, once.
 
-use crate::tests::{Setting, expect_run};
-use hive_cli::Status;
+use crate::tests::expect_run;
+use hive_cli::Status::{self, BadInput, Done, SpawnFault, Usage};
+use memory_sides::MemSetting;
 use std::test::Fail;
 
 /// A certificate of the opening's best move, two plies deep.
@@ -23,57 +24,42 @@ const GROWN: &str =
 
 /// Words, an input, the status with which the run of them ends, and what it writes.
 const COMMANDS: [(&[&str], &str, Status, &str); 18] = [
-    (
-        &["certify", "--depth", "2"],
-        "Base\n",
-        Status::Done,
-        CERTIFICATE,
-    ),
-    (
-        &["certify", "--depth=2"],
-        "",
-        Status::BadInput,
-        "bad no line\n",
-    ),
-    (&["check"], CERTIFICATE, Status::Done, "accepted\n"),
-    (&["check"], SOLUTION, Status::BadInput, "bad line 1\n"),
-    (&["solve", "--plies", "2"], "Base\n", Status::Done, SOLUTION),
-    (&["verify"], SOLUTION, Status::Done, "accepted\n"),
-    (&["verify"], CERTIFICATE, Status::BadInput, "bad line 1\n"),
-    (
-        &["grow", "--seed", "0", "--plies", "1"],
-        "x\n",
-        Status::Done,
-        GROWN,
-    ),
-    (&["grow", "1"], "", Status::Usage, ""),
+    (&["certify", "--depth", "2"], "Base\n", Done, CERTIFICATE),
+    (&["certify", "--depth=2"], "", BadInput, "bad no line\n"),
+    (&["check"], CERTIFICATE, Done, "accepted\n"),
+    (&["check"], SOLUTION, BadInput, "bad line 1\n"),
+    (&["solve", "--plies", "2"], "Base\n", Done, SOLUTION),
+    (&["verify"], SOLUTION, Done, "accepted\n"),
+    (&["verify"], CERTIFICATE, BadInput, "bad line 1\n"),
+    (&["grow", "--seed", "0", "--plies", "1"], "x\n", Done, GROWN),
+    (&["grow", "1"], "", Usage, ""),
     (
         &["match", "--white", "a", "--black", "b"],
         "",
-        Status::SpawnFault,
+        SpawnFault,
         "",
     ),
-    (&["match", "--white", "a"], "", Status::Usage, ""),
+    (&["match", "--white", "a"], "", Usage, ""),
     (
         &["audit", "--engine", "a", "--games", "1", "--seed", "0"],
         "",
-        Status::SpawnFault,
+        SpawnFault,
         "",
     ),
-    (&["audit", "--engine", "a"], "", Status::Usage, ""),
-    (&["migrate"], CERTIFICATE, Status::Done, CITING),
-    (&["check"], CITING, Status::Done, "accepted\n"),
-    (&["migrate"], CITING, Status::BadInput, "bad line 1\n"),
+    (&["audit", "--engine", "a"], "", Usage, ""),
+    (&["migrate"], CERTIFICATE, Done, CITING),
+    (&["check"], CITING, Done, "accepted\n"),
+    (&["migrate"], CITING, BadInput, "bad line 1\n"),
     (
         &["book"],
         "Base\nBase;InProgress;White[2];wS1;bA1 wS1-\n",
-        Status::Done,
+        Done,
         "book wS1 1\n",
     ),
     (
         &["book"],
         "Base\nBase;Draw;Black[1];wS1\n",
-        Status::BadInput,
+        BadInput,
         "bad line 2\n",
     ),
 ];
@@ -81,14 +67,8 @@ const COMMANDS: [(&[&str], &str, Status, &str); 18] = [
 #[test]
 fn each_command_answers(rt: HostRuntime) -> Result<(), Fail> {
     for (words, input, status, written) in COMMANDS {
-        let setting = Setting {
-            words,
-            input: input.as_bytes(),
-            pieces: &[],
-            failing_read: 0,
-            failing_write: 0,
-        };
-        expect_run(&rt, rt.alloc(), setting, status, written.as_bytes())?;
+        let setting = MemSetting::of(input.as_bytes());
+        expect_run(&rt, rt.alloc(), words, setting, status, written)?;
     }
     Ok(())
 }

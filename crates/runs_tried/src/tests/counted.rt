@@ -1,7 +1,8 @@
 //! Counts of lists of legal moves, input that is no game to count, and words that ask for no count.
 
-use crate::tests::{Setting, expect_run};
-use hive_cli::Status;
+use crate::tests::expect_run;
+use hive_cli::Status::{self, BadInput, Done, ReadFault, Usage, WriteFault};
+use memory_sides::{CUTS, MemSetting};
 use std::alloc::{AllocError, Global};
 use std::process::Abort;
 use std::test::Fail;
@@ -16,23 +17,20 @@ const DRAW: &str = concat!(
     "bG1 bS1-;wB1 wG1\\;bB1 bQ-;wA1 -wB1;bA1 bQ\\;wA1 wQ\\\n",
 );
 
+/// What asks for the counts of up to two plies.
+const TWO_PLIES: [&str; 3] = ["count", "--plies", "2"];
+
 /// A run, in which no call fails, that asks for counts of up to two plies.
 fn expect_counts<R: Threads + Sync + Abort>(
     rt: &R,
     alloc: Global,
-    input: &[u8],
+    input: &str,
     status: Status,
     written: &str,
 ) -> Result<(), AllocError> {
-    for pieces in [[].as_slice(), [1].as_slice(), [7].as_slice()] {
-        let setting = Setting {
-            words: &["count", "--plies", "2"],
-            input,
-            pieces,
-            failing_read: 0,
-            failing_write: 0,
-        };
-        expect_run(rt, alloc, setting, status, written.as_bytes())?;
+    for pieces in CUTS {
+        let setting = MemSetting::of(input.as_bytes()).cut(pieces);
+        expect_run(rt, alloc, &TWO_PLIES, setting, status, written)?;
     }
     Ok(())
 }
@@ -43,14 +41,9 @@ fn lists_of_four_plies_are_counted(rt: HostRuntime) -> Result<(), Fail> {
         ("Base\n", COUNTS),
         ("Base+MLP\n", "1 7\n2 294\n3 6678\n4 151686\n"),
     ] {
-        let setting = Setting {
-            words: &["count", "--plies", "4"],
-            input: game.as_bytes(),
-            pieces: &[],
-            failing_read: 0,
-            failing_write: 0,
-        };
-        expect_run(&rt, rt.alloc(), setting, Status::Done, written.as_bytes())?;
+        let words = ["count", "--plies", "4"];
+        let setting = MemSetting::of(game.as_bytes());
+        expect_run(&rt, rt.alloc(), &words, setting, Done, written)?;
     }
     Ok(())
 }
@@ -65,7 +58,7 @@ const BEGUN: [(&str, &str); 3] = [
 #[test]
 fn counts_begin_after_the_moves_of_the_game(rt: HostRuntime) -> Result<(), Fail> {
     for (input, written) in BEGUN {
-        expect_counts(&rt, rt.alloc(), input.as_bytes(), Status::Done, written)?;
+        expect_counts(&rt, rt.alloc(), input, Done, written)?;
     }
     Ok(())
 }
@@ -88,49 +81,31 @@ const BAD_INPUTS: [(&str, &str); 8] = [
 #[test]
 fn bad_input_is_named(rt: HostRuntime) -> Result<(), Fail> {
     for (input, written) in BAD_INPUTS {
-        expect_counts(&rt, rt.alloc(), input.as_bytes(), Status::BadInput, written)?;
+        expect_counts(&rt, rt.alloc(), input, BadInput, written)?;
     }
     Ok(())
 }
 
 #[test]
 fn a_game_may_be_too_long(rt: HostRuntime) -> Result<(), Fail> {
-    let line = vec![in rt.alloc(); b'a'; 65537]?;
-    expect_counts(
-        &rt,
-        rt.alloc(),
-        line.as_slice(),
-        Status::BadInput,
-        "bad line too long\n",
-    )?;
-    let mut game = Vec::from_slice(rt.alloc(), b"Base;InProgress;White[2501]")?;
-    for _ in 0..5001 {
-        game.extend_from_slice(b";wS1")?;
+    let alloc = rt.alloc();
+    let line = "a".repeat(alloc, 65537)?;
+    let moves = ";wS1".repeat(alloc, 5001)?;
+    let game = ["Base;InProgress;White[2501]", moves.as_str()].concat(alloc)?;
+    for (input, written) in [
+        (line.as_str(), "bad line too long\n"),
+        (game.as_str(), "bad too many plies\n"),
+    ] {
+        expect_counts(&rt, alloc, input, BadInput, written)?;
     }
-    expect_counts(
-        &rt,
-        rt.alloc(),
-        game.as_slice(),
-        Status::BadInput,
-        "bad too many plies\n",
-    )?;
     Ok(())
 }
 
 #[test]
 fn an_option_is_written_in_one_word_or_in_two(rt: HostRuntime) -> Result<(), Fail> {
-    for words in [
-        ["count", "--plies=2"].as_slice(),
-        ["count", "--plies", "2"].as_slice(),
-    ] {
-        let setting = Setting {
-            words,
-            input: b"Base\n".as_slice(),
-            pieces: &[],
-            failing_read: 0,
-            failing_write: 0,
-        };
-        expect_run(&rt, rt.alloc(), setting, Status::Done, b"1 4\n2 96\n")?;
+    for words in [["count", "--plies=2"].as_slice(), TWO_PLIES.as_slice()] {
+        let setting = MemSetting::of(b"Base\n");
+        expect_run(&rt, rt.alloc(), words, setting, Done, "1 4\n2 96\n")?;
     }
     Ok(())
 }
@@ -155,14 +130,8 @@ const OTHER_WORDS: [&[&str]; 13] = [
 #[test]
 fn other_words_ask_for_no_count(rt: HostRuntime) -> Result<(), Fail> {
     for words in OTHER_WORDS {
-        let setting = Setting {
-            words,
-            input: b"Base\n".as_slice(),
-            pieces: &[],
-            failing_read: 1,
-            failing_write: 1,
-        };
-        expect_run(&rt, rt.alloc(), setting, Status::Usage, b"")?;
+        let setting = MemSetting::of(b"Base\n").failing(1, 1);
+        expect_run(&rt, rt.alloc(), words, setting, Usage, "")?;
     }
     Ok(())
 }
@@ -171,15 +140,11 @@ fn other_words_ask_for_no_count(rt: HostRuntime) -> Result<(), Fail> {
 fn a_failed_read_ends_a_count(rt: HostRuntime) -> Result<(), Fail> {
     // five bytes, and the read that finds the end
     for (piece, reads) in [(1, 6), (7, 2)] {
-        for failing_read in 1..=reads {
-            let setting = Setting {
-                words: &["count", "--plies", "2"],
-                input: b"Base\n".as_slice(),
-                pieces: &[piece],
-                failing_read,
-                failing_write: 0,
-            };
-            expect_run(&rt, rt.alloc(), setting, Status::ReadFault, b"")?;
+        let sizes = [piece];
+        let setting = MemSetting::of(b"Base\n").cut(&sizes);
+        for read in 1..=reads {
+            let failing = setting.failing(read, 0);
+            expect_run(&rt, rt.alloc(), &TWO_PLIES, failing, ReadFault, "")?;
         }
     }
     Ok(())
@@ -196,21 +161,11 @@ const CUT: [(&str, usize, u64, &str); 5] = [
 
 #[test]
 fn a_failed_write_ends_a_count(rt: HostRuntime) -> Result<(), Fail> {
-    for (input, piece, failing_write, written) in CUT {
-        let setting = Setting {
-            words: &["count", "--plies", "2"],
-            input: input.as_bytes(),
-            pieces: &[piece],
-            failing_read: 0,
-            failing_write,
-        };
-        expect_run(
-            &rt,
-            rt.alloc(),
-            setting,
-            Status::WriteFault,
-            written.as_bytes(),
-        )?;
+    for (input, piece, write, written) in CUT {
+        let sizes = [piece];
+        let setting = MemSetting::of(input.as_bytes()).cut(&sizes);
+        let failing = setting.failing(0, write);
+        expect_run(&rt, rt.alloc(), &TWO_PLIES, failing, WriteFault, written)?;
     }
     Ok(())
 }

@@ -1,6 +1,6 @@
 //! Matches with a time, by the words that ask for them and the readings of a clock.
 
-use crate::tests::programs::{run_over, sent};
+use crate::tests::programs::run_over;
 use hive_cli::Status;
 use io_edge::MemClock;
 use std::alloc::{AllocError, Global};
@@ -75,11 +75,11 @@ fn expect_case<R: Threads + Sync + Abort>(
         case.plies,
     ];
     let mut clock = MemClock::new(Vec::from_slice(alloc, case.readings)?);
-    let played = run_over(rt, alloc, &words, &[WHITE, BLACK], 0, &mut clock)?;
+    let played = run_over(rt, alloc, &words, "", &[WHITE, BLACK], 0, &mut clock)?;
     assert_eq!(rt; played.status, Status::Done);
     assert_eq!(rt; played.output.bytes(), case.written);
-    assert_eq!(rt; sent(&played, 0), case.to_white);
-    assert_eq!(rt; sent(&played, 1), case.to_black);
+    assert_eq!(rt; played.sent(0), case.to_white);
+    assert_eq!(rt; played.sent(1), case.to_black);
     Ok(())
 }
 

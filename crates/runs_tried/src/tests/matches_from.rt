@@ -1,6 +1,6 @@
 //! Matches that begin with the game of the input, over programs that stand in memory.
 
-use crate::tests::programs::{run_over_input, sent};
+use crate::tests::programs::run_over;
 use hive_cli::Status;
 use io_edge::StepClock;
 use std::test::Fail;
@@ -11,7 +11,7 @@ const WORDS: [&str; 11] = [
 ];
 
 /// A game of four plies.
-const GIVEN: &[u8] = b"Base+MLP;InProgress;White[3];wS1;bS1 wS1-;wQ /wS1;bQ bS1-\n";
+const GIVEN: &str = "Base+MLP;InProgress;White[3];wS1;bS1 wS1-;wQ /wS1;bQ bS1-\n";
 
 /// What white says: it greets, begins, plays beside its queen, and hears of both moves.
 const WHITE: &[u8] = b"id A\nok\nx\nok\nwA1 /wQ\nok\nx\nok\nx\nok\n";
@@ -33,11 +33,11 @@ const TO_BLACK: &[u8] = b"newgame Base+MLP;InProgress;White[3];wS1;bS1 wS1-;wQ /
 fn a_match_begins_with_the_game_of_the_input(rt: HostRuntime) -> Result<(), Fail> {
     let said = [WHITE, BLACK];
     let mut clock = StepClock::new(0, 1);
-    let played = run_over_input(&rt, rt.alloc(), &WORDS, GIVEN, &said, 0, &mut clock)?;
+    let played = run_over(&rt, rt.alloc(), &WORDS, GIVEN, &said, 0, &mut clock)?;
     assert_eq!(rt; played.status, Status::Done);
     assert_eq!(rt; played.output.bytes(), TOLD);
-    assert_eq!(rt; sent(&played, 0), TO_WHITE);
-    assert_eq!(rt; sent(&played, 1), TO_BLACK);
+    assert_eq!(rt; played.sent(0), TO_WHITE);
+    assert_eq!(rt; played.sent(1), TO_BLACK);
     Ok(())
 }
 
@@ -59,11 +59,10 @@ fn no_match_begins_without_a_game_that_goes_on(rt: HostRuntime) -> Result<(), Fa
     for (input, written) in REFUSED {
         let said = [WHITE, BLACK];
         let mut clock = StepClock::new(0, 1);
-        let bytes = input.as_bytes();
-        let played = run_over_input(&rt, rt.alloc(), &WORDS, bytes, &said, 0, &mut clock)?;
+        let played = run_over(&rt, rt.alloc(), &WORDS, input, &said, 0, &mut clock)?;
         assert_eq!(rt; played.status, Status::BadInput);
         assert_eq!(rt; played.output.bytes(), written.as_bytes());
-        assert_eq!(rt; sent(&played, 0), b"none was closed".as_slice());
+        assert_eq!(rt; played.sent(0), b"none was closed".as_slice());
     }
     Ok(())
 }

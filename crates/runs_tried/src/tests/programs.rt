@@ -1,47 +1,27 @@
 //! Matches and cups by the words that ask for them, over programs that stand in memory.
 
-use crate::tests::{Played, play, sink_of, source_of, spawner_of};
+use crate::tests::play;
 use hive_cli::Status;
 use io_edge::{Clock, StepClock};
+use memory_sides::{MemSetting, Played, links_saying, spawner_of};
 use std::alloc::{AllocError, Global};
 use std::test::Fail;
 use std::thread::Threads;
 
-/// What was sent to the closed link of this number, where there is one.
-pub(super) fn sent(played: &Played, number: usize) -> &[u8] {
-    match played.spawner.closed().get(number) {
-        Some(link) => link.sent(),
-        None => b"none was closed".as_slice(),
-    }
-}
-
-/// Runs these words by this clock, with no input, over programs that say this, in the order of
+/// Runs these words by this clock, with this input, over programs that say this, in the order of
 /// their starts; the start of this number fails (0: none fails).
 pub(super) fn run_over<R: Threads + Sync, C: Clock>(
     rt: &R,
     alloc: Global,
     words: &[&str],
+    input: &str,
     said: &[&[u8]],
     failing_start: u64,
     clock: &mut C,
-) -> Result<Played, AllocError> {
-    run_over_input(rt, alloc, words, b"".as_slice(), said, failing_start, clock)
-}
-
-/// The same with this input.
-pub(super) fn run_over_input<R: Threads + Sync, C: Clock>(
-    rt: &R,
-    alloc: Global,
-    words: &[&str],
-    input: &[u8],
-    said: &[&[u8]],
-    failing_start: u64,
-    clock: &mut C,
-) -> Result<Played, AllocError> {
-    let source = source_of(alloc, input, &[], 0)?;
-    let sink = sink_of(alloc, &[], 0)?;
-    let spawner = spawner_of(alloc, said, failing_start)?;
-    play(rt, alloc, words, source, sink, clock, spawner)
+) -> Result<Played<Status>, AllocError> {
+    let spawner = spawner_of(alloc, links_saying(alloc, said)?, failing_start)?;
+    let setting = MemSetting::of(input.as_bytes());
+    play(rt, alloc, words, setting, clock, spawner)
 }
 
 /// What the programs of a cup of two engines say, in the order of their starts: in the second game
@@ -62,7 +42,7 @@ const TOLD: &[u8] = b"game 1 2 Base;InProgress;Black[1];wS1\nverdict 1 2 limit 1
 fn a_cup_is_asked_for_by_its_words(rt: HostRuntime) -> Result<(), Fail> {
     let one_ply = ["cup", "--engines", "a;b", "--depth", "1", "--plies", "1"].as_slice();
     let nothing = [].as_slice();
-    for (words, failing_start, status, written) in [
+    for (words, start, status, written) in [
         (one_ply, 0, Status::Done, TOLD),
         (one_ply, 3, Status::SpawnFault, nothing),
         (
@@ -79,7 +59,7 @@ fn a_cup_is_asked_for_by_its_words(rt: HostRuntime) -> Result<(), Fail> {
         ),
     ] {
         let mut clock = StepClock::new(0, 1);
-        let played = run_over(&rt, rt.alloc(), words, &SAID, failing_start, &mut clock)?;
+        let played = run_over(&rt, rt.alloc(), words, "", &SAID, start, &mut clock)?;
         assert_eq!(rt; played.status, status);
         assert_eq!(rt; played.output.bytes(), written);
     }
@@ -123,7 +103,7 @@ fn a_match_knows_the_rule_that_its_words_ask_for(rt: HostRuntime) -> Result<(), 
     for (words, written) in [(drawn, DRAWN), (limited, LIMITED)] {
         let said = [white.as_slice(), black.as_slice()];
         let mut clock = StepClock::new(0, 1);
-        let played = run_over(&rt, rt.alloc(), words, &said, 0, &mut clock)?;
+        let played = run_over(&rt, rt.alloc(), words, "", &said, 0, &mut clock)?;
         assert_eq!(rt; played.status, Status::Done);
         assert_eq!(rt; played.output.bytes(), written);
     }
@@ -140,7 +120,8 @@ const ILL_PLAYED: [&[u8]; 2] = [
 #[test]
 fn a_match_is_asked_for_by_its_words(rt: HostRuntime) -> Result<(), Fail> {
     let words = ["match", "--white", "w", "--black", "b", "--depth", "1"];
-    for (failing_start, status, written, to_white, to_black) in [
+    let alloc = rt.alloc();
+    for (start, status, written, to_white, to_black) in [
         (
             0,
             Status::Done,
@@ -158,18 +139,11 @@ fn a_match_is_asked_for_by_its_words(rt: HostRuntime) -> Result<(), Fail> {
         (2, Status::SpawnFault, "", "", "none was closed"),
     ] {
         let mut clock = StepClock::new(0, 1);
-        let played = run_over(
-            &rt,
-            rt.alloc(),
-            &words,
-            &ILL_PLAYED,
-            failing_start,
-            &mut clock,
-        )?;
+        let played = run_over(&rt, alloc, &words, "", &ILL_PLAYED, start, &mut clock)?;
         assert_eq!(rt; played.status, status);
         assert_eq!(rt; played.output.bytes(), written.as_bytes());
-        assert_eq!(rt; sent(&played, 0), to_white.as_bytes());
-        assert_eq!(rt; sent(&played, 1), to_black.as_bytes());
+        assert_eq!(rt; played.sent(0), to_white.as_bytes());
+        assert_eq!(rt; played.sent(1), to_black.as_bytes());
     }
     Ok(())
 }

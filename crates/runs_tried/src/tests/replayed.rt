@@ -1,7 +1,8 @@
 //! Replays of a few lines.
 
-use crate::tests::{Setting, expect_run};
+use crate::tests::expect_run;
 use hive_cli::Status;
+use memory_sides::MemSetting;
 use std::test::Fail;
 
 /// A finished game, and a line that declares another state than that of its game.
@@ -37,15 +38,10 @@ const REPLAYS: [(&str, &[usize], u64, u64, Status, &str); 8] = [
 
 #[test]
 fn replays_write_an_answer_to_each_line(rt: HostRuntime) -> Result<(), Fail> {
-    for (input, pieces, failing_read, failing_write, status, written) in REPLAYS {
-        let setting = Setting {
-            words: &["replay"],
-            input: input.as_bytes(),
-            pieces,
-            failing_read,
-            failing_write,
-        };
-        expect_run(&rt, rt.alloc(), setting, status, written.as_bytes())?;
+    for (input, pieces, read, write, status, written) in REPLAYS {
+        let setting = MemSetting::of(input.as_bytes()).cut(pieces);
+        let failing = setting.failing(read, write);
+        expect_run(&rt, rt.alloc(), &["replay"], failing, status, written)?;
     }
     Ok(())
 }
@@ -75,14 +71,8 @@ const RULED: [(&[&str], &str, Status, &str); 6] = [
 #[test]
 fn replays_know_the_rule_that_they_are_asked_for(rt: HostRuntime) -> Result<(), Fail> {
     for (words, input, status, written) in RULED {
-        let setting = Setting {
-            words,
-            input: input.as_bytes(),
-            pieces: &[],
-            failing_read: 0,
-            failing_write: 0,
-        };
-        expect_run(&rt, rt.alloc(), setting, status, written.as_bytes())?;
+        let setting = MemSetting::of(input.as_bytes());
+        expect_run(&rt, rt.alloc(), words, setting, status, written)?;
     }
     Ok(())
 }

@@ -1,9 +1,9 @@
 //! Best moves of worked games.
 
-use crate::tests::{GREETING, Setting, expect_run, expect_session, joined, outcome_of};
+use crate::tests::{expect_session, expect_uhp, greeted, outcome_of};
 use hive_cli::Status;
 use hive_model::Timed;
-use io_edge::{MemSink, MemSource};
+use memory_sides::MemSetting;
 use std::alloc::{AllocError, Global};
 use std::test::Fail;
 use std::thread::Threads;
@@ -78,16 +78,11 @@ fn a_win_is_found_three_plies_deep(rt: HostRuntime) -> Result<(), Fail> {
         BEFORE_THE_WIN,
         ";wA1 wB1-\nok\nerr 8 game over\nok\n",
     ];
-    let input = joined(rt.alloc(), "", &lines)?;
-    let written = joined(rt.alloc(), GREETING, &replies)?;
-    let setting = Setting {
-        words: &["uhp"],
-        input: input.as_slice(),
-        pieces: &[],
-        failing_read: 0,
-        failing_write: 0,
-    };
-    expect_run(&rt, rt.alloc(), setting, Status::Done, written.as_slice())?;
+    let alloc = rt.alloc();
+    let input = lines.concat(alloc)?;
+    let setting = MemSetting::of(input.as_bytes());
+    let written = greeted(alloc, &replies)?;
+    expect_uhp(&rt, alloc, setting, Status::Done, written.as_bytes())?;
     Ok(())
 }
 
@@ -123,12 +118,9 @@ fn timed_session<R: Threads + Sync>(
     alloc: Global,
     lines: &str,
 ) -> Result<(Vec<Timed>, Vec<u8>), AllocError> {
-    let mut source = MemSource::new(
-        Vec::from_slice(alloc, lines.as_bytes())?,
-        Vec::new(alloc),
-        Vec::new(alloc),
-    );
-    let mut sink = MemSink::new(alloc, Vec::new(alloc), Vec::new(alloc));
+    let setting = MemSetting::of(lines.as_bytes());
+    let mut source = setting.source(alloc)?;
+    let mut sink = setting.sink(alloc)?;
     let outcome = outcome_of(rt, alloc, &["uhp"], &mut source, &mut sink)?;
     let entries = Vec::from_slice(alloc, outcome.timed.items())?;
     Ok((entries, Vec::from_slice(alloc, sink.bytes())?))
@@ -137,8 +129,8 @@ fn timed_session<R: Threads + Sync>(
 #[test]
 fn no_time_is_time_for_one_ply(rt: HostRuntime) -> Result<(), Fail> {
     let (entries, written) = timed_session(&rt, rt.alloc(), "newgame\nbestmove time 00:00:00\n")?;
-    let wanted = joined(rt.alloc(), GREETING, &[EMPTY, "wS1\nok\n"])?;
-    assert_eq!(rt; written.as_slice(), wanted.as_slice());
+    let wanted = greeted(rt.alloc(), &[EMPTY, "wS1\nok\n"])?;
+    assert_eq!(rt; written.as_slice(), wanted.as_bytes());
     assert_eq!(rt; entries.len(), 1);
     for entry in entries.iter() {
         assert_eq!(rt; entry.depth, 1);

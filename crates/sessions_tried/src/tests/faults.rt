@@ -1,7 +1,8 @@
 //! Reads and writes that fail in the midst of a session.
 
-use crate::tests::{GREETING, Setting, expect_run, expect_session, joined};
+use crate::tests::{GREETING, expect_session, expect_uhp, greeted};
 use hive_cli::Status;
+use memory_sides::MemSetting;
 use std::alloc::{AllocError, Global};
 use std::test::Fail;
 
@@ -39,7 +40,7 @@ fn talk_lines(alloc: Global) -> Result<Vec<u8>, AllocError> {
 /// What is written where so many bytes of the lines were read: the greeting, and the reply to each
 /// line whose LF is among them.
 fn written_for(alloc: Global, read: usize) -> Result<Vec<u8>, AllocError> {
-    let mut written = joined(alloc, GREETING, &[])?;
+    let mut written = Vec::from_slice(alloc, GREETING.as_bytes())?;
     let mut end: usize = 0;
     for (line, reply) in TALK {
         end = end.saturating_add(line.len()).saturating_add(1);
@@ -71,27 +72,18 @@ fn add_sizes(sizes: &mut Vec<usize>, length: usize, piece: usize) -> Result<(), 
 
 #[test]
 fn each_read_fails_in_turn(rt: HostRuntime) -> Result<(), Fail> {
-    let lines = talk_lines(rt.alloc())?;
+    let alloc = rt.alloc();
+    let lines = talk_lines(alloc)?;
     for piece in [1, 7] {
+        let sizes = [piece];
+        let setting = MemSetting::of(lines.as_slice()).cut(&sizes);
         // one read for each piece, and one that finds the end
         let reads = lines.len().div_ceil(piece) + 1;
         for number in 1..=reads {
             let read = lines.len().min((number - 1) * piece);
-            let written = written_for(rt.alloc(), read)?;
-            let setting = Setting {
-                words: &["uhp"],
-                input: lines.as_slice(),
-                pieces: &[piece],
-                failing_read: number as u64,
-                failing_write: 0,
-            };
-            expect_run(
-                &rt,
-                rt.alloc(),
-                setting,
-                Status::ReadFault,
-                written.as_slice(),
-            )?;
+            let written = written_for(alloc, read)?;
+            let failing = setting.failing(number as u64, 0);
+            expect_uhp(&rt, alloc, failing, Status::ReadFault, written.as_slice())?;
         }
     }
     Ok(())
@@ -99,22 +91,19 @@ fn each_read_fails_in_turn(rt: HostRuntime) -> Result<(), Fail> {
 
 #[test]
 fn each_write_fails_in_turn(rt: HostRuntime) -> Result<(), Fail> {
-    let lines = talk_lines(rt.alloc())?;
-    let all = written_for(rt.alloc(), lines.len())?;
+    let alloc = rt.alloc();
+    let lines = talk_lines(alloc)?;
+    let all = written_for(alloc, lines.len())?;
     for piece in [1, 7] {
+        let sizes = [piece];
+        let setting = MemSetting::of(lines.as_slice()).cut(&sizes);
         let mut taken: usize = 0;
         let mut number: u64 = 0;
-        for size in write_sizes(rt.alloc(), piece)? {
+        for size in write_sizes(alloc, piece)? {
             number = number.saturating_add(1);
-            let setting = Setting {
-                words: &["uhp"],
-                input: lines.as_slice(),
-                pieces: &[piece],
-                failing_read: 0,
-                failing_write: number,
-            };
+            let failing = setting.failing(0, number);
             let front = &all[..taken.min(all.len())];
-            expect_run(&rt, rt.alloc(), setting, Status::WriteFault, front)?;
+            expect_uhp(&rt, alloc, failing, Status::WriteFault, front)?;
             taken = taken.saturating_add(size);
         }
         assert_eq!(rt; taken, all.len());
@@ -124,23 +113,19 @@ fn each_write_fails_in_turn(rt: HostRuntime) -> Result<(), Fail> {
 
 #[test]
 fn a_fault_past_the_last_call_changes_nothing(rt: HostRuntime) -> Result<(), Fail> {
-    let lines = talk_lines(rt.alloc())?;
-    let all = written_for(rt.alloc(), lines.len())?;
+    let alloc = rt.alloc();
+    let lines = talk_lines(alloc)?;
+    let all = written_for(alloc, lines.len())?;
     for piece in [1, 7] {
+        let sizes = [piece];
+        let setting = MemSetting::of(lines.as_slice()).cut(&sizes);
         let reads = lines.len().div_ceil(piece) + 1;
-        let writes = write_sizes(rt.alloc(), piece)?.len();
+        let writes = write_sizes(alloc, piece)?.len();
         for past in 1..=3usize {
-            let failing_read = reads.saturating_add(past) as u64;
-            let failing_write = writes.saturating_add(past) as u64;
-            for (failing_read, failing_write) in [(failing_read, 0), (0, failing_write)] {
-                let setting = Setting {
-                    words: &["uhp"],
-                    input: lines.as_slice(),
-                    pieces: &[piece],
-                    failing_read,
-                    failing_write,
-                };
-                expect_run(&rt, rt.alloc(), setting, Status::Done, all.as_slice())?;
+            let read = reads.saturating_add(past) as u64;
+            let write = writes.saturating_add(past) as u64;
+            for failing in [setting.failing(read, 0), setting.failing(0, write)] {
+                expect_uhp(&rt, alloc, failing, Status::Done, all.as_slice())?;
             }
         }
     }
@@ -149,41 +134,21 @@ fn a_fault_past_the_last_call_changes_nothing(rt: HostRuntime) -> Result<(), Fai
 
 #[test]
 fn a_fault_past_exit_changes_nothing(rt: HostRuntime) -> Result<(), Fail> {
-    let written = joined(rt.alloc(), GREETING, &["Base;NotStarted;White[1]\nok\n"])?;
+    let written = greeted(rt.alloc(), &["Base;NotStarted;White[1]\nok\n"])?;
+    let setting = MemSetting::of(b"newgame\nexit\nvalidmoves\n");
     // one read gives both lines, and another one finds `exit` alone
-    for (pieces, failing_read, failing_write) in [
-        ([].as_slice(), 2, 3),
-        ([8, 5].as_slice(), 3, 100),
-    ] {
-        let setting = Setting {
-            words: &["uhp"],
-            input: b"newgame\nexit\nvalidmoves\n".as_slice(),
-            pieces,
-            failing_read,
-            failing_write,
-        };
-        expect_run(&rt, rt.alloc(), setting, Status::Done, written.as_slice())?;
+    for failing in [setting.failing(2, 3), setting.cut(&[8, 5]).failing(3, 100)] {
+        expect_uhp(&rt, rt.alloc(), failing, Status::Done, written.as_bytes())?;
     }
     Ok(())
 }
 
 #[test]
 fn a_read_fails_after_a_line(rt: HostRuntime) -> Result<(), Fail> {
-    let setting = Setting {
-        words: &["uhp"],
-        input: b"newgame\n".as_slice(),
-        pieces: &[8],
-        failing_read: 2,
-        failing_write: 0,
-    };
-    let written = joined(rt.alloc(), GREETING, &["Base;NotStarted;White[1]\nok\n"])?;
-    expect_run(
-        &rt,
-        rt.alloc(),
-        setting,
-        Status::ReadFault,
-        written.as_slice(),
-    )?;
+    let alloc = rt.alloc();
+    let failing = MemSetting::of(b"newgame\n").cut(&[8]).failing(2, 0);
+    let written = greeted(alloc, &["Base;NotStarted;White[1]\nok\n"])?;
+    expect_uhp(&rt, alloc, failing, Status::ReadFault, written.as_bytes())?;
     Ok(())
 }
 
@@ -196,15 +161,10 @@ fn what_follows_exit_is_not_answered(rt: HostRuntime) -> Result<(), Fail> {
 
 #[test]
 fn a_line_may_be_too_long(rt: HostRuntime) -> Result<(), Fail> {
-    let line = vec![in rt.alloc(); b'a'; 65537]?;
-    let written = joined(rt.alloc(), GREETING, &["err 10 line too long\nok\n"])?;
-    let setting = Setting {
-        words: &["uhp"],
-        input: line.as_slice(),
-        pieces: &[],
-        failing_read: 0,
-        failing_write: 0,
-    };
-    expect_run(&rt, rt.alloc(), setting, Status::Done, written.as_slice())?;
+    let alloc = rt.alloc();
+    let line = vec![in alloc; b'a'; 65537]?;
+    let written = greeted(alloc, &["err 10 line too long\nok\n"])?;
+    let setting = MemSetting::of(line.as_slice());
+    expect_uhp(&rt, alloc, setting, Status::Done, written.as_bytes())?;
     Ok(())
 }

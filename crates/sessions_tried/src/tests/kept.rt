@@ -1,8 +1,9 @@
 //! Lines that are refused leave no trace: what is asked after them is answered as in a session that
 //! never got them.
 
-use crate::tests::{GREETING, Setting, expect_run, joined, run_in_memory};
+use crate::tests::{expect_uhp, greeted, run_in_memory};
 use hive_cli::Status;
+use memory_sides::{CUTS, MemSetting};
 use std::alloc::{AllocError, Global};
 use std::process::Abort;
 use std::test::Fail;
@@ -40,16 +41,10 @@ fn written_for<R: Threads + Sync>(
     alloc: Global,
     lines: &[&str],
 ) -> Result<Vec<u8>, AllocError> {
-    let input = joined(alloc, "", lines)?;
-    let setting = Setting {
-        words: &["uhp"],
-        input: input.as_slice(),
-        pieces: &[],
-        failing_read: 0,
-        failing_write: 0,
-    };
-    let seen = run_in_memory(rt, alloc, setting)?;
-    Ok(seen.written)
+    let input = lines.concat(alloc)?;
+    let setting = MemSetting::of(input.as_bytes());
+    let (_, sink) = run_in_memory(rt, alloc, &["uhp"], setting)?;
+    Vec::from_slice(alloc, sink.bytes())
 }
 
 /// Gives lines, so many of those that are refused, from this one on, and what is asked at the end,
@@ -60,26 +55,18 @@ fn expect_no_trace<R: Threads + Sync + Abort>(
     talk: &Talk<'_>,
     refused: &[(&str, &str)],
 ) -> Result<(), AllocError> {
-    let mut input = joined(alloc, "", talk.before)?;
+    let mut input = talk.before.concat(alloc)?;
     let mut written = written_for(rt, alloc, talk.before)?;
     for (line, reply) in refused {
-        input.extend_from_slice(line.as_bytes())?;
+        input.push_str(line)?;
         written.extend_from_slice(reply.as_bytes())?;
         written.extend_from_slice(b"\nok\n".as_slice())?;
     }
-    input.extend_from_slice(talk.asked.as_bytes())?;
-    for text in talk.told {
-        written.extend_from_slice(text.as_bytes())?;
-    }
-    for pieces in [[1].as_slice(), [7].as_slice(), [].as_slice()] {
-        let setting = Setting {
-            words: &["uhp"],
-            input: input.as_slice(),
-            pieces,
-            failing_read: 0,
-            failing_write: 0,
-        };
-        expect_run(rt, alloc, setting, Status::Done, written.as_slice())?;
+    input.push_str(talk.asked)?;
+    written.extend_from_slice(talk.told.concat(alloc)?.as_bytes())?;
+    for pieces in CUTS {
+        let setting = MemSetting::of(input.as_bytes()).cut(pieces);
+        expect_uhp(rt, alloc, setting, Status::Done, written.as_slice())?;
     }
     Ok(())
 }
@@ -181,21 +168,14 @@ fn refused_lines_of_a_short_game_leave_no_trace(rt: HostRuntime) -> Result<(), F
 
 #[test]
 fn a_line_that_is_too_long_leaves_no_trace(rt: HostRuntime) -> Result<(), Fail> {
-    let letters = vec![in rt.alloc(); b'a'; 65537]?;
-    let mut input = joined(rt.alloc(), "newgame\n", &[])?;
-    input.extend_from_slice(letters.as_slice())?;
-    input.extend_from_slice(b"\noptions\nvalidmoves\n".as_slice())?;
+    let alloc = rt.alloc();
+    let letters = "a".repeat(alloc, 65537)?;
+    let input = ["newgame\n", letters.as_str(), "\noptions\nvalidmoves\n"].concat(alloc)?;
     let start = "Base;NotStarted;White[1]\nok\nerr 10 line too long\nok\n";
-    let written = joined(rt.alloc(), GREETING, &[start, OPTIONS, FIRSTS])?;
-    for pieces in [[7].as_slice(), [].as_slice()] {
-        let setting = Setting {
-            words: &["uhp"],
-            input: input.as_slice(),
-            pieces,
-            failing_read: 0,
-            failing_write: 0,
-        };
-        expect_run(&rt, rt.alloc(), setting, Status::Done, written.as_slice())?;
+    let written = greeted(alloc, &[start, OPTIONS, FIRSTS])?;
+    let setting = MemSetting::of(input.as_bytes());
+    for setting in [setting.cut(&[7]), setting] {
+        expect_uhp(&rt, alloc, setting, Status::Done, written.as_bytes())?;
     }
     Ok(())
 }

@@ -1,7 +1,8 @@
 //! Worked games, each with all that is written for it.
 
-use crate::tests::{Setting, expect_session, run_in_memory};
+use crate::tests::{expect_session, run_in_memory};
 use hive_cli::Status;
+use memory_sides::MemSetting;
 use std::test::Fail;
 
 const EMPTY: &str = "Base;NotStarted;White[1]\nok\n";
@@ -179,20 +180,11 @@ fn occurrences(bytes: &[u8], text: &[u8]) -> usize {
 
 #[test]
 fn each_move_is_listed_once(rt: HostRuntime) -> Result<(), Fail> {
-    let game = WALKED_OR_THROWN.as_bytes();
-    let mut input = Vec::from_slice(rt.alloc(), b"newgame ")?;
-    input.extend_from_slice(game)?;
-    input.extend_from_slice(b"\nvalidmoves\n")?;
-    let setting = Setting {
-        words: &["uhp"],
-        input: input.as_slice(),
-        pieces: &[],
-        failing_read: 0,
-        failing_write: 0,
-    };
-    let seen = run_in_memory(&rt, rt.alloc(), setting)?;
-    assert_eq!(rt; seen.status, Status::Done);
-    let written = seen.written.as_slice();
+    let input = ["newgame ", WALKED_OR_THROWN, "\nvalidmoves\n"].concat(rt.alloc())?;
+    let setting = MemSetting::of(input.as_bytes());
+    let (status, sink) = run_in_memory(&rt, rt.alloc(), &["uhp"], setting)?;
+    assert_eq!(rt; status, Status::Done);
+    let written = sink.bytes();
     // the game's own text has one move of the piece
     assert_eq!(rt; occurrences(written, b"wA1 "), 18);
     assert_eq!(rt; occurrences(written, MOVES_OF_THE_ANT.as_bytes()), 1);

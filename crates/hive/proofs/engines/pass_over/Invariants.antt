@@ -1,4 +1,0 @@
-use Rattle.hive.proofs.engines.pass_over.Given as goal
-
-abbrev pub decreases-loop-left : goal.decreases-loop-left
-decreases-loop-left g l = l.left
