@@ -17,15 +17,13 @@ from viewer import expect
 
 CRATES = "# a list\nlow: arrayvec\nhive: low # the program\nother: low\n"
 TOOL = """#!/usr/bin/env bash
-echo "$(basename "$PWD"): $*" >>"$CALLS"
-if [ "$1" = all ]; then
-    printf '== low\\nlogic=proved functions=1\\n== hive\\nlogic=proved functions=1\\n== summary\\nlow: ok\\n'
-    exit "${RT_ALL:-0}"
-fi
-[ -z "${RT_RUN:-}" ] || { echo "not proved: low"; exit 1; }
-mkdir -p out
-printf '#!/usr/bin/env bash\\necho "$$ $*"\\ncat\\n[ "${1-}" != wrong ] || { echo "hive: wrong command line" >&2; exit 2; }\\n' >out/hive
-chmod +x out/hive
+echo "$* over" $(find crates.txt HANDLES crates -type f | sort) >>"$CALLS"
+[ -z "${RT_FAILS:-}" ] || { echo "not proved: low"; exit 1; }
+printf '== low\\nlogic=proved functions=1\\nrt: low proved\\n'
+if [ -n "${RT_KEPT:-}" ]; then echo "rt: hive is kept: an earlier run proved it"; else echo "rt: hive proved"; fi
+mkdir -p crates/hive/out
+printf '#!/usr/bin/env bash\\necho "$$ $*"\\ncat\\n[ "${1-}" != wrong ] || { echo "hive: wrong command line" >&2; exit 2; }\\n' >crates/hive/out/hive
+chmod +x crates/hive/out/hive
 """
 
 
@@ -35,6 +33,8 @@ def a_copy(top, room):
     for name in ("low", "hive", "other"):
         (room / "top/crates" / name / "src").mkdir(parents=True)
         (room / "top/crates" / name / "src/lib.rt").write_text("fn f() {}\n")
+        (room / "top/crates" / name / "must-fail").mkdir()
+        (room / "top/crates" / name / "must-fail/f.edit").write_text("file: src/lib.rt\n")
     (room / "top/crates.txt").write_text(CRATES)
     (room / "top/HANDLES").write_text("Handles allowed: none.\n")
     shutil.copy(top / "hive", room / "top/hive")
@@ -64,12 +64,12 @@ class Launcher:
         written, said = run.communicate(text, timeout=30)
         return run.returncode, written, said, run.pid
 
-    def on_terminal(self, words):
+    def on_terminal(self, words, **more):
         """Its status and all that it shows where all streams are a terminal."""
         child, terminal = pty.fork()
         if child == 0:
             path = f"{self.room / 'tool'}:{os.environ['PATH']}"
-            os.execve(self.program, [str(self.program)] + words, {**os.environ, "PATH": path, "CALLS": str(self.calls)})
+            os.execve(self.program, [str(self.program)] + words, {**os.environ, "PATH": path, "CALLS": str(self.calls), **more})
         os.write(terminal, b"\x04")
         shown = b""
         try:
@@ -103,21 +103,21 @@ def check_help(top, launcher):
 
 
 def check_build(launcher):
-    log = launcher.room / "top/crates/hive/out/build.log"
-    status, _, said, _ = launcher.run(["build"], RT_RUN="1")
+    top = launcher.room / "top"
+    log = top / "crates/hive/out/build.log"
+    status, _, said, _ = launcher.run(["build"], RT_FAILS="1")
     expect("a build that fails", (status, "not proved: low" in said), (1, True))
     launcher.called()
     status, written, said, _ = launcher.run(["build"])
     expect("a build", (status, written, "hive: built" in said), (0, "", True))
-    calls = launcher.called()
-    expect("calls of a build", re.sub(r"\d+", "N", "; ".join(calls)), "hive: all check --jobs N; hive: run")
+    files = "HANDLES crates.txt crates/hive/src/lib.rt crates/low/src/lib.rt"
+    expect("the gate's command over the program's crates, and no edits", launcher.called(), [f"ci over {files}"])
     expect("lines of the log", log.read_text().splitlines()[0], "== low")
     expect("nothing is built twice", (launcher.run(["build"])[0], launcher.called()), (0, []))
-    (launcher.room / "top/crates/low/src/lib.rt").write_text("fn g() {}\n")
-    status, shown, _ = launcher.on_terminal(["build"])
-    expect("a build on a terminal", (status, "2 of 2 crates are ready, about 0 min more" in shown), (0, True))
-    (launcher.room / "top/crates/low/src/lib.rt").write_text("fn h() {}\n")
-    expect("a build one by one", launcher.run(["build"], RT_ALL="1")[0], 0)
+    for number, more in enumerate(({}, {"RT_KEPT": "1"})):
+        (top / "crates/low/src/lib.rt").write_text(f"fn g{number}() {{}}\n")
+        status, shown, _ = launcher.on_terminal(["build"], **more)
+        expect("a build on a terminal", (status, "2 of 2 crates are ready, about 0 min more" in shown), (0, True))
     launcher.called()
 
 

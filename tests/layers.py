@@ -1,6 +1,6 @@
 #!/usr/bin/env python3
 """Draws the layers of the crates, docs/layers.svg, from crates.txt: a band for each heading there, a box for each crate, and a line from a
-crate to each that it stands on, but for those that it reaches through others. What tests alone use is left out.
+crate to each that it stands on, but for those that it reaches through others.
 
 Usage: layers.py, which ends with status 0 where the drawing is that of crates.txt; layers.py --write draws it anew.
 """
@@ -24,8 +24,7 @@ def read_crates():
             continue
         name, _, stands_on = text.partition(":")
         name = name.split()[0]
-        only_tests = comment.partition("in tests alone:")[2].split()
-        below[name] = [crate for crate in stands_on.split() if crate not in only_tests]
+        below[name] = stands_on.split()
         layers[-1][1].append(name)
     return layers, {name: [crate for crate in crates if crate in below] for name, crates in below.items()}
 
