@@ -1,5 +1,1 @@
-pub mod TimeLemmas
-pub mod ReplyLemmas
-pub mod Progress
-pub mod DoneLaws
 pub mod RunLemmas

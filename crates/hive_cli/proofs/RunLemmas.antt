@@ -5,9 +5,9 @@ use Rattle.io_edge.specs.Starts.{Engines}
 use Rattle.hive_model.specs.declared.best.Timed.{Timed}
 use Rattle.command_runs.specs.Input.{Sides}
 use Rattle.command_runs.specs.World.{LeavesInput, TakesNoTime, Times, World, once_read, times, world}
-use Rattle.hive_cli.specs.ServiceRun.{EndsAs}
-use Rattle.hive_cli.specs.Session.{session}
-use Rattle.hive_cli.specs.Replay.{replays}
+use Rattle.line_services.specs.ServiceRun.{EndsAs}
+use Rattle.line_services.specs.Session.{session}
+use Rattle.line_services.specs.Replay.{replays}
 use Rattle.count_command.specs.Count.{CountRun}
 use Rattle.hive_cli.specs.Run.{LeavesAllElse, RunOf, PlaysMatch, PlaysTournament, StartsAudited, UsesSpawner, format_of, plan_of}
 use Rattle.command_words.specs.Audits.{AreAuditWords}
@@ -51,7 +51,7 @@ use Rattle.command_runs.proofs.ReadLemmas.{none_were_read}
 use Rattle.tournament_games.specs.Waves.{TournamentRun}
 use Rattle.book_command.proofs.StartLaws.{unread}
 use Rattle.command_runs.proofs.OneGameLemmas.{none_read}
-use Rattle.hive_cli.proofs.Progress.{no_memory}
+use Rattle.line_services.proofs.Progress.{no_memory}
 
 -- what tells that no game was read is no faulty command line
 none_usage : (none : NoGame) (status : Status) (w0 w : Told) → TellsNone none status w0 w → status ≡ Usage → ⊥

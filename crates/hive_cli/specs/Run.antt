@@ -29,8 +29,8 @@ use Rattle.match_command.specs.Match.{MatchRun, MatchStarts, NoneIsOpen}
 use Rattle.match_command.specs.Reads.{ReadMatchRun}
 use Rattle.match_core.specs.declared.setup.Setup.{Setup}
 use Rattle.match_core.specs.Setups.{setup_plain}
-use Rattle.hive_cli.specs.Session.{SessionRun}
-use Rattle.hive_cli.specs.Replay.{ReplayRun}
+use Rattle.line_services.specs.Session.{SessionRun}
+use Rattle.line_services.specs.Replay.{ReplayRun}
 use Rattle.count_command.specs.Count.{CountRun}
 use Rattle.tournament_command.specs.declared.format.Format.{Format}
 use Rattle.tournament_command.specs.Reads.{ReadTournamentRun}

@@ -28,7 +28,7 @@ use match_core::Setup;
 use std::alloc::Global;
 use std::thread::Threads;
 use tournament_command::{Format, play_read_tournament};
-use tournament_games::{Clocks, Progress};
+use tournament_edge::{Clocks, Progress};
 
 /// Plays the match that the words ask for, by this setup, from the opening or from the game of the
 /// input.

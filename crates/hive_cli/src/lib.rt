@@ -11,16 +11,9 @@ ghost use Rattle.hive_cli.specs.Run.{GoesOnUnstarted, Never, RunOf, UsesClock, U
 ghost use Rattle.command_words.specs.declared.asked.Asked.{Asked};
 
 mod contests;
-mod laws;
 mod outcome;
-mod replay_lines;
-mod replays;
-mod service;
-mod sessions;
 
 use crate::contests::{audited, contested, cupped, matched};
-use crate::replays::serve_replay;
-use crate::sessions::serve_session;
 use audit_core::Plan;
 use book_command::book;
 pub use command_runs::Status;
@@ -31,13 +24,13 @@ use fast_game::FastGame;
 use grow_command::grow;
 use hive_model::{Game, TimedList};
 use io_edge::{Clock, Sink, Source, Spawner};
-pub use laws::{replays_answer_each_line, replays_are_done, sessions_are_done};
+use line_services::{serve_replay, serve_session};
 pub use outcome::Outcome;
 use std::alloc::Global;
 use std::thread::Threads;
 use strategy_commands::{certify, check, migrate};
 use tournament_command::Format;
-use tournament_games::{Clocks, Progress};
+use tournament_edge::{Clocks, Progress};
 use win_commands::{solve, verify};
 
 /// The game that the program plays on.

@@ -1,6 +1,7 @@
 //! The hall in which a tournament is played: a clock for each game, and on a terminal how far the
 //! tournament is.
 ghost use Rattle.std.specs.Prelude.{◌≡◌};
+ghost use Rattle.tournament_core.specs.Schedules.{IsPlan};
 
 use crate::machine_clock::MachineClock;
 use cup::Program;
@@ -8,8 +9,8 @@ use std::alloc::Global;
 use std::io::Eprint;
 use std::marker::Model;
 use std::{str, time};
-use tournament_core::{Standing, Tally, standings};
-use tournament_games::{Clocks, Progress, Tournament};
+use tournament_core::{Plan, Standing, Tally, standings};
+use tournament_edge::{Clocks, Progress};
 
 /// How many of the leaders are shown.
 const LEADERS: usize = 3;
@@ -56,11 +57,13 @@ impl<'a, R: Eprint> Hall<'a, R> {
     }
 
     /// Shows how many games are done, and behind them the leaders. The line is that of before.
-    fn show_line(&self, tournament: &Tournament, tally: &Tally, places: &[Standing]) {
-        let games = tournament.plan().games();
+    fn show_line(&self, programs: &[Program], plan: Plan, tally: &Tally, places: &[Standing])
+        requires { IsPlan plan }
+    {
+        let games = plan.games();
         let _ = eprint!(self.rt; "\r\x1b[K{} of {} games", tally.games(), games);
         for place in places.iter().take(LEADERS) {
-            self.show_leader(tournament.programs(), place);
+            self.show_leader(programs, place);
         }
         if games <= tally.games() {
             let _ = self.rt.eprintln("");
@@ -77,12 +80,12 @@ impl<'a, R: time::Clock + Sync> Clocks for Hall<'a, R> {
 }
 
 impl<'a, R: Eprint> Progress for Hall<'a, R> {
-    fn show(&self, tournament: &Tournament, tally: &Tally) {
+    fn show(&self, programs: &[Program], plan: Plan, tally: &Tally) {
         if !self.is_shown {
             return;
         }
         if let Ok(places) = standings(self.alloc, tally) {
-            self.show_line(tournament, tally, places.items());
+            self.show_line(programs, plan, tally, places.items());
         }
     }
 }

@@ -1,6 +1,6 @@
 //! The outside as the machine gives it: its clock, its streams, and programs of the system.
 //!
-//! They meet the traits of `io_edge` and those of a tournament. They do not tell their bytes.
+//! They meet the traits of `io_edge` and `tournament_edge`. They do not tell their bytes.
 #![tactic(auto)]
 
 mod engines;

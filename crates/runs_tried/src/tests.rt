@@ -14,7 +14,7 @@ use memory_sides::{MemSetting, Played, owned_words, spawner_of};
 use std::alloc::{AllocError, Global};
 use std::process::Abort;
 use std::thread::Threads;
-use tournament_games::StepClocks;
+use tournament_edge::StepClocks;
 
 /// Runs these words over the sides that are set up so, by this clock and over these programs.
 fn play<R: Threads + Sync, C: Clock>(

@@ -17,7 +17,7 @@ use std::process::Abort;
 use std::sync::atomic::{AtomicU64, Ordering};
 use std::test::Fail;
 use std::thread::Threads;
-use tournament_games::StepClocks;
+use tournament_edge::StepClocks;
 use turns::{CountedSink, TurnSource};
 
 const GREETING: &str = "id HiveReferee 1.0\nMosquito;Ladybug;Pillbug\nok\n";

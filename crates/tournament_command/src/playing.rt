@@ -17,7 +17,8 @@ use hive_model::{Game, MoveList};
 use io_edge::{Sink, Source, Spawner};
 use std::alloc::{AllocError, Global};
 use std::thread::Threads;
-use tournament_games::{Clocks, Progress, Tournament, play_tournament};
+use tournament_edge::{Clocks, Progress};
+use tournament_games::{Tournament, play_tournament};
 
 /// These openings; where none is given, one of no moves.
 fn openings_of(alloc: Global, mut openings: Vec<MoveList>) -> Result<Vec<MoveList>, AllocError>

@@ -12,7 +12,6 @@ ghost use Rattle.tournament_games.specs.Games.{
   unplayed,
 };
 
-use crate::clocks::Clocks;
 use crate::outcome::ToldGame;
 use crate::texts::{tell_absence, tell_match};
 use crate::tournament::Tournament;
@@ -23,6 +22,7 @@ use match_runner::run_match_from;
 use std::alloc::{AllocError, Global};
 use std::marker::Model;
 use tournament_core::Fixture;
+use tournament_edge::Clocks;
 
 /// A game of a wave: its number, from 1 on, its opening and its engines; the links to white's
 /// program and to black's, where they were started; and what is told of it, once it was played.

@@ -1,14 +1,12 @@
 //! The games of a tournament, played in waves and told as they come, and the standings.
 #![tactic(auto)]
 
-mod clocks;
 mod closing;
 mod job;
 mod laws;
 mod openings;
 mod outcome;
 mod playing;
-mod progress;
 mod readback;
 mod running;
 mod starting;
@@ -17,10 +15,8 @@ mod tournament;
 mod wave;
 mod wave_text;
 
-pub use clocks::{Clocks, StepClocks};
 pub use laws::ends_are_read_back;
 pub use openings::opening_of;
 pub use playing::play_tournament;
-pub use progress::Progress;
 pub use readback::end_of_text;
 pub use tournament::Tournament;

@@ -16,8 +16,6 @@ ghost use Rattle.tournament_games.specs.Waves.{
   standings_text,
 };
 
-use crate::clocks::Clocks;
-use crate::progress::Progress;
 use crate::texts::tell_places;
 use crate::tournament::Tournament;
 use crate::wave::play_wave;
@@ -27,6 +25,7 @@ use io_edge::{Sink, Spawner};
 use std::alloc::{AllocError, Global};
 use std::thread::Threads;
 use tournament_core::{GameEnd, Plan, Tally, standings};
+use tournament_edge::{Clocks, Progress};
 
 /// A tally of the games that were played before, the first ones of the plan.
 fn resume(alloc: Global, plan: Plan, ends: &[GameEnd]) -> Result<Tally, AllocError>
@@ -132,7 +131,7 @@ fn write_games<
         ) {
             Status::Done => {
                 done += u64::from(count);
-                clocks.show(tournament, tally);
+                clocks.show(tournament.programs(), tournament.plan(), tally);
             }
             fault => return fault,
         }

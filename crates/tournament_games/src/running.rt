@@ -3,13 +3,13 @@ ghost use Rattle.std.specs.Prelude.{◌≡◌};
 ghost use Rattle.std.specs.List.{AllZip};
 ghost use Rattle.tournament_games.specs.Games.{IsSettled};
 
-use crate::clocks::Clocks;
 use crate::job::Job;
 use crate::tournament::Tournament;
 use hive_model::Game;
 use io_edge::Link;
 use std::alloc::Global;
 use std::thread::{Threads, for_each_mut};
+use tournament_edge::Clocks;
 
 /// The most games that are played at once.
 const MOST_AT_ONCE: usize = 64;

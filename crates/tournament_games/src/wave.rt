@@ -4,7 +4,6 @@ ghost use Rattle.tournament_core.specs.Schedules.{schedule};
 ghost use Rattle.tournament_games.specs.Links.{Shuts};
 ghost use Rattle.tournament_games.specs.Waves.{IsWave};
 
-use crate::clocks::Clocks;
 use crate::closing::close_all;
 use crate::running::run_wave;
 use crate::starting::start_wave;
@@ -15,6 +14,7 @@ use io_edge::Spawner;
 use std::alloc::{AllocError, Global};
 use std::thread::Threads;
 use tournament_core::Tally;
+use tournament_edge::Clocks;
 
 /// Plays so many games when so many were played before them, at once where threads can be had, and
 /// notes them. Their programs are started first, one after the other, and closed behind the games

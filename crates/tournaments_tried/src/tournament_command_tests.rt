@@ -11,7 +11,7 @@ use std::alloc::{AllocError, Global};
 use std::test::Fail;
 use std::thread::Threads;
 use tournament_command::{Format, play_read_tournament};
-use tournament_games::StepClocks;
+use tournament_edge::StepClocks;
 
 const THREE_PLIES: Setup = Setup {
     game_type: BASE,

@@ -13,7 +13,8 @@ use std::alloc::{AllocError, Global};
 use std::test::Fail;
 use std::thread::Threads;
 use tournament_core::{GameEnd, Plan};
-use tournament_games::{StepClocks, Tournament, play_tournament};
+use tournament_edge::StepClocks;
+use tournament_games::{Tournament, play_tournament};
 
 const ONE_PLY: Setup = Setup {
     game_type: BASE,

@@ -2,9 +2,9 @@ use Rattle.std.proofs.Common.{◌≡◌, ◌-◌, false}
 use Rattle.io_edge.specs.Starts.{Engines}
 use Rattle.line_feed.specs.Feed.{input_limit, settled}
 use Rattle.command_runs.specs.World.{sides, times, world}
-use Rattle.hive_cli.specs.Rounds.{service_state}
-use Rattle.hive_cli.proofs.Progress.{Run}
-use Rattle.hive_cli.proofs.service.serve.Given as goal
+use Rattle.line_services.specs.Rounds.{service_state}
+use Rattle.line_services.proofs.Progress.{Run}
+use Rattle.line_services.proofs.service.serve.Given as goal
 
 abbrev pub invariant-lines : goal.invariant-lines
 invariant-lines g l = record {

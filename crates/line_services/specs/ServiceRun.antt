@@ -8,8 +8,8 @@ use Rattle.line_feed.specs.Feed.{input_limit}
 use Rattle.line_feed.specs.SoFar.{WasRead}
 use Rattle.command_runs.specs.Input.{IsAllRead, WereRead, WhereTold}
 use Rattle.command_runs.specs.World.{World}
-use Rattle.hive_cli.specs.Service.{HasExit, Service, joined, last_of, output, searches, texts}
-use Rattle.hive_cli.specs.Times.{AreTold, TellsOf, depths}
+use Rattle.line_services.specs.Service.{HasExit, Service, joined, last_of, output, searches, texts}
+use Rattle.line_services.specs.Times.{AreTold, TellsOf, depths}
 use Rattle.command_runs.specs.declared.status.Status.{Status}
 use Rattle.command_runs.specs.declared.status.Status.TheVariants.{Done, Refused, Usage, ReadFault, WriteFault, SpawnFault, BadInput, Memory, InputFull}
 

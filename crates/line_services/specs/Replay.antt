@@ -9,8 +9,8 @@ use Rattle.game_text.specs.declared.parsed.Parsed.{Parsed}
 use Rattle.game_text.specs.Reading.{game_under}
 use Rattle.command_runs.specs.Reasons.{reason}
 use Rattle.command_runs.specs.World.{World}
-use Rattle.hive_cli.specs.Service.{Service, joined}
-use Rattle.hive_cli.specs.ServiceRun.{ServiceRun}
+use Rattle.line_services.specs.Service.{Service, joined}
+use Rattle.line_services.specs.ServiceRun.{ServiceRun}
 use Rattle.command_runs.specs.declared.status.Status.{Status}
 
 -- The answer to a line

@@ -1,7 +1,7 @@
 -- The last round ends the run.
 use Rattle.std.proofs.Common.{refl, ◌∙◌}
-use Rattle.hive_cli.proofs.Progress.{no_memory, preface_cut, run_begin, run_ends, run_on}
-use Rattle.hive_cli.proofs.service.serve.Goals as goal
+use Rattle.line_services.proofs.Progress.{no_memory, preface_cut, run_begin, run_ends, run_on}
+use Rattle.line_services.proofs.service.serve.Goals as goal
 
 pub returns-in_default-clause-run : goal.returns-in_default-clause-run
 returns-in_default-clause-run g c engines = no_memory _ _ _ refl (record { last = refl; readings = refl; timed = refl })

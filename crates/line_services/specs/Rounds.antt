@@ -7,11 +7,11 @@ use Rattle.line_feed.specs.Feed.{Reading, Ends, Gives, Holds, HoldsLittle, Takes
 use Rattle.command_runs.specs.Input.{Sides}
 use Rattle.command_runs.specs.World.{TakesNoTime, Times}
 use Rattle.uhp_session.specs.Searches.{IsAnswered}
-use Rattle.hive_cli.specs.Service.{Service}
+use Rattle.line_services.specs.Service.{Service}
 use Rattle.command_runs.specs.declared.status.Status.{Status}
 use Rattle.command_runs.specs.declared.status.Status.TheVariants.{Done, Refused, ReadFault, WriteFault, Memory, InputFull}
-use Rattle.hive_cli.specs.declared.service.Stop.{Stop}
-use Rattle.hive_cli.specs.declared.service.Stop.TheVariants.{Over, ReadFailed, Full, WriteFailed, NoMemory}
+use Rattle.line_services.specs.declared.service.Stop.{Stop}
+use Rattle.line_services.specs.declared.service.Stop.TheVariants.{Over, ReadFailed, Full, WriteFailed, NoMemory}
 
 -- the status of a run that stops so, where a line was refused, or none
 abbrev pub status_of : Bool → Stop → Status

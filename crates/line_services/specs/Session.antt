@@ -3,8 +3,8 @@ use Rattle.std.specs.Prelude.{ℕ, false, List, codes}
 use Rattle.command_runs.specs.World.{World}
 use Rattle.uhp_session.specs.Answers.{SessionState, fresh, next, reply}
 use Rattle.uhp_session.specs.Searches.{asks}
-use Rattle.hive_cli.specs.Service.{Service}
-use Rattle.hive_cli.specs.ServiceRun.{ServiceRun}
+use Rattle.line_services.specs.Service.{Service}
+use Rattle.line_services.specs.ServiceRun.{ServiceRun}
 use Rattle.command_runs.specs.declared.status.Status.{Status}
 
 -- what is written before the first line is read

@@ -3,7 +3,7 @@ ghost use Rattle.std.specs.Prelude.{◌≡◌, true};
 ghost use Rattle.io_edge.specs.Outside.{HasCause};
 ghost use Rattle.io_edge.specs.Starts.{Engines};
 ghost use Rattle.command_runs.specs.World.{sides, times, world};
-ghost use Rattle.hive_cli.specs.Session.{SessionRun, session};
+ghost use Rattle.line_services.specs.Session.{SessionRun, session};
 
 use crate::service::{LineService, serve};
 use command_runs::Status;
@@ -44,7 +44,7 @@ impl LineService for Session<FastGame> {
 }
 
 /// Runs a session.
-pub(crate) fn serve_session<R: Threads + Sync, S: Source, K: Sink, C: Clock>(
+pub fn serve_session<R: Threads + Sync, S: Source, K: Sink, C: Clock>(
     rt: &R,
     alloc: Global,
     input: &mut S,

@@ -7,10 +7,10 @@ ghost use Rattle.io_edge.specs.Starts.{Engines};
 ghost use Rattle.command_runs.specs.World.{sides, times, world};
 ghost use Rattle.uhp_session.specs.Answers.{line_in, IsShort};
 ghost use Rattle.uhp_session.specs.Searches.{Answered};
-ghost use Rattle.hive_cli.specs.Rounds.{Answers, Rounds, service_state, status_of};
-ghost use Rattle.hive_cli.specs.Service.{Service};
-ghost use Rattle.hive_cli.specs.ServiceRun.{ServiceRun};
-ghost use Rattle.hive_cli.specs.Times.{IsStill};
+ghost use Rattle.line_services.specs.Rounds.{Answers, Rounds, service_state, status_of};
+ghost use Rattle.line_services.specs.Service.{Service};
+ghost use Rattle.line_services.specs.ServiceRun.{ServiceRun};
+ghost use Rattle.line_services.specs.Times.{IsStill};
 
 use command_runs::Status;
 use hive_model::TimedList;

@@ -7,7 +7,7 @@ ghost use Rattle.hive_model.specs.Courses.{most_plies};
 ghost use Rattle.game_text.specs.Reading.{game_under};
 ghost use Rattle.uhp_session.specs.Answers.{line_in, IsShort};
 ghost use Rattle.command_runs.specs.Reasons.{reason};
-ghost use Rattle.hive_cli.specs.Replay.{game_answer, is_fault, refusal, refuses, replay_answer};
+ghost use Rattle.line_services.specs.Replay.{game_answer, is_fault, refusal, refuses, replay_answer};
 
 use command_runs::{line_for, reason_of};
 use game_text::{GameFault, played, read_game_under, write_game_under};

@@ -2,12 +2,12 @@
 use Rattle.std.proofs.Common.{◌≡◌, ◌⊎◌, ℕ, Bool, true, false, ◌||◌, List, [], ◌∷◌, map, refl, ap, sym, ◌∙◌, inl, inr}
 use Rattle.std.specs.List.{list_any}
 use Rattle.hive_model.specs.Lines.{Line, lines}
-use Rattle.hive_cli.specs.Times.{depths}
-use Rattle.hive_cli.specs.Service.{HasExit, Service, joined, last_of, replies, searches}
-use Rattle.hive_cli.specs.ServiceRun.{EndsAs}
-use Rattle.hive_cli.specs.Session.{session}
-use Rattle.hive_cli.specs.Replay.{refuses, replay_answer, replays}
-use Rattle.hive_cli.specs.Laws.{Replays, ReplaysAreDone, SessionsAreDone}
+use Rattle.line_services.specs.Times.{depths}
+use Rattle.line_services.specs.Service.{HasExit, Service, joined, last_of, replies, searches}
+use Rattle.line_services.specs.ServiceRun.{EndsAs}
+use Rattle.line_services.specs.Session.{session}
+use Rattle.line_services.specs.Replay.{refuses, replay_answer, replays}
+use Rattle.line_services.specs.Laws.{Replays, ReplaysAreDone, SessionsAreDone}
 use Rattle.command_runs.specs.Served.{Served}
 use Rattle.command_runs.specs.World.{World}
 use Rattle.command_runs.proofs.ServedLemmas.{no_failure, not_full}

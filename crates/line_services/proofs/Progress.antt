@@ -10,18 +10,18 @@ use Rattle.line_feed.specs.SoFar.{Fed}
 use Rattle.line_feed.proofs.FedLemmas.{fed_begin, fed_end, fed_held, fed_line, fed_prefix}
 use Rattle.command_runs.specs.World.{TakesNoTime, Times, World, world}
 use Rattle.uhp_session.specs.Searches.{Search}
-use Rattle.hive_cli.specs.Times.{AreTold, TellsOf, depths}
-use Rattle.hive_cli.specs.Service.{HasExit, Service, joined, last_of, replies, searches, texts}
-use Rattle.hive_cli.specs.ServiceRun.{EndsAs, RunsToEnd, ServiceRun, TellsOfLines, WroteAll, WroteFront, WroteTexts, WroteWhole}
-use Rattle.hive_cli.specs.Rounds.{Replies, Rounds, ServiceState, status_of}
+use Rattle.line_services.specs.Times.{AreTold, TellsOf, depths}
+use Rattle.line_services.specs.Service.{HasExit, Service, joined, last_of, replies, searches, texts}
+use Rattle.line_services.specs.ServiceRun.{EndsAs, RunsToEnd, ServiceRun, TellsOfLines, WroteAll, WroteFront, WroteTexts, WroteWhole}
+use Rattle.line_services.specs.Rounds.{Replies, Rounds, ServiceState, status_of}
 use Rattle.command_runs.specs.declared.status.Status.{Status}
 use Rattle.command_runs.specs.declared.status.Status.TheVariants.{WriteFault, Memory}
-use Rattle.hive_cli.specs.declared.service.Stop.{Stop}
-use Rattle.hive_cli.specs.declared.service.Stop.TheVariants.{Over, ReadFailed, Full, WriteFailed, NoMemory}
+use Rattle.line_services.specs.declared.service.Stop.{Stop}
+use Rattle.line_services.specs.declared.service.Stop.TheVariants.{Over, ReadFailed, Full, WriteFailed, NoMemory}
 use Rattle.command_runs.proofs.ReadLemmas.{all_is_read, given_were_read, none_were_read}
 use Rattle.command_runs.proofs.WrittenLemmas.{behind_none, on_written}
-use Rattle.hive_cli.proofs.TimeLemmas.{Took, depths-append, no_time_later, tells_later, tells_none, tells_on, told_until, took}
-use Rattle.hive_cli.proofs.ReplyLemmas.{Next, Replied, joined-append, replied_asks, replied_begin, replied_exit, replied_exit_all, replied_exit_asks, replied_exit_last, replied_last, replied_on, replied_open, replied_texts}
+use Rattle.line_services.proofs.TimeLemmas.{Took, depths-append, no_time_later, tells_later, tells_none, tells_on, told_until, took}
+use Rattle.line_services.proofs.ReplyLemmas.{Next, Replied, joined-append, replied_asks, replied_begin, replied_exit, replied_exit_all, replied_exit_asks, replied_exit_last, replied_last, replied_on, replied_open, replied_texts}
 
 -- Since the run began, these bytes were read, which gave these lines, and the preface and these replies to the lines were written.
 -- The lines asked for these searches, and these entries tell of them.

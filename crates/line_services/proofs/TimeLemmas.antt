@@ -6,8 +6,8 @@ use Rattle.hive_model.specs.declared.best.Timed.{Timed}
 use Rattle.hive_model.specs.Minimax.{reads}
 use Rattle.command_runs.specs.World.{TakesNoTime, Times}
 use Rattle.uhp_session.specs.Searches.{IsAnswered, Search, Searched}
-use Rattle.hive_cli.specs.Times.{AreTold, TellsOf, depths, reads_of}
-use Rattle.hive_cli.specs.Service.{depth_for, depths_after, with_search}
+use Rattle.line_services.specs.Times.{AreTold, TellsOf, depths, reads_of}
+use Rattle.line_services.specs.Service.{depth_for, depths_after, with_search}
 
 -- Entries
 

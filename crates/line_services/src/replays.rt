@@ -3,7 +3,7 @@ ghost use Rattle.std.specs.Prelude.{◌≡◌, Bool, true, false};
 ghost use Rattle.io_edge.specs.Outside.{HasCause};
 ghost use Rattle.io_edge.specs.Starts.{Engines};
 ghost use Rattle.command_runs.specs.World.{sides, times, world};
-ghost use Rattle.hive_cli.specs.Replay.{ReplayRun, replays};
+ghost use Rattle.line_services.specs.Replay.{ReplayRun, replays};
 
 use crate::replay_lines::answer_line;
 use crate::service::{LineService, serve};
@@ -107,7 +107,7 @@ impl<G: Game + Drop, L: Rule + Drop> LineService for Replay<G, L> {
 }
 
 /// Runs a replay over games of this kind, by the rule of third repetition or without it.
-pub(crate) fn serve_replay<R: Threads + Sync, S: Source, K: Sink, C: Clock, G: Game + Drop>(
+pub fn serve_replay<R: Threads + Sync, S: Source, K: Sink, C: Clock, G: Game + Drop>(
     rt: &R,
     alloc: Global,
     repetition: bool,

@@ -1,9 +1,9 @@
 -- What follows from the clauses of a run.
 use Rattle.std.specs.Prelude.{◌≡◌, ◌⊎◌, ℕ, Bool, false, List, []}
 use Rattle.hive_model.specs.Lines.{Line, lines}
-use Rattle.hive_cli.specs.Service.{HasExit, last_of, output, searches}
-use Rattle.hive_cli.specs.Replay.{ReplayRun, answers, replays, some_refused}
-use Rattle.hive_cli.specs.Session.{SessionRun}
+use Rattle.line_services.specs.Service.{HasExit, last_of, output, searches}
+use Rattle.line_services.specs.Replay.{ReplayRun, answers, replays, some_refused}
+use Rattle.line_services.specs.Session.{SessionRun}
 use Rattle.command_runs.specs.Served.{Served}
 use Rattle.command_runs.specs.World.{World}
 use Rattle.command_runs.specs.declared.status.Status.{Status}

@@ -4,8 +4,8 @@ use Rattle.std.specs.declared.option.Option.{Option}
 use Rattle.std.proofs.lemmas.List.{append-nil}
 use Rattle.hive_model.specs.Lines.{Line}
 use Rattle.uhp_session.specs.Searches.{Search}
-use Rattle.hive_cli.specs.Service.{HasExit, Service, depths_after, ends_at, ends_or, joined, last_of, replies, reply_at, searches, with_reply}
-use Rattle.hive_cli.proofs.TimeLemmas.{Uses}
+use Rattle.line_services.specs.Service.{HasExit, Service, depths_after, ends_at, ends_or, joined, last_of, replies, reply_at, searches, with_reply}
+use Rattle.line_services.proofs.TimeLemmas.{Uses}
 
 -- Texts
 

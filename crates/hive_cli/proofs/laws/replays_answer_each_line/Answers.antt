@@ -1,5 +1,0 @@
-use Rattle.hive_cli.proofs.DoneLaws.{replay_of_lines}
-use Rattle.hive_cli.proofs.laws.replays_answer_each_line.Goals as goal
-
-pub returns : goal.returns
-returns c = replay_of_lines

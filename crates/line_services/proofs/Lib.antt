@@ -1,0 +1,4 @@
+pub mod TimeLemmas
+pub mod ReplyLemmas
+pub mod Progress
+pub mod DoneLaws
