@@ -25,49 +25,23 @@ pub enum Name {
 fn name_at(word: &str) -> Option<Name>
     ensures { result ≡ name_at word.now }
 {
-    if word == "uhp" {
-        return Some(Name::Uhp);
+    match word {
+        "uhp" => Some(Name::Uhp),
+        "replay" => Some(Name::Replay),
+        "count" => Some(Name::Count),
+        "grow" => Some(Name::Grow),
+        "certify" => Some(Name::Certify),
+        "check" => Some(Name::Check),
+        "solve" => Some(Name::Solve),
+        "verify" => Some(Name::Verify),
+        "match" => Some(Name::Match),
+        "cup" => Some(Name::Cup),
+        "book" => Some(Name::Book),
+        "migrate" => Some(Name::Migrate),
+        "audit" => Some(Name::Audit),
+        "tournament" => Some(Name::Tournament),
+        _ => None,
     }
-    if word == "replay" {
-        return Some(Name::Replay);
-    }
-    if word == "count" {
-        return Some(Name::Count);
-    }
-    if word == "grow" {
-        return Some(Name::Grow);
-    }
-    if word == "certify" {
-        return Some(Name::Certify);
-    }
-    if word == "check" {
-        return Some(Name::Check);
-    }
-    if word == "solve" {
-        return Some(Name::Solve);
-    }
-    if word == "verify" {
-        return Some(Name::Verify);
-    }
-    if word == "match" {
-        return Some(Name::Match);
-    }
-    if word == "cup" {
-        return Some(Name::Cup);
-    }
-    if word == "book" {
-        return Some(Name::Book);
-    }
-    if word == "migrate" {
-        return Some(Name::Migrate);
-    }
-    if word == "audit" {
-        return Some(Name::Audit);
-    }
-    if word == "tournament" {
-        return Some(Name::Tournament);
-    }
-    None
 }
 
 /// The command that the first word names; `uhp` where there is no word.

@@ -1,4 +1,5 @@
 pub mod Chains
+pub mod Left
 pub mod Pairs
 pub mod Heard
 pub mod Breaks

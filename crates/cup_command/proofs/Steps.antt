@@ -10,6 +10,7 @@ use Rattle.io_edge.specs.Outside.{ToldLists, ToldPrograms}
 use Rattle.io_edge.specs.Starts.{Engines}
 use Rattle.match_core.specs.declared.setup.Setup.{Setup}
 use Rattle.cup.specs.declared.pairing.Pairing.{Pairing}
+use Rattle.cup.specs.declared.standing.Standing.{Standing as Place}
 use Rattle.match_command.specs.Match.{NoneIsOpen}
 use Rattle.match_runner.specs.Wires.{IsFresh, Wire}
 use Rattle.cup.specs.Played.{Job, pairing, ready}
@@ -17,6 +18,7 @@ use Rattle.cup.specs.Engines.{Engine}
 use Rattle.cup.specs.Cup.{pairings}
 use Rattle.cup_command.specs.Cup.{cup_words, game_words, started_after}
 use Rattle.cup_command.specs.Links.{ClosesLinks, GivesUp, IsReady, StartsAll, all_links, ended_text, jobs_text}
+use Rattle.cup_command.specs.Texts.{standing_text}
 use Rattle.cup_command.proofs.Chains.{none-kept, starts-append, two-each}
 use Rattle.cup_command.proofs.Breaks.{all-before, append-none, started-more, two-words}
 
@@ -36,6 +38,16 @@ pub text-end : (setup : Setup) (games : List Pairing) (jobs : List Job) (i : ℕ
 text-end setup games jobs i out all past so =
     let within : length (zip games jobs) ≤ i = let many = length-zip games jobs in omega (arith, many, past) in
     sym (append-none out) ∙ (ap (λ ps. out ++ jobs_text setup ps) (sym (drop_of_length-le (zip games jobs) within)) ∙ so)
+
+-- there are as many games as there are pairs of engines
+pub same-many : (games : List Pairing) (jobs : List Job) → map pairing jobs ≡ games → length games ≡ length jobs
+same-many games jobs pairs = sym (ap (λ (gs : List Pairing). length gs) pairs) ∙ length-map jobs pairing
+
+-- the lines of the games, written first, and behind them those of the standings
+pub both-written : (engines : List Engine) (lines start mid out : List ℕ) (listed places : List Place) → start ≡ [] → mid ≡ start ++ lines → listed ≡ places
+    → out ≡ mid ++ flat_map (standing_text engines) listed → out ≡ lines ++ flat_map (standing_text engines) places
+both-written engines lines start mid out listed places empty first same then =
+    then ∙ (ap (λ xs. xs ++ flat_map (standing_text engines) listed) (first ∙ ap (λ xs. xs ++ lines) empty) ∙ ap (λ ps. lines ++ flat_map (standing_text engines) ps) same)
 
 -- Starts
 
@@ -114,10 +126,22 @@ pub named-end : (engines : List Engine) (games : List Pairing) (i : ℕ) (before
 named-end engines games i before now whole past named =
     named ∙ ap (λ gs. started_after before (flat_map (game_words engines) gs)) (take-all i games past ∙ whole)
 
+-- behind the last game all are kept
+pub kept-end : (games : List Pairing) (jobs : List Job) (i : ℕ) → length games ≤ i → map pairing jobs ≡ take i games → map pairing jobs ≡ games
+kept-end games jobs i past so = so ∙ take-all i games past
+
 -- before the first game
 
 pub ready-none : (setup : Setup) (jobs : List Job) → jobs ≡ [] → All (IsReady setup) jobs
 ready-none setup jobs e = subst (λ js. All (IsReady setup) js) (sym e) (All-nil (IsReady setup))
+
+-- the games that were lent are those that were started
+pub pairs-lent : (lent olds : List Job) (games : List Pairing) → lent ≡ olds → map pairing olds ≡ games → map pairing lent ≡ games
+pairs-lent lent olds games same pairs = ap (λ (js : List Job). map pairing js) same ∙ pairs
+
+-- and none of them was played
+pub ready-lent : (setup : Setup) (lent olds : List Job) → lent ≡ olds → All (IsReady setup) olds → All (IsReady setup) lent
+ready-lent setup lent olds same all = subst (λ (js : List Job). All (IsReady setup) js) (sym same) all
 
 pub next-none : (before : ToldLists) (jobs : List Job) → jobs ≡ [] → StartsAll before before (all_links jobs)
 next-none before jobs e = subst (λ (js : List Job). StartsAll before before (all_links js)) (sym e) refl

@@ -108,8 +108,8 @@ fn ends_before<R: Clock, P: OpenProcess>(rt: &R, child: &mut Child<P>, until: u6
 }
 
 /// Waits until a program has ended by itself. At that moment it is killed.
-pub(crate) fn await_end<R: Clock, P: OpenProcess>(rt: &R, child: &mut Child<P>, until: u64) {
-    if !ends_before(rt, child, until) {
+pub(crate) fn await_end<R: Clock, P: OpenProcess + Drop>(rt: &R, mut child: Child<P>, until: u64) {
+    if !ends_before(rt, &mut child, until) {
         let _ = child.kill();
     }
     let _ = child.wait();
@@ -130,7 +130,7 @@ where
     fn drop(self) {
         let Self {
             rt,
-            mut child,
+            child,
             input,
             mut output,
             games,
@@ -141,7 +141,7 @@ where
         output.allow(GRACE);
         pass_over(&mut output);
         drop(output);
-        await_end(rt, &mut child, until);
+        await_end(rt, child, until);
     }
 }
 

@@ -54,17 +54,26 @@ impl Mark {
     /// no `grep` or no `/proc`, nothing is done.
     pub(crate) fn sweep<R: Processes + Clock>(&self, rt: &R, alloc: Global) -> io::Result<()> {
         let sought = format!(in alloc; "HIVE_ENGINE={}", self.text)?;
-        let mut command = Command::new(alloc, "sh")?;
-        for word in ["-c", SWEEP, "sh", sought.as_str()] {
-            command.arg(word)?;
-        }
-        let until = end_of_grace(rt);
-        let mut child = command
-            .stdin(Stdio::null())
-            .stdout(Stdio::null())
-            .stderr(Stdio::null())
-            .spawn(rt)?;
-        await_end(rt, &mut child, until);
-        Ok(())
+        let mut command = sweeper(alloc, sought.as_str())?;
+        run_quietly(rt, &mut command)
     }
+}
+
+/// The shell, to be started to end every process that has this variable.
+fn sweeper(alloc: Global, variable: &str) -> Result<Command<Global>, AllocError> {
+    let mut command = Command::new(alloc, "sh")?;
+    command.args(["-c", SWEEP, "sh", variable])?;
+    Ok(command)
+}
+
+/// Starts a command that neither reads nor writes, and awaits its end, two seconds at most.
+fn run_quietly<R: Processes + Clock>(rt: &R, command: &mut Command<Global>) -> io::Result<()> {
+    let until = end_of_grace(rt);
+    let child = command
+        .stdin(Stdio::null())
+        .stdout(Stdio::null())
+        .stderr(Stdio::null())
+        .spawn(rt)?;
+    await_end(rt, child, until);
+    Ok(())
 }

@@ -23,7 +23,7 @@ use std::alloc::{AllocError, Global};
 use std::io::{self, Eprint};
 use std::marker::Model;
 use std::os::fd::AsRawFd;
-use std::process::{Command, OpenProcess, Processes, Stdio};
+use std::process::{Child, Command, OpenProcess, Processes, Stdio};
 use std::random::RandomSource;
 use std::time::Clock;
 
@@ -149,6 +149,48 @@ fn command_of(alloc: Global, mark: &Mark, words: &[String]) -> Result<Command<Gl
     Ok(command)
 }
 
+/// A program that was started over pipes, as a link.
+fn engine_over<'a, R: Clock + Eprint, P: OpenProcess + Drop>(
+    rt: &'a R,
+    mut child: Child<P>,
+    limit: Option<u64>,
+    counts_games: bool,
+) -> io::Result<Engine<'a, R, P>>
+where
+    P::Stdout: AsRawFd,
+    ensures reads { IfOk result (λ e. e.output.faults ≡ 0) }
+    ensures writes { IfOk result (λ e. e.input.faults ≡ 0) }
+{
+    match child.stdin.take().zip(child.stdout.take()) {
+        Some((input, output)) => {
+            let games = GameCount::new(counts_games);
+            Ok(Engine::new(rt, child, input, output, limit, games))
+        }
+        None => Err(io::Error::from(io::ErrorKind::BrokenPipe)),
+    }
+}
+
+/// Starts a program over pipes.
+fn start_piped<'a, R: Processes + Clock + Eprint>(
+    rt: &'a R,
+    command: &mut Command<Global>,
+    limit: Option<u64>,
+    quiet: bool,
+    counts_games: bool,
+) -> io::Result<Engine<'a, R, R::Started>>
+where
+    <R::Started as OpenProcess>::Stdout: AsRawFd,
+    ensures reads { IfOk result (λ e. e.output.faults ≡ 0) }
+    ensures writes { IfOk result (λ e. e.input.faults ≡ 0) }
+{
+    let child = command
+        .stdin(Stdio::piped())
+        .stdout(Stdio::piped())
+        .stderr(errors_go(quiet))
+        .spawn(rt)?;
+    engine_over(rt, child, limit, counts_games)
+}
+
 /// Starts the program that the first word names, with the others as its arguments and this mark,
 /// over pipes.
 fn start_program<'a, R: Processes + Clock + Eprint>(
@@ -166,18 +208,8 @@ where
     ensures reads { IfOk result (λ e. e.output.faults ≡ 0) }
     ensures writes { IfOk result (λ e. e.input.faults ≡ 0) }
 {
-    let mut child = command_of(alloc, mark, words)?
-        .stdin(Stdio::piped())
-        .stdout(Stdio::piped())
-        .stderr(errors_go(quiet))
-        .spawn(rt)?;
-    match (child.stdin.take(), child.stdout.take()) {
-        (Some(input), Some(output)) => {
-            let games = GameCount::new(counts_games);
-            Ok(Engine::new(rt, child, input, output, limit, games))
-        }
-        _ => Err(io::Error::from(io::ErrorKind::BrokenPipe)),
-    }
+    let mut command = command_of(alloc, mark, words)?;
+    start_piped(rt, &mut command, limit, quiet, counts_games)
 }
 
 impl<'a, R: Processes + Clock + RandomSource + Eprint + Sync> Spawner for Programs<'a, R>

@@ -199,3 +199,7 @@ max-below a b r top e h = omega (arith, ints, clamps)
 -- the plays of two early tries and of the rest
 pub early-plays : (n n0 s x1 x2 x3 more : ℕ) → n0 ≡ n → x1 ≤ n0 + s → x2 ≤ x1 → x3 ≤ x2 + more → x3 ≤ n + s + more
 early-plays n n0 s x1 x2 x3 more same one two rest = omega (arith, same, one, two, rest)
+
+-- the plays of two early tries alone
+pub tries-plays : (n n0 s x1 x2 more : ℕ) → n0 ≡ n → x1 ≤ n0 + s → x2 ≤ x1 → x2 ≤ n + s + more
+tries-plays n n0 s x1 x2 more same one two = omega (arith, same, one, two)

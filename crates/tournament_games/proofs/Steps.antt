@@ -1,5 +1,5 @@
 -- The steps of the loops over the games of a wave.
-use Rattle.std.proofs.Common.{◌≡◌, ◌≢◌, ℕ, ◌+◌, ◌<◌, List, [], ◌∷◌, ◌++◌, length, map, take, get_or, None, Some, refl, ap, sym, ◌∙◌, arith, subst, length-append, append_assoc}
+use Rattle.std.proofs.Common.{◌≡◌, ◌≢◌, ℕ, ◌+◌, ◌<◌, ◌≤◌, List, [], ◌∷◌, ◌++◌, length, map, take, take_all, get_or, None, Some, refl, ap, sym, ◌∙◌, arith, subst, length-append, append_assoc}
 use Rattle.std.specs.Prelude.{slice_get}
 use Rattle.std.specs.List.{All}
 use Rattle.std.proofs.lemmas.List.{map-append, take_more}
@@ -99,6 +99,21 @@ lined-more jobs i job text now tally0 tally next low is some wrote engines games
           subst (λ (xs : List PlayedFixture). IsTallyOf xs next) (append_assoc gs (map played_game (take i jobs)) (played_game job ∷ []) ∙ ap (λ xs. gs ++ xs) (sym (map-append played_game (take i jobs) (job ∷ []))))
           (noted (gs ++ map played_game (take i jobs)) (so.noted gs was));
     })
+
+-- behind the last game all of them were told
+pub lined-all : (jobs : List Job) (i : ℕ) (text : List ℕ) (tally0 tally : Counts) → length jobs ≤ i → i ≤ length jobs → Lined (take i jobs) i text tally0 tally → Lined jobs (length jobs) text tally0 tally
+lined-all jobs i text tally0 tally past low so =
+    let same : i ≡ length jobs = omega (arith, past, low) in
+    subst (λ js. Lined js (length jobs) text tally0 tally) (take_all i jobs past) (subst (λ n. Lined (take i jobs) n text tally0 tally) same so)
+
+-- the game at a place is a fixture of the tournament
+pub fixture-at : (jobs : List Job) (i : ℕ) (job : Job) (text : List ℕ) (tally0 tally : Counts) → All (λ (j : Job). IsFixture tally0.engines j.fixture) jobs → i < length jobs → job ≡ get_or jobs i job → Lined (take i jobs) i text tally0 tally → IsFixture tally.engines job.fixture
+fixture-at jobs i job text tally0 tally all low is so =
+    subst (λ n. IsFixture n job.fixture) (sym so.engines) (subst (λ (j : Job). IsFixture tally0.engines j.fixture) (sym is) (all i job low))
+
+-- and it can be counted
+pub room-at : (jobs : List Job) (i most : ℕ) (text : List ℕ) (tally0 tally : Counts) → tally0.games + length jobs ≤ most → i < length jobs → Lined (take i jobs) i text tally0 tally → tally.games < most
+room-at jobs i most text tally0 tally room low so = let was = so.games in omega (arith, room, low, was)
 
 -- Matches
 

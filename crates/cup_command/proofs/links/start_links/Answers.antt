@@ -3,9 +3,9 @@ use Rattle.cup.specs.declared.pairing.Pairing.{Pairing}
 use Rattle.cup.specs.Played.{pairing}
 use Rattle.cup_command.specs.Links.{IsPaired}
 use Rattle.cup_command.proofs.Breaks.{started-none}
-use Rattle.cup_command.proofs.Steps.{get_or-any, gives-up, kept-step, named-end, named-step, next-none, next-step, ready-none, ready-step}
+use Rattle.cup_command.proofs.Steps.{get_or-any, gives-up, kept-end, kept-step, named-end, named-step, next-none, next-step, ready-none, ready-step}
 use Rattle.cup_command.proofs.Pairs.{paired-at}
-use Rattle.cup_command.proofs.Kept.{no-cause}
+use Rattle.cup_command.proofs.Kept.{cause-before, no-cause}
 use Rattle.cup_command.proofs.links.start_links.Goals as goal
 
 pub start_game-requires-clause-paired : goal.start_game-requires-clause-paired
@@ -64,3 +64,16 @@ returns-in-Err-clause-closed g c =
     let so = c.loop-place.invariant in
     let low = c.loop-place-test.true in
     gives-up _ c.args.programs.now c.args.games.now c.loop-place.jobs.items i game _ _ _ c.requires.games low (get_or-any c.args.games.now i _ game low) so.kept so.next so.sent so.named c.in-Err.ensures.closed
+
+pub returns-in-Err-clause-cause : goal.returns-in-Err-clause-cause
+returns-in-Err-clause-cause g c =
+    cause-before _ (g.P.Spawner.engines c.args.spawner.now).start_faults (g.P.Spawner.engines c.loop-place.spawner).start_faults (g.P.Spawner.engines c.start_game.new.spawner).start_faults c.loop-place.invariant.starts c.in-Err.ensures.cause
+
+pub returns-clause-kept : goal.returns-clause-kept
+returns-clause-kept g c = kept-end c.args.games.now c.loop-place.jobs.items c.loop-place.place c.loop-place-test.false c.loop-place.invariant.kept
+
+pub returns-clause-ready : goal.returns-clause-ready
+returns-clause-ready g c = c.loop-place.invariant.ready
+
+pub returns-clause-next : goal.returns-clause-next
+returns-clause-next g c = c.loop-place.invariant.next

@@ -1,11 +1,11 @@
 -- The text of a cup tells what was played, and wherever the cup ends all engines are closed.
-use Rattle.std.proofs.Common.{◌≡◌, ◌∙◌, List, length, drop}
+use Rattle.std.proofs.Common.{◌≡◌, ◌∙◌, List, length, drop, refl}
 use Rattle.cup.specs.Played.{Job}
 use Rattle.cup_command.proofs.Ends.{told-from}
 use Rattle.cup_command.proofs.Breaks.{breaks, gives-all}
 use Rattle.cup_command.proofs.Early.{early, early-all}
-use Rattle.cup_command.proofs.Kept.{same-fault}
-use Rattle.cup_command.proofs.Steps.{as-many-after, none-kept-after, take-front}
+use Rattle.cup_command.proofs.Kept.{cause-moved, cause-memory, cause-ok, no-cause, no-failure, no-fault, same-fault}
+use Rattle.cup_command.proofs.Steps.{as-many-after, none-kept-after, pairs-lent, ready-lent, take-front}
 use Rattle.cup_command.proofs.playing.play.Goals as goal
 
 pub returns-in-Ok-text-clause-told : goal.returns-in-Ok-text-clause-told
@@ -62,3 +62,38 @@ returns-in-Ok-start_links-clause-early g c =
     (c.as_slice-games.ensures.value ∙ c.in-Ok.ensures) started.kept
     (as-many-after c.in-Ok-start_links.jobs.len c.in-Ok-start_links.jobs.items c.deref_mut.result.now news (drop (length news) c.in-Ok-start_links.jobs.items) c.run_and_tell-text.ensures.long c.deref_mut.ensures.len c.deref_mut.ensures.value)
     started.next started.starts.sent started.starts.named shut.sent shut.none_started.to_come shut.none_started.started
+
+pub returns-in-Ok-text-clause-broken : goal.returns-in-Ok-text-clause-broken
+returns-in-Ok-text-clause-broken g c = λ e. no-fault c.in-Ok-text.text _ e
+
+pub returns-in-Ok-text-clause-early : goal.returns-in-Ok-text-clause-early
+returns-in-Ok-text-clause-early g c = λ e. no-fault c.in-Ok-text.text _ e
+
+pub returns-in-Ok-text-clause-cause : goal.returns-in-Ok-text-clause-cause
+returns-in-Ok-text-clause-cause g c =
+    cause-ok c.in-Ok-start_links.jobs c.in-Ok-text.text (g.P.Spawner.engines c.args.spawner.now).start_faults (g.P.Spawner.engines c.start_links.new.spawner).start_faults (g.P.Spawner.engines c.close_links.new.spawner).start_faults c.in-Ok-start_links.ensures.cause c.close_links.ensures.none_started.starts
+
+pub returns-in-Ok-start_links-clause-broken : goal.returns-in-Ok-start_links-clause-broken
+returns-in-Ok-start_links-clause-broken g c = λ e. no-failure e
+
+pub returns-in-Ok-start_links-clause-cause : goal.returns-in-Ok-start_links-clause-cause
+returns-in-Ok-start_links-clause-cause g c =
+    cause-memory c.in-Ok-start_links.jobs (g.P.Spawner.engines c.args.spawner.now).start_faults (g.P.Spawner.engines c.start_links.new.spawner).start_faults (g.P.Spawner.engines c.close_links.new.spawner).start_faults c.in-Ok-start_links.ensures.cause c.close_links.ensures.none_started.starts
+
+pub returns-clause-cause : goal.returns-clause-cause
+returns-clause-cause g c = cause-moved c.in-Err.fault _ _ _ c.in-Err.ensures.cause
+
+pub run_and_tell-text-requires-clause-jobs : goal.run_and_tell-text-requires-clause-jobs
+run_and_tell-text-requires-clause-jobs g c = λ κs outlive. pairs-lent c.deref_mut.result.now c.in-Ok-start_links.jobs.items c.as_slice-games.result.now c.deref_mut.ensures.value c.in-Ok-start_links.ensures.kept
+
+pub run_and_tell-text-requires-clause-ready : goal.run_and_tell-text-requires-clause-ready
+run_and_tell-text-requires-clause-ready g c = λ κs outlive. ready-lent c.args.setup c.deref_mut.result.now c.in-Ok-start_links.jobs.items c.deref_mut.ensures.value c.in-Ok-start_links.ensures.ready
+
+pub run_and_tell-text-requires-clause-games : goal.run_and_tell-text-requires-clause-games
+run_and_tell-text-requires-clause-games g c = λ κs outlive. c.as_slice-games.ensures.value ∙ c.in-Ok.ensures
+
+pub returns-in_default-clause-broken : goal.returns-in_default-clause-broken
+returns-in_default-clause-broken g c = λ e. no-failure e
+
+pub returns-in_default-clause-cause : goal.returns-in_default-clause-cause
+returns-in_default-clause-cause g c = no-cause _ _ _ (λ e. no-failure e) refl

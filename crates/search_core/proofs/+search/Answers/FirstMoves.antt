@@ -4,20 +4,21 @@ use Rattle.std.proofs.Common.{rules, ◌≡◌, ◌+◌, ◌≤ℤ◌, neg_ℤ, 
 use Rattle.std.specs.List.{slice_get}
 use mir.Val.{SFits}
 use mir.Syntax.{w32}
-use Rattle.std.proofs.lemmas.Int.{ints, clamps, to_z-of_z}
+use Rattle.std.proofs.lemmas.Int.{ints, to_z-of_z}
 use Rattle.hive_model.specs.Legal.{moves}
 use Rattle.hive_model.specs.Minimax.{reply_value}
 use Rattle.hive_model.specs.Courses.{position}
 use Rattle.search_laws.proofs.Signs.{at-least}
-use Rattle.search_laws.specs.Found.{IsFound, IsOpen}
+use Rattle.search_laws.specs.Found.{IsFound}
 use Rattle.search_laws.proofs.NodeLaws.{node-listed, node-again, node-reply, room-within}
 use Rattle.search_laws.specs.declared.window.Window.{Window}
 use Rattle.search_laws.proofs.FoundLaws.{found-cut}
 use Rattle.search_laws.proofs.TurnLaws.{move-here, plays-here}
-use Rattle.search_laws.proofs.HintLaws.{Raised, hint-worth, tries-here, found-here, reply-here, first-cut, reply-low, inner-here, moves-listed, first-found, first-plays, none-plays}
-use Rattle.search_core.proofs.Hints.{first-up, on-place, place-some, can-try, legal-here, worth-here, place-worth, place-listed, none-listed}
+use Rattle.search_laws.proofs.HintLaws.{hint-worth, tries-here, found-here, reply-here, first-cut, reply-low, inner-here, moves-listed, first-found, first-plays, none-plays}
+use Rattle.search_core.proofs.Hints.{copy-place, place-some, can-try, legal-here, worth-here, place-worth, place-listed, none-listed}
 use Rattle.hive_model.specs.Lists.{IsOn}
 use Rattle.hive_model.specs.declared.places.Move.{Move}
+use Rattle.search_core.proofs.WindowLaws.{FirstRest, first-rest}
 use Rattle.search_core.proofs.TimeLaws.{if-some, rest-time, one-time, both-time, others-time, first-time}
 use Rattle.search_core.proofs.CountLaws.{in_time-then, counts-then, counts-here}
 use Rattle.search_core.proofs.PurseLaws.{paid-then, paid-here, ended-then}
@@ -81,7 +82,7 @@ node_moves::search_from-reply_with-requires g t c κs within =
 pub node_moves::search_from-returns-then-found-window-clause-found : goal.node_moves::search_from-returns-then-found-window-clause-found
 node_moves::search_from-returns-then-found-window-clause-found g t c =
     let start = g.G.Game.course c.args.game.now in
-    let place = on-place (moves (position start)) c.again.result (subst (IsOn (moves (position start))) (sym c.again.ensures) c.requires.legal) in
+    let place = copy-place (moves (position start)) c.args.m.now c.again.result c.again.ensures c.requires.legal in
     let tried : IsFound (reply_value (position start) (c.args.depth - 1) c.again.result) c.args.window c.in_ok-found.found = c.in_ok-found.ensures.found in
     let fits : SFits w32 c.in_ok-found.found = search rules in
     let same_found : to_z w32 (of_z w32 c.in_ok-found.found) ≡ c.in_ok-found.found = to_z-of_z w32 c.in_ok-found.found fits in
@@ -93,53 +94,48 @@ node_moves::search_from-returns-then-found-window-clause-found g t c =
 pub node_moves::search_from-returns-then-found-window-clause-played : goal.node_moves::search_from-returns-then-found-window-clause-played
 node_moves::search_from-returns-then-found-window-clause-played g t c =
     let start = g.G.Game.course c.args.game.now in
-    let place = on-place (moves (position start)) c.again.result (subst (IsOn (moves (position start))) (sym c.again.ensures) c.requires.legal) in
+    let place = copy-place (moves (position start)) c.args.m.now c.again.result c.again.ensures c.requires.legal in
     first-cut (position start) c.args.depth place.0 c.again.result c.args.window _ _ _ c.requires.inner place.1 refl c.reply_with.ensures.played
 
 pub node_moves::search_from-returns-in_err-found-clause-played : goal.node_moves::search_from-returns-in_err-found-clause-played
 node_moves::search_from-returns-in_err-found-clause-played g t c =
     let start = g.G.Game.course c.args.game.now in
-    let place = on-place (moves (position start)) c.again.result (subst (IsOn (moves (position start))) (sym c.again.ensures) c.requires.legal) in
+    let place = copy-place (moves (position start)) c.args.m.now c.again.result c.again.ensures c.requires.legal in
     first-cut (position start) c.args.depth place.0 c.again.result c.args.window _ _ _ c.requires.inner place.1 refl c.reply_with.ensures.played
 
 pub node_moves::search_from-returns-then-found-window-clause-time : goal.node_moves::search_from-returns-then-found-window-clause-time
 node_moves::search_from-returns-then-found-window-clause-time g t c =
     let start = g.G.Game.course c.args.game.now in
-    let place = on-place (moves (position start)) c.again.result (subst (IsOn (moves (position start))) (sym c.again.ensures) c.requires.legal) in
+    let place = copy-place (moves (position start)) c.args.m.now c.again.result c.again.ensures c.requires.legal in
     one-time start start c.args.depth place.0 c.again.result _ _ _ _ _ _ c.requires.inner place.1 refl c.reply_with.ensures.time
 
 pub node_moves::search_from-returns-in_err-found-clause-time : goal.node_moves::search_from-returns-in_err-found-clause-time
 node_moves::search_from-returns-in_err-found-clause-time g t c =
     let start = g.G.Game.course c.args.game.now in
-    let place = on-place (moves (position start)) c.again.result (subst (IsOn (moves (position start))) (sym c.again.ensures) c.requires.legal) in
+    let place = copy-place (moves (position start)) c.args.m.now c.again.result c.again.ensures c.requires.legal in
     one-time start start c.args.depth place.0 c.again.result _ _ _ _ _ _ c.requires.inner place.1 refl c.reply_with.ensures.time
 
 pub node_moves::search_from-search_others-requires : goal.node_moves::search_from-search_others-requires
 node_moves::search_from-search_others-requires g t c κs within =
     let start = g.G.Game.course c.args.game.now in
     let same_game : g.G.Game.course c.reply_with.new.game ≡ start = c.reply_with.ensures.before.game in
-    let up : Raised (reply_value (position start) (c.args.depth - 1) c.again.result) c.args.window (to_z w32 (of_z w32 c.max.result)) =
-    first-up start start (c.args.depth - 1) c.again.result c.in_ok-found.found c.max.result c.args.window refl c.requires.window (search rules) (search rules) (search rules) (search rules) c.max.ensures.value c.if-found-window.false c.in_ok-found.ensures.found in
-    let window : IsOpen (record { alpha = to_z w32 (of_z w32 c.max.result); beta = to_z w32 (of_z w32 c.args.window.beta) }) = record {
-      open_ = omega (arith, ints, clamps, up.is, up.less, c.requires.window.open_, c.requires.window.alpha, c.requires.window.beta);
-      alpha = omega (arith, ints, clamps, up.is, c.requires.window.alpha);
-      beta = omega (arith, ints, c.requires.window.open_, c.requires.window.alpha, c.requires.window.beta);
-    } in
-    let worth : reply_value (position start) (c.args.depth - 1) c.again.result ≤ℤ to_z w32 (of_z w32 c.max.result) = omega (arith, ints, clamps, up.is) in (
+    let rest : Window = record { alpha = to_z w32 (of_z w32 c.max.result); beta = to_z w32 (of_z w32 c.args.window.beta) } in
+    let left : FirstRest (reply_value (position start) (c.args.depth - 1) c.again.result) c.args.window rest =
+    first-rest start start (c.args.depth - 1) c.again.result c.in_ok-found.found c.max.result c.args.window refl c.requires.window (search rules) c.max.ensures.value c.if-found-window.false c.in_ok-found.ensures.found in (
       search rules,
       (
         within.0,
         (
           within.1,
           (
-            window,
+            left.open_,
             (
               inner-here start (g.G.Game.course c.reply_with.new.game) c.args.depth same_game c.requires.inner,
               (
                 room-within start (g.G.Game.course c.reply_with.new.game) _ _ c.args.depth c.args.depth (omega arith) c.requires.room c.reply_with.ensures.before,
                 (
                   legal-here start (g.G.Game.course c.reply_with.new.game) c.args.m.now same_game c.requires.legal,
-                  worth-here start (g.G.Game.course c.reply_with.new.game) (c.args.depth - 1) c.args.m.now _ same_game (subst (λ (n : Move). reply_value (position start) (c.args.depth - 1) n ≤ℤ to_z w32 (of_z w32 c.max.result)) c.again.ensures worth),
+                  worth-here start (g.G.Game.course c.reply_with.new.game) (c.args.depth - 1) c.args.m.now _ same_game (subst (λ (n : Move). reply_value (position start) (c.args.depth - 1) n ≤ℤ to_z w32 (of_z w32 c.max.result)) c.again.ensures left.low),
                 ),
               ),
             ),
@@ -151,33 +147,31 @@ node_moves::search_from-search_others-requires g t c κs within =
 pub node_moves::search_from-returns-clause-found : goal.node_moves::search_from-returns-clause-found
 node_moves::search_from-returns-clause-found g t c =
     let start = g.G.Game.course c.args.game.now in
-    let place = on-place (moves (position start)) c.again.result (subst (IsOn (moves (position start))) (sym c.again.ensures) c.requires.legal) in
-    let up : Raised (reply_value (position start) (c.args.depth - 1) c.again.result) c.args.window (to_z w32 (of_z w32 c.max.result)) =
-    first-up start start (c.args.depth - 1) c.again.result c.in_ok-found.found c.max.result c.args.window refl c.requires.window (search rules) (search rules) (search rules) (search rules) c.max.ensures.value c.if-found-window.false c.in_ok-found.ensures.found in
-    let same_game : g.G.Game.course c.reply_with.new.game ≡ start = c.reply_with.ensures.before.game in
+    let place = copy-place (moves (position start)) c.args.m.now c.again.result c.again.ensures c.requires.legal in
     let rest : Window = record { alpha = to_z w32 (of_z w32 c.max.result); beta = to_z w32 (of_z w32 c.args.window.beta) } in
-    let beta : to_z w32 (of_z w32 c.args.window.beta) ≡ c.args.window.beta = omega (arith, ints, c.requires.window.open_, c.requires.window.alpha, c.requires.window.beta) in
+    let left : FirstRest (reply_value (position start) (c.args.depth - 1) c.again.result) c.args.window rest =
+    first-rest start start (c.args.depth - 1) c.again.result c.in_ok-found.found c.max.result c.args.window refl c.requires.window (search rules) c.max.ensures.value c.if-found-window.false c.in_ok-found.ensures.found in
+    let same_game : g.G.Game.course c.reply_with.new.game ≡ start = c.reply_with.ensures.before.game in
     let most = reply-low (position start) c.args.depth place.0 c.again.result c.requires.inner place.1 in
     if-some _ _ c.search_others.result
-    (λ a found. first-found _ _ c.args.window rest a.value up.is beta most c.requires.window.open_ (found-here start (g.G.Game.course c.reply_with.new.game) c.args.depth rest a.value same_game found))
+    (λ a found. first-found _ _ c.args.window rest a.value left.is left.beta most c.requires.window.open_ (found-here start (g.G.Game.course c.reply_with.new.game) c.args.depth rest a.value same_game found))
     c.search_others.ensures.found
 
 pub node_moves::search_from-returns-clause-played : goal.node_moves::search_from-returns-clause-played
 node_moves::search_from-returns-clause-played g t c =
     let start = g.G.Game.course c.args.game.now in
-    let place = on-place (moves (position start)) c.again.result (subst (IsOn (moves (position start))) (sym c.again.ensures) c.requires.legal) in
-    let up : Raised (reply_value (position start) (c.args.depth - 1) c.again.result) c.args.window (to_z w32 (of_z w32 c.max.result)) =
-    first-up start start (c.args.depth - 1) c.again.result c.in_ok-found.found c.max.result c.args.window refl c.requires.window (search rules) (search rules) (search rules) (search rules) c.max.ensures.value c.if-found-window.false c.in_ok-found.ensures.found in
-    let same_game : g.G.Game.course c.reply_with.new.game ≡ start = c.reply_with.ensures.before.game in
+    let place = copy-place (moves (position start)) c.args.m.now c.again.result c.again.ensures c.requires.legal in
     let rest : Window = record { alpha = to_z w32 (of_z w32 c.max.result); beta = to_z w32 (of_z w32 c.args.window.beta) } in
-    let beta : to_z w32 (of_z w32 c.args.window.beta) ≡ c.args.window.beta = omega (arith, ints, c.requires.window.open_, c.requires.window.alpha, c.requires.window.beta) in
-    first-plays (position start) c.args.depth c.args.window rest place.0 c.again.result _ _ _ c.requires.inner place.1 (omega (arith, ints, clamps, up.is)) beta
+    let left : FirstRest (reply_value (position start) (c.args.depth - 1) c.again.result) c.args.window rest =
+    first-rest start start (c.args.depth - 1) c.again.result c.in_ok-found.found c.max.result c.args.window refl c.requires.window (search rules) c.max.ensures.value c.if-found-window.false c.in_ok-found.ensures.found in
+    let same_game : g.G.Game.course c.reply_with.new.game ≡ start = c.reply_with.ensures.before.game in
+    first-plays (position start) c.args.depth c.args.window rest place.0 c.again.result _ _ _ c.requires.inner place.1 left.up left.beta
     c.reply_with.ensures.played (tries-here start _ _ rest _ _ same_game c.search_others.ensures.played)
 
 pub node_moves::search_from-returns-clause-time : goal.node_moves::search_from-returns-clause-time
 node_moves::search_from-returns-clause-time g t c =
     let start = g.G.Game.course c.args.game.now in
-    let place = on-place (moves (position start)) c.again.result (subst (IsOn (moves (position start))) (sym c.again.ensures) c.requires.legal) in
+    let place = copy-place (moves (position start)) c.args.m.now c.again.result c.again.ensures c.requires.legal in
     first-time start (g.G.Game.course c.reply_with.new.game) c.args.depth place.0 c.again.result c.args.m.now _ _ _ _ _ _ _ _ _ c.requires.inner place.1 c.reply_with.ensures.before.game (sym c.again.ensures)
     c.reply_with.ensures.time c.search_others.ensures.time
 
@@ -214,25 +208,21 @@ node_moves::search_listed-search_early-answer-requires g t c κs within =
     let start = g.G.Game.course c.args.game.now in
     let here : slice_get (moves (position start)) c.in-Some.first ≡ Some c.get-m.result =
     move-here start start _ _ _ _ _ _ refl c.list.ensures.listed refl c.levels-level.ensures c.get-m.ensures in
-    let up : Raised (reply_value (position start) (c.args.depth - 1) c.get-m.result) c.args.window (to_z w32 (of_z w32 c.max.result)) =
-    first-up start (g.G.Game.course c.best_told-hint.new.game) (c.args.depth - 1) c.get-m.result c.in-Some-reply_with.found c.max.result c.args.window (c.best_told-hint.ensures.same ∙ c.list.ensures.same) c.requires.window (search rules) (search rules) (search rules) (search rules) c.max.ensures.value c.if-found-window.false c.in-Some-reply_with.ensures.found in
+    let rest : Window = record { alpha = to_z w32 (of_z w32 c.max.result); beta = to_z w32 (of_z w32 c.args.window.beta) } in
+    let left : FirstRest (reply_value (position start) (c.args.depth - 1) c.get-m.result) c.args.window rest =
+    first-rest start (g.G.Game.course c.best_told-hint.new.game) (c.args.depth - 1) c.get-m.result c.in-Some-reply_with.found c.max.result c.args.window (c.best_told-hint.ensures.same ∙ c.list.ensures.same) c.requires.window (search rules) c.max.ensures.value c.if-found-window.false c.in-Some-reply_with.ensures.found in
     let same_game : g.G.Game.course c.reply_with.new.game ≡ start = c.reply_with.ensures.before.game ∙ (c.best_told-hint.ensures.same ∙ c.list.ensures.same) in
-    let node = node-listed start start (g.G.Game.course c.best_told-hint.new.game) _ _ c.args.depth c.levels-level.result c.requires.room c.requires.inner refl (c.best_told-hint.ensures.same ∙ c.list.ensures.same) c.list.ensures.listed c.levels-level.ensures in
-    let window : IsOpen (record { alpha = to_z w32 (of_z w32 c.max.result); beta = to_z w32 (of_z w32 c.args.window.beta) }) = record {
-      open_ = omega (arith, ints, clamps, up.is, up.less, c.requires.window.open_, c.requires.window.alpha, c.requires.window.beta);
-      alpha = omega (arith, ints, clamps, up.is, c.requires.window.alpha);
-      beta = omega (arith, ints, c.requires.window.open_, c.requires.window.alpha, c.requires.window.beta);
-    } in (
+    let node = node-listed start start (g.G.Game.course c.best_told-hint.new.game) _ _ c.args.depth c.levels-level.result c.requires.room c.requires.inner refl (c.best_told-hint.ensures.same ∙ c.list.ensures.same) c.list.ensures.listed c.levels-level.ensures in (
       search rules,
       (
         within.0,
         (
           within.1,
           (
-            window,
+            left.open_,
             (
               node-again _ _ _ _ _ _ node c.reply_with.ensures.before,
-              hint-worth start _ _ _ _ _ same_game here (omega (arith, ints, clamps, up.is)),
+              hint-worth start _ _ _ _ _ same_game here left.low,
             ),
           ),
         ),
@@ -244,14 +234,13 @@ node_moves::search_listed-returns-then-first-count-clause-found g t c =
     let start = g.G.Game.course c.args.game.now in
     let here : slice_get (moves (position start)) c.in-Some.first ≡ Some c.get-m.result =
     move-here start start _ _ _ _ _ _ refl c.list.ensures.listed refl c.levels-level.ensures c.get-m.ensures in
-    let up : Raised (reply_value (position start) (c.args.depth - 1) c.get-m.result) c.args.window (to_z w32 (of_z w32 c.max.result)) =
-    first-up start (g.G.Game.course c.best_told-hint.new.game) (c.args.depth - 1) c.get-m.result c.in-Some-reply_with.found c.max.result c.args.window (c.best_told-hint.ensures.same ∙ c.list.ensures.same) c.requires.window (search rules) (search rules) (search rules) (search rules) c.max.ensures.value c.if-found-window.false c.in-Some-reply_with.ensures.found in
-    let same_game : g.G.Game.course c.reply_with.new.game ≡ start = c.reply_with.ensures.before.game ∙ (c.best_told-hint.ensures.same ∙ c.list.ensures.same) in
     let rest : Window = record { alpha = to_z w32 (of_z w32 c.max.result); beta = to_z w32 (of_z w32 c.args.window.beta) } in
-    let beta : to_z w32 (of_z w32 c.args.window.beta) ≡ c.args.window.beta = omega (arith, ints, c.requires.window.open_, c.requires.window.alpha, c.requires.window.beta) in
+    let left : FirstRest (reply_value (position start) (c.args.depth - 1) c.get-m.result) c.args.window rest =
+    first-rest start (g.G.Game.course c.best_told-hint.new.game) (c.args.depth - 1) c.get-m.result c.in-Some-reply_with.found c.max.result c.args.window (c.best_told-hint.ensures.same ∙ c.list.ensures.same) c.requires.window (search rules) c.max.ensures.value c.if-found-window.false c.in-Some-reply_with.ensures.found in
+    let same_game : g.G.Game.course c.reply_with.new.game ≡ start = c.reply_with.ensures.before.game ∙ (c.best_told-hint.ensures.same ∙ c.list.ensures.same) in
     let most = reply-low (position start) c.args.depth c.in-Some.first c.get-m.result c.requires.inner here in
     if-some _ _ c.search_early-answer.result
-    (λ a found. first-found _ _ c.args.window rest a.value up.is beta most c.requires.window.open_ (found-here start (g.G.Game.course c.reply_with.new.game) c.args.depth rest a.value same_game found))
+    (λ a found. first-found _ _ c.args.window rest a.value left.is left.beta most c.requires.window.open_ (found-here start (g.G.Game.course c.reply_with.new.game) c.args.depth rest a.value same_game found))
     c.search_early-answer.ensures.found
 
 pub node_moves::search_listed-returns-then-first-count-clause-played : goal.node_moves::search_listed-returns-then-first-count-clause-played
@@ -259,13 +248,12 @@ node_moves::search_listed-returns-then-first-count-clause-played g t c =
     let start = g.G.Game.course c.args.game.now in
     let here : slice_get (moves (position start)) c.in-Some.first ≡ Some c.get-m.result =
     move-here start start _ _ _ _ _ _ refl c.list.ensures.listed refl c.levels-level.ensures c.get-m.ensures in
-    let up : Raised (reply_value (position start) (c.args.depth - 1) c.get-m.result) c.args.window (to_z w32 (of_z w32 c.max.result)) =
-    first-up start (g.G.Game.course c.best_told-hint.new.game) (c.args.depth - 1) c.get-m.result c.in-Some-reply_with.found c.max.result c.args.window (c.best_told-hint.ensures.same ∙ c.list.ensures.same) c.requires.window (search rules) (search rules) (search rules) (search rules) c.max.ensures.value c.if-found-window.false c.in-Some-reply_with.ensures.found in
+    let rest : Window = record { alpha = to_z w32 (of_z w32 c.max.result); beta = to_z w32 (of_z w32 c.args.window.beta) } in
+    let left : FirstRest (reply_value (position start) (c.args.depth - 1) c.get-m.result) c.args.window rest =
+    first-rest start (g.G.Game.course c.best_told-hint.new.game) (c.args.depth - 1) c.get-m.result c.in-Some-reply_with.found c.max.result c.args.window (c.best_told-hint.ensures.same ∙ c.list.ensures.same) c.requires.window (search rules) c.max.ensures.value c.if-found-window.false c.in-Some-reply_with.ensures.found in
     let same_game : g.G.Game.course c.reply_with.new.game ≡ start = c.reply_with.ensures.before.game ∙ (c.best_told-hint.ensures.same ∙ c.list.ensures.same) in
     let plays = plays-here start _ (c.args.depth - 1) c.get-m.result (neg_ℤ c.args.window.beta) (neg_ℤ c.args.window.alpha) _ _ (c.best_told-hint.ensures.same ∙ c.list.ensures.same) c.reply_with.ensures.played in
-    let rest : Window = record { alpha = to_z w32 (of_z w32 c.max.result); beta = to_z w32 (of_z w32 c.args.window.beta) } in
-    let beta : to_z w32 (of_z w32 c.args.window.beta) ≡ c.args.window.beta = omega (arith, ints, c.requires.window.open_, c.requires.window.alpha, c.requires.window.beta) in
-    first-plays (position start) c.args.depth c.args.window rest c.in-Some.first c.get-m.result _ _ _ c.requires.inner here (omega (arith, ints, clamps, up.is)) beta
+    first-plays (position start) c.args.depth c.args.window rest c.in-Some.first c.get-m.result _ _ _ c.requires.inner here left.up left.beta
     (omega (arith, plays, (c.best_told-hint.ensures.count ∙ c.list.ensures.count))) (tries-here start _ _ rest _ _ same_game c.search_early-answer.ensures.played)
 
 pub node_moves::search_listed-search_early-answer-requires-2 : goal.node_moves::search_listed-search_early-answer-requires-2

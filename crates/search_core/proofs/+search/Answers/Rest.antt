@@ -4,12 +4,11 @@ use Rattle.std.specs.List.{slice_get}
 use Rattle.std.specs.Int.{int_max}
 use mir.Val.{SFits}
 use mir.Syntax.{w32}
-use Rattle.std.proofs.lemmas.Int.{ints, to_z-of_z}
+use Rattle.std.proofs.lemmas.Int.{to_z-of_z}
 use Rattle.hive_model.specs.Legal.{moves}
 use Rattle.hive_model.specs.Minimax.{reply_value}
 use Rattle.hive_model.specs.Courses.{position}
 use Rattle.search_laws.proofs.Signs.{at-least, below}
-use Rattle.search_laws.specs.Found.{IsOpen}
 use Rattle.search_laws.proofs.NodeLaws.{node-reply, before-then}
 use Rattle.search_laws.specs.declared.window.Window.{Window}
 use Rattle.search_laws.proofs.TurnLaws.{LoopTurn, cut-found, turn-rest, turn-plays, end-found, turn-made, plays-here}
@@ -17,6 +16,7 @@ use Rattle.search_laws.proofs.HintLaws.{cut-tries, at-place, skip-rest, skip-pla
 use Rattle.search_core.proofs.Hints.{hint-is, hint-holds}
 use Rattle.search_core.proofs.TimeLaws.{keeps-more, turn-left, skip-left, turn-time, stop-tries, less, raised-low, raised-high}
 use Rattle.search_core.proofs.CountLaws.{in_time-then, counts-then}
+use Rattle.search_core.proofs.WindowLaws.{beta-coded, open-raised, at-most-then}
 use Rattle.search_core.proofs.PurseLaws.{paid-then, ended-then}
 use Rattle.search_core.proofs.+search.Goals as goal
 
@@ -28,7 +28,7 @@ rest::search_rest-loop-i-preserved-then-eq g t c =
     let place = at-place (moves p) c.loop-i.i (omega (arith, all, c.loop-i-test.true)) in
     let here : c.args.places.hint ≡ Some c.loop-i.i = hint-is c.args.places.hint c.loop-i.i (sym c.if-eq.true ∙ c.eq.ensures) in
     let worth : reply_value p (c.args.depth - 1) place.0 ≤ℤ c.args.window.alpha = hint-holds _ c.args.places.hint c.loop-i.i here c.requires.hint place.0 place.1 in
-    let less : reply_value p (c.args.depth - 1) place.0 ≤ℤ to_z w32 c.loop-i.alpha-bits = omega (arith, ints, turn.low, worth) in
+    let less : reply_value p (c.args.depth - 1) place.0 ≤ℤ to_z w32 c.loop-i.alpha-bits = at-most-then (reply_value p (c.args.depth - 1) place.0) c.args.window.alpha (to_z w32 c.loop-i.alpha-bits) worth turn.low in
     let skip = skip-left p c.args.depth c.loop-i.i place.0 c.args.places.hint place.1 (sym c.eq.ensures ∙ c.if-eq.true) in
     record {
       before = turn.before;
@@ -45,19 +45,14 @@ rest::search_rest-loop-i-preserved-then-eq g t c =
 
 pub rest::search_rest-reply_with-requires : goal.rest::search_rest-reply_with-requires
 rest::search_rest-reply_with-requires g t c κs within =
-    let turn = c.loop-i.invariant in
-    let window : IsOpen (record { alpha = to_z w32 c.loop-i.alpha-bits; beta = to_z w32 (of_z w32 c.args.window.beta) }) = record {
-      open_ = omega (arith, ints, turn.high, c.requires.window.open_, c.requires.window.alpha, c.requires.window.beta);
-      alpha = omega (arith, ints, turn.low, c.requires.window.alpha);
-      beta = omega (arith, ints, c.requires.window.open_, c.requires.window.alpha, c.requires.window.beta);
-    } in (
+    let turn = c.loop-i.invariant in (
       search rules,
       (
         within.0,
         (
           within.1,
           (
-            window,
+            open-raised c.args.window (to_z w32 c.loop-i.alpha-bits) c.requires.window turn.low turn.high,
             node-reply (g.G.Game.course c.args.game.now) _ _ _ c.args.depth c.args.level c.loop-i.i c.get-m.result c.requires.node turn.before c.get-m.ensures,
           ),
         ),
@@ -69,7 +64,7 @@ rest::search_rest-returns-then-found-inner-clause-found g t c =
     let turn = c.loop-i.invariant in
     let start = g.G.Game.course c.args.game.now in
     let fits : SFits w32 c.in_ok-found.found = search rules in
-    let beta : to_z w32 (of_z w32 c.args.window.beta) ≡ c.args.window.beta = omega (arith, ints, c.requires.window.open_, c.requires.window.alpha, c.requires.window.beta) in
+    let beta : to_z w32 (of_z w32 c.args.window.beta) ≡ c.args.window.beta = beta-coded c.args.window c.requires.window in
     let here : slice_get (moves (position start)) c.loop-i.i ≡ Some c.get-m.result = here-in _ _ _ _ _ _ turn.before.stack c.requires.node.listed c.get-m.ensures in
     rw (to_z-of_z w32 c.in_ok-found.found fits)
     (cut-found _ _ _ _ c.loop-i.i _ _ (turn-made _ _ _ _ _ c.args.window _ _ c.requires.node.inner here turn.before.game beta turn.low turn.high c.in_ok-found.ensures.found)
@@ -78,7 +73,7 @@ rest::search_rest-returns-then-found-inner-clause-found g t c =
 pub rest::search_rest-returns-then-found-inner-clause-played : goal.rest::search_rest-returns-then-found-inner-clause-played
 rest::search_rest-returns-then-found-inner-clause-played g t c = let turn = c.loop-i.invariant in
     let start = g.G.Game.course c.args.game.now in
-    let beta : to_z w32 (of_z w32 c.args.window.beta) ≡ c.args.window.beta = omega (arith, ints, c.requires.window.open_, c.requires.window.alpha, c.requires.window.beta) in
+    let beta : to_z w32 (of_z w32 c.args.window.beta) ≡ c.args.window.beta = beta-coded c.args.window c.requires.window in
     let here : slice_get (moves (position start)) c.loop-i.i ≡ Some c.get-m.result = here-in _ _ _ _ _ _ turn.before.stack c.requires.node.listed c.get-m.ensures in
     cut-tries _ _ _ _ c.loop-i.i _ _ _ _ _ (turn-made _ _ _ _ _ c.args.window _ _ c.requires.node.inner here turn.before.game beta turn.low turn.high c.in_ok-found.ensures.found)
     turn.plays (plays-here _ _ _ _ _ _ _ _ turn.before.game c.reply_with.ensures.played)
@@ -89,7 +84,7 @@ rest::search_rest-loop-i-preserved g t c =
     let start = g.G.Game.course c.args.game.now in
     let inner : Window = record { alpha = to_z w32 c.loop-i.alpha-bits; beta = to_z w32 (of_z w32 c.args.window.beta) } in
     let fits : SFits w32 c.in_ok-found.found = search rules in
-    let beta : to_z w32 (of_z w32 c.args.window.beta) ≡ c.args.window.beta = omega (arith, ints, c.requires.window.open_, c.requires.window.alpha, c.requires.window.beta) in
+    let beta : to_z w32 (of_z w32 c.args.window.beta) ≡ c.args.window.beta = beta-coded c.args.window c.requires.window in
     let here : slice_get (moves (position start)) c.loop-i.i ≡ Some c.get-m.result = here-in _ _ _ _ _ _ turn.before.stack c.requires.node.listed c.get-m.ensures in
     let made : LoopTurn (position start) c.args.depth c.args.window inner c.loop-i.i c.get-m.result c.in_ok-found.found =
     turn-made _ _ _ _ _ _ _ _ c.requires.node.inner here turn.before.game beta turn.low turn.high c.in_ok-found.ensures.found in
@@ -137,7 +132,7 @@ pub rest::search_rest-returns-in_err-found-clause-played : goal.rest::search_res
 rest::search_rest-returns-in_err-found-clause-played g t c =
     let turn = c.loop-i.invariant in
     let start = g.G.Game.course c.args.game.now in
-    let beta : to_z w32 (of_z w32 c.args.window.beta) ≡ c.args.window.beta = omega (arith, ints, c.requires.window.open_, c.requires.window.alpha, c.requires.window.beta) in
+    let beta : to_z w32 (of_z w32 c.args.window.beta) ≡ c.args.window.beta = beta-coded c.args.window c.requires.window in
     let here : slice_get (moves (position start)) c.loop-i.i ≡ Some c.get-m.result = here-in _ _ _ _ _ _ turn.before.stack c.requires.node.listed c.get-m.ensures in
     let inner : Window = record { alpha = to_z w32 c.loop-i.alpha-bits; beta = to_z w32 (of_z w32 c.args.window.beta) } in
     stop-tries (position start) c.args.depth c.args.window inner c.loop-i.i c.get-m.result _ _ _ beta here turn.plays (plays-here _ _ _ _ _ _ _ _ turn.before.game c.reply_with.ensures.played)
@@ -162,7 +157,7 @@ rest::search_rest-loop-i-preserved-then-eq-2 g t c =
     let place = at-place (moves p) c.loop-i.i (omega (arith, all, c.loop-i-test.true)) in
     let here : c.args.places.first ≡ Some c.loop-i.i = hint-is c.args.places.first c.loop-i.i (sym c.if-eq-2.true ∙ c.eq-in-loop-i.ensures) in
     let worth : reply_value p (c.args.depth - 1) place.0 ≤ℤ c.args.window.alpha = hint-holds _ c.args.places.first c.loop-i.i here c.requires.first place.0 place.1 in
-    let less : reply_value p (c.args.depth - 1) place.0 ≤ℤ to_z w32 c.loop-i.alpha-bits = omega (arith, ints, turn.low, worth) in
+    let less : reply_value p (c.args.depth - 1) place.0 ≤ℤ to_z w32 c.loop-i.alpha-bits = at-most-then (reply_value p (c.args.depth - 1) place.0) c.args.window.alpha (to_z w32 c.loop-i.alpha-bits) worth turn.low in
     let fewer = turn-left p c.args.depth c.loop-i.i place.0 c.args.places.hint place.1 (sym c.eq.ensures ∙ c.if-eq.false) in
     record {
       before = turn.before;
@@ -185,7 +180,7 @@ rest::search_rest-loop-i-preserved-then-eq-3 g t c =
     let place = at-place (moves p) c.loop-i.i (omega (arith, all, c.loop-i-test.true)) in
     let here : c.args.places.second ≡ Some c.loop-i.i = hint-is c.args.places.second c.loop-i.i (sym c.if-eq-3.true ∙ c.eq-in-loop-i-2.ensures) in
     let worth : reply_value p (c.args.depth - 1) place.0 ≤ℤ c.args.window.alpha = hint-holds _ c.args.places.second c.loop-i.i here c.requires.second place.0 place.1 in
-    let less : reply_value p (c.args.depth - 1) place.0 ≤ℤ to_z w32 c.loop-i.alpha-bits = omega (arith, ints, turn.low, worth) in
+    let less : reply_value p (c.args.depth - 1) place.0 ≤ℤ to_z w32 c.loop-i.alpha-bits = at-most-then (reply_value p (c.args.depth - 1) place.0) c.args.window.alpha (to_z w32 c.loop-i.alpha-bits) worth turn.low in
     let fewer = turn-left p c.args.depth c.loop-i.i place.0 c.args.places.hint place.1 (sym c.eq.ensures ∙ c.if-eq.false) in
     record {
       before = turn.before;
