@@ -15,12 +15,17 @@ import tempfile
 
 from viewer import expect
 
-CRATES = "# a list\nlow: arrayvec\nhive: low # the program\nother: low\n"
+CRATES = "# a list\nlow: arrayvec\nedge:\nhive: low edge # the program\nother: low\n"
 TOOL = """#!/usr/bin/env bash
 echo "$* over" $(find crates.txt HANDLES crates -type f | sort) >>"$CALLS"
 [ -z "${RT_FAILS:-}" ] || { echo "not proved: low"; exit 1; }
-printf '== low\\nlogic=proved functions=1\\nrt: low proved\\n'
-if [ -n "${RT_KEPT:-}" ]; then echo "rt: hive is kept: an earlier run proved it"; else echo "rt: hive proved"; fi
+printf '== low\\nlogic=proved functions=1\\n'
+for name in ${2-low edge hive}; do
+    told=proved
+    case "$# $name${RT_KEPT:-}" in "1 low" | "1 edge" | *1) told="is kept: an earlier run proved it" ;; esac
+    echo "rt: $name $told"
+done
+[ $# = 1 ] || exit 0
 mkdir -p crates/hive/out
 printf '#!/usr/bin/env bash\\necho "$$ $*"\\ncat\\n[ "${1-}" != wrong ] || { echo "hive: wrong command line" >&2; exit 2; }\\n' >crates/hive/out/hive
 chmod +x crates/hive/out/hive
@@ -30,7 +35,7 @@ chmod +x crates/hive/out/hive
 def a_copy(top, room):
     """A small repository with the launcher, and the folder of its toolchain."""
     (room / "tool").mkdir()
-    for name in ("low", "hive", "other"):
+    for name in ("low", "edge", "hive", "other"):
         (room / "top/crates" / name / "src").mkdir(parents=True)
         (room / "top/crates" / name / "src/lib.rt").write_text("fn f() {}\n")
         (room / "top/crates" / name / "must-fail").mkdir()
@@ -97,7 +102,7 @@ def check_help(top, launcher):
         specs = (top / f"crates/command_words/specs/{file}.antt").read_text(encoding="utf-8")
         options |= set(re.findall(r'codes "([\w-]+)" ∷', specs)) | set(re.findall(r'\(codes "\w+"\) \(codes "(\w+)"\)', specs))
     expect("options that help tells of", sorted(options - set(re.findall(r"--([\w-]+)", text)) - set(names)), [])
-    greeting = re.search(r'b"id (.*?)\\n', (top / "crates/hive_cli/src/sessions.rt").read_text(encoding="utf-8"))[1]
+    greeting = re.search(r'b"id (.*?)\\n', (top / "crates/line_services/src/sessions.rt").read_text(encoding="utf-8"))[1]
     expect("--version", launcher.run(["--version"])[:3], (0, f"{greeting}\n", ""))
     expect("calls of help", launcher.called(), [])
 
@@ -110,14 +115,16 @@ def check_build(launcher):
     launcher.called()
     status, written, said, _ = launcher.run(["build"])
     expect("a build", (status, written, "hive: built" in said), (0, "", True))
-    files = "HANDLES crates.txt crates/hive/src/lib.rt crates/low/src/lib.rt"
-    expect("the gate's command over the program's crates, and no edits", launcher.called(), [f"ci over {files}"])
+    files = "HANDLES crates.txt crates/edge/src/lib.rt crates/hive/src/lib.rt crates/low/src/lib.rt"
+    *ground, last = launcher.called()
+    expect("the crates that stand on no other one, first", sorted(ground), [f"ci edge over {files}", f"ci low over {files}"])
+    expect("the gate's command over the program's crates, and no edits", last, f"ci over {files}")
     expect("lines of the log", log.read_text().splitlines()[0], "== low")
     expect("nothing is built twice", (launcher.run(["build"])[0], launcher.called()), (0, []))
     for number, more in enumerate(({}, {"RT_KEPT": "1"})):
         (top / "crates/low/src/lib.rt").write_text(f"fn g{number}() {{}}\n")
         status, shown, _ = launcher.on_terminal(["build"], **more)
-        expect("a build on a terminal", (status, "2 of 2 crates are ready, about 0 min more" in shown), (0, True))
+        expect("a build on a terminal", (status, "3 of 3 crates are ready, about 0 min more" in shown), (0, True))
     launcher.called()
 
 
