@@ -12,7 +12,7 @@ use io_edge::{Link, write_all};
 use line_feed::{LineReader, ShortAnswer};
 
 /// What the sending of a line came to.
-#[derive(Clone, Copy, Debug, PartialEq, Eq)]
+#[derive(Clone, Copy)]
 pub(crate) enum Sending {
     /// It was sent whole.
     Sent,
@@ -23,7 +23,7 @@ pub(crate) enum Sending {
 }
 
 /// What a turn came to.
-#[derive(Clone, Copy, Debug, PartialEq, Eq)]
+#[derive(Clone, Copy)]
 pub(crate) enum Turned {
     /// A line was read.
     Heard,

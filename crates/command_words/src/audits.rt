@@ -45,7 +45,7 @@ const OPTIONS: [&str; 8] = [
 const UNTIMED: Level = Level::Depth { depth: 1 };
 
 /// How the games of an audit are made.
-#[derive(Clone, Copy, Debug, PartialEq, Eq)]
+#[derive(Clone, Copy)]
 pub(crate) struct Audit {
     pub(crate) games: u64,
     pub(crate) seed: u64,

@@ -7,7 +7,7 @@ use option_words::options_of;
 use std::alloc::{AllocError, Global};
 
 /// The number that makes a game, and its greatest number of plies.
-#[derive(Clone, Copy, Debug, PartialEq, Eq)]
+#[derive(Clone, Copy)]
 pub(crate) struct Growth {
     pub(crate) seed: u64,
     pub(crate) plies: u32,

@@ -60,7 +60,7 @@ pub(crate) trait LineService {
 }
 
 /// Why a service reads no further line.
-#[derive(Clone, Copy, Debug, PartialEq, Eq)]
+#[derive(Clone, Copy)]
 pub(crate) enum Stop {
     /// The input has ended, or a line has ended the run.
     Over,

@@ -25,7 +25,7 @@ use search_laws::Window;
 use value_table::ValueTable;
 
 /// What an early try answers.
-#[derive(Clone, Copy, Debug)]
+#[derive(Clone, Copy)]
 struct Early {
     /// What the move is worth, or the lower end of the window where this was not found out.
     value: i32,

@@ -23,7 +23,7 @@ use search_laws::Window;
 use value_table::ValueTable;
 
 /// The places of the moves that were tried before their turn, and of the best of them.
-#[derive(Clone, Copy, Debug)]
+#[derive(Clone, Copy)]
 pub(crate) struct Places {
     pub(crate) hint: Option<u32>,
     pub(crate) first: Option<u32>,

@@ -1,7 +1,7 @@
 //! What the input is to tell next.
 
 /// What the next line of the input is to be.
-#[derive(Clone, Copy, Debug, PartialEq, Eq)]
+#[derive(Clone, Copy)]
 pub(crate) enum Phase {
     /// An opening; where games that were played before are handed in, it may be the empty line that
     /// ends the openings.
