@@ -8,7 +8,7 @@ use Rattle.std.proofs.lemmas.Option.{same_Some}
 use Rattle.std.proofs.lemmas.Bool.{eqb-true}
 use Rattle.io_edge.specs.Outside.{Told, ToldLists, Collects, HasCause, Rose, Starts, behind}
 use Rattle.io_edge.specs.Starts.{Engines}
-use Rattle.hive_model.specs.Lines.{Line as Mark, lines}
+use Rattle.io_edge.specs.Lines.{Line as Mark, lines}
 use Rattle.command_runs.specs.Answered.{WritesAs}
 use Rattle.command_runs.specs.World.{World}
 use Rattle.command_runs.specs.declared.status.Status.{Status}
@@ -16,8 +16,8 @@ use Rattle.command_runs.specs.declared.status.Status.TheVariants.{Done, Refused,
 use Rattle.audit_core.specs.declared.plan.Plan.{Plan}
 use Rattle.audit_core.specs.AuditState.{AuditState}
 use Rattle.audit_core.specs.Audits.{sent_in}
-use Rattle.audit_runner.specs.Wires.{HasFailed, Wire}
-use Rattle.audit_runner.specs.Runs.{Ends, RanOver}
+use Rattle.audit_command.specs.Wires.{HasFailed, Wire}
+use Rattle.audit_command.specs.Runs.{Ends, RanOver}
 use Rattle.audit_command.specs.Audit.{AuditRun, AuditStarts, AuditedOver, CountsFault, Hears, IsStarted, IsWhole, NoneIsOpen, AuditOver, StartsOneOf, verdict_of}
 
 -- a link that has failed has counted it

@@ -2,7 +2,7 @@
 use Rattle.std.specs.Prelude.{◌≡◌, ◌⊎◌, ℕ, ◌+◌, ◌<◌, true, List, [], ◌∷◌, length, take, Some, ◌==◌, if◌then◌else◌}
 use Rattle.io_edge.specs.Outside.{Told, ToldLists, Collects, HasCause, Rose, behind, with_last}
 use Rattle.io_edge.specs.Starts.{Engines}
-use Rattle.hive_model.specs.Lines.{Line as Mark, lines}
+use Rattle.io_edge.specs.Lines.{Line as Mark, lines}
 use Rattle.command_runs.specs.World.{World}
 use Rattle.command_runs.specs.declared.status.Status.{Status}
 use Rattle.command_runs.specs.declared.status.Status.TheVariants.{Done, Refused, Usage, ReadFault, WriteFault, SpawnFault, BadInput, Memory, InputFull}
@@ -10,7 +10,7 @@ use Rattle.audit_core.specs.declared.plan.Plan.{Plan}
 use Rattle.audit_core.specs.declared.findings.Fault.TheVariants.{Broke}
 use Rattle.audit_core.specs.AuditState.{AuditState, is_ended}
 use Rattle.audit_core.specs.Audits.{audit_of, sent_in}
-use Rattle.audit_runner.specs.Runs.{broken_off, unread}
+use Rattle.audit_command.specs.Runs.{broken_off, unread}
 
 -- What was played
 

@@ -1,1 +1,4 @@
 pub mod Audit
+pub mod Wires
+pub mod Turns
+pub mod Runs

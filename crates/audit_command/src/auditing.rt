@@ -14,8 +14,8 @@ ghost use Rattle.audit_command.specs.Audit.{
   verdict_of,
 };
 
+use crate::run::{Halt, run_audit};
 use audit_core::{Auditor, Plan};
-use audit_runner::{Halt, run_audit};
 use command_runs::{Status, end_with};
 use hive_model::Game;
 use io_edge::{Sink, Spawner, StartFault};

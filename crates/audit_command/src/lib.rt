@@ -2,5 +2,7 @@
 #![tactic(auto)]
 
 mod auditing;
+mod run;
+mod turns;
 
 pub use auditing::audit_engine;

@@ -7,7 +7,7 @@ use Rattle.hive_model.specs.declared.places.Move.{Move}
 use Rattle.hive_model.specs.Positions.{Position, opening}
 use Rattle.hive_model.specs.Legal.{moves, is_over}
 use Rattle.hive_model.specs.Games.{replay}
-use Rattle.hive_model.specs.Lines.{Line as Mark, Text, TooLong, greatest_line}
+use Rattle.io_edge.specs.Lines.{Line as Mark, Text, TooLong, greatest_line}
 use Rattle.hive_model.specs.Strings.{parts}
 use Rattle.audit_core.specs.declared.plan.Plan.{Plan}
 use Rattle.audit_core.specs.declared.plan.Stage.{Stage}

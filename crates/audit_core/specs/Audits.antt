@@ -1,6 +1,6 @@
 -- The audit of an engine that says these lines, and what it is sent.
 use Rattle.std.specs.Prelude.{ℕ, cond, List, [], ◌∷◌, ◌++◌}
-use Rattle.hive_model.specs.Lines.{Line as Mark}
+use Rattle.io_edge.specs.Lines.{Line as Mark}
 use Rattle.audit_core.specs.declared.plan.Plan.{Plan}
 use Rattle.audit_core.specs.declared.findings.Fault.TheVariants.{Ended}
 use Rattle.audit_core.specs.AuditState.{AuditState, start, sent, line_now, at_mark, is_ended, break_off}

@@ -3,7 +3,7 @@ use Rattle.std.specs.Prelude.{◌≡◌, ℕ, ◌+◌, ◌<◌, ◌≤◌, List,
 use Rattle.hive_model.specs.Courses.{Course, position}
 use Rattle.hive_model.specs.Lists.{IsOn}
 use Rattle.hive_model.specs.Legal.{moves}
-use Rattle.hive_model.specs.Lines.{greatest_line}
+use Rattle.io_edge.specs.Lines.{greatest_line}
 use Rattle.move_text.specs.Moves.{IsMoveWithin}
 use Rattle.audit_core.specs.declared.plan.Plan.{Plan}
 use Rattle.audit_core.specs.declared.plan.Stage.{Stage}

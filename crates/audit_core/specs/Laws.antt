@@ -4,7 +4,7 @@ use Rattle.hive_model.specs.declared.pieces.GameType.{GameType}
 use Rattle.hive_model.specs.declared.places.Move.{Move}
 use Rattle.hive_model.specs.Boards.{Stacks}
 use Rattle.hive_model.specs.Positions.{Position}
-use Rattle.hive_model.specs.Lines.{Line as Mark, Text, TooLong, greatest_line}
+use Rattle.io_edge.specs.Lines.{Line as Mark, Text, TooLong, greatest_line}
 use Rattle.audit_core.specs.declared.plan.Plan.{Plan}
 use Rattle.audit_core.specs.declared.plan.Stage.{Stage}
 use Rattle.audit_core.specs.declared.plan.Stage.TheVariants.{Greeting, Beginning, Listing, Playing, Undoing, Reviewing, Trying, Relisting, Loading, Finishing, Over}

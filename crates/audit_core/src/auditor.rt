@@ -1,6 +1,6 @@
 //! The auditor of an engine.
 ghost use Rattle.std.specs.Prelude.{◌≡◌, ◌≤◌, [], length, IfOk, OnOk};
-ghost use Rattle.hive_model.specs.Lines.{Text, TooLong, greatest_line};
+ghost use Rattle.io_edge.specs.Lines.{Text, TooLong, greatest_line};
 ghost use Rattle.audit_core.specs.Keeps.{IsPlan};
 ghost use Rattle.audit_core.specs.AuditState.{
   start,

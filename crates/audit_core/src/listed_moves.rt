@@ -2,7 +2,7 @@
 ghost use Rattle.std.specs.Prelude.{◌≡◌, ◌≤◌, length, IfOk};
 ghost use Rattle.hive_model.specs.Courses.{position};
 ghost use Rattle.hive_model.specs.Legal.{moves};
-ghost use Rattle.hive_model.specs.Lines.{greatest_line};
+ghost use Rattle.io_edge.specs.Lines.{greatest_line};
 ghost use Rattle.move_text.specs.Moves.{move_of};
 ghost use Rattle.audit_core.specs.Judging.{finding, first_missing, part_of, wrong_list};
 

@@ -3,7 +3,7 @@ use Rattle.std.proofs.Common.{◌≡◌, ◌<◌, ◌≤◌, ℕ, ◌+◌, List,
 use Rattle.std.proofs.lemmas.List.{append-nil, map-append}
 use Rattle.io_edge.specs.Outside.{Told}
 use Rattle.hive_model.specs.Courses.{Course}
-use Rattle.hive_model.specs.Lines.{Line}
+use Rattle.io_edge.specs.Lines.{Line}
 use Rattle.hive_model.specs.Positions.{Position}
 use Rattle.line_feed.specs.Feed.{Reading, Ends, Holds, input_limit}
 use Rattle.line_feed.specs.SoFar.{Fed}

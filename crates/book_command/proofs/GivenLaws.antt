@@ -2,7 +2,7 @@
 use Rattle.std.proofs.Common.{◌≡◌, ◌<◌, ℕ, ◌+◌, List, length, refl, subst, Option, Some, None, arith}
 use Rattle.io_edge.specs.Outside.{Told}
 use Rattle.hive_model.specs.Courses.{Course}
-use Rattle.hive_model.specs.Lines.{Line, Text, TooLong as LongLine}
+use Rattle.io_edge.specs.Lines.{Line, Text, TooLong as LongLine}
 use Rattle.line_feed.specs.Feed.{Reading, Gives}
 use Rattle.game_text.specs.Reading.{game_of}
 use Rattle.opening_book.specs.Book.{BookGame}

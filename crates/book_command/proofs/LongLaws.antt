@@ -5,7 +5,7 @@ use Rattle.io_edge.specs.Outside.{Told}
 use Rattle.hive_model.specs.declared.pieces.GameType.{GameType}
 use Rattle.hive_model.specs.declared.places.Move.{Move}
 use Rattle.hive_model.specs.Fields.{added, type_bytes}
-use Rattle.hive_model.specs.Lines.{Text}
+use Rattle.io_edge.specs.Lines.{Text}
 use Rattle.hive_model.specs.Lists.{onto}
 use Rattle.hive_model.specs.Positions.{opening}
 use Rattle.hive_model.specs.Strings.{parts, IsGameLine}

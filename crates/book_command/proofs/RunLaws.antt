@@ -6,7 +6,7 @@ use Rattle.io_edge.specs.Outside.{Told, behind}
 use Rattle.hive_model.specs.declared.places.Move.{Move}
 use Rattle.hive_model.specs.Courses.{Course, position}
 use Rattle.hive_model.specs.Legal.{moves}
-use Rattle.hive_model.specs.Lines.{Line, lines}
+use Rattle.io_edge.specs.Lines.{Line, lines}
 use Rattle.hive_model.specs.Lists.{IsOn}
 use Rattle.hive_model.specs.Positions.{Position}
 use Rattle.game_text.specs.declared.parsed.Parsed.{Parsed}

@@ -4,7 +4,7 @@ use Rattle.std.specs.Prelude.{Result, Ok, Err}
 use Rattle.io_edge.specs.Outside.{Told}
 use Rattle.hive_model.specs.Courses.{Course, position}
 use Rattle.hive_model.specs.Legal.{is_over}
-use Rattle.hive_model.specs.Lines.{Line, Text, TooLong as LongLine}
+use Rattle.io_edge.specs.Lines.{Line, Text, TooLong as LongLine}
 use Rattle.line_feed.specs.Feed.{Reading, Gives, Holds, input_limit, fresh}
 use Rattle.line_feed.specs.SoFar.{Fed}
 use Rattle.line_feed.proofs.FedLemmas.{fed_begin, fed_end, fed_held, fed_line}

@@ -1,7 +1,7 @@
 -- What the lines of an input ask a book: the first is a position, and each further one a game that
 -- was played.
 use Rattle.std.specs.Prelude.{◌≡◌, List, [], ◌∷◌, ◌++◌, map, Option, Some, None, Result, Ok, Err}
-use Rattle.hive_model.specs.Lines.{Line, Text, TooLong as LongLine}
+use Rattle.io_edge.specs.Lines.{Line, Text, TooLong as LongLine}
 use Rattle.game_text.specs.declared.faults.GameFault.{GameFault}
 use Rattle.game_text.specs.declared.parsed.Parsed.{Parsed}
 use Rattle.game_text.specs.Reading.{game_of}

@@ -2,7 +2,7 @@
 use Rattle.std.specs.Prelude.{◌≡◌, ℕ, ◌<◌, List, Option, Some, None}
 use Rattle.io_edge.specs.Outside.{behind}
 use Rattle.hive_model.specs.declared.places.Move.{Move}
-use Rattle.hive_model.specs.Lines.{lines}
+use Rattle.io_edge.specs.Lines.{lines}
 use Rattle.game_text.specs.declared.parsed.Parsed.{Parsed}
 use Rattle.opening_book.specs.Book.{BookGame, count}
 use Rattle.hive_model.specs.Legal.{moves}

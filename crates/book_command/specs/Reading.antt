@@ -2,7 +2,7 @@
 use Rattle.std.specs.Prelude.{◌≡◌, ℕ, ◌+◌, ◌<◌, ◌≤◌, List, [], ◌∷◌, ◌++◌, length, Option, Some, None, Ok}
 use Rattle.io_edge.specs.Outside.{Told}
 use Rattle.hive_model.specs.Courses.{Course}
-use Rattle.hive_model.specs.Lines.{Line, lines}
+use Rattle.io_edge.specs.Lines.{Line, lines}
 use Rattle.hive_model.specs.Positions.{Position}
 use Rattle.line_feed.specs.Feed.{Reading, Gives, Holds, HoldsLittle, input_limit}
 use Rattle.line_feed.specs.SoFar.{Fed}

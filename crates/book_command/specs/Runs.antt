@@ -1,7 +1,7 @@
 -- What the run of a book writes and reads, by the status with which it ends.
 use Rattle.std.specs.Prelude.{◌≡◌, ◌⊎◌, ℕ, ◌≤◌, List, [], ◌∷◌, ◌++◌, length, codes, Err}
 use Rattle.io_edge.specs.Outside.{Told}
-use Rattle.hive_model.specs.Lines.{Line, lines, whole_lines}
+use Rattle.io_edge.specs.Lines.{Line, lines, whole_lines}
 use Rattle.line_feed.specs.SoFar.{WasRead}
 use Rattle.game_text.specs.declared.parsed.Parsed.{Parsed}
 use Rattle.opening_book.specs.Book.{BookGame}

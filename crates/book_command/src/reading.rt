@@ -4,7 +4,7 @@ ghost use Rattle.std.specs.Prelude.{◌≡◌, ℕ, ◌+◌, ◌<◌, ◌≤◌,
 ghost use Rattle.std.specs.Prelude.{MatchOption, MatchResult};
 ghost use Rattle.io_edge.specs.Outside.{HasCause};
 ghost use Rattle.line_feed.specs.Feed.{Ends, input_limit};
-ghost use Rattle.hive_model.specs.Lines.{Line as AnyLine, greatest_line};
+ghost use Rattle.io_edge.specs.Lines.{Line as AnyLine, greatest_line};
 ghost use Rattle.game_text.specs.Reading.{game_of};
 ghost use Rattle.game_text.specs.declared.parsed.Parsed.{Parsed as AnyGame};
 ghost use Rattle.opening_book.specs.Book.{BookGame};

@@ -10,3 +10,4 @@ pub mod RowLaws
 pub mod TakenLaws
 pub mod CountLaws
 pub mod Taking
+pub mod Copying

@@ -3,3 +3,4 @@ pub mod Ways
 pub mod Walks
 pub mod Trails
 pub mod Counts
+pub mod Copied

@@ -8,6 +8,7 @@ mod beetles;
 mod found;
 mod grasshoppers;
 mod ladybugs;
+mod mosquitoes;
 mod queens;
 mod spiders;
 mod trail;
@@ -31,6 +32,7 @@ use crate::ways::{add_slides, add_ways};
 pub use ants::list_in_order;
 pub use found::add_new;
 use hive_model::{Board, Kind, Place, PlaceList};
+pub use mosquitoes::mosquito_reach;
 pub use trail::Trail;
 
 /// The places that a bug of this kind reaches from a place, by q and then by r.

@@ -4,7 +4,7 @@ use Rattle.std.specs.Prelude.{Result, Ok, Err}
 use Rattle.std.proofs.lemmas.List.{append-nil}
 use Rattle.io_edge.specs.Outside.{Told}
 use Rattle.hive_model.specs.Courses.{Course}
-use Rattle.hive_model.specs.Lines.{Line, Text, TooLong as LongLine, lines}
+use Rattle.io_edge.specs.Lines.{Line, Text, TooLong as LongLine, lines}
 use Rattle.line_feed.specs.Feed.{Reading, Ends, Gives, Holds, HoldsLittle, input_limit, fresh}
 use Rattle.line_feed.specs.SoFar.{Fed}
 use Rattle.line_feed.proofs.AheadLemmas.{lines-nil}

@@ -2,7 +2,7 @@
 use Rattle.std.proofs.Common.{arith, ◌≡◌, ◌≤◌, ℕ, Bool, true, false, List, [], ◌∷◌, ◌++◌, refl, ap, sym, ◌∙◌, None, Some, subst}
 use Rattle.io_edge.specs.Outside.{Told, in_front, IsAtEnd}
 use Rattle.io_edge.proofs.Told.{in_front-nil}
-use Rattle.hive_model.specs.Lines.{Line, lines}
+use Rattle.io_edge.specs.Lines.{Line, lines}
 use Rattle.line_feed.specs.Feed.{Reading, Ends, HoldsLittle, Takes, pending, input_limit, fresh}
 use Rattle.line_feed.specs.SoFar.{Covers, Fed, WasRead}
 use Rattle.line_feed.proofs.FedLemmas.{fed_end, fed_prefix}

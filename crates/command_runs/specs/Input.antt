@@ -1,7 +1,7 @@
 -- What a run reads of its input.
 use Rattle.std.specs.Prelude.{◌≡◌, ℕ, ◌<◌, ◌≤◌, List, [], ◌++◌, length, Some}
 use Rattle.io_edge.specs.Outside.{Told}
-use Rattle.hive_model.specs.Lines.{Line, lines}
+use Rattle.io_edge.specs.Lines.{Line, lines}
 use Rattle.line_feed.specs.Feed.{HoldsLittle, Reading, input_limit, pending}
 use Rattle.line_feed.specs.SoFar.{WasRead}
 

@@ -5,7 +5,7 @@ use Rattle.io_edge.specs.Outside.{Told}
 use Rattle.hive_model.specs.Positions.{Position, opening}
 use Rattle.hive_model.specs.Games.{replay}
 use Rattle.hive_model.specs.Legal.{is_over}
-use Rattle.hive_model.specs.Lines.{Line, Text, TooLong as LongLine, lines, whole_lines}
+use Rattle.io_edge.specs.Lines.{Line, Text, TooLong as LongLine, lines, whole_lines}
 use Rattle.line_feed.specs.SoFar.{WasRead}
 use Rattle.game_text.specs.declared.faults.GameFault.{GameFault}
 use Rattle.game_text.specs.declared.parsed.Parsed.{Parsed}

@@ -5,7 +5,7 @@ ghost use Rattle.line_feed.specs.Feed.{Ends};
 ghost use Rattle.hive_model.specs.Courses.{position};
 ghost use Rattle.hive_model.specs.Games.{IsGame};
 ghost use Rattle.hive_model.specs.Legal as rules;
-ghost use Rattle.hive_model.specs.Lines.{greatest_line};
+ghost use Rattle.io_edge.specs.Lines.{greatest_line};
 ghost use Rattle.game_text.specs.Reading.{game_of};
 ghost use Rattle.game_text.specs.declared.parsed.Parsed.{Parsed as AnyGame};
 ghost use Rattle.command_runs.specs.Input.{WhereTold};

@@ -16,8 +16,8 @@ use Rattle.hive_model.proofs.BackLaws.{lift_put}
 use Rattle.hive_model.proofs.LegalLaws.{neighbour_back}
 use Rattle.hive_model.proofs.ReachLaws.{step_moves}
 use Rattle.hive_model.proofs.RuleLaws.{neighbours_from, from_neighbours, dir_on, step_once}
-use Rattle.arc_law.specs.Arcs.{OneArc}
-use Rattle.arc_law.proofs.ArcBoards.{IsRaised, raised_put, same_else, bare_new, arc_without, separates_same, separated_before, hangs, left_alone}
+use Rattle.arcs.specs.Arcs.{OneArc}
+use Rattle.arcs.proofs.ArcBoards.{IsRaised, raised_put, same_else, bare_new, arc_without, separates_same, separated_before, hangs, left_alone}
 use Rattle.one_hive.specs.Visits.{IsSet}
 use Rattle.one_hive.specs.Separating.{MarksSeparating}
 use Rattle.one_hive.proofs.Visiting.{top_occupied}

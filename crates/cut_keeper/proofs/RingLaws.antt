@@ -9,11 +9,11 @@ use Rattle.hive_model.specs.declared.places.Dir.TheVariants.{E, NE, NW, W, SW, S
 use Rattle.hive_model.specs.Places.{step, dirs, dir_before, is_place}
 use Rattle.hive_model.proofs.RuleLaws.{any_has, has_any, all_at, at_all, dir_on, step_once}
 use Rattle.hive_model.proofs.PlaceLemmas.{from_same_place, is_other_place}
-use Rattle.arc_table.specs.Masks.{arcs, how_many}
-use Rattle.arc_table.proofs.EachMask.{same_at}
+use Rattle.arcs.specs.Masks.{arcs, how_many}
+use Rattle.arcs.proofs.EachMask.{same_at}
 use Rattle.hive_model.specs.Boards.{Stacks, is_occupied}
 use Rattle.hive_model.specs.Hive.{except}
-use Rattle.arc_law.specs.Arcs.{OneArc}
+use Rattle.arcs.specs.Arcs.{OneArc}
 use Rattle.hive_model.specs.Neighbours.{weight, ring, ring_mask}
 use Rattle.cut_keeper.specs.Rings.{turn, is_suspect, is_dir, starts, is_arc, off}
 use Rattle.cut_keeper.specs.Keeping.{suspects}

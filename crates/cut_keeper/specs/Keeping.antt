@@ -6,7 +6,7 @@ use Rattle.hive_model.specs.Lists.{IsOn}
 use Rattle.hive_model.specs.Places.{step, IsOnTheMap}
 use Rattle.hive_model.specs.Boards.{Stacks, IsBoard, is_occupied, top_at, put}
 use Rattle.hive_model.specs.Hive.{OneHive, IsSeparating}
-use Rattle.arc_table.specs.Masks.{how_many}
+use Rattle.arcs.specs.Masks.{how_many}
 use Rattle.one_hive.specs.Visits.{IsSet}
 use Rattle.one_hive.specs.Separating.{MarksSeparating}
 use Rattle.hive_model.specs.Neighbours.{ring, ring_mask}

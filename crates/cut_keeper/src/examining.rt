@@ -9,7 +9,7 @@ ghost use Rattle.cut_keeper.specs.Rings.{later};
 ghost use Rattle.cut_keeper.specs.Keeping.{Right, HalfRight, HasMask, Pending, suspects};
 
 use crate::rings::is_suspect;
-use arc_table::arcs;
+use arcs::arcs;
 use hive_model::{Board, Dir, Piece, Place};
 use one_hive::{Marks, Steps, walk_parts};
 use std::sync::ledger::Ledger;

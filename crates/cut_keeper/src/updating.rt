@@ -3,7 +3,7 @@
 ghost use Rattle.std.specs.Prelude.{◌≡◌, ◌≢◌, ◌↔◌, ℕ, ◌+◌, ◌<◌, ◌≤◌, Some, IsTrue};
 ghost use Rattle.hive_model.specs.Places.{step, IsOnTheMap};
 ghost use Rattle.hive_model.specs.Boards.{IsBoard, height_at, is_occupied, top_at};
-ghost use Rattle.arc_law.specs.Arcs.{OneArc};
+ghost use Rattle.arcs.specs.Arcs.{OneArc};
 ghost use Rattle.one_hive.specs.Visits.{IsSet};
 ghost use Rattle.one_hive.specs.Separating.{MarksSeparating};
 ghost use Rattle.hive_model.specs.Neighbours.{weight};
@@ -11,7 +11,7 @@ ghost use Rattle.cut_keeper.specs.Keeping.{Grown, Shrunk, HasMask};
 
 use crate::examining::{beside, examine};
 use crate::rings::only_in;
-use arc_table::arcs;
+use arcs::arcs;
 use hive_model::{Board, Dir, Piece, Place};
 use one_hive::{Marks, Steps, mark_separating};
 use std::sync::ledger::Ledger;

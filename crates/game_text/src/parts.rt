@@ -2,7 +2,7 @@
 
 ghost use Rattle.std.specs.Prelude.{◌≡◌, ◌<◌, ◌≤◌, ◌∷◌, [], length, MatchOption, IfSome};
 ghost use Rattle.hive_model.specs.Strings.{parts};
-ghost use Rattle.hive_model.specs.Lines.{greatest_line};
+ghost use Rattle.io_edge.specs.Lines.{greatest_line};
 ghost use Rattle.game_text.specs.Reading.{first_empty};
 
 /// The first part, and what stands behind its semicolon, if it has one.

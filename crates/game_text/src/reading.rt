@@ -24,7 +24,7 @@ ghost use Rattle.game_text.specs.Seen.{Sees};
 ghost use Rattle.hive_model.specs.Strings.{parts, IsGameLine, IsGameLineUnder};
 ghost use Rattle.hive_model.specs.declared.pieces.GameType.{GameType as AnyType};
 ghost use Rattle.hive_model.specs.declared.places.Move.{Move as AnyMove};
-ghost use Rattle.hive_model.specs.Lines.{greatest_line};
+ghost use Rattle.io_edge.specs.Lines.{greatest_line};
 ghost use Rattle.game_text.specs.Refusals.{IsRefused, IsRefusedUnder};
 ghost use Rattle.game_text.specs.Reading.{
   moves_from,

@@ -7,7 +7,7 @@ use Rattle.hive_model.specs.Courses.{Course, is_listed}
 use Rattle.hive_model.specs.Denotes.{text}
 use Rattle.hive_model.specs.Legal.{is_over, moves}
 use Rattle.hive_model.specs.Strings.{string_under}
-use Rattle.hive_model.specs.Lines.{greatest_line}
+use Rattle.io_edge.specs.Lines.{greatest_line}
 use Rattle.move_text.specs.declared.faults.MoveFault.{MoveFault}
 use Rattle.move_text.specs.declared.faults.MoveFault.TheVariants.{NotAMove, NoSuchPiece, NotInPlay as NoneThere}
 use Rattle.move_text.specs.Moves.{move_of}

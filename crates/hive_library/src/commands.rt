@@ -1,7 +1,7 @@
 //! What C calls: the commands over a text.
 
 ghost use Rattle.std.specs.Prelude.{◌≡◌, ◌≢◌, ℕ, List};
-ghost use Rattle.hive_model.specs.Lines.{lines};
+ghost use Rattle.io_edge.specs.Lines.{lines};
 ghost use Rattle.hive_model.specs.declared.places.Move.{Move};
 ghost use Rattle.strategy_text.specs.declared.head.Head.{Head};
 ghost use Rattle.command_runs.specs.OneGame.{asked};

@@ -19,7 +19,6 @@ pub mod Texts
 pub mod Denotes
 pub mod Fields
 pub mod Strings
-pub mod Lines
 pub mod Stack
 pub mod Courses
 pub mod Evaluation

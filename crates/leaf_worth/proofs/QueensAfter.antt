@@ -17,7 +17,7 @@ use Rattle.hive_model.specs.Legal.{is_surrounded_at, is_surrounded}
 use Rattle.hive_model.proofs.PlaceLemmas.{cases_place, from_same_place, is_other_place}
 use Rattle.hive_model.proofs.ReachLaws.{step_moves}
 use Rattle.hive_model.proofs.KeepLaws.{taken}
-use Rattle.arc_law.proofs.ArcBoards.{raised_put}
+use Rattle.arcs.proofs.ArcBoards.{raised_put}
 use Rattle.cut_keeper.proofs.ChangeLaws.{same_occupied}
 use Rattle.leaf_worth.proofs.NextLaws.{none_leads}
 use Rattle.leaf_worth.proofs.SpotsAfter.{spot_new, spot_same, is_after}

@@ -21,8 +21,8 @@ use Rattle.hive_model.proofs.KeepLaws.{board_put}
 use Rattle.hive_model.proofs.CutLaws.{cut_from, from_cut}
 use Rattle.hive_model.proofs.RuleLaws.{neighbours_from, from_neighbours, step_once, any_has, has_any}
 use Rattle.hive_model.proofs.ReachLaws.{step_moves}
-use Rattle.arc_law.specs.Arcs.{OneArc}
-use Rattle.arc_law.proofs.ArcBoards.{IsRaised, raised_put, arc_but_one, another_beside, one_beside, arc_without, except_in, except_out}
+use Rattle.arcs.specs.Arcs.{OneArc}
+use Rattle.arcs.proofs.ArcBoards.{IsRaised, raised_put, arc_but_one, another_beside, one_beside, arc_without, except_in, except_out}
 use Rattle.hive_model.specs.Neighbours.{ring, ring_mask, weight}
 use Rattle.cut_keeper.proofs.RingLaws.{arc_unsuspected, another_from}
 use Rattle.cut_keeper.proofs.ChangeLaws.{same_separating, same_occupied}

@@ -9,9 +9,8 @@ ghost use Rattle.bug_moves.specs.Counts.{AreMany};
 ghost use Rattle.legal_moves.specs.Going.{Goes, position_of};
 
 use crate::turns::Turn;
-use bug_moves::{count_reach, reach};
+use bug_moves::{count_reach, mosquito_reach, reach};
 use hive_model::{Board, Cuts, Kind, Lifted, Piece, Place, PlaceList, has_place};
-use mosquito_moves::mosquito_reach;
 
 /// Whether the piece may leave its place: it is on top, it does not rest, and its place is no cut
 /// place.

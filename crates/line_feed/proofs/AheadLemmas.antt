@@ -4,9 +4,9 @@ use Rattle.std.specs.Bool.{MatchBool}
 use Rattle.std.specs.Option.{option_map}
 use Rattle.std.proofs.lemmas.List.{append-nil}
 use Rattle.io_edge.specs.Outside.{Told, in_front, IsAtEnd}
-use Rattle.hive_model.specs.Lines.{Line as OneLine, Text, TooLong as LongLine, line_parts, lines, whole_parts, whole_lines}
+use Rattle.io_edge.specs.Lines.{Line as OneLine, Text, TooLong as LongLine, line_parts, lines, whole_parts, whole_lines}
 use Rattle.line_feed.specs.Feed.{Reading, fresh, pending, SplitsOff, IsLastLine, Gives, Holds, Ends, Feeds, FeedsShort, HoldsLong, Takes, lf_after, input_limit, AddsUp}
-use Rattle.hive_model.specs.Lines.{ToldLines, NoneAhead, LongAhead}
+use Rattle.io_edge.specs.Lines.{ToldLines, NoneAhead, LongAhead}
 use Rattle.line_feed.specs.Ahead.{ahead_of, whole_ahead_of, lines_left, whole_left, Advances, AdvancesShort}
 use Rattle.line_feed.specs.declared.line_answers.LineAnswer.{LineAnswer}
 use Rattle.line_feed.specs.declared.line_answers.LineAnswer.TheVariants.{Line, TooLong, End, Failed, Full}

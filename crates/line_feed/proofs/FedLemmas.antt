@@ -5,7 +5,7 @@ use Rattle.std.proofs.lemmas.List.{append-nil}
 use Rattle.std.proofs.lemmas.Option.{same_Some}
 use Rattle.io_edge.specs.Outside.{Told, in_front, IsAtEnd}
 use Rattle.io_edge.proofs.Told.{in_front-in_front, in_front-nil}
-use Rattle.hive_model.specs.Lines.{Line as OneLine, lines, whole_lines}
+use Rattle.io_edge.specs.Lines.{Line as OneLine, lines, whole_lines}
 use Rattle.line_feed.specs.Feed.{Reading, pending, SplitsOff, IsLastLine, Gives, Holds, Ends, Takes, fresh, input_limit}
 use Rattle.line_feed.specs.SoFar.{Covers, Fed, WasRead}
 use Rattle.line_feed.proofs.AheadLemmas.{lines-nil}

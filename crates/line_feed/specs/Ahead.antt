@@ -2,7 +2,7 @@
 use Rattle.std.specs.Prelude.{◌≡◌, ℕ, List, [], ◌∷◌, ◌++◌, if◌then◌else◌}
 use Rattle.std.specs.Option.{option_map}
 use Rattle.io_edge.specs.Outside.{Told}
-use Rattle.hive_model.specs.Lines.{Line as OneLine, Text, TooLong as LongLine, lines, whole_lines, ToldLines, NoneAhead, LongAhead}
+use Rattle.io_edge.specs.Lines.{Line as OneLine, Text, TooLong as LongLine, lines, whole_lines, ToldLines, NoneAhead, LongAhead}
 use Rattle.line_feed.specs.Feed.{Reading, pending}
 use Rattle.line_feed.specs.declared.line_answers.LineAnswer.{LineAnswer}
 use Rattle.line_feed.specs.declared.line_answers.LineAnswer.TheVariants.{Line, TooLong, End, Failed, Full}

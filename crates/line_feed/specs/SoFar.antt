@@ -2,7 +2,7 @@
 use Rattle.std.specs.Prelude.{◌≡◌, ℕ, ◌<◌, Bool, true, List, [], ◌++◌, length, Some}
 use Rattle.std.specs.Bool.{MatchBool}
 use Rattle.io_edge.specs.Outside.{Told, in_front, IsAtEnd}
-use Rattle.hive_model.specs.Lines.{Line as OneLine, lines}
+use Rattle.io_edge.specs.Lines.{Line as OneLine, lines}
 use Rattle.line_feed.specs.Feed.{Reading, pending, SplitsOff, input_limit}
 
 -- Of these bytes these lines were given: all of them where the source has ended, and else the first

@@ -1,7 +1,7 @@
 -- Where nothing fails, a run is done.
 use Rattle.std.proofs.Common.{◌≡◌, ◌⊎◌, ℕ, Bool, true, false, ◌||◌, List, [], ◌∷◌, map, refl, ap, sym, ◌∙◌, inl, inr}
 use Rattle.std.specs.List.{list_any}
-use Rattle.hive_model.specs.Lines.{Line, lines}
+use Rattle.io_edge.specs.Lines.{Line, lines}
 use Rattle.line_services.specs.Times.{depths}
 use Rattle.line_services.specs.Service.{HasExit, Service, joined, last_of, replies, searches}
 use Rattle.line_services.specs.ServiceRun.{EndsAs}

@@ -4,7 +4,7 @@ use Rattle.std.specs.declared.option.Option.{Option}
 use Rattle.std.proofs.lemmas.List.{append-nil}
 use Rattle.io_edge.specs.Outside.{behind}
 use Rattle.hive_model.specs.declared.best.Timed.{Timed}
-use Rattle.hive_model.specs.Lines.{Line, lines, whole_lines}
+use Rattle.io_edge.specs.Lines.{Line, lines, whole_lines}
 use Rattle.line_feed.specs.Feed.{Holds, Takes, input_limit, fresh as new_reading}
 use Rattle.line_feed.specs.SoFar.{Fed}
 use Rattle.line_feed.proofs.FedLemmas.{fed_begin, fed_end, fed_held, fed_line, fed_prefix}

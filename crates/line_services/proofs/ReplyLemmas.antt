@@ -2,7 +2,7 @@
 use Rattle.std.proofs.Common.{◌≡◌, ◌↔◌, ℕ, List, [], ◌∷◌, ◌++◌, refl, ap, sym, ◌∙◌, append_assoc, None, Some, subst}
 use Rattle.std.specs.declared.option.Option.{Option}
 use Rattle.std.proofs.lemmas.List.{append-nil}
-use Rattle.hive_model.specs.Lines.{Line}
+use Rattle.io_edge.specs.Lines.{Line}
 use Rattle.uhp_session.specs.Searches.{Search}
 use Rattle.line_services.specs.Service.{HasExit, Service, depths_after, ends_at, ends_or, joined, last_of, replies, reply_at, searches, with_reply}
 use Rattle.line_services.proofs.TimeLemmas.{Uses}

@@ -1,6 +1,6 @@
 -- What follows from the clauses of a run.
 use Rattle.std.specs.Prelude.{◌≡◌, ◌⊎◌, ℕ, Bool, false, List, []}
-use Rattle.hive_model.specs.Lines.{Line, lines}
+use Rattle.io_edge.specs.Lines.{Line, lines}
 use Rattle.line_services.specs.Service.{HasExit, last_of, output, searches}
 use Rattle.line_services.specs.Replay.{ReplayRun, answers, replays, some_refused}
 use Rattle.line_services.specs.Session.{SessionRun}

@@ -2,7 +2,7 @@
 -- refused, where the rule of third repetition is switched on or off. And its run.
 use Rattle.std.specs.Prelude.{ℕ, Bool, true, false, ◌||◌, List, [], ◌∷◌, ◌++◌, map, codes, Result, Ok, Err, Some, None}
 use Rattle.std.specs.List.{list_any}
-use Rattle.hive_model.specs.Lines.{Line, Text, TooLong as LongLine}
+use Rattle.io_edge.specs.Lines.{Line, Text, TooLong as LongLine}
 use Rattle.hive_model.specs.Strings.{string_under}
 use Rattle.game_text.specs.declared.faults.GameFault.{GameFault}
 use Rattle.game_text.specs.declared.parsed.Parsed.{Parsed}

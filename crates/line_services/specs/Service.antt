@@ -1,7 +1,7 @@
 -- A service: a command that answers the lines of its input, one after another. What it writes for
 -- them.
 use Rattle.std.specs.Prelude.{ℕ, Bool, List, [], ◌∷◌, ◌++◌, Option, None, Some}
-use Rattle.hive_model.specs.Lines.{Line}
+use Rattle.io_edge.specs.Lines.{Line}
 use Rattle.uhp_session.specs.Searches.{Search}
 
 -- How a service begins, what it writes before the first line is read, the search for a time that a

@@ -3,7 +3,7 @@
 use Rattle.std.specs.Prelude.{◌≡◌, ◌⊎◌, ℕ, ◌<◌, ◌≤◌, Bool, true, false, List, [], ◌∷◌, ◌++◌, length, take}
 use Rattle.io_edge.specs.Outside.{Told, behind}
 use Rattle.hive_model.specs.declared.best.Timed.{Timed}
-use Rattle.hive_model.specs.Lines.{Line, lines, whole_lines}
+use Rattle.io_edge.specs.Lines.{Line, lines, whole_lines}
 use Rattle.line_feed.specs.Feed.{input_limit}
 use Rattle.line_feed.specs.SoFar.{WasRead}
 use Rattle.command_runs.specs.Input.{IsAllRead, WereRead, WhereTold}

@@ -11,7 +11,7 @@ use Rattle.hive_model.specs.declared.best.Timed.{Timed}
 use Rattle.command_runs.specs.World.{Times, times}
 use Rattle.match_core.specs.Setups.{FullSetup, setup_of}
 use Rattle.match_core.specs.declared.verdict.Verdict.{Verdict}
-use Rattle.hive_model.specs.Lines.{lines}
+use Rattle.io_edge.specs.Lines.{lines}
 use Rattle.match_core.specs.MatchState.{Happening, MatchState, start}
 use Rattle.match_core.specs.Fairness.{sent}
 use Rattle.match_core.specs.Plays.{joined}

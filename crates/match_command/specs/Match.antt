@@ -4,7 +4,7 @@ use Rattle.io_edge.specs.Outside.{ToldLists, Collects, Rose, behind, with_last}
 use Rattle.io_edge.specs.Starts.{Engines}
 use Rattle.hive_model.specs.declared.pieces.Colour.{Colour}
 use Rattle.hive_model.specs.declared.pieces.Colour.TheVariants.{White, Black}
-use Rattle.hive_model.specs.Lines.{lines}
+use Rattle.io_edge.specs.Lines.{lines}
 use Rattle.command_runs.specs.World.{LeavesTimes, Times, World}
 use Rattle.command_runs.specs.declared.status.Status.{Status}
 use Rattle.command_runs.specs.declared.status.Status.TheVariants.{Done, Refused, Usage, ReadFault, WriteFault, SpawnFault, BadInput, Memory, InputFull}

@@ -2,7 +2,7 @@
 use Rattle.std.proofs.Common.{◌≡◌, inl, inr, ◌≤◌, ℕ, ◌+◌, zero, suc, true, false, List, [], ◌∷◌, ◌++◌, length, refl, ap, sym, ◌∙◌, IsTrue, arith}
 use Rattle.hive_model.specs.declared.pieces.Colour.{Colour}
 use Rattle.hive_model.specs.declared.pieces.Colour.TheVariants.{White, Black}
-use Rattle.hive_model.specs.Lines.{Line as Mark, Text, TooLong as LongMark}
+use Rattle.io_edge.specs.Lines.{Line as Mark, Text, TooLong as LongMark}
 use Rattle.hive_model.specs.Boards.{IsBoard}
 use Rattle.move_text.proofs.MoveLaws.{denotes_of}
 use Rattle.rule_laws.proofs.Games.{games_sound}

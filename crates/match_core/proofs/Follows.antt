@@ -20,7 +20,7 @@ use Rattle.match_core.specs.Texts.{read_of}
 use Rattle.std.proofs.Common.{◌≡◌, ◌↔◌, ◌⊎◌, inl, inr, ℕ, zero, suc, Bool, true, false, cond, List, [], ◌∷◌, length, refl, None, Some, IsTrue, arith, Result, Ok, Err}
 use Rattle.std.specs.Option.{option_map}
 use Rattle.std.proofs.lemmas.Option.{same_Some}
-use Rattle.hive_model.specs.Lines.{Line as Mark, Text, ToldLines}
+use Rattle.io_edge.specs.Lines.{Line as Mark, Text, ToldLines}
 use Rattle.match_core.specs.Keeps.{IsFullSetup}
 use Rattle.match_core.specs.declared.stage.Act.TheVariants.{Finish}
 use Rattle.match_core.specs.Fairness.{sent_at}

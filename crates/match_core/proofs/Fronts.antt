@@ -17,7 +17,7 @@ use Rattle.match_core.specs.Replies.{is_ok, is_error}
 use Rattle.match_core.specs.MatchState.{MatchState, Happening, Sent, Line, TooLong, Ended, Broke, Reading, start, match_after, next, after_all, position_now, finish, ask, judge, judge_read, decide, accept, first_line, at_stage, is_late, keep, reply_ends, hear, forfeit, answered, outcome_of}
 use Rattle.match_core.specs.Texts.{read_of}
 use Rattle.std.proofs.Common.{◌≡◌, inl, inr, ◌≤◌, ℕ, zero, suc, true, cond, List, [], ◌∷◌, ◌++◌, length, refl, ap, sym, ◌∙◌, Some, arith, subst, Result, Ok, Err, append_assoc}
-use Rattle.hive_model.specs.Lines.{Line as Mark, ToldLines}
+use Rattle.io_edge.specs.Lines.{Line as Mark, ToldLines}
 use Rattle.match_core.specs.Fairness.{Answering, sent, sent_at}
 use Rattle.match_core.specs.Plays.{left, IsBounded, reply_to, left_of_white, left_of_black, is_finished, happens, match_of}
 use Rattle.match_core.specs.Feeds.{Feeds, AreInTime, with_asked, IsFront, MatchesAreOfTheirLines, MatchesBegin}

@@ -2,7 +2,7 @@
 use Rattle.std.specs.Prelude.{◌≡◌, ℕ, Bool, true, false, List, [], ◌∷◌, ◌++◌, Some}
 use Rattle.std.specs.Option.{option_map}
 use Rattle.hive_model.specs.declared.pieces.Colour.{Colour}
-use Rattle.hive_model.specs.Lines.{Line as Mark, Text, ToldLines, NoneAhead, LongAhead}
+use Rattle.io_edge.specs.Lines.{Line as Mark, Text, ToldLines, NoneAhead, LongAhead}
 use Rattle.match_core.specs.declared.stage.Stage.{Stage}
 use Rattle.match_core.specs.declared.stage.Stage.TheVariants.{Send, Read, Before, After, Finished}
 use Rattle.hive_model.specs.declared.pieces.Colour.TheVariants.{White, Black}

@@ -1,7 +1,7 @@
 -- What a referee keeps.
 use Rattle.std.specs.Prelude.{◌≡◌, ℕ, ◌+◌, ◌%◌, unwrap_or, ◌^◌, ◌<◌, ◌≤◌, List, [], length}
 use Rattle.hive_model.specs.Courses.{Course, without_last}
-use Rattle.hive_model.specs.Lines.{greatest_line}
+use Rattle.io_edge.specs.Lines.{greatest_line}
 use Rattle.game_text.specs.declared.seen.Seen.{Seen}
 use Rattle.game_text.specs.Seen.{Sees}
 use Rattle.match_core.specs.declared.setup.Setup.{Setup}

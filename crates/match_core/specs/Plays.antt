@@ -1,7 +1,7 @@
 -- The match of two sides whose lines are known.
 use Rattle.std.specs.Prelude.{◌≡◌, ◌↔◌, ℕ, zero, suc, ◌+◌, ◌-◌, ◌*◌, ◌<◌, ◌≤◌, Bool, true, false, cond, List, [], ◌∷◌, ◌++◌, length, Option, Some, None, IsTrue}
 use Rattle.hive_model.specs.declared.pieces.Colour.TheVariants.{White, Black}
-use Rattle.hive_model.specs.Lines.{Line as Mark, Text, TooLong as LongMark}
+use Rattle.io_edge.specs.Lines.{Line as Mark, Text, TooLong as LongMark}
 use Rattle.match_core.specs.Setups.{FullSetup}
 use Rattle.match_core.specs.declared.stage.Task.TheVariants.{Greet, Begin, Ask, Tell}
 use Rattle.match_core.specs.declared.stage.Stage.{Stage}

@@ -10,7 +10,7 @@ use Rattle.match_core.specs.declared.stage.Stage.TheVariants.{Send, Read, Before
 use Rattle.match_core.specs.declared.stage.Act.TheVariants.{Read as ReadAct, Clock}
 use Rattle.match_core.specs.MatchState.{MatchState, Happening, Reading, act_at}
 use Rattle.match_core.specs.Fairness.{sent_at}
-use Rattle.hive_model.specs.Lines.{ToldLines}
+use Rattle.io_edge.specs.Lines.{ToldLines}
 use Rattle.match_core.specs.Feeds.{FeedsAt}
 use Rattle.match_runner.specs.declared.turns.Acted.{Acted}
 use Rattle.match_runner.specs.declared.turns.Acted.TheVariants.{GoOn, Finished, ReadFault, WriteFault, Memory}

@@ -5,7 +5,7 @@ use Rattle.std.proofs.lemmas.List.{append-nil}
 use Rattle.io_edge.specs.Outside.{behind}
 use Rattle.hive_model.specs.declared.pieces.Colour.{Colour}
 use Rattle.hive_model.specs.declared.pieces.Colour.TheVariants.{White, Black}
-use Rattle.hive_model.specs.Lines.{ToldLines, lines}
+use Rattle.io_edge.specs.Lines.{ToldLines, lines}
 use Rattle.line_feed.specs.Feed.{fresh}
 use Rattle.match_core.specs.Setups.{FullSetup}
 use Rattle.match_core.specs.declared.stage.Stage.{Stage}

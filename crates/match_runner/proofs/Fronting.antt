@@ -9,7 +9,7 @@ use Rattle.match_core.specs.declared.stage.Act.TheVariants.{Send as SendAct, Rea
 use Rattle.match_core.specs.MatchState.{MatchState, Happening, start, match_after, next, after_all, act_at, answers, at_stage, is_late, Sent, Line, TooLong, Ended, Broke, Reading}
 use Rattle.match_core.specs.Fairness.{Answering, sent, sent_at}
 use Rattle.match_core.specs.Plays.{joined, match_of}
-use Rattle.hive_model.specs.Lines.{ToldLines, Line as Mark, lines}
+use Rattle.io_edge.specs.Lines.{ToldLines, Line as Mark, lines}
 use Rattle.match_core.specs.Feeds.{FeedsAt, Feeds, IsInTime, AreInTime, IsFront}
 use Rattle.match_runner.specs.Wires.{Watch, Wire}
 use Rattle.match_runner.proofs.Endings.{by_end}

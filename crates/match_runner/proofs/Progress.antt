@@ -15,7 +15,7 @@ use Rattle.match_core.specs.MatchState.{MatchState, Happening, TooLong, start, m
 use Rattle.match_core.specs.Fairness.{Answering, sent, sent_at}
 use Rattle.match_core.specs.Plays.{joined, left, is_finished}
 use Rattle.match_core.specs.Keeps.{IsFullSetup}
-use Rattle.hive_model.specs.Lines.{ToldLines}
+use Rattle.io_edge.specs.Lines.{ToldLines}
 use Rattle.match_core.specs.Feeds.{FeedsAt, Feeds}
 use Rattle.match_core.proofs.Falls.{matches_near_their_end}
 use Rattle.match_core.proofs.Fair.{after_all-snoc}

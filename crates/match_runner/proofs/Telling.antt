@@ -7,7 +7,7 @@ use Rattle.match_core.specs.declared.stage.Act.TheVariants.{Finish}
 use Rattle.match_core.specs.MatchState.{MatchState, Happening, start, match_after, next, after_all, act_at, answers, at_stage, forfeit, is_late, position_now, Sent, Line, TooLong, Ended, Broke, Reading}
 use Rattle.match_core.specs.Fairness.{Answering}
 use Rattle.match_core.specs.Plays.{joined}
-use Rattle.hive_model.specs.Lines.{lines}
+use Rattle.io_edge.specs.Lines.{lines}
 use Rattle.match_core.specs.Feeds.{Feeds, IsInTime, AreInTime}
 use Rattle.match_runner.specs.Wires.{Watch, Wire}
 use Rattle.match_runner.specs.Turns.{Side, is_broke, side_of}

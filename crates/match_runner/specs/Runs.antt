@@ -7,7 +7,7 @@ use Rattle.line_feed.specs.Feed.{Reading as Reader, HoldsLittle, fresh}
 use Rattle.match_core.specs.Setups.{FullSetup}
 use Rattle.match_core.specs.declared.stage.Stage.TheVariants.{After}
 use Rattle.match_core.specs.declared.stage.Act.TheVariants.{Send as SendAct, Read as ReadAct, Finish}
-use Rattle.hive_model.specs.Lines.{Line as Mark, ToldLines, lines}
+use Rattle.io_edge.specs.Lines.{Line as Mark, ToldLines, lines}
 use Rattle.match_core.specs.declared.verdict.Cause.TheVariants.{NotAMove, Illegal, ErrLine, Flood, LongLine, Ended as EndedCause, Broke as BrokeCause, Late}
 use Rattle.match_core.specs.declared.verdict.Verdict.{Verdict}
 use Rattle.match_core.specs.declared.verdict.Verdict.TheVariants.{Rules, Limit, Forfeit}

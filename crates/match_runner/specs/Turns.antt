@@ -12,7 +12,7 @@ use Rattle.match_core.specs.Keeps.{line_at}
 use Rattle.match_core.specs.MatchState.{MatchState, Happening, Sent, Line, TooLong, Ended, Broke, Reading, next, act_at, answers}
 use Rattle.match_core.specs.Fairness.{sent_at}
 use Rattle.match_core.specs.Plays.{joined, is_finished}
-use Rattle.hive_model.specs.Lines.{ToldLines, greatest_line}
+use Rattle.io_edge.specs.Lines.{ToldLines, greatest_line}
 use Rattle.match_core.specs.Feeds.{Gave, FeedsAt}
 use Rattle.match_runner.specs.declared.turns.Acted.{Acted}
 use Rattle.match_runner.specs.declared.turns.Acted.TheVariants.{GoOn, Finished, ReadFault, WriteFault, Memory}

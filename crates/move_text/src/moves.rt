@@ -8,7 +8,7 @@ ghost use Rattle.hive_model.specs.Pieces.{has_kind, all_pieces};
 ghost use Rattle.hive_model.specs.Places.{IsWithin, IsOnTheMap};
 ghost use Rattle.hive_model.specs.Boards.{IsBoard, top_at, is_in_play, without, place_in};
 ghost use Rattle.hive_model.specs.Denotes.{Denotes, place_by, form_of, text as text_of};
-ghost use Rattle.hive_model.specs.Lines.{greatest_line};
+ghost use Rattle.io_edge.specs.Lines.{greatest_line};
 ghost use Rattle.move_text.specs.declared.faults.MoveFault.{MoveFault as AnyFault};
 ghost use Rattle.move_text.specs.Faults.{Refuses};
 ghost use Rattle.move_text.specs.Moves.{judge, move_of, IsMoveWithin};

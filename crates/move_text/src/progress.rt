@@ -17,7 +17,7 @@ ghost use Rattle.move_text.specs.Scan.{
   end_of,
   scan,
 };
-ghost use Rattle.hive_model.specs.Lines.{greatest_line};
+ghost use Rattle.io_edge.specs.Lines.{greatest_line};
 
 use hive_model::{Colour, Form, Kind, Mark, Piece, Stroke};
 

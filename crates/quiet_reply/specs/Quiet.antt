@@ -15,7 +15,7 @@ use Rattle.hive_model.specs.Placement.{MayPlace, Placement}
 use Rattle.hive_model.specs.Evaluation.{weight_of}
 use Rattle.hive_model.specs.Legal.{is_over}
 use Rattle.hive_model.specs.Minimax.{value}
-use Rattle.arc_law.specs.Arcs.{OneArc}
+use Rattle.arcs.specs.Arcs.{OneArc}
 use Rattle.cut_keeper.specs.Rings.{is_suspect}
 
 -- The occupied neighbours of the place are two that touch: they form one arc, of more than one, and

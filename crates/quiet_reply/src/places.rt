@@ -9,7 +9,7 @@ ghost use Rattle.hive_model.specs.Neighbours.{ring, ring_mask};
 ghost use Rattle.hive_model.specs.Places.{IsWithin, step};
 ghost use Rattle.quiet_reply.specs.Quiet.{IsApart, IsBesidePair, IsQuiet};
 
-use arc_table::arcs;
+use arcs::arcs;
 use cut_keeper::{is_suspect, only_in};
 use hand_rules::may_place;
 use hive_model::{Board, Colour, Dir, Piece, Place};

@@ -1,8 +1,8 @@
-//! Of `arc_table`: the arcs, the ends and the row of some masks.
+//! Of `arcs`: the arcs, the ends and the row of some masks.
 
 ghost use Rattle.std.specs.Prelude.{◌<◌};
 
-use arc_table::{CaseRow, CaseTable, arc_ends, arcs};
+use arcs::{CaseRow, CaseTable, arc_ends, arcs};
 use std::process::Abort;
 
 /// Compares what is told of a mask.

@@ -1,9 +1,9 @@
-//! Of `mosquito_moves`: a mosquito on the ground, and one on a stack.
+//! Of `bug_moves`: a mosquito on the ground, and one on a stack.
 
 ghost use Rattle.hive_model.specs.Places.{IsOnTheMap};
 
+use bug_moves::mosquito_reach;
 use hive_model::{Piece, Place, PlaceList};
-use mosquito_moves::mosquito_reach;
 use stack_board::PlainBoard;
 use std::test::Fail;
 

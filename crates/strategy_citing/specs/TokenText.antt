@@ -2,7 +2,7 @@
 -- number.
 use Rattle.std.specs.Prelude.{ℕ, List, ◌++◌, codes, decimal, Option, Some, None, option_map}
 use Rattle.std.specs.List.{flat_map}
-use Rattle.hive_model.specs.Lines.{Line, Text, TooLong}
+use Rattle.io_edge.specs.Lines.{Line, Text, TooLong}
 use Rattle.move_text.specs.Readers.{number_at}
 use Rattle.game_text.specs.Turns.{behind_word}
 use Rattle.strategy_text.specs.Text.{index_at, index_line, written_line}

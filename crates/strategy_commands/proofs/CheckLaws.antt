@@ -8,7 +8,7 @@ use Rattle.hive_model.specs.Courses.{Course}
 use Rattle.hive_model.specs.Legal.{is_over}
 use Rattle.hive_model.specs.Games.{replay}
 use Rattle.hive_model.specs.Denotes.{Denotes}
-use Rattle.hive_model.specs.Lines.{Line, lines}
+use Rattle.io_edge.specs.Lines.{Line, lines}
 use Rattle.hive_model.specs.Minimax.{IsInner, best, value}
 use Rattle.search_laws.proofs.MinimaxLaws.{value-fits}
 use Rattle.move_text.specs.declared.faults.MoveFault.{MoveFault}

@@ -2,7 +2,7 @@
 use Rattle.std.proofs.Common.{◌≡◌, ℕ, ◌^◌, ◌≤◌, ◌<◌, List, [], ◌∷◌, ◌++◌, drop, map, refl, sym, ◌∙◌, ap, arith, lit<, Some}
 use Rattle.std.specs.Prelude.{codes, decimal, option_map}
 use Rattle.hive_model.specs.Positions.{Position}
-use Rattle.hive_model.specs.Lines.{Line, Text, lines, line_of}
+use Rattle.io_edge.specs.Lines.{Line, Text, lines, line_of}
 use Rattle.line_feed.proofs.PartLemmas.{line_parts-nil}
 use Rattle.strategy_walks.specs.Limits.{Each}
 use Rattle.search_laws.proofs.MinimaxLaws.{value-fits}

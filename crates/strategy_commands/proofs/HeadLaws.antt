@@ -5,7 +5,7 @@ use Rattle.hive_model.specs.declared.pieces.GameType.{GameType}
 use Rattle.hive_model.specs.declared.places.Move.{Move}
 use Rattle.hive_model.specs.Positions.{opening}
 use Rattle.hive_model.specs.Games.{IsGame, replay}
-use Rattle.hive_model.specs.Lines.{Line, Text, TooLong}
+use Rattle.io_edge.specs.Lines.{Line, Text, TooLong}
 use Rattle.hive_model.specs.Strings.{IsGameLine}
 use Rattle.rule_laws.proofs.Games.{games_sound}
 use Rattle.strategy_lemmas.specs.Cited.{IsReached}

@@ -4,7 +4,7 @@ use Rattle.std.specs.Prelude.{Result, Ok, Err, ℤ}
 use Rattle.hive_model.specs.declared.places.Move.{Move}
 use Rattle.hive_model.specs.Positions.{Position}
 use Rattle.hive_model.specs.Legal.{is_over}
-use Rattle.hive_model.specs.Lines.{Line}
+use Rattle.io_edge.specs.Lines.{Line}
 use Rattle.move_text.specs.declared.faults.MoveFault.{MoveFault}
 use Rattle.strategy_walks.specs.Walks.{WalkEnd, Left, Fault, Halt}
 use Rattle.strategy_check.specs.declared.why.Why.{Why}

@@ -8,7 +8,7 @@ use Rattle.hive_model.specs.Positions.{Position}
 use Rattle.hive_model.specs.Legal.{moves}
 use Rattle.hive_model.specs.Games.{after}
 use Rattle.hive_model.specs.Keys.{KeyParts, key}
-use Rattle.hive_model.specs.Lines.{Line, Text, TooLong}
+use Rattle.io_edge.specs.Lines.{Line, Text, TooLong}
 use Rattle.move_text.proofs.NumberLaws.{number_found}
 use Rattle.strategy_walks.specs.declared.limit.Limit.{Limit}
 use Rattle.strategy_walks.specs.declared.limit.Limit.TheVariants.{AtLeast}

@@ -9,7 +9,7 @@ use Rattle.hive_model.specs.Courses.{Course}
 use Rattle.hive_model.specs.Legal.{is_over, moves}
 use Rattle.hive_model.specs.Lists.{IsOn}
 use Rattle.hive_model.specs.Games.{replay}
-use Rattle.hive_model.specs.Lines.{Line}
+use Rattle.io_edge.specs.Lines.{Line}
 use Rattle.search_laws.proofs.LoopLaws.{on-at}
 use Rattle.strategy_walks.specs.declared.claim.Claim.{Claim}
 use Rattle.strategy_walks.specs.Walks.{Fault, Halt, place_of}

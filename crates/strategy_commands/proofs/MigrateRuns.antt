@@ -2,7 +2,7 @@
 use Rattle.std.proofs.Common.{◌≡◌, sym, subst, ◌∙◌, inl}
 use Rattle.std.specs.Prelude.{Err}
 use Rattle.io_edge.specs.Outside.{Told}
-use Rattle.hive_model.specs.Lines.{lines}
+use Rattle.io_edge.specs.Lines.{lines}
 use Rattle.command_runs.specs.Input.{Sides, WhereTold}
 use Rattle.command_runs.specs.declared.status.Status.{Status}
 use Rattle.command_runs.specs.declared.status.Status.TheVariants.{Done, WriteFault}

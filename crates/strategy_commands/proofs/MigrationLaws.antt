@@ -3,7 +3,7 @@ use Rattle.std.proofs.Common.{◌≡◌, ◌⊎◌, ℕ, List, drop, refl, ap, �
 use Rattle.std.specs.Prelude.{Ok}
 use Rattle.io_edge.specs.Outside.{behind}
 use Rattle.hive_model.specs.declared.places.Move.{Move}
-use Rattle.hive_model.specs.Lines.{Line, lines}
+use Rattle.io_edge.specs.Lines.{Line, lines}
 use Rattle.strategy_text.specs.declared.head.Head.{Head}
 use Rattle.strategy_text.specs.Text.{head_of}
 use Rattle.command_runs.specs.Input.{Sides}

@@ -2,7 +2,7 @@
 use Rattle.std.specs.Prelude.{◌≡◌, ◌≢◌, ℕ, List, Result, Ok, Err}
 use Rattle.io_edge.specs.Outside.{Told}
 use Rattle.hive_model.specs.Courses.{Course}
-use Rattle.hive_model.specs.Lines.{Line}
+use Rattle.io_edge.specs.Lines.{Line}
 use Rattle.line_feed.specs.Feed.{Reading}
 use Rattle.strategy_walks.specs.declared.claim.Claim.{Claim}
 use Rattle.strategy_text.specs.declared.head.Head.{Head}

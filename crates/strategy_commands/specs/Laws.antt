@@ -5,7 +5,7 @@ use Rattle.hive_model.specs.declared.places.Move.{Move}
 use Rattle.hive_model.specs.Positions.{Position, opening}
 use Rattle.hive_model.specs.Legal.{is_over}
 use Rattle.hive_model.specs.Games.{IsGame, replay}
-use Rattle.hive_model.specs.Lines.{Line, lines}
+use Rattle.io_edge.specs.Lines.{Line, lines}
 use Rattle.hive_model.specs.Minimax.{best, value}
 use Rattle.strategy_check.specs.Trace.{Holds}
 use Rattle.strategy_lemmas.specs.Cited.{HoldsCited}

@@ -4,7 +4,7 @@ use Rattle.io_edge.specs.Outside.{Aside, HasCause, Told, behind}
 use Rattle.hive_model.specs.declared.places.Move.{Move}
 use Rattle.hive_model.specs.Positions.{Position}
 use Rattle.hive_model.specs.Legal.{is_over}
-use Rattle.hive_model.specs.Lines.{Line, lines}
+use Rattle.io_edge.specs.Lines.{Line, lines}
 use Rattle.line_feed.specs.Ahead.{ahead_of}
 use Rattle.line_feed.specs.Feed.{Reading}
 use Rattle.strategy_check.specs.Trace.{Holds}

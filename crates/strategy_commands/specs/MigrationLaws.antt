@@ -1,7 +1,7 @@
 -- Laws of certificates that become ones that cite.
 use Rattle.std.specs.Prelude.{ℕ, List}
 use Rattle.hive_model.specs.declared.places.Move.{Move}
-use Rattle.hive_model.specs.Lines.{lines}
+use Rattle.io_edge.specs.Lines.{lines}
 use Rattle.strategy_text.specs.declared.head.Head.{Head}
 use Rattle.command_runs.specs.Input.{Sides}
 use Rattle.command_runs.specs.Served.{RunsAreDone}

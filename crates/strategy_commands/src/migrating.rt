@@ -17,7 +17,7 @@ ghost use Rattle.std.specs.Prelude.{
 };
 ghost use Rattle.io_edge.specs.Outside.{HasCause, Told as AnyTold};
 ghost use Rattle.line_feed.specs.Feed.{Reading};
-ghost use Rattle.hive_model.specs.Lines.{lines};
+ghost use Rattle.io_edge.specs.Lines.{lines};
 ghost use Rattle.hive_model.specs.Courses.{position};
 ghost use Rattle.hive_model.specs.declared.places.Move.{Move as AnyMove};
 ghost use Rattle.hive_model.specs.Positions.{Position};

@@ -2,7 +2,7 @@
 use Rattle.std.proofs.Common.{◌≡◌, ◌≢◌, ℕ, suc, zero, ◌-◌, true, List, [], ◌∷◌, ◌++◌, length, get_or, take, ◌∙◌, ap, arith, if◌then◌else◌}
 use Rattle.std.proofs.lemmas.Bool.{ne_eqb}
 use Rattle.std.proofs.lemmas.List.{append_assoc}
-use Rattle.hive_model.specs.Lines.{Text, line_of, lines}
+use Rattle.io_edge.specs.Lines.{Text, line_of, lines}
 use Rattle.line_feed.specs.Feed.{NoLf}
 use Rattle.line_feed.proofs.PartLemmas.{lines-lf, line_of_short}
 use Rattle.strategy_text.specs.Text.{written_line}

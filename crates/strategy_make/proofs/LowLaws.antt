@@ -9,7 +9,7 @@ use Rattle.hive_model.specs.Positions.{Position, IsSound}
 use Rattle.hive_model.specs.Legal.{moves, is_over}
 use Rattle.hive_model.specs.Games.{after}
 use Rattle.hive_model.specs.Minimax.{value}
-use Rattle.hive_model.specs.Lines.{lines, line_of}
+use Rattle.io_edge.specs.Lines.{lines, line_of}
 use Rattle.rule_laws.proofs.Games.{listed_keep}
 use Rattle.line_feed.proofs.PartLemmas.{line_parts-nil}
 use Rattle.move_text.specs.Readers.{number_at}

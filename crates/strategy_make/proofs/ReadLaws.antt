@@ -17,7 +17,7 @@ use Rattle.hive_model.specs.Minimax.{value}
 use Rattle.hive_model.specs.Denotes.{Denotes, text}
 use Rattle.hive_model.specs.Boards.{Stacks}
 use Rattle.hive_model.specs.Strings.{string}
-use Rattle.hive_model.specs.Lines.{Line, Text, lines}
+use Rattle.io_edge.specs.Lines.{Line, Text, lines}
 use Rattle.hive_model.proofs.MoveLaws.{moves_legal}
 use Rattle.move_text.proofs.LegalSpell.{legal_denotes}
 use Rattle.rule_laws.proofs.Games.{games_sound}

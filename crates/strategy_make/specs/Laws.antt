@@ -10,7 +10,7 @@ use Rattle.hive_model.specs.Games.{replay, IsGame}
 use Rattle.hive_model.specs.Courses.{Course, position}
 use Rattle.hive_model.specs.Minimax.{IsInner, value, best}
 use Rattle.hive_model.specs.Denotes.{text}
-use Rattle.hive_model.specs.Lines.{lines}
+use Rattle.io_edge.specs.Lines.{lines}
 use Rattle.search_laws.specs.Laws.{IsSmall}
 use Rattle.strategy_check.specs.Trace.{Holds}
 use Rattle.strategy_text.specs.declared.head.Head.{Head}

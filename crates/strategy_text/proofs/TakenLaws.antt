@@ -4,8 +4,7 @@ use Rattle.std.specs.Prelude.{◌==◌, ⊤, Result, Err}
 use Rattle.std.proofs.lemmas.List.{append-nil, length-map}
 use Rattle.io_edge.specs.Outside.{HasCause, Told, in_front, IsAtEnd}
 use Rattle.io_edge.proofs.Told.{in_front-nil}
-use Rattle.hive_model.specs.Lines.{Line as OneLine, Text, TooLong as LongLine, line_of, line_parts, lines}
-use Rattle.hive_model.specs.Lists.{onto}
+use Rattle.io_edge.specs.Lines.{Line as OneLine, Text, TooLong as LongLine, line_of, line_parts, lines, onto}
 use Rattle.line_feed.specs.Feed.{Reading, HoldsLittle, Ends, Feeds, Takes, input_limit, pending}
 use Rattle.line_feed.specs.SoFar.{Covers, Fed}
 use Rattle.line_feed.specs.declared.line_answers.LineAnswer.{LineAnswer}

@@ -9,7 +9,7 @@ use Rattle.hive_model.specs.Positions.{opening}
 use Rattle.hive_model.specs.Games.{replay}
 use Rattle.hive_model.specs.Denotes.{text}
 use Rattle.hive_model.specs.Strings.{string}
-use Rattle.hive_model.specs.Lines.{Line, Text, TooLong, ToldLines, NoneAhead}
+use Rattle.io_edge.specs.Lines.{Line, Text, TooLong, ToldLines, NoneAhead}
 use Rattle.io_edge.specs.Outside.{Told, in_front}
 use Rattle.line_feed.specs.Feed.{Reading, Takes}
 use Rattle.std.proofs.lemmas.List.{append_assoc, drop-drop, length-append}

@@ -3,7 +3,7 @@ use Rattle.std.specs.Prelude.{◌≡◌, ◌≢◌, ℕ, ◌+◌, ◌-◌, ◌<�
 use Rattle.io_edge.specs.Outside.{HasCause, Told}
 use Rattle.line_feed.specs.Feed.{Reading, input_limit}
 use Rattle.std.specs.Option.{option_map}
-use Rattle.hive_model.specs.Lines.{Line, Text, ToldLines, NoneAhead, LongAhead, greatest_line}
+use Rattle.io_edge.specs.Lines.{Line, Text, ToldLines, NoneAhead, LongAhead, greatest_line}
 use Rattle.hive_model.specs.Games.{IsGame}
 use Rattle.game_text.specs.declared.faults.GameFault.{GameFault}
 use Rattle.game_text.specs.declared.faults.GameFault.TheVariants.{Memory as NoMemory}

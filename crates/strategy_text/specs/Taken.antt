@@ -1,7 +1,7 @@
 -- What was read of an input, and how far its reader has come.
 use Rattle.std.specs.Prelude.{◌≡◌, ℕ, ◌<◌, ◌≤◌, true, ⊤, ◌⊎◌, List, length, Option, Some, None}
 use Rattle.io_edge.specs.Outside.{Told}
-use Rattle.hive_model.specs.Lines.{Line, Text}
+use Rattle.io_edge.specs.Lines.{Line, Text}
 use Rattle.line_feed.specs.Feed.{HoldsLittle, Reading, input_limit}
 use Rattle.line_feed.specs.SoFar.{Fed}
 use Rattle.strategy_walks.specs.declared.items.ItemAnswer.{ItemAnswer}

@@ -8,7 +8,7 @@ use Rattle.hive_model.specs.declared.places.Move.{Move}
 use Rattle.hive_model.specs.Positions.{opening}
 use Rattle.hive_model.specs.Games.{replay}
 use Rattle.hive_model.specs.Denotes.{text}
-use Rattle.hive_model.specs.Lines.{Line, Text, TooLong}
+use Rattle.io_edge.specs.Lines.{Line, Text, TooLong}
 use Rattle.hive_model.specs.Strings.{string}
 use Rattle.move_text.specs.Readers.{number_at}
 use Rattle.game_text.specs.Turns.{behind_word}

@@ -23,7 +23,7 @@ ghost use Rattle.strategy_text.specs.Text.{
   int_at,
   index_at,
 };
-ghost use Rattle.hive_model.specs.Lines.{greatest_line};
+ghost use Rattle.io_edge.specs.Lines.{greatest_line};
 
 use hive_model::LineText;
 use move_text::read_number;

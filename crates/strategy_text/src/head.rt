@@ -2,7 +2,7 @@
 
 ghost use Rattle.std.specs.Prelude.{◌≡◌, ◌≢◌, ◌≤◌, ℕ, List, length, Some, Err, IfOk};
 ghost use Rattle.line_feed.specs.Ahead.{ahead_of};
-ghost use Rattle.hive_model.specs.Lines.{Line as AnyLine, greatest_line};
+ghost use Rattle.io_edge.specs.Lines.{Line as AnyLine, greatest_line};
 ghost use Rattle.hive_model.specs.Games.{IsGame};
 ghost use Rattle.game_text.specs.Reading.{game_of};
 ghost use Rattle.game_text.specs.declared.faults.GameFault.{GameFault as AnyFault};

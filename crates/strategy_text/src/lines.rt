@@ -2,7 +2,7 @@
 
 ghost use Rattle.std.specs.Prelude.{◌≡◌, ◌+◌, [], ◌∷◌, Option, None, nat_eq, map, refl};
 ghost use Rattle.std.specs.Option.{option_map};
-ghost use Rattle.hive_model.specs.Lines.{Line, Text, TooLong};
+ghost use Rattle.io_edge.specs.Lines.{Line, Text, TooLong};
 ghost use Rattle.line_feed.specs.Feed.{input_limit};
 ghost use Rattle.line_feed.specs.Ahead.{ahead_of};
 ghost use Rattle.strategy_text.specs.Text.{index_in};

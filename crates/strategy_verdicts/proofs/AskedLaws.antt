@@ -5,7 +5,7 @@ use Rattle.hive_model.specs.declared.pieces.GameType.{GameType}
 use Rattle.hive_model.specs.declared.places.Move.{Move}
 use Rattle.hive_model.specs.Games.{IsGame}
 use Rattle.hive_model.specs.Legal.{is_over}
-use Rattle.hive_model.specs.Lines.{Line, Text, TooLong}
+use Rattle.io_edge.specs.Lines.{Line, Text, TooLong}
 use Rattle.hive_model.specs.Strings.{IsGameLine}
 use Rattle.game_text.specs.declared.faults.GameFault.{GameFault}
 use Rattle.game_text.specs.declared.parsed.Parsed.{Parsed}

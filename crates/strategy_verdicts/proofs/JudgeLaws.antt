@@ -4,7 +4,7 @@ use Rattle.std.specs.Prelude.{Result, Ok, Err}
 use Rattle.std.proofs.lemmas.List.{append-nil}
 use Rattle.std.proofs.lemmas.Option.{same_Some}
 use Rattle.io_edge.specs.Outside.{Told, IsAtEnd, behind, in_front}
-use Rattle.hive_model.specs.Lines.{lines}
+use Rattle.io_edge.specs.Lines.{lines}
 use Rattle.line_feed.specs.Feed.{HoldsLittle, Reading, fresh, input_limit, pending}
 use Rattle.line_feed.specs.SoFar.{Covers, Fed, WasRead}
 use Rattle.line_feed.proofs.FedLemmas.{fed_begin}

@@ -2,7 +2,7 @@
 use Rattle.std.proofs.Common.{◌≡◌, ◌<◌, ◌≤◌, ℕ, ◌+◌, ◌-◌, ◌^◌, min, Bool, true, false, List, drop, length, refl, sym, ap, subst, arith}
 use Rattle.std.specs.Prelude.{Result, Ok, Err, if◌then◌else◌}
 use Rattle.io_edge.specs.Outside.{Told}
-use Rattle.hive_model.specs.Lines.{Line, ToldLines}
+use Rattle.io_edge.specs.Lines.{Line, ToldLines}
 use Rattle.line_feed.specs.Feed.{Reading, input_limit}
 use Rattle.strategy_walks.specs.Walks.{WalkEnd, Left, Fault, Halt}
 use Rattle.strategy_walks.specs.Follows.{held}

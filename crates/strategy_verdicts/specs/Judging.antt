@@ -1,7 +1,7 @@
 -- What a check judges of a text: its head, and the lines behind it.
 use Rattle.std.specs.Prelude.{◌≡◌, ℕ, List, drop, Result, Ok, Err, Some}
 use Rattle.io_edge.specs.Outside.{Aside, HasCause}
-use Rattle.hive_model.specs.Lines.{Line, lines}
+use Rattle.io_edge.specs.Lines.{Line, lines}
 use Rattle.line_feed.specs.Ahead.{ahead_of}
 use Rattle.line_feed.specs.Feed.{Reading}
 use Rattle.strategy_text.specs.declared.head.HeadFault.{HeadFault}

@@ -1,6 +1,6 @@
 -- A law of the checks of texts.
 use Rattle.std.specs.Prelude.{◌≡◌, ℕ, List, [], Some}
-use Rattle.hive_model.specs.Lines.{lines}
+use Rattle.io_edge.specs.Lines.{lines}
 use Rattle.command_runs.specs.Input.{Sides}
 use Rattle.command_runs.specs.Served.{RunsAreDone}
 use Rattle.strategy_verdicts.specs.declared.verdict.TextVerdict.TheVariants.{Accepted}

@@ -2,7 +2,7 @@
 use Rattle.std.proofs.Common.{arith}
 use Rattle.std.specs.Prelude.{◌≡◌, ℕ, ◌+◌, ◌<◌, ◌≤◌, ◌^◌, ⊤, List, length, take}
 use Rattle.io_edge.specs.Outside.{Told, behind}
-use Rattle.hive_model.specs.Lines.{Line, lines}
+use Rattle.io_edge.specs.Lines.{Line, lines}
 use Rattle.line_feed.specs.Feed.{input_limit}
 use Rattle.line_feed.specs.SoFar.{WasRead}
 use Rattle.strategy_walks.specs.Walks.{WalkEnd, Left, Fault, Halt}

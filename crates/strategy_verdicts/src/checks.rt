@@ -1,7 +1,7 @@
 //! The check of a text, whatever its form.
 
 ghost use Rattle.std.specs.Prelude.{◌<◌, ℕ, List, Result, IfOk};
-ghost use Rattle.hive_model.specs.Lines.{Line as AnyLine};
+ghost use Rattle.io_edge.specs.Lines.{Line as AnyLine};
 ghost use Rattle.strategy_text.specs.declared.head.HeadFault.{HeadFault as AnyFault};
 ghost use Rattle.command_runs.specs.Runs.{RunsAs, side_of};
 ghost use Rattle.strategy_verdicts.specs.Runs.{IsDecidedBehind, Judgement, VerdictRun};

@@ -2,7 +2,7 @@
 
 ghost use Rattle.std.specs.Prelude.{◌≡◌, ◌↔◌, ◌+◌, ◌<◌, ℕ, List, Option, Err};
 ghost use Rattle.io_edge.specs.Outside.{Told as AnyTold};
-ghost use Rattle.hive_model.specs.Lines.{Line};
+ghost use Rattle.io_edge.specs.Lines.{Line};
 ghost use Rattle.line_feed.specs.Feed.{Reading, input_limit};
 ghost use Rattle.strategy_walks.specs.Walks.{WalkEnd};
 ghost use Rattle.strategy_walks.specs.Answers.{

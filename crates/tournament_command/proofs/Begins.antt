@@ -1,7 +1,7 @@
 -- The tournament that the input tells is played; or memory was wanting before it began.
 use Rattle.std.proofs.Common.{◌≡◌, ◌≢◌, ℕ, List, [], length, refl, sym, subst, inl, inr, arith}
 use Rattle.std.proofs.lemmas.List.{append-nil}
-use Rattle.hive_model.specs.Lines.{lines}
+use Rattle.io_edge.specs.Lines.{lines}
 use Rattle.command_runs.specs.Input.{WereRead, WhereTold}
 use Rattle.command_runs.specs.World.{World, once_read}
 use Rattle.command_runs.specs.declared.no_game.NoGame.TheVariants.{Memory as NoMemory}

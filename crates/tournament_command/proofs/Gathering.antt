@@ -3,7 +3,7 @@ use Rattle.std.proofs.Common.{◌≡◌, ◌<◌, ◌≤◌, ℕ, Bool, true, fa
 use Rattle.std.specs.Prelude.{Ok}
 use Rattle.std.proofs.lemmas.List.Elements.{All-nil}
 use Rattle.io_edge.specs.Outside.{Told}
-use Rattle.hive_model.specs.Lines.{Line, Text}
+use Rattle.io_edge.specs.Lines.{Line, Text}
 use Rattle.line_feed.specs.Feed.{Reading, Gives, Holds, fresh, input_limit, settled}
 use Rattle.line_feed.specs.SoFar.{Fed}
 use Rattle.line_feed.proofs.FedLemmas.{fed_begin, fed_end, fed_held, fed_line}

@@ -1,7 +1,7 @@
 -- Lines that are too long.
 use Rattle.std.proofs.Common.{◌≡◌, ℕ, ◌+◌, Bool, true, false, refl, ap, ◌∙◌, subst, None}
 use Rattle.std.specs.Prelude.{Ok, Err, if◌then◌else◌, nat_lt, length, ◌&&◌}
-use Rattle.hive_model.specs.Lines.{TooLong as LongLine}
+use Rattle.io_edge.specs.Lines.{TooLong as LongLine}
 use Rattle.command_runs.specs.OneGame.{game_in}
 use Rattle.tournament_command.specs.declared.format.Format.{Format}
 use Rattle.tournament_command.specs.declared.phase.Phase.TheVariants.{Game, Openings}

@@ -6,7 +6,7 @@ use Rattle.std.specs.Str.{bytes_eq}
 use Rattle.hive_model.specs.declared.pieces.GameType.{GameType}
 use Rattle.hive_model.specs.declared.places.Move.{Move}
 use Rattle.hive_model.specs.Fields.{type_bytes}
-use Rattle.hive_model.specs.Lines.{Line, Text, TooLong as LongLine}
+use Rattle.io_edge.specs.Lines.{Line, Text, TooLong as LongLine}
 use Rattle.game_text.specs.declared.parsed.Parsed.{Parsed}
 use Rattle.command_runs.specs.OneGame.{game_in}
 use Rattle.tournament_core.specs.declared.fixtures.Fixture.{Fixture}

@@ -1,7 +1,7 @@
 -- What a tournament reads, writes and plays, by the status with which it ends.
 use Rattle.std.specs.Prelude.{◌≡◌, ◌⊎◌, ℕ, ◌≤◌, List, [], ◌∷◌, ◌++◌, codes, decimal, length, Ok, Err}
 use Rattle.io_edge.specs.Outside.{Told}
-use Rattle.hive_model.specs.Lines.{Line, lines, whole_lines}
+use Rattle.io_edge.specs.Lines.{Line, lines, whole_lines}
 use Rattle.line_feed.specs.SoFar.{WasRead}
 use Rattle.command_runs.specs.Answered.{Inquiry, IsUnanswered, TellsNone}
 use Rattle.command_runs.specs.Input.{IsAllRead, WereRead, WhereTold}

@@ -13,7 +13,7 @@ ghost use Rattle.std.specs.Prelude.{
   MatchOption,
   OnOk,
 };
-ghost use Rattle.hive_model.specs.Lines.{Text, TooLong as LongLine, greatest_line};
+ghost use Rattle.io_edge.specs.Lines.{Text, TooLong as LongLine, greatest_line};
 ghost use Rattle.tournament_core.specs.Schedules.{schedule};
 ghost use Rattle.tournament_command.specs.Formats.{IsFormat, plan_of};
 ghost use Rattle.tournament_command.specs.Intakes.{

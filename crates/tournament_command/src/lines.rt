@@ -12,7 +12,7 @@ ghost use Rattle.std.specs.Prelude.{
   OnOk,
 };
 ghost use Rattle.hive_model.specs.Games.{IsGame};
-ghost use Rattle.hive_model.specs.Lines.{Text, greatest_line};
+ghost use Rattle.io_edge.specs.Lines.{Text, greatest_line};
 ghost use Rattle.command_runs.specs.OneGame.{if_open};
 ghost use Rattle.tournament_games.specs.Texts.{numbers_text};
 ghost use Rattle.tournament_games.specs.Tournaments.{IsOpening};

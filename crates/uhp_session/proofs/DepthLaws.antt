@@ -2,7 +2,7 @@
 use Rattle.std.proofs.Common.{◌≡◌, ℕ, Bool, true, false, List, Result, Ok, Err, refl, sym, ◌∙◌, if◌then◌else◌}
 use Rattle.std.specs.Prelude.{Option, Some, None, codes}
 use Rattle.std.proofs.lemmas.Option.{none-some}
-use Rattle.hive_model.specs.Lines.{Text as TextLine, TooLong as LongLine}
+use Rattle.io_edge.specs.Lines.{Text as TextLine, TooLong as LongLine}
 use Rattle.uhp_words.specs.declared.command.Command.{Command}
 use Rattle.uhp_words.specs.declared.command.Command.TheVariants.{Info, NewGame, Play, Pass, ValidMoves, BestDepth, BestTime, Undo, Options, OptionGet, OptionSet, Exit}
 use Rattle.uhp_words.specs.declared.command.CommandFault.{CommandFault}

@@ -6,7 +6,7 @@ use Rattle.hive_model.specs.declared.places.Move.{Move}
 use Rattle.hive_model.specs.Courses.{is_listed}
 use Rattle.hive_model.specs.Games.{after, replay, AreLegal}
 use Rattle.hive_model.specs.Legal.{moves}
-use Rattle.hive_model.specs.Lines.{Text as TextLine, TooLong as LongLine}
+use Rattle.io_edge.specs.Lines.{Text as TextLine, TooLong as LongLine}
 use Rattle.hive_model.specs.Lists.{IsOn}
 use Rattle.hive_model.specs.Positions.{Position, opening}
 use Rattle.move_text.specs.declared.faults.MoveFault.{MoveFault}

@@ -3,7 +3,7 @@ use Rattle.std.proofs.Common.{◌≡◌, ℕ, ◌-◌, Bool, true, false, List, 
 use Rattle.std.specs.Prelude.{Option, Some, None, codes, nat_le, nat_lt}
 use Rattle.hive_model.specs.declared.places.Move.{Move}
 use Rattle.hive_model.specs.Courses.{is_listed}
-use Rattle.hive_model.specs.Lines.{Text as TextLine, TooLong as LongLine}
+use Rattle.io_edge.specs.Lines.{Text as TextLine, TooLong as LongLine}
 use Rattle.move_text.specs.declared.faults.MoveFault.{MoveFault}
 use Rattle.move_text.specs.Moves.{move_of}
 use Rattle.game_text.specs.declared.faults.GameFault.{GameFault}

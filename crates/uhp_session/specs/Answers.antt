@@ -14,7 +14,7 @@ use Rattle.hive_model.specs.Texts.{piece_text}
 use Rattle.hive_model.specs.Denotes.{text}
 use Rattle.hive_model.specs.Repetition.{outcome_under}
 use Rattle.hive_model.specs.Strings.{string_under, joined_on}
-use Rattle.hive_model.specs.Lines.{Line, Text as TextLine, TooLong as LongLine, greatest_line}
+use Rattle.io_edge.specs.Lines.{Line, Text as TextLine, TooLong as LongLine, greatest_line}
 use Rattle.move_text.specs.declared.faults.MoveFault.{MoveFault}
 use Rattle.move_text.specs.declared.faults.MoveFault.TheVariants.{NotAMove, NoSuchPiece, NotInPlay}
 use Rattle.move_text.specs.Moves.{move_of}

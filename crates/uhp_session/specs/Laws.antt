@@ -6,7 +6,7 @@ use Rattle.hive_model.specs.Games.{IsGame}
 use Rattle.hive_model.specs.Legal.{is_over}
 use Rattle.hive_model.specs.Minimax.{IsBest}
 use Rattle.hive_model.specs.Repetition.{StandsUnder}
-use Rattle.hive_model.specs.Lines.{Line, Text as TextLine, TooLong as LongLine}
+use Rattle.io_edge.specs.Lines.{Line, Text as TextLine, TooLong as LongLine}
 use Rattle.uhp_words.specs.declared.command.Command.{Command}
 use Rattle.uhp_words.specs.declared.command.Command.TheVariants.{NewGame, Options, OptionGet, OptionSet}
 use Rattle.uhp_words.specs.declared.command.CommandFault.{CommandFault}

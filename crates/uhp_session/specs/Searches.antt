@@ -4,7 +4,7 @@ use Rattle.std.specs.Prelude.{◌≡◌, ℕ, ◌+◌, ◌<◌, ◌≤◌, List,
 use Rattle.std.specs.declared.alloc.AllocError.{AllocError}
 use Rattle.hive_model.specs.declared.best.Timed.{Timed}
 use Rattle.hive_model.specs.Positions.{Position}
-use Rattle.hive_model.specs.Lines.{Line, Text as TextLine, TooLong as LongLine}
+use Rattle.io_edge.specs.Lines.{Line, Text as TextLine, TooLong as LongLine}
 use Rattle.hive_model.specs.Minimax.{reads}
 use Rattle.command_runs.specs.World.{TakesNoTime, Times}
 use Rattle.uhp_words.specs.declared.command.Command.{Command}

@@ -29,7 +29,7 @@ ghost use Rattle.hive_model.specs.Repetition.{outcome_under};
 ghost use Rattle.hive_model.specs.Denotes.{text};
 ghost use Rattle.hive_model.specs.Stack.{with_level};
 ghost use Rattle.command_runs.specs.World.{times};
-ghost use Rattle.hive_model.specs.Lines.{greatest_line};
+ghost use Rattle.io_edge.specs.Lines.{greatest_line};
 ghost use Rattle.move_text.specs.Moves.{move_of};
 ghost use Rattle.uhp_session.specs.Answers.{
   CurrentGame,

@@ -10,7 +10,7 @@ ghost use Rattle.uhp_session.specs.Answers.{command_answer, fresh, go_on, in_gam
 ghost use Rattle.uhp_session.specs.Answers.{next, or_base, play, reply, reply_of, text_of, undo};
 ghost use Rattle.uhp_session.specs.Answers.{while_on, words_answer};
 ghost use Rattle.uhp_session.specs.Searches.{Answered, IsUntimed, asks, command_search, search_in};
-ghost use Rattle.hive_model.specs.Lines.{greatest_line};
+ghost use Rattle.io_edge.specs.Lines.{greatest_line};
 
 mod settings;
 

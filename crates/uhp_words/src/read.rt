@@ -16,7 +16,7 @@ ghost use Rattle.uhp_words.specs.Reading.{
   arguments_of,
   command_of,
 };
-ghost use Rattle.hive_model.specs.Lines.{greatest_line};
+ghost use Rattle.io_edge.specs.Lines.{greatest_line};
 
 use crate::command::{Command, CommandFault};
 use crate::span::span_of;

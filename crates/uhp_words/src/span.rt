@@ -2,7 +2,7 @@
 
 ghost use Rattle.std.specs.Prelude.{◌≡◌, ◌+◌, ◌≤◌, length};
 ghost use Rattle.uhp_words.specs.Spans.{bytes_at, span_of};
-ghost use Rattle.hive_model.specs.Lines.{greatest_line};
+ghost use Rattle.io_edge.specs.Lines.{greatest_line};
 
 /// A part of a line: it begins behind `at` bytes and has `len` bytes.
 #[derive(Clone, Copy, Debug, PartialEq, Eq)]

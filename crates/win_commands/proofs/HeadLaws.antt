@@ -4,7 +4,7 @@ use Rattle.std.specs.Prelude.{Result, Ok}
 use Rattle.std.proofs.lemmas.List.{append_assoc}
 use Rattle.hive_model.specs.declared.pieces.GameType.{GameType}
 use Rattle.hive_model.specs.declared.places.Move.{Move}
-use Rattle.hive_model.specs.Lines.{Line, ToldLines}
+use Rattle.io_edge.specs.Lines.{Line, ToldLines}
 use Rattle.hive_model.specs.Strings.{string}
 use Rattle.game_text.specs.declared.parsed.Parsed.{Parsed}
 use Rattle.strategy_text.specs.declared.head.HeadFault.{HeadFault}

@@ -4,7 +4,7 @@ use Rattle.std.specs.Prelude.{Result}
 use Rattle.io_edge.specs.Outside.{Aside}
 use Rattle.hive_model.specs.Courses.{Course, position}
 use Rattle.hive_model.specs.Legal.{is_over}
-use Rattle.hive_model.specs.Lines.{Line}
+use Rattle.io_edge.specs.Lines.{Line}
 use Rattle.hive_model.specs.Games.{replay}
 use Rattle.hive_model.specs.Positions.{opening}
 use Rattle.line_feed.specs.Feed.{Reading}

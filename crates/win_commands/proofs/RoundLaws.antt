@@ -9,7 +9,7 @@ use Rattle.hive_model.specs.Positions.{Position, opening}
 use Rattle.hive_model.specs.Pieces.{is_colour}
 use Rattle.hive_model.specs.Legal.{is_over}
 use Rattle.hive_model.specs.Games.{replay}
-use Rattle.hive_model.specs.Lines.{Line, Text, lines}
+use Rattle.io_edge.specs.Lines.{Line, Text, lines}
 use Rattle.hive_model.specs.Strings.{string}
 use Rattle.rule_laws.proofs.Games.{games_sound}
 use Rattle.move_text.proofs.NumberLaws.{number_again}

@@ -3,7 +3,7 @@ use Rattle.std.proofs.Common.{◌≡◌, ℕ, Bool, true, false, List, drop, map
 use Rattle.std.specs.Prelude.{Result, Ok, Err}
 use Rattle.hive_model.specs.Positions.{Position}
 use Rattle.hive_model.specs.Legal.{is_over}
-use Rattle.hive_model.specs.Lines.{Line}
+use Rattle.io_edge.specs.Lines.{Line}
 use Rattle.strategy_walks.specs.Walks.{WalkEnd, Left, Fault, Halt}
 use Rattle.strategy_check.specs.declared.why.Why.{Why}
 use Rattle.strategy_check.specs.Trace.{Steps}

@@ -5,7 +5,7 @@ use Rattle.hive_model.specs.declared.places.Move.{Move}
 use Rattle.hive_model.specs.Positions.{opening}
 use Rattle.hive_model.specs.Legal.{is_over}
 use Rattle.hive_model.specs.Games.{IsGame, replay}
-use Rattle.hive_model.specs.Lines.{Line, lines}
+use Rattle.io_edge.specs.Lines.{Line, lines}
 use Rattle.command_runs.specs.Input.{Sides, WhereTold}
 use Rattle.command_runs.specs.OneGame.{AsksOne, last_position}
 use Rattle.command_runs.specs.Served.{RunsAreDone}

@@ -4,7 +4,7 @@ use Rattle.std.specs.Prelude.{ℕ, ◌<◌, ◌≤◌, Bool, true, false, List, 
 use Rattle.hive_model.specs.Positions.{Position}
 use Rattle.hive_model.specs.Legal.{is_over}
 use Rattle.hive_model.specs.Games.{IsGame}
-use Rattle.hive_model.specs.Lines.{Line}
+use Rattle.io_edge.specs.Lines.{Line}
 use Rattle.strategy_text.specs.declared.head.HeadFault.{HeadFault}
 use Rattle.strategy_text.specs.Text.{and_then, field_in, game_in, index_in}
 use Rattle.strategy_walks.specs.Walks.{WalkEnd}

@@ -2,7 +2,7 @@
 
 ghost use Rattle.std.specs.Prelude.{◌≡◌, ℕ, List, Some, Err, IfOk};
 ghost use Rattle.line_feed.specs.Ahead.{ahead_of};
-ghost use Rattle.hive_model.specs.Lines.{Line as AnyLine};
+ghost use Rattle.io_edge.specs.Lines.{Line as AnyLine};
 ghost use Rattle.strategy_text.specs.Heads.{BreaksOff, Reads, TakesLines};
 ghost use Rattle.strategy_text.specs.Taken.{HasRead};
 ghost use Rattle.win_commands.specs.Verdicts.{IsHead, head_of};

@@ -14,7 +14,7 @@ ghost use Rattle.match_core.specs.MatchState.{
   answered,
 };
 ghost use Rattle.match_core.specs.Keeps.{IsLevel, IsEarly, HasNext, IsSettled};
-ghost use Rattle.hive_model.specs.Lines.{greatest_line};
+ghost use Rattle.io_edge.specs.Lines.{greatest_line};
 
 use super::Referee;
 use crate::line_text::copy_line;

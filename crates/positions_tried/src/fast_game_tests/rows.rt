@@ -5,10 +5,9 @@ ghost use Rattle.hive_model.specs.declared.pieces.Kind.TheVariants.{Mosquito};
 ghost use Rattle.hive_model.specs.Places.{IsWithin, IsOnTheMap};
 ghost use Rattle.positions_tried.specs.Small.{IsSmall};
 
-use bug_moves::reach;
+use bug_moves::{mosquito_reach, reach};
 use gates::{climb_ok, slide_ok};
 use hive_model::{Board, Kind, Piece, Place, PlaceList};
-use mosquito_moves::mosquito_reach;
 use std::alloc::{AllocError, Global};
 use std::test::Fail;
 use torus_board::Torus;

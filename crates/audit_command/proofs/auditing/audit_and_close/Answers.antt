@@ -1,4 +1,4 @@
-use Rattle.audit_runner.specs.Wires.{Wire, wire}
+use Rattle.audit_command.specs.Wires.{Wire, wire}
 use Rattle.audit_command.proofs.Closing.{audited_ok}
 use Rattle.audit_command.proofs.auditing.audit_and_close.Goals as goal
 

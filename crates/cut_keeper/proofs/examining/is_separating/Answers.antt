@@ -1,5 +1,5 @@
 use Rattle.std.proofs.Common.{◌≡◌, true, false, sym, ◌∙◌}
-use Rattle.arc_law.proofs.ArcBoards.{one_arc_no_cut}
+use Rattle.arcs.proofs.ArcBoards.{one_arc_no_cut}
 use Rattle.cut_keeper.proofs.RingLaws.{arc_mask}
 use Rattle.cut_keeper.proofs.examining.is_separating.Goals as goal
 

@@ -1,6 +1,6 @@
 -- What a check says that ends with 0: the text is accepted.
 use Rattle.std.proofs.Common.{rules, ◌≡◌}
-use Rattle.hive_model.specs.Lines.{lines}
+use Rattle.io_edge.specs.Lines.{lines}
 use Rattle.strategy_verdicts.specs.declared.verdict.TextVerdict.TheVariants.{Accepted}
 use Rattle.strategy_commands.specs.Verdicts.{verdict}
 use Rattle.strategy_commands.proofs.CheckLaws.{accepted-true}

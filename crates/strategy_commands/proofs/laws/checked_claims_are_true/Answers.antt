@@ -1,4 +1,4 @@
-use Rattle.hive_model.specs.Lines.{lines}
+use Rattle.io_edge.specs.Lines.{lines}
 use Rattle.strategy_verdicts.proofs.JudgeLaws.{done-accepted}
 use Rattle.strategy_commands.proofs.CheckLaws.{accepted-true}
 use Rattle.strategy_commands.proofs.laws.checked_claims_are_true.Goals as goal

@@ -1,6 +1,6 @@
 use Rattle.std.proofs.Common.{ap, ◌∙◌}
 use Rattle.std.specs.Option.{option_map}
-use Rattle.hive_model.specs.Lines.{lines}
+use Rattle.io_edge.specs.Lines.{lines}
 use Rattle.line_feed.proofs.AheadLemmas.{ahead_begin}
 use Rattle.strategy_verdicts.proofs.JudgeLaws.{read-none}
 use Rattle.strategy_commands.proofs.migrating.migrate_input.Goals as goal

@@ -1,7 +1,7 @@
 -- What is judged of a whole input, by a reader that is new.
 use Rattle.std.proofs.Common.{ap, ◌∙◌}
 use Rattle.std.specs.Option.{option_map}
-use Rattle.hive_model.specs.Lines.{lines}
+use Rattle.io_edge.specs.Lines.{lines}
 use Rattle.line_feed.proofs.AheadLemmas.{ahead_begin}
 use Rattle.strategy_verdicts.proofs.JudgeLaws.{read-none}
 use Rattle.strategy_verdicts.proofs.checks.judge.Goals as goal

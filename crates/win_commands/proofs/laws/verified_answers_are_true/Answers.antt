@@ -1,4 +1,4 @@
-use Rattle.hive_model.specs.Lines.{lines}
+use Rattle.io_edge.specs.Lines.{lines}
 use Rattle.strategy_verdicts.proofs.JudgeLaws.{done-accepted}
 use Rattle.win_commands.proofs.VerdictLaws.{accepted-true}
 use Rattle.win_commands.proofs.laws.verified_answers_are_true.Goals as goal

@@ -1,0 +1,3 @@
+pub mod ArcWalks
+pub mod ArcBoards
+pub mod EachMask

@@ -1,0 +1,49 @@
+-- What a whole audit over a link has done.
+use Rattle.std.specs.Prelude.{◌≡◌, ◌⊎◌, ℕ, true, List, ◌++◌, take, Some, if◌then◌else◌}
+use Rattle.io_edge.specs.Outside.{Told, Rose, behind}
+use Rattle.io_edge.specs.Lines.{Line as Mark, lines}
+use Rattle.audit_core.specs.declared.plan.Plan.{Plan}
+use Rattle.audit_core.specs.declared.findings.Fault.{Fault}
+use Rattle.audit_core.specs.declared.findings.Fault.TheVariants.{Late, Broke}
+use Rattle.audit_core.specs.AuditState.{AuditState, start, is_ended, break_off}
+use Rattle.audit_core.specs.Audits.{after_all, audit_of, sent_in}
+use Rattle.audit_command.specs.Wires.{HasFailed, Wire}
+
+-- a list goes on from its front
+abbrev pub IsFront : {X : Type 0} → List X → List X → Type 0
+IsFront {X} front all = (more : List X) × (all ≡ front ++ more)
+
+-- the audit, and the bytes sent, are those of an engine that says just these lines
+pub record IsAudit (plan : Plan) (marks : List Mark) (t : AuditState) (before after : Told)
+    : Type 0 where
+  pub audit : t ≡ audit_of plan marks
+  pub sent : after ≡ behind before (sent_in plan marks)
+
+-- what a failed read is told as: late where an answer is waited for no longer than some limit
+abbrev pub unread : Plan → Fault
+unread plan = if plan.patient then Late else Broke
+
+-- the audit of these lines, which this finding breaks off
+abbrev pub broken_off : Plan → List Mark → Fault → AuditState
+broken_off plan marks fault = break_off (after_all (start plan) marks) fault
+
+-- the audit is that of an engine that says just these lines; or behind them a read failed, which is
+-- told as late or as broke, or a write, which is told as broke
+abbrev pub Ends : Plan → List Mark → AuditState → Wire → Wire → Type 0
+Ends plan marks t w0 w =
+    (t ≡ audit_of plan marks)
+    ⊎ (((t ≡ broken_off plan marks (unread plan)) × Rose w0.reads w.reads)
+    ⊎ ((t ≡ broken_off plan marks Broke) × Rose w0.writes w.writes))
+
+-- An audit over a link came to its end. Of the engine's lines the first ones, these, were read, and
+-- the audit is that of an engine that says just these lines; or a call of the link failed behind
+-- them. Of the bytes that are sent for these lines a front was written. Where the link tells its
+-- bytes and no call failed, audit and bytes are those of all its lines.
+pub record RanOver (plan : Plan) (t : AuditState) (w0 w : Wire) : Type 0 where
+  pub over : is_ended t.stage ≡ true
+  pub marks : List Mark
+  pub first : (bytes : List ℕ) → w0.rest ≡ Some bytes → IsFront marks (lines bytes)
+  pub ends : Ends plan marks t w0 w
+  pub sent : (n : ℕ) × (w.written ≡ behind w0.written (take n (sent_in plan marks)))
+  pub told : (bytes : List ℕ) → w0.rest ≡ Some bytes → ¬ HasFailed w0 w
+      → IsAudit plan (lines bytes) t w0.written w.written

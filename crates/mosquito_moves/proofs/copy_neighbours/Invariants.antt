@@ -1,6 +1,0 @@
-use Rattle.bug_moves.specs.Adding.{Gains}
-use Rattle.mosquito_moves.specs.Copied.{InKinds, CopiesKind}
-use Rattle.mosquito_moves.proofs.copy_neighbours.Given as goal
-
-abbrev pub invariant-loop-kind : goal.invariant-loop-kind
-invariant-loop-kind g l = Gains (g.B.Board.stacks l.board) (InKinds l.kind-index (CopiesKind (g.B.Board.stacks l.board) l.from)) l.initial.out.items l.out.items
