@@ -2,4 +2,5 @@ pub mod Judged
 pub mod Found
 pub mod Picks
 pub mod Replies
+pub mod Closing
 mod Forward

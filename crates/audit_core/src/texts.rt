@@ -3,6 +3,8 @@ ghost use Rattle.std.specs.Prelude.{
   ◌≡◌,
   ◌≤◌,
   ◌++◌,
+  ◌∷◌,
+  [],
   length,
   map,
   codes,
@@ -67,15 +69,6 @@ pub(crate) fn text_with(
     Ok(kept)
 }
 
-/// The text of a legal move.
-pub(crate) fn move_text<G: Game>(alloc: Global, game: &G, m: Move) -> Result<LineText, AllocError>
-    requires { IsOn (moves (position (G.course game.now))) m }
-    ensures { IfOk result (λ t. t ≡ text (position (G.course game.now)).board m) }
-{
-    game.is_sound();
-    copy_text(alloc, write_move(game, m).as_bytes())
-}
-
 /// The text of a move whose destination is near.
 pub(crate) fn near_text<G: Game>(alloc: Global, game: &G, m: Move) -> Result<LineText, AllocError>
     requires { IsMoveWithin m }
@@ -83,6 +76,15 @@ pub(crate) fn near_text<G: Game>(alloc: Global, game: &G, m: Move) -> Result<Lin
 {
     game.is_sound();
     copy_text(alloc, write_move(game, m).as_bytes())
+}
+
+/// The text of a legal move.
+pub(crate) fn move_text<G: Game>(alloc: Global, game: &G, m: Move) -> Result<LineText, AllocError>
+    requires { IsOn (moves (position (G.course game.now))) m }
+    ensures { IfOk result (λ t. t ≡ text (position (G.course game.now)).board m) }
+{
+    game.is_sound();
+    near_text(alloc, game, m)
 }
 
 /// The line that asks for a new game.
@@ -96,22 +98,37 @@ pub(crate) fn begin_line(alloc: Global, game_type: GameType) -> Result<ReplyText
     Ok(line)
 }
 
+/// Appends the line that plays a move of this text. After want of memory a prefix of it was
+/// appended.
+fn push_play(line: &mut ReplyText, text: &[u8]) -> Result<(), AllocError>
+    ensures { OnOk result (line.new ≡ line.old ++ (codes "play " ++ (text.now ++ 10 ∷ []))) }
+{
+    line.push_all(b"play ")?;
+    line.push_all(text)?;
+    line.push(b'\n')
+}
+
+/// The line that plays a move of this text.
+fn line_of(alloc: Global, text: &[u8]) -> Result<ReplyText, AllocError>
+    ensures { IfOk result (λ t. t ≡ codes "play " ++ (text.now ++ 10 ∷ [])) }
+{
+    let mut line = ReplyText::new(alloc);
+    push_play(&mut line, text)?;
+    Ok(line)
+}
+
 /// The line that plays a legal move.
 pub(crate) fn play_line<G: Game>(alloc: Global, game: &G, m: Move) -> Result<ReplyText, AllocError>
     requires { IsOn (moves (position (G.course game.now))) m }
     ensures { IfOk result (λ t. t ≡ play_line (position (G.course game.now)) m) }
 {
-    let mut line = ReplyText::new(alloc);
     match m {
-        Move::Pass => line.push_all(b"pass\n")?,
+        Move::Pass => copy_text(alloc, b"pass\n"),
         Move::To { .. } => {
             let text = move_text(alloc, game, m.again())?;
-            line.push_all(b"play ")?;
-            line.push_all(text.items())?;
-            line.push(b'\n')?;
+            line_of(alloc, text.items())
         }
     }
-    Ok(line)
 }
 
 /// The line that plays a move whose destination is near.
@@ -119,17 +136,13 @@ pub(crate) fn try_line<G: Game>(alloc: Global, game: &G, m: Move) -> Result<Repl
     requires { IsMoveWithin m }
     ensures { IfOk result (λ t. t ≡ play_line (position (G.course game.now)) m) }
 {
-    let mut line = ReplyText::new(alloc);
     match m {
-        Move::Pass => line.push_all(b"pass\n")?,
+        Move::Pass => copy_text(alloc, b"pass\n"),
         Move::To { .. } => {
             let text = near_text(alloc, game, m.again())?;
-            line.push_all(b"play ")?;
-            line.push_all(text.items())?;
-            line.push(b'\n')?;
+            line_of(alloc, text.items())
         }
     }
-    Ok(line)
 }
 
 /// The line that loads a game by its game string.

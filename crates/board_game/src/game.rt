@@ -10,7 +10,7 @@ use crate::keys::key_after;
 use crate::listing::{count_after, is_legal_after, list_moves, state_of};
 use crate::moves_made::{make, unmake};
 use crate::refuting::{reply_behind, turn_behind};
-use crate::told_values::{find_base, find_whole, least_by, value_by};
+use crate::told_values::{told_least, told_value};
 use crate::turns::{side_after, turn_after};
 use cut_keeper::CutKeeper;
 use hive_model::{
@@ -225,18 +225,15 @@ impl<B: GameBoard> Game for BoardGame<B> {
             }
         }
         let side = side_after(self.made.len() as u32).other();
-        find_whole(&self.board, &self.keeper, &mut self.whole, side);
-        let whole = self.whole.as_ref()?;
-        find_base(
+        let told = told_value(
             &self.board,
             &self.keeper,
-            whole,
+            &mut self.whole,
             &mut self.asked,
             piece,
+            place,
             side,
         );
-        let (_, base) = self.asked.as_ref()?;
-        let told = value_by(&self.board, base, piece, place, side);
         if is_plain {
             note(&mut self.placements, place, told);
         }
@@ -248,18 +245,15 @@ impl<B: GameBoard> Game for BoardGame<B> {
             return None;
         };
         let side = side_after(self.made.len() as u32).other();
-        find_whole(&self.board, &self.keeper, &mut self.whole, side);
-        let whole = self.whole.as_ref()?;
-        find_base(
+        told_least(
             &self.board,
             &self.keeper,
-            whole,
+            &mut self.whole,
             &mut self.asked,
             piece,
+            place,
             side,
-        );
-        let (_, base) = self.asked.as_ref()?;
-        least_by(&self.board, base, piece, place, side)
+        )
     }
 
     fn most_after(&mut self, m: Move) -> Option<i32> {

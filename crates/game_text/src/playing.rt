@@ -1,10 +1,26 @@
 //! Games played from their moves.
-ghost use Rattle.std.specs.Prelude.{◌≡◌, ◌+◌, ◌≤◌, length, IfOk};
+ghost use Rattle.std.specs.Prelude.{◌≡◌, ◌+◌, ◌≤◌, [], length, IfOk};
 ghost use Rattle.hive_model.specs.Games.{IsGame};
 ghost use Rattle.hive_model.specs.Courses.{most_plies};
 
 use hive_model::{Game, GameType, Move};
 use std::alloc::{AllocError, Global};
+
+/// The game of this type in which no ply was played, with room for so many.
+pub(crate) fn unplayed<G: Game + Drop>(
+    alloc: Global,
+    game_type: GameType,
+    plies: u32,
+) -> Result<G, AllocError>
+    requires { plies ≤ most_plies }
+    ensures kind { IfOk result (λ g. (G.course g).game_type ≡ game_type) }
+    ensures fresh { IfOk result (λ g. (G.course g).made ≡ []) }
+    ensures room { IfOk result (λ g. plies ≤ (G.course g).spare) }
+{
+    let mut game = G::opening(alloc, game_type)?;
+    game.reserve(plies)?;
+    Ok(game)
+}
 
 /// The game of this type in which these moves were played, with room for so many more plies: a game
 /// has room for 5,064 in all.
@@ -20,8 +36,7 @@ pub fn played<G: Game + Drop>(
     ensures made { IfOk result (λ g. (G.course g).made ≡ moves.now) }
     ensures room { IfOk result (λ g. room ≤ (G.course g).spare) }
 {
-    let mut game = G::opening(alloc, game_type)?;
-    game.reserve(moves.len() as u32 + room)?;
+    let mut game = unplayed::<G>(alloc, game_type, moves.len() as u32 + room)?;
     for m in moves {
         game.play(m.again());
     }

@@ -197,6 +197,53 @@ fn opening_for<G: Game + Drop>(
     Ok(game)
 }
 
+/// Plays the moves that the parts of the text denote. The game is the answer, if its outcome and
+/// turn are the declared ones.
+fn play_declared<G: Game>(
+    alloc: Global,
+    declared: Declared,
+    game: &mut G,
+    seen: &mut Seen,
+    text: &[u8],
+) -> Result<Parsed, GameFault>
+    requires length { length text.now ≤ greatest_line }
+    requires kind { (G.course game.old).game_type ≡ declared.game_type }
+    requires fresh { (G.course game.old).made ≡ [] }
+    requires few { length (parts text.now) ≤ 5000 }
+    requires room { length (parts text.now) ≤ (G.course game.old).spare }
+    requires seen { Sees seen.old (G.course game.old) }
+    ensures { Agrees result (confirmed seen.old.repetition declared.game_type declared.state
+        declared.turn (moves_from seen.old.repetition declared.game_type (parts text.now))) }
+{
+    match play_moves(alloc, game, seen, text) {
+        Ok(moves) => confirm(game, seen, declared, moves),
+        Err(fault) => Err(fault),
+    }
+}
+
+/// A line whose parts from the fourth on are those of the text, none of them empty and no more than
+/// the game has room for.
+fn read_moves_on<G: Game>(
+    alloc: Global,
+    repetition: bool,
+    declared: Declared,
+    game: &mut G,
+    text: &[u8],
+) -> Result<Parsed, GameFault>
+    requires length { length text.now ≤ greatest_line }
+    requires kind { (G.course game.old).game_type ≡ declared.game_type }
+    requires fresh { (G.course game.old).made ≡ [] }
+    requires few { length (parts text.now) ≤ 5000 }
+    requires room { length (parts text.now) ≤ (G.course game.old).spare }
+    ensures { Agrees result (confirmed repetition declared.game_type declared.state declared.turn
+        (moves_from repetition declared.game_type (parts text.now))) }
+{
+    let Ok(mut seen) = Seen::of(alloc, repetition, game) else {
+        return Err(GameFault::Memory);
+    };
+    play_declared(alloc, declared, game, &mut seen, text)
+}
+
 /// A line whose parts from the fourth on are those of the text.
 fn read_moves<G: Game + Drop>(
     alloc: Global,
@@ -215,15 +262,8 @@ fn read_moves<G: Game + Drop>(
     if 5000 < count {
         return Err(GameFault::TooLong);
     }
-    let mut game = match opening_for::<G>(alloc, declared.game_type, count) {
-        Ok(game) => game,
-        Err(fault) => return Err(fault),
-    };
-    let Ok(mut seen) = Seen::of(alloc, repetition, &game) else {
-        return Err(GameFault::Memory);
-    };
-    match play_moves(alloc, &mut game, &mut seen, text) {
-        Ok(moves) => confirm(&game, &seen, declared, moves),
+    match opening_for::<G>(alloc, declared.game_type, count) {
+        Ok(mut game) => read_moves_on(alloc, repetition, declared, &mut game, text),
         Err(fault) => Err(fault),
     }
 }

@@ -130,13 +130,35 @@ fn head(
         ∷ turn_bytes side turn) }
 {
     let mut text = ReplyText::new(alloc);
+    push_head(&mut text, game_type, state, side, turn)?;
+    Ok(text)
+}
+
+/// Appends type, state and turn, joined by semicolons. After want of memory a prefix of these was
+/// appended.
+fn push_head(
+    text: &mut ReplyText,
+    game_type: GameType,
+    state: State,
+    side: Colour,
+    turn: u32,
+) -> Result<(), AllocError>
+    ensures { OnOk result (text.new ≡ text.old ++ (type_bytes game_type ++ 59 ∷ state_bytes state
+        ++ 59 ∷ turn_bytes side turn)) }
+{
     text.push_all(type_text(game_type).as_bytes())?;
-    push_part(&mut text, state_text(state).as_bytes())?;
-    push_part(&mut text, side_name(side).as_bytes())?;
+    push_part(text, state_text(state).as_bytes())?;
+    push_turn(text, side, turn)
+}
+
+/// Appends a semicolon and the turn. After want of memory a prefix of these was appended.
+fn push_turn(text: &mut ReplyText, side: Colour, turn: u32) -> Result<(), AllocError>
+    ensures { OnOk result (text.new ≡ text.old ++ 59 ∷ turn_bytes side turn) }
+{
+    push_part(text, side_name(side).as_bytes())?;
     let mut buffer = Buffer::new();
     text.push_all(buffer.format(turn).as_bytes())?;
-    text.push(b']')?;
-    Ok(text)
+    text.push(b']')
 }
 
 /// Appends a semicolon and the part. After want of memory a prefix of these was appended.

@@ -7,6 +7,7 @@ ghost use Rattle.hive_model.specs.Repetition.{outcome_under};
 ghost use Rattle.game_text.specs.Seen.{Sees};
 ghost use Rattle.hive_model.specs.Strings.{string, string_under, texts};
 
+use crate::playing::unplayed;
 use crate::seen::Seen;
 use crate::texts::MoveTexts;
 use hive_model::{Game, ReplyText, State};
@@ -20,9 +21,8 @@ pub fn texts_of<G: Game + Drop>(alloc: Global, game: &G) -> Result<MoveTexts, Al
         (G.course game.now).made) }
 {
     let plies = game.plies();
+    let mut copy = unplayed::<G>(alloc, game.game_type(), plies)?;
     let mut texts = MoveTexts::new(alloc);
-    let mut copy = G::opening(alloc, game.game_type())?;
-    copy.reserve(plies)?;
     for i in 0..plies {
         let m = game.move_at(i);
         texts.push(&copy, m.again())?;
@@ -39,8 +39,7 @@ fn seen_of<G: Game + Drop>(alloc: Global, game: &G) -> Result<Seen, AllocError>
     ensures seen { IfOk result (λ s. Sees s (G.course game.now)) }
 {
     let plies = game.plies();
-    let mut copy = G::opening(alloc, game.game_type())?;
-    copy.reserve(plies)?;
+    let mut copy = unplayed::<G>(alloc, game.game_type(), plies)?;
     let mut seen = Seen::of(alloc, true, &copy)?;
     for i in 0..plies {
         let m = game.move_at(i);

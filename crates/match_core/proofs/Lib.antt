@@ -2,6 +2,7 @@ pub mod Sees
 pub mod Stands
 pub mod Fair
 pub mod Tells
+pub mod Puts
 pub mod Falls
 pub mod Follows
 pub mod Ends

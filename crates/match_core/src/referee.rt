@@ -1,8 +1,11 @@
 //! The referee of a match.
 ghost use Rattle.std.specs.Prelude.{
   ◌≡◌,
+  ◌+◌,
   ◌≤◌,
+  [],
   length,
+  vec_capacity,
   IfOk,
   OnOk,
   OnErr,
@@ -14,6 +17,8 @@ ghost use Rattle.std.specs.Prelude.{
 ghost use Rattle.match_core.specs.Setups.{setup_from, setup_plain, IsBegin};
 ghost use Rattle.match_core.specs.MatchState.{start, next, happening, act_at, answers};
 ghost use Rattle.match_core.specs.Keeps.{IsSetup, IsSend, line_at, IsEarly};
+ghost use Rattle.match_core.specs.Texts.{begin_line, most_sent};
+ghost use Rattle.game_text.specs.Seen.{Sees};
 ghost use Rattle.io_edge.specs.Lines.{greatest_line};
 
 mod steps;
@@ -95,11 +100,52 @@ impl<G: Game + Drop> Referee<G> {
         let mut game = game;
         game.is_sound();
         let given = game.plies();
-        game.reserve(setup.limit.saturating_sub(given))?;
-        let seen = seen_under(alloc, &game, setup.repetition)?;
-        let begin = begin_line(alloc, setup, &game)?;
         let text = Vec::with_capacity(alloc, 64)?;
-        Ok(Referee {
+        game.reserve(setup.limit.saturating_sub(given))?;
+        Referee::with_room(alloc, setup, game, text)
+    }
+
+    /// The same of a game that has room for the whole match, with a text that has room for a line.
+    fn with_room(
+        alloc: Global,
+        setup: Setup,
+        game: G,
+        text: Vec<u8>,
+    ) -> Result<Referee<G>, AllocError>
+        requires setup { IsSetup setup }
+        requires kind { (G.course game).game_type ≡ setup.game_type }
+        requires spare { setup.limit ≤ length (G.course game).made + (G.course game).spare }
+        requires empty { text.items ≡ [] }
+        requires room { most_sent ≤ vec_capacity text }
+        ensures { IfOk result (λ r. r ≡ start (setup_from setup (G.course game).made)) }
+    {
+        game.is_sound();
+        let begin = begin_line(alloc, setup, &game)?;
+        let seen = seen_under(alloc, &game, setup.repetition)?;
+        Ok(Referee::begun(alloc, setup, game, begin, seen, text))
+    }
+
+    /// The same with all that a referee keeps: it reads white's greeting first.
+    fn begun(
+        alloc: Global,
+        setup: Setup,
+        game: G,
+        begin: ReplyText,
+        seen: Seen,
+        text: Vec<u8>,
+    ) -> Referee<G>
+        requires setup { IsSetup setup }
+        requires kind { (G.course game).game_type ≡ setup.game_type }
+        requires spare { setup.limit ≤ length (G.course game).made + (G.course game).spare }
+        requires begin { begin ≡ begin_line (setup_from setup (G.course game).made) }
+        requires rule { seen.repetition ≡ setup.repetition }
+        requires sees { Sees seen (G.course game) }
+        requires empty { text.items ≡ [] }
+        requires room { most_sent ≤ vec_capacity text }
+        ensures { result ≡ start (setup_from setup (G.course game).made) }
+    {
+        let given = game.plies();
+        Referee {
             alloc,
             setup,
             game,
@@ -115,7 +161,7 @@ impl<G: Game + Drop> Referee<G> {
             count: 0,
             verdict: None,
             text,
-        })
+        }
     }
 
     /// The act that is to be done now.

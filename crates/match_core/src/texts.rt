@@ -1,12 +1,14 @@
 //! The lines that are sent, and the move of a line.
 ghost use Rattle.std.specs.Prelude.{◌≡◌, ◌+◌, ◌≤◌, ◌++◌, length, vec_len, vec_capacity, IfOk};
+ghost use Rattle.std.specs.Prelude.{OnOk};
 ghost use Rattle.hive_model.specs.Courses.{position};
 ghost use Rattle.hive_model.specs.Legal.{moves};
 ghost use Rattle.hive_model.specs.Lists.{IsOn};
 ghost use Rattle.io_edge.specs.Lines.{greatest_line};
 ghost use Rattle.match_core.specs.Setups.{setup_from};
 ghost use Rattle.match_core.specs.Keeps.{IsLevel};
-ghost use Rattle.match_core.specs.Texts.{read_of, begin_line, ask_line, tell_line, most_sent};
+ghost use Rattle.match_core.specs.Texts.{read_of, begin_line, begin_text, ask_line};
+ghost use Rattle.match_core.specs.Texts.{tell_line, most_sent};
 
 use crate::setup::{Level, Setup};
 use game_text::write_game;
@@ -37,6 +39,24 @@ fn put(text: &mut Vec<u8>, bytes: &[u8])
     let _ = text.extend_from_slice(bytes);
 }
 
+/// Appends the game that is asked for: its type alone where it is the opening, else its string.
+fn push_game<G: Game + Drop>(
+    alloc: Global,
+    setup: Setup,
+    game: &G,
+    line: &mut ReplyText,
+) -> Result<(), AllocError>
+    requires { (G.course game.now).game_type ≡ setup.game_type }
+    ensures { OnOk result (line.new ≡ line.old ++ begin_text setup.game_type
+        (G.course game.now).made) }
+{
+    if game.plies() == 0 {
+        line.push_all(type_text(setup.game_type).as_bytes())
+    } else {
+        write_game(alloc, game, line)
+    }
+}
+
 /// The line that asks for a game, from which a match of this setup is played.
 #[tactic(auto, unfolding(crate::specs::Texts::begin_line))]
 pub(crate) fn begin_line<G: Game + Drop>(
@@ -49,11 +69,7 @@ pub(crate) fn begin_line<G: Game + Drop>(
 {
     let mut line = ReplyText::new(alloc);
     line.push_all(b"newgame ")?;
-    if game.plies() == 0 {
-        line.push_all(type_text(setup.game_type).as_bytes())?;
-    } else {
-        write_game(alloc, game, &mut line)?;
-    }
+    push_game(alloc, setup, game, &mut line)?;
     line.push(b'\n')?;
     Ok(line)
 }

@@ -1,5 +1,5 @@
 -- Halves of a list of workers, and what they come to together.
-use Rattle.std.proofs.Common.{◌≡◌, ℕ, ◌+◌, ◌<◌, ◌≤◌, List, [], ◌∷◌, ◌++◌, length, refl, subst, ◌∙◌, arith, Option}
+use Rattle.std.proofs.Common.{◌≡◌, ℕ, ◌+◌, ◌%◌, ◌<◌, ◌≤◌, List, [], ◌∷◌, ◌++◌, length, get_or, set, refl, ap, subst, ◌∙◌, arith, Option}
 use Rattle.std.proofs.lemmas.List.{get_or_append_left, get_or-append-add, length-append, map-append}
 use Rattle.std.specs.List.{All}
 use Rattle.atomic_table.specs.Seated.{TableId}
@@ -7,12 +7,13 @@ use Rattle.atomic_table.specs.declared.shared.Seat.{Seat}
 use Rattle.hive_model.specs.declared.places.Move.{Move}
 use Rattle.hive_model.specs.Positions.{Position}
 use Rattle.hive_model.specs.Minimax.{IsInner}
+use Rattle.hive_model.specs.Costs.{share}
 use Rattle.hive_model.specs.Courses.{Course}
 use Rattle.root_share.specs.declared.candidate.Candidate.{Candidate}
-use Rattle.root_share.specs.Answer.{first_of}
+use Rattle.root_share.specs.Answer.{IsAnswer, first_of}
 use Rattle.root_share.specs.Part.{MayRun, HaveRun}
-use Rattle.root_share.specs.Ready.{IsReady}
-use Rattle.root_share.specs.Word.{Known, IsSeat}
+use Rattle.root_share.specs.Ready.{IsReady, MayBegin}
+use Rattle.root_share.specs.Word.{Known, IsSeat, IsSeatOf}
 use Rattle.root_share.proofs.AnswerLaws.{answer-both, halves-of}
 use Rattle.root_share.proofs.PlaysLaws.{plays-mapped}
 
@@ -32,6 +33,31 @@ may-half game prepared id lists depth parts from up seat other workers half may 
   some = some;
   enough = enough;
   ready = rw (root, known) (part (λ w. IsReady seat.me.0.root seat.me.0.depth depth (game w) (prepared w)) may.ready);
+}
+
+-- the first of the workers may begin where all may run
+pub may-begin : {A : Type 0} (game : A → Course) (prepared : A → ℕ) (id : TableId) (lists : List (List Move)) (depth parts from : ℕ) (seat : Seat (Unit {0}) Known) (workers : List A) (d : A) →
+    MayRun game prepared id lists depth parts from seat workers → MayBegin id lists (game (get_or workers 0 d)) (prepared (get_or workers 0 d)) depth parts seat
+may-begin game prepared id lists depth parts from seat workers d may =
+    let some = may.some in
+    let enough = may.enough in
+    record { seated = may.seated; ready = may.ready 0 d some; listed = may.listed; some = omega (arith, some, enough) }
+
+-- a worker alone that has taken the children of its part
+pub have-one : {A : Type 0} (game : A → Course) (prepared played : A → ℕ) (id : TableId) (depth parts from : ℕ) (seat later : Seat (Unit {0}) Known) (workers : List A) (d w : A) (found : Option Candidate) →
+    length workers ≡ 1 → IsSeatOf id seat.me.0.root depth later → IsAnswer seat.me.0.root depth (λ i. i % parts ≡ from) found →
+    game w ≡ game (get_or workers 0 d) → prepared w ≡ prepared (get_or workers 0 d) → played w ≤ played (get_or workers 0 d) + share seat.me.0.root depth from parts →
+    HaveRun game prepared played id depth parts from seat later workers (set workers 0 w) found
+have-one game prepared played id depth parts from seat later [] d w found one at answer same kept plays = absurd (omega (arith, one))
+have-one game prepared played id depth parts from seat later (x ∷ y ∷ ys) d w found one at answer same kept plays = absurd (omega (arith, one))
+have-one game prepared played id depth parts from seat later (x ∷ []) d w found one at answer same kept plays = record {
+  seated = at.seated;
+  root = at.root;
+  agreed = at.depth;
+  answer = record { exact = answer.exact; first = λ i mine e. let low = mine.0 in let high = mine.1 in answer.first i (omega (arith, low, high)) e };
+  games = ap (λ (c : Course). c ∷ []) same;
+  searchers = ap (λ (n : ℕ). n ∷ []) kept;
+  plays = (plays, refl);
 }
 
 inner-of : {A : Type 0} (game : A → Course) (prepared : A → ℕ) (root : Position) (known depth : ℕ) (workers : List A) → 0 < length workers → All (λ w. IsReady root known depth (game w) (prepared w)) workers → IsInner root depth

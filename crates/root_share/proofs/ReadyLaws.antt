@@ -1,25 +1,33 @@
 -- What a worker knows of the child that it tried first, and that it is ready for the others.
-use Rattle.std.proofs.Common.{◌≡◌, ℕ, List, subst, ◌-◌, sym, ap, ◌∙◌, arith, ℤ, ◌≤ℤ◌, Some}
+use Rattle.std.proofs.Common.{◌≡◌, ℕ, List, length, subst, ◌-◌, ◌≤◌, sym, ap, ◌∙◌, arith, ℤ, ◌≤ℤ◌, Some}
 use Rattle.std.proofs.lemmas.Int.{ints}
+use Rattle.std.proofs.lemmas.Option.{slice_get_within}
 use Rattle.std.specs.List.{slice_get}
 use Rattle.hive_model.specs.Lists.{IsOn}
 use Rattle.search_laws.proofs.LoopLaws.{on-at}
 use Rattle.hive_model.specs.declared.places.Move.{Move}
 use Rattle.hive_model.specs.Positions.{Position}
 use Rattle.hive_model.specs.Legal.{moves}
-use Rattle.hive_model.specs.Minimax.{reply_value}
+use Rattle.hive_model.specs.Minimax.{value, reply_value}
 use Rattle.hive_model.specs.Courses.{Course, position}
 use Rattle.atomic_table.specs.Seated.{TableId}
 use Rattle.atomic_table.specs.declared.shared.Seat.{Seat}
+use Rattle.root_share.specs.Run.{first_bound}
+use Rattle.root_share.specs.Children.{IsBound, IsDepth, IsLatest}
 use Rattle.root_share.specs.Ready.{IsReady, MayBegin}
 use Rattle.root_share.specs.Word.{Known, known, IsSeat}
 use Rattle.root_share.specs.Answer.{IsKnown}
+use Rattle.root_share.proofs.ReplyLaws.{worth-within}
 
 pub known-still : (p : Position) (d : ℕ) (g h : ℤ) (first : ℕ) → g ≤ℤ h → IsKnown p d g first → IsKnown p d h first
 known-still p d g h first up known m here = let k = known m here in omega (arith, ints, k, up)
 
 pub known-one : (p : Position) (d : ℕ) (g : ℤ) (child : ℕ) (m : Move) → slice_get (moves p) child ≡ Some m → reply_value p (d - 1) m ≤ℤ g → IsKnown p d g child
 known-one p d g child m here worth n there = let same : m ≡ n = cc in rw (← same) worth
+
+-- nothing is to be known of a place behind the list
+pub known-none : (p : Position) (d : ℕ) (g : ℤ) (behind : ℕ) → length (moves p) ≤ behind → IsKnown p d g behind
+known-none p d g behind past m here = absurd (let k = slice_get_within (moves p) behind m here in omega (arith, k, past))
 
 -- game and searcher as before, and a seat that knows the same
 pub ready-still : (p q : Position) (k known depth : ℕ) (game later : Course) (n more : ℕ) → IsReady p k depth game n → q ≡ p → known ≡ depth → later ≡ game → more ≡ n → IsReady q known depth later more
@@ -55,3 +63,18 @@ depth-of e = ap (λ (w : Known). w.depth) e
 -- a move of the list is legal where the game is as before
 pub legal-still : (start now : Course) (i : ℕ) (m : Move) → now ≡ start → slice_get (moves (position start)) i ≡ Some m → IsOn (moves (position now)) m
 legal-still start now i m same here = subst (λ (h : Course). IsOn (moves (position h)) m) (sym same) (on-at (moves (position start)) i m here)
+
+-- the depth to be searched, known to a seat that has read the bound
+pub depth-known : (p : Position) (k depth : ℕ) (game : Course) (n : ℕ) (v : Known) → IsReady p k depth game n → v.root ≡ p → v.depth ≡ k → IsDepth v.root v.depth depth
+depth-known p k depth game n v ready at agreed = record { inner = rw at ready.inner; agreed = agreed ∙ ready.agreed; deep = ready.deep }
+
+-- the bound that a seat has read is the latest one
+pub latest-read : (p : Position) (k depth : ℕ) (b z : ℤ) (v : Known) → v ≡ known p k b → z ≡ b → k ≡ depth → b ≤ℤ value p k → IsLatest v.root depth v.top z
+latest-read p k depth b z v view kept agreed most = record { stands = top-of view ∙ sym kept; most = rw (kept, root-of view) (rw agreed at most) }
+
+-- it is a bound of a search
+pub bound-read-is : (p : Position) (k depth : ℕ) (b z : ℤ) → z ≡ b → k ≡ depth → depth ≤ 64 → first_bound ≤ℤ b → b ≤ℤ value p k → IsBound z
+bound-read-is p k depth b z kept agreed deep least most =
+    let small = worth-within p k (omega (arith, agreed, deep)) in
+    let high = small.high in
+    rw kept (record { low = least; high = omega (arith, ints, most, high) })

@@ -18,9 +18,8 @@ use crate::bell::{Bell, STRIKE};
 use crate::candidate::{Candidate, better};
 use crate::gate::Gate;
 use crate::word::{BoundSeat, Word, halve, look};
-use crate::worker::{Worker, close_child, run_in_turn, settle};
+use crate::worker::{Worker, close_child, run_in_turn, settle, window_behind};
 use hive_model::{Game, Move, MoveStack};
-use search_laws::Window;
 
 /// What came of the child that a worker began with.
 pub(crate) enum Tried {
@@ -55,10 +54,7 @@ fn value_until_raised<G: Game>(
     let other = halve(word, seat);
     let mut bell = Bell::new(word, other, bound);
     worker.game.play(m);
-    let behind = Window {
-        alpha: -1_000_100,
-        beta: 1 - bound,
-    };
+    let behind = window_behind(bound);
     let found = worker
         .searcher
         .value_until(&mut worker.game, depth, behind, STRIKE, &mut bell);

@@ -60,3 +60,13 @@ pub(crate) fn first_child<G: Game>(
     }
     None
 }
+
+/// Whether the child that a worker begins with is the one that looks best of all. The game is as
+/// before, and nothing is played.
+pub(crate) fn is_ahead<G: Game>(game: &mut G, root: &MoveStack, parts: u32, first: u32) -> bool
+    requires { root.now.lists ≡ moves (position (G.course game.old)) ∷ [] }
+    ensures same { G.course game.new ≡ G.course game.old }
+    ensures count { G.played game.new ≡ G.played game.old }
+{
+    parts == 1 || first_child(game, root, 0, 1) == Some(first)
+}

@@ -1,10 +1,10 @@
 //! What one worker does.
 
 ghost use Rattle.std.specs.Prelude.{◌≡◌, ◌+◌, ◌-◌, ◌%◌, ◌<◌, ◌≤◌, [], ◌∷◌, length, slice_get};
-ghost use Rattle.std.specs.Prelude.{Some, pos, ◌-ℤ◌, ◌≤ℤ◌};
+ghost use Rattle.std.specs.Prelude.{Some, pos, ◌-ℤ◌, ◌<ℤ◌, ◌≤ℤ◌};
 ghost use Rattle.hive_model.specs.Legal.{moves};
 ghost use Rattle.hive_model.specs.Games.{after};
-ghost use Rattle.hive_model.specs.Minimax.{reply_value, lowest};
+ghost use Rattle.hive_model.specs.Minimax.{reply_value, lowest, highest};
 ghost use Rattle.hive_model.specs.Costs.{cost, share};
 ghost use Rattle.hive_model.specs.Courses.{position};
 ghost use Rattle.root_share.specs.Word.{IsSeat, IsSeatOf};
@@ -17,7 +17,7 @@ use crate::behind::value_behind;
 use crate::beside::run_beside;
 use crate::candidate::{Candidate, better};
 use crate::gate::Gate;
-use crate::hint::first_child;
+use crate::hint::{first_child, is_ahead};
 use crate::win::look_for_win;
 use crate::word::{BoundSeat, Word, look, raise};
 use deepening::Searcher;
@@ -29,6 +29,21 @@ use search_laws::Window;
 pub struct Worker<G> {
     pub game: G,
     pub searcher: Searcher,
+}
+
+/// The window in which a child is searched where the bound stands so high, as the other side sees
+/// it.
+pub(crate) fn window_behind(bound: i32) -> Window
+    requires { IsBound bound }
+    ensures alpha { result.alpha ≡ lowest }
+    ensures beta { result.beta ≡ pos 1 -ℤ bound }
+    ensures open_ { result.alpha <ℤ result.beta }
+    ensures highest { result.beta ≤ℤ highest }
+{
+    Window {
+        alpha: -1_000_100,
+        beta: 1 - bound,
+    }
 }
 
 /// What the search of a child shows: its value where that is at least the bound, and else that it
@@ -43,10 +58,7 @@ fn value_searched<G: Game>(worker: &mut Worker<G>, m: Move, depth: u32, bound: i
         (pos 1 -ℤ bound)) }
 {
     worker.game.play(m);
-    let behind = Window {
-        alpha: -1_000_100,
-        beta: 1 - bound,
-    };
+    let behind = window_behind(bound);
     let found = worker.searcher.value_in(&mut worker.game, depth, behind);
     worker.game.undo();
     -found
@@ -283,7 +295,7 @@ pub fn run_one<G: Game, T: Gate>(
     let Some(first) = first_child(&mut worker.game, root, part, parts) else {
         return None;
     };
-    if parts == 1 || first_child(&mut worker.game, root, 0, 1) == Some(first) {
+    if is_ahead(&mut worker.game, root, parts, first) {
         return run_ahead(word, gate, root, depth, part, parts, first, seat, worker);
     }
     run_beside(word, gate, root, depth, part, parts, first, seat, worker)

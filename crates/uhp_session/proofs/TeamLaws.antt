@@ -49,3 +49,9 @@ back-prepared before now rest f n same long all =
     let many : length now ≡ n = sym (length-map now f) ∙ ap length same ∙ length-map before f ∙ long in
     let images = All-same (λ m. m ≡ 64) (map f now) (map f before) same (All-map (λ m. m ≡ 64) f before all) in
     All-same (λ x. f x ≡ 64) (take n (now ++ rest)) now (take_at now rest n many) (all-unmapped f (λ m. m ≡ 64) now images)
+
+-- and as many as they were
+pub back-many : {A : Type 0} (before now rest : List A) (f : A → ℕ) (n many : ℕ) → map f now ≡ map f before → length before ≡ n → length before ≡ many → length (take n (now ++ rest)) ≡ many
+back-many before now rest f n many same long all =
+    let here : length now ≡ n = sym (length-map now f) ∙ ap length same ∙ length-map before f ∙ long in
+    ap length (take_at now rest n here) ∙ here ∙ sym long ∙ all

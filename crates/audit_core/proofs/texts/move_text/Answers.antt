@@ -2,5 +2,5 @@ use Rattle.hive_model.specs.Courses.{position}
 use Rattle.move_text.proofs.LegalSpell.{listed_within}
 use Rattle.audit_core.proofs.texts.move_text.Goals as goal
 
-pub write_move-requires-clause-within : goal.write_move-requires-clause-within
-write_move-requires-clause-within g c = listed_within (position (g.G.Game.course c.args.game.now)) c.args.m c.is_sound.ensures.sound c.requires
+pub near_text-requires : goal.near_text-requires
+near_text-requires g c = listed_within (position (g.G.Game.course c.args.game.now)) c.args.m c.is_sound.ensures.sound c.requires

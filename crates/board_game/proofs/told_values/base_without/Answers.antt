@@ -2,9 +2,11 @@ use Rattle.std.proofs.Common.{◌∙◌, sym, ap, subst}
 use Rattle.hive_model.specs.Boards.{lift, without_at}
 use Rattle.hive_model.specs.declared.pieces.Colour.TheVariants.{White, Black}
 use Rattle.hive_model.specs.Hive.{OneHive}
+use Rattle.hive_model.proofs.BoardLemmas.{spot_within}
+use Rattle.hive_model.proofs.PlaceLemmas.{wider_on_board}
 use Rattle.leaf_worth.specs.Bases.{IsFound}
 use Rattle.one_hive.specs.Separating.{MarksSeparating}
-use Rattle.board_game.proofs.TellLaws.{lifted_without, lifted_gone, lifted_open, spot_there}
+use Rattle.board_game.proofs.TellLaws.{lifted_top, lifted_without, lifted_gone, lifted_open, spot_there}
 use Rattle.board_game.proofs.KeptLaws.{shrunk_lifted, lifted_back}
 use Rattle.board_game.proofs.told_values.base_without.Goals as goal
 
@@ -45,3 +47,18 @@ returns-in-None g c =
     let b = g.B.Board.stacks c.args.board.now in
     let off = sym c.spot.ensures.spot ∙ c.in-None.is in
     subst (λ d. IsFound d c.args.side c.again.result) (sym (ap (without_at b) off)) (subst (IsFound b c.args.side) (sym c.again.ensures) c.requires.whole)
+
+pub new-left-requires : goal.new-left-requires
+new-left-requires g c = lifted_top (g.B.Board.stacks c.args.board.now) c.args.piece c.in-Some.spot (sym c.spot.ensures.spot ∙ c.in-Some.is) c.requires.loose
+
+pub removed_uncounted-delta-requires-clause-within : goal.removed_uncounted-delta-requires-clause-within
+removed_uncounted-delta-requires-clause-within g c = wider_on_board _ (spot_within (g.B.Board.stacks c.args.board.now) c.spot.ensures.board c.args.piece c.in-Some.spot (sym c.spot.ensures.spot ∙ c.in-Some.is))
+
+pub left_by-requires-clause-found : goal.left_by-requires-clause-found
+left_by-requires-clause-found g c = c.requires.whole
+
+pub left_by-requires-clause-within : goal.left_by-requires-clause-within
+left_by-requires-clause-within g c = spot_within (g.B.Board.stacks c.args.board.now) c.spot.ensures.board c.args.piece c.in-Some.spot (sym c.spot.ensures.spot ∙ c.in-Some.is)
+
+pub left_by-requires-clause-marks : goal.left_by-requires-clause-marks
+left_by-requires-clause-marks g c = c.removed_uncounted-delta.ensures.marks

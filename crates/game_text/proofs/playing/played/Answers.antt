@@ -1,4 +1,4 @@
-use Rattle.std.proofs.Common.{rules, ◌≡◌, ◌≤◌, ◌+◌, ◌-◌, [], length, refl, sym, ◌∙◌, ap, subst, arith}
+use Rattle.std.proofs.Common.{rules, ◌≡◌, ◌≤◌, ◌+◌, ◌-◌, length, refl, sym, ◌∙◌, ap, subst, arith}
 use Rattle.std.specs.Prelude.{Some, slice_get}
 use Rattle.std.proofs.lemmas.Option.{slice_get_read}
 use Rattle.hive_model.specs.Lists.{IsOn}
@@ -9,11 +9,10 @@ use Rattle.game_text.proofs.playing.played.Goals as goal
 
 pub loop-m-init : goal.loop-m-init
 loop-m-init g c =
-    let kind : (g.G.Game.course c.reserve.new.self).game_type ≡ c.args.game_type = search rules in
-    let none : (g.G.Game.course c.reserve.new.self).made ≡ [] = search rules in
-    let room : length c.args.moves.now + c.args.room ≤ (g.G.Game.course c.reserve.new.self).spare = search rules in
-    let less : length c.args.moves.now ≤ (g.G.Game.course c.reserve.new.self).spare = omega (arith, room) in record {
-      played = played_none c.args.game_type c.args.moves.now (g.G.Game.course c.reserve.new.self) kind none less c.requires.game;
+    let game = g.G.Game.course c.in_ok-game.game in
+    let room : length c.args.moves.now + c.args.room ≤ game.spare = search rules in
+    let less : length c.args.moves.now ≤ game.spare = omega (arith, room) in record {
+      played = played_none c.args.game_type c.args.moves.now game c.in_ok-game.ensures.kind c.in_ok-game.ensures.fresh less c.requires.game;
       room = omega (arith, room);
     }
 

@@ -1,6 +1,6 @@
 use Rattle.std.proofs.Common.{◌≡◌, ◌≤◌, ◌<◌, [], ◌∷◌, ◌++◌, length, ◌∙◌, ap, arith}
 use Rattle.std.specs.Prelude.{if◌then◌else◌}
-use Rattle.hive_model.specs.Courses.{Course, position}
+use Rattle.hive_model.specs.Courses.{position}
 use Rattle.hive_model.specs.Keys.{key}
 use Rattle.game_text.proofs.SeenLaws.{seen_few, sees_on, sees_same}
 use Rattle.game_text.proofs.WriteLaws.{taken_size}
@@ -10,15 +10,14 @@ use Rattle.game_text.proofs.writing.seen_of.Goals as goal
 pub loop-i-init : goal.loop-i-init
 loop-i-init g c =
     let game = g.G.Game.course c.args.game.now in
-    let copy = g.G.Game.course c.reserve.new.self in
-    let kind : copy.game_type ≡ game.game_type = ap (λ (x : Course). x.game_type) c.reserve.ensures.same ∙ c.in_ok-copy.ensures.kind ∙ c.game_type.ensures in
-    let none : copy.made ≡ [] = ap (λ (x : Course). x.made) c.reserve.ensures.same ∙ c.in_ok-copy.ensures.empty in
+    let copy = g.G.Game.course c.in_ok-copy.copy in
+    let kind : copy.game_type ≡ game.game_type = c.in_ok-copy.ensures.kind ∙ c.game_type.ensures in
     let plies = c.plies-plies.ensures in
     let made = plies.plies in
     let most = plies.few in
-    let spare = c.in_ok-reserve.ensures.room in
+    let spare = c.in_ok-copy.ensures.room in
     let room : length game.made ≤ copy.spare = omega (arith, made, spare) in record {
-      played = played_none game.game_type game.made copy kind none room c.requires;
+      played = played_none game.game_type game.made copy kind c.in_ok-copy.ensures.fresh room c.requires;
       seen = c.in_ok-seen.ensures.seen;
       rule = c.in_ok-seen.ensures.rule;
       few = omega (arith, made, most);

@@ -1,4 +1,4 @@
-use Rattle.std.proofs.Common.{rules, ◌≡◌, ◌∙◌, to_z, of_z}
+use Rattle.std.proofs.Common.{rules, ◌≡◌, ◌∙◌, refl, arith, to_z, of_z}
 use Rattle.std.proofs.lemmas.Int.{to_z-of_z}
 use mir.Syntax.{w32}
 use Rattle.search_laws.proofs.ReplyLaws.{reply-most}
@@ -19,3 +19,64 @@ returns-clause-most g c =
     let kept : to_z w32 (of_z w32 worth) ≡ worth = to_z-of_z w32 worth (search rules) in
     let reply : IsReply p c.args.depth worth = rw c.requires.ready.stands c.in-Some.ensures.reply in
     rw kept (reply-most p c.args.depth reply.0 worth c.requires.ready.inner reply.1)
+
+pub returns-then-bound-depth-clause-seat : goal.returns-then-bound-depth-clause-seat
+returns-then-bound-depth-clause-seat g c = c.look-bound.ensures.seat
+
+pub returns-then-bound-depth-clause-view : goal.returns-then-bound-depth-clause-view
+returns-then-bound-depth-clause-view g c = rw (to_z-of_z w32 c.look-bound.result (search rules)) (rw c.requires.ready.agreed at c.look-bound.ensures.view)
+
+pub returns-then-bound-depth-clause-grows : goal.returns-then-bound-depth-clause-grows
+returns-then-bound-depth-clause-grows g c = rw (to_z-of_z w32 c.look-bound.result (search rules)) c.look-bound.ensures.grows
+
+pub returns-then-bound-depth-clause-most : goal.returns-then-bound-depth-clause-most
+returns-then-bound-depth-clause-most g c = rw (to_z-of_z w32 c.look-bound.result (search rules)) (rw c.requires.ready.agreed at c.look-bound.ensures.most)
+
+pub returns-then-bound-depth-clause-worker : goal.returns-then-bound-depth-clause-worker
+returns-then-bound-depth-clause-worker g c = record { game = refl; searcher = refl; plays = omega arith }
+
+pub returns-in_default-clause-seat : goal.returns-in_default-clause-seat
+returns-in_default-clause-seat g c = c.look-bound.ensures.seat
+
+pub returns-in_default-clause-view : goal.returns-in_default-clause-view
+returns-in_default-clause-view g c = rw (to_z-of_z w32 c.look-bound.result (search rules)) (rw c.requires.ready.agreed at c.look-bound.ensures.view)
+
+pub returns-in_default-clause-grows : goal.returns-in_default-clause-grows
+returns-in_default-clause-grows g c = rw (to_z-of_z w32 c.look-bound.result (search rules)) c.look-bound.ensures.grows
+
+pub returns-in_default-clause-most : goal.returns-in_default-clause-most
+returns-in_default-clause-most g c = rw (to_z-of_z w32 c.look-bound.result (search rules)) (rw c.requires.ready.agreed at c.look-bound.ensures.most)
+
+pub returns-in_default-clause-worker : goal.returns-in_default-clause-worker
+returns-in_default-clause-worker g c = record { game = c.likely_end.ensures.game; searcher = refl; plays = c.likely_end.ensures.played }
+
+pub returns-then-worth-bound-clause-seat : goal.returns-then-worth-bound-clause-seat
+returns-then-worth-bound-clause-seat g c = c.look-bound.ensures.seat
+
+pub returns-then-worth-bound-clause-view : goal.returns-then-worth-bound-clause-view
+returns-then-worth-bound-clause-view g c = rw (to_z-of_z w32 c.look-bound.result (search rules)) (rw c.requires.ready.agreed at c.look-bound.ensures.view)
+
+pub returns-then-worth-bound-clause-grows : goal.returns-then-worth-bound-clause-grows
+returns-then-worth-bound-clause-grows g c = rw (to_z-of_z w32 c.look-bound.result (search rules)) c.look-bound.ensures.grows
+
+pub returns-then-worth-bound-clause-most : goal.returns-then-worth-bound-clause-most
+returns-then-worth-bound-clause-most g c = rw (to_z-of_z w32 c.look-bound.result (search rules)) (rw c.requires.ready.agreed at c.look-bound.ensures.most)
+
+pub returns-then-worth-bound-clause-worker : goal.returns-then-worth-bound-clause-worker
+returns-then-worth-bound-clause-worker g c = record { game = c.likely_end.ensures.game; searcher = refl; plays = c.likely_end.ensures.played }
+
+pub look-bound-requires-clause-deep : goal.look-bound-requires-clause-deep
+look-bound-requires-clause-deep g c = rw c.requires.ready.agreed c.requires.ready.deep
+
+pub likely_end-requires-clause-spare : goal.likely_end-requires-clause-spare
+likely_end-requires-clause-spare g c = omega (arith, c.requires.ready.inner.deep, c.requires.ready.spare)
+
+pub raise-requires-clause-deep : goal.raise-requires-clause-deep
+raise-requires-clause-deep g c = rw (depth-of c.look-bound.ensures.view, c.requires.ready.agreed) c.requires.ready.deep
+
+pub raise-requires-clause-reply : goal.raise-requires-clause-reply
+raise-requires-clause-reply g c =
+    rw (to_z-of_z w32 c.in-Some.worth (search rules), root-of c.look-bound.ensures.view, depth-of c.look-bound.ensures.view ∙ c.requires.ready.agreed, c.requires.ready.stands) c.in-Some.ensures.reply
+
+pub returns-clause-worker : goal.returns-clause-worker
+returns-clause-worker g c = record { game = c.likely_end.ensures.game; searcher = refl; plays = c.likely_end.ensures.played }

@@ -1,10 +1,11 @@
-use Rattle.std.proofs.Common.{◌≡◌, ℕ, ◌≤◌, List, Some, drop, map, length, false, subst, sym}
+use Rattle.std.proofs.Common.{◌≡◌, ℕ, ◌≤◌, List, Some, drop, map, length, false, subst, sym, ap, ◌∙◌}
 use Rattle.std.specs.List.{All}
 use Rattle.root_share.specs.Answer.{IsGameOf}
 use Rattle.root_share.proofs.EqualLaws.{each-image, equal-games, all-spare}
 use Rattle.hive_model.specs.Legal.{is_over}
 use Rattle.hive_model.specs.Minimax.{best}
-use Rattle.uhp_session.proofs.TeamLaws.{all-deep, back-prepared, root-is}
+use Rattle.uhp_session.specs.Teams.{AreSearchersOf}
+use Rattle.uhp_session.proofs.TeamLaws.{all-deep, back-prepared, back-many, root-is}
 use Rattle.uhp_session.proofs.workers.best_by.Goals as goal
 
 each : {A B : Type 0} (xs : List A) (f : A → B) (P : B → Type 0) → All (λ x. P (f x)) xs → All P (map f xs)
@@ -42,3 +43,15 @@ returns-clause-best g c =
     let some : 1 ≤ length ws = rw c.deref_mut.ensures.value (rw c.in_ok-workers.ensures.count (rw c.in_ok-searchers.ensures.taken.count c.requires.team.workers)) in
     let root = root-is c.args.game_type c.args.moves.now c.args.depth ws (λ w. g.G.Game.course w.game) some (rw c.deref_mut.ensures.value c.in_ok-workers.ensures.games) in
     subst (λ p. best p c.args.depth ≡ Some c.in_ok-found.found.best) root c.in_ok-found.ensures.first
+
+pub give_back-requires-clause-none : goal.give_back-requires-clause-none
+give_back-requires-clause-none g c = c.in_ok-workers.ensures.none
+
+pub returns-clause-kept : goal.returns-clause-kept
+returns-clause-kept g c =
+    let ws = c.deref_mut.result.now in
+    let now = c.best_shared.new.workers in
+    let all : length ws ≡ c.args.team.workers = ap length c.deref_mut.ensures.value ∙ c.in_ok-workers.ensures.count ∙ c.in_ok-searchers.ensures.taken.count in
+    let many = back-many ws now (drop (length now) c.in_ok-workers.workers.items) (λ w. w.searcher) c.in_ok-workers.workers.len c.args.team.workers
+    c.in_ok-found.ensures.kept.searchers c.deref_mut.ensures.len all in
+    subst (λ k. AreSearchersOf k c.give_back.new.searchers.items) many c.in_ok-give_back.ensures

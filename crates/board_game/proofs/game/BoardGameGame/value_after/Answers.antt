@@ -7,8 +7,9 @@ use Rattle.hive_model.specs.Minimax.{value}
 use Rattle.rule_laws.specs.Soundness.{side_after}
 use Rattle.rule_laws.proofs.Games.{games_count}
 use Rattle.leaf_worth.specs.Hands.{IsPlainInHand}
+use Rattle.board_game.specs.Asked.{IsAsked, IsWhole}
 use Rattle.board_game.specs.declared.in_hand.Placed.{Placed}
-use Rattle.board_game.proofs.AskLaws.{may_go, white_open, black_open, then_is, turned_is, found_whole, found_asked}
+use Rattle.board_game.proofs.AskLaws.{may_go, white_open, black_open, then_is, turned_is}
 use Rattle.board_game.proofs.PlacedLaws.{told_placed, more_placed, noted_worth}
 use Rattle.board_game.proofs.game.BoardGameGame.value_after.Goals as goal
 
@@ -26,53 +27,33 @@ returns-in-Some-clause-value g c =
     let told = noted_worth b (other_side (side_after (vec_len i.made))) t (v.11 found.0 t there) c.in-To.place found.2 p (sym v.0.board_is) side c.in-To.piece plain in
     subst (λ (a : Position). IfSome t.told (λ w. w ≡ value a 0)) (then_is i.game_type (g.B.Board.stacks i.board) i.made.items i.from.items i.spare i.count c.args.self.now c.args.m c.self.invariant.0 c.self.view_is c.in-To.piece c.in-To.place c.in-To.is) told
 
-pub find_whole-requires-clause-one_hive : goal.find_whole-requires-clause-one_hive
-find_whole-requires-clause-one_hive g c =
+pub told_value-told-requires-clause-can : goal.told_value-told-requires-clause-can
+told_value-told-requires-clause-can g c =
     let i = c.self.inside in
-    (may_go i.game_type (g.B.Board.stacks i.board) i.made.items i.from.items i.spare i.count c.args.self.now c.args.m c.self.invariant.0 c.self.view_is c.requires c.in-To.piece c.in-To.place c.in-To.is).6
+    may_go i.game_type (g.B.Board.stacks i.board) i.made.items i.from.items i.spare i.count c.args.self.now c.args.m c.self.invariant.0 c.self.view_is c.requires c.in-To.piece c.in-To.place c.in-To.is
 
-pub find_base-requires-clause-loose : goal.find_base-requires-clause-loose
-find_base-requires-clause-loose g c =
+pub told_value-told-requires-clause-known : goal.told_value-told-requires-clause-known
+told_value-told-requires-clause-known g c =
     let i = c.self.inside in
-    (may_go i.game_type (g.B.Board.stacks i.board) i.made.items i.from.items i.spare i.count c.args.self.now c.args.m c.self.invariant.0 c.self.view_is c.requires c.in-To.piece c.in-To.place c.in-To.is).2
+    let side : c.other-side.result ≡ other_side (side_after (vec_len i.made)) = c.other-side.ensures ∙ ap other_side (c.side_after.ensures ∙ ap side_after c.len.ensures) in
+    subst (λ z. IsWhole (g.B.Board.stacks i.board) z i.whole) (sym side) c.self.invariant.10
 
-pub find_base-requires-clause-one_hive : goal.find_base-requires-clause-one_hive
-find_base-requires-clause-one_hive g c =
+pub told_value-told-requires-clause-asked : goal.told_value-told-requires-clause-asked
+told_value-told-requires-clause-asked g c =
     let i = c.self.inside in
-    (may_go i.game_type (g.B.Board.stacks i.board) i.made.items i.from.items i.spare i.count c.args.self.now c.args.m c.self.invariant.0 c.self.view_is c.requires c.in-To.piece c.in-To.place c.in-To.is).6
+    let side : c.other-side.result ≡ other_side (side_after (vec_len i.made)) = c.other-side.ensures ∙ ap other_side (c.side_after.ensures ∙ ap side_after c.len.ensures) in
+    subst (λ z. IsAsked (g.B.Board.stacks i.board) z i.asked) (sym side) c.self.invariant.9
 
-pub find_base-requires-clause-left : goal.find_base-requires-clause-left
-find_base-requires-clause-left g c =
-    let i = c.self.inside in
-    (may_go i.game_type (g.B.Board.stacks i.board) i.made.items i.from.items i.spare i.count c.args.self.now c.args.m c.self.invariant.0 c.self.view_is c.requires c.in-To.piece c.in-To.place c.in-To.is).7
+pub told_value-told-requires-clause-marks : goal.told_value-told-requires-clause-marks
+told_value-told-requires-clause-marks g c = c.self.invariant.5
 
-pub find_base-requires-clause-white : goal.find_base-requires-clause-white
-find_base-requires-clause-white g c =
-    let i = c.self.inside in
-    white_open i.game_type (g.B.Board.stacks i.board) i.made.items i.from.items i.spare i.count c.args.self.now c.args.m c.self.invariant.0 c.self.view_is c.requires
-
-pub find_base-requires-clause-black : goal.find_base-requires-clause-black
-find_base-requires-clause-black g c =
-    let i = c.self.inside in
-    black_open i.game_type (g.B.Board.stacks i.board) i.made.items i.from.items i.spare i.count c.args.self.now c.args.m c.self.invariant.0 c.self.view_is c.requires
-
-pub value_by-told-requires-clause-loose : goal.value_by-told-requires-clause-loose
-value_by-told-requires-clause-loose g c =
-    let i = c.self.inside in
-    (may_go i.game_type (g.B.Board.stacks i.board) i.made.items i.from.items i.spare i.count c.args.self.now c.args.m c.self.invariant.0 c.self.view_is c.requires c.in-To.piece c.in-To.place c.in-To.is).2
-
-pub value_by-told-requires-clause-within : goal.value_by-told-requires-clause-within
-value_by-told-requires-clause-within g c =
-    let i = c.self.inside in
-    (may_go i.game_type (g.B.Board.stacks i.board) i.made.items i.from.items i.spare i.count c.args.self.now c.args.m c.self.invariant.0 c.self.view_is c.requires c.in-To.piece c.in-To.place c.in-To.is).3
-
-pub value_by-told-requires-clause-white : goal.value_by-told-requires-clause-white
-value_by-told-requires-clause-white g c =
+pub told_value-told-requires-clause-white : goal.told_value-told-requires-clause-white
+told_value-told-requires-clause-white g c =
     let i = c.self.inside in
     white_open i.game_type (g.B.Board.stacks i.board) i.made.items i.from.items i.spare i.count c.args.self.now c.args.m c.self.invariant.0 c.self.view_is c.requires
 
-pub value_by-told-requires-clause-black : goal.value_by-told-requires-clause-black
-value_by-told-requires-clause-black g c =
+pub told_value-told-requires-clause-black : goal.told_value-told-requires-clause-black
+told_value-told-requires-clause-black g c =
     let i = c.self.inside in
     black_open i.game_type (g.B.Board.stacks i.board) i.made.items i.from.items i.spare i.count c.args.self.now c.args.m c.self.invariant.0 c.self.view_is c.requires
 
@@ -80,26 +61,26 @@ pub returns-then-is_plain-2-clause-value : goal.returns-then-is_plain-2-clause-v
 returns-then-is_plain-2-clause-value g c =
     let i = c.self.inside in
     let side = turned_is i.game_type i.made.items c.other-side.result c.len.result (c.other-side.ensures ∙ ap other_side c.side_after.ensures) (c.len.ensures ∙ i.made.ok.0) in
-    let told = c.value_by-told.ensures (replay (opening i.game_type) i.made.items) (sym c.self.invariant.0.board_is) side in
-    subst (λ (p : Position). IfSome c.value_by-told.result (λ v. v ≡ value p 0)) (then_is i.game_type (g.B.Board.stacks i.board) i.made.items i.from.items i.spare i.count c.args.self.now c.args.m c.self.invariant.0 c.self.view_is c.in-To.piece c.in-To.place c.in-To.is) told
+    let told = c.told_value-told.ensures.value (replay (opening i.game_type) i.made.items) (sym c.self.invariant.0.board_is) side in
+    subst (λ (p : Position). IfSome c.told_value-told.result (λ v. v ≡ value p 0)) (then_is i.game_type (g.B.Board.stacks i.board) i.made.items i.from.items i.spare i.count c.args.self.now c.args.m c.self.invariant.0 c.self.view_is c.in-To.piece c.in-To.place c.in-To.is) told
 
 pub returns-else-is_plain-2-clause-value : goal.returns-else-is_plain-2-clause-value
 returns-else-is_plain-2-clause-value g c =
     let i = c.self.inside in
     let side = turned_is i.game_type i.made.items c.other-side.result c.len.result (c.other-side.ensures ∙ ap other_side c.side_after.ensures) (c.len.ensures ∙ i.made.ok.0) in
-    let told = c.value_by-told.ensures (replay (opening i.game_type) i.made.items) (sym c.self.invariant.0.board_is) side in
-    subst (λ (p : Position). IfSome c.value_by-told.result (λ v. v ≡ value p 0)) (then_is i.game_type (g.B.Board.stacks i.board) i.made.items i.from.items i.spare i.count c.args.self.now c.args.m c.self.invariant.0 c.self.view_is c.in-To.piece c.in-To.place c.in-To.is) told
+    let told = c.told_value-told.ensures.value (replay (opening i.game_type) i.made.items) (sym c.self.invariant.0.board_is) side in
+    subst (λ (p : Position). IfSome c.told_value-told.result (λ v. v ≡ value p 0)) (then_is i.game_type (g.B.Board.stacks i.board) i.made.items i.from.items i.spare i.count c.args.self.now c.args.m c.self.invariant.0 c.self.view_is c.in-To.piece c.in-To.place c.in-To.is) told
 
-pub invariant_of-self-then-is_plain-2 : goal.invariant_of-self-then-is_plain-2
-invariant_of-self-then-is_plain-2 g c =
+pub invariant_of-self : goal.invariant_of-self
+invariant_of-self g c =
     let i = c.self.inside in
     let v = c.self.invariant in
     let b = g.B.Board.stacks i.board in
-    let may = may_go i.game_type (g.B.Board.stacks i.board) i.made.items i.from.items i.spare i.count c.args.self.now c.args.m c.self.invariant.0 c.self.view_is c.requires c.in-To.piece c.in-To.place c.in-To.is in
-    let plain : IsPlainInHand b c.in-To.piece = c.is_plain_in_hand-is_plain.ensures c.if-is_plain-2.true in
     let s = other_side (side_after (vec_len i.made)) in
     let side : c.other-side.result ≡ s = c.other-side.ensures ∙ ap other_side (c.side_after.ensures ∙ ap side_after c.len.ensures) in
-    let placed = told_placed b may.0 s c.in-To.piece c.in-To.place c.value_by-told.result plain may.3 (λ p on turned. c.value_by-told.ensures p on (turned ∙ sym side)) in (
+    let may = may_go i.game_type (g.B.Board.stacks i.board) i.made.items i.from.items i.spare i.count c.args.self.now c.args.m c.self.invariant.0 c.self.view_is c.requires c.in-To.piece c.in-To.place c.in-To.is in
+    let plain : IsPlainInHand b c.in-To.piece = c.is_plain_in_hand-is_plain.ensures c.if-is_plain-2.true in
+    let placed = told_placed b may.0 s c.in-To.piece c.in-To.place c.told_value-told.result plain may.3 (λ p on turned. c.told_value-told.ensures.value p on (turned ∙ sym side)) in (
       v.0,
       v.1,
       v.2,
@@ -109,7 +90,28 @@ invariant_of-self-then-is_plain-2 g c =
       v.6,
       v.7,
       v.8,
-      found_asked b c.in-To.piece c.other-side.result s c.find_base.new.asked c.find_base.ensures side,
-      found_whole b c.other-side.result s c.find_whole.new.known c.find_whole.ensures side,
-      more_placed b s i.placements.items c.note.new.placements.items (record { place = c.in-To.place; told = c.value_by-told.result }) v.11 placed c.note.ensures,
+      subst (λ z. IsAsked b z c.told_value-told.new.asked) side c.told_value-told.ensures.asked,
+      subst (λ z. IsWhole b z c.told_value-told.new.known) side c.told_value-told.ensures.known,
+      more_placed b s i.placements.items c.note.new.placements.items (record { place = c.in-To.place; told = c.told_value-told.result }) v.11 placed c.note.ensures,
+    )
+
+pub invariant_of-self-else-is_plain-2 : goal.invariant_of-self-else-is_plain-2
+invariant_of-self-else-is_plain-2 g c =
+    let i = c.self.inside in
+    let v = c.self.invariant in
+    let b = g.B.Board.stacks i.board in
+    let s = other_side (side_after (vec_len i.made)) in
+    let side : c.other-side.result ≡ s = c.other-side.ensures ∙ ap other_side (c.side_after.ensures ∙ ap side_after c.len.ensures) in (
+      v.0,
+      v.1,
+      v.2,
+      v.3,
+      v.4,
+      v.5,
+      v.6,
+      v.7,
+      v.8,
+      subst (λ z. IsAsked b z c.told_value-told.new.asked) side c.told_value-told.ensures.asked,
+      subst (λ z. IsWhole b z c.told_value-told.new.known) side c.told_value-told.ensures.known,
+      v.11,
     )
