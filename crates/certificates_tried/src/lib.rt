@@ -1,4 +1,5 @@
-//! Certificates, tried: the public calls of their crates over texts, sources and sinks in memory.
+//! Certificates and forced wins, tried: the public calls of their crates over texts, sources and
+//! sinks in memory.
 #![tactic(auto)]
 
 #[cfg(test)]
@@ -13,3 +14,7 @@ mod strategy_lemmas_tests;
 mod strategy_make_tests;
 #[cfg(test)]
 mod strategy_verdicts_tests;
+#[cfg(test)]
+mod win_commands_tests;
+#[cfg(test)]
+mod win_solver_tests;

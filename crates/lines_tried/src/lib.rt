@@ -1,5 +1,5 @@
-//! Lines and what they are read from, tried: the outside in memory, the lines of streams, and the
-//! strings of games.
+//! Lines and what they are read from, tried: the outside in memory and as the machine gives it, the
+//! lines of streams, and the strings of games.
 #![tactic(auto)]
 
 #[cfg(test)]
@@ -8,3 +8,7 @@ mod game_text_tests;
 mod io_edge_tests;
 #[cfg(test)]
 mod line_feed_tests;
+#[cfg(test)]
+mod stream_tests;
+#[cfg(test)]
+mod system_tests;

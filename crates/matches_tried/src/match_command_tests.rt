@@ -5,6 +5,7 @@ mod causes;
 mod faults;
 mod repetition;
 
+use crate::seen::{expect_seen, expect_sent};
 use command_runs::Status;
 use fast_game::FastGame;
 use hive_model::GameType;
@@ -109,11 +110,8 @@ fn an_illegal_move_forfeits(rt: HostRuntime) -> Result<(), Fail> {
         let white = MemSetting::of(WHITE).cut(pieces);
         let black = MemSetting::of(BLACK).cut(pieces);
         let seen = play_deep(rt.alloc(), white, black)?;
-        assert_eq!(rt; seen.status, Status::Done);
-        assert_eq!(rt; seen.output.bytes(), ILLEGAL);
-        assert_eq!(rt; seen.spawner.closed().len(), 2);
-        assert_eq!(rt; seen.sent(0), TO_WHITE);
-        assert_eq!(rt; seen.sent(1), TO_BLACK);
+        expect_seen(&rt, &seen, Status::Done, ILLEGAL, 2);
+        expect_sent(&rt, &seen, &[TO_WHITE, TO_BLACK]);
     }
     Ok(())
 }
@@ -121,20 +119,18 @@ fn an_illegal_move_forfeits(rt: HostRuntime) -> Result<(), Fail> {
 #[test]
 fn a_match_ends_at_its_limit(rt: HostRuntime) -> Result<(), Fail> {
     let seen = play_timed(rt.alloc(), &[100, 1150])?;
-    assert_eq!(rt; seen.status, Status::Done);
     let text = b"Base;InProgress;Black[1];wS1\nlimit 1\n".as_slice();
-    assert_eq!(rt; seen.output.bytes(), text);
+    expect_seen(&rt, &seen, Status::Done, text, 2);
     let asked = b"newgame Base\nbestmove time 00:00:01\nplay wS1\n".as_slice();
-    assert_eq!(rt; seen.sent(0), asked);
+    expect_sent(&rt, &seen, &[asked]);
     Ok(())
 }
 
 #[test]
 fn a_late_answer_forfeits(rt: HostRuntime) -> Result<(), Fail> {
     let seen = play_timed(rt.alloc(), &[100, 1151])?;
-    assert_eq!(rt; seen.status, Status::Done);
     let text = b"Base;NotStarted;White[1]\nforfeit white late 100 1151\n".as_slice();
-    assert_eq!(rt; seen.output.bytes(), text);
+    expect_seen(&rt, &seen, Status::Done, text, 2);
     Ok(())
 }
 

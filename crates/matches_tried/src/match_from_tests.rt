@@ -1,6 +1,7 @@
 //! Matches of two programs that stand in memory, from a given game.
 
 use crate::match_command_tests::in_sevens;
+use crate::seen::{expect_seen, expect_sent};
 use command_runs::Status;
 use fast_game::FastGame;
 use game_text::{played, read_game_under};
@@ -90,10 +91,8 @@ fn a_match_goes_on_from_a_given_game(rt: HostRuntime) -> Result<(), Fail> {
     let played = play_from(rt.alloc(), given, WHITE, BLACK)?;
     assert!(rt; played.is_some());
     if let Some(seen) = &played {
-        assert_eq!(rt; seen.status, Status::Done);
-        assert_eq!(rt; seen.output.bytes(), TOLD);
-        assert_eq!(rt; seen.sent(0), TO_WHITE);
-        assert_eq!(rt; seen.sent(1), TO_BLACK);
+        expect_seen(&rt, seen, Status::Done, TOLD, 2);
+        expect_sent(&rt, seen, &[TO_WHITE, TO_BLACK]);
     }
     Ok(())
 }
@@ -160,10 +159,8 @@ fn a_given_game_that_is_over_has_its_verdict_at_once(rt: HostRuntime) -> Result<
         if let Some(seen) = &played {
             let told = ["newgame ", row.told, "\n"].concat(rt.alloc())?;
             let text = [row.line, "\n", row.ending, "\n"].concat(rt.alloc())?;
-            assert_eq!(rt; seen.status, Status::Done);
-            assert_eq!(rt; seen.output.bytes(), text.as_bytes());
-            assert_eq!(rt; seen.sent(0), told.as_bytes());
-            assert_eq!(rt; seen.sent(1), told.as_bytes());
+            expect_seen(&rt, seen, Status::Done, text.as_bytes(), 2);
+            expect_sent(&rt, seen, &[told.as_bytes(), told.as_bytes()]);
         }
     }
     Ok(())

@@ -1,6 +1,8 @@
 //! The program's one top call, tried: commands, matches, cups and tournaments over sources, sinks,
-//! clocks and programs in memory.
+//! clocks and programs in memory, and sessions with their searches.
 #![tactic(auto)]
 
 #[cfg(test)]
-mod tests;
+mod runs;
+#[cfg(test)]
+mod sessions;

@@ -1,6 +1,7 @@
 //! What black says, and the forfeit that comes of it.
 
 use super::{TO_BLACK, TO_WHITE, WHITE, play_deep};
+use crate::seen::{expect_seen, expect_sent};
 use command_runs::Status;
 use memory_sides::MemSetting;
 use std::alloc::{AllocError, Global};
@@ -24,10 +25,8 @@ fn expect_verdict<R: Abort>(
 ) -> Result<(), AllocError> {
     let seen = play_deep(alloc, MemSetting::of(WHITE), black)?;
     let text = [GAME, verdict].concat(alloc)?;
-    assert_eq!(rt; seen.status, Status::Done);
-    assert_eq!(rt; seen.output.bytes(), text.as_slice());
-    assert_eq!(rt; seen.sent(0), TO_WHITE);
-    assert_eq!(rt; seen.sent(1), TO_BLACK);
+    expect_seen(rt, &seen, Status::Done, text.as_slice(), 2);
+    expect_sent(rt, &seen, &[TO_WHITE, TO_BLACK]);
     Ok(())
 }
 
@@ -104,8 +103,7 @@ fn a_reply_to_a_move_is_no_flood(rt: HostRuntime) -> Result<(), Fail> {
     let black = MemSetting::of(text.as_slice());
     let seen = play_deep(alloc, MemSetting::of(WHITE), black)?;
     let told = [GAME, b"forfeit black flood 1001\n".as_slice()].concat(alloc)?;
-    assert_eq!(rt; seen.status, Status::Done);
-    assert_eq!(rt; seen.output.bytes(), told.as_slice());
+    expect_seen(&rt, &seen, Status::Done, told.as_slice(), 2);
     assert_eq!(rt; seen.sent(1), b"newgame Base\nplay wS1\n".as_slice());
     Ok(())
 }

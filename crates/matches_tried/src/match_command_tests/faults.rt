@@ -3,6 +3,7 @@
 use super::{
     BLACK, DEPTH_ONE, ILLEGAL, TO_BLACK, TO_WHITE, WHITE, in_sevens, play_deep, play_with,
 };
+use crate::seen::{expect_cut, expect_seen, expect_sent};
 use command_runs::Status;
 use hive_model::Colour;
 use io_edge::StepClock;
@@ -22,14 +23,10 @@ fn play_failing(alloc: Global, start: u64, write: u64) -> Result<Played<Status>,
 #[test]
 fn a_program_does_not_start(rt: HostRuntime) -> Result<(), Fail> {
     let seen = play_failing(rt.alloc(), 1, 0)?;
-    assert_eq!(rt; seen.status, Status::SpawnFault);
-    assert!(rt; seen.output.bytes().is_empty());
-    assert!(rt; seen.spawner.closed().is_empty());
+    expect_seen(&rt, &seen, Status::SpawnFault, b"", 0);
     let seen = play_failing(rt.alloc(), 2, 0)?;
-    assert_eq!(rt; seen.status, Status::SpawnFault);
-    assert!(rt; seen.output.bytes().is_empty());
-    assert_eq!(rt; seen.spawner.closed().len(), 1);
-    assert!(rt; seen.sent(0).is_empty());
+    expect_seen(&rt, &seen, Status::SpawnFault, b"", 1);
+    expect_sent(&rt, &seen, &[b""]);
     Ok(())
 }
 
@@ -37,10 +34,7 @@ fn a_program_does_not_start(rt: HostRuntime) -> Result<(), Fail> {
 fn a_write_of_the_output_fails(rt: HostRuntime) -> Result<(), Fail> {
     for (write, bytes) in [(1, 0), (2, 7), (9, 56)] {
         let seen = play_failing(rt.alloc(), 0, write)?;
-        assert_eq!(rt; seen.status, Status::WriteFault);
-        assert_eq!(rt; seen.output.bytes().len(), bytes);
-        assert!(rt; ILLEGAL.starts_with(seen.output.bytes()));
-        assert_eq!(rt; seen.spawner.closed().len(), 2);
+        expect_cut(&rt, &seen, ILLEGAL, bytes, 2);
     }
     Ok(())
 }
@@ -140,9 +134,7 @@ fn a_link_has_no_more_calls(rt: HostRuntime) -> Result<(), Fail> {
         .cut(&[4])
         .failing(BLACK_READS + 1, WRITES + 1);
     let seen = play_deep(rt.alloc(), white, black)?;
-    assert_eq!(rt; seen.status, Status::Done);
-    assert_eq!(rt; seen.output.bytes(), ILLEGAL);
-    assert_eq!(rt; seen.sent(0), TO_WHITE);
-    assert_eq!(rt; seen.sent(1), TO_BLACK);
+    expect_seen(&rt, &seen, Status::Done, ILLEGAL, 2);
+    expect_sent(&rt, &seen, &[TO_WHITE, TO_BLACK]);
     Ok(())
 }

@@ -2,6 +2,7 @@
 ghost use Rattle.match_core.specs.Keeps.{IsSetup};
 
 use super::{BASE, in_sevens, play_with, said_by};
+use crate::seen::expect_seen;
 use command_runs::Status;
 use io_edge::StepClock;
 use match_core::{Level, Setup};
@@ -55,25 +56,23 @@ fn play_back(alloc: Global, setup: Setup) -> Result<Played<Status>, AllocError>
 #[test]
 fn a_position_that_stands_for_the_third_time_draws(rt: HostRuntime) -> Result<(), Fail> {
     let seen = play_back(rt.alloc(), WITH_RULE)?;
-    assert_eq!(rt; seen.status, Status::Done);
     let text = b"Base;Draw;White[7];wA1;bA1 wA1-;wQ -wA1;bQ bA1-;\
                  wQ \\wA1;bQ bA1/;wQ -wA1;bQ bA1-;\
                  wQ \\wA1;bQ bA1/;wQ -wA1;bQ bA1-\n\
                  result Draw\n"
         .as_slice();
-    assert_eq!(rt; seen.output.bytes(), text);
+    expect_seen(&rt, &seen, Status::Done, text, 2);
     Ok(())
 }
 
 #[test]
 fn it_does_not_where_the_rule_is_switched_off(rt: HostRuntime) -> Result<(), Fail> {
     let seen = play_back(rt.alloc(), WITHOUT_RULE)?;
-    assert_eq!(rt; seen.status, Status::Done);
     let text = b"Base;InProgress;White[7];wA1;bA1 wA1-;wQ -wA1;bQ bA1-;\
                  wQ \\wA1;bQ bA1/;wQ -wA1;bQ bA1-;\
                  wQ \\wA1;bQ bA1/;wQ -wA1;bQ bA1-\n\
                  limit 12\n"
         .as_slice();
-    assert_eq!(rt; seen.output.bytes(), text);
+    expect_seen(&rt, &seen, Status::Done, text, 2);
     Ok(())
 }
