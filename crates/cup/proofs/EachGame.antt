@@ -1,5 +1,7 @@
 -- From each place of two lists to the whole lists.
-use Rattle.std.proofs.Common.{◌≡◌, ◌≢◌, inl, inr, ℕ, zero, suc, ◌<◌, List, [], ◌∷◌, length, map, ap, ◌∙◌, arith, Option, Some, None, IsSomeAnd, Result, Ok, Err, OnOk, refl}
+use Rattle.std.specs.Prelude.{is_none, IfOk}
+use Rattle.std.specs.Result.{result_ok}
+use Rattle.std.proofs.Common.{◌≡◌, ◌≢◌, inl, inr, ℕ, zero, suc, ◌<◌, List, [], ◌∷◌, length, map, ap, ◌∙◌, arith, Option, Some, None, IsSomeAnd, Result, Ok, Err, OnOk, refl, subst, true, false}
 use Rattle.std.specs.List.{All, AllZip, slice_index_or}
 use Rattle.std.proofs.lemmas.List.Elements.{All-nil, All-cons, All-head, All-tail}
 use Rattle.match_runner.specs.Runs.{IsJudged}
@@ -49,3 +51,8 @@ zip-weaker R S weaker (x ∷ xs) (y ∷ ys) all = (weaker x y all.0, zip-weaker 
 pub if-on-ok : {A E : Type 0} (P Q : Type 0) (r : Result A E) → (P → Q) → OnOk r P → OnOk r Q
 if-on-ok P Q (Ok a) f p = f p
 if-on-ok P Q (Err e) f p = tt
+
+-- the referee that a run answers is kept
+pub ok_some : {A E : Type 0} (P Q : A → Type 0) (r : Result A E) (o : Option A) → o ≡ result_ok r → is_none o ≡ false → IfOk r P → ((a : A) → P a → Q a) → IsSomeAnd o Q
+ok_some P Q (Ok a) o e some p f = rw e (f a p)
+ok_some P Q (Err x) o e some p f = let none : true ≡ false = subst (λ o. is_none o ≡ false) e some in absurd (cc)

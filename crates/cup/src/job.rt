@@ -73,16 +73,18 @@ impl<L: Link, G: Game + Drop> CupJob<L, G> {
         ensures played { OnOk result (IsPlayed self.old self.new) }
         ensures err { OnErr result (self.new.referee ≡ None) }
     {
-        self.referee = None;
         let mut clock = StepClock::new(0, 0);
-        let referee = run_match(
+        let played = run_match(
             alloc,
             &mut self.white_link,
             &mut self.black_link,
             &mut clock,
             self.setup,
-        )?;
-        self.referee = Some(referee);
+        );
+        self.referee = played.ok();
+        if self.referee.is_none() {
+            return Err(AllocError);
+        }
         Ok(())
     }
 

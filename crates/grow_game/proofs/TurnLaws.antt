@@ -1,7 +1,7 @@
 -- One turn of each loop over plies, over plain values.
-use Rattle.std.proofs.Common.{◌≡◌, ℕ, ◌+◌, ◌-◌, ◌<◌, ◌≤◌, false, true, List, [], ◌∷◌, ◌++◌, length, length-append, append_assoc, take, drop, refl, sym, ◌∙◌, ap, subst, arith, Some}
+use Rattle.std.proofs.Common.{◌≡◌, ℕ, ◌+◌, ◌-◌, ◌%◌, ◌<◌, ◌≤◌, false, true, List, [], ◌∷◌, ◌++◌, length, length-append, append_assoc, take, drop, refl, sym, ◌∙◌, ap, subst, arith, Some}
 use Rattle.std.specs.List.{slice_get}
-use Rattle.std.proofs.lemmas.List.{append-nil}
+use Rattle.std.proofs.lemmas.List.{append-nil, length-map}
 use Rattle.std.proofs.Math.Seq.{take-length}
 use Rattle.hive_model.specs.declared.places.Move.{Move}
 use Rattle.hive_model.specs.Lists.{IsOn}
@@ -11,9 +11,10 @@ use Rattle.hive_model.specs.Games.{after, replay, AreLegal}
 use Rattle.hive_model.specs.Keys.{key}
 use Rattle.hive_model.specs.Courses.{Course, position, with_move, without_last}
 use Rattle.search_laws.proofs.CourseLaws.{take-all_but_last, position-with_move, replay-append}
-use Rattle.search_laws.proofs.LoopLaws.{drop-at, drop-all}
+use Rattle.hive_model.specs.Stack.{Levels, level_of, with_level}
+use Rattle.search_laws.proofs.LoopLaws.{count-of-level, drop-at, drop-all, listed-at}
 use Rattle.grow_game.specs.declared.plies.Ply.{Ply}
-use Rattle.grow_game.specs.Growing.{seeded, word, next_state, drawn, grown, choices}
+use Rattle.grow_game.specs.Growing.{full_type, seeded, word, next_state, drawn, grown, grown_moves, choices}
 use Rattle.grow_game.specs.Plies.{moves_of, AreKeyed}
 use Rattle.grow_game.specs.Made.{AreMade}
 use Rattle.grow_game.proofs.GrowLaws.{grown-none, grown-legal, grown-over, grown-drawn, choices-none, choices-append}
@@ -207,3 +208,47 @@ made-legal seed plies from to back made sum turn fresh kind none =
     let legal : AreLegal (position from) (moves_of made) = subst (AreLegal (position from)) (sym turn.grown) (grown-legal (seeded seed) plies (position from)) in
     let same : position from ≡ position back = begins from fresh ∙ ap opening (sym turn.kind ∙ sym kind) ∙ sym (begins back none) in
     subst (λ (p : Position). AreLegal p (moves_of made)) same legal
+
+-- ---- one ply that is drawn
+
+-- the move at the place that a word picks is the one that it draws
+pub drawn-here : (start : Course) (old s : Levels) (level n i w : ℕ) (m : Move) → s ≡ with_level old (moves (position start)) → level ≡ length old.lists →
+    n ≡ length (level_of s level) → i ≡ w % n → slice_get (level_of s level) i ≡ Some m → drawn w (moves (position start)) ≡ Some m
+drawn-here start old s level n i w m put on count index here =
+    let ms = moves (position start) in
+    let all : n ≡ length ms = count-of-level s old ms level n put on count in
+    ap (λ k. slice_get ms (w % k)) (sym all) ∙ ap (λ k. slice_get ms k) (sym index) ∙ listed-at s old ms level i m put on here
+
+-- the move that was drawn is played
+pub drawn-played : (start listed played : Course) (m again : Move) → listed ≡ start → again ≡ m → played ≡ with_move listed again → played ≡ with_move start m
+drawn-played start listed played m again same copied moved = moved ∙ ap (λ (c : Course). with_move c again) same ∙ ap (λ (k : Move). with_move start k) copied
+
+-- ---- a game that was taken back and played again
+
+-- its moves are those of the seed
+pub made-grown : (seed plies : ℕ) (from to forth : Course) (made : List Ply) (sum : ℕ) → AreMade seed plies from to made sum → from.made ≡ [] → from.game_type ≡ full_type →
+    forth.made ≡ moves_of made → forth.made ≡ grown_moves seed plies
+made-grown seed plies from to forth made sum turn fresh kind again =
+    again ∙ turn.grown ∙ ap (λ (p : Position). grown (seeded seed) plies p) (begins from fresh ∙ ap opening kind)
+
+-- chosen among so many
+pub made-chosen : (seed plies : ℕ) (from to forth : Course) (made : List Ply) (sum : ℕ) → AreMade seed plies from to made sum → from.made ≡ [] → from.game_type ≡ full_type →
+    forth.made ≡ moves_of made → sum ≡ choices (opening full_type) forth.made
+made-chosen seed plies from to forth made sum turn fresh kind again =
+    turn.chosen ∙ ap (λ (p : Position). choices p (moves_of made)) (begins from fresh ∙ ap opening kind) ∙ ap (λ (ms : List Move). choices (opening full_type) ms) (sym again)
+
+-- as many as plies were undone
+pub made-undone : (forth : Course) (made plies : List Ply) (undone : ℕ) → undone ≡ length plies → plies ≡ made → forth.made ≡ moves_of made → undone ≡ length forth.made
+made-undone forth made plies undone counted same again =
+    counted ∙ ap (λ (ts : List Ply). length ts) same ∙ sym (length-map made (λ (t : Ply). t.m)) ∙ ap (λ (ms : List Move). length ms) (sym again)
+
+-- they stand in the game that was played again from its opening
+pub made-again : (back forth last : Course) (made plies : List Ply) → back.made ≡ [] → forth.made ≡ back.made ++ moves_of plies → plies ≡ made → last ≡ forth → last.made ≡ moves_of made
+made-again back forth last made plies none played same still =
+    ap (λ (c : Course). c.made) still ∙ played ∙ ap (λ (ms : List Move). ms ++ moves_of plies) none ∙ ap moves_of same
+
+-- the keys of the plies are those of the opening's game
+pub made-keyed : (seed plies : ℕ) (from to : Course) (made ts : List Ply) (sum : ℕ) → AreMade seed plies from to made sum → from.made ≡ [] → ts ≡ made → AreKeyed (opening to.game_type) ts
+made-keyed seed plies from to made ts sum turn fresh same =
+    let here : position from ≡ opening to.game_type = begins from fresh ∙ ap opening (sym turn.kind) in
+    subst (λ (k : List Ply). AreKeyed (opening to.game_type) k) (sym same) (subst (λ (p : Position). AreKeyed p made) here turn.keyed)

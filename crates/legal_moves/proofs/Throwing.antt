@@ -163,6 +163,13 @@ module _ (b : Stacks) (rest : Option ℕ) (y x : ℕ) where
     λ (t, is, loose). subst (λ (u : Spot). StandsLoose b rest u.place x) (same_spot (spot_of b y) t o is.stands by.stands) loose,
   )
 
+  -- in the terms of the code
+  pub lifts_from : (over : Option Spot) (o : Spot) (r : Option ℕ) (lifts : Bool) → ThrowsFrom b rest y over → over ≡ Some o → r ≡ rest → IsTrue lifts ↔ StandsLoose b r o.place x → IsTrue lifts ↔ CanLift b rest y x
+  lifts_from over o r lifts by is same loose =
+      let from = lifted_from o (subst (ThrowsFrom b rest y) is by) in
+      let beside = subst (λ z. IsTrue lifts ↔ StandsLoose b z o.place x) same loose in
+      (λ e. from.0 (beside.0 e), λ h. beside.1 (from.1 h))
+
   -- what is thrown is lifted
   thrown_lifted : (q : Place) → ThrownBy b rest y x q → CanLift b rest y x
   thrown_lifted q (t, is, (a, h)) = (t, is, (a, h.stands, record { alone = h.alone; awake = h.awake; beside = h.beside; not_cut = h.not_cut }))

@@ -1,5 +1,5 @@
 -- Where a piece goes by its kind's rule.
-use Rattle.std.proofs.Common.{◌≡◌, ◌≢◌, ◌↔◌, ℕ, ◌+◌, ◌-◌, ◌<◌, Bool, true, false, not, List, ◌⊎◌, inl, inr, refl, sym, ◌∙◌, subst, arith}
+use Rattle.std.proofs.Common.{◌≡◌, ◌≢◌, ◌↔◌, ℕ, ◌+◌, ◌-◌, ◌<◌, Bool, true, false, not, List, ◌⊎◌, inl, inr, refl, sym, ◌∙◌, subst, arith, rules}
 use Rattle.std.specs.Prelude.{Option, Some, None, IsTrue}
 use Rattle.std.proofs.lemmas.Bool.{not-true, not_from_false, false_from_ne_true}
 use Rattle.hive_model.specs.declared.pieces.Kind.{Kind}
@@ -8,14 +8,15 @@ use Rattle.hive_model.specs.declared.places.Place.{Place}
 use Rattle.hive_model.specs.declared.places.Spot.{Spot}
 use Rattle.hive_model.specs.PlaceLists.{AreAll}
 use Rattle.hive_model.specs.Pieces.{kind_of, colour_of}
-use Rattle.hive_model.specs.Boards.{Stacks, stack_at, height_at, is_occupied, spot_of, lift}
+use Rattle.hive_model.specs.Places.{IsOnTheMap}
+use Rattle.hive_model.specs.Boards.{Stacks, IsBoard, stack_at, height_at, is_occupied, is_on_top, is_top_spot, spot_of, lift}
 use Rattle.hive_model.specs.Hive.{IsCut}
 use Rattle.hive_model.specs.Reach.{Reach, Copies, MovesAs}
 use Rattle.hive_model.specs.Evaluation.{IsFreePiece}
 use Rattle.hive_model.specs.Legal.{Walk}
 use Rattle.hive_model.specs.Positions.{Position}
 use Rattle.hive_model.proofs.GetLemmas.{get_within}
-use Rattle.hive_model.proofs.BoardLemmas.{spot_of_stands, stands_occupied}
+use Rattle.hive_model.proofs.BoardLemmas.{spot_of_stands, spot_within, stands_occupied}
 use Rattle.hive_model.proofs.PlaceListLaws.{all_same}
 use Rattle.bug_moves.specs.Counts.{AreMany}
 use Rattle.legal_moves.specs.Going.{Goes}
@@ -31,6 +32,15 @@ level_low b x s e = get_within (stack_at b s.place) s.level x (spot_of_stands b 
 
 pub stands_there : (b : Stacks) (x : ℕ) (s : Spot) → spot_of b x ≡ Some s → IsTrue (is_occupied b s.place)
 stands_there b x s e = stands_occupied b x s.place s.level (spot_of_stands b x s e)
+
+-- a piece that is on top stands somewhere
+pub top_stands : (b : Stacks) (x : ℕ) (o : Option Spot) → o ≡ spot_of b x → IsTrue (is_on_top b x) → ((s : Spot) → o ≢ Some s) → {P : Type 0} → P
+top_stands b x None e top none = let wrong : false ≡ true = subst (λ p. IsTrue (is_top_spot b p)) (sym e) top in absurd (cc)
+top_stands b x (Some s) e top none = absurd (none s refl)
+
+-- and where it stands the plane goes on
+pub spot_mapped : (b : Stacks) (x : ℕ) (s : Spot) → IsBoard b → spot_of b x ≡ Some s → IsOnTheMap s.place
+spot_mapped b x s is e = let near = spot_within b is x s e in search rules
 
 -- Who may walk
 

@@ -1,11 +1,11 @@
 -- The match that a run answers, by both links and the clock.
-use Rattle.std.proofs.Common.{◌≡◌, ◌≤◌, ℕ, ◌+◌, inl, inr, ap}
+use Rattle.std.proofs.Common.{◌≡◌, ◌≤◌, ℕ, ◌+◌, inl, inr, ap, sym, ◌∙◌, subst}
 use Rattle.io_edge.specs.Outside.{Rose}
 use Rattle.hive_model.specs.declared.pieces.Colour.TheVariants.{White, Black}
 use Rattle.line_feed.specs.Feed.{Reading as Reader, HoldsLittle, fresh}
 use Rattle.match_core.specs.Setups.{FullSetup}
 use Rattle.match_core.specs.Keeps.{IsFullSetup}
-use Rattle.match_core.specs.MatchState.{MatchState}
+use Rattle.match_core.specs.MatchState.{MatchState, start}
 use Rattle.match_runner.specs.declared.turns.Acted.{Acted}
 use Rattle.match_runner.specs.declared.turns.Acted.TheVariants.{GoOn, Finished, ReadFault, WriteFault, Memory}
 use Rattle.match_runner.specs.Wires.{HasFailed, Watch, Wire}
@@ -21,6 +21,16 @@ use Rattle.match_runner.proofs.Progress.{cut_at, ran_whole, rose_from}
 use Rattle.match_runner.proofs.SameSetup.{final_same}
 use Rattle.match_runner.proofs.Telling.{told_run}
 use Rattle.match_runner.proofs.Verdicts.{verdict_run}
+
+-- a match that begins is the start of its own setup
+pub begins_own : (setup : FullSetup) (s : MatchState) → s ≡ start setup → s ≡ start s.setup
+begins_own setup s e = e ∙ ap start (ap (λ (x : MatchState). x.setup) (sym e))
+
+pub full_own : (setup : FullSetup) (s : MatchState) → s ≡ start setup → IsFullSetup setup → IsFullSetup s.setup
+full_own setup s e is = subst IsFullSetup (ap (λ (x : MatchState). x.setup) (sym e)) is
+
+pub ran_by : (own setup : FullSetup) (t : MatchState) (w0 w b0 b : Wire) (r0 r : Watch) → own ≡ setup → RanOver own t w0 w b0 b r0 r → RanOver setup t w0 w b0 b r0 r
+ran_by own setup t w0 w b0 b r0 r e ran = subst (λ x. RanOver x t w0 w b0 b r0 r) e ran
 
 -- all that is known of the match that a run answers
 ran_over : (setup : FullSetup) (t : MatchState) (w0 w b0 b : Wire) (r0 r : Watch) → IsFullSetup setup → FinalRun setup t w0 w b0 b r0 r → RanOver setup t w0 w b0 b r0 r

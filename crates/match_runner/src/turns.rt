@@ -1,10 +1,11 @@
 //! One act of a match.
-ghost use Rattle.std.specs.Prelude.{◌≡◌, ◌+◌, ◌<◌};
+ghost use Rattle.std.specs.Prelude.{◌≡◌, ◌≢◌, ◌+◌, ◌<◌, [], IsTrue};
 ghost use Rattle.hive_model.specs.declared.pieces.Colour.{Colour};
 ghost use Rattle.io_edge.specs.Lines.{greatest_line};
 ghost use Rattle.line_feed.specs.Feed.{input_limit};
 ghost use Rattle.line_feed.specs.Ahead.{ahead_of};
-ghost use Rattle.match_core.specs.MatchState.{act_at};
+ghost use Rattle.match_core.specs.Keeps.{IsEarly};
+ghost use Rattle.match_core.specs.MatchState.{act_at, answers, happening, next};
 ghost use Rattle.match_runner.specs.Wires.{watch};
 ghost use Rattle.match_runner.specs.Turns.{
   HasCauses,
@@ -38,7 +39,17 @@ pub enum Acted {
     Memory,
 }
 
-/// Moves a referee on; there may be no memory for a line.
+/// Moves a referee on by an event that is no line, which wants no memory.
+fn step_on<G: Game + Drop>(referee: &mut Referee<G>, event: Event)
+    requires answers { IsTrue (answers (act_at referee.old.stage) (happening event [])) }
+    requires early { IsEarly event }
+    requires no_line { event ≢ Event.Line }
+    ensures { referee.new ≡ next referee.old (happening event []) }
+{
+    let _ = referee.step(event, &[]);
+}
+
+/// Sends the line that is to be sent to a side.
 fn tell<L: Link, G: Game + Drop>(referee: &mut Referee<G>, link: &mut L, side: Colour) -> Acted
     requires { act_at referee.old.stage ≡ Act.Send side }
     ensures told { Tells side result referee.old referee.new
@@ -48,15 +59,11 @@ fn tell<L: Link, G: Game + Drop>(referee: &mut Referee<G>, link: &mut L, side: C
         (L.write_faults link.old) (L.write_faults link.new) }
 {
     if write_all(link, referee.text()) {
-        match referee.step(Event::Sent, &[]) {
-            Ok(()) => Acted::GoOn,
-            Err(_) => Acted::Memory,
-        }
+        step_on(referee, Event::Sent);
+        Acted::GoOn
     } else {
-        match referee.step(Event::Broke, &[]) {
-            Ok(()) => Acted::WriteFault { side },
-            Err(_) => Acted::Memory,
-        }
+        step_on(referee, Event::Broke);
+        Acted::WriteFault { side }
     }
 }
 
@@ -82,22 +89,22 @@ fn listen<L: Link, G: Game + Drop>(
             Ok(()) => Acted::GoOn,
             Err(_) => Acted::Memory,
         },
-        ShortAnswer::Long => match referee.step(Event::TooLong, &[]) {
-            Ok(()) => Acted::GoOn,
-            Err(_) => Acted::Memory,
-        },
-        ShortAnswer::End => match referee.step(Event::Ended, &[]) {
-            Ok(()) => Acted::GoOn,
-            Err(_) => Acted::Memory,
-        },
-        ShortAnswer::Failed => match referee.step(Event::Broke, &[]) {
-            Ok(()) => Acted::ReadFault { side },
-            Err(_) => Acted::Memory,
-        },
-        ShortAnswer::Full => match referee.step(Event::TooLong, &[]) {
-            Ok(()) => Acted::GoOn,
-            Err(_) => Acted::Memory,
-        },
+        ShortAnswer::Long => {
+            step_on(referee, Event::TooLong);
+            Acted::GoOn
+        }
+        ShortAnswer::End => {
+            step_on(referee, Event::Ended);
+            Acted::GoOn
+        }
+        ShortAnswer::Failed => {
+            step_on(referee, Event::Broke);
+            Acted::ReadFault { side }
+        }
+        ShortAnswer::Full => {
+            step_on(referee, Event::TooLong);
+            Acted::GoOn
+        }
     }
 }
 
@@ -110,10 +117,8 @@ fn look<C: Clock, G: Game + Drop>(referee: &mut Referee<G>, clock: &mut C) -> Ac
         (watch (C.last clock.new) (C.readings clock.new)) }
 {
     let at = clock.now();
-    match referee.step(Event::Reading { at }, &[]) {
-        Ok(()) => Acted::GoOn,
-        Err(_) => Acted::Memory,
-    }
+    step_on(referee, Event::Reading { at });
+    Acted::GoOn
 }
 
 /// Does the next act.

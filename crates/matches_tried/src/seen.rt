@@ -20,7 +20,11 @@ pub(crate) fn expect_seen<R: Abort>(
 /// Compares what was sent to the programs that were started first, in their order.
 pub(crate) fn expect_sent<R: Abort>(rt: &R, seen: &Played<Status>, texts: &[&[u8]]) {
     for (number, text) in texts.iter().enumerate() {
-        assert_eq!(rt; seen.sent(number), *text, "to the program at place {number}");
+        assert_eq!(rt;
+            seen.sent(number),
+            *text,
+            "to the program at place {number}"
+        );
     }
 }
 

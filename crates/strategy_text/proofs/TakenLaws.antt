@@ -1,10 +1,11 @@
 -- What a reader that reads on has read of its input.
-use Rattle.std.proofs.Common.{◌≡◌, ◌<◌, ◌≤◌, ℕ, suc, ◌+◌, ◌-◌, ◌^◌, min, Bool, true, false, List, [], ◌∷◌, ◌++◌, length, length-append, refl, ap, sym, subst, arith, ◌∙◌, add-zero, if◌then◌else◌}
-use Rattle.std.specs.Prelude.{◌==◌, ⊤, Result, Err}
+use Rattle.std.proofs.Common.{◌≡◌, ◌≢◌, ◌<◌, ◌≤◌, ℕ, suc, ◌+◌, ◌-◌, ◌^◌, min, Bool, true, false, List, [], ◌∷◌, ◌++◌, length, length-append, refl, ap, sym, subst, arith, ◌∙◌, inl, inr, add-zero, if◌then◌else◌}
+use Rattle.std.specs.Prelude.{◌==◌, ⊤, ◌⊎◌, map, Option, Some, None, Result, Ok, Err}
+use Rattle.std.specs.Option.{option_map}
 use Rattle.std.proofs.lemmas.List.{append-nil, length-map}
 use Rattle.io_edge.specs.Outside.{HasCause, Told, in_front, IsAtEnd}
 use Rattle.io_edge.proofs.Told.{in_front-nil}
-use Rattle.io_edge.specs.Lines.{Line as OneLine, Text, TooLong as LongLine, line_of, line_parts, lines, onto}
+use Rattle.io_edge.specs.Lines.{Line as OneLine, Text, TooLong as LongLine, line_of, line_parts, lines, onto, ToldLines, NoneAhead, LongAhead}
 use Rattle.line_feed.specs.Feed.{Reading, HoldsLittle, Ends, Feeds, Takes, input_limit, pending}
 use Rattle.line_feed.specs.SoFar.{Covers, Fed}
 use Rattle.line_feed.specs.declared.line_answers.LineAnswer.{LineAnswer}
@@ -12,8 +13,13 @@ use Rattle.line_feed.specs.declared.line_answers.LineAnswer.TheVariants.{Line, T
 use Rattle.line_feed.proofs.AheadLemmas.{lines-nil}
 use Rattle.line_feed.proofs.FedLemmas.{fed_kept, fed_line}
 use Rattle.strategy_text.specs.declared.head.HeadFault.{HeadFault}
-use Rattle.strategy_text.specs.declared.head.HeadFault.TheVariants.{ReadFault, InputFull}
-use Rattle.strategy_text.specs.Heads.{TakesLines, last_line}
+use Rattle.strategy_text.specs.declared.head.HeadFault.TheVariants.{BadLine, BadGame, ReadFault, InputFull, Memory}
+use Rattle.game_text.specs.declared.faults.GameFault.{GameFault}
+use Rattle.game_text.specs.declared.parsed.Parsed.{Parsed}
+use Rattle.strategy_walks.specs.Items.{Lent, in_front as in_front_of}
+use Rattle.strategy_walks.specs.declared.items.ItemAnswer.{ItemAnswer}
+use Rattle.strategy_walks.specs.declared.items.ItemAnswer.TheVariants.{Failed as NoRead}
+use Rattle.strategy_text.specs.Heads.{Reads, ReadsGame, TakesLine, TakesLines, fault_line, in_all, last_line}
 use Rattle.strategy_text.specs.Taken.{HasRead}
 use Rattle.strategy_text.proofs.TextLaws.{all-same}
 
@@ -156,3 +162,131 @@ none-taken a old new r0 r1 fed within little none line result faults faults' las
       let same : before ≡ last_line line result = omega (arith, next, last) in
       subst (HasRead input r1 new) same (read-none-given a old new r0 r1 fed within little none input before r);
 }
+
+-- ---- parts of a head
+
+pub fault-is : {A : Type 0} (fault other : HeadFault) → (let r : Result A HeadFault = Err fault in r ≡ Err other) → fault ≡ other
+fault-is fault other e = cc
+
+same-fault : {A B : Type 0} (fault other : HeadFault) → (let r : Result A HeadFault = Err fault in r ≡ Err other) → (let r : Result B HeadFault = Err fault in r ≡ Err other)
+same-fault fault other e = let same : fault ≡ other = cc in ap (λ f. Err f) same
+
+fault-later : (n m : ℕ) (fault : HeadFault) → n ≤ m → fault_line n fault ≤ fault_line m fault
+fault-later n m (BadLine k) more = omega arith
+fault-later n m (BadGame f) more = omega arith
+fault-later n m ReadFault more = omega (arith, more)
+fault-later n m InputFull more = more
+fault-later n m Memory more = more
+
+-- a fault in the first lines of a part is one of the part
+pub taken-short : {A B : Type 0} (k n j m more : ℕ) (fault : HeadFault) (result : Result B HeadFault) (old new : Reading) (r0 r1 : Told) (faults faults' : ℕ) → n + more ≡ m → n + j ≡ m + k → result ≡ Err fault →
+    (let r : Result A HeadFault = Err fault in TakesLines k n r old new r0 r1 faults faults') → TakesLines j m result old new r0 r1 faults faults'
+taken-short {A} {B} k n j m more fault result old new r0 r1 faults faults' later start is t =
+    subst (λ (r : Result B HeadFault). TakesLines j m r old new r0 r1 faults faults') (sym is) (record {
+      full = λ e. t.full (same-fault fault InputFull e);
+      cause = record {
+        later = t.cause.later;
+        rose = λ e. t.cause.rose (same-fault fault ReadFault e);
+        same = λ not. t.cause.same (λ e. not (same-fault fault ReadFault e));
+      };
+      bytes = t.bytes;
+      failed = λ e. t.failed (same-fault fault ReadFault e);
+      read = λ input before e r. read-more input r1 new (fault_line n fault) (fault_line m fault) (fault-later n m fault (omega (arith, later))) (t.read input before (omega (arith, e, start)) r);
+    })
+
+-- a fault in lines is one of all that they are
+pub taken-fault : {A B : Type 0} (k n : ℕ) (fault : HeadFault) (result : Result B HeadFault) (old new : Reading) (r0 r1 : Told) (faults faults' : ℕ) → result ≡ Err fault →
+    (let r : Result A HeadFault = Err fault in TakesLines k n r old new r0 r1 faults faults') → TakesLines k n result old new r0 r1 faults faults'
+taken-fault k n fault result old new r0 r1 faults faults' is t = taken-short k n k n 0 fault result old new r0 r1 faults faults' (omega arith) refl is t
+
+-- the lines of one part behind those of another
+pub taken-then : {A B : Type 0} (j m k n : ℕ) (a : A) (result : Result B HeadFault) (old mid new : Reading) (r0 r1 r2 : Told) (faults faults' last : ℕ) → n ≡ m + k →
+    (let r : Result A HeadFault = Ok a in TakesLines j m r old mid r0 r1 faults faults') → TakesLines k n result mid new r1 r2 faults' last → TakesLines (j + k) n result old new r0 r2 faults last
+taken-then j m k n a result old mid new r0 r1 r2 faults faults' last next first later = record {
+  full = later.full;
+  cause = subst (λ (f : ℕ). HasCause (result ≡ Err ReadFault) f last) (first.cause.same (λ e. cc)) later.cause;
+  bytes = later.bytes ∙ first.bytes;
+  failed = later.failed;
+  read = λ input before e r. later.read input m next (first.read input before (omega (arith, e, next)) r);
+}
+
+-- what is made of lines that were taken, neither of a read that has failed nor of a full reader
+pub taken-as : {A B : Type 0} (k n : ℕ) (a : A) (result : Result B HeadFault) (old new : Reading) (r0 r1 : Told) (faults faults' : ℕ) → last_line n result ≡ n → result ≢ Err ReadFault → result ≢ Err InputFull →
+    (let r : Result A HeadFault = Ok a in TakesLines k n r old new r0 r1 faults faults') → TakesLines k n result old new r0 r1 faults faults'
+taken-as k n a result old new r0 r1 faults faults' last read full t = record {
+  full = λ e. absurd (full e);
+  cause = record { later = t.cause.later; rose = λ e. absurd (read e); same = λ not. t.cause.same (λ e. cc) };
+  bytes = t.bytes;
+  failed = λ e. absurd (read e);
+  read = λ input before e r. subst (HasRead input r1 new) (sym last) (t.read input before e r);
+}
+
+-- what is made of lines that were taken: a value, the fault of the last of them, or want of memory
+
+pub taken-ok : {A B : Type 0} (k n : ℕ) (a : A) (b : B) (old new : Reading) (r0 r1 : Told) (faults faults' : ℕ) → (let r : Result A HeadFault = Ok a in TakesLines k n r old new r0 r1 faults faults') →
+    (let r : Result B HeadFault = Ok b in TakesLines k n r old new r0 r1 faults faults')
+taken-ok k n a b old new r0 r1 faults faults' t = taken-as k n a (Ok b) old new r0 r1 faults faults' refl (λ e. cc) (λ e. cc) t
+
+pub taken-bad : {A B : Type 0} (k n : ℕ) (a : A) (old new : Reading) (r0 r1 : Told) (faults faults' : ℕ) → (let r : Result A HeadFault = Ok a in TakesLines k n r old new r0 r1 faults faults') →
+    (let r : Result B HeadFault = Err (BadLine n) in TakesLines k n r old new r0 r1 faults faults')
+taken-bad k n a old new r0 r1 faults faults' t = taken-as k n a (Err (BadLine n)) old new r0 r1 faults faults' refl (λ e. cc) (λ e. cc) t
+
+pub taken-without : {A B : Type 0} (k n : ℕ) (a : A) (old new : Reading) (r0 r1 : Told) (faults faults' : ℕ) → (let r : Result A HeadFault = Ok a in TakesLines k n r old new r0 r1 faults faults') →
+    (let r : Result B HeadFault = Err Memory in TakesLines k n r old new r0 r1 faults faults')
+taken-without k n a old new r0 r1 faults faults' t = taken-as k n a (Err Memory) old new r0 r1 faults faults' refl (λ e. cc) (λ e. cc) t
+
+-- ---- items
+
+-- a read has failed just where that is the answer
+pub item-cause : {T : Type 0} (a : LineAnswer) (r : ItemAnswer T) (faults faults' : ℕ) → (r ≡ NoRead → a ≡ Failed) → (a ≡ Failed → r ≡ NoRead) → HasCause (a ≡ Failed) faults faults' → HasCause (r ≡ NoRead) faults faults'
+item-cause a r faults faults' there back cause = record {
+  later = cause.later;
+  rose = λ e. cause.rose (there e);
+  same = λ not. cause.same (λ e. not (back e));
+}
+
+-- the first item, which stands on the first line
+pub item-front : {T : Type 0} (item : OneLine → Option T) (line : OneLine) (i : Option T) (old new : ToldLines) → i ≡ item line → old ≡ option_map (λ left. line ∷ left) new →
+    option_map (map item) old ≡ in_front_of i (option_map (map item) new)
+item-front item line i old None is e = ap (option_map (map item)) e
+item-front item line i old (Some ls) is e = ap (option_map (map item)) e ∙ ap (λ x. Some (x ∷ map item ls)) (sym is)
+
+abbrev pub lent : List ℕ → Option ℕ → Lent
+lent names bytes = record { references = names; bytes = bytes }
+
+-- no byte is lost
+pub lent-same : (names : List ℕ) (old new : Reading) (r0 r1 : Told) (a : LineAnswer) → (bytes : List ℕ) × Takes r0 r1 old.taken new.taken bytes × Feeds a old bytes new r1 → lent names (in_all new r1) ≡ lent names (in_all old r0)
+lent-same names old new r0 r1 a fed = let (bytes, takes, feeds) = fed in ap (λ b. lent names b) (all-same old new r0 r1 bytes takes)
+
+-- ---- a line of a head
+
+-- the game of a line is that of the second
+pub game-last : (result : Result Parsed HeadFault) (read : Result Parsed GameFault) → ReadsGame result read → last_line 2 result ≡ 2
+game-last (Ok game) read r = refl
+game-last (Err (BadLine n)) read r = absurd r
+game-last (Err (BadGame fault)) read r = refl
+game-last (Err ReadFault) read r = absurd r
+game-last (Err InputFull) read r = absurd r
+game-last (Err Memory) read r = refl
+
+not-there : (last : List ℕ) (rest : List OneLine) → (let t : ToldLines = Some (Text last ∷ rest) in NoneAhead t ⊎ LongAhead t) → ⊥
+not-there last rest (inl none) = cc
+not-there last rest (inr long) = let same = long.1 in cc
+
+-- a line that was not taken is the fault of its field, or of its game
+pub line-missing : {A : Type 0} (n : ℕ) (f : List OneLine → Result A HeadFault) (fault : HeadFault) (result : Result A HeadFault) (last : List ℕ) (old new : ToldLines) →
+    f [] ≡ Err (BadLine n) → ((ls : List OneLine) → f (LongLine ∷ ls) ≡ Err (BadLine n)) → result ≡ Err fault → (let r : Result ⊤ HeadFault = Err fault in TakesLine r n last old new) →
+    (ls : List OneLine) → old ≡ Some ls → Reads 1 result (f ls) ls new
+line-missing {A} n f fault result last old new none long is takes ls told = subst (λ (r : Result A HeadFault). Reads 1 r (f ls) ls new) (sym is) (go fault takes ls told)
+  where
+    there : (k : ℕ) (ls : List OneLine) → k ≡ n → (let t : ToldLines = Some ls in NoneAhead t ⊎ LongAhead t) → f ls ≡ Err (BadLine k)
+    there k [] same e = none ∙ ap (λ j. Err (BadLine j)) (sym same)
+    there k (LongLine ∷ rest) same e = long rest ∙ ap (λ j. Err (BadLine j)) (sym same)
+    there k (Text line ∷ rest) same e = absurd (not-there line rest e)
+
+    go : (fault : HeadFault) → (let r : Result ⊤ HeadFault = Err fault in TakesLine r n last old new) → (ls : List OneLine) → old ≡ Some ls → (let r : Result A HeadFault = Err fault in Reads 1 r (f ls) ls new)
+    go (BadLine k) t ls told = there k ls t.0 (subst (λ (o : ToldLines). NoneAhead o ⊎ LongAhead o) told t.1)
+    go (BadGame f) t ls told = absurd t
+    go ReadFault t ls told = tt
+    go InputFull t ls told = tt
+    go Memory t ls told = absurd t

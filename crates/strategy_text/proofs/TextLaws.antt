@@ -93,6 +93,10 @@ behind-game m [] next less rest = less
 behind-game m (TooLong ∷ ls) next less rest = less
 behind-game m (Text line ∷ ls) next less rest = behind-read m (game_of line) next less rest
 
+-- a number is below those behind it
+pub less : (m more : ℕ) → m < m + 1 + more
+less m more = omega arith
+
 -- the reading of the line behind the first k has failed
 pub breaks-off : {H : Type 0} (k n last : ℕ) (head read : Result H HeadFault) (lines : List Line) (fault : HeadFault) (input : List ℕ) (rest : Told) (reader : Reading) (before : ToldLines) → last ≡ k + 1 → k < n →
     GoesOn head lines k read before → HasRead input rest reader (fault_line last fault) → fault ≡ ReadFault → IsBehind k read → BreaksOff n head input rest reader
@@ -130,6 +134,29 @@ head-begins newest lines = refl
 pub begins : (newest : ℕ) (lines : List Line) (before : ToldLines) → before ≡ Some lines →
     GoesOn (head_of newest lines) lines 0 (and_then (field_in 1 (version_at newest) (drop 0 lines)) (λ v. after_version lines v)) before
 begins newest lines before told = record { told = told; so = head-begins newest lines }
+
+-- so many parts were read, each of which the lines have
+
+pub after-1 : (newest : ℕ) (lines : List Line) (v : ℕ) (t0 t1 : ToldLines) → t0 ≡ Some lines → (let r : Result ℕ HeadFault = Ok v in Part (field_in 1 (version_at newest)) r t0 t1) →
+    GoesOn (head_of newest lines) lines 1 (after_version lines v) t1
+after-1 newest lines v t0 t1 told version =
+    goes-on (field_in 1 (version_at newest)) (λ w. after_version lines w) (head_of newest lines) lines 0 v t0 t1 (begins newest lines t0 told) version
+
+pub after-2 : (newest : ℕ) (lines : List Line) (v : ℕ) (g : Parsed) (t0 t1 t2 : ToldLines) → t0 ≡ Some lines → (let r : Result ℕ HeadFault = Ok v in Part (field_in 1 (version_at newest)) r t0 t1) →
+    (let r : Result Parsed HeadFault = Ok g in Part game_in r t1 t2) → GoesOn (head_of newest lines) lines 2 (after_game lines v g) t2
+after-2 newest lines v g t0 t1 t2 told version game =
+    goes-on game_in (λ h. after_game lines v h) (head_of newest lines) lines 1 g t1 t2 (after-1 newest lines v t0 t1 told version) game
+
+pub after-3 : (newest : ℕ) (lines : List Line) (v : ℕ) (g : Parsed) (d : ℕ) (t0 t1 t2 t3 : ToldLines) → t0 ≡ Some lines → (let r : Result ℕ HeadFault = Ok v in Part (field_in 1 (version_at newest)) r t0 t1) →
+    (let r : Result Parsed HeadFault = Ok g in Part game_in r t1 t2) → (let r : Result ℕ HeadFault = Ok d in Part (field_in 3 depth_at) r t2 t3) → GoesOn (head_of newest lines) lines 3 (after_depth lines v g d) t3
+after-3 newest lines v g d t0 t1 t2 t3 told version game depth =
+    goes-on (field_in 3 depth_at) (λ e. after_depth lines v g e) (head_of newest lines) lines 2 d t2 t3 (after-2 newest lines v g t0 t1 t2 told version game) depth
+
+pub after-4 : (newest : ℕ) (lines : List Line) (v : ℕ) (g : Parsed) (d : ℕ) (t : List ℕ) (t0 t1 t2 t3 t4 : ToldLines) → t0 ≡ Some lines → (let r : Result ℕ HeadFault = Ok v in Part (field_in 1 (version_at newest)) r t0 t1) →
+    (let r : Result Parsed HeadFault = Ok g in Part game_in r t1 t2) → (let r : Result ℕ HeadFault = Ok d in Part (field_in 3 depth_at) r t2 t3) → (let r : Result (List ℕ) HeadFault = Ok t in Part (field_in 4 move_at) r t3 t4) →
+    GoesOn (head_of newest lines) lines 4 (after_text lines v g d t) t4
+after-4 newest lines v g d t t0 t1 t2 t3 t4 told version game depth claim_text =
+    goes-on (field_in 4 move_at) (λ u. after_text lines v g d u) (head_of newest lines) lines 3 t t3 t4 (after-3 newest lines v g d t0 t1 t2 t3 told version game depth) claim_text
 
 -- what is to be made of the lines behind the first so many is the fault of none of these
 

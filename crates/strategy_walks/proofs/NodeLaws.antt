@@ -1,5 +1,5 @@
 -- What code answers at each node, where a game is under way and a walker takes the tokens.
-use Rattle.std.proofs.Common.{◌≡◌, ℕ, ◌-◌, Bool, true, false, cond, length, refl, sym, ap, subst, ◌∙◌, ℤ, neg_ℤ, Some, None}
+use Rattle.std.proofs.Common.{◌≡◌, ℕ, ◌-◌, ◌≤◌, Bool, true, false, cond, length, refl, sym, ap, subst, ◌∙◌, ℤ, neg_ℤ, Some, None}
 use Rattle.std.specs.Prelude.{IsTrue, ◌↔◌}
 use Rattle.std.specs.List.{slice_get}
 use Rattle.hive_model.specs.declared.places.Move.{Move}
@@ -18,7 +18,7 @@ use Rattle.strategy_walks.specs.Follows.{held, range_of, Ending, Shown, Refused,
 use Rattle.strategy_walks.specs.Parts.{EndsHere, IsPart, Parts, ending_of, leaf_walked}
 use Rattle.strategy_walks.proofs.WalkLaws.{walk-inner}
 use Rattle.strategy_walks.proofs.CarryLaws.{then-carries, walk-carries}
-use Rattle.strategy_walks.proofs.FollowLaws.{Walks, WalksAll, follows-stop, node-every, shown-every, shown-index}
+use Rattle.strategy_walks.proofs.FollowLaws.{Walks, WalksAll, follows-stop, node-every, range-end, shown-every, shown-index}
 
 -- ---- endings
 
@@ -54,6 +54,19 @@ part-behind parts (Stops stop) a b c first later = parts.behind stop a b c first
 pub part-goes-on : {A T : Type 0} (parts : Parts A T) (test : Bool) (w x : Walked T) (a b c : A) → (IsTrue test ↔ (w ≡ Done)) → test ≡ true → IsPart parts w a b → IsPart parts x b c → IsPart parts x a c
 part-goes-on {A} {T} parts test w x a b c iff yes_ first later = part-behind parts x a b c (subst (λ (u : Walked T). IsPart parts u a b) (iff.0 yes_) first) later
 
+-- a leaf changes nothing
+pub part-leaf : {A T : Type 0} (parts : Parts A T) (kept : Bool) (w : Walked T) (a : A) → w ≡ leaf_walked kept → IsPart parts w a a
+part-leaf {A} {T} parts true w a e = subst (λ (u : Walked T). IsPart parts u a a) (sym e) (parts.none a)
+part-leaf {A} {T} parts false w a e = subst (λ (u : Walked T). IsPart parts u a a) (sym e) (parts.none a)
+
+-- what is kept behind a part that came to its end, by the test of the code
+pub part-keeps : {A T : Type 0} (parts : Parts A T) (test : Bool) (w : Walked T) (a b c : A) → (IsTrue test ↔ (w ≡ Done)) → test ≡ true → IsPart parts w a b → parts.goes b c → parts.goes a c
+part-keeps {A} {T} parts test w a b c iff yes_ first later = parts.both a b c (subst (λ (u : Walked T). IsPart parts u a b) (iff.0 yes_) first) later
+
+-- by the test of the code it did not come to its end
+pub not-done : {T : Type 0} (test : Bool) (w : Walked T) → (IsTrue test ↔ (w ≡ Done)) → test ≡ false → w ≡ Done → ⊥
+not-done test w iff no_ e = let yes_ : test ≡ true = iff.1 e in cc
+
 -- ---- what is shown
 
 pub game-every : (start now : Course) (d : ℕ) (x y : ℤ) (count : ℕ) → now ≡ start → IsInner (position start) d → count ≡ length (moves (position start)) → y ≡ neg_ℤ x →
@@ -70,6 +83,16 @@ game-index start now d x y i m same inner here ey h =
 pub keeps-still : (start now : Course) (d : ℕ) (x y : ℤ) → now ≡ start → y ≡ x → Keeps (AtLeast x) (value (position start) d) → Keeps (AtLeast y) (value (position now) d)
 keeps-still start now d x y same ey h = subst (λ (g : Course). Keeps (AtLeast y) (value (position g) d)) (sym same) (subst (λ (z : ℤ). Keeps (AtLeast z) (value (position start) d)) (sym ey) h)
 
+-- a claim that is walked as it was found, where the game is as before
+pub claim-keeps : (start now : Course) (d : ℕ) (limit : ℤ → Limit) (c : Limit) (x y : ℤ) → c ≡ limit x → now ≡ start → y ≡ x → Keeps (limit y) (value (position now) d) → Keeps c (value (position start) d)
+claim-keeps start now d limit c x y ec same ey h =
+    subst (λ (l : Limit). Keeps l (value (position start) d)) (sym ec)
+    (subst (λ (z : ℤ). Keeps (limit z) (value (position start) d)) ey (subst (λ (g : Course). Keeps (limit y) (value (position g) d)) same h))
+
+-- each of no moves keeps to the limit
+pub shown-past : (p : Position) (d : ℕ) (c : Limit) (i to : ℕ) → to ≤ i → EachKeeps p d c (range_of (moves p) i to)
+shown-past p d c i to past = subst (EachKeeps p d c) (sym (range-end (moves p) i to past)) tt
+
 -- ---- what is told
 
 module _ {S W N : Type 0} (R : Rules S W) (V : Sight S W N) where
@@ -78,6 +101,11 @@ module _ {S W N : Type 0} (R : Rules S W) (V : Sight S W N) where
   game-walks start now d x y count a b w same inner all ey h =
       node-every R V (position start) d (AtMost x) x y count a b w inner all refl ey
       (subst (λ (g : Course). WalksAll R V (position g) (d - 1) (AtLeast y) (range_of (moves (position g)) 0 count) a w b) same h)
+
+  pub claim-told : (start now : Course) (d : ℕ) (limit : ℤ → Limit) (c : Limit) (x y : ℤ) (a b : N) (w : Ending W) → c ≡ limit x → now ≡ start → y ≡ x → Walks R V (position now) d (limit y) a w b → Walks R V (position start) d c a w b
+  claim-told start now d limit c x y a b w ec same ey h =
+      subst (λ (l : Limit). Walks R V (position start) d l a w b) (sym ec)
+      (subst (λ (z : ℤ). Walks R V (position start) d (limit z) a w b) ey (subst (λ (g : Course). Walks R V (position g) d (limit y) a w b) same h))
 
   -- where what is taken is known to end the walk
   pub ends-here : (p : Position) (d : ℕ) (x : ℤ) (a b : N) (w : Ending W) → ((s : S) → a ≡ V.view s → (o : WalkEnd S W) × (R.take p d x s ≡ Ends o) × Meets V o w b) → EndsHere R V p d x a w b

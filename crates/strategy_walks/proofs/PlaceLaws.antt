@@ -2,14 +2,17 @@
 use Rattle.std.proofs.Common.{◌≡◌, ℕ, zero, suc, ◌+◌, ◌<◌, ◌≤◌, Bool, true, false, cond, List, [], ◌∷◌, ◌++◌, length, take, drop, refl, sym, ap, arith, ◌∙◌, Some, None, inl, inr}
 use Rattle.std.specs.List.{slice_get, position_from}
 use Rattle.std.proofs.lemmas.Bool.{and_parts, and_from, eqb-true, eq-eqb}
-use Rattle.std.specs.Prelude.{nat_eq}
+use Rattle.std.specs.Prelude.{Option, nat_eq}
 use Rattle.hive_model.specs.declared.places.Move.{Move}
 use Rattle.hive_model.specs.declared.places.Move.TheVariants.{Pass, To}
 use Rattle.hive_model.specs.Lists.{IsOn}
 use Rattle.hive_model.specs.Places.{is_place}
 use Rattle.hive_model.specs.Courses.{is_move}
 use Rattle.hive_model.proofs.PlaceLemmas.{same_place, is_place_itself}
-use Rattle.search_laws.proofs.LoopLaws.{drop-at, drop-all}
+use Rattle.hive_model.specs.Positions.{Position}
+use Rattle.hive_model.specs.Legal.{moves}
+use Rattle.hive_model.specs.Stack.{Levels, level_of, with_level}
+use Rattle.search_laws.proofs.LoopLaws.{drop-at, drop-all, level_of-with_level}
 use Rattle.strategy_walks.specs.Limits.{Each}
 use Rattle.strategy_walks.specs.Walks.{place_of}
 
@@ -128,3 +131,8 @@ place-met m ms i n so here same =
 
 pub place-none : (m : Move) (ms : List Move) (i : ℕ) → place_of m ms ≡ position_from (is_move m) i (drop i ms) → length ms ≤ i → None ≡ place_of m ms
 place-none m ms i so past = sym (so ∙ ap (position_from (is_move m) i) (drop-all ms i past))
+
+-- the place in the level is the place in the list of moves
+pub place-listed : (old s : Levels) (p : Position) (level : ℕ) (m : Move) (found place : Option ℕ) → s ≡ with_level old (moves p) → level ≡ length old.lists →
+    found ≡ place_of m (level_of s level) → found ≡ place → place ≡ place_of m (moves p)
+place-listed old s p level m found place put on looked is = sym is ∙ looked ∙ ap (place_of m) (level_of-with_level s old (moves p) level put on)

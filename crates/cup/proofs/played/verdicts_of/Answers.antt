@@ -1,5 +1,5 @@
 use Rattle.std.proofs.Common.{rules, ◌≡◌, ◌+◌, List, [], ◌∷◌, ◌++◌, map, take, ap, sym, ◌∙◌, subst, Option, Some}
-use Rattle.std.proofs.lemmas.List.{map-append, take_more}
+use Rattle.std.proofs.lemmas.List.{map-append, take_all, take_more}
 use Rattle.match_core.specs.declared.verdict.Verdict.{Verdict}
 use Rattle.cup.specs.Played.{Job, HasVerdict, verdict_of}
 use Rattle.cup.proofs.played.verdicts_of.Goals as goal
@@ -23,3 +23,9 @@ loop-place-preserved g c =
     ∙ (λ i. c.loop-place.invariant i ++ found i ∷ [])
     ∙ sym (map-append Some c.loop-place.verdicts.items (c.in_ok-verdict.verdict ∷ []))
     ∙ ap (map Some) (sym pushed)
+
+pub loop-place-init : goal.loop-place-init
+loop-place-init g c = ap (map Some) (sym c.new-verdicts.ensures.items)
+
+pub returns : goal.returns
+returns g c = ap (map (λ j. verdict_of j.referee)) (sym (take_all c.loop-place.place c.args.jobs.now c.loop-place-test.false)) ∙ c.loop-place.invariant

@@ -1,7 +1,20 @@
 use Rattle.std.proofs.Common.{◌∙◌, sym, arith}
 use Rattle.hive_model.specs.Boards.{lift}
-use Rattle.legal_moves.proofs.Walking.{mosquito_many, itself_many}
+use Rattle.legal_moves.proofs.Walking.{top_stands, spot_mapped, mosquito_many, itself_many}
 use Rattle.legal_moves.proofs.walks.count_goes.Goals as goal
+
+pub returns-in_default : goal.returns-in_default
+returns-in_default g c = top_stands (g.B.Board.stacks c.args.board.now) c.args.piece c.spot.result c.spot.ensures.spot c.requires.top c.in_default.not-Some
+
+pub mosquito_reach-requires-clause-within : goal.mosquito_reach-requires-clause-within
+mosquito_reach-requires-clause-within g c =
+    spot_mapped (g.B.Board.stacks c.args.board.now) c.args.piece c.in-Some.spot c.requires.board (sym c.spot.ensures.spot ∙ c.in-Some.is)
+
+pub count_reach-requires : goal.count_reach-requires
+count_reach-requires g c = record {
+  kind = c.in_default-kind.not-Mosquito;
+  within = spot_mapped (g.B.Board.stacks c.args.board.now) c.args.piece c.in-Some.spot c.requires.board (sym c.spot.ensures.spot ∙ c.in-Some.is);
+}
 
 pub returns-in-Mosquito : goal.returns-in-Mosquito
 returns-in-Mosquito g c =

@@ -13,19 +13,19 @@ returns-in-Ok-clause-heard g c =
 pub returns-in-Ok-clause-reader : goal.returns-in-Ok-clause-reader
 returns-in-Ok-clause-reader g c = record { little = c.in-Line.ensures.little; room = λ _. little _ _ c.in-Line.ensures.passes }
 
-pub returns-in-Ok-step-clause-heard : goal.returns-in-Ok-step-clause-heard
-returns-in-Ok-step-clause-heard g c = (TooLong, c.in-Ok-step.ensures.ok, c.in-Long.ensures.ahead.0, λ e. c.in-Long.ensures.ahead.1)
+pub returns-in-Long-clause-heard : goal.returns-in-Long-clause-heard
+returns-in-Long-clause-heard g c = (TooLong, c.step_on.ensures, c.in-Long.ensures.ahead.0, λ e. c.in-Long.ensures.ahead.1)
 
-pub returns-in-Ok-step-clause-reader : goal.returns-in-Ok-step-clause-reader
-returns-in-Ok-step-clause-reader g c = record {
+pub returns-in-Long-clause-reader : goal.returns-in-Long-clause-reader
+returns-in-Long-clause-reader g c = record {
   little = c.in-Long.ensures.little;
   room = λ goes_on.
-      let done = long_finishes c.args.referee.now c.step-in-Long.new.self c.args.side c.requires.act c.in-Ok-step.ensures.ok in absurd (cc);
+      let done = long_finishes c.args.referee.now c.step_on.new.referee c.args.side c.requires.act c.step_on.ensures in absurd (cc);
 }
 
-pub returns-in-Ok-step-2-clause-heard : goal.returns-in-Ok-step-2-clause-heard
-returns-in-Ok-step-2-clause-heard g c =
-    (Ended, c.in-Ok-step-2.ensures.ok, c.in-End.ensures.ahead.0, not_ended)
+pub returns-in-End-clause-heard : goal.returns-in-End-clause-heard
+returns-in-End-clause-heard g c =
+    (Ended, c.step_on-in-End.ensures, c.in-End.ensures.ahead.0, not_ended)
 
-pub returns-in-Ok-step-4-clause-heard : goal.returns-in-Ok-step-4-clause-heard
-returns-in-Ok-step-4-clause-heard g c = absurd (never_full _ _ _ _ c.in-Full.ensures.fed (c.in-Full.ensures.full refl) c.requires.room)
+pub returns-in-Full-clause-heard : goal.returns-in-Full-clause-heard
+returns-in-Full-clause-heard g c = absurd (never_full _ _ _ _ c.in-Full.ensures.fed (c.in-Full.ensures.full refl) c.requires.room)

@@ -3,7 +3,8 @@ use Rattle.hive_model.specs.Games.{after}
 use Rattle.hive_model.specs.Minimax.{value}
 use Rattle.hive_model.specs.Courses.{position}
 use Rattle.search_laws.proofs.Signs.{neg-fits, neg-is}
-use Rattle.root_share.proofs.ChildLaws.{back-still, made-behind}
+use Rattle.search_laws.proofs.CourseLaws.{move-undone}
+use Rattle.root_share.proofs.ChildLaws.{made-behind}
 use Rattle.root_share.proofs.EndLaws.{open-behind, end-behind, end-small}
 use Rattle.root_share.proofs.behind.end_behind.Goals as goal
 
@@ -34,13 +35,13 @@ overflow_sub-result g c =
     neg-fits c.in-Some.worth (end-small (after (position start) c.args.m) c.args.depth c.in-Some.worth c.requires.deep is)
 
 pub returns-in-Some-clause-game : goal.returns-in-Some-clause-game
-returns-in-Some-clause-game g c = back-still (g.G.Game.course c.args.game.now) _ _ _ c.args.m c.requires.spare c.play.ensures.moved refl c.undo.ensures.back
+returns-in-Some-clause-game g c = move-undone (g.G.Game.course c.args.game.now) _ _ _ c.args.m c.requires.spare c.play.ensures.moved refl c.undo.ensures.back
 
 pub returns-in-Some-clause-played : goal.returns-in-Some-clause-played
 returns-in-Some-clause-played g c = omega (arith, c.play.ensures.count, c.undo.ensures.count)
 
 pub returns-in-None-clause-game : goal.returns-in-None-clause-game
-returns-in-None-clause-game g c = back-still (g.G.Game.course c.args.game.now) _ _ _ c.args.m c.requires.spare c.play.ensures.moved refl c.undo.ensures.back
+returns-in-None-clause-game g c = move-undone (g.G.Game.course c.args.game.now) _ _ _ c.args.m c.requires.spare c.play.ensures.moved refl c.undo.ensures.back
 
 pub returns-in-None-clause-played : goal.returns-in-None-clause-played
 returns-in-None-clause-played g c = omega (arith, c.play.ensures.count, c.undo.ensures.count)

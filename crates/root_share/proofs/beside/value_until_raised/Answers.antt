@@ -3,7 +3,8 @@ use Rattle.std.proofs.lemmas.Int.{to_z-of_z}
 use mir.Syntax.{w32}
 use Rattle.search_laws.proofs.Signs.{neg-fits, neg-is}
 use Rattle.search_laws.specs.Laws.{IsSmall}
-use Rattle.root_share.proofs.ChildLaws.{small-found, tested-found, back-still, room-behind, made-behind, beta-behind, child-plays}
+use Rattle.search_laws.proofs.CourseLaws.{move-undone}
+use Rattle.root_share.proofs.ChildLaws.{small-found, tested-found, room-behind, made-behind, beta-behind, child-plays}
 use Rattle.root_share.proofs.ReadyLaws.{depth-of}
 use Rattle.root_share.proofs.beside.value_until_raised.Goals as goal
 
@@ -45,7 +46,7 @@ returns-in-Some-clause-tested g c =
 
 pub returns-in-Some-clause-worker : goal.returns-in-Some-clause-worker
 returns-in-Some-clause-worker g c = record {
-  game = back-still (g.G.Game.course c.args.worker.now.game) _ _ _ c.args.m (omega (arith, c.requires.child.spare)) c.play.ensures.moved c.value_until-found.ensures.game c.undo.ensures.back;
+  game = move-undone (g.G.Game.course c.args.worker.now.game) _ _ _ c.args.m (omega (arith, c.requires.child.spare)) c.play.ensures.moved c.value_until-found.ensures.game c.undo.ensures.back;
   searcher = c.value_until-found.ensures.searcher;
   plays = child-plays _ _ _ _ c.args.bound _ _ _ _ _ c.play.ensures.moved c.window_behind-behind.ensures.alpha (beta-behind c.args.bound _ _ (to_z-of_z w32 c.args.bound (search rules)) c.window_behind-behind.ensures.beta) c.play.ensures.count c.value_until-found.ensures.played c.undo.ensures.count;
 }
@@ -76,7 +77,7 @@ returns-clause-view g c = c.halve-other.ensures.same
 
 pub returns-clause-worker : goal.returns-clause-worker
 returns-clause-worker g c = record {
-  game = back-still (g.G.Game.course c.args.worker.now.game) _ _ _ c.args.m (omega (arith, c.requires.child.spare)) c.play.ensures.moved c.value_until-found.ensures.game c.undo.ensures.back;
+  game = move-undone (g.G.Game.course c.args.worker.now.game) _ _ _ c.args.m (omega (arith, c.requires.child.spare)) c.play.ensures.moved c.value_until-found.ensures.game c.undo.ensures.back;
   searcher = c.value_until-found.ensures.searcher;
   plays = child-plays _ _ _ _ c.args.bound _ _ _ _ _ c.play.ensures.moved c.window_behind-behind.ensures.alpha (beta-behind c.args.bound _ _ (to_z-of_z w32 c.args.bound (search rules)) c.window_behind-behind.ensures.beta) c.play.ensures.count c.value_until-found.ensures.played c.undo.ensures.count;
 }

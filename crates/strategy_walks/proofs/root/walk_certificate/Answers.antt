@@ -1,4 +1,4 @@
-use Rattle.std.proofs.Common.{◌≡◌, ◌-◌, slice_get, Some, None, refl, sym, ap, subst, ◌∙◌}
+use Rattle.std.proofs.Common.{◌≡◌, ◌-◌, slice_get, Some, None, refl, sym, ap, subst, arith, ◌∙◌}
 use Rattle.hive_model.specs.Legal.{moves}
 use Rattle.hive_model.specs.Courses.{Course, position}
 use Rattle.hive_model.specs.Stack.{level_of}
@@ -6,9 +6,10 @@ use Rattle.search_laws.proofs.LoopLaws.{level_of-with_level}
 use Rattle.strategy_walks.specs.Walks.{place_of}
 use Rattle.strategy_walks.specs.Parts.{ending_of}
 use Rattle.search_laws.proofs.NodeLaws.{node-listed}
-use Rattle.strategy_walks.specs.Claims.{IsClaimOf}
+use Rattle.strategy_walks.specs.Claims.{IsClaimOf, IsTrueOf}
+use Rattle.search_laws.proofs.CourseLaws.{level-dropped}
 use Rattle.strategy_walks.proofs.LevelLaws.{node-replies}
-use Rattle.strategy_walks.proofs.PlaceLaws.{place-here}
+use Rattle.strategy_walks.proofs.PlaceLaws.{place-here, place-listed}
 use Rattle.strategy_walks.proofs.FollowLaws.{certificate-at, certificate-none, root-as}
 use Rattle.strategy_walks.proofs.root.walk_certificate.Goals as goal
 
@@ -50,3 +51,33 @@ returns-clause-told g c =
       certificate-at g.W.Walker.rules g.W.Walker.sight p claim.depth c.in-Some.place claim.best claim.value s place,
       root-as g.W.Walker.rules g.W.Walker.sight (g.G.Game.course c.args.game.now) (g.G.Game.course c.list.new.self) c.list.ensures.same (claim.depth - 1) c.in-Some.place claim.best claim.value (g.W.Walker.seen c.args.walker.now) (g.W.Walker.seen c.walk_root-walked.new.walker) (ending_of g.W.Walker.rules g.W.Walker.ending c.walk_root-walked.result) c.walk_root-walked.ensures.told s seen,
     )
+
+pub returns-in_default-clause-stack : goal.returns-in_default-clause-stack
+returns-in_default-clause-stack g c =
+    level-dropped c.args.stack.now _ _ _ _ (omega (arith, c.requires.room, c.requires.claim.inner.deep)) c.list.ensures.listed refl c.drop_level.ensures
+
+pub returns-in_default-clause-legal : goal.returns-in_default-clause-legal
+returns-in_default-clause-legal g c = λ e.
+    sym (place-listed c.args.stack.now c.list.new.out (position (g.G.Game.course c.args.game.now)) c.levels-level.result c.args.claim.now.best _ _ c.list.ensures.listed c.levels-level.ensures c.find_move.ensures c.in_default.is)
+
+pub returns-clause-illegal : goal.returns-clause-illegal
+returns-clause-illegal g c = λ none.
+    let there = place-listed c.args.stack.now c.list.new.out (position (g.G.Game.course c.args.game.now)) c.levels-level.result c.args.claim.now.best _ _ c.list.ensures.listed c.levels-level.ensures c.find_move.ensures c.in-Some.is in
+    cc (there, none)
+
+pub returns-clause-legal : goal.returns-clause-legal
+returns-clause-legal g c = λ e. absurd (cc e)
+
+pub returns-clause-shown : goal.returns-clause-shown
+returns-clause-shown g c = λ inv done.
+    subst (λ (h : Course). IsTrueOf (position h) c.args.claim.now) c.list.ensures.same (c.walk_root-walked.ensures.shown inv (cc done))
+
+pub returns-clause-part : goal.returns-clause-part
+returns-clause-part g c = c.walk_root-walked.ensures.part
+
+pub returns-clause-game : goal.returns-clause-game
+returns-clause-game g c = c.walk_root-walked.ensures.game ∙ c.list.ensures.same
+
+pub returns-clause-stack : goal.returns-clause-stack
+returns-clause-stack g c =
+    level-dropped c.args.stack.now _ _ _ _ (omega (arith, c.requires.room, c.requires.claim.inner.deep)) c.list.ensures.listed c.walk_root-walked.ensures.stack c.drop_level-2.ensures

@@ -1,0 +1,32 @@
+use Rattle.std.proofs.Common.{◌∙◌, sym}
+use Rattle.hive_model.specs.Boards.{lift}
+use Rattle.legal_moves.proofs.Walking.{top_stands, spot_mapped, goes_mosquito, goes_itself}
+use Rattle.legal_moves.proofs.walks.go.Goals as goal
+
+pub returns-in_default : goal.returns-in_default
+returns-in_default g c = top_stands (g.B.Board.stacks c.args.board.now) c.args.piece c.spot.result c.spot.ensures.spot c.requires.top c.in_default.not-Some
+
+pub mosquito_reach-requires-clause-within : goal.mosquito_reach-requires-clause-within
+mosquito_reach-requires-clause-within g c =
+    spot_mapped (g.B.Board.stacks c.args.board.now) c.args.piece c.in-Some.spot c.requires.board (sym c.spot.ensures.spot ∙ c.in-Some.is)
+
+pub reach-requires : goal.reach-requires
+reach-requires g c = record {
+  kind = c.in_default-kind.not-Mosquito;
+  empty = c.requires.empty;
+  within = spot_mapped (g.B.Board.stacks c.args.board.now) c.args.piece c.in-Some.spot c.requires.board (sym c.spot.ensures.spot ∙ c.in-Some.is);
+}
+
+pub returns-in-Mosquito : goal.returns-in-Mosquito
+returns-in-Mosquito g c =
+    let b = g.B.Board.stacks c.args.board.now in
+    let lifted = c.new-lifted.result in
+    let stands = sym c.spot.ensures.spot ∙ c.in-Some.is in
+    goes_mosquito b (lift (g.B.Board.stacks lifted.board.now) lifted.piece) c.args.piece c.in-Some.spot stands c.new-lifted.ensures c.mosquito_reach.new.out.items (sym c.kind.ensures ∙ c.in-Mosquito.is) c.mosquito_reach.ensures
+
+pub returns-in_default-kind : goal.returns-in_default-kind
+returns-in_default-kind g c =
+    let b = g.B.Board.stacks c.args.board.now in
+    let lifted = c.new-lifted.result in
+    let stands = sym c.spot.ensures.spot ∙ c.in-Some.is in
+    goes_itself b (lift (g.B.Board.stacks lifted.board.now) lifted.piece) c.args.piece c.in-Some.spot stands c.new-lifted.ensures c.reach.new.out.items c.kind.result c.kind.ensures c.in_default-kind.not-Mosquito c.reach.ensures
