@@ -3,5 +3,5 @@ pub mod Games
 pub mod Sums
 pub mod Totals
 pub mod Places
-mod EachGame
+pub mod EachGame
 mod InTime

@@ -34,3 +34,9 @@ move-undone start played tried later m room moved same back =
     let spare : (start.spare - 1) + 1 ≡ start.spare = omega (arith, room) in
     let there : without_last (with_move start m) ≡ start = λ i. record { game_type = start.game_type; made = made i; spare = spare i } in
     back ∙ ap (λ (c : Course). without_last c) (same ∙ moved) ∙ there
+
+-- behind a move there is a move to take back
+pub move-made : (start played tried : Course) (m : Move) → played ≡ with_move start m → tried ≡ played → 1 ≤ length tried.made
+move-made start played tried m moved same =
+    let e : length tried.made ≡ length (start.made ++ m ∷ []) = ap (λ (c : Course). length c.made) (same ∙ moved) in
+    omega (arith, e, length-append start.made (m ∷ []))

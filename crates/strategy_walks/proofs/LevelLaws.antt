@@ -1,9 +1,9 @@
 -- From a node to its legal moves on a level, and to each of them.
-use Rattle.std.proofs.Common.{◌≡◌, ℕ, ◌+◌, ◌-◌, ◌≤◌, [], ◌∷◌, ◌++◌, length, length-append, take, sym, ap, subst, arith, ◌∙◌, Some}
+use Rattle.std.proofs.Common.{◌≡◌, ℕ, ◌-◌, sym, subst, arith, Some}
 use Rattle.std.specs.List.{slice_get}
 use Rattle.hive_model.specs.declared.places.Move.{Move}
 use Rattle.hive_model.specs.Legal.{moves}
-use Rattle.hive_model.specs.Courses.{Course, position, with_move}
+use Rattle.hive_model.specs.Courses.{Course, position}
 use Rattle.hive_model.specs.Stack.{Levels, level_of}
 use Rattle.search_laws.specs.Nodes.{IsNode, CanReply, AreAsBefore}
 use Rattle.search_laws.proofs.LoopLaws.{on-at}
@@ -44,9 +44,3 @@ pub level-reply : (start now : Course) (old s : Levels) (d level i : ℕ) (m : M
     slice_get (level_of s level) i ≡ Some m → CanReply m d now s
 level-reply start now old s d level i m replies same here =
     can-again start now old s m d (place-reply start old d level i m replies (here-in s old level i (moves (position start)) m same.stack replies.listed here)) same
-
--- there is a move to take back
-pub move-made : (start played walked : Course) (m : Move) → played ≡ with_move start m → walked ≡ played → 1 ≤ length walked.made
-move-made start played walked m moved same =
-    let e : length walked.made ≡ length (start.made ++ m ∷ []) = ap (λ (c : Course). length c.made) (same ∙ moved) in
-    omega (arith, e, length-append start.made (m ∷ []))

@@ -1,7 +1,7 @@
 -- Waves, one behind another.
-use Rattle.std.proofs.Common.{◌≡◌, ◌≢◌, ℕ, zero, suc, ◌+◌, ◌<◌, cond, List, [], ◌∷◌, ◌++◌, length, map, Option, Some, None, Result, Ok, Err, IfOk, OnOk, OnErr, refl, ap, sym, ◌∙◌, arith, subst, append_assoc, length-append, inl, inr}
+use Rattle.std.proofs.Common.{◌≡◌, ◌≢◌, ℕ, ◌+◌, cond, List, [], ◌∷◌, ◌++◌, length, map, Option, Some, None, Result, Ok, Err, IfOk, OnOk, OnErr, refl, ap, sym, ◌∙◌, arith, subst, append_assoc, length-append, inl, inr}
 use Rattle.std.specs.Prelude.{is_none}
-use Rattle.std.specs.List.{All, AllZip, flat_map, slice_index_or}
+use Rattle.std.specs.List.{All, AllZip, flat_map}
 use Rattle.std.specs.Option.{option_to_list}
 use Rattle.std.proofs.lemmas.List.{map-append}
 use Rattle.std.proofs.lemmas.List.Concat.{flat_map-append}
@@ -30,16 +30,6 @@ zip-append R [] [] ys vs a b = b
 zip-append R [] (u ∷ us) ys vs a b = absurd a
 zip-append R (x ∷ xs) [] ys vs a b = absurd a
 zip-append R (x ∷ xs) (u ∷ us) ys vs a b = (a.0, zip-append R xs us ys vs a.1 b)
-
--- R holds at each place of two lists
-abbrev pub AtEach : {A : Type 0} → (A → A → Type 0) → List A → List A → Type 0
-AtEach {A} R xs ys = (i : ℕ) (d : A) → i < length xs → R (slice_index_or xs i d) (slice_index_or ys i d)
-
-pub zip-each : {A : Type 0} (R : A → A → Type 0) (xs ys : List A) → length ys ≡ length xs → AtEach R xs ys → AllZip R xs ys
-zip-each R [] [] long each = tt
-zip-each R [] (y ∷ ys) long each = absurd (omega (arith, long))
-zip-each R (x ∷ xs) [] long each = absurd (omega (arith, long))
-zip-each R (x ∷ xs) (y ∷ ys) long each = (each zero x (omega arith), zip-each R xs ys (omega (arith, long)) (λ i d h. each (suc i) d (omega (arith, h))))
 
 -- Games behind games
 

@@ -3,8 +3,7 @@ use Rattle.hive_model.specs.Games.{after}
 use Rattle.hive_model.specs.Minimax.{value}
 use Rattle.hive_model.specs.Courses.{position}
 use Rattle.search_laws.proofs.Signs.{neg-fits, neg-is}
-use Rattle.search_laws.proofs.CourseLaws.{move-undone}
-use Rattle.root_share.proofs.ChildLaws.{made-behind}
+use Rattle.search_laws.proofs.CourseLaws.{move-made, move-undone}
 use Rattle.root_share.proofs.EndLaws.{open-behind, end-behind, end-small}
 use Rattle.root_share.proofs.behind.end_behind.Goals as goal
 
@@ -25,7 +24,7 @@ pub play-requires-clause-room : goal.play-requires-clause-room
 play-requires-clause-room g c = c.requires.spare
 
 pub undo-requires : goal.undo-requires
-undo-requires g c = made-behind (g.G.Game.course c.args.game.now) _ _ c.args.m c.play.ensures.moved refl
+undo-requires g c = move-made (g.G.Game.course c.args.game.now) _ _ c.args.m c.play.ensures.moved refl
 
 pub overflow_sub-result : goal.overflow_sub-result
 overflow_sub-result g c =

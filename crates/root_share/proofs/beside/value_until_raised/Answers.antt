@@ -3,8 +3,8 @@ use Rattle.std.proofs.lemmas.Int.{to_z-of_z}
 use mir.Syntax.{w32}
 use Rattle.search_laws.proofs.Signs.{neg-fits, neg-is}
 use Rattle.search_laws.specs.Laws.{IsSmall}
-use Rattle.search_laws.proofs.CourseLaws.{move-undone}
-use Rattle.root_share.proofs.ChildLaws.{small-found, tested-found, room-behind, made-behind, beta-behind, child-plays}
+use Rattle.search_laws.proofs.CourseLaws.{move-made, move-undone}
+use Rattle.root_share.proofs.ChildLaws.{small-found, tested-found, room-behind, beta-behind, child-plays}
 use Rattle.root_share.proofs.ReadyLaws.{depth-of}
 use Rattle.root_share.proofs.beside.value_until_raised.Goals as goal
 
@@ -30,7 +30,7 @@ pub value_until-found-requires-clause-spare : goal.value_until-found-requires-cl
 value_until-found-requires-clause-spare g c = room-behind (g.G.Game.course c.args.worker.now.game) _ c.args.m _ c.play.ensures.moved c.requires.child.spare
 
 pub undo-requires : goal.undo-requires
-undo-requires g c = made-behind (g.G.Game.course c.args.worker.now.game) _ _ c.args.m c.play.ensures.moved c.value_until-found.ensures.game
+undo-requires g c = move-made (g.G.Game.course c.args.worker.now.game) _ _ c.args.m c.play.ensures.moved c.value_until-found.ensures.game
 
 pub overflow_sub-result : goal.overflow_sub-result
 overflow_sub-result g c =

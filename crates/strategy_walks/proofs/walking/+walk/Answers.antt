@@ -15,8 +15,8 @@ use Rattle.strategy_walks.specs.declared.limit.Limit.TheVariants.{AtMost, AtLeas
 use Rattle.strategy_walks.specs.Limits.{Keeps, is_kept}
 use Rattle.strategy_walks.specs.Follows.{Shown}
 use Rattle.strategy_walks.specs.Parts.{ending_of}
-use Rattle.search_laws.proofs.CourseLaws.{level-dropped, move-undone}
-use Rattle.strategy_walks.proofs.LevelLaws.{node-replies, level-reply, move-made}
+use Rattle.search_laws.proofs.CourseLaws.{level-dropped, move-made, move-undone}
+use Rattle.strategy_walks.proofs.LevelLaws.{node-replies, level-reply}
 use Rattle.strategy_walks.proofs.FollowLaws.{follows-leaf, follows-child, shown-child, turn-told, turn-shown, turn-stops, turn-past, number-small, small-turned}
 use Rattle.strategy_walks.proofs.NodeLaws.{part-behind, part-keeps, part-leaf, not-done, shown-past, claim-keeps, claim-told, below-none, leaf-ending, not-shown, is-shown, is-done, game-every, game-index, keeps-still, game-walks, claim-ends, claim-below, below-stops, below-done}
 use Rattle.strategy_walks.proofs.walking.+walk.Goals as goal

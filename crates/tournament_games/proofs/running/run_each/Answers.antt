@@ -1,6 +1,6 @@
 use Rattle.std.proofs.Common.{rules, ◌≡◌, length, subst, slice_index_or}
 use Rattle.tournament_games.specs.Games.{IsSettled}
-use Rattle.tournament_games.proofs.Waves.{zip-each}
+use Rattle.cup.proofs.EachGame.{zip-each}
 use Rattle.tournament_games.proofs.running.run_each.Goals as goal
 
 pub returns : goal.returns
