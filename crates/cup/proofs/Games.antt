@@ -1,17 +1,12 @@
 -- The games of a cup, as the loops list them, and how many there are.
-use Rattle.std.proofs.Common.{◌≡◌, ℕ, suc, ◌+◌, ◌-◌, ◌≤◌, true, false, cond, List, [], ◌∷◌, ◌++◌, map, refl, sym, ap, arith, ◌∙◌}
+use Rattle.std.proofs.Common.{◌≡◌, ℕ, ◌+◌, ◌-◌, ◌≤◌, true, false, cond, List, [], ◌∷◌, ◌++◌, map, refl, sym, ap, arith, ◌∙◌}
 use Rattle.std.specs.Prelude.{not, nat_eq}
 use Rattle.std.proofs.lemmas.Bool.Decides.{nat_tests}
 use Rattle.std.specs.List.{filter, flat_map}
 use Rattle.hive_model.specs.Lists.{count_from}
+use Rattle.tournament_core.proofs.Numbers.{count-next}
 use Rattle.cup.specs.declared.pairing.Pairing.{Pairing}
 use Rattle.cup.specs.Cup.{row}
-
-pub count-next : (n b : ℕ) → b ≤ n → count_from b (n + 1 - b) ≡ b ∷ count_from (b + 1) (n + 1 - (b + 1))
-count-next n b low = let more : n + 1 - b ≡ suc (n + 1 - (b + 1)) = omega (arith, low) in rw more refl
-
-pub count-none : (n b : ℕ) → n + 1 ≤ b → count_from b (n + 1 - b) ≡ []
-count-none n b past = let none : n + 1 - b ≡ 0 = omega (arith, past) in rw none refl
 
 -- the games of white against these
 abbrev pub row_of : ℕ → List ℕ → List Pairing

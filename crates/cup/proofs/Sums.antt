@@ -1,5 +1,5 @@
 -- Sums of points.
-use Rattle.std.proofs.Common.{◌≡◌, ℕ, zero, suc, ◌+◌, List, [], ◌∷◌, length, drop, Some, ap, arith, ◌∙◌, ◌<◌, ◌≤◌, refl}
+use Rattle.std.proofs.Common.{◌≡◌, ℕ, zero, suc, ◌+◌, List, [], ◌∷◌, length, drop, Some, ap, arith, ◌∙◌, ◌≤◌, refl}
 use Rattle.std.specs.List.{slice_get, sum_by, zip}
 use Rattle.std.proofs.lemmas.List.Sums.{sum_by-cons}
 use Rattle.std.proofs.lemmas.List.{drop_all}
@@ -22,9 +22,3 @@ pub sum-end : {A : Type 0} (f : A → ℕ) (xs : List A) (i n all : ℕ) → len
 sum-end f xs i n all past so =
     let e : sum_by f (drop i xs) ≡ 0 = ap (sum_by f) (drop_all i xs past) in
     omega (arith, so, e)
-
--- something stands at each place
-pub there : {A : Type 0} (xs : List A) (i : ℕ) → i < length xs → (x : A) × (slice_get xs i ≡ Some x)
-there [] i low = absurd (omega (arith, low))
-there (x ∷ xs) zero low = (x, refl)
-there (x ∷ xs) (suc i) low = there xs i (omega (arith, low))

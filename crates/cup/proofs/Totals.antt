@@ -1,10 +1,9 @@
 -- All points of a cup.
-use Rattle.std.proofs.Common.{◌≡◌, ℕ, zero, suc, ◌+◌, ◌-◌, ◌*◌, ◌<◌, ◌≤◌, true, false, cond, List, [], ◌∷◌, ◌++◌, length, map, min, Option, Some, None, refl, sym, ap, arith, ◌∙◌, inl, inr}
+use Rattle.std.proofs.Common.{◌≡◌, ℕ, zero, suc, ◌+◌, ◌-◌, ◌*◌, ◌<◌, ◌≤◌, true, false, cond, List, [], ◌∷◌, length, map, min, Option, Some, None, refl, sym, ap, arith, ◌∙◌, inl, inr}
 use Rattle.std.specs.Prelude.{not, nat_eq}
 use Rattle.std.specs.List.{filter, flat_map, sum_by, zip}
 use Rattle.std.proofs.lemmas.Bool.{cases_eq}
 use Rattle.std.proofs.lemmas.Bool.Decides.{nat_tests}
-use Rattle.std.proofs.lemmas.List.Sums.{sum_by-cons}
 use Rattle.std.proofs.lemmas.List.Concat.{length-flat_map}
 use Rattle.std.proofs.lemmas.Slice.Zip.{length-zip}
 use Rattle.hive_model.specs.declared.pieces.Colour.{Colour}
@@ -12,59 +11,21 @@ use Rattle.hive_model.specs.declared.pieces.Colour.TheVariants.{White, Black}
 use Rattle.hive_model.specs.Lists.{count_from}
 use Rattle.hive_model.proofs.GetLemmas.{length-count_from}
 use Rattle.match_core.specs.declared.verdict.Verdict.{Verdict}
+use Rattle.tournament_core.specs.Schedules.{numbers}
+use Rattle.tournament_core.specs.Ends.{Each}
+use Rattle.tournament_core.proofs.Eachs.{IsFrom, each-append, each-number, each-turned}
+use Rattle.tournament_core.proofs.Numbers.{one-of}
+use Rattle.tournament_core.proofs.SumLaws.{sum-plus, sum-same, sum-swap}
 use Rattle.cup.specs.declared.pairing.Pairing.{Pairing}
-use Rattle.cup.specs.Cup.{numbers, row, pairings, winner, worth, points_of, gets, Each}
+use Rattle.cup.specs.Cup.{row, pairings, winner, worth, points_of, gets}
 use Rattle.cup.specs.Laws.{PointsAddUp}
 use Rattle.cup.proofs.Games.{row_of}
 
--- ---- sums
-
-sum-zero : {A : Type 0} (xs : List A) → sum_by (λ x. 0) xs ≡ 0
-sum-zero [] = refl
-sum-zero (x ∷ xs) = let first = sum_by-cons (λ y. 0) x xs in let rest = sum-zero xs in omega (arith, first, rest)
-
-sum-plus : {A : Type 0} (f g : A → ℕ) (xs : List A) → sum_by f xs + sum_by g xs ≡ sum_by (λ x. f x + g x) xs
-sum-plus f g [] = refl
-sum-plus f g (x ∷ xs) =
-    let a = sum_by-cons f x xs in
-    let b = sum_by-cons g x xs in
-    let c = sum_by-cons (λ y. f y + g y) x xs in
-    let rest = sum-plus f g xs in
-    omega (arith, a, b, c, rest)
-
--- a sum of sums in either order
-sum-swap : {A B : Type 0} (f : A → B → ℕ) (xs : List A) (ys : List B) → sum_by (λ a. sum_by (f a) ys) xs ≡ sum_by (λ b. sum_by (λ a. f a b) xs) ys
-sum-swap f [] ys = sym (sum-zero ys)
-sum-swap f (x ∷ xs) ys =
-    let more : (b : _) → sum_by (λ a. f a b) (x ∷ xs) ≡ f x b + sum_by (λ a. f a b) xs = λ b. sum_by-cons (λ a. f a b) x xs in
-    sum_by-cons (λ a. sum_by (f a) ys) x xs
-    ∙ ap (λ n. sum_by (f x) ys + n) (sum-swap f xs ys)
-    ∙ sum-plus (f x) (λ b. sum_by (λ a. f a b) xs) ys
-    ∙ sym (λ i. sum_by (λ b. more b i) ys)
-
-times-more : (n k : ℕ) → (n + 1) * k ≡ k + n * k
-times-more n k = omega arith
-
-sum-same : {A : Type 0} (f : A → ℕ) (k : ℕ) (xs : List A) → Each (λ x. f x ≡ k) xs → sum_by f xs ≡ length xs * k
-sum-same f k [] each = omega arith
-sum-same f k (x ∷ xs) each =
-    let rest = sum-same f k xs each.1 in
-    let more : (length xs + 1) * k ≡ k + length xs * k = times-more (length xs) k in
-    sum_by-cons f x xs ∙ ap (λ n. n + sum_by f xs) each.0 ∙ ap (λ n. k + n) rest ∙ sym more ∙ ap (λ n. n * k) (omega arith)
-
 -- ---- each of them
-
-each-append : {A : Type 0} (P : A → Type 0) (xs ys : List A) → Each P xs → Each P ys → Each P (xs ++ ys)
-each-append P [] ys a b = b
-each-append P (x ∷ xs) ys a b = (a.0, each-append P xs ys a.1 b)
 
 each-flat : {A B : Type 0} (P : A → Type 0) (Q : B → Type 0) (f : A → List B) → ((x : A) → P x → Each Q (f x)) → (xs : List A) → Each P xs → Each Q (flat_map f xs)
 each-flat P Q f step [] each = tt
 each-flat P Q f step (x ∷ xs) each = each-append Q (f x) (flat_map f xs) (step x each.0) (each-flat P Q f step xs each.1)
-
-each-turned : {A : Type 0} (P Q : A → Type 0) (xs : List A) → ((x : A) → P x → Q x) → Each P xs → Each Q xs
-each-turned P Q [] f each = tt
-each-turned P Q (x ∷ xs) f each = (f x each.0, each-turned P Q xs f each.1)
 
 each-zip : {A B : Type 0} (P : A → Type 0) (xs : List A) (ys : List B) → Each P xs → Each (λ g. P g.0) (zip xs ys)
 each-zip P [] ys each = tt
@@ -72,14 +33,6 @@ each-zip P (x ∷ xs) [] each = tt
 each-zip P (x ∷ xs) (y ∷ ys) each = (each.0, each-zip P xs ys each.1)
 
 -- ---- numbers of engines
-
-abbrev IsFrom : ℕ → ℕ → ℕ → Type 0
-IsFrom a k j = (a ≤ j) × (j < a + k)
-
-each-number : (k a : ℕ) → Each (IsFrom a k) (count_from a k)
-each-number zero a = tt
-each-number (suc k) a =
-    ((omega arith, omega arith), each-turned (IsFrom (a + 1) k) (IsFrom a (suc k)) (count_from (a + 1) k) (λ j in_. (omega (arith, in_.0), omega (arith, in_.1))) (each-number k (a + 1)))
 
 abbrev IsInCup : ℕ → Pairing → Type 0
 IsInCup n g = IsFrom 1 n g.white × IsFrom 1 n g.black
@@ -105,7 +58,7 @@ row-whole i (suc k) a low =
     ∙ ap suc (row-whole i k (a + 1) (omega (arith, low)))
 
 row-length : (i k a : ℕ) → IsFrom a k i → length (row_of i (count_from a k)) ≡ k - 1
-row-length i zero a in_ = absurd (omega (arith, in_.0, in_.1))
+row-length i zero a in_ = absurd (omega (arith, in_.low, in_.high))
 row-length i (suc k) a in_ = elim (cases_eq a i) [
   | inl same ↦
       let is : nat_eq a i ≡ true = grind (arith, nat_tests) in
@@ -113,9 +66,9 @@ row-length i (suc k) a in_ = elim (cases_eq a i) [
       ∙ row-whole i k (a + 1) (omega (arith, same)) ∙ omega arith
   | inr other ↦
       let not_ : nat_eq a i ≡ false = grind (arith, nat_tests) in
-      let rest = row-length i k (a + 1) (omega (arith, other, in_.0), omega (arith, in_.1)) in
+      let rest = row-length i k (a + 1) (record { low = omega (arith, other, in_.low); high = omega (arith, in_.high) }) in
       ap (λ t. length {A = Pairing} (map (λ j. record { white = i; black = j }) (cond (not t) (a ∷ filter (λ j. not (nat_eq j i)) (count_from (a + 1) k)) (filter (λ j. not (nat_eq j i)) (count_from (a + 1) k))))) not_
-      ∙ ap suc rest ∙ omega (arith, other, in_.0, in_.1)
+      ∙ ap suc rest ∙ omega (arith, other, in_.low, in_.high)
 ]
 
 pub length-pairings : (n : ℕ) → length (pairings n) ≡ n * (n - 1)
@@ -138,29 +91,6 @@ few-games (suc (suc (suc (suc (suc (suc (suc (suc (suc n))))))))) h = absurd (om
 
 -- ---- the points
 
-none-of : (w x k a : ℕ) → w < a → sum_by (λ e. cond (nat_eq w e) x 0) (count_from a k) ≡ 0
-none-of w x zero a low = refl
-none-of w x (suc k) a low =
-    let other : nat_eq w a ≡ false = grind (arith, nat_tests) in
-    let first : cond (nat_eq w a) x 0 ≡ 0 = ap (λ t. cond t x 0) other in
-    let rest = none-of w x k (a + 1) (omega (arith, low)) in
-    sum_by-cons (λ e. cond (nat_eq w e) x 0) a (count_from (a + 1) k) ∙ omega (arith, first, rest)
-
-one-of : (w x k a : ℕ) → IsFrom a k w → sum_by (λ e. cond (nat_eq w e) x 0) (count_from a k) ≡ x
-one-of w x zero a in_ = absurd (omega (arith, in_.0, in_.1))
-one-of w x (suc k) a in_ = elim (cases_eq w a) [
-  | inl same ↦
-      let is : nat_eq w a ≡ true = grind (arith, nat_tests) in
-      let first : cond (nat_eq w a) x 0 ≡ x = ap (λ t. cond t x 0) is in
-      let rest = none-of w x k (a + 1) (omega (arith, same)) in
-      sum_by-cons (λ e. cond (nat_eq w e) x 0) a (count_from (a + 1) k) ∙ omega (arith, first, rest)
-  | inr other ↦
-      let not_ : nat_eq w a ≡ false = grind (arith, nat_tests) in
-      let first : cond (nat_eq w a) x 0 ≡ 0 = ap (λ t. cond t x 0) not_ in
-      let rest = one-of w x k (a + 1) (omega (arith, other, in_.0), omega (arith, in_.1)) in
-      sum_by-cons (λ e. cond (nat_eq w e) x 0) a (count_from (a + 1) k) ∙ omega (arith, first, rest)
-]
-
 worth-both : (o : Option Colour) → worth o White + worth o Black ≡ 2
 worth-both None = refl
 worth-both (Some White) = refl
@@ -170,8 +100,8 @@ worth-both (Some Black) = refl
 game-total : (n : ℕ) (g : Pairing × Verdict) → IsInCup n g.0 → sum_by (λ e. gets e g) (numbers n) ≡ 2
 game-total n g in_ =
     sym (sum-plus (λ e. cond (nat_eq g.0.white e) (points_of g.1 White) 0) (λ e. cond (nat_eq g.0.black e) (points_of g.1 Black) 0) (numbers n))
-    ∙ ap (λ k. k + sum_by (λ e. cond (nat_eq g.0.black e) (points_of g.1 Black) 0) (numbers n)) (one-of g.0.white (points_of g.1 White) n 1 in_.0)
-    ∙ ap (λ k. points_of g.1 White + k) (one-of g.0.black (points_of g.1 Black) n 1 in_.1)
+    ∙ ap (λ k. k + sum_by (λ e. cond (nat_eq g.0.black e) (points_of g.1 Black) 0) (numbers n)) (one-of (λ e. points_of g.1 White) g.0.white n 1 in_.0)
+    ∙ ap (λ k. points_of g.1 White + k) (one-of (λ e. points_of g.1 Black) g.0.black n 1 in_.1)
     ∙ worth-both (winner g.1)
 
 pub points-add-up : PointsAddUp

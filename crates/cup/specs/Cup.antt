@@ -6,18 +6,15 @@ use Rattle.hive_model.specs.declared.pieces.Colour.{Colour}
 use Rattle.hive_model.specs.declared.pieces.Colour.TheVariants.{White, Black}
 use Rattle.hive_model.specs.declared.places.State.{State}
 use Rattle.hive_model.specs.declared.places.State.TheVariants.{NotStarted, InProgress, Draw, WhiteWins, BlackWins}
-use Rattle.hive_model.specs.Lists.{count_from}
 use Rattle.hive_model.specs.Pieces.{is_colour, other_side}
 use Rattle.match_core.specs.declared.verdict.Verdict.{Verdict}
 use Rattle.match_core.specs.declared.verdict.Verdict.TheVariants.{Rules, Limit, Forfeit}
+use Rattle.tournament_core.specs.Schedules.{numbers}
+use Rattle.tournament_core.specs.Ends.{Each}
 use Rattle.cup.specs.declared.pairing.Pairing.{Pairing}
 use Rattle.cup.specs.declared.standing.Standing.{Standing}
 
 -- Games
-
--- the numbers of n engines, from 1 on
-abbrev pub numbers : ℕ → List ℕ
-numbers n = count_from 1 n
 
 -- the games in which one engine plays white
 abbrev pub row : ℕ → ℕ → List Pairing
@@ -75,11 +72,6 @@ standing n vs e =
 -- more points, or as many and the lower number
 abbrev pub is_ahead : Standing → Standing → Bool
 is_ahead a b = nat_lt b.points a.points || nat_eq a.points b.points && nat_lt a.engine b.engine
-
--- a fact for each element of a list
-abbrev pub Each : {A : Type 0} → (A → Type 0) → List A → Type 0
-Each P [] = Unit {0}
-Each P (x ∷ xs) = P x × Each P xs
 
 -- each is ahead of all behind it
 abbrev pub IsInOrder : List Standing → Type 0

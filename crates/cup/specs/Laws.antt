@@ -2,7 +2,8 @@
 use Rattle.std.specs.Prelude.{◌≡◌, ℕ, ◌*◌, ◌-◌, List, length}
 use Rattle.std.specs.List.{sum_by}
 use Rattle.match_core.specs.declared.verdict.Verdict.{Verdict}
-use Rattle.cup.specs.Cup.{numbers, points}
+use Rattle.tournament_core.specs.Schedules.{numbers}
+use Rattle.cup.specs.Cup.{points}
 
 -- with n engines the points of all of them add up to twice n (n - 1)
 abbrev pub PointsAddUp : Type 0

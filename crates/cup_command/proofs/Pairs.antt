@@ -1,29 +1,16 @@
 -- The games of a cup are of two different engines each.
-use Rattle.std.proofs.Common.{◌≡◌, ℕ, zero, suc, ◌+◌, ◌<◌, ◌≤◌, true, false, cond, List, [], ◌∷◌, ◌++◌, length, map, get_or, refl, arith}
+use Rattle.std.proofs.Common.{◌≡◌, ℕ, zero, suc, ◌<◌, true, false, cond, List, [], ◌∷◌, length, map, get_or, refl, arith}
 use Rattle.std.specs.Prelude.{not, nat_eq}
 use Rattle.std.specs.List.{filter, flat_map}
 use Rattle.std.proofs.lemmas.Bool.Decides.{nat_tests}
-use Rattle.hive_model.specs.Lists.{count_from}
+use Rattle.tournament_core.specs.Schedules.{numbers}
+use Rattle.tournament_core.specs.Ends.{Each}
+use Rattle.tournament_core.proofs.Eachs.{IsFrom, each-append, each-number}
 use Rattle.cup.specs.declared.pairing.Pairing.{Pairing}
-use Rattle.cup.specs.Cup.{Each, numbers, pairings, row}
+use Rattle.cup.specs.Cup.{pairings, row}
 use Rattle.cup_command.specs.Links.{IsPaired}
 
-record IsWithin (from count number : ℕ) : Type 0 where
-  pub low : from ≤ number
-  pub high : number < from + count
-
-each-within : (k a : ℕ) → Each (IsWithin a k) (count_from a k)
-each-within zero a = tt
-each-within (suc k) a = (record { low = omega arith; high = omega arith }, wider (count_from (a + 1) k) (each-within k (a + 1))) where
-  wider : (xs : List ℕ) → Each (IsWithin (a + 1) k) xs → Each (IsWithin a (suc k)) xs
-  wider [] each = tt
-  wider (x ∷ xs) each = (record { low = omega (arith, each.0.low); high = omega (arith, each.0.high) }, wider xs each.1)
-
-each-append : {A : Type 0} (P : A → Type 0) (xs ys : List A) → Each P xs → Each P ys → Each P (xs ++ ys)
-each-append P [] ys a b = b
-each-append P (x ∷ xs) ys a b = (a.0, each-append P xs ys a.1 b)
-
-in-row : (n i : ℕ) → IsWithin 1 n i → (xs : List ℕ) → Each (IsWithin 1 n) xs → Each (IsPaired n) (map (λ j. record { white = i; black = j }) (filter (λ j. not (nat_eq j i)) xs))
+in-row : (n i : ℕ) → IsFrom 1 n i → (xs : List ℕ) → Each (IsFrom 1 n) xs → Each (IsPaired n) (map (λ j. record { white = i; black = j }) (filter (λ j. not (nat_eq j i)) xs))
 in-row n i in_ [] each = tt
 in-row n i in_ (j ∷ xs) each =
     elim (nat_eq j i) as (λ t. nat_eq j i ≡ t → Each (IsPaired n) (map (λ k. record { white = i; black = k }) (cond (not t) (j ∷ filter (λ k. not (nat_eq k i)) xs) (filter (λ k. not (nat_eq k i)) xs)))) [
@@ -40,9 +27,9 @@ in-row n i in_ (j ∷ xs) each =
       )
     ] refl
 
-in-rows : (n : ℕ) (ys : List ℕ) → Each (IsWithin 1 n) ys → Each (IsPaired n) (flat_map (row n) ys)
+in-rows : (n : ℕ) (ys : List ℕ) → Each (IsFrom 1 n) ys → Each (IsPaired n) (flat_map (row n) ys)
 in-rows n [] each = tt
-in-rows n (i ∷ ys) each = each-append (IsPaired n) (row n i) (flat_map (row n) ys) (in-row n i each.0 (numbers n) (each-within n 1)) (in-rows n ys each.1)
+in-rows n (i ∷ ys) each = each-append (IsPaired n) (row n i) (flat_map (row n) ys) (in-row n i each.0 (numbers n) (each-number n 1)) (in-rows n ys each.1)
 
 each-at : {A : Type 0} (P : A → Type 0) (xs : List A) (i : ℕ) (d : A) → Each P xs → i < length xs → P (get_or xs i d)
 each-at P [] i d each low = absurd (omega (arith, low))
@@ -51,4 +38,4 @@ each-at P (x ∷ xs) (suc i) d each low = each-at P xs i d each.1 (omega (arith,
 
 -- the game at a place
 pub paired-at : (n i : ℕ) (d : Pairing) → i < length (pairings n) → IsPaired n (get_or (pairings n) i d)
-paired-at n i d low = each-at (IsPaired n) (pairings n) i d (in-rows n (numbers n) (each-within n 1)) low
+paired-at n i d low = each-at (IsPaired n) (pairings n) i d (in-rows n (numbers n) (each-number n 1)) low

@@ -1,13 +1,10 @@
-use Rattle.std.proofs.Common.{length, ap, ◌∙◌, sym, subst, Some, Ok, Err, Result, IfOk}
+use Rattle.std.proofs.Common.{length, ap, ◌∙◌, sym, subst, Some}
 use Rattle.std.proofs.lemmas.List.{length-map}
+use Rattle.std.proofs.lemmas.Result.{IfOk-weaker}
 use Rattle.cup.specs.Cup.{AreStandings}
 use Rattle.cup.proofs.Totals.{length-pairings}
 use Rattle.cup.specs.Played.{pairing, verdict_of}
 use Rattle.cup.proofs.played.standings_of.Goals as goal
-
-if-ok : {A E : Type 0} (P Q : A → Type 0) → ((a : A) → P a → Q a) → (r : Result A E) → IfOk r P → IfOk r Q
-if-ok P Q f (Ok a) p = f a p
-if-ok P Q f (Err e) p = tt
 
 pub standings-requires-clause-all : goal.standings-requires-clause-all
 standings-requires-clause-all g c =
@@ -23,6 +20,6 @@ standings-requires-clause-all g c =
 
 pub returns : goal.returns
 returns g c =
-    if-ok (λ list. AreStandings c.args.engines c.as_slice.result.now list) _
+    IfOk-weaker c.standings.result (λ list. AreStandings c.args.engines c.as_slice.result.now list) _
     (λ list told. (c.in_ok-verdicts.verdicts.items, c.in_ok-verdicts.ensures, subst (λ vs. AreStandings c.args.engines vs list) c.as_slice.ensures.value told))
-    c.standings.result c.standings.ensures
+    c.standings.ensures
