@@ -1,15 +1,18 @@
 -- An audit under way: which lines were read, and which bytes were written.
-use Rattle.std.proofs.Common.{◌≡◌, ℕ, suc, ◌+◌, ◌<◌, ◌≤◌, true, false, cond, Bool, List, [], ◌∷◌, ◌++◌, length, take, None, Some, Ok, Err, refl, sym, ◌∙◌, ap, subst, inl, inr, append_assoc, arith}
+use Rattle.std.proofs.Common.{◌≡◌, ℕ, suc, ◌+◌, ◌<◌, ◌≤◌, true, false, cond, Bool, List, [], ◌∷◌, ◌++◌, length, take, None, Some, refl, sym, ◌∙◌, ap, subst, inl, inr, append_assoc, arith}
 use Rattle.std.specs.declared.option.Option.{Option}
 use Rattle.std.specs.Option.{option_map}
 use Rattle.std.specs.declared.result.Result.{Result}
-use Rattle.std.specs.Result.{IfOk}
 use Rattle.std.proofs.lemmas.Option.{same_Some}
+use Rattle.std.proofs.lemmas.List.{append-nil}
+use Rattle.std.proofs.Math.Seq.{take-length}
 use Rattle.io_edge.specs.Outside.{Told, Rose, behind}
 use Rattle.io_edge.specs.Lines.{Line as Mark, TooLong, ToldLines, LongAhead, NoneAhead, lines}
+use Rattle.io_edge.proofs.Told.{behind-behind}
 use Rattle.line_feed.specs.Feed.{Reading, fresh}
 use Rattle.line_feed.specs.Ahead.{ahead_of}
 use Rattle.line_feed.proofs.AheadLemmas.{ahead_begin}
+use Rattle.command_runs.proofs.WrittenLemmas.{behind_none}
 use Rattle.audit_core.specs.declared.plan.Plan.{Plan}
 use Rattle.audit_core.specs.declared.plan.Stage.{Stage}
 use Rattle.audit_core.specs.declared.plan.Stage.TheVariants.{Greeting, Beginning, Listing, Playing, Undoing, Reviewing, Trying, Relisting, Loading, Finishing, Over}
@@ -34,20 +37,8 @@ none_before : (a : ToldLines) → a ≡ option_map (λ (more : List Mark). [] ++
 none_before None = refl
 none_before (Some xs) = refl
 
-append-none : (xs : List ℕ) → xs ++ [] ≡ xs
-append-none [] = refl
-append-none (x ∷ xs) = ap (λ (r : List ℕ). x ∷ r) (append-none xs)
-
-behind-none : (w : Told) → w ≡ behind w []
-behind-none None = refl
-behind-none (Some xs) = ap (λ (r : List ℕ). Some r) (sym (append-none xs))
-
-behind-twice : (w : Told) (x y : List ℕ) → behind (behind w x) y ≡ behind w (x ++ y)
-behind-twice None x y = refl
-behind-twice (Some xs) x y = ap (λ (r : List ℕ). Some r) (append_assoc xs x y)
-
 pub progress_begin : (plan : Plan) (s : AuditState) (a : ToldLines) (w : Told) → s ≡ start plan → Progress plan s a a w w
-progress_begin plan s a w e = record { marks = []; here = e; left = none_before a; wrote = behind-none w }
+progress_begin plan s a w e = record { marks = []; here = e; left = none_before a; wrote = behind_none w }
 
 -- One line more
 
@@ -56,7 +47,7 @@ after_all-snoc s [] mark = refl
 after_all-snoc s (m ∷ ms) mark = after_all-snoc (step s m) ms mark
 
 sent_over-snoc : (s : AuditState) (marks : List Mark) (mark : Mark) → sent_over s (marks ++ mark ∷ []) ≡ sent_over s marks ++ line_now (after_all s marks)
-sent_over-snoc s [] mark = append-none (line_now s)
+sent_over-snoc s [] mark = append-nil (line_now s)
 sent_over-snoc s (m ∷ ms) mark = ap (λ (r : List ℕ). line_now s ++ r) (sent_over-snoc (step s m) ms mark) ∙ sym (append_assoc (line_now s) (sent_over (step s m) ms) (line_now (after_all (step s m) ms)))
 
 left-snoc : (marks : List Mark) (mark : Mark) (old new : ToldLines) → old ≡ option_map (λ left. mark ∷ left) new → option_map (λ more. marks ++ more) old ≡ option_map (λ more. (marks ++ mark ∷ []) ++ more) new
@@ -69,7 +60,7 @@ progress_on plan s t a0 a1 a2 w0 w1 w2 p (mark, next, ahead, wrote) = record {
   here = next ∙ (ap (λ (x : AuditState). step x mark) p.here ∙ sym (after_all-snoc (start plan) p.marks mark));
   left = p.left ∙ left-snoc p.marks mark a1 a2 ahead;
   wrote = wrote ∙ (ap (λ (x : Told). behind x (line_now s)) p.wrote
-      ∙ (behind-twice w0 (sent_over (start plan) p.marks) (line_now s)
+      ∙ (behind-behind w0 (sent_over (start plan) p.marks) (line_now s)
       ∙ (ap (λ (x : AuditState). behind w0 (sent_over (start plan) p.marks ++ line_now x)) p.here
       ∙ ap (behind w0) (sym (sent_over-snoc (start plan) p.marks mark)))));
 }
@@ -139,12 +130,8 @@ sent-all-over plan s marks more e o =
     let there : after_all (start plan) (marks ++ more) ≡ s = after_all-append (start plan) marks more ∙ (ap (λ (x : AuditState). after_all x more) (sym e) ∙ stays s more o) in
     let rest : sent_over (after_all (start plan) marks) more ≡ [] = ap (λ (x : AuditState). sent_over x more) (sym e) ∙ sent-over s more o in
     let last : line_now (after_all (start plan) (marks ++ more)) ≡ [] = ap line_now there ∙ no_line s o in
-    let front : sent_over (start plan) (marks ++ more) ≡ sent_over (start plan) marks = sent_over-append (start plan) marks more ∙ (ap (λ (r : List ℕ). sent_over (start plan) marks ++ r) rest ∙ append-none (sent_over (start plan) marks)) in
-    sym (ap (λ (r : List ℕ). sent_over (start plan) (marks ++ more) ++ r) last ∙ (append-none (sent_over (start plan) (marks ++ more)) ∙ front))
-
-take-all : (xs : List ℕ) → take (length xs) xs ≡ xs
-take-all [] = refl
-take-all (x ∷ xs) = ap (λ (r : List ℕ). x ∷ r) (take-all xs)
+    let front : sent_over (start plan) (marks ++ more) ≡ sent_over (start plan) marks = sent_over-append (start plan) marks more ∙ (ap (λ (r : List ℕ). sent_over (start plan) marks ++ r) rest ∙ append-nil (sent_over (start plan) marks)) in
+    sym (ap (λ (r : List ℕ). sent_over (start plan) (marks ++ more) ++ r) last ∙ (append-nil (sent_over (start plan) (marks ++ more)) ∙ front))
 
 all-marks : (marks : List Mark) → marks ++ [] ≡ marks
 all-marks [] = refl
@@ -159,7 +146,7 @@ ran_over plan t a w0 w p o = record {
   ends = inl (audit-over plan t p.marks [] p.here o ∙ ap (audit_of plan) (all-marks p.marks));
   sent =
       let all : sent_over (start plan) p.marks ≡ sent_in plan p.marks = sent-all-over plan t p.marks [] p.here o ∙ ap (sent_in plan) (all-marks p.marks) in
-      (length (sent_in plan p.marks), p.wrote ∙ (ap (behind w0.written) (all ∙ sym (take-all (sent_in plan p.marks)))));
+      (length (sent_in plan p.marks), p.wrote ∙ (ap (behind w0.written) (all ∙ sym (take-length (sent_in plan p.marks)))));
   told = λ bytes e calm.
       let f = first_of plan t a w0.written w.written w0.rest p bytes e in
       record {
@@ -191,7 +178,7 @@ broken-over s t fault e = ap (λ (x : AuditState). is_ended x.stage) e
 sent-last : (plan : Plan) (s : AuditState) (marks : List Mark) (w0 w1 w2 : Told) → s ≡ after_all (start plan) marks → w1 ≡ behind w0 (sent_over (start plan) marks) → w2 ≡ behind w1 (line_now s) → w2 ≡ behind w0 (sent_in plan marks)
 unfolding sent_in
 sent-last plan s marks w0 w1 w2 e f g =
-    g ∙ (ap (λ (x : Told). behind x (line_now s)) f ∙ (behind-twice w0 (sent_over (start plan) marks) (line_now s) ∙ ap (λ (x : AuditState). behind w0 (sent_over (start plan) marks ++ line_now x)) e))
+    g ∙ (ap (λ (x : Told). behind x (line_now s)) f ∙ (behind-behind w0 (sent_over (start plan) marks) (line_now s) ∙ ap (λ (x : AuditState). behind w0 (sent_over (start plan) marks ++ line_now x)) e))
 
 closed : (plan : Plan) (s : AuditState) (marks : List Mark) → s ≡ after_all (start plan) marks → is_ended s.stage ≡ false → break_off s Ended ≡ audit_of plan marks
 unfolding audit_of
@@ -210,7 +197,7 @@ ran_out plan s u t a1 a2 w0 w w1 p o (next, none, wrote) e =
       marks = p.marks;
       first = λ bytes f. let x = first_of plan s a1 w0.written w1 w0.rest p bytes f in (x.0, x.2);
       ends = inl at;
-      sent = (length (sent_in plan p.marks), bytes_sent ∙ ap (behind w0.written) (sym (take-all (sent_in plan p.marks))));
+      sent = (length (sent_in plan p.marks), bytes_sent ∙ ap (behind w0.written) (sym (take-length (sent_in plan p.marks))));
       told = λ bytes f calm.
           let x = first_of plan s a1 w0.written w1 w0.rest p bytes f in
           let same : p.marks ≡ lines bytes = sym (x.2 ∙ (ap (λ (r : List Mark). p.marks ++ r) (nothing_left a1 x.0 none x.1) ∙ all-marks p.marks)) in
@@ -227,7 +214,7 @@ ran_unread plan s u t a1 a2 w0 w w1 p (next, same, wrote) e rose = record {
   marks = p.marks;
   first = λ bytes f. let x = first_of plan s a1 w0.written w1 w0.rest p bytes f in (x.0, x.2);
   ends = inr (inl (e ∙ (ap (λ (x : AuditState). break_off x (unread plan)) next ∙ ap (λ (x : AuditState). break_off x (unread plan)) p.here), rose));
-  sent = (length (sent_in plan p.marks), sent-last plan s p.marks w0.written w1 w.written p.here p.wrote wrote ∙ ap (behind w0.written) (sym (take-all (sent_in plan p.marks))));
+  sent = (length (sent_in plan p.marks), sent-last plan s p.marks w0.written w1 w.written p.here p.wrote wrote ∙ ap (behind w0.written) (sym (take-length (sent_in plan p.marks))));
   told = λ bytes f calm. absurd (calm (inl rose));
 }
 
@@ -240,7 +227,7 @@ sent-front : (plan : Plan) (s : AuditState) (marks : List Mark) (w0 w1 w2 : Told
 unfolding sent_in
 sent-front plan s marks w0 w1 w2 n e f g = (
   length (sent_over (start plan) marks) + n,
-  g ∙ (ap (λ (x : Told). behind x (take n (line_now s))) f ∙ (behind-twice w0 (sent_over (start plan) marks) (take n (line_now s))
+  g ∙ (ap (λ (x : Told). behind x (take n (line_now s))) f ∙ (behind-behind w0 (sent_over (start plan) marks) (take n (line_now s))
       ∙ (ap (λ (x : AuditState). behind w0 (sent_over (start plan) marks ++ take n (line_now x))) e
       ∙ ap (behind w0) (sym (take-behind (sent_over (start plan) marks) (line_now (after_all (start plan) marks)) n))))),
 )
@@ -255,9 +242,3 @@ ran_unsent plan s u t a1 a2 w0 w w1 p (next, same, (n, low, wrote)) e rose = rec
   sent = sent-front plan s p.marks w0.written w1 w.written n p.here p.wrote wrote;
   told = λ bytes f calm. absurd (calm (inr rose));
 }
-
--- what a run answers
-
-pub ok_map : {X E : Type 0} (r : Result X E) (P Q : X → Type 0) → ((x : X) → P x → Q x) → IfOk r P → IfOk r Q
-ok_map (Ok x) P Q f h = f x h
-ok_map (Err e) P Q f h = tt

@@ -1,11 +1,10 @@
 -- Moves that are taken from lists.
-use Rattle.std.proofs.Common.{◌≡◌, ℕ, ◌+◌, ◌%◌, Bool, true, false, List, [], ◌∷◌, ◌++◌, length, take, get_or, ◌<◌, None, Some, refl, sym, ◌∙◌, ap, subst, add-one}
+use Rattle.std.proofs.Common.{◌≡◌, ℕ, ◌%◌, Bool, true, false, List, [], ◌∷◌, length, get_or, ◌<◌, None, Some, refl, sym, ◌∙◌, ap, subst}
 use Rattle.std.specs.Prelude.{◌||◌, nat_eq, if◌then◌else◌}
 use Rattle.std.specs.declared.option.Option.{Option}
 use Rattle.std.specs.Option.{IfSome}
 use Rattle.std.specs.List.{filter, slice_get}
-use Rattle.std.proofs.lemmas.Option.{slice_get_within, get_or_from_slice_get, slice_get-get_or}
-use Rattle.std.proofs.Math.Seq.{take-suc}
+use Rattle.std.proofs.lemmas.Option.{slice_get-get_or}
 use Rattle.hive_model.specs.declared.places.Move.{Move}
 use Rattle.hive_model.specs.Lists.{IsOn}
 use Rattle.hive_model.specs.Positions.{Position}
@@ -14,11 +13,6 @@ use Rattle.hive_model.proofs.GetLemmas.{on-at}
 use Rattle.hive_model.proofs.Floods.{on_filter}
 use Rattle.grow_game.specs.Growing.{drawn, word, next_state}
 use Rattle.audit_core.specs.Drawing.{is_wanted, wanted_moves, picked_from, drawn_of}
-
--- the moves before one place, and that one
-pub taken_next : (ms : List Move) (i : ℕ) (m : Move) → slice_get ms i ≡ Some m → take (i + 1) ms ≡ take i ms ++ m ∷ []
-taken_next ms i m here =
-    rw add-one (take-suc ms i m (slice_get_within ms i m here) ∙ ap (λ (k : Move). take i ms ++ k ∷ []) (get_or_from_slice_get ms i m m here))
 
 picked_at : (b : Bool) (rare all : List Move) (m : Move) → ((m : Move) → IsOn rare m → IsOn all m) → IsOn (if b then rare else all) m → IsOn all m
 picked_at true rare all m sub on = sub m on

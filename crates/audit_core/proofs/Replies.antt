@@ -2,7 +2,7 @@
 use Rattle.std.proofs.Common.{◌≡◌, ℕ, List, None, Some, Ok, Err, sym, ◌∙◌, ap}
 use Rattle.std.specs.declared.option.Option.{Option}
 use Rattle.std.specs.declared.result.Result.{Result}
-use Rattle.std.specs.Result.{IfOk, OnOk}
+use Rattle.std.specs.Result.{OnOk}
 use Rattle.hive_model.specs.declared.places.Move.{Move}
 use Rattle.audit_core.specs.declared.findings.Finding.{Finding}
 use Rattle.audit_core.specs.Drawing.{tried_of}
@@ -12,10 +12,6 @@ use Rattle.audit_core.specs.AuditState.{AuditState, drawn_now, position_before, 
 pub on_ok : {X E : Type 0} (r : Result X E) (P Q : Type 0) → (P → Q) → OnOk r P → OnOk r Q
 on_ok (Ok x) P Q f h = f h
 on_ok (Err e) P Q f h = tt
-
-pub ok_map : {X E : Type 0} (r : Result X E) (P Q : X → Type 0) → ((x : X) → P x → Q x) → IfOk r P → IfOk r Q
-ok_map (Ok x) P Q f h = f x h
-ok_map (Err e) P Q f h = tt
 
 -- a list was counted, a move drawn, and that is played
 pub drawn_so : (s0 s1 s2 s3 : AuditState) (o : Option Move) → s1 ≡ count s0 → s2 ≡ advance s1 → o ≡ drawn_now s1 → s3 ≡ play_drawn s2 o → s3 ≡ play_drawn (advance (count s0)) (drawn_now s0)

@@ -1,14 +1,14 @@
 -- How a run ends.
-use Rattle.std.proofs.Common.{◌≡◌, ℕ, zero, suc, List, [], ◌∷◌, ◌++◌, ap, sym, ◌∙◌, subst, inl, inr, Some, None, arith, append_assoc}
-use Rattle.std.specs.Prelude.{Option, Ok, Err, slice_get}
+use Rattle.std.proofs.Common.{◌≡◌, ℕ, List, [], ◌∷◌, ◌++◌, ap, sym, ◌∙◌, subst, inl, inr, Some, None, arith, append_assoc}
+use Rattle.std.specs.Prelude.{Option, Ok, Err}
 use Rattle.std.proofs.lemmas.List.{append-nil}
 use Rattle.io_edge.specs.Outside.{Told, behind}
 use Rattle.hive_model.specs.declared.places.Move.{Move}
 use Rattle.hive_model.specs.Courses.{Course, position}
 use Rattle.hive_model.specs.Legal.{moves}
 use Rattle.io_edge.specs.Lines.{Line, lines}
-use Rattle.hive_model.specs.Lists.{IsOn}
 use Rattle.hive_model.specs.Positions.{Position}
+use Rattle.hive_model.proofs.GetLemmas.{on-at}
 use Rattle.game_text.specs.declared.parsed.Parsed.{Parsed}
 use Rattle.opening_book.specs.Book.{IsBook, BookGame}
 use Rattle.command_runs.specs.Answered.{IsUnanswered}
@@ -27,15 +27,10 @@ use Rattle.book_command.specs.Text.{IsLegalHere, IsLineOf}
 
 -- The line of the book
 
-on_list : {X : Type 0} (xs : List X) (i : ℕ) (x : X) → slice_get xs i ≡ Some x → IsOn xs x
-on_list [] i x e = cc
-on_list (y ∷ xs) zero x e = inl cc
-on_list (y ∷ xs) (suc i) x e = inr (on_list xs i x e)
-
 -- the move that a book tells is legal
 pub told_legal : (p : Position) (games : List BookGame) (found : Option (Move × ℕ)) → IsBook p games found → IsLegalHere p found
 told_legal p games None book = tt
-told_legal p games (Some b) book = on_list (moves p) book.place b.0 book.move
+told_legal p games (Some b) book = on-at (moves p) book.place b.0 book.move
 
 -- the input was read to its end, and this is the line
 pub is_answer : (input : List ℕ) (rest : Told) (start : Parsed) (games : List BookGame) (course : Course) (line : List ℕ) → IsReplayOf course start → IsWhole input rest start games → IsLineOf (position course) games line → IsAnswer input rest line
@@ -105,7 +100,7 @@ books_done = answered_done about_book IsAnswer (λ input. (start : Parsed) × (g
 
 made_move : (start : Parsed) (games : List BookGame) (found : Option (Move × ℕ)) → IsBook (last_position start) games found → IsMadeMove start games found
 made_move start games None book = tt
-made_move start games (Some b) book = (on_list (moves (last_position start)) book.place b.0 book.move, book.made, book.some)
+made_move start games (Some b) book = (on-at (moves (last_position start)) book.place b.0 book.move, book.made, book.some)
 
 pub moves_legal : WrittenMovesAreLegal
 moves_legal = λ before after run input told.

@@ -31,10 +31,6 @@ values_read given items white black e w b =
 pub value_read : (o : Option (Bor (List ℕ))) (r : Bor (List ℕ)) (v : Option (List ℕ)) → o ≡ Some r → option_map (λ t. t.now) o ≡ v → Some r.now ≡ v
 value_read o r v e f = sym (ap (option_map (λ t. t.now)) e) ∙ f
 
-pub weaker-ok : {A E : Type 0} (r : Result A E) (P Q : A → Type 0) → ((a : A) → P a → Q a) → IfOk r P → IfOk r Q
-weaker-ok (Ok a) P Q f h = f a h
-weaker-ok (Err e) P Q f h = tt
-
 pub both-ok : {A E : Type 0} (r : Result A E) (P Q R : A → Type 0) → ((a : A) → P a → Q a → R a) → IfOk r P → IfOk r Q → IfOk r R
 both-ok (Ok a) P Q R f h k = f a h k
 both-ok (Err e) P Q R f h k = tt

@@ -2,7 +2,7 @@
 use Rattle.std.proofs.Common.{◌≡◌, ℕ, suc, ◌+◌, ◌<◌, ◌≤◌, List, [], ◌∷◌, ◌++◌, length, take, drop, replicate, Some, None, refl, ap, sym, ◌∙◌, arith, subst, append_assoc, length-append}
 use Rattle.std.specs.List.{flat_map}
 use Rattle.std.proofs.Math.Seq.{take-append-add}
-use Rattle.std.proofs.lemmas.List.{take-append-le}
+use Rattle.std.proofs.lemmas.List.{append-nil, take-append-le}
 use Rattle.io_edge.specs.Outside.{ToldLists, ToldPrograms, Starts}
 use Rattle.io_edge.specs.Starts.{Engines}
 use Rattle.cup.specs.declared.pairing.Pairing.{Pairing}
@@ -16,17 +16,13 @@ use Rattle.cup_command.proofs.Heard.{AllWrote, gains-all}
 
 -- Words
 
-pub append-none : {A : Type 0} (xs : List A) → xs ++ [] ≡ xs
-append-none [] = refl
-append-none (x ∷ xs) = ap (λ ys. x ∷ ys) (append-none xs)
-
 pub started-more : (told : ToldPrograms) (xs ys : List (List (List ℕ))) → started_after (started_after told xs) ys ≡ started_after told (xs ++ ys)
 started-more None xs ys = refl
 started-more (Some before) xs ys = ap (λ zs. Some zs) (append_assoc before xs ys)
 
 pub started-none : (told : ToldPrograms) → told ≡ started_after told []
 started-none None = refl
-started-none (Some before) = ap (λ zs. Some zs) (sym (append-none before))
+started-none (Some before) = ap (λ zs. Some zs) (sym (append-nil before))
 
 pub two-words : (engines : List Engine) (games : List Pairing) → length (flat_map (game_words engines) games) ≡ length games + length games
 two-words engines [] = refl
@@ -42,7 +38,7 @@ gives-none failed words there before after some same closes named = record {
   few = omega arith;
   short = λ f. some;
   starts = same;
-  closes = subst (λ links. ClosesLinks before.sent after.sent links) (sym (append-none there)) closes;
+  closes = subst (λ links. ClosesLinks before.sent after.sent links) (sym (append-nil there)) closes;
   named = named ∙ started-none before.started;
 }
 

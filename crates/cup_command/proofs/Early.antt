@@ -1,6 +1,6 @@
 -- What was started and closed where memory was wanting.
 use Rattle.std.proofs.Common.{◌≡◌, ℕ, ◌≤◌, List, [], ◌∷◌, ◌++◌, length, drop, map, Some, None, refl, ap, sym, ◌∙◌, arith, subst, append_assoc}
-use Rattle.std.proofs.lemmas.List.{length-map}
+use Rattle.std.proofs.lemmas.List.{length-map, take_all}
 use Rattle.io_edge.specs.Outside.{ToldLists}
 use Rattle.io_edge.specs.Starts.{Engines}
 use Rattle.cup.specs.declared.pairing.Pairing.{Pairing}
@@ -13,7 +13,7 @@ use Rattle.cup_command.specs.Links.{ClosesLinks, GivesUp, StartsAll, all_links}
 use Rattle.cup_command.proofs.Breaks.{starts-first, told-late, started-none, two-words}
 use Rattle.cup_command.proofs.Chains.{as-many, two-each}
 use Rattle.cup_command.proofs.Heard.{bytes_of, gains-all}
-use Rattle.cup_command.proofs.Steps.{take-all, take-none}
+use Rattle.cup_command.proofs.Steps.{take-none}
 
 -- What was got
 
@@ -80,7 +80,7 @@ early-all engines games olds shut before between after whole pairs same starts s
       count = length (cup_words engines);
       few = omega arith;
       first = record {
-        started = began ∙ (named ∙ ap (λ ws. started_after before.started ws) (sym (take-all (length (cup_words engines)) (cup_words engines) (omega arith))));
+        started = began ∙ (named ∙ ap (λ ws. started_after before.started ws) (sym (take_all (length (cup_words engines)) (cup_words engines) (omega arith))));
         taken = λ all e.
             let told = told-late (all_links olds) all before.to_come after.to_come opened e in
             (subst (λ n. n ≤ length all) many told.few, told.left ∙ ap (λ n. Some (drop n all)) many);

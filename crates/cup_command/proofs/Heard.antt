@@ -4,6 +4,7 @@ use Rattle.std.specs.Bool.{⊤}
 use Rattle.std.specs.Prelude.{if◌then◌else◌, ◌||◌}
 use Rattle.std.specs.List.{AllZip}
 use Rattle.std.proofs.lemmas.Bool.Decides.{nat_tests}
+use Rattle.std.proofs.lemmas.List.{append-nil}
 use Rattle.std.proofs.lemmas.List.Sums.{sum_by-cons}
 use Rattle.std.proofs.lemmas.Option.{same_Some}
 use Rattle.hive_model.specs.declared.pieces.Colour.TheVariants.{White, Black}
@@ -16,6 +17,7 @@ use Rattle.match_core.specs.MatchState.{MatchState}
 use Rattle.match_core.specs.Feeds.{IsFront}
 use Rattle.match_runner.specs.Runs.{IsFrontSent, IsLate, IsVerdict}
 use Rattle.match_command.specs.Match.{IsBroke, sent_in}
+use Rattle.match_command.proofs.Closing.{from_none}
 use Rattle.match_runner.specs.Wires.{HasFailed, Wire}
 use Rattle.cup.specs.Played.{IsRefereed, Job}
 use Rattle.cup_command.specs.Cup.{Gains, Heard, IsGame, PlayedBy, RoseBy, exceptions, got, said}
@@ -47,17 +49,14 @@ record AreTold (job : Job) : Type 0 where
   pub black : IsTold job.black_link
 
 -- what was written behind nothing
-from-none : (old new : Told) (bytes : List ℕ) → old ≡ Some [] → new ≡ behind old bytes → new ≡ Some bytes
-from-none old new bytes e f = f ∙ ap (λ o. behind o bytes) e
-
 got-front : (old new : Told) (all : List ℕ) → old ≡ Some [] → IsFrontSent old new all → IsFront (bytes_of new) all
-got-front old new all e (bytes, f, front) = subst (λ b. IsFront b all) (sym (ap bytes_of (from-none old new bytes e f))) front
+got-front old new all e (bytes, f, front) = subst (λ b. IsFront b all) (sym (ap bytes_of (from_none old new bytes e f))) front
 
 got-told : (old new : Told) (all : List ℕ) → old ≡ Some [] → IsFrontSent old new all → new ≡ Some (bytes_of new)
-got-told old new all e (bytes, f, front) = let g = from-none old new bytes e f in g ∙ ap (λ b. Some b) (sym (ap bytes_of g))
+got-told old new all e (bytes, f, front) = let g = from_none old new bytes e f in g ∙ ap (λ b. Some b) (sym (ap bytes_of g))
 
 got-all : (old new : Told) (all : List ℕ) → old ≡ Some [] → new ≡ behind old all → bytes_of new ≡ all
-got-all old new all e f = ap bytes_of (from-none old new all e f)
+got-all old new all e f = ap bytes_of (from_none old new all e f)
 
 -- a count that rose is not zero
 some : {before now : ℕ} → Rose before now → 0 < now
@@ -170,10 +169,6 @@ each-game setup (old ∷ olds) (new ∷ news) (t ∷ ends) ran told = (game-play
 
 -- What was got
 
-append-none : {A : Type 0} (xs : List A) → xs ++ [] ≡ xs
-append-none [] = refl
-append-none (x ∷ xs) = ap (λ ys. x ∷ ys) (append-none xs)
-
 -- each link has written just this
 abbrev pub AllWrote : List Wire → List (List ℕ) → Type 0
 AllWrote links wrote = AllZip (λ l w. l.written ≡ Some w) links wrote
@@ -181,7 +176,7 @@ AllWrote links wrote = AllZip (λ l w. l.written ≡ Some w) links wrote
 pub gains-all : (links : List Wire) (wrote : List (List ℕ)) (before now : ToldLists) → AllWrote links wrote → ClosesLinks before now links → Gains before now wrote
 gains-all [] [] before None all e = tt
 gains-all [] [] None (Some after) all e = cc
-gains-all [] [] (Some lists) (Some after) all e = let same : after ≡ lists = cc in same ∙ sym (append-none lists)
+gains-all [] [] (Some lists) (Some after) all e = let same : after ≡ lists = cc in same ∙ sym (append-nil lists)
 gains-all [] (w ∷ ws) before now all e = absurd all
 gains-all (l ∷ ls) [] before now all e = absurd all
 gains-all (l ∷ ls) (w ∷ ws) before None all e = tt

@@ -1,13 +1,9 @@
 -- What is known of a result.
-use Rattle.std.proofs.Common.{◌≡◌, ℕ, subst, Result, Ok, Err, IfOk, IsErrOf, OnOk, OnErr, ap, sym, ◌∙◌, refl, arith}
+use Rattle.std.proofs.Common.{◌≡◌, ℕ, subst, Result, Ok, Err, IsErrOf, OnOk, OnErr, ap, sym, ◌∙◌, refl, arith}
 use Rattle.io_edge.specs.Outside.{HasCause}
 use Rattle.io_edge.specs.Starts.{Engines}
 use Rattle.io_edge.specs.declared.io_answers.StartFault.TheVariants.{Failed, Memory}
 use Rattle.match_command.specs.Match.{StartsNone}
-
-pub if-ok : {A E : Type 0} (P Q : A → Type 0) → ((a : A) → P a → Q a) → (r : Result A E) → IfOk r P → IfOk r Q
-if-ok P Q f (Ok a) p = f a p
-if-ok P Q f (Err e) p = tt
 
 pub on-ok : {A E : Type 0} (P Q : Type 0) → (P → Q) → (r : Result A E) → OnOk r P → OnOk r Q
 on-ok P Q f (Ok a) p = f p

@@ -1,7 +1,7 @@
 -- The steps of the loops over games.
 use Rattle.std.proofs.Common.{◌≡◌, ℕ, zero, suc, ◌+◌, ◌<◌, ◌≤◌, List, [], ◌∷◌, ◌++◌, length, map, take, drop, get_or, refl, ap, sym, ◌∙◌, arith, subst, append_assoc}
 use Rattle.std.specs.List.{All, flat_map, zip}
-use Rattle.std.proofs.lemmas.List.{drop_more, length-map, map-append, take_more, take-append-drop}
+use Rattle.std.proofs.lemmas.List.{append-nil, drop_more, length-map, map-append, take_all, take_more, take-append-drop}
 use Rattle.std.proofs.Math.ListN.{drop_of_length-le}
 use Rattle.std.proofs.lemmas.List.Concat.{flat_map-append}
 use Rattle.std.proofs.lemmas.List.Elements.{All-nil, All-push}
@@ -20,7 +20,7 @@ use Rattle.cup_command.specs.Cup.{cup_words, game_words, started_after}
 use Rattle.cup_command.specs.Links.{ClosesLinks, GivesUp, IsReady, StartsAll, all_links, ended_text, jobs_text}
 use Rattle.cup_command.specs.Texts.{standing_text}
 use Rattle.cup_command.proofs.Chains.{none-kept, starts-append, two-each}
-use Rattle.cup_command.proofs.Breaks.{all-before, append-none, started-more, two-words}
+use Rattle.cup_command.proofs.Breaks.{all-before, started-more, two-words}
 
 -- Texts
 
@@ -37,7 +37,7 @@ text-step setup games jobs i game job out out_now all low high g j so now =
 pub text-end : (setup : Setup) (games : List Pairing) (jobs : List Job) (i : ℕ) (out all : List ℕ) → length jobs ≤ i → out ++ jobs_text setup (drop i (zip games jobs)) ≡ all → out ≡ all
 text-end setup games jobs i out all past so =
     let within : length (zip games jobs) ≤ i = let many = length-zip games jobs in omega (arith, many, past) in
-    sym (append-none out) ∙ (ap (λ ps. out ++ jobs_text setup ps) (sym (drop_of_length-le (zip games jobs) within)) ∙ so)
+    sym (append-nil out) ∙ (ap (λ ps. out ++ jobs_text setup ps) (sym (drop_of_length-le (zip games jobs) within)) ∙ so)
 
 -- there are as many games as there are pairs of engines
 pub same-many : (games : List Pairing) (jobs : List Job) → map pairing jobs ≡ games → length games ≡ length jobs
@@ -95,12 +95,6 @@ gives-up failed engines games jobs i game before between after whole low g kept 
 
 -- behind the last game
 
-pub take-all : {A : Type 0} (n : ℕ) (xs : List A) → length xs ≤ n → take n xs ≡ xs
-take-all zero [] high = refl
-take-all zero (x ∷ xs) high = absurd (omega (arith, high))
-take-all (suc n) [] high = refl
-take-all (suc n) (x ∷ xs) high = ap (λ ys. x ∷ ys) (take-all n xs (omega (arith, high)))
-
 pub take-none : {A : Type 0} (xs : List A) → take 0 xs ≡ []
 take-none [] = refl
 take-none (x ∷ xs) = refl
@@ -124,11 +118,11 @@ none-kept-after n olds lent news behind before between after starts sent closes 
 
 pub named-end : (engines : List Engine) (games : List Pairing) (i : ℕ) (before now : ToldPrograms) → games ≡ pairings (length engines) → length games ≤ i → now ≡ started_after before (flat_map (game_words engines) (take i games)) → now ≡ started_after before (cup_words engines)
 named-end engines games i before now whole past named =
-    named ∙ ap (λ gs. started_after before (flat_map (game_words engines) gs)) (take-all i games past ∙ whole)
+    named ∙ ap (λ gs. started_after before (flat_map (game_words engines) gs)) (take_all i games past ∙ whole)
 
 -- behind the last game all are kept
 pub kept-end : (games : List Pairing) (jobs : List Job) (i : ℕ) → length games ≤ i → map pairing jobs ≡ take i games → map pairing jobs ≡ games
-kept-end games jobs i past so = so ∙ take-all i games past
+kept-end games jobs i past so = so ∙ take_all i games past
 
 -- before the first game
 
@@ -145,9 +139,3 @@ ready-lent setup lent olds same all = subst (λ (js : List Job). All (IsReady se
 
 pub next-none : (before : ToldLists) (jobs : List Job) → jobs ≡ [] → StartsAll before before (all_links jobs)
 next-none before jobs e = subst (λ (js : List Job). StartsAll before before (all_links js)) (sym e) refl
-
--- what stands at a place, whatever would be there beyond the end
-pub get_or-any : {A : Type 0} (xs : List A) (i : ℕ) (d e : A) → i < length xs → get_or xs i d ≡ get_or xs i e
-get_or-any [] i d e low = absurd (omega (arith, low))
-get_or-any (x ∷ xs) zero d e low = refl
-get_or-any (x ∷ xs) (suc i) d e low = get_or-any xs i d e (omega (arith, low))

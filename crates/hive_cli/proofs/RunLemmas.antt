@@ -1,6 +1,6 @@
 -- How a run ends, by what is asked for.
-use Rattle.std.proofs.Common.{◌≡◌, ◌+◌, ◌∙◌, ℕ, List, [], length, map, ap, sym, refl, subst, arith, Some, inl, inr, String, Global, Bool, true, false}
-use Rattle.io_edge.specs.Outside.{HasCause, Told, ToldLists}
+use Rattle.std.proofs.Common.{◌≡◌, ℕ, List, [], length, map, sym, refl, subst, arith, Some, inl, inr, String, Global, Bool, true, false}
+use Rattle.io_edge.specs.Outside.{HasCause, Told}
 use Rattle.io_edge.specs.Starts.{Engines}
 use Rattle.hive_model.specs.declared.best.Timed.{Timed}
 use Rattle.command_runs.specs.Input.{Sides}
@@ -17,13 +17,14 @@ use Rattle.command_words.specs.Tournaments.{AreTournamentWords, AskForTournament
 use Rattle.cup.specs.Engines.{Engine}
 use Rattle.cup.specs.Played.{IsDepth}
 use Rattle.match_core.specs.declared.setup.Level.{Level}
-use Rattle.std.specs.Prelude.{Option, None, Ok}
+use Rattle.std.specs.Prelude.{Option, None}
 use Rattle.std.proofs.lemmas.Option.{same_Some}
 use Rattle.command_words.specs.Words.{Words}
 use Rattle.cup_command.proofs.Early.{early-none}
 use Rattle.cup_command.specs.Cup.{CupRun}
-use Rattle.match_command.specs.Match.{MatchRun, MatchStarts, NoneIsOpen}
+use Rattle.match_command.specs.Match.{MatchRun, MatchStarts}
 use Rattle.match_command.specs.Reads.{ReadMatchRun, typed}
+use Rattle.match_command.proofs.Reading.{none_left}
 use Rattle.match_core.specs.declared.setup.Setup.{Setup}
 use Rattle.match_core.specs.Setups.{FullSetup, setup_from, setup_plain}
 use Rattle.command_runs.specs.Answered.{TellsNone}
@@ -45,8 +46,9 @@ use Rattle.grow_command.specs.Runs.{GrowRun}
 use Rattle.win_commands.specs.Runs.{SolveRun, VerifyRun}
 use Rattle.tournament_command.specs.declared.format.Format.{Format}
 use Rattle.tournament_command.specs.Formats.{terms_of}
-use Rattle.tournament_command.specs.Intakes.{intake, nothing_read, take_lines}
+use Rattle.tournament_command.specs.Intakes.{nothing_read}
 use Rattle.tournament_command.specs.Reads.{ReadTournamentRun}
+use Rattle.tournament_command.proofs.Gathering.{nothing_tells}
 use Rattle.command_runs.proofs.ReadLemmas.{none_were_read}
 use Rattle.tournament_games.specs.Waves.{TournamentRun}
 use Rattle.book_command.proofs.StartLaws.{unread}
@@ -118,13 +120,6 @@ no_time t = record { last = refl; readings = refl; timed = refl }
 
 no_more : (w : World) → LeavesAllElse w w
 no_more w = (no_time w.times, refl)
-
-same_told : {a b : List (List ℕ)} (t : ToldLists) → t ≡ Some a → t ≡ Some b → a ≡ b
-same_told t e f = same_Some _ _ (sym e ∙ f)
-
--- where nothing was started, no program is open
-none_open : (e : Engines) → NoneIsOpen e e
-none_open e coming later opened closed a b c d = ap (λ xs. length xs + length opened) (same_told e.to_come a b) ∙ ap (λ xs. length later + length xs) (same_told e.sent c d)
 
 -- the words of a match ask for the programs that its options give
 pub asks_programs : (words : List (String Global)) (setup : Setup) (from : Bool) → AreMatchWords words setup from → (white : List (List ℕ)) × (black : List (List ℕ)) × AskForPrograms words white black
@@ -200,7 +195,7 @@ cup_depth words setup h = level_is_depth h.options.depth h.setup_is.margin setup
 starved_match : (words : List (String Global)) (setup : Setup) (from : Bool) (w : World) → AreMatchWords words setup from → RunOf words (Match setup from) Memory w w
 starved_match words setup from w asked = record {
   played = starved_plays words setup from w asked;
-  closed = none_open w.engines;
+  closed = none_left w.engines;
   timed = refl;
 }
 
@@ -208,7 +203,7 @@ starved_match words setup from w asked = record {
 starved_cup : (words : List (String Global)) (setup : Setup) (w : World) → AreCupWords words setup → RunOf words (Cup setup) Memory w w
 starved_cup words setup w asked = let (engines, asks) = asks_engines words setup asked in record {
   played = (engines, asks, record { written = refl; starts = early-none engines w.engines });
-  closed = none_open w.engines;
+  closed = none_left w.engines;
   unread = refl;
   untimed = no_time w.times;
 }
@@ -219,10 +214,6 @@ asks_tournament_engines words setup rounds gauntlet at_once resume h = (
   map engine_of (program_texts h.options.engines),
   record { options = h.options; engines_are = refl },
 )
-
-nothing_tells : (engines : ℕ) (f : Format) → intake engines f [] ≡ Ok nothing_read
-unfolding take_lines
-nothing_tells engines f = refl
 
 -- a tournament that wanted memory before the input was read
 pub starved_tournament : (words : List (String Global)) (setup : Setup) (rounds : ℕ) (gauntlet : Bool) (at_once : ℕ) (resume : Bool) (w : World) → AreTournamentWords words setup rounds gauntlet at_once resume
@@ -238,7 +229,7 @@ starved_contest : (words : List (String Global)) (setup : Setup) (rounds : ℕ) 
     → RunOf words (Tournament setup rounds gauntlet at_once resume) Memory w w
 starved_contest words setup rounds gauntlet at_once resume w h = record {
   played = starved_tournament words setup rounds gauntlet at_once resume w h;
-  closed = none_open w.engines;
+  closed = none_left w.engines;
   untimed = no_time w.times;
 }
 

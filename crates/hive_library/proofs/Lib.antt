@@ -1,3 +1,2 @@
 mod AnswerLemmas
 mod GameLemmas
-mod SourceLemmas

@@ -49,7 +49,7 @@ impl Source for TextSource<'_> {
 
     /// `End` comes where no byte is left, and else as many bytes as there are, as far as the buffer
     /// goes.
-    #[tactic(auto, using(crate::proofs::SourceLemmas::next_piece))]
+    #[tactic(auto, using(io_edge::proofs::Told::next_piece))]
     fn read(&mut self, buffer: &mut [u8]) -> ReadAnswer {
         let (_, left) = self.text.split_at(self.at);
         if left.is_empty() {

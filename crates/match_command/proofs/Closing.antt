@@ -52,7 +52,7 @@ gains_of (Some before) (Some after) w b x y claim (Some mid, (p, pe, pm), (q, qe
     )
 
 -- what was written behind nothing
-from_none : (old new : Told) (bytes : List ℕ) → old ≡ Some [] → new ≡ behind old bytes → new ≡ Some bytes
+pub from_none : (old new : Told) (bytes : List ℕ) → old ≡ Some [] → new ≡ behind old bytes → new ≡ Some bytes
 from_none old new bytes e f = f ∙ ap (λ o. behind o bytes) e
 
 parts_gained : (setup : FullSetup) (white black : List ℕ) (before after : ToldLists) (w0 w b0 b : Told) → ClosesTwo before after w b → w0 ≡ Some [] → b0 ≡ Some []

@@ -8,7 +8,6 @@ use Rattle.hive_model.specs.declared.pieces.Colour.{Colour}
 use Rattle.hive_model.specs.declared.pieces.Colour.TheVariants.{White, Black}
 use Rattle.match_core.specs.Setups.{FullSetup}
 use Rattle.match_core.specs.declared.stage.Stage.{Stage}
-use Rattle.match_core.specs.declared.stage.Stage.TheVariants.{Send, Read, Before, After, Finished as FinishedStage}
 use Rattle.match_core.specs.declared.stage.Act.{Act}
 use Rattle.match_core.specs.declared.stage.Act.TheVariants.{Send as SendAct, Read as ReadAct, Finish}
 use Rattle.match_core.specs.MatchState.{MatchState, Happening, TooLong, start, match_after, next, after_all, act_at, answers}
@@ -19,7 +18,7 @@ use Rattle.io_edge.specs.Lines.{ToldLines}
 use Rattle.match_core.specs.Feeds.{FeedsAt, Feeds}
 use Rattle.match_core.proofs.Falls.{matches_near_their_end}
 use Rattle.match_core.proofs.Fair.{after_all-snoc}
-use Rattle.match_core.proofs.Follows.{bounded_start}
+use Rattle.match_core.proofs.Follows.{bounded_start, open_at}
 use Rattle.match_runner.specs.Wires.{Watch}
 use Rattle.match_runner.specs.Turns.{Side, OneSide, Goes, Breaks, KeepsAt, is_broke, is_clock, looks_at}
 use Rattle.match_runner.specs.Runs.{Cut, AreSound, KeepTime, looks, JudgesAtOnce, Served, Run, Ran}
@@ -110,16 +109,9 @@ run_on = run_goes
 pub run_falls : (setup : FullSetup) (s t : MatchState) (w0 w w2 b0 b b2 : Side) (r0 r : Watch) → (c0 c : ℕ) → Run setup s w0 w b0 b r0 r → (h : Happening) × Goes s h t w w2 b b2 c0 c → left t < left s
 run_falls setup s t w0 w w2 b0 b b2 r0 r c0 c (hs, run) (h, g) = rw g.next_is (matches_near_their_end s h run.bounded g.fits).1
 
-was_open : (stage : Stage) (h : Happening) → IsTrue (answers (act_at stage) h) → is_finished stage ≡ false
-was_open (Send job side) h w = refl
-was_open (Read job side) h w = refl
-was_open Before h w = refl
-was_open After h w = refl
-was_open FinishedStage h w = absurd (cc)
-
 pub room_on : (s t : MatchState) (w w2 b b2 : Side) (before after c0 c1 : ℕ) → (h : Happening) × Goes s h t w w2 b b2 c0 c1 → left t < left s → (is_finished s.stage ≡ false → before + 65538 * left s ≤ 525418735842) → (is_finished t.stage ≡ false → after ≤ before + 65538)
     → is_finished t.stage ≡ false → after + 65538 * left t ≤ 525418735842
-room_on s t w w2 b b2 before after c0 c1 (h, g) less f k o = let a = f (was_open s.stage h g.fits) in let c = k o in omega (arith, a, c, less)
+room_on s t w w2 b b2 before after c0 c1 (h, g) less f k o = let a = f (open_at s.stage h g.fits) in let c = k o in omega (arith, a, c, less)
 
 pub room_begin : (setup : FullSetup) (s : MatchState) → IsFullSetup setup → s ≡ start setup → 0 + 65538 * left s ≤ 525418735842
 unfolding left

@@ -5,6 +5,7 @@ use Rattle.std.proofs.lemmas.Option.{slice_get_within}
 use Rattle.std.specs.List.{slice_get}
 use Rattle.hive_model.specs.Lists.{IsOn}
 use Rattle.search_laws.proofs.LoopLaws.{on-at}
+use Rattle.search_laws.proofs.RootLaws.{small-value}
 use Rattle.hive_model.specs.declared.places.Move.{Move}
 use Rattle.hive_model.specs.Positions.{Position}
 use Rattle.hive_model.specs.Legal.{moves}
@@ -17,7 +18,6 @@ use Rattle.root_share.specs.Children.{IsBound, IsDepth, IsLatest}
 use Rattle.root_share.specs.Ready.{IsReady, MayBegin}
 use Rattle.root_share.specs.Word.{Known, known, IsSeat}
 use Rattle.root_share.specs.Answer.{IsKnown}
-use Rattle.root_share.proofs.ReplyLaws.{worth-within}
 
 pub known-still : (p : Position) (d : ℕ) (g h : ℤ) (first : ℕ) → g ≤ℤ h → IsKnown p d g first → IsKnown p d h first
 known-still p d g h first up known m here = let k = known m here in omega (arith, ints, k, up)
@@ -75,6 +75,6 @@ latest-read p k depth b z v view kept agreed most = record { stands = top-of vie
 -- it is a bound of a search
 pub bound-read-is : (p : Position) (k depth : ℕ) (b z : ℤ) → z ≡ b → k ≡ depth → depth ≤ 64 → first_bound ≤ℤ b → b ≤ℤ value p k → IsBound z
 bound-read-is p k depth b z kept agreed deep least most =
-    let small = worth-within p k (omega (arith, agreed, deep)) in
+    let small = small-value p k (omega (arith, agreed, deep)) in
     let high = small.high in
     rw kept (record { low = least; high = omega (arith, ints, most, high) })

@@ -1,14 +1,12 @@
 -- What a head keeps, and that a later version reads the heads of an earlier one.
 use Rattle.std.proofs.Common.{◌≡◌, ◌⊎◌, ℕ, zero, suc, ◌≤◌, List, [], ◌∷◌, drop, length, refl, sym, ap, ◌∙◌, subst, arith, Option, Some, None, inl, inr}
 use Rattle.std.specs.Prelude.{codes, Result, Ok, Err}
-use Rattle.hive_model.specs.declared.pieces.GameType.{GameType}
-use Rattle.hive_model.specs.declared.places.Move.{Move}
 use Rattle.hive_model.specs.Positions.{opening}
 use Rattle.hive_model.specs.Games.{IsGame, replay}
 use Rattle.io_edge.specs.Lines.{Line, Text, TooLong}
-use Rattle.hive_model.specs.Strings.{IsGameLine}
 use Rattle.rule_laws.proofs.Games.{games_sound}
 use Rattle.strategy_lemmas.specs.Cited.{IsReached}
+use Rattle.strategy_verdicts.proofs.AskedLaws.{line-game}
 use Rattle.move_text.specs.Readers.{number_at}
 use Rattle.move_text.proofs.NumberLaws.{number_found, number_again}
 use Rattle.game_text.specs.declared.faults.GameFault.{GameFault}
@@ -58,10 +56,6 @@ depth-is line d e = go (behind_word (codes "depth ") line) e
     go : (o : Option (List ℕ)) → then_at o (λ t. number_at t 1 64) ≡ Some d → (1 ≤ d) × (d ≤ 64)
     go None h = cc
     go (Some t) h = ((number_found t 1 64 d h).low, (number_found t 1 64 d h).high)
-
-line-game : (line : List ℕ) (t : GameType) (ms : List Move) → IsGameLine line t ms → IsGame t ms × (length ms ≤ 5000)
-line-game line t ms (inl (named, none)) = subst (λ (ns : List Move). IsGame t ns × (length ns ≤ 5000)) (sym none) (tt, omega arith)
-line-game line t ms (inr full) = (full.legal, full.few)
 
 -- what every head keeps
 pub record Keeps (head : Head) : Type 0 where

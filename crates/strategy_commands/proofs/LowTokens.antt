@@ -1,8 +1,8 @@
 -- The tokens that are made of the indices on the lines of a text have texts of their own.
-use Rattle.std.proofs.Common.{◌≡◌, ℕ, zero, suc, ◌+◌, ◌-◌, ◌<◌, ◌≤◌, Bool, true, false, cond, List, [], ◌∷◌, ◌++◌, map, take, drop, length, length-append, refl, sym, ap, subst, arith, ◌∙◌, ℤ, pos, neg_ℤ, ◌-ℤ◌, Option, Some, None}
+use Rattle.std.proofs.Common.{◌≡◌, ℕ, suc, ◌+◌, ◌-◌, ◌<◌, ◌≤◌, Bool, true, false, cond, List, [], ◌∷◌, ◌++◌, map, take, drop, length, length-append, refl, sym, ap, subst, arith, ◌∙◌, ℤ, pos, neg_ℤ, ◌-ℤ◌, Option, Some, None}
 use Rattle.std.specs.Prelude.{⊤, nat_lt}
-use Rattle.std.specs.List.{slice_get}
 use Rattle.std.proofs.lemmas.Bool.{ltb-true}
+use Rattle.hive_model.proofs.GetLemmas.{get_within}
 use Rattle.hive_model.specs.declared.places.Move.{Move}
 use Rattle.hive_model.specs.Positions.{Position}
 use Rattle.hive_model.specs.Legal.{moves}
@@ -13,7 +13,7 @@ use Rattle.move_text.proofs.NumberLaws.{number_found}
 use Rattle.strategy_walks.specs.declared.limit.Limit.{Limit}
 use Rattle.strategy_walks.specs.declared.limit.Limit.TheVariants.{AtLeast}
 use Rattle.strategy_walks.specs.Limits.{Each}
-use Rattle.strategy_walks.specs.Walks.{WalkEnd, Left, Fault, Halt, Step, Below, Ends, certificate}
+use Rattle.strategy_walks.specs.Walks.{WalkEnd, Left, Fault, Halt, Below, Ends, certificate}
 use Rattle.strategy_walks.proofs.WalkLaws.{Chain, Shows, walk-shows}
 use Rattle.strategy_walks.proofs.PartLaws.{certificate-parts}
 use Rattle.strategy_walks.proofs.PlaceLaws.{Each-append, position-at}
@@ -25,6 +25,8 @@ use Rattle.strategy_lemmas.specs.declared.tokens.Token.TheVariants.{Index, Cite}
 use Rattle.strategy_lemmas.specs.declared.lemmas.Lemma.{Lemma}
 use Rattle.strategy_lemmas.specs.Lemmas.{serves, with_lemma, server}
 use Rattle.strategy_lemmas.specs.Short.{ShortSteps, short_steps, passes_over, writes_index, short_take, short_rules, of_indices, shortened, short, written_by}
+use Rattle.strategy_lemmas.proofs.CitedLaws.{ends-is}
+use Rattle.strategy_lemmas.proofs.ShortLaws.{written-ends}
 use Rattle.strategy_lemmas.proofs.OutcomeLaws.{ends-as}
 use Rattle.strategy_text.specs.Text.{index_in}
 
@@ -71,11 +73,6 @@ record AreLow (s : ShortSteps) : Type 0 where
 abbrev KeepsLow : Position → ℕ → Limit → ShortSteps → ShortSteps → Type 0
 KeepsLow p e c s t = AreLow s → AreLow t
 
-at-low : {A : Type 0} (xs : List A) (i : ℕ) (x : A) → slice_get xs i ≡ Some x → i < length xs
-at-low [] i x e = cc
-at-low (y ∷ xs) zero x e = omega arith
-at-low (y ∷ xs) (suc i) x e = let low = at-low xs i x e in omega (arith, low)
-
 written-more : (ws : List Token) (w : Token) → Each IsLow ws → IsLow w → Each IsLow (ws ++ w ∷ [])
 written-more ws w low here = Each-append IsLow ws (w ∷ []) low (here, tt)
 
@@ -83,14 +80,6 @@ passed : (o : WalkEnd Steps Why) (ls : List Lemma) (ws : List Token) (t : ShortS
 passed (Left u) ls ws t h = (u, refl, cc)
 passed (Fault why n) ls ws t h = cc
 passed (Halt n) ls ws t h = cc
-
-ends-is : (o q : WalkEnd ShortSteps Why) → (let s : Step ShortSteps Why = Ends o in s ≡ Ends q) → o ≡ q
-ends-is o q e = cc
-
-never-written : (items : List (Option ℕ)) (n : ℕ) (ls : List Lemma) (ws : List Token) (t : ShortSteps) → writes_index (take_index items n) ls ws ≡ Ends (Left t) → ⊥
-never-written [] n ls ws t h = cc
-never-written (None ∷ items) n ls ws t h = cc
-never-written (Some i ∷ items) n ls ws t h = cc
 
 written-index : (items : List (Option ℕ)) (n : ℕ) (ls : List Lemma) (ws : List Token) (i : ℕ) (t : ShortSteps) → writes_index (take_index items n) ls ws ≡ Below i t →
     (u : Steps) × (take_index items n ≡ Below i u) × (short_steps u ls (ws ++ Index i ∷ []) ≡ t)
@@ -104,11 +93,11 @@ written-index (Some j ∷ items) n ls ws i t h =
 cited-low : (k : KeyParts) (e : ℕ) (x : ℤ) (ls : List Lemma) (n : ℕ) → length ls ≤ 65536 → server k e x ls ≡ Some n → n ≤ 65535
 cited-low k e x ls n few some =
     let f = position-at (serves k e x) 0 ls n some in
-    let low = at-low ls f.0 f.1 f.3 in
+    let low = get_within ls f.0 f.1 f.3 in
     omega (arith, f.2, low, few)
 
 ends-low : (p : Position) (e : ℕ) (x : ℤ) (s t : ShortSteps) → (o : Option ℕ) → server (key p) (suc e) x s.lemmas ≡ o → short_take o p (suc e) x s ≡ Ends (Left t) → AreLow s → AreLow t
-ends-low p e x s t None none took low = absurd (never-written s.items.left s.items.taken s.lemmas s.written t took)
+ends-low p e x s t None none took low = absurd (written-ends s.items.left s.items.taken s.lemmas s.written t took)
 ends-low p e x s t (Some n) some took low =
     let f = passed (trace p (suc e) (AtLeast x) s.items) s.lemmas (s.written ++ Cite n ∷ []) t (ends-is _ (Left t) took) in
     subst AreLow f.2 (record {

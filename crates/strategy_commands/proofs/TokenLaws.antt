@@ -9,7 +9,7 @@ use Rattle.hive_model.specs.Keys.{KeyParts, key}
 use Rattle.strategy_walks.specs.declared.limit.Limit.{Limit}
 use Rattle.strategy_walks.specs.declared.limit.Limit.TheVariants.{AtLeast}
 use Rattle.strategy_walks.specs.Items.{is_none_left}
-use Rattle.strategy_walks.specs.Walks.{WalkEnd, Left, Fault, Halt, Step, Below, Ends}
+use Rattle.strategy_walks.specs.Walks.{WalkEnd, Left, Fault, Halt, Below, Ends}
 use Rattle.strategy_walks.proofs.WalkLaws.{Chain, Shows, walk-shows}
 use Rattle.strategy_walks.proofs.PartLaws.{certificate-parts}
 use Rattle.strategy_lemmas.specs.declared.lemmas.Lemma.{Lemma}
@@ -19,6 +19,7 @@ use Rattle.strategy_lemmas.specs.declared.tokens.Token.TheVariants.{Index, Cite}
 use Rattle.strategy_lemmas.specs.declared.tokens.WhyCited.{WhyCited}
 use Rattle.strategy_lemmas.specs.declared.tokens.WhyCited.TheVariants.{BadCite, TooShort}
 use Rattle.strategy_lemmas.specs.Cited.{CitedSteps, cited_steps, cites, take_token, cite_rules, cited_checked, HoldsCited}
+use Rattle.strategy_lemmas.proofs.CitedLaws.{cites-below, ends-is}
 
 -- these tokens stand in front of what is left
 pub record TakesFrom (s t : CitedSteps) : Type 0 where
@@ -42,9 +43,6 @@ takes-both s t u a b = record {
 abbrev OneTaken : List (Option Token) → List (Option Token) → Type 0
 OneTaken xs ys = (t : Token) × (xs ≡ Some t ∷ ys)
 
-ends-is : (o q : WalkEnd CitedSteps WhyCited) → (let s : Step CitedSteps WhyCited = Ends o in s ≡ Ends q) → o ≡ q
-ends-is o q e = cc
-
 serves-on : (b : Bool) (s t : CitedSteps) (n : ℕ) → (let o : WalkEnd CitedSteps WhyCited = cond b (Left s) (Fault BadCite n) in o ≡ Left t) → t.left ≡ s.left
 serves-on true s t n e = let same : s ≡ t = cc in ap (λ (x : CitedSteps). x.left) (sym same)
 serves-on false s t n e = cc
@@ -52,10 +50,6 @@ serves-on false s t n e = cc
 cites-ends : (k : KeyParts) (e : ℕ) (x : ℤ) (o : Option Lemma) (xs : List (Option Token)) (n : ℕ) (ls : List Lemma) (t : CitedSteps) → cites k e x o xs n ls ≡ Ends (Left t) → t.left ≡ xs
 cites-ends k e x None xs n ls t h = let no = ends-is (Fault BadCite n) (Left t) h in cc
 cites-ends k e x (Some l) xs n ls t h = serves-on (serves k e x l) (cited_steps xs n ls) t n (ends-is (cond (serves k e x l) (Left (cited_steps xs n ls)) (Fault BadCite n)) (Left t) h)
-
-cites-below : (k : KeyParts) (e : ℕ) (x : ℤ) (o : Option Lemma) (xs : List (Option Token)) (n : ℕ) (ls : List Lemma) (j : ℕ) (t : CitedSteps) → cites k e x o xs n ls ≡ Below j t → ⊥
-cites-below k e x None xs n ls j t h = cc
-cites-below k e x (Some l) xs n ls j t h = cc
 
 token-ends : (k : KeyParts) (e : ℕ) (x : ℤ) (items : List (Option Token)) (n : ℕ) (ls : List Lemma) (t : CitedSteps) → take_token k e x items n ls ≡ Ends (Left t) → OneTaken items t.left
 token-ends k e x [] n ls t h = let no = ends-is (Fault TooShort n) (Left t) h in cc

@@ -6,6 +6,7 @@ use Rattle.std.proofs.lemmas.Option.{slice_get_within, get_or_from_slice_get}
 use Rattle.hive_model.specs.Keys.{KeyParts}
 use Rattle.hive_model.specs.SameKeys.{same_key}
 use Rattle.hive_model.proofs.SameKeys.{keys}
+use Rattle.hive_model.proofs.GetLemmas.{get_last}
 use Rattle.indexmap.specs.IndexMap.{IndexMap, get, index_map_len, spare}
 use Rattle.strategy_lemmas.specs.declared.lemmas.Lemma.{Lemma}
 use Rattle.strategy_lemmas.specs.Index.{has_key, last_before, IsIndexed}
@@ -64,10 +65,6 @@ get-left [] ys i low = absurd (omega (arith, low))
 get-left (x ∷ xs) ys zero low = refl
 get-left (x ∷ xs) ys (suc i) low = get-left xs ys i (omega (arith, low))
 
-get-seam : {X : Type 0} (xs : List X) (y : X) → slice_get (xs ++ y ∷ []) (length xs) ≡ Some y
-get-seam [] y = refl
-get-seam (x ∷ xs) y = get-seam xs y
-
 one-longer : {X : Type 0} (xs : List X) (y : X) → length (xs ++ y ∷ []) ≡ suc (length xs)
 one-longer [] y = refl
 one-longer (x ∷ xs) y = ap suc (one-longer xs y)
@@ -91,7 +88,7 @@ module _ {S : Type 0} (ls : List Lemma) (previous : List (Option ℕ)) (last now
   unfolding longer
   lasts-on k =
       noted k
-      ∙ (λ i. cond (has_key k (sym (get-seam ls l) i)) (Some (length ls)) ((indexed.lasts k ∙ sym (before-same k ls l (length ls) (omega arith))) i))
+      ∙ (λ i. cond (has_key k (sym (get_last ls l) i)) (Some (length ls)) ((indexed.lasts k ∙ sym (before-same k ls l (length ls) (omega arith))) i))
       ∙ ap (last_before k (ls ++ l ∷ [])) (sym (one-longer ls l))
 
   linked-on : (i : ℕ) (m : Lemma) → slice_get longer i ≡ Some m → (i < length ls) ⊎ (length ls ≤ i) →
@@ -105,8 +102,8 @@ module _ {S : Type 0} (ls : List Lemma) (previous : List (Option ℕ)) (last now
       let within : i < length (ls ++ l ∷ []) = slice_get_within (ls ++ l ∷ []) i m is in
       let more = one-longer ls l in
       let at : i ≡ length ls = omega (arith, within, more, high) in
-      let same : m ≡ l = (let both : Some m ≡ Some l = sym is ∙ ap (slice_get (ls ++ l ∷ [])) at ∙ get-seam ls l in cc) in
-      ap (slice_get (previous ++ last_before l.key ls (length ls) ∷ [])) (at ∙ sym indexed.beside) ∙ get-seam previous (last_before l.key ls (length ls))
+      let same : m ≡ l = (let both : Some m ≡ Some l = sym is ∙ ap (slice_get (ls ++ l ∷ [])) at ∙ get_last ls l in cc) in
+      ap (slice_get (previous ++ last_before l.key ls (length ls) ∷ [])) (at ∙ sym indexed.beside) ∙ get_last previous (last_before l.key ls (length ls))
       ∙ ap Some (sym (before-same l.key ls l (length ls) (omega arith)))
       ∙ (λ j. Some (last_before ((sym same j).key) (ls ++ l ∷ []) (sym at j)))
 

@@ -19,7 +19,7 @@ pub record IsOpenGame (game : Parsed) : Type 0 where
   pub few : length game.moves ≤ 5000
   pub goes_on : is_over (last_position game) ≡ false
 
-line-game : (line : List ℕ) (t : GameType) (ms : List Move) → IsGameLine line t ms → IsGame t ms × (length ms ≤ 5000)
+pub line-game : (line : List ℕ) (t : GameType) (ms : List Move) → IsGameLine line t ms → IsGame t ms × (length ms ≤ 5000)
 line-game line t ms (inl (named, none)) = subst (λ (ns : List Move). IsGame t ns × (length ns ≤ 5000)) (sym none) (tt, omega arith)
 line-game line t ms (inr full) = (full.legal, full.few)
 

@@ -30,7 +30,8 @@ pub record Gathered (engines : ℕ) (f : Format) (begin now : Told) (reader : Re
   pub within : reader.taken ≤ input_limit
   pub counted : i.lines ≤ settled reader
 
-nothing_tells : (engines : ℕ) (f : Format) → intake engines f [] ≡ Ok nothing_read
+-- no line tells nothing
+pub nothing_tells : (engines : ℕ) (f : Format) → intake engines f [] ≡ Ok nothing_read
 unfolding take_lines
 nothing_tells engines f = refl
 

@@ -1,5 +1,5 @@
 mod Counts
 mod Openings
 mod Longs
-mod Gathering
+pub mod Gathering
 mod Begins

@@ -1,8 +1,8 @@
 -- What a run comes to, from wave to wave and behind the last one.
-use Rattle.std.proofs.Common.{◌≡◌, ◌≢◌, ℕ, zero, suc, ◌+◌, ◌*◌, ◌<◌, ◌≤◌, List, [], ◌∷◌, ◌++◌, length, map, take, get_or, None, Some, refl, ap, sym, ◌∙◌, arith, subst, length-append, inl, inr}
+use Rattle.std.proofs.Common.{◌≡◌, ◌≢◌, ℕ, zero, suc, ◌+◌, ◌*◌, ◌<◌, ◌≤◌, List, [], ◌∷◌, ◌++◌, length, map, take, get_or, Some, refl, ap, sym, ◌∙◌, arith, subst, length-append, inl, inr}
 use Rattle.std.specs.Prelude.{slice_get}
 use Rattle.std.specs.List.{sum_by, zip}
-use Rattle.std.proofs.lemmas.List.{length-map, map-append, take_more}
+use Rattle.std.proofs.lemmas.List.{append-nil, length-map, map-append, take_more}
 use Rattle.std.proofs.lemmas.Option.{get_or_from_slice_get, slice_get_within}
 use Rattle.std.proofs.lemmas.Slice.Zip.{get_or-zip, length-zip}
 use Rattle.io_edge.specs.Outside.{Told, behind}
@@ -12,8 +12,8 @@ use Rattle.command_runs.specs.Answered.{WritesAs}
 use Rattle.command_runs.specs.World.{World, sides, world}
 use Rattle.command_runs.specs.declared.status.Status.{Status}
 use Rattle.command_runs.specs.declared.status.Status.TheVariants.{Done, Refused, Usage, ReadFault, WriteFault, SpawnFault, BadInput, Memory, InputFull}
+use Rattle.command_runs.proofs.WrittenLemmas.{on_written}
 use Rattle.match_command.specs.Match.{NoneIsOpen}
-use Rattle.cup_command.proofs.Breaks.{append-none}
 use Rattle.tournament_core.specs.declared.fixtures.Fixture.{Fixture}
 use Rattle.tournament_core.specs.declared.fixtures.GameEnd.{GameEnd}
 use Rattle.tournament_core.specs.declared.plan.Plan.{Plan}
@@ -66,7 +66,7 @@ resumed-none plan = ap (λ gs. map (λ (g : Fixture × GameEnd). record { fixtur
 pub wrote-none : (t : Terms) (first : ℕ) (tally : Counts) (a : World) → a.sides.written ≡ behind a.sides.written [] → WroteGames t first [] [] tally tally a a
 wrote-none t first tally a same = record {
   played = played-none t first a.engines;
-  noted = λ games is. subst (λ (gs : List PlayedFixture). IsTallyOf gs tally) (sym (append-none games)) is;
+  noted = λ games is. subst (λ (gs : List PlayedFixture). IsTallyOf gs tally) (sym (append-nil games)) is;
   wrote = same;
 }
 
@@ -171,9 +171,6 @@ played-out t ends olds news places tally0 tally a b all engines before so noted 
   sums = all-points t ends news tally all engines (so.noted (resumed t.plan ends) before);
 }
 
-told-after : (w0 w1 w2 : Told) (x y : List ℕ) → w1 ≡ behind w0 x → w2 ≡ behind w1 y → w2 ≡ behind w0 (x ++ y)
-told-after w0 w1 w2 x y one other = other ∙ (ap (λ told. behind told y) one ∙ behind-behind w0 x y)
-
 -- the games were all played, and the standings were to be written
 pub tells-run : (t : Terms) (ends : List GameEnd) (tally0 tally : Counts) (status : Status) (a b : World) (written : Told) → tally.engines ≡ t.plan.engines → IsTallyOf (resumed t.plan ends) tally0 → GamesRun t (length ends) tally0 tally Done a b → StandingsRun t tally status b.sides.written written
     → TournamentRun t ends status a (world (sides b.sides.rest written) b.times b.engines)
@@ -183,7 +180,7 @@ tells-run t ends tally0 tally Done a b written engines before (olds, news, all, 
   w.places,
   record {
     out = played-out t ends olds news w.places tally0 tally a b all engines before so w.noted;
-    wrote = told-after a.sides.written b.sides.written written (games_text news) (standings_text t w.places) so.wrote w.wrote;
+    wrote = on_written a.sides.written b.sides.written written (games_text news) (standings_text t w.places) so.wrote w.wrote;
   },
 )
 tells-run t ends tally0 tally WriteFault a b written engines before (olds, news, all, so) w = inr (
@@ -194,7 +191,7 @@ tells-run t ends tally0 tally WriteFault a b written engines before (olds, news,
   record {
     out = played-out t ends olds news w.places tally0 tally a b all engines before so w.noted;
     part = w.part;
-    wrote = told-after a.sides.written b.sides.written written (games_text news) (take w.n (standings_text t w.places)) so.wrote w.wrote;
+    wrote = on_written a.sides.written b.sides.written written (games_text news) (take w.n (standings_text t w.places)) so.wrote w.wrote;
   },
 )
 tells-run t ends tally0 tally Memory a b written engines before (olds, news, all, so) w = (
@@ -226,10 +223,6 @@ starved-first t ends a same = (
     wrote = same;
   },
 )
-
-pub told-none : (told : Told) → told ≡ behind told []
-told-none None = refl
-told-none (Some bytes) = ap (λ bs. Some bs) (sym (append-none bytes))
 
 -- however the games end, no program is left open
 pub games-open : (t : Terms) (first : ℕ) (tally0 tally : Counts) (status : Status) (a b : World) → GamesRun t first tally0 tally status a b → NoneIsOpen a.engines b.engines

@@ -2,6 +2,7 @@
 use Rattle.std.proofs.Common.{◌≡◌, ℕ, ◌+◌, ◌^◌, ◌<◌, ◌≤◌, cond, List, [], ◌∷◌, ◌++◌, length, Option, Some, refl, ap, sym, ◌∙◌, arith, subst, length-append, inl, inr}
 use Rattle.std.specs.List.{flat_map}
 use Rattle.std.specs.Option.{option_to_list}
+use Rattle.std.proofs.lemmas.List.{append-nil}
 use Rattle.std.proofs.lemmas.Bool.{cases_lt}
 use Rattle.std.proofs.lemmas.List.Concat.{flat_map-append}
 use Rattle.std.proofs.lemmas.List.Elements.{All-nil, All-append}
@@ -11,7 +12,7 @@ use Rattle.match_runner.specs.Wires.{Wire}
 use Rattle.cup.specs.Engines.{Engine}
 use Rattle.cup_command.specs.Cup.{RoseBy, started_after}
 use Rattle.cup_command.specs.Links.{ClosesLinks, StartsAll}
-use Rattle.cup_command.proofs.Breaks.{append-none, started-more, started-none}
+use Rattle.cup_command.proofs.Breaks.{started-more, started-none}
 use Rattle.cup_command.proofs.Chains.{closes-append, starts-append}
 use Rattle.tournament_core.specs.declared.plan.Plan.{Plan}
 use Rattle.tournament_games.specs.Games.{AreNext, IsNext, Job}
@@ -106,7 +107,7 @@ shuts-after n links a b c starts sent s =
 -- the links of games and of one more were closed
 pub shuts-jobs : (jobs : List Job) (job : Job) (a b c : Engines) → ClosesLinks a.sent b.sent (all_links jobs) → ClosesLinks b.sent c.sent (links_of job) → b.to_come ≡ a.to_come → c.to_come ≡ b.to_come → Shuts (length (all_links (jobs ++ job ∷ []))) a c
 shuts-jobs jobs job a b c first last one other =
-    let same : all_links (jobs ++ job ∷ []) ≡ all_links jobs ++ links_of job = flat_map-append links_of jobs (job ∷ []) ∙ ap (λ ls. all_links jobs ++ ls) (append-none (links_of job)) in
+    let same : all_links (jobs ++ job ∷ []) ≡ all_links jobs ++ links_of job = flat_map-append links_of jobs (job ∷ []) ∙ ap (λ ls. all_links jobs ++ ls) (append-nil (links_of job)) in
     shuts-links (length (all_links (jobs ++ job ∷ []))) (all_links jobs ++ links_of job) a c (other ∙ one)
     (closes-append a.sent b.sent c.sent (all_links jobs) (links_of job) first last)
     (ap (λ (ls : List Wire). length ls) (sym same))

@@ -2,7 +2,7 @@
 use Rattle.std.proofs.Common.{◌≡◌, ◌≢◌, ℕ, ◌+◌, ◌<◌, ◌≤◌, List, [], ◌∷◌, ◌++◌, length, map, take, take_all, get_or, None, Some, refl, ap, sym, ◌∙◌, arith, subst, length-append, append_assoc}
 use Rattle.std.specs.Prelude.{slice_get}
 use Rattle.std.specs.List.{All}
-use Rattle.std.proofs.lemmas.List.{map-append, take_more}
+use Rattle.std.proofs.lemmas.List.{append-nil, map-append, take_more}
 use Rattle.std.proofs.lemmas.List.Concat.{flat_map-append}
 use Rattle.std.proofs.lemmas.List.Elements.{All-nil, All-push}
 use Rattle.std.proofs.lemmas.Option.{get_or_from_slice_get, slice_get_within}
@@ -13,7 +13,6 @@ use Rattle.match_core.specs.Setups.{setup_from}
 use Rattle.match_core.specs.MatchState.{MatchState}
 use Rattle.match_runner.specs.Wires.{Watch, Wire}
 use Rattle.match_runner.specs.Runs.{RanOver}
-use Rattle.cup_command.proofs.Breaks.{append-none}
 use Rattle.tournament_core.specs.declared.fixtures.Fixture.{Fixture}
 use Rattle.tournament_core.specs.declared.plan.Plan.{Plan}
 use Rattle.tournament_core.specs.Schedules.{IsFixture, schedule}
@@ -75,14 +74,14 @@ lined-none [] text tally none = record {
   lines = none;
   engines = refl;
   games = omega arith;
-  noted = λ games is. subst (λ (gs : List PlayedFixture). IsTallyOf gs tally) (sym (append-none games)) is;
+  noted = λ games is. subst (λ (gs : List PlayedFixture). IsTallyOf gs tally) (sym (append-nil games)) is;
 }
 lined-none (job ∷ jobs) text tally none = record {
   told = All-nil (λ (j : Job). j.outcome ≢ None);
   lines = none;
   engines = refl;
   games = omega arith;
-  noted = λ games is. subst (λ (gs : List PlayedFixture). IsTallyOf gs tally) (sym (append-none games)) is;
+  noted = λ games is. subst (λ (gs : List PlayedFixture). IsTallyOf gs tally) (sym (append-nil games)) is;
 }
 
 pub lined-more : (jobs : List Job) (i : ℕ) (job : Job) (text now : List ℕ) (tally0 tally next : Counts) → i < length jobs → job ≡ get_or jobs i job → job.outcome ≢ None → now ≡ text ++ told_text job → next.engines ≡ tally.engines → next.games ≡ tally.games + 1
@@ -92,7 +91,7 @@ lined-more jobs i job text now tally0 tally next low is some wrote engines games
     let was = so.games in
     subst (λ js. Lined js (i + 1) now tally0 next) (sym more) (record {
       told = All-push (λ (j : Job). j.outcome ≢ None) (take i jobs) job so.told some;
-      lines = wrote ∙ (ap (λ xs. xs ++ told_text job) so.lines ∙ sym (flat_map-append told_text (take i jobs) (job ∷ []) ∙ ap (λ xs. games_text (take i jobs) ++ xs) (append-none (told_text job))));
+      lines = wrote ∙ (ap (λ xs. xs ++ told_text job) so.lines ∙ sym (flat_map-append told_text (take i jobs) (job ∷ []) ∙ ap (λ xs. games_text (take i jobs) ++ xs) (append-nil (told_text job))));
       engines = engines ∙ so.engines;
       games = omega (arith, games, was);
       noted = λ gs was.

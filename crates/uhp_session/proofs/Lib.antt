@@ -7,4 +7,4 @@ pub mod HeldLaws
 pub mod BestLaws
 pub mod OptionLaws
 mod DepthLaws
-mod TeamLaws
+pub mod TeamLaws

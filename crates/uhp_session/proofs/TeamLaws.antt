@@ -1,7 +1,7 @@
 -- Lists of workers that grow by one.
-use Rattle.std.proofs.Common.{◌≡◌, ℕ, zero, suc, ◌+◌, ◌≤◌, List, [], ◌∷◌, ◌++◌, length, map, get_or, take, length-append, ap, subst, sym, ◌∙◌, arith}
+use Rattle.std.proofs.Common.{◌≡◌, ℕ, zero, ◌+◌, ◌≤◌, List, [], ◌∷◌, ◌++◌, length, map, get_or, take, length-append, ap, subst, sym, ◌∙◌, arith}
 use Rattle.std.proofs.lemmas.List.{length-map, get_or-map, take_at}
-use Rattle.std.proofs.lemmas.List.Elements.{All-append, All-map, All-pop, All-same}
+use Rattle.std.proofs.lemmas.List.Elements.{All-map, All-pop, All-push, All-same}
 use Rattle.std.specs.Prelude.{Some}
 use Rattle.std.specs.List.{All}
 use Rattle.hive_model.specs.declared.pieces.GameType.{GameType}
@@ -11,12 +11,8 @@ use Rattle.hive_model.specs.Games.{replay}
 use Rattle.hive_model.specs.Positions.{opening}
 use Rattle.root_share.specs.Answer.{IsGameOf, root_of}
 
-all-one : {A : Type 0} (P : A → Type 0) (x : A) → P x → All P (x ∷ [])
-all-one P x here zero d h = here
-all-one P x here (suc k) d h = absurd (omega (arith, h))
-
 pub all-pushed : {A : Type 0} (xs ys : List A) (x : A) → ys ≡ xs ++ x ∷ [] → (P : A → Type 0) → All P xs → P x → All P ys
-all-pushed xs ys x e P all here = rw e (All-append P xs (x ∷ []) all (all-one P x here))
+all-pushed xs ys x e P all here = rw e (All-push P xs x all here)
 
 pub length-pushed : {A : Type 0} (xs ys : List A) (x : A) → ys ≡ xs ++ x ∷ [] → (n : ℕ) → length xs ≡ n → length ys ≡ n + 1
 length-pushed xs ys x e n long = let more = length-append xs (x ∷ []) in rw e (omega (arith, more, long))

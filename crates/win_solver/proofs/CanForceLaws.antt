@@ -1,16 +1,16 @@
 -- The test of forced wins says where a side can force one.
-use Rattle.std.proofs.Common.{◌≡◌, ◌≢◌, ◌⊎◌, inl, inr, ℕ, zero, suc, Bool, true, false, cond, List, refl}
+use Rattle.std.proofs.Common.{◌≡◌, ◌≢◌, ◌⊎◌, inl, inr, ℕ, zero, suc, Bool, true, false, cond, refl}
 use Rattle.hive_model.specs.declared.pieces.Colour.{Colour}
 use Rattle.hive_model.specs.declared.pieces.Colour.TheVariants.{White, Black}
 use Rattle.hive_model.specs.declared.places.Move.{Move}
 use Rattle.hive_model.specs.declared.places.State.{State}
 use Rattle.hive_model.specs.declared.places.State.TheVariants.{NotStarted, InProgress, Draw, WhiteWins, BlackWins}
-use Rattle.hive_model.specs.Lists.{IsOn}
 use Rattle.hive_model.specs.Positions.{Position}
 use Rattle.hive_model.specs.Pieces.{is_colour}
 use Rattle.hive_model.specs.Legal.{state, is_over, is_over_state, moves}
 use Rattle.hive_model.specs.Games.{after}
 use Rattle.hive_model.proofs.RuleLaws.{any_has, has_any, all_at, at_all}
+use Rattle.hive_model.proofs.PieceLaws.{from_same_colour, same_colour}
 use Rattle.win_solver.specs.Force.{CanForce, WinsOr, force, is_win_of, some_or_every, win_of}
 
 -- ---- a win
@@ -34,21 +34,11 @@ win-over s Black e = rw e refl
 
 -- ---- whose turn it is
 
-own-turn : (side c : Colour) → is_colour side c ≡ true → side ≡ c
-own-turn White White e = refl
-own-turn White Black e = cc
-own-turn Black White e = cc
-own-turn Black Black e = refl
-
 other-turn : (side c : Colour) → is_colour side c ≡ false → side ≢ c
 other-turn White White e = cc
 other-turn White Black e = λ same. cc
 other-turn Black White e = λ same. cc
 other-turn Black Black e = cc
-
-turn-own : (side c : Colour) → side ≡ c → is_colour side c ≡ true
-turn-own side White e = rw e refl
-turn-own side Black e = rw e refl
 
 turn-other : (side c : Colour) → side ≢ c → is_colour side c ≡ false
 turn-other White White n = absurd (n refl)
@@ -60,7 +50,7 @@ turn-other Black Black n = absurd (n refl)
 
 module _ (p : Position) (c : Colour) (f : Move → Bool) (Holds : Move → Type 0) where
   turn-forced : (own : Bool) → is_over p ≡ false → is_colour p.side c ≡ own → ((m : Move) → f m ≡ true → Holds m) → some_or_every own f (moves p) ≡ true → WinsOr p c Holds
-  turn-forced true goes turn deeper h = let found = any_has f (moves p) h in inr (inl (goes, own-turn p.side c turn, (found.0, found.1, deeper found.0 found.2)))
+  turn-forced true goes turn deeper h = let found = any_has f (moves p) h in inr (inl (goes, same_colour p.side c turn, (found.0, found.1, deeper found.0 found.2)))
   turn-forced false goes turn deeper h = inr (inr (goes, other-turn p.side c turn, λ m on. deeper m (all_at f (moves p) m h on)))
 
   ply-forced : (over : Bool) → is_over p ≡ over → ((m : Move) → f m ≡ true → Holds m) → cond over (is_win_of (state p) c) (some_or_every (is_colour p.side c) f (moves p)) ≡ true → WinsOr p c Holds
@@ -69,7 +59,7 @@ module _ (p : Position) (c : Colour) (f : Move → Bool) (Holds : Move → Type 
 
   ply-tested : ((m : Move) → Holds m → f m ≡ true) → WinsOr p c Holds → cond (is_over p) (is_win_of (state p) c) (some_or_every (is_colour p.side c) f (moves p)) ≡ true
   ply-tested deeper (inl won) = let over : is_over p ≡ true = win-over (state p) c won in rw over (is-win (state p) c won)
-  ply-tested deeper (inr (inl (goes, turn, (m, on, holds)))) = rw goes (rw (turn-own p.side c turn) (has_any f (moves p) m on (deeper m holds)))
+  ply-tested deeper (inr (inl (goes, turn, (m, on, holds)))) = rw goes (rw (from_same_colour p.side c turn) (has_any f (moves p) m on (deeper m holds)))
   ply-tested deeper (inr (inr (goes, turn, all))) = rw goes (rw (turn-other p.side c turn) (at_all f (moves p) (λ m on. deeper m (all m on))))
 
 -- ---- so many plies

@@ -1,12 +1,13 @@
 -- The loop over the lines.
 use Rattle.std.proofs.Common.{◌≡◌, refl, sym, ◌∙◌, ap, subst, false}
+use Rattle.std.proofs.lemmas.Result.{IfOk-weaker}
 use Rattle.io_edge.specs.Outside.{Rose}
 use Rattle.line_feed.specs.Ahead.{ahead_of}
 use Rattle.audit_core.specs.declared.findings.Fault.TheVariants.{Ended, Broke}
 use Rattle.audit_core.specs.AuditState.{AuditState, is_ended, break_off}
 use Rattle.audit_command.specs.Wires.{Wire, wire}
 use Rattle.audit_command.specs.Runs.{RanOver}
-use Rattle.audit_command.proofs.Progress.{progress_begin, progress_on, ran_long, ran_over, ran_out, ran_unread, ran_unsent, ok_map}
+use Rattle.audit_command.proofs.Progress.{progress_begin, progress_on, ran_long, ran_over, ran_out, ran_unread, ran_unsent}
 use Rattle.audit_command.proofs.run.run_audit.Goals as goal
 
 pub turns-init : goal.turns-init
@@ -50,7 +51,7 @@ returns-in-Ended g c =
     let s : AuditState = c.turns.auditor in
     let u : AuditState = n.auditor in
     let goes_on : is_ended s.stage ≡ false = sym c.is_over.ensures ∙ c.if-is_over.false in
-    ok_map c.broken.result (λ t. t ≡ break_off u Ended) (λ t. RanOver c.args.plan t w0 w)
+    IfOk-weaker c.broken.result (λ t. t ≡ break_off u Ended) (λ t. RanOver c.args.plan t w0 w)
     (λ t e. ran_out c.args.plan s u t (ahead_of c.turns.reader (g.L.Source.rest c.turns.link)) (ahead_of n.reader (g.L.Source.rest n.link)) w0 w (g.L.Sink.written c.turns.link) c.turns.invariant.progress goes_on c.in-Ended.ensures.turns e)
     c.broken.ensures
 
@@ -62,7 +63,7 @@ returns-in-ReadFault g c =
     let s : AuditState = c.turns.auditor in
     let u : AuditState = n.auditor in
     let rose : Rose w0.reads w.reads = subst (λ k. Rose k w.reads) c.turns.invariant.reads (c.in-ReadFault.ensures.reads.rose refl) in
-    ok_map c.broken-in-ReadFault.result (λ t. t ≡ break_off u c.unread.result) (λ t. RanOver c.args.plan t w0 w)
+    IfOk-weaker c.broken-in-ReadFault.result (λ t. t ≡ break_off u c.unread.result) (λ t. RanOver c.args.plan t w0 w)
     (λ t e. ran_unread c.args.plan s u t (ahead_of c.turns.reader (g.L.Source.rest c.turns.link)) (ahead_of n.reader (g.L.Source.rest n.link)) w0 w (g.L.Sink.written c.turns.link) c.turns.invariant.progress c.in-ReadFault.ensures.turns (e ∙ ap (break_off u) c.unread.ensures) rose)
     c.broken-in-ReadFault.ensures
 
@@ -74,6 +75,6 @@ returns-in-WriteFault g c =
     let s : AuditState = c.turns.auditor in
     let u : AuditState = n.auditor in
     let rose : Rose w0.writes w.writes = subst (λ k. Rose k w.writes) c.turns.invariant.writes (c.in-WriteFault.ensures.writes.rose refl) in
-    ok_map c.broken-in-WriteFault.result (λ t. t ≡ break_off u Broke) (λ t. RanOver c.args.plan t w0 w)
+    IfOk-weaker c.broken-in-WriteFault.result (λ t. t ≡ break_off u Broke) (λ t. RanOver c.args.plan t w0 w)
     (λ t e. ran_unsent c.args.plan s u t (ahead_of c.turns.reader (g.L.Source.rest c.turns.link)) (ahead_of n.reader (g.L.Source.rest n.link)) w0 w (g.L.Sink.written c.turns.link) c.turns.invariant.progress c.in-WriteFault.ensures.turns e rose)
     c.broken-in-WriteFault.ensures

@@ -1,7 +1,7 @@
 use Rattle.std.proofs.Common.{List, [], ◌∷◌, ◌++◌, sym, ◌∙◌, ap}
 use Rattle.hive_model.specs.declared.places.Move.{Move}
 use Rattle.hive_model.specs.Stack.{level_of}
-use Rattle.audit_core.proofs.Picks.{taken_next}
+use Rattle.game_text.proofs.WriteLaws.{taken_next}
 use Rattle.audit_core.proofs.lists.level_moves.Goals as goal
 
 pub loop-i-preserved : goal.loop-i-preserved

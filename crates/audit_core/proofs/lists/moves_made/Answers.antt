@@ -1,6 +1,6 @@
 use Rattle.std.proofs.Common.{List, [], ◌∷◌, ◌++◌, sym, ◌∙◌, ap}
 use Rattle.hive_model.specs.declared.places.Move.{Move}
-use Rattle.audit_core.proofs.Picks.{taken_next}
+use Rattle.game_text.proofs.WriteLaws.{taken_next}
 use Rattle.audit_core.proofs.lists.moves_made.Goals as goal
 
 pub loop-i-preserved : goal.loop-i-preserved

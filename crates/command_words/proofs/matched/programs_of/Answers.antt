@@ -1,10 +1,11 @@
 use Rattle.std.proofs.Common.{◌≡◌, ◌∙◌, ◌<◌, ap, subst, length, map, codes, MatchOption}
+use Rattle.std.proofs.lemmas.Result.{IfOk-weaker}
 use Rattle.std.specs.Prelude.{string_bytes}
 use Rattle.option_words.specs.Options.{Gives, value_at}
 use Rattle.command_words.specs.declared.matched.Programs.{Programs}
 use Rattle.command_words.specs.Matches.{AskForPrograms, Choices, between_spaces, match_choices, match_options, match_values}
 use Rattle.command_words.proofs.GivenLemmas.{none_given}
-use Rattle.command_words.proofs.MatchLemmas.{both-ok, value_read, values_read, weaker-ok}
+use Rattle.command_words.proofs.MatchLemmas.{both-ok, value_read, values_read}
 use Rattle.command_words.proofs.ProgramLaws.{words-some}
 use Rattle.command_words.proofs.matched.programs_of.Goals as goal
 
@@ -27,12 +28,12 @@ unreachable-requires-in_default-value-2 c =
 
 pub returns-clause-white : goal.returns-clause-white
 returns-clause-white c =
-    weaker-ok c.programs_in.result (λ (p : Programs). map string_bytes p.white.items ≡ between_spaces c.in-Some-value.white.now) (λ (p : Programs). 0 < length p.white.items)
+    IfOk-weaker c.programs_in.result (λ (p : Programs). map string_bytes p.white.items ≡ between_spaces c.in-Some-value.white.now) (λ (p : Programs). 0 < length p.white.items)
     (λ p e. words-some p.white.items c.in-Some-value.white.now e) c.programs_in.ensures.white
 
 pub returns-clause-black : goal.returns-clause-black
 returns-clause-black c =
-    weaker-ok c.programs_in.result (λ (p : Programs). map string_bytes p.black.items ≡ between_spaces c.in-Some-value-2.black.now) (λ (p : Programs). 0 < length p.black.items)
+    IfOk-weaker c.programs_in.result (λ (p : Programs). map string_bytes p.black.items ≡ between_spaces c.in-Some-value-2.black.now) (λ (p : Programs). 0 < length p.black.items)
     (λ p e. words-some p.black.items c.in-Some-value-2.black.now e) c.programs_in.ensures.black
 
 pub returns-clause-programs : goal.returns-clause-programs

@@ -1,11 +1,12 @@
 use Rattle.std.proofs.Common.{◌≡◌, ◌≤◌, ◌∙◌, ap, subst, length, map, codes, MatchOption}
+use Rattle.std.proofs.lemmas.Result.{IfOk-weaker}
 use Rattle.std.specs.Prelude.{string_bytes}
 use Rattle.option_words.specs.Options.{Gives, value_at}
 use Rattle.command_words.specs.Engines.{engine_of, program_texts}
 use Rattle.command_words.specs.Tournaments.{AskForTournamentEngines, TournamentOptions, tournament_choices, tournament_options}
 use Rattle.command_words.proofs.EngineLemmas.{engines_few, engines_some, text_read}
 use Rattle.command_words.proofs.GivenLemmas.{none_given, values_are}
-use Rattle.command_words.proofs.MatchLemmas.{value_read, weaker-ok}
+use Rattle.command_words.proofs.MatchLemmas.{value_read}
 use Rattle.command_words.proofs.TournamentLemmas.{asked, tournament_read}
 use Rattle.command_words.proofs.tournaments.tournament_engines_of.Goals as goal
 
@@ -24,13 +25,13 @@ pub returns-clause-some : goal.returns-clause-some
 returns-clause-some c =
     let (s, r, g, n, p, w) = c.requires in
     let read = text_read w.options.engines _ c.in-Some.is (c.in_ok-given.ensures.only (asked w.options) w.options.give) c.in-Some-value.is c.value.ensures in
-    weaker-ok c.programs_in.result (λ e. e.items ≡ map engine_of (program_texts c.in-Some-value.engines.now)) (λ e. 2 ≤ length e.items) (λ e is. engines_some e.items _ _ is read w.programs) c.programs_in.ensures
+    IfOk-weaker c.programs_in.result (λ e. e.items ≡ map engine_of (program_texts c.in-Some-value.engines.now)) (λ e. 2 ≤ length e.items) (λ e is. engines_some e.items _ _ is read w.programs) c.programs_in.ensures
 
 pub returns-clause-few : goal.returns-clause-few
 returns-clause-few c =
     let (s, r, g, n, p, w) = c.requires in
     let read = text_read w.options.engines _ c.in-Some.is (c.in_ok-given.ensures.only (asked w.options) w.options.give) c.in-Some-value.is c.value.ensures in
-    weaker-ok c.programs_in.result (λ e. e.items ≡ map engine_of (program_texts c.in-Some-value.engines.now)) (λ e. length e.items ≤ 64) (λ e is. engines_few e.items _ _ is read w.programs) c.programs_in.ensures
+    IfOk-weaker c.programs_in.result (λ e. e.items ≡ map engine_of (program_texts c.in-Some-value.engines.now)) (λ e. length e.items ≤ 64) (λ e is. engines_few e.items _ _ is read w.programs) c.programs_in.ensures
 
 pub returns-clause-engines : goal.returns-clause-engines
 returns-clause-engines c =
@@ -46,4 +47,4 @@ returns-clause-engines c =
       resume = value_at c.in-Some.given 12;
       give = subst (Gives (map string_bytes c.args.words.now) (codes "tournament") tournament_options) same gives;
     } in
-    weaker-ok c.programs_in.result (λ e. e.items ≡ map engine_of (program_texts c.in-Some-value.engines.now)) (λ e. AskForTournamentEngines c.args.words.now e.items) (λ e is. record { options = options; engines_are = is }) c.programs_in.ensures
+    IfOk-weaker c.programs_in.result (λ e. e.items ≡ map engine_of (program_texts c.in-Some-value.engines.now)) (λ e. AskForTournamentEngines c.args.words.now e.items) (λ e is. record { options = options; engines_are = is }) c.programs_in.ensures

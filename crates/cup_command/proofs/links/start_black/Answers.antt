@@ -1,17 +1,18 @@
 use Rattle.std.proofs.Common.{rules, ◌≡◌, ◌∷◌, ◌++◌, [], arith, ap, ◌∙◌, refl, subst}
+use Rattle.std.proofs.lemmas.Result.{IfOk-weaker}
 use Rattle.io_edge.specs.Starts.{Engines}
 use Rattle.match_runner.specs.Wires.{Wire, wire}
 use Rattle.cup.specs.Played.{Job}
 use Rattle.cup_command.specs.Links.{ClosesLinks, all_links, links_of}
 use Rattle.cup_command.proofs.Chains.{closes-append}
 use Rattle.cup_command.proofs.Breaks.{gives-none, gives-one}
-use Rattle.cup_command.proofs.Kept.{cause-moved, cause-none, cause-same, if-ok, on-err, on-ok}
+use Rattle.cup_command.proofs.Kept.{cause-moved, cause-none, cause-same, on-err, on-ok}
 use Rattle.cup_command.proofs.links.start_black.Goals as goal
 
 pub returns-in-Ok-clause-kept : goal.returns-in-Ok-clause-kept
 returns-in-Ok-clause-kept g c =
     let b : Wire = wire (g.P.Engine.Source.rest c.in-Ok.black) (g.P.Engine.Sink.written c.in-Ok.black) (g.P.Engine.Source.read_faults c.in-Ok.black) (g.P.Engine.Sink.write_faults c.in-Ok.black) in
-    if-ok _ _ (λ games kept. (b, record { reads = c.in-Ok.ensures.fresh.0; writes = c.in-Ok.ensures.fresh.1 }, search rules, kept ∙ ap (λ (j : Job). c.args.jobs.items ++ j ∷ []) c.new-job.ensures)) c.keep_game.result c.keep_game.ensures.kept
+    IfOk-weaker c.keep_game.result _ _ (λ games kept. (b, record { reads = c.in-Ok.ensures.fresh.0; writes = c.in-Ok.ensures.fresh.1 }, search rules, kept ∙ ap (λ (j : Job). c.args.jobs.items ++ j ∷ []) c.new-job.ensures)) c.keep_game.ensures.kept
 
 pub returns-in-Ok-clause-starts : goal.returns-in-Ok-clause-starts
 returns-in-Ok-clause-starts g c =

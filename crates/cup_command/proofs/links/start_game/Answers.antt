@@ -1,16 +1,17 @@
 use Rattle.std.proofs.Common.{rules, ◌∷◌, ◌∙◌, ℕ, List, [], arith, ap, refl}
+use Rattle.std.proofs.lemmas.Result.{IfOk-weaker}
 use Rattle.io_edge.specs.Outside.{with_last}
 use Rattle.match_runner.specs.Wires.{Wire, wire}
 use Rattle.cup_command.specs.Cup.{started_after, words_of}
 use Rattle.cup_command.specs.Links.{all_links}
 use Rattle.cup_command.proofs.Breaks.{gives-none, gives-same, one-before, started-more}
-use Rattle.cup_command.proofs.Kept.{cause-moved, cause-same, cause-then, if-ok, on-err, on-ok}
+use Rattle.cup_command.proofs.Kept.{cause-moved, cause-same, cause-then, on-err, on-ok}
 use Rattle.cup_command.proofs.links.start_game.Goals as goal
 
 pub returns-in-Ok-clause-kept : goal.returns-in-Ok-clause-kept
 returns-in-Ok-clause-kept g c =
     let w : Wire = wire (g.P.Engine.Source.rest c.in-Ok.white) (g.P.Engine.Sink.written c.in-Ok.white) (g.P.Engine.Source.read_faults c.in-Ok.white) (g.P.Engine.Sink.write_faults c.in-Ok.white) in
-    if-ok _ _ (λ games kept. (w, kept.0, record { reads = c.in-Ok.ensures.fresh.0; writes = c.in-Ok.ensures.fresh.1 }, kept.1, (_, c.in-Ok.ensures.next, (_, kept.2, refl)), kept.3)) c.start_black.result c.start_black.ensures.kept
+    IfOk-weaker c.start_black.result _ _ (λ games kept. (w, kept.0, record { reads = c.in-Ok.ensures.fresh.0; writes = c.in-Ok.ensures.fresh.1 }, kept.1, (_, c.in-Ok.ensures.next, (_, kept.2, refl)), kept.3)) c.start_black.ensures.kept
 
 pub returns-in-Ok-clause-starts : goal.returns-in-Ok-clause-starts
 returns-in-Ok-clause-starts g c =

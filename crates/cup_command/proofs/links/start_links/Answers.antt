@@ -1,9 +1,10 @@
 use Rattle.std.proofs.Common.{◌<◌, ◌∙◌, List, length, map, get_or, ap, sym, refl, subst}
+use Rattle.std.proofs.lemmas.List.{get_or_default}
 use Rattle.cup.specs.declared.pairing.Pairing.{Pairing}
 use Rattle.cup.specs.Played.{pairing}
 use Rattle.cup_command.specs.Links.{IsPaired}
 use Rattle.cup_command.proofs.Breaks.{started-none}
-use Rattle.cup_command.proofs.Steps.{get_or-any, gives-up, kept-end, kept-step, named-end, named-step, next-none, next-step, ready-none, ready-step}
+use Rattle.cup_command.proofs.Steps.{gives-up, kept-end, kept-step, named-end, named-step, next-none, next-step, ready-none, ready-step}
 use Rattle.cup_command.proofs.Pairs.{paired-at}
 use Rattle.cup_command.proofs.Kept.{cause-before, no-cause}
 use Rattle.cup_command.proofs.links.start_links.Goals as goal
@@ -22,7 +23,7 @@ loop-place-preserved g c =
     let jobs = c.loop-place.jobs.items in
     let jobs_now = c.in-Ok.more.items in
     let low = c.loop-place-test.true in
-    let same = get_or-any c.args.games.now i _ game low in
+    let same = get_or_default c.args.games.now i _ game low in
     record {
       kept = kept-step c.args.games.now jobs jobs_now i game c.args.setup w b low same so.kept more;
       ready = ready-step c.args.setup jobs jobs_now game w b wf bf so.ready more;
@@ -63,7 +64,7 @@ returns-in-Err-clause-closed g c =
     let game : Pairing = get_or c.args.games.now i (record { white = 0; black = 0 }) in
     let so = c.loop-place.invariant in
     let low = c.loop-place-test.true in
-    gives-up _ c.args.programs.now c.args.games.now c.loop-place.jobs.items i game _ _ _ c.requires.games low (get_or-any c.args.games.now i _ game low) so.kept so.next so.sent so.named c.in-Err.ensures.closed
+    gives-up _ c.args.programs.now c.args.games.now c.loop-place.jobs.items i game _ _ _ c.requires.games low (get_or_default c.args.games.now i _ game low) so.kept so.next so.sent so.named c.in-Err.ensures.closed
 
 pub returns-in-Err-clause-cause : goal.returns-in-Err-clause-cause
 returns-in-Err-clause-cause g c =

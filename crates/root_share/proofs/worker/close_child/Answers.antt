@@ -5,7 +5,7 @@ use mir.Syntax.{w32}
 use Rattle.hive_model.specs.Legal.{moves}
 use Rattle.hive_model.specs.Courses.{position}
 use Rattle.search_laws.proofs.LoopLaws.{on-at}
-use Rattle.root_share.proofs.ReplyLaws.{worth-within}
+use Rattle.search_laws.proofs.RootLaws.{small-value}
 use Rattle.root_share.proofs.PlaysLaws.{child-more}
 use Rattle.root_share.proofs.worker.close_child.Goals as goal
 
@@ -21,7 +21,7 @@ child_worth-worth-requires-clause-child g c =
 
 pub child_worth-worth-requires-clause-bound : goal.child_worth-worth-requires-clause-bound
 child_worth-worth-requires-clause-bound g c =
-    let small = worth-within c.args.seat.now.me.0.root c.args.depth c.requires.ready.deep in
+    let small = small-value c.args.seat.now.me.0.root c.args.depth c.requires.ready.deep in
     let high = small.high in
     let most = c.requires.bound.most in
     record { low = search rules; high = omega (arith, ints, most, high) }

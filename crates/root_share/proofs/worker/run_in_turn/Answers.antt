@@ -2,8 +2,9 @@ use Rattle.std.proofs.Common.{◌≡◌, Some, refl, sym, ap, ◌∙◌, arith}
 use Rattle.std.specs.List.{slice_get}
 use Rattle.hive_model.specs.Legal.{moves}
 use Rattle.hive_model.specs.Courses.{Course, position}
+use Rattle.search_laws.proofs.HintLaws.{at-place}
 use Rattle.root_share.proofs.AnswerLaws.{answer-start, answer-other, answer-next, answer-end}
-use Rattle.root_share.proofs.ChildLaws.{count-is, get-is, some-move}
+use Rattle.root_share.proofs.ChildLaws.{count-is, get-is}
 use Rattle.root_share.proofs.ReadyLaws.{known-still}
 use Rattle.root_share.proofs.PlaysLaws.{plays-start, plays-step, plays-other, plays-spared, plays-known, plays-end, plays-more, other-before, next-before}
 use Rattle.root_share.proofs.worker.run_in_turn.Goals as goal
@@ -24,7 +25,7 @@ loop-child-init g c = record {
 pub loop-child-preserved-then-child-parts : goal.loop-child-preserved-then-child-parts
 loop-child-preserved-then-child-parts g c =
     let turn = c.loop-child.invariant in
-    let m = some-move (moves c.args.seat.now.me.0.root) c.loop-child.child (omega (arith, c.loop-child-test.true, count-is (moves c.args.seat.now.me.0.root) c.args.root.now c.level_len-count.result c.requires.begin.listed c.level_len-count.ensures)) in
+    let m = at-place (moves c.args.seat.now.me.0.root) c.loop-child.child (omega (arith, c.loop-child-test.true, count-is (moves c.args.seat.now.me.0.root) c.args.root.now c.level_len-count.result c.requires.begin.listed c.level_len-count.ensures)) in
     record {
       seat = turn.seat;
       root = turn.root;
@@ -41,7 +42,7 @@ pub loop-child-preserved-then-child-tried : goal.loop-child-preserved-then-child
 loop-child-preserved-then-child-tried g c =
     let turn = c.loop-child.invariant in
     let p = c.args.seat.now.me.0.root in
-    let m = some-move (moves p) c.loop-child.child (omega (arith, c.loop-child-test.true, count-is (moves p) c.args.root.now c.level_len-count.result c.requires.begin.listed c.level_len-count.ensures)) in
+    let m = at-place (moves p) c.loop-child.child (omega (arith, c.loop-child-test.true, count-is (moves p) c.args.root.now c.level_len-count.result c.requires.begin.listed c.level_len-count.ensures)) in
     let here : c.loop-child.child ≡ c.args.tried = c.if-child-tried.true in
     let there : slice_get (moves p) c.args.tried ≡ Some m.0 = rw (← here) m.1 in
     record {

@@ -1,15 +1,16 @@
 use Rattle.std.proofs.Common.{◌∙◌, None, [], length, ap, subst}
 use Rattle.command_runs.specs.World.{sides, times, world}
 use Rattle.command_runs.specs.declared.status.Status.TheVariants.{Done}
+use Rattle.command_runs.proofs.WrittenLemmas.{behind_none}
 use Rattle.tournament_core.specs.declared.plan.Plan.{Plan}
 use Rattle.tournament_core.specs.Counts.{IsTallyOf}
 use Rattle.tournament_games.specs.Waves.{resumed}
-use Rattle.tournament_games.proofs.Runs.{ends-run, games-open, starved-first, tells-run, told-none}
+use Rattle.tournament_games.proofs.Runs.{ends-run, games-open, starved-first, tells-run}
 use Rattle.tournament_games.proofs.playing.play_tournament.Goals as goal
 
 pub returns-in_default-clause-run : goal.returns-in_default-clause-run
 returns-in_default-clause-run g c rest times =
-    starved-first c.args.tournament.now c.args.played.now (world (sides rest (g.K.Sink.written c.args.output.now)) times (g.P.Spawner.engines c.args.spawner.now)) (told-none (g.K.Sink.written c.args.output.now))
+    starved-first c.args.tournament.now c.args.played.now (world (sides rest (g.K.Sink.written c.args.output.now)) times (g.P.Spawner.engines c.args.spawner.now)) (behind_none (g.K.Sink.written c.args.output.now))
 
 pub returns-in-Done-clause-run : goal.returns-in-Done-clause-run
 returns-in-Done-clause-run g c rest times =

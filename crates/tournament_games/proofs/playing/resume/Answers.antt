@@ -1,5 +1,5 @@
 use Rattle.std.proofs.Common.{◌+◌, ◌∙◌, ap, sym, subst}
-use Rattle.cup_command.proofs.Steps.{get_or-any}
+use Rattle.std.proofs.lemmas.List.{get_or_default}
 use Rattle.tournament_core.specs.Counts.{IsTallyOf}
 use Rattle.tournament_games.proofs.Runs.{resumed-none, resumed-noted}
 use Rattle.tournament_games.proofs.playing.resume.Goals as goal
@@ -15,5 +15,5 @@ pub loop-place-preserved : goal.loop-place-preserved
 loop-place-preserved c = record {
   engines = c.note.ensures.engines ∙ c.loop-place.invariant.engines;
   games = c.note.ensures.count ∙ ap (λ n. n + 1) c.loop-place.invariant.games;
-  noted = resumed-noted c.args.plan c.args.ends.now c.loop-place.place c.fixture.result c.note.new.self c.fixture.ensures.there c.loop-place-test.true (c.note.ensures.noted _ c.loop-place.invariant.noted) (get_or-any c.args.ends.now c.loop-place.place _ _ c.loop-place-test.true);
+  noted = resumed-noted c.args.plan c.args.ends.now c.loop-place.place c.fixture.result c.note.new.self c.fixture.ensures.there c.loop-place-test.true (c.note.ensures.noted _ c.loop-place.invariant.noted) (get_or_default c.args.ends.now c.loop-place.place _ _ c.loop-place-test.true);
 }

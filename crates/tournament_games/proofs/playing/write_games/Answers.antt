@@ -2,7 +2,8 @@ use Rattle.std.proofs.Common.{◌≡◌, ◌+◌, ◌≤◌, ◌∙◌, [], refl
 use Rattle.io_edge.specs.Outside.{HasCause}
 use Rattle.command_runs.specs.World.{sides, world}
 use Rattle.command_runs.specs.declared.status.Status.TheVariants.{WriteFault}
-use Rattle.tournament_games.proofs.Runs.{ends-games, told-none, wrote-more, wrote-none}
+use Rattle.command_runs.proofs.WrittenLemmas.{behind_none}
+use Rattle.tournament_games.proofs.Runs.{ends-games, wrote-more, wrote-none}
 use Rattle.tournament_games.proofs.playing.write_games.Goals as goal
 
 pub loop-done-init : goal.loop-done-init
@@ -12,7 +13,7 @@ loop-done-init g c = record {
     [],
     [],
     omega arith,
-    wrote-none c.args.tournament.now c.args.first c.args.tally.now (world (sides rest (g.K.Sink.written c.args.output.now)) times (g.P.Spawner.engines c.args.spawner.now)) (told-none (g.K.Sink.written c.args.output.now)),
+    wrote-none c.args.tournament.now c.args.first c.args.tally.now (world (sides rest (g.K.Sink.written c.args.output.now)) times (g.P.Spawner.engines c.args.spawner.now)) (behind_none (g.K.Sink.written c.args.output.now)),
   );
   engines = refl;
   noted = c.requires.noted;

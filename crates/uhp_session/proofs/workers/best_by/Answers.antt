@@ -1,15 +1,12 @@
-use Rattle.std.proofs.Common.{◌≡◌, ℕ, ◌≤◌, List, Some, drop, map, length, false, subst, sym, ap, ◌∙◌}
-use Rattle.std.specs.List.{All}
+use Rattle.std.proofs.Common.{◌≡◌, ℕ, ◌≤◌, Some, drop, length, false, subst, sym, ap, ◌∙◌}
+use Rattle.std.proofs.lemmas.List.Elements.{All-map}
 use Rattle.root_share.specs.Answer.{IsGameOf}
-use Rattle.root_share.proofs.EqualLaws.{each-image, equal-games, all-spare}
+use Rattle.root_share.proofs.EqualLaws.{equal-games, all-spare}
 use Rattle.hive_model.specs.Legal.{is_over}
 use Rattle.hive_model.specs.Minimax.{best}
 use Rattle.uhp_session.specs.Teams.{AreSearchersOf}
 use Rattle.uhp_session.proofs.TeamLaws.{all-deep, back-prepared, back-many, root-is}
 use Rattle.uhp_session.proofs.workers.best_by.Goals as goal
-
-each : {A B : Type 0} (xs : List A) (f : A → B) (P : B → Type 0) → All (λ x. P (f x)) xs → All P (map f xs)
-each xs f P all = each-image f P xs all
 
 pub best_shared-requires-clause-workers : goal.best_shared-requires-clause-workers
 best_shared-requires-clause-workers g c κs within =
@@ -17,7 +14,7 @@ best_shared-requires-clause-workers g c κs within =
     let ms = c.args.moves.now in
     let ws = c.deref_mut.result.now in
     let taken = c.in_ok-searchers.ensures.taken in
-    let images = each ws (λ w. g.G.Game.course w.game) (IsGameOf t ms c.args.depth) (rw c.deref_mut.ensures.value c.in_ok-workers.ensures.games) in
+    let images = All-map (IsGameOf t ms c.args.depth) (λ w. g.G.Game.course w.game) ws (rw c.deref_mut.ensures.value c.in_ok-workers.ensures.games) in
     let some : 1 ≤ length ws = rw c.deref_mut.ensures.value (rw c.in_ok-workers.ensures.count (rw taken.count c.requires.team.workers)) in
     let root = root-is t ms c.args.depth ws (λ w. g.G.Game.course w.game) some (rw c.deref_mut.ensures.value c.in_ok-workers.ensures.games) in
     record {
@@ -26,7 +23,7 @@ best_shared-requires-clause-workers g c κs within =
       equal = equal-games t ms c.args.depth _ images;
       goes_on = subst (λ p. is_over p ≡ false) (sym root) c.requires.goes_on;
       spare = all-spare t ms c.args.depth _ images;
-      prepared = each ws (λ w. w.searcher) (λ (n : ℕ). c.args.depth ≤ n)
+      prepared = All-map (λ (n : ℕ). c.args.depth ≤ n) (λ w. w.searcher) ws
           (all-deep ws (λ w. w.searcher) c.args.depth c.requires.deep (rw c.deref_mut.ensures.value c.in_ok-workers.ensures.prepared));
     }
 
