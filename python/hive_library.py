@@ -1,6 +1,6 @@
 """Hive in Python's own process: the rules and the search, over the shared library.
 
-    hive = Hive("libhive_library.so")
+    hive = Hive()
     hive.moves("Base")            # 'wS1;wB1;wA1;wG1;wQ' or so, as `validmoves` lists them
     hive.after("Base", "wS1")     # 'Base;InProgress;Black[1];wS1'
 
@@ -8,6 +8,7 @@ Each method is the function of its name in c/hive_library.h, and answers its tex
 status is that of the header.
 """
 import ctypes
+import pathlib
 
 
 class HiveError(Exception):
@@ -19,11 +20,13 @@ class HiveError(Exception):
 
 
 class Hive:
-    """The library at a path. Its methods may be called by several threads at once."""
+    """The library. Its methods may be called by several threads at once."""
 
-    def __init__(self, path):
-        """Loads the shared library."""
-        self._library = ctypes.CDLL(path)
+    def __init__(self, path=None):
+        """Loads the shared library at a path: with none the one beside this file, where pip puts it, or in the folder lib beside it."""
+        here = pathlib.Path(__file__).resolve().parent
+        beside = [it / "libhive_library.so" for it in (here, here / "lib")]
+        self._library = ctypes.CDLL(str(path or next((it for it in beside if it.exists()), beside[0])))
 
     def _call(self, name, *given, room=1 << 14):
         """The text that a function puts, for texts and numbers; a room that is too short is made longer once."""

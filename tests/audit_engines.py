@@ -4,20 +4,19 @@ audited.
 
 Usage: audit_engines.py NAME, of the names in WRONG, of which the rules of `none` are right.
 """
-import importlib.util
 import os
 import pathlib
 import sys
 import time
+import types
 
 REFERENCE = pathlib.Path(__file__).resolve().parent / "reference.py"
 
 
 def fresh_rules():
     """The rules as a module of its own, to be changed."""
-    spec = importlib.util.spec_from_file_location("changed_rules", REFERENCE)
-    rules = importlib.util.module_from_spec(spec)
-    spec.loader.exec_module(rules)
+    rules = types.ModuleType("changed_rules")
+    exec(compile(REFERENCE.read_text(encoding="utf-8"), REFERENCE, "exec"), rules.__dict__)
     return rules
 
 

@@ -3,4 +3,4 @@
 # a program alone where it has nothing to add.
 set -eu
 top=$(cd "$(dirname "$0")/.." && pwd)
-timeout 60 python3 "$top/tests/launcher.py" "$top"
+timeout 200 python3 "$top/tests/launcher.py" "$top"

@@ -1,19 +1,21 @@
 #!/usr/bin/env python3
 """Compares the library for C with the built program, byte for byte, in C and in Python.
 
-Usage: library.py PROGRAM FOLDER ARCHIVE COMPILER [SANITIZED], called by library.sh, which makes what FOLDER holds: `library`, the program
-of library.c, and the shared library. Ends with status 0 where all answers are the same.
+Usage: library.py PROGRAM LIBRARY DRIVER [SANITIZED], called by library.sh: LIBRARY is the folder that `./build library` left, and DRIVER the
+program of library.c over it. Ends with status 0 where all answers are the same.
 """
+import os
 import pathlib
 import random
 import re
 import subprocess
 import sys
+import tempfile
 
 from viewer import Engine, expect
 
 TOP = pathlib.Path(__file__).resolve().parent.parent
-sys.path.insert(0, str(TOP / "python"))
+sys.path.insert(0, sys.argv[2])
 import hive_library  # noqa: E402
 
 GAMES = 200
@@ -158,25 +160,22 @@ def compare(found, wanted, requests):
         expect(f"{request[0]} {request[1]} {request[2][:200]!r} {request[3]!r}", answer, expected)
 
 
-def pages(folder, archive, compiler):
+def pages(library):
     """The programs of docs/LIBRARY.md, each a block behind which stands a block of what it writes."""
     page = (TOP / "docs" / "LIBRARY.md").read_text(encoding="utf-8")
     blocks = re.findall(r"^```(c|python)\n(.*?)^```\n+(?:[^`]*?\n)?```text\n(.*?)^```", page, re.MULTILINE | re.DOTALL)
     expect("languages of docs/LIBRARY.md", [language for language, _, _ in blocks], ["c", "python"])
-    for language, source, written in blocks:
-        path = pathlib.Path(folder) / f"page.{'c' if language == 'c' else 'py'}"
-        path.write_text(source, encoding="utf-8")
-        command = [sys.executable, str(path)]
-        if language == "c":
-            command = [str(path.with_suffix(""))]
-            strict = [compiler, "-Wall", "-Wextra", "-Werror", f"-I{TOP}/c"]
-            subprocess.run(strict + ["-o", command[0], str(path), f"{TOP}/c/heap.c", archive], check=True)
-        done = subprocess.run(command, cwd=folder, env={"PYTHONPATH": f"{TOP}/python"}, stdout=subprocess.PIPE, timeout=60, check=True)
-        expect(f"what the {language} program of docs/LIBRARY.md writes", done.stdout.decode(), written)
+    build = "cc -Wall -Wextra -Werror -o asks asks.c $(pkg-config --cflags --libs hive_library)"
+    with tempfile.TemporaryDirectory() as folder:
+        for (language, source, written), run in zip(blocks, (f"{build} && ./asks", f"{sys.executable} -B asks.python")):
+            (pathlib.Path(folder) / f"asks.{language}").write_text(source, encoding="utf-8")
+            env = {**os.environ, "PKG_CONFIG_PATH": f"{library}/lib/pkgconfig", "PYTHONPATH": library}
+            done = subprocess.run(["sh", "-c", run], cwd=folder, env=env, stdout=subprocess.PIPE, timeout=60, check=True)
+            expect(f"what the {language} program of docs/LIBRARY.md writes", done.stdout.decode(), written)
 
 
-def main(path, folder, archive, compiler, sanitized=None):
-    program, driver = Program(path), folder + "/library"
+def main(path, library, driver, sanitized=None):
+    program = Program(path)
     engine = Engine(path)
     engine.reply()
     games = [grown(engine, seed) for seed in range(GAMES)]
@@ -194,7 +193,7 @@ def main(path, folder, archive, compiler, sanitized=None):
     requests, wanted = [request for request, _ in pairs], [answer for _, answer in pairs]
     compare(answers(driver, requests), wanted, requests)
     print(f"library: {len(requests)} answers over {len(games)} games are those of the program")
-    hive = hive_library.Hive(folder + "/libhive_library.so")
+    hive = hive_library.Hive()
     for request, (status, _, text) in zip(requests, wanted):
         expect(f"in Python: {request[0]} {request[2][:200]!r}", in_python(hive, request), (status, text))
     print("library: Python has the same answers")
@@ -211,7 +210,7 @@ def main(path, folder, archive, compiler, sanitized=None):
         compare(answers(sanitized, part), wanted[::5], part)
         called(sanitized, "refuse", few)
         print(f"library: {len(part)} answers under the sanitizers of addresses and undefined behaviour")
-    pages(folder, archive, compiler)
+    pages(library)
     print("library: the programs of docs/LIBRARY.md write what stands there")
 
 

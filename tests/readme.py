@@ -90,7 +90,7 @@ def words_of_sources():
         if "out" in relative.parts or ".git" in relative.parts or "__pycache__" in relative.parts:
             continue
         words.update(re.findall(r"\w+", str(relative)))
-        if file.suffix in (".rt", ".antt", ".py", ".sh", ".edit") or file.name in ("hive", "crates.txt", "run"):
+        if file.suffix in (".rt", ".antt", ".py", ".sh", ".edit") or file.name in ("hive", "build", "crates.txt", "run"):
             if file.is_file():
                 words.update(re.findall(r"\w+", file.read_text(encoding="utf-8")))
     return words
