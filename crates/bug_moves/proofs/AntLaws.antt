@@ -19,6 +19,7 @@ use Rattle.hive_model.proofs.GetLemmas.{get_within, get_exists, get_in_front, on
 use Rattle.bug_moves.specs.Adding.{IsAround, Gains}
 use Rattle.bug_moves.proofs.Gaining.{gains_toward}
 use Rattle.bug_moves.proofs.AtHive.{ground_at_hive, at_hive_within}
+use Rattle.bug_moves.specs.Trails.{sorted}
 use Rattle.bug_moves.specs.Walks.{StepAwayToward, AntWay, IsWorklist, Extends, IsExpanded}
 use Rattle.bug_moves.specs.Ways.{StepAway}
 
@@ -160,3 +161,6 @@ none_around b xs is none = subst (IsAround b) (sym none) (record { sound = is; i
 -- there are at most as many places at the hive as a list has room for
 pub found_few : (b : Stacks) (found : List Place) → IsAround b found → length found ≤ 196
 found_few b found h = touched_few b h.sound found h.in_order h.near
+
+pub no_worklist : (work : List Place) → work ≡ [] → IsWorklist (sorted work) work
+no_worklist work none = subst (λ ps. IsWorklist (sorted ps) ps) (sym none) (record { from_found = λ q on. absurd on; has_found = λ q on. absurd on; many = refl })

@@ -1,5 +1,6 @@
 -- A list that gained what a kind's ways lead to is its reach.
-use Rattle.std.proofs.Common.{◌≡◌, ◌≢◌, ℕ, Bool, true, List, [], ◌⊎◌, inl, inr, sym, ◌∙◌, subst}
+use Rattle.std.proofs.Common.{◌≡◌, ◌≢◌, ℕ, Bool, true, List, [], ◌↔◌, ◌⊎◌, inl, inr, sym, ◌∙◌, subst}
+use Rattle.std.specs.Prelude.{IsTrue}
 use Rattle.hive_model.specs.declared.pieces.Kind.{Kind}
 use Rattle.hive_model.specs.declared.pieces.Kind.TheVariants.{Queen, Beetle, Grasshopper, Pillbug, Spider, Ant, Ladybug}
 use Rattle.hive_model.specs.declared.places.Place.{Place}
@@ -60,3 +61,21 @@ ladybugs k b p xs ys e none h = reach_listed k Ladybug b p (InSome (UpToward b p
 -- a bug comes to as many places as an ant, if it is one
 pub ants_counted : (k : Kind) (b : Stacks) (p : Place) (n : ℕ) (answer : Bool) → answer ≡ is_kind k Ant → answer ≡ true → AreMany (AntWay b p) n → AreMany (Reach k b p) n
 ants_counted k b p n answer says is h = subst (λ i. AreMany (Reach i b p) n) (sym (same_kind k Ant (sym says ∙ is))) h
+
+-- A test of one place
+
+as_kind : (k j : Kind) (b : Stacks) (p q : Place) (S : Type 0) {answer : Bool} → k ≡ j → (S → Reach j b p q) → (Reach j b p q → S) → (IsTrue answer ↔ S) → IsTrue answer ↔ Reach k b p q
+as_kind k j b p q S {answer} is there back h = subst (λ i. IsTrue answer ↔ Reach i b p q) (sym is) ((λ e. there (h.0 e)), (λ r. h.1 (back r)))
+
+pub queen_reaches : (k : Kind) (b : Stacks) (p q : Place) {answer : Bool} → (k ≡ Queen) ⊎ (k ≡ Pillbug) → (IsTrue answer ↔ GroundStep b p q) → IsTrue answer ↔ Reach k b p q
+queen_reaches k b p q is h = elim is [
+  | inl e ↦ as_kind k Queen b p q (GroundStep b p q) e (λ s. (ground_moves b p q s, s)) (λ r. r.1) h
+  | inr e ↦ as_kind k Pillbug b p q (GroundStep b p q) e (λ s. (ground_moves b p q s, s)) (λ r. r.1) h
+]
+
+pub beetle_reaches : (k : Kind) (b : Stacks) (p q : Place) {answer : Bool} → k ≡ Beetle → (IsTrue answer ↔ BeetleStep b p q) → IsTrue answer ↔ Reach k b p q
+beetle_reaches k b p q is h = as_kind k Beetle b p q (BeetleStep b p q) is
+    (λ s. ((λ same. elim s [ inl g ↦ ground_moves b p q g same | inr c ↦ climb_moves b p q c same ]), s)) (λ r. r.1) h
+
+pub ant_reaches : (k : Kind) (b : Stacks) (p q : Place) {answer : Bool} → k ≡ Ant → (IsTrue answer ↔ AntWay b p q) → IsTrue answer ↔ Reach k b p q
+ant_reaches k b p q is h = as_kind k Ant b p q (AntWay b p q) is (λ s. s) (λ r. r) h

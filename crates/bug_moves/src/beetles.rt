@@ -50,7 +50,7 @@ pub fn may_climb_amid<B: Board>(board: &B, from: Place, dir: Dir, to: Place, tak
 }
 
 /// Whether a beetle makes the step in this direction. The directions of the ground steps are given.
-fn may_creep<B: Board>(board: &B, from: Place, dir: Dir, to: Place, slides: u8) -> bool
+pub fn may_creep<B: Board>(board: &B, from: Place, dir: Dir, to: Place, slides: u8) -> bool
     requires leads { to ≡ step from dir }
     requires within { IsOnTheMap from }
     requires slides { AreSlides (B.stacks board.now) from slides }

@@ -10,6 +10,7 @@ mod grasshoppers;
 mod ladybugs;
 mod mosquitoes;
 mod queens;
+mod reaching;
 mod spiders;
 mod trail;
 mod ways;
@@ -33,6 +34,7 @@ pub use ants::list_in_order;
 pub use found::add_new;
 use hive_model::{Board, Kind, Place, PlaceList};
 pub use mosquitoes::mosquito_reach;
+pub use reaching::reaches;
 pub use trail::Trail;
 
 /// The places that a bug of this kind reaches from a place, by q and then by r.

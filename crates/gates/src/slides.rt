@@ -10,11 +10,14 @@ ghost use Rattle.gates.specs.Slides.{AreSlides, has_dir, slides};
 use hive_model::{Board, Dir, Place, is_occupied};
 
 /// The directions of ground steps from an empty place, for each mask of its occupied neighbours.
-const SLIDES: [u8; 64] = [
+static SLIDES: [u8; 64] = [
     0, 34, 5, 36, 10, 40, 9, 40, 20, 54, 17, 48, 18, 48, 17, 48, 40, 10, 45, 12, 34, 0, 33, 0, 36,
     6, 33, 0, 34, 0, 33, 0, 17, 18, 20, 20, 27, 24, 24, 24, 5, 6, 0, 0, 3, 0, 0, 0, 9, 10, 12, 12,
     3, 0, 0, 0, 5, 6, 0, 0, 3, 0, 0, 0,
 ];
+
+/// The directions in the order of their bits.
+static DIRS: [Dir; 6] = Dir::ALL;
 
 /// Whether a mask has the bit of a direction.
 pub fn has_dir(mask: u8, dir: Dir) -> bool
@@ -32,8 +35,8 @@ pub fn split_first(mask: u8) -> (Dir, u8)
     ensures others { (d : Dir) → d ≢ result.0 → has_dir result.1 d ≡ has_dir mask d }
     ensures less { result.1 < mask }
 {
-    let dirs = Dir::ALL;
-    (dirs[mask.trailing_zeros() as usize], mask & (mask - 1))
+    let first = DIRS[mask.trailing_zeros() as usize];
+    (first, mask & (mask - 1))
 }
 
 /// The directions of ground steps from an empty place that has these occupied neighbours.
@@ -43,8 +46,7 @@ fn slides_amid(mask: u8) -> u8
         → has_dir result d ≡ slides r d }
     ensures bound { result < 64 }
 {
-    let rows = SLIDES;
-    rows[mask as usize]
+    SLIDES[mask as usize]
 }
 
 /// The directions of ground steps from an empty place, as a mask: the bits of the directions. The

@@ -71,8 +71,9 @@ pub fn bring_places<B: Board>(
     out: &mut PlaceList,
 )
     requires { out.old.items ≡ [] }
-    ensures { CanBring game_type (B.stacks board.now) colour turn
+    ensures all { CanBring game_type (B.stacks board.now) colour turn
         → AreAll (MayPlace (B.stacks board.now) colour) out.new.items }
+    ensures none { (¬ CanBring game_type (B.stacks board.now) colour turn) → out.new.items ≡ [] }
 {
     if can_bring(game_type, board, colour, turn) {
         placement_places(board, colour, out);
@@ -87,8 +88,9 @@ pub fn count_bring_places<B: Board>(
     colour: Colour,
     turn: u32,
 ) -> usize
-    ensures { CanBring game_type (B.stacks board.now) colour turn
+    ensures many { CanBring game_type (B.stacks board.now) colour turn
         → AreMany (MayPlace (B.stacks board.now) colour) result }
+    ensures none { (¬ CanBring game_type (B.stacks board.now) colour turn) → result ≡ 0 }
 {
     if can_bring(game_type, board, colour, turn) {
         return count_placement_places(board, colour);

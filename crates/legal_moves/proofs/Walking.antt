@@ -104,6 +104,25 @@ module _ (b c : Stacks) (x : ℕ) (s : Spot) (stands : spot_of b x ≡ Some s) (
   goes_itself k e other h = goes_as (subst (λ j. AreAll (MovesAs j c s.place) ys) e
       (all_same (Reach k c s.place) (MovesAs k c s.place) ys (λ q. let law = as_itself k c s.place q other in (law.1, law.0)) h))
 
+-- one place
+module _ (b c : Stacks) (x : ℕ) (s : Spot) (stands : spot_of b x ≡ Some s) (lifted : c ≡ lift b x) (q : Place) where
+  goes_one : MovesAs (kind_of x) c s.place q ↔ Goes b x q
+  goes_one = (
+    λ moves. (s, stands, subst (λ d. MovesAs (kind_of x) d s.place q) lifted moves),
+    λ h.
+        let same = same_spot (spot_of b x) h.0 s h.1 stands in
+        subst (λ (t : Spot). MovesAs (kind_of x) c t.place q) same (subst (λ d. MovesAs (kind_of x) d h.0.place q) (sym lifted) h.2),
+  )
+
+  pub mosquito_goes : kind_of x ≡ Mosquito → (answer : Bool) → IsTrue answer ↔ Copies c s.place q → IsTrue answer ↔ Goes b x q
+  mosquito_goes e answer h = let law = as_mosquito (kind_of x) c s.place q e in ((λ w. goes_one.0 (law.1 (h.0 w))), (λ r. h.1 (law.0 (goes_one.1 r))))
+
+  pub itself_goes : (k : Kind) → k ≡ kind_of x → k ≢ Mosquito → (answer : Bool) → IsTrue answer ↔ Reach k c s.place q → IsTrue answer ↔ Goes b x q
+  itself_goes k e other answer h =
+      let law = as_itself k c s.place q other in
+      let moves = subst (λ j. MovesAs j c s.place q ↔ Goes b x q) (sym e) goes_one in
+      ((λ w. moves.0 (law.1 (h.0 w))), (λ r. h.1 (law.0 (moves.1 r))))
+
 -- so many places are as many
 module _ (b c : Stacks) (x : ℕ) (s : Spot) (stands : spot_of b x ≡ Some s) (lifted : c ≡ lift b x) (n : ℕ) where
   pub mosquito_many : kind_of x ≡ Mosquito → AreMany (Copies c s.place) n → AreMany (Goes b x) n

@@ -5,11 +5,13 @@ ghost use Rattle.hive_model.specs.PlaceLists.{AreAll};
 ghost use Rattle.hive_model.specs.Boards.{IsBoard, is_on_top};
 ghost use Rattle.hive_model.specs.Evaluation.{IsFreePiece};
 ghost use Rattle.hive_model.specs.Legal.{Walk};
+ghost use Rattle.hive_model.specs.Places.{IsOnTheMap};
+ghost use Rattle.hive_model.specs.Reach.{Copies};
 ghost use Rattle.bug_moves.specs.Counts.{AreMany};
 ghost use Rattle.legal_moves.specs.Going.{Goes, position_of};
 
 use crate::turns::Turn;
-use bug_moves::{count_reach, mosquito_reach, reach};
+use bug_moves::{count_reach, mosquito_reach, reach, reaches};
 use hive_model::{Board, Cuts, Kind, Lifted, Piece, Place, PlaceList, has_place};
 
 /// Whether the piece may leave its place: it is on top, it does not rest, and its place is no cut
@@ -93,16 +95,32 @@ pub fn count_walks<B: Cuts>(board: &B, turn: &Turn, piece: Piece, places: &mut P
     count_goes(board, piece, places)
 }
 
-/// Whether the piece, which is on top, moves to the place by its kind's rule.
+/// Whether a mosquito that was lifted from the one place goes to the other. The list of where it
+/// goes is a function's own, so that no call that makes none pays for it.
 #[inline(never)]
+fn copies_to<B: Board>(board: &B, from: Place, to: Place) -> bool
+    requires { IsOnTheMap from }
+    ensures { IsTrue result ↔ Copies (B.stacks board.now) from to }
+{
+    let mut places = PlaceList::new();
+    mosquito_reach(board, from, &mut places);
+    has_place(places.as_slice(), to)
+}
+
+/// Whether the piece, which is on top, moves to the place by its kind's rule.
 fn goes_to<B: Board>(board: &B, piece: Piece, place: Place) -> bool
     requires board { IsBoard (B.stacks board.now) }
     requires top { IsTrue (is_on_top (B.stacks board.now) piece) }
     ensures { IsTrue result ↔ Goes (B.stacks board.now) piece place }
 {
-    let mut places = PlaceList::new();
-    go(board, piece, &mut places);
-    has_place(places.as_slice(), place)
+    let Some(spot) = board.spot(piece) else {
+        return false;
+    };
+    let lifted = Lifted::new(board, piece);
+    match piece.kind() {
+        Kind::Mosquito => copies_to(&lifted, spot.place, place),
+        kind => reaches(kind, &lifted, spot.place, place),
+    }
 }
 
 /// Whether the piece moves to the place by its kind's rule, as one of the side to move that may

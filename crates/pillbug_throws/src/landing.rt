@@ -6,7 +6,7 @@ ghost use Rattle.hive_model.specs.declared.places.Spot.{Spot};
 ghost use Rattle.hive_model.specs.Boards.{height_at, is_occupied};
 ghost use Rattle.hive_model.specs.Hive.{are_neighbours};
 ghost use Rattle.hive_model.specs.PlaceLists.{AreAll};
-ghost use Rattle.hive_model.specs.Places.{is_place, step, AreNeighbours, IsOnTheMap};
+ghost use Rattle.hive_model.specs.Places.{is_place, step, IsOnTheMap};
 ghost use Rattle.hive_model.specs.Positions.{is_piece};
 ghost use Rattle.hive_model.specs.Throws.{IsThrower};
 ghost use Rattle.pillbug_throws.specs.Throwing.{
@@ -17,7 +17,7 @@ ghost use Rattle.pillbug_throws.specs.Throwing.{
   ThrowsTo,
 };
 
-use gates::climb_ok;
+use gates::{climb_ok, climb_toward};
 use hive_model::{Board, Cuts, Dir, Lifted, Piece, Place, PlaceList, add_place};
 
 /// Whether a direction leads from one place to the other.
@@ -104,23 +104,24 @@ fn is_open<B: Board>(board: &B, from: Place, to: Place) -> bool
     board.height(to) == 0 && !from.is(to)
 }
 
-/// Whether a piece that was lifted from a place may come down from the thrower on this neighbour of
-/// it.
+/// Whether a piece that was lifted from a place may come down from the thrower on its neighbour in
+/// this direction.
 fn comes_down<B: Board, L: Board>(
     board: &B,
     lifted: &L,
     over: Place,
+    dir: Dir,
     from: Place,
     to: Place,
 ) -> bool
-    requires near { AreNeighbours over to }
+    requires leads { to ≡ step over dir }
     requires within { IsOnTheMap over }
     ensures { IsTrue result ↔ ComesDown (B.stacks board.now) (L.stacks lifted.now) over from to }
 {
     if !is_open(board, from, to) {
         return false;
     }
-    climb_ok(lifted, over, to)
+    climb_toward(lifted, over, dir, to)
 }
 
 /// Adds the neighbours of the thrower on which a piece that was lifted from a place may come down.
@@ -138,7 +139,7 @@ fn add_places<B: Board, L: Board>(
 {
     for dir in Dir::ALL {
         let to = over.step(dir);
-        if comes_down(board, lifted, over, from, to) {
+        if comes_down(board, lifted, over, dir, from, to) {
             add_place(out, to);
         }
     }

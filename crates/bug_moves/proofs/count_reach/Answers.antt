@@ -1,6 +1,4 @@
-use Rattle.std.proofs.Common.{sym, subst, arith}
-use Rattle.hive_model.proofs.PlaceListLaws.{all_same}
-use Rattle.hive_model.specs.Reach.{Reach}
+use Rattle.std.proofs.Common.{sym, arith}
 use Rattle.bug_moves.proofs.KindLaws.{ants_counted}
 use Rattle.bug_moves.proofs.count_reach.Goals as goal
 

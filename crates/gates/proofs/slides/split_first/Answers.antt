@@ -1,8 +1,8 @@
 use Rattle.gates.proofs.Firsts.{first_low, first_has, first_gone, first_others}
 use Rattle.gates.proofs.slides.split_first.Goals as goal
 
-pub bounds-dirs-mask : goal.bounds-dirs-mask
-bounds-dirs-mask c = first_low c.args.mask c.requires.some c.requires.few
+pub bounds-mask : goal.bounds-mask
+bounds-mask c = first_low c.args.mask c.requires.some c.requires.few
 
 pub returns-clause-has : goal.returns-clause-has
 returns-clause-has c = first_has c.args.mask c.requires.some c.requires.few

@@ -1,4 +1,4 @@
-use Rattle.std.proofs.Common.{◌≡◌, ◌∙◌, sym, ap, refl, Bool, true, false, ◌||◌}
+use Rattle.std.proofs.Common.{◌≡◌, ◌∙◌, ap, Bool, true, false, ◌||◌}
 use Rattle.hand_rules.proofs.colours.touches.Goals as goal
 
 or_two : (s s' t t' : Bool) → s ≡ s' → t ≡ t' → (s || t) ≡ (s' || t')

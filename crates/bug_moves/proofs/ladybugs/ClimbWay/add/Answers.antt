@@ -1,4 +1,3 @@
-use Rattle.std.proofs.Common.{sym, ◌∙◌}
 use Rattle.bug_moves.specs.Ways.{OnTop}
 use Rattle.bug_moves.proofs.Gaining.{climb_within, gains_onward, gains_not_onward}
 use Rattle.bug_moves.proofs.TakenLaws.{is_taken, not_taken}
