@@ -1,21 +1,7 @@
 //! The best move of a position at one depth.
 
-ghost use Rattle.std.specs.Prelude.{
-  ◌≡◌,
-  ◌+◌,
-  ◌-◌,
-  ◌≤◌,
-  None,
-  Some,
-  IfSome,
-  false,
-  ◌≤ℤ◌,
-  neg_ℤ,
-  negsuc,
-  slice_get,
-  nat_eq,
-  if◌then◌else◌,
-};
+ghost use Rattle.std.specs.Prelude.{◌≡◌, ◌+◌, ◌-◌, ◌≤◌, Some, None, IfSome, is_some, false};
+ghost use Rattle.std.specs.Prelude.{◌≤ℤ◌, neg_ℤ, negsuc, slice_get, nat_eq, if◌then◌else◌};
 ghost use Rattle.std.specs.Option.{option_eq};
 ghost use Rattle.hive_model.specs.declared.places.Move.{Move as AnyMove};
 ghost use Rattle.hive_model.specs.Legal.{is_over, moves};
@@ -23,17 +9,17 @@ ghost use Rattle.hive_model.specs.Games.{after};
 ghost use Rattle.hive_model.specs.Minimax.{value, nodes, reply_value};
 ghost use Rattle.hive_model.specs.Costs.{cost, share};
 ghost use Rattle.hive_model.specs.Courses.{position};
-ghost use Rattle.search_laws.specs.Found.{IsFound, IsOpen};
-ghost use Rattle.search_laws.specs.Nodes.{HasRoom, IsNode, CanReply, AreAsBefore};
+ghost use Rattle.search_laws.specs.Found.{IsOpen};
+ghost use Rattle.search_laws.specs.Nodes.{HasRoom, IsNode, CanReply};
 ghost use Rattle.search_core.specs.Times.{behind, sum_but};
-ghost use Rattle.search_core.specs.Ticks.{has_come, HasStopped, KeepsTime, IsInTime, CountsPlays};
+ghost use Rattle.search_core.specs.Ticks.{has_come};
+ghost use Rattle.search_core.specs.Moments.{moment, Spends, Answers, AnswersReply};
 ghost use Rattle.deepening.specs.Shares.{turns_share};
 ghost use Rattle.deepening.specs.Tops.{IsTop};
 
-use hive_model::{Best, Game, Move, MoveStack};
+use hive_model::{Best, Game, Move};
 use io_edge::Clock;
-use search_core::{Ticker, Tried, Window, keep_found, reply, root_choice};
-use value_table::ValueTable;
+use search_core::{Node, Tried, Window, Workspace, keep_found, reply, root_choice};
 
 /// Less than any move is worth: the bound that a root begins with.
 const FIRST_BOUND: i32 = -1_000_090;
@@ -56,44 +42,40 @@ struct RootStart {
 pub(crate) fn best_reply<G: Game, C: Clock>(
     game: &mut G,
     depth: u32,
-    stack: &mut MoveStack,
-    table: &mut ValueTable,
-    ticker: &mut Ticker,
+    work: &mut Workspace,
     clock: &mut C,
 ) -> Option<Best>
     requires goes_on { is_over (position (G.course game.old)) ≡ false }
     requires some { 1 ≤ depth }
-    requires room { HasRoom depth (G.course game.old) stack.old }
-    requires early { has_come ticker.old.deadline (C.last clock.old) ≡ false }
-    ensures top { IfSome result (λ b. IsTop (position (G.course game.old)) depth b) }
-    ensures before { AreAsBefore (G.course game.old) (G.course game.new) stack.old stack.new }
-    ensures stopped { result ≡ None → HasStopped ticker.old ticker.new (C.last clock.old)
-        (C.last clock.new) (C.previous clock.new) }
-    ensures in_time { IfSome result (λ b. IsInTime ticker.old (C.last clock.old)
-        (C.last clock.new)) }
-    ensures often { CountsPlays ticker.old ticker.new (C.readings clock.old)
-        (C.readings clock.new) (G.played game.old) (G.played game.new) }
-    ensures time { KeepsTime ticker.old ticker.new (C.readings clock.old) (C.readings clock.new)
-        (C.last clock.old) (C.last clock.new) (nodes (position (G.course game.old)) depth) }
-    ensures played { G.played game.new ≤ G.played game.old + share (position (G.course game.old))
-        depth 0 1 }
+    requires room { HasRoom depth (G.course game.old) work.old.stack }
+    requires early { has_come work.old.ticker.deadline (C.last clock.old) ≡ false }
+    ensures spends { let at = moment G.course G.played C.readings C.last C.previous in
+        Spends (nodes (position (G.course game.old)) depth)
+        (share (position (G.course game.old)) depth 0 1)
+        (at game.old work.old clock.old) (at game.new work.new clock.new) }
+    ensures answers { let at = moment G.course G.played C.readings C.last C.previous in
+        Answers (IsTop (position (G.course game.old)) depth) result
+        (at game.old work.old clock.old) (at game.new work.new clock.new) }
 {
     let key = game.key();
-    let level = stack.levels();
-    game.list(stack);
-    let hint = root_choice(&key, game, depth, table, stack, level);
-    let found = try_all(game, level, depth, hint, stack, table, ticker, clock);
-    stack.drop_level();
+    let level = work.stack.levels();
+    game.list(&mut work.stack);
+    let hint = root_choice(&key, game, depth, &work.table, &work.stack, level);
+    let found = try_all(game, level, depth, hint, work, clock);
+    work.stack.drop_level();
     let best = found?;
-    let window = Window {
-        alpha: FIRST_BOUND,
-        beta: HIGHEST,
+    let root = Node {
+        depth,
+        window: Window {
+            alpha: FIRST_BOUND,
+            beta: HIGHEST,
+        },
     };
     let tried = Tried {
         value: best.value,
         first: Some(best.best.again()),
     };
-    keep_found(table, &key, depth, window, tried);
+    keep_found(&mut work.table, &key, root, tried);
     Some(best)
 }
 
@@ -104,42 +86,38 @@ fn try_all<G: Game, C: Clock>(
     level: u32,
     depth: u32,
     hint: Option<u32>,
-    stack: &mut MoveStack,
-    table: &mut ValueTable,
-    ticker: &mut Ticker,
+    work: &mut Workspace,
     clock: &mut C,
 ) -> Option<Best>
-    requires node { IsNode depth level (G.course game.old) stack.old }
-    ensures top { IfSome result (λ b. IsTop (position (G.course game.old)) depth b) }
-    ensures before { AreAsBefore (G.course game.old) (G.course game.new) stack.old stack.new }
-    ensures stopped { result ≡ None → HasStopped ticker.old ticker.new (C.last clock.old)
-        (C.last clock.new) (C.previous clock.new) }
-    ensures in_time { IfSome result (λ b. IsInTime ticker.old (C.last clock.old)
-        (C.last clock.new)) }
-    ensures often { CountsPlays ticker.old ticker.new (C.readings clock.old)
-        (C.readings clock.new) (G.played game.old) (G.played game.new) }
-    ensures time { KeepsTime ticker.old ticker.new (C.readings clock.old) (C.readings clock.new)
-        (C.last clock.old) (C.last clock.new) (nodes (position (G.course game.old)) depth) }
-    ensures played { G.played game.new ≤ G.played game.old + share (position (G.course game.old))
-        depth 0 1 }
+    requires node { IsNode depth level (G.course game.old) work.old.stack }
+    ensures spends { let at = moment G.course G.played C.readings C.last C.previous in
+        Spends (nodes (position (G.course game.old)) depth)
+        (share (position (G.course game.old)) depth 0 1)
+        (at game.old work.old clock.old) (at game.new work.new clock.new) }
+    ensures answers { let at = moment G.course G.played C.readings C.last C.previous in
+        Answers (IsTop (position (G.course game.old)) depth) result
+        (at game.old work.old clock.old) (at game.new work.new clock.new) }
 {
     if let Some(first) = hint {
-        if first < stack.level_len(level) {
-            let m = stack.get(level, first);
-            let window = Window {
-                alpha: FIRST_BOUND - 1,
-                beta: HIGHEST,
+        if first < work.stack.level_len(level) {
+            let m = work.stack.get(level, first);
+            let child = Node {
+                depth: depth - 1,
+                window: Window {
+                    alpha: FIRST_BOUND - 1,
+                    beta: HIGHEST,
+                },
             };
-            let worth = reply(game, m, depth - 1, window, stack, table, ticker, clock)?;
+            let worth = reply(game, m, child, work, clock)?;
             let begun = RootStart { hint, worth };
-            return try_in_turn(game, level, depth, begun, stack, table, ticker, clock);
+            return try_in_turn(game, level, depth, begun, work, clock);
         }
     }
     let begun = RootStart {
         hint: None,
         worth: FIRST_BOUND + 1,
     };
-    try_in_turn(game, level, depth, begun, stack, table, ticker, clock)
+    try_in_turn(game, level, depth, begun, work, clock)
 }
 
 /// The same in the order of the list, after a first move was tried or none. Each other move is
@@ -151,53 +129,37 @@ fn try_in_turn<G: Game, C: Clock>(
     level: u32,
     depth: u32,
     begun: RootStart,
-    stack: &mut MoveStack,
-    table: &mut ValueTable,
-    ticker: &mut Ticker,
+    work: &mut Workspace,
     clock: &mut C,
 ) -> Option<Best>
-    requires node { IsNode depth level (G.course game.old) stack.old }
+    requires node { IsNode depth level (G.course game.old) work.old.stack }
     requires low { negsuc 1000088 ≤ℤ begun.worth }
     requires high { begun.worth ≤ℤ value (position (G.course game.old)) depth }
     requires known { IfSome begun.hint (λ i. (m : AnyMove)
         → slice_get (moves (position (G.course game.old))) i ≡ Some m
         → reply_value (position (G.course game.old)) (depth - 1) m ≡ begun.worth) }
-    ensures top { IfSome result (λ b. IsTop (position (G.course game.old)) depth b) }
-    ensures before { AreAsBefore (G.course game.old) (G.course game.new) stack.old stack.new }
-    ensures stopped { result ≡ None → HasStopped ticker.old ticker.new (C.last clock.old)
-        (C.last clock.new) (C.previous clock.new) }
-    ensures in_time { IfSome result (λ b. IsInTime ticker.old (C.last clock.old)
-        (C.last clock.new)) }
-    ensures often { CountsPlays ticker.old ticker.new (C.readings clock.old)
-        (C.readings clock.new) (G.played game.old) (G.played game.new) }
-    ensures time { KeepsTime ticker.old ticker.new (C.readings clock.old) (C.readings clock.new)
-        (C.last clock.old) (C.last clock.new)
-        (sum_but begun.hint 0 (behind (position (G.course game.old)) (depth - 1))
-        (moves (position (G.course game.old)))) }
-    ensures played { G.played game.new ≤ G.played game.old + turns_share
-        (position (G.course game.old)) depth }
+    ensures spends { let at = moment G.course G.played C.readings C.last C.previous in
+        Spends (sum_but begun.hint 0 (behind (position (G.course game.old)) (depth - 1))
+        (moves (position (G.course game.old))))
+        (turns_share (position (G.course game.old)) depth)
+        (at game.old work.old clock.old) (at game.new work.new clock.new) }
+    ensures answers { let at = moment G.course G.played C.readings C.last C.previous in
+        Answers (IsTop (position (G.course game.old)) depth) result
+        (at game.old work.old clock.old) (at game.new work.new clock.new) }
 {
-    let count = stack.level_len(level);
-    let mut best = stack.get(level, 0);
+    let count = work.stack.level_len(level);
+    let mut best = work.stack.get(level, 0);
     let mut greatest = begun.worth - 1;
     for i in 0..count {
-        let m = stack.get(level, i);
-        let window = Window {
-            alpha: greatest - 1,
-            beta: HIGHEST,
+        let m = work.stack.get(level, i);
+        let child = Node {
+            depth: depth - 1,
+            window: Window {
+                alpha: greatest - 1,
+                beta: HIGHEST,
+            },
         };
-        let found = worth_of(
-            game,
-            m.again(),
-            i,
-            depth - 1,
-            window,
-            begun,
-            stack,
-            table,
-            ticker,
-            clock,
-        )?;
+        let found = worth_of(game, m.again(), known_at(begun, i), child, work, clock)?;
         if found > greatest {
             best = m;
             greatest = found;
@@ -209,43 +171,40 @@ fn try_in_turn<G: Game, C: Clock>(
     })
 }
 
-/// What the move at the place `i` is worth: what is known of it, where it was tried first, and else
-/// what `reply` tells of it.
-fn worth_of<G: Game, C: Clock>(
-    game: &mut G,
-    m: Move,
-    i: u32,
-    depth: u32,
-    window: Window,
-    begun: RootStart,
-    stack: &mut MoveStack,
-    table: &mut ValueTable,
-    ticker: &mut Ticker,
-    clock: &mut C,
-) -> Option<i32>
-    requires window { IsOpen window }
-    requires can { CanReply m depth (G.course game.old) stack.old }
-    requires known { begun.hint ≡ Some i → reply_value (position (G.course game.old)) depth m
-        ≡ begun.worth }
-    ensures found { IfSome result (λ v. IsFound (reply_value (position (G.course game.old)) depth m)
-        window v) }
-    ensures before { AreAsBefore (G.course game.old) (G.course game.new) stack.old stack.new }
-    ensures stopped { result ≡ None → HasStopped ticker.old ticker.new (C.last clock.old)
-        (C.last clock.new) (C.previous clock.new) }
-    ensures in_time { IfSome result (λ v. IsInTime ticker.old (C.last clock.old)
-        (C.last clock.new)) }
-    ensures often { CountsPlays ticker.old ticker.new (C.readings clock.old)
-        (C.readings clock.new) (G.played game.old) (G.played game.new) }
-    ensures time { KeepsTime ticker.old ticker.new (C.readings clock.old) (C.readings clock.new)
-        (C.last clock.old) (C.last clock.new)
-        (if option_eq nat_eq begun.hint (Some i) then 0
-        else behind (position (G.course game.old)) depth m) }
-    ensures played { G.played game.new ≤ G.played game.old +
-        (1 + cost (after (position (G.course game.old)) m) depth (neg_ℤ window.beta)
-        (neg_ℤ window.alpha)) }
+/// What the move at the place `i` is worth, where it was tried first.
+fn known_at(begun: RootStart, i: u32) -> Option<i32>
+    ensures { result ≡ (if option_eq nat_eq begun.hint (Some i) then Some begun.worth else None) }
 {
     if begun.hint == Some(i) {
         return Some(begun.worth);
     }
-    reply(game, m, depth, window, stack, table, ticker, clock)
+    None
+}
+
+/// What a move is worth: what is known of it, and else what `reply` tells of it.
+fn worth_of<G: Game, C: Clock>(
+    game: &mut G,
+    m: Move,
+    known: Option<i32>,
+    node: Node,
+    work: &mut Workspace,
+    clock: &mut C,
+) -> Option<i32>
+    requires window { IsOpen node.window }
+    requires can { CanReply m node.depth (G.course game.old) work.old.stack }
+    requires known { IfSome known (λ v. reply_value (position (G.course game.old)) node.depth m
+        ≡ v) }
+    ensures spends { let at = moment G.course G.played C.readings C.last C.previous in
+        Spends (if is_some known then 0 else behind (position (G.course game.old)) node.depth m)
+        (1 + cost (after (position (G.course game.old)) m) node.depth (neg_ℤ node.window.beta)
+        (neg_ℤ node.window.alpha))
+        (at game.old work.old clock.old) (at game.new work.new clock.new) }
+    ensures answers { let at = moment G.course G.played C.readings C.last C.previous in
+        AnswersReply m node result
+        (at game.old work.old clock.old) (at game.new work.new clock.new) }
+{
+    if known.is_some() {
+        return known;
+    }
+    reply(game, m, node, work, clock)
 }

@@ -1,10 +1,8 @@
 -- What is saved, and what is paid for with it.
-use Rattle.std.proofs.Common.{◌≡◌, ℕ, ◌+◌, ◌-◌, ◌^◌, ◌≤◌, min, true, Bool, sym, ap, subst, arith, ◌∙◌, ℤ, neg_ℤ, ◌<ℤ◌, ◌≤ℤ◌, to_z, of_z, Option, Some, None}
+use Rattle.std.proofs.Common.{◌≡◌, ℕ, ◌+◌, ◌-◌, ◌^◌, ◌≤◌, min, true, Bool, sym, ap, subst, arith, ◌∙◌, ℤ, neg_ℤ, ◌<ℤ◌, ◌≤ℤ◌, Option, Some, None}
 use Rattle.std.specs.Prelude.{if◌then◌else◌, IfSome, slice_get}
 use Rattle.std.specs.Int.{int_max}
-use Rattle.std.proofs.lemmas.Int.{ints, clamps, by_lt_z, to_z-of_z}
-use mir.Val.{SFits}
-use mir.Syntax.{w32}
+use Rattle.std.proofs.lemmas.Int.{ints, clamps, by_lt_z}
 use Rattle.std.proofs.lemmas.Option.{same_Some}
 use Rattle.hive_model.specs.declared.places.Move.{Move}
 use Rattle.hive_model.specs.Positions.{Position}
@@ -136,11 +134,6 @@ tried-here start now d w answer place same x = subst (λ (h : Course). IsTriedEa
 pub at_most-here : (start now : Course) (d : ℕ) (most : ℤ) (place : Option ℕ) → now ≡ start → IsAtMost (position start) d most place → IsAtMost (position now) d most place
 at_most-here start now d most place same x = subst (λ (h : Course). IsAtMost (position h) d most place) (sym same) x
 
--- the plays of an early try are paid for, within another one too
-pub early-paid : (a b : Purse) (t u : Ticks) (r0 r1 l0 l1 n0 n1 : ℕ) → b.early ≡ a.early → n1 + b.saved ≤ n0 + a.saved → KeepsTime (with_saved t a) (with_saved u b) r0 r1 l0 l1 0
-    → IsPaid a b n0 n1 (counted t r0) (counted u r1)
-early-paid a b t u r0 r1 l0 l1 n0 n1 mode played time = record { mode = mode; plays = λ _. played; counts = λ _. omega (arith, time.seldom) }
-
 -- the lower end of a window is raised to no more than what the position is worth
 pub record Lifted (v : ℤ) (w rest : Window) : Type 0 where
   pub beta : rest.beta ≡ w.beta
@@ -185,21 +178,5 @@ lifted-found v w rest r wide x f =
       lower = λ b. f.lower (omega (arith, ints, beta, b));
     }
 
--- the greater of two numbers, as the code computes it
-pub coded-max : (a b r : ℤ) → SFits w32 a → SFits w32 b → SFits w32 r → r ≡ int_max (to_z w32 (of_z w32 (to_z w32 (of_z w32 a)))) (to_z w32 (of_z w32 b)) → to_z w32 (of_z w32 r) ≡ int_max (to_z w32 (of_z w32 a)) b
-coded-max a b r fa fb fr e =
-    to_z-of_z w32 r fr ∙ e ∙ ap (λ z. int_max (to_z w32 (of_z w32 z)) (to_z w32 (of_z w32 b))) (to_z-of_z w32 a fa) ∙ ap (int_max (to_z w32 (of_z w32 a))) (to_z-of_z w32 b fb)
-
 pub max-right : (a b r : ℤ) → r ≡ int_max a b → b ≤ℤ r
 max-right a b r e = omega (arith, ints, clamps)
-
-pub max-below : (a b r top : ℤ) → r ≡ int_max a b → r ≤ℤ top → b ≤ℤ top
-max-below a b r top e h = omega (arith, ints, clamps)
-
--- the plays of two early tries and of the rest
-pub early-plays : (n n0 s x1 x2 x3 more : ℕ) → n0 ≡ n → x1 ≤ n0 + s → x2 ≤ x1 → x3 ≤ x2 + more → x3 ≤ n + s + more
-early-plays n n0 s x1 x2 x3 more same one two rest = omega (arith, same, one, two, rest)
-
--- the plays of two early tries alone
-pub tries-plays : (n n0 s x1 x2 more : ℕ) → n0 ≡ n → x1 ≤ n0 + s → x2 ≤ x1 → x2 ≤ n + s + more
-tries-plays n n0 s x1 x2 more same one two = omega (arith, same, one, two)

@@ -1,24 +1,18 @@
 //! Moves that are tried before their turn and paid for from the purse.
 
-ghost use Rattle.std.specs.Prelude.{None, IfSome, ◌≡◌, ◌+◌, ◌-◌, ◌<◌, ◌≤◌, length};
-ghost use Rattle.hive_model.specs.Legal.{moves};
-ghost use Rattle.hive_model.specs.Minimax.{value, reply_value};
-ghost use Rattle.hive_model.specs.Costs.{tries_cost};
+ghost use Rattle.std.specs.Prelude.{◌≡◌, ◌-◌, ◌<◌, length};
 ghost use Rattle.hive_model.specs.Courses.{position};
-ghost use Rattle.search_laws.specs.Found.{IsFound, IsOpen};
-ghost use Rattle.search_laws.specs.Nodes.{IsNode, AreAsBefore};
-ghost use Rattle.search_laws.specs.Tries.{tried_cost};
-ghost use Rattle.search_core.specs.Ticks.{KeepsTime, IsInTime, CountsPlays};
-ghost use Rattle.search_core.specs.Times.{behind, sum_but};
-ghost use Rattle.search_core.specs.Times.{HasEnded, IsAtMost, IsPaid, IsTriedEarly};
-ghost use Rattle.search_core.specs.Times.{counted, with_saved};
+ghost use Rattle.search_laws.specs.Found.{IsOpen};
+ghost use Rattle.search_laws.specs.Nodes.{IsNode};
+ghost use Rattle.search_core.specs.Moments.{moment_within, Spends, SpendsOnMoves};
+ghost use Rattle.search_core.specs.Moments.{Answers, AnswersNode};
+ghost use Rattle.search_core.specs.Times.{IsAtMost, IsTriedEarly};
 
 use crate::choice::{move_at, two_told};
 use crate::entries::Tried;
-use crate::purse::Purse;
 use crate::replies::reply_with;
 use crate::rest::{Places, search_rest};
-use crate::ticker::Ticker;
+use crate::workspace::{Node, Workspace};
 use hive_model::{Game, MoveStack};
 use io_edge::Clock;
 use search_laws::Window;
@@ -40,87 +34,55 @@ struct Early {
 pub(crate) fn search_early<G: Game, C: Clock>(
     game: &mut G,
     level: u32,
-    depth: u32,
-    window: Window,
     hint: Option<u32>,
-    stack: &mut MoveStack,
-    table: &mut ValueTable,
-    purse: &mut Purse,
-    ticker: &mut Ticker,
+    node: Node,
+    work: &mut Workspace,
     clock: &mut C,
 ) -> Option<Tried>
-    requires window { IsOpen window }
-    requires node { IsNode depth level (G.course game.old) stack.old }
-    requires hint { IsAtMost (position (G.course game.old)) (depth - 1) window.alpha hint }
-    ensures found { IfSome result (λ a. IsFound (value (position (G.course game.old)) depth) window
-        a.value) }
-    ensures before { AreAsBefore (G.course game.old) (G.course game.new) stack.old stack.new }
-    ensures ended { result ≡ None → HasEnded purse.new ticker.old ticker.new (C.last clock.old)
-        (C.last clock.new) (C.previous clock.new) }
-    ensures in_time { IfSome result (λ a. IsInTime ticker.old (C.last clock.old)
-        (C.last clock.new)) }
-    ensures often { CountsPlays ticker.old ticker.new (C.readings clock.old)
-        (C.readings clock.new) (G.played game.old) (G.played game.new) }
-    ensures time { KeepsTime (with_saved ticker.old purse.old) (with_saved ticker.new purse.new)
-        (C.readings clock.old) (C.readings clock.new) (C.last clock.old) (C.last clock.new)
-        (sum_but hint 0 (behind (position (G.course game.old)) (depth - 1))
-        (moves (position (G.course game.old)))) }
-    ensures played { G.played game.new + purse.new.saved ≤ G.played game.old + purse.old.saved
-        + tries_cost (tried_cost (position (G.course game.old)) (depth - 1) window.beta)
-        (reply_value (position (G.course game.old)) (depth - 1))
-        window.alpha window.beta (moves (position (G.course game.old))) }
-    ensures paid { IsPaid purse.old purse.new (G.played game.old) (G.played game.new)
-        (counted ticker.old (C.readings clock.old)) (counted ticker.new (C.readings clock.new)) }
+    requires window { IsOpen node.window }
+    requires listed { IsNode node.depth level (G.course game.old) work.old.stack }
+    requires hint { IsAtMost (position (G.course game.old)) (node.depth - 1) node.window.alpha
+        hint }
+    ensures spends { let at = moment_within G.course G.played C.readings C.last C.previous in
+        SpendsOnMoves hint node
+        (at game.old work.old clock.old) (at game.new work.new clock.new) }
+    ensures answers { let at = moment_within G.course G.played C.readings C.last C.previous in
+        AnswersNode node result
+        (at game.old work.old clock.old) (at game.new work.new clock.new) }
 {
-    let likely = two_told(game, depth, purse, stack, level, hint);
-    let one = try_early(
-        game,
-        level,
-        depth,
-        window,
-        likely.first,
-        stack,
-        table,
-        purse,
-        ticker,
-        clock,
-    )?;
-    if one.value >= window.beta {
-        return Some(cut_by(game, one, stack, level, table));
+    let likely = two_told(game, node.depth, &work.purse, &work.stack, level, hint);
+    let one = try_early(game, level, likely.first, node, work, clock)?;
+    if one.value >= node.window.beta {
+        let tried = cut_by(game, one, level, &work.stack, &mut work.table);
+        return Some(tried);
     }
-    let inner = Window {
-        alpha: window.alpha.max(one.value),
-        beta: window.beta,
+    let inner = Node {
+        depth: node.depth,
+        window: Window {
+            alpha: node.window.alpha.max(one.value),
+            beta: node.window.beta,
+        },
     };
-    let two = try_early(
-        game,
-        level,
-        depth,
-        inner,
-        likely.second,
-        stack,
-        table,
-        purse,
-        ticker,
-        clock,
-    )?;
-    if two.value >= inner.beta {
-        return Some(cut_by(game, two, stack, level, table));
+    let two = try_early(game, level, likely.second, inner, work, clock)?;
+    if two.value >= inner.window.beta {
+        let tried = cut_by(game, two, level, &work.stack, &mut work.table);
+        return Some(tried);
     }
-    let rest = Window {
-        alpha: inner.alpha.max(two.value),
-        beta: inner.beta,
+    let rest = Node {
+        depth: node.depth,
+        window: Window {
+            alpha: inner.window.alpha.max(two.value),
+            beta: inner.window.beta,
+        },
     };
-    let better = best_place(one.value > window.alpha, one.place, hint);
+    let better = best_place(one.value > node.window.alpha, one.place, hint);
     let places = Places {
         hint,
         first: one.place,
         second: two.place,
-        best: best_place(two.value > inner.alpha, two.place, better),
+        best: best_place(two.value > inner.window.alpha, two.place, better),
     };
-    search_rest(
-        game, level, depth, rest, places, stack, table, purse, ticker, clock,
-    )
+    search_rest(game, level, places, rest, work, clock)
 }
 
 /// Tries the move at the place of a level, if there is one, before its turn, as far as what is
@@ -130,55 +92,39 @@ pub(crate) fn search_early<G: Game, C: Clock>(
 fn try_early<G: Game, C: Clock>(
     game: &mut G,
     level: u32,
-    depth: u32,
-    window: Window,
     place: Option<u32>,
-    stack: &mut MoveStack,
-    table: &mut ValueTable,
-    purse: &mut Purse,
-    ticker: &mut Ticker,
+    node: Node,
+    work: &mut Workspace,
     clock: &mut C,
 ) -> Option<Early>
-    requires window { IsOpen window }
-    requires node { IsNode depth level (G.course game.old) stack.old }
-    ensures found { IfSome result (λ e. IsTriedEarly (position (G.course game.old)) depth window
-        e.value e.place) }
-    ensures before { AreAsBefore (G.course game.old) (G.course game.new) stack.old stack.new }
-    ensures ended { result ≡ None → HasEnded purse.new ticker.old ticker.new (C.last clock.old)
-        (C.last clock.new) (C.previous clock.new) }
-    ensures in_time { IfSome result (λ a. IsInTime ticker.old (C.last clock.old)
-        (C.last clock.new)) }
-    ensures often { CountsPlays ticker.old ticker.new (C.readings clock.old)
-        (C.readings clock.new) (G.played game.old) (G.played game.new) }
-    ensures time { KeepsTime (with_saved ticker.old purse.old) (with_saved ticker.new purse.new)
-        (C.readings clock.old) (C.readings clock.new) (C.last clock.old) (C.last clock.new) 0 }
-    ensures played { G.played game.new + purse.new.saved ≤ G.played game.old + purse.old.saved }
-    ensures mode { purse.new.early ≡ purse.old.early }
+    requires window { IsOpen node.window }
+    requires listed { IsNode node.depth level (G.course game.old) work.old.stack }
+    ensures spends { let at = moment_within G.course G.played C.readings C.last C.previous in
+        Spends 0 0
+        (at game.old work.old clock.old) (at game.new work.new clock.new) }
+    ensures answers { let at = moment_within G.course G.played C.readings C.last C.previous in
+        Answers (λ e. IsTriedEarly (position (G.course game.old)) node.depth node.window e.value
+        e.place) result
+        (at game.old work.old clock.old) (at game.new work.new clock.new) }
 {
     let untried = Early {
-        value: window.alpha,
+        value: node.window.alpha,
         place: None,
     };
     let Some(i) = place else {
         return Some(untried);
     };
-    if i >= stack.level_len(level) {
+    if i >= work.stack.level_len(level) {
         return Some(untried);
     }
-    let m = stack.get(level, i);
-    let within = purse.begin_early();
-    let found = reply_with(
-        game,
-        m,
-        depth - 1,
-        window,
-        stack,
-        table,
-        purse,
-        ticker,
-        clock,
-    );
-    purse.end_early(within);
+    let m = work.stack.get(level, i);
+    let child = Node {
+        depth: node.depth - 1,
+        window: node.window,
+    };
+    let within = work.purse.begin_early();
+    let found = reply_with(game, m, child, work, clock);
+    work.purse.end_early(within);
     if let Some(value) = found {
         return Some(Early {
             value,
@@ -188,7 +134,7 @@ fn try_early<G: Game, C: Clock>(
     if within {
         return None;
     }
-    if purse.is_spent() {
+    if work.purse.is_spent() {
         return Some(untried);
     }
     None
@@ -198,8 +144,8 @@ fn try_early<G: Game, C: Clock>(
 fn cut_by<G: Game>(
     game: &G,
     early: Early,
-    stack: &MoveStack,
     level: u32,
+    stack: &MoveStack,
     table: &mut ValueTable,
 ) -> Tried
     requires { level < length stack.now.lists }

@@ -7,6 +7,7 @@ ghost use Rattle.hive_model.specs.Minimax.{reply_value};
 ghost use Rattle.hive_model.specs.Courses.{position};
 ghost use Rattle.search_laws.specs.Found.{IsFound, IsOpen};
 
+use crate::workspace::Node;
 use hive_model::{Game, Move};
 use search_laws::Window;
 
@@ -65,20 +66,20 @@ fn told_bound<G: Game>(game: &mut G, m: Move, window: Window) -> Option<i32>
     }
 }
 
-/// The answer of a search of a legal move in the window, with so many plies left behind it, where
-/// the game tells it without making the move: what it is worth where none is left, or a bound at or
-/// below the lower end, and such a bound where one is.
-pub(crate) fn told_reply<G: Game>(game: &mut G, m: Move, depth: u32, window: Window) -> Option<i32>
-    requires window { IsOpen window }
+/// The answer of a search of a legal move with so many plies left behind it, where the game tells
+/// it without making the move: what it is worth where none is left, or a bound at or below the
+/// lower end, and such a bound where one is.
+pub(crate) fn told_reply<G: Game>(game: &mut G, m: Move, node: Node) -> Option<i32>
+    requires window { IsOpen node.window }
     requires legal { IsOn (moves (position (G.course game.old))) m }
-    ensures found { IfSome result (IsFound (reply_value (position (G.course game.old)) depth m)
-        window) }
+    ensures found { IfSome result (IsFound (reply_value (position (G.course game.old)) node.depth
+        m) node.window) }
     ensures same { G.course game.new ≡ G.course game.old }
     ensures count { G.played game.new ≡ G.played game.old }
 {
-    match depth {
-        0 => told_leaf(game, m, window),
-        1 => told_bound(game, m, window),
+    match node.depth {
+        0 => told_leaf(game, m, node.window),
+        1 => told_bound(game, m, node.window),
         _ => None,
     }
 }

@@ -11,7 +11,7 @@ use game_text::{played, read_game};
 use hive_model::{Game, MoveStack, State};
 use io_edge::StepClock;
 use plain_game::PlainGame;
-use search_core::{Found, Ticker, Window, search};
+use search_core::{Node, Ticker, Window, Workspace, search};
 use std::alloc::{AllocError, Global};
 use std::test::Fail;
 use value_table::ValueTable;
@@ -95,8 +95,7 @@ fn answers_right(
     depth: u32,
     value: i32,
     ends: (i32, i32),
-    stack: &mut MoveStack,
-    table: &mut ValueTable,
+    work: &mut Workspace,
 ) -> Result<bool, AllocError>
     requires { depth ≤ 3 }
 {
@@ -104,16 +103,15 @@ fn answers_right(
     if alpha < -1_000_100 || alpha >= beta || beta > 1_000_100 {
         return Ok(false);
     }
-    if game.plies() > 100 || stack.free_levels() < depth {
+    if game.plies() > 100 || work.stack.free_levels() < depth {
         return Ok(false);
     }
     game.reserve(depth)?;
     let window = Window { alpha, beta };
-    let mut ticker = Ticker::free();
     let mut clock = StepClock::new(0, 1);
-    match search(game, depth, window, stack, table, &mut ticker, &mut clock) {
-        Found::Found { value: answer } => Ok(is_found(value, window, answer)),
-        Found::Stopped => Ok(false),
+    match search(game, Node { depth, window }, work, &mut clock) {
+        Some(answer) => Ok(is_found(value, window, answer)),
+        None => Ok(false),
     }
 }
 
@@ -122,14 +120,15 @@ fn first_wrong(
     alloc: Global,
     game: &mut PlainGame,
     depth: u32,
-    stack: &mut MoveStack,
 ) -> Result<Option<(i32, i32)>, AllocError>
     requires { depth ≤ 3 }
 {
     let Some(value) = worth(alloc, game, depth)? else {
         return Ok(Some((0, 0)));
     };
-    let mut table = ValueTable::new(alloc, 1024)?;
+    let stack = MoveStack::new(alloc, 3)?;
+    let table = ValueTable::new(alloc, 1024)?;
+    let mut work = Workspace::new(stack, table, Ticker::free());
     for ends in [
         (-1_000_100, 1_000_100),
         (-1, 1),
@@ -140,7 +139,7 @@ fn first_wrong(
         (value, value.saturating_add(1)),
         (value.saturating_sub(1), value),
     ] {
-        if !answers_right(game, depth, value, ends, stack, &mut table)? {
+        if !answers_right(game, depth, value, ends, &mut work)? {
             return Ok(Some(ends));
         }
     }
@@ -213,12 +212,11 @@ fn searcher_beside_minimax(rt: HostRuntime) -> Result<(), Fail> {
 
 #[test]
 fn search_beside_minimax(rt: HostRuntime) -> Result<(), Fail> {
-    let mut stack = MoveStack::new(rt.alloc(), 3)?;
     for (text, deepest) in POSITIONS {
         let mut game = game_of(rt.alloc(), text)?.ok_or(text)?;
         for depth in 1..4 {
             if depth <= deepest {
-                let wrong = first_wrong(rt.alloc(), &mut game, depth, &mut stack)?;
+                let wrong = first_wrong(rt.alloc(), &mut game, depth)?;
                 assert_eq!(rt; wrong, None, "{text} at depth {depth}");
             }
         }

@@ -5,7 +5,7 @@ use hive_model::{Game, MoveStack, Place};
 use io_edge::StepClock;
 use plain_game::PlainGame;
 use plain_search::minimax;
-use search_core::{Ticker, Window, reply, search};
+use search_core::{Node, Ticker, Window, Workspace, reply, search};
 use std::alloc::{AllocError, Global};
 use std::test::Fail;
 use value_table::{Bound, Entry, ValueTable};
@@ -64,54 +64,52 @@ const WIDEST: Window = Window {
     beta: 1_000_100,
 };
 
-/// How many moves a search two plies deep plays with this table.
-fn plays_of_two_plies(
-    alloc: Global,
-    game: &mut PlainGame,
-    table: &mut ValueTable,
-) -> Result<u64, AllocError> {
-    if game.plies() > 100 {
+/// A workspace of a search at most two plies deep, with a table that keeps nothing yet.
+fn workspace(alloc: Global) -> Result<Workspace, AllocError> {
+    let stack = MoveStack::new(alloc, 2)?;
+    let table = ValueTable::new(alloc, 65536)?;
+    Ok(Workspace::new(stack, table, Ticker::free()))
+}
+
+/// How many moves a search two plies deep plays in this workspace.
+fn plays_of_two_plies(game: &mut PlainGame, work: &mut Workspace) -> Result<u64, AllocError> {
+    if game.plies() > 100 || work.stack.free_levels() < 2 {
         return Ok(0);
     }
     game.reserve(2)?;
-    let mut stack = MoveStack::new(alloc, 2)?;
     let before = game.played();
-    let mut ticker = Ticker::free();
     let mut clock = StepClock::new(0, 1);
-    let _ = search(game, 2, WIDEST, &mut stack, table, &mut ticker, &mut clock);
+    let node = Node {
+        depth: 2,
+        window: WIDEST,
+    };
+    let _ = search(game, node, work, &mut clock);
     Ok(game.played().saturating_sub(before))
 }
 
-/// How many moves are played where each legal move is searched one ply deep behind it with this
-/// table.
+/// How many moves are played where each legal move is searched one ply deep behind it in this
+/// workspace.
 fn plays_of_children(
     alloc: Global,
     game: &mut PlainGame,
-    table: &mut ValueTable,
+    work: &mut Workspace,
 ) -> Result<u64, AllocError> {
     let mut listed = MoveStack::new(alloc, 1)?;
     game.list(&mut listed);
-    let mut stack = MoveStack::new(alloc, 1)?;
-    let mut ticker = Ticker::free();
     let mut clock = StepClock::new(0, 1);
     let before = game.played();
+    let node = Node {
+        depth: 1,
+        window: WIDEST,
+    };
     for i in 0..listed.level_len(0) {
         let m = listed.get(0, i);
-        if game.plies() > 100 || stack.free_levels() < 1 {
+        if game.plies() > 100 || work.stack.free_levels() < 1 {
             return Ok(0);
         }
         game.reserve(2)?;
         if game.is_legal(m.again()) {
-            let _ = reply(
-                game,
-                m,
-                1,
-                WIDEST,
-                &mut stack,
-                table,
-                &mut ticker,
-                &mut clock,
-            );
+            let _ = reply(game, m, node, work, &mut clock);
         }
     }
     Ok(game.played().saturating_sub(before))
@@ -136,11 +134,10 @@ fn before_a_loss(alloc: Global) -> Result<Option<PlainGame>, AllocError> {
 #[test]
 fn table_spares_a_search_its_children(rt: HostRuntime) -> Result<(), Fail> {
     let mut game = before_a_loss(rt.alloc())?.ok_or("a loss")?;
-    let mut fresh = ValueTable::new(rt.alloc(), 65536)?;
-    let without = plays_of_two_plies(rt.alloc(), &mut game, &mut fresh)?;
-    let mut table = ValueTable::new(rt.alloc(), 65536)?;
-    assert!(rt; plays_of_children(rt.alloc(), &mut game, &mut table)? > 0);
-    let with = plays_of_two_plies(rt.alloc(), &mut game, &mut table)?;
+    let without = plays_of_two_plies(&mut game, &mut workspace(rt.alloc())?)?;
+    let mut work = workspace(rt.alloc())?;
+    assert!(rt; plays_of_children(rt.alloc(), &mut game, &mut work)? > 0);
+    let with = plays_of_two_plies(&mut game, &mut work)?;
     assert!(rt; with < without);
     Ok(())
 }
@@ -148,11 +145,10 @@ fn table_spares_a_search_its_children(rt: HostRuntime) -> Result<(), Fail> {
 #[test]
 fn table_spares_children_after_a_search(rt: HostRuntime) -> Result<(), Fail> {
     let mut game = before_a_loss(rt.alloc())?.ok_or("a loss")?;
-    let mut fresh = ValueTable::new(rt.alloc(), 65536)?;
-    let without = plays_of_children(rt.alloc(), &mut game, &mut fresh)?;
-    let mut table = ValueTable::new(rt.alloc(), 65536)?;
-    assert!(rt; plays_of_two_plies(rt.alloc(), &mut game, &mut table)? > 0);
-    let with = plays_of_children(rt.alloc(), &mut game, &mut table)?;
+    let without = plays_of_children(rt.alloc(), &mut game, &mut workspace(rt.alloc())?)?;
+    let mut work = workspace(rt.alloc())?;
+    assert!(rt; plays_of_two_plies(&mut game, &mut work)? > 0);
+    let with = plays_of_children(rt.alloc(), &mut game, &mut work)?;
     assert!(rt; with > 0);
     assert!(rt; with < without);
     Ok(())

@@ -8,7 +8,7 @@ use deepening::Searcher;
 use hive_model::{Best, Game, MoveStack, Timed};
 use io_edge::StepClock;
 use plain_game::PlainGame;
-use search_core::{Found, Ticker, Window, search};
+use search_core::{Node, Ticker, Window, Workspace, search};
 use std::alloc::{AllocError, Global};
 use std::test::Fail;
 use value_table::ValueTable;
@@ -84,26 +84,19 @@ fn the_first_reading_past_the_time_is_the_last(rt: HostRuntime) -> Result<(), Fa
 fn searched_until(alloc: Global, deadline: u64) -> Result<(bool, u64, u64), AllocError> {
     let mut game = PlainGame::opening(alloc, BASE)?;
     game.reserve(6)?;
-    let mut stack = MoveStack::new(alloc, 6)?;
-    let mut table = ValueTable::new(alloc, 1024)?;
-    let mut ticker = Ticker::until(deadline);
+    let stack = MoveStack::new(alloc, 6)?;
+    let table = ValueTable::new(alloc, 1024)?;
+    let mut work = Workspace::new(stack, table, Ticker::until(deadline));
     let mut clock = StepClock::new(0, 1);
     let window = Window {
         alpha: -1_000_100,
         beta: 1_000_100,
     };
     let before = game.played();
-    let found = search(
-        &mut game,
-        6,
-        window,
-        &mut stack,
-        &mut table,
-        &mut ticker,
-        &mut clock,
-    );
+    let node = Node { depth: 6, window };
+    let found = search(&mut game, node, &mut work, &mut clock);
     let plays = game.played().saturating_sub(before);
-    Ok((found == Found::Stopped, plays, ticker.latest()))
+    Ok((found.is_none(), plays, work.ticker.latest()))
 }
 
 #[test]

@@ -2,12 +2,15 @@ use Rattle.std.proofs.Common.{rules, ◌∙◌, refl, arith}
 use Rattle.std.proofs.lemmas.Int.{to_z-of_z}
 use mir.Syntax.{w32}
 use Rattle.hive_model.specs.Courses.{position}
+use Rattle.hive_model.specs.Legal.{moves}
 use Rattle.hive_model.specs.Minimax.{nodes}
+use Rattle.hive_model.specs.Costs.{share}
 use Rattle.search_laws.proofs.NodeLaws.{node-listed}
 use Rattle.search_laws.proofs.LoopLaws.{level-in}
 use Rattle.search_laws.proofs.HintLaws.{moves-listed}
-use Rattle.search_core.proofs.TimeLaws.{keeps-here}
-use Rattle.deepening.proofs.RootStops.{some-level, root-before, kept-root, played-here, top-here}
+use Rattle.search_core.specs.Moments.{moment}
+use Rattle.search_core.proofs.MomentLaws.{spends-from, spends-level, answers-some, answers-no}
+use Rattle.deepening.proofs.RootStops.{some-level, kept-root, top-here}
 use Rattle.deepening.proofs.root.best_reply.Goals as goal
 
 pub root_choice-hint-requires-clause-stands : goal.root_choice-hint-requires-clause-stands
@@ -17,13 +20,7 @@ pub root_choice-hint-requires-clause-listed : goal.root_choice-hint-requires-cla
 root_choice-hint-requires-clause-listed g c = moves-listed _ _ _ _ _ _ c.list.ensures.same refl c.list.ensures.listed c.levels-level.ensures
 
 pub drop_level-requires : goal.drop_level-requires
-drop_level-requires g c = some-level _ _ _ _ c.list.ensures.listed c.try_all-found.ensures.before.stack
-
-pub returns-in_err-best-clause-stopped : goal.returns-in_err-best-clause-stopped
-returns-in_err-best-clause-stopped g c = λ _. c.try_all-found.ensures.stopped c.in_err-best.was
-
-pub returns-clause-in_time : goal.returns-clause-in_time
-returns-clause-in_time g c = c.in_ok-best.ensures.in_time
+drop_level-requires g c = some-level _ _ _ _ c.list.ensures.listed c.try_all-found.ensures.spends.before.stack
 
 pub try_all-found-requires : goal.try_all-found-requires
 try_all-found-requires g c =
@@ -36,41 +33,33 @@ try_all-found-requires g c =
 pub keep_found-requires : goal.keep_found-requires
 keep_found-requires g c =
     let start = g.G.Game.course c.args.game.now in
-    let top = top-here start (g.G.Game.course c.root_choice-hint.new.game) c.args.depth c.in_ok-best.best (c.root_choice-hint.ensures.same ∙ c.list.ensures.same) c.in_ok-best.ensures.top in
+    let top = top-here start (g.G.Game.course c.root_choice-hint.new.game) c.args.depth c.in_ok-best.best (c.root_choice-hint.ensures.same ∙ c.list.ensures.same) c.in_ok-best.ensures.answers.found in
     kept-root (position start) c.args.depth _ _ _ c.key-key.ensures.key c.key-key.ensures.sound (to_z-of_z w32 c.in_ok-best.best.value (search rules) ∙ top.worth)
 
-pub returns-in_err-best-clause-before : goal.returns-in_err-best-clause-before
-returns-in_err-best-clause-before g c =
-    root-before _ _ _ _ _ _ _ _ _ (omega (arith, c.requires.some, c.requires.room.free)) c.list.ensures.same c.root_choice-hint.ensures.same c.list.ensures.listed c.try_all-found.ensures.before c.drop_level.ensures
+pub returns-in_err-best-clause-spends : goal.returns-in_err-best-clause-spends
+returns-in_err-best-clause-spends g c =
+    let at = moment g.G.Game.course g.G.Game.played g.C.Clock.readings g.C.Clock.last g.C.Clock.previous in
+    let begun = at c.args.game.now c.args.work.now c.args.clock.now in
+    let ended = at c.try_all-found.new.game c.try_all-found.new.work c.try_all-found.new.clock in
+    let spent = spends-from (λ q. nodes q c.args.depth) (λ q. share q c.args.depth 0 1) (record begun { levels = c.list.new.out })
+    (g.G.Game.course c.root_choice-hint.new.game) (g.G.Game.played c.root_choice-hint.new.game) ended (c.root_choice-hint.ensures.same ∙ c.list.ensures.same) (c.root_choice-hint.ensures.count ∙ c.list.ensures.count) c.try_all-found.ensures.spends in
+    spends-level begun c.list.new.out c.drop_level.new.self ended (moves (position (g.G.Game.course c.args.game.now))) _ _ (omega (arith, c.requires.some, c.requires.room.free)) c.list.ensures.listed c.drop_level.ensures spent
 
-pub returns-in_err-best-clause-often : goal.returns-in_err-best-clause-often
-returns-in_err-best-clause-often g c = rw (c.root_choice-hint.ensures.count, c.list.ensures.count) at c.try_all-found.ensures.often
+pub returns-in_err-best-clause-answers : goal.returns-in_err-best-clause-answers
+returns-in_err-best-clause-answers g c =
+    answers-no _ c.from_residual.result _ _ (search rules) (c.try_all-found.ensures.answers.ended c.in_err-best.was)
 
-pub returns-in_err-best-clause-time : goal.returns-in_err-best-clause-time
-returns-in_err-best-clause-time g c =
-    keeps-here (g.G.Game.course c.args.game.now) (g.G.Game.course c.root_choice-hint.new.game) (λ p. nodes p c.args.depth) _ _ _ _ _ _ (c.root_choice-hint.ensures.same ∙ c.list.ensures.same) c.try_all-found.ensures.time
+pub returns-clause-spends : goal.returns-clause-spends
+returns-clause-spends g c =
+    let at = moment g.G.Game.course g.G.Game.played g.C.Clock.readings g.C.Clock.last g.C.Clock.previous in
+    let begun = at c.args.game.now c.args.work.now c.args.clock.now in
+    let ended = at c.try_all-found.new.game c.try_all-found.new.work c.try_all-found.new.clock in
+    let spent = spends-from (λ q. nodes q c.args.depth) (λ q. share q c.args.depth 0 1) (record begun { levels = c.list.new.out })
+    (g.G.Game.course c.root_choice-hint.new.game) (g.G.Game.played c.root_choice-hint.new.game) ended (c.root_choice-hint.ensures.same ∙ c.list.ensures.same) (c.root_choice-hint.ensures.count ∙ c.list.ensures.count) c.try_all-found.ensures.spends in
+    spends-level begun c.list.new.out c.drop_level.new.self ended (moves (position (g.G.Game.course c.args.game.now))) _ _ (omega (arith, c.requires.some, c.requires.room.free)) c.list.ensures.listed c.drop_level.ensures spent
 
-pub returns-in_err-best-clause-played : goal.returns-in_err-best-clause-played
-returns-in_err-best-clause-played g c =
-    played-here (g.G.Game.course c.args.game.now) (g.G.Game.course c.root_choice-hint.new.game) c.args.depth _ _ _ (c.root_choice-hint.ensures.same ∙ c.list.ensures.same)
-    (c.root_choice-hint.ensures.count ∙ c.list.ensures.count) c.try_all-found.ensures.played
-
-pub returns-clause-before : goal.returns-clause-before
-returns-clause-before g c =
-    root-before _ _ _ _ _ _ _ _ _ (omega (arith, c.requires.some, c.requires.room.free)) c.list.ensures.same c.root_choice-hint.ensures.same c.list.ensures.listed c.try_all-found.ensures.before c.drop_level.ensures
-
-pub returns-clause-often : goal.returns-clause-often
-returns-clause-often g c = rw (c.root_choice-hint.ensures.count, c.list.ensures.count) at c.try_all-found.ensures.often
-
-pub returns-clause-time : goal.returns-clause-time
-returns-clause-time g c =
-    keeps-here (g.G.Game.course c.args.game.now) (g.G.Game.course c.root_choice-hint.new.game) (λ p. nodes p c.args.depth) _ _ _ _ _ _ (c.root_choice-hint.ensures.same ∙ c.list.ensures.same) c.try_all-found.ensures.time
-
-pub returns-clause-played : goal.returns-clause-played
-returns-clause-played g c =
-    played-here (g.G.Game.course c.args.game.now) (g.G.Game.course c.root_choice-hint.new.game) c.args.depth _ _ _ (c.root_choice-hint.ensures.same ∙ c.list.ensures.same)
-    (c.root_choice-hint.ensures.count ∙ c.list.ensures.count) c.try_all-found.ensures.played
-
-pub returns-clause-top : goal.returns-clause-top
-returns-clause-top g c =
-    top-here (g.G.Game.course c.args.game.now) (g.G.Game.course c.root_choice-hint.new.game) c.args.depth c.in_ok-best.best (c.root_choice-hint.ensures.same ∙ c.list.ensures.same) c.in_ok-best.ensures.top
+pub returns-clause-answers : goal.returns-clause-answers
+returns-clause-answers g c =
+    answers-some _ _ _ _
+    (top-here (g.G.Game.course c.args.game.now) (g.G.Game.course c.root_choice-hint.new.game) c.args.depth c.in_ok-best.best (c.root_choice-hint.ensures.same ∙ c.list.ensures.same) c.in_ok-best.ensures.answers.found)
+    c.in_ok-best.ensures.answers.in_time

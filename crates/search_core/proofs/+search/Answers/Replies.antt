@@ -12,9 +12,10 @@ use Rattle.search_laws.specs.declared.window.Window.{Window}
 use Rattle.search_laws.proofs.FoundLaws.{found-within}
 use Rattle.search_laws.proofs.TurnLaws.{reply-found}
 use Rattle.std.specs.Prelude.{if◌then◌else◌}
-use Rattle.search_core.proofs.TimeLaws.{reply-time}
-use Rattle.search_core.proofs.CountLaws.{in_time-then, in_time-tick, counts-then, counts-here, counts-tick}
-use Rattle.search_core.proofs.PurseLaws.{paid-then, paid-here, paid-play, paid-plays, saved-less, saved-time, ended-then}
+use Rattle.search_core.proofs.CountLaws.{in_time-then, in_time-tick, counts-tick}
+use Rattle.search_core.proofs.PurseLaws.{ended-then}
+use Rattle.search_core.specs.Moments.{moment_within}
+use Rattle.search_core.proofs.MomentLaws.{Plays, spends-none, spends-more, spends-play, answers-some, answers-none}
 use Rattle.search_core.proofs.+search.Goals as goal
 
 answer-within : (p : _) (d : ℕ) (w : Window) (r : ℤ) → d ≤ 64 → IsOpen w → IsFound (value p d) w r → IsSmall 1000100 r
@@ -37,6 +38,22 @@ turned-open w o = record {
   beta = omega (arith, ints, turned-alpha w o, o.alpha);
 }
 
+pub replies::play_reply-returns-then-tick-clause-spends : goal.replies::play_reply-returns-then-tick-clause-spends
+replies::play_reply-returns-then-tick-clause-spends g t c =
+    let at = moment_within g.G.Game.course g.G.Game.played g.C.Clock.readings g.C.Clock.last g.C.Clock.previous in
+    let start = at c.args.game.now c.args.work.now c.args.clock.now in
+    let paid : c.pay.new.self.saved + (if start.purse.early then 1 else 0) ≡ start.purse.saved = c.if-not-pay.ensures.paid refl in
+    let made : Plays start c.args.m (g.G.Game.course c.play.new.self) (g.G.Game.played c.play.new.self) c.pay.new.self c.tick.new.self (g.C.Clock.readings c.tick.new.clock) (g.C.Clock.last c.tick.new.clock) = record {
+      moved = c.play.ensures.moved;
+      count = c.play.ensures.count;
+      mode = c.pay.ensures.mode;
+      paid = paid;
+      time = c.tick.ensures.time;
+      often = counts-tick _ _ _ _ _ _ _ _ _ _ c.play.ensures.count refl c.tick.ensures.counted c.tick.ensures.read c.tick.ensures.unread;
+    } in
+    let w = c.requires.window in
+    spends-play start c.args.m c.args.node.depth c.args.node.window (turned-window c.args.node.window) _ _ _ _ _ _ _ _ _ _ (omega (arith, c.requires.can.spare)) made (turned-beta _ w) (turned-alpha _ w) (spends-more _ _ 0 0 _ _ (spends-none _) (omega arith) (omega arith)) c.undo.ensures.back c.undo.ensures.count
+
 pub replies::play_reply-search_with-found-requires : goal.replies::play_reply-search_with-found-requires
 replies::play_reply-search_with-found-requires g t c κs within = (
   search rules,
@@ -51,63 +68,49 @@ replies::play_reply-search_with-found-requires g t c κs within = (
 
 pub replies::play_reply-overflow_sub-result : goal.replies::play_reply-overflow_sub-result
 replies::play_reply-overflow_sub-result g t c =
-    neg-fits _ (answer-within _ _ _ _ (omega (arith, c.requires.can.deep)) (turned-open _ c.requires.window) c.in-Found.ensures.found)
+    neg-fits _ (answer-within _ _ _ _ (omega (arith, c.requires.can.deep)) (turned-open _ c.requires.window) c.in-Some.ensures.answers.found)
 
-pub replies::play_reply-returns-in-Found-clause-found : goal.replies::play_reply-returns-in-Found-clause-found
-replies::play_reply-returns-in-Found-clause-found g t c =
+pub replies::play_reply-returns-in-Some-clause-spends : goal.replies::play_reply-returns-in-Some-clause-spends
+replies::play_reply-returns-in-Some-clause-spends g t c =
+    let at = moment_within g.G.Game.course g.G.Game.played g.C.Clock.readings g.C.Clock.last g.C.Clock.previous in
+    let start = at c.args.game.now c.args.work.now c.args.clock.now in
+    let paid : c.pay.new.self.saved + (if start.purse.early then 1 else 0) ≡ start.purse.saved = c.if-not-pay.ensures.paid refl in
+    let made : Plays start c.args.m (g.G.Game.course c.play.new.self) (g.G.Game.played c.play.new.self) c.pay.new.self c.tick.new.self (g.C.Clock.readings c.tick.new.clock) (g.C.Clock.last c.tick.new.clock) = record {
+      moved = c.play.ensures.moved;
+      count = c.play.ensures.count;
+      mode = c.pay.ensures.mode;
+      paid = paid;
+      time = c.tick.ensures.time;
+      often = counts-tick _ _ _ _ _ _ _ _ _ _ c.play.ensures.count refl c.tick.ensures.counted c.tick.ensures.read c.tick.ensures.unread;
+    } in
     let w = c.requires.window in
-    let small : IsSmall 1000100 c.in-Found.value = answer-within _ _ _ _ (omega (arith, c.requires.can.deep)) (turned-open _ w) c.in-Found.ensures.found in
-    reply-found _ _ _ _ _ _ _ _ c.play.ensures.moved (turned-beta _ w) (turned-alpha _ w) (neg-is _ small) c.in-Found.ensures.found
+    spends-play start c.args.m c.args.node.depth c.args.node.window (turned-window c.args.node.window) _ _ _ _ _ _ _ _ _ _ (omega (arith, c.requires.can.spare)) made (turned-beta _ w) (turned-alpha _ w) c.search_with-found.ensures.spends c.undo-2.ensures.back c.undo-2.ensures.count
 
-pub replies::play_reply-returns-in-Stopped-clause-played : goal.replies::play_reply-returns-in-Stopped-clause-played
-replies::play_reply-returns-in-Stopped-clause-played g t c =
+pub replies::play_reply-returns-in-None-clause-spends : goal.replies::play_reply-returns-in-None-clause-spends
+replies::play_reply-returns-in-None-clause-spends g t c =
+    let at = moment_within g.G.Game.course g.G.Game.played g.C.Clock.readings g.C.Clock.last g.C.Clock.previous in
+    let start = at c.args.game.now c.args.work.now c.args.clock.now in
+    let paid : c.pay.new.self.saved + (if start.purse.early then 1 else 0) ≡ start.purse.saved = c.if-not-pay.ensures.paid refl in
+    let made : Plays start c.args.m (g.G.Game.course c.play.new.self) (g.G.Game.played c.play.new.self) c.pay.new.self c.tick.new.self (g.C.Clock.readings c.tick.new.clock) (g.C.Clock.last c.tick.new.clock) = record {
+      moved = c.play.ensures.moved;
+      count = c.play.ensures.count;
+      mode = c.pay.ensures.mode;
+      paid = paid;
+      time = c.tick.ensures.time;
+      often = counts-tick _ _ _ _ _ _ _ _ _ _ c.play.ensures.count refl c.tick.ensures.counted c.tick.ensures.read c.tick.ensures.unread;
+    } in
     let w = c.requires.window in
-    let paid : c.pay.new.self.saved + (if c.args.purse.now.early then 1 else 0) ≡ c.args.purse.now.saved = c.if-not-pay.ensures.paid refl in
-    paid-plays _ _ _ _ c.args.window _ c.args.purse.now c.pay.new.self c.search_with-found.new.purse _ _ _ _ c.play.ensures.moved (turned-beta _ w) (turned-alpha _ w) c.play.ensures.count paid c.search_with-found.ensures.played c.undo-2.ensures.count
+    spends-play start c.args.m c.args.node.depth c.args.node.window (turned-window c.args.node.window) _ _ _ _ _ _ _ _ _ _ (omega (arith, c.requires.can.spare)) made (turned-beta _ w) (turned-alpha _ w) c.search_with-found.ensures.spends c.undo-2.ensures.back c.undo-2.ensures.count
 
-pub replies::play_reply-returns-in-Found-clause-played : goal.replies::play_reply-returns-in-Found-clause-played
-replies::play_reply-returns-in-Found-clause-played g t c =
+pub replies::play_reply-returns-in-Some-clause-answers : goal.replies::play_reply-returns-in-Some-clause-answers
+replies::play_reply-returns-in-Some-clause-answers g t c =
     let w = c.requires.window in
-    let paid : c.pay.new.self.saved + (if c.args.purse.now.early then 1 else 0) ≡ c.args.purse.now.saved = c.if-not-pay.ensures.paid refl in
-    paid-plays _ _ _ _ c.args.window _ c.args.purse.now c.pay.new.self c.search_with-found.new.purse _ _ _ _ c.play.ensures.moved (turned-beta _ w) (turned-alpha _ w) c.play.ensures.count paid c.search_with-found.ensures.played c.undo-2.ensures.count
+    let small : IsSmall 1000100 c.in-Some.value = answer-within _ _ _ _ (omega (arith, c.requires.can.deep)) (turned-open _ w) c.in-Some.ensures.answers.found in
+    answers-some _ _ _ _ (reply-found _ _ _ _ _ _ _ _ c.play.ensures.moved (turned-beta _ w) (turned-alpha _ w) (neg-is _ small) c.in-Some.ensures.answers.found)
+    (in_time-then _ _ _ _ _ c.tick.ensures.time.deadline
+    (in_time-tick _ _ _ c.tick.result _ (search rules) refl (λ e. (c.tick.ensures.read e).2) (λ e. (c.tick.ensures.unread e).1)) c.in-Some.ensures.answers.in_time)
 
-pub replies::play_reply-returns-in-Found-clause-time : goal.replies::play_reply-returns-in-Found-clause-time
-replies::play_reply-returns-in-Found-clause-time g t c =
-    let paid : c.pay.new.self.saved + (if c.args.purse.now.early then 1 else 0) ≡ c.args.purse.now.saved = c.if-not-pay.ensures.paid refl in
-    reply-time _ _ _ _ _ _ _ _ _ _ _ _ _ c.play.ensures.moved (saved-time _ _ c.args.purse.now c.pay.new.self _ _ _ _ _ (saved-less c.args.purse.now c.pay.new.self paid) c.tick.ensures.time) c.search_with-found.ensures.time
-
-pub replies::play_reply-returns-in-Stopped-clause-time : goal.replies::play_reply-returns-in-Stopped-clause-time
-replies::play_reply-returns-in-Stopped-clause-time g t c =
-    let paid : c.pay.new.self.saved + (if c.args.purse.now.early then 1 else 0) ≡ c.args.purse.now.saved = c.if-not-pay.ensures.paid refl in
-    reply-time _ _ _ _ _ _ _ _ _ _ _ _ _ c.play.ensures.moved (saved-time _ _ c.args.purse.now c.pay.new.self _ _ _ _ _ (saved-less c.args.purse.now c.pay.new.self paid) c.tick.ensures.time) c.search_with-found.ensures.time
-
-pub replies::play_reply-returns-in-Found-clause-in_time : goal.replies::play_reply-returns-in-Found-clause-in_time
-replies::play_reply-returns-in-Found-clause-in_time g t c = in_time-then _ _ _ _ _ c.tick.ensures.time.deadline
-    (in_time-tick _ _ _ c.tick.result _ (search rules) refl (λ e. (c.tick.ensures.read e).2) (λ e. (c.tick.ensures.unread e).1)) c.in-Found.ensures.in_time
-
-pub replies::play_reply-returns-in-Found-clause-often : goal.replies::play_reply-returns-in-Found-clause-often
-replies::play_reply-returns-in-Found-clause-often g t c = counts-here _ _ _ _ _ _ _ _ refl c.undo-2.ensures.count
-    (counts-then _ _ _ _ _ _ _ _ _ c.tick.ensures.time.deadline
-    (counts-tick _ _ _ _ _ _ _ _ _ _ c.play.ensures.count refl c.tick.ensures.counted c.tick.ensures.read c.tick.ensures.unread) c.search_with-found.ensures.often)
-
-pub replies::play_reply-returns-in-Stopped-clause-often : goal.replies::play_reply-returns-in-Stopped-clause-often
-replies::play_reply-returns-in-Stopped-clause-often g t c = counts-here _ _ _ _ _ _ _ _ refl c.undo-2.ensures.count
-    (counts-then _ _ _ _ _ _ _ _ _ c.tick.ensures.time.deadline
-    (counts-tick _ _ _ _ _ _ _ _ _ _ c.play.ensures.count refl c.tick.ensures.counted c.tick.ensures.read c.tick.ensures.unread) c.search_with-found.ensures.often)
-
-pub replies::play_reply-returns-in-Found-clause-paid : goal.replies::play_reply-returns-in-Found-clause-paid
-replies::play_reply-returns-in-Found-clause-paid g t c =
-    let paid : c.pay.new.self.saved + (if c.args.purse.now.early then 1 else 0) ≡ c.args.purse.now.saved = c.if-not-pay.ensures.paid refl in
-    paid-here _ _ _ _ _ _ _ _ refl c.undo-2.ensures.count
-    (paid-then _ _ _ _ _ _ _ _ _ (paid-play c.args.purse.now c.pay.new.self _ _ _ _ _ _ _ _ c.pay.ensures.mode paid c.play.ensures.count c.tick.ensures.time) c.search_with-found.ensures.paid)
-
-pub replies::play_reply-returns-in-Stopped-clause-ended : goal.replies::play_reply-returns-in-Stopped-clause-ended
-replies::play_reply-returns-in-Stopped-clause-ended g t c = λ _.
-    ended-then _ _ _ _ _ _ _ _ c.tick.ensures.time.deadline
-    (in_time-tick _ _ _ c.tick.result _ (search rules) refl (λ e. (c.tick.ensures.read e).2) (λ e. (c.tick.ensures.unread e).1)) (c.search_with-found.ensures.ended c.in-Stopped.is)
-
-pub replies::play_reply-returns-in-Stopped-clause-paid : goal.replies::play_reply-returns-in-Stopped-clause-paid
-replies::play_reply-returns-in-Stopped-clause-paid g t c =
-    let paid : c.pay.new.self.saved + (if c.args.purse.now.early then 1 else 0) ≡ c.args.purse.now.saved = c.if-not-pay.ensures.paid refl in
-    paid-here _ _ _ _ _ _ _ _ refl c.undo-2.ensures.count
-    (paid-then _ _ _ _ _ _ _ _ _ (paid-play c.args.purse.now c.pay.new.self _ _ _ _ _ _ _ _ c.pay.ensures.mode paid c.play.ensures.count c.tick.ensures.time) c.search_with-found.ensures.paid)
+pub replies::play_reply-returns-in-None-clause-answers : goal.replies::play_reply-returns-in-None-clause-answers
+replies::play_reply-returns-in-None-clause-answers g t c =
+    answers-none _ _ _ (ended-then _ _ _ _ _ _ _ _ c.tick.ensures.time.deadline
+    (in_time-tick _ _ _ c.tick.result _ (search rules) refl (λ e. (c.tick.ensures.read e).2) (λ e. (c.tick.ensures.unread e).1)) (c.search_with-found.ensures.answers.ended c.in-None.is))

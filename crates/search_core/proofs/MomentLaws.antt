@@ -1,0 +1,126 @@
+-- How what a search spends and answers goes on from moment to moment.
+use Rattle.std.proofs.Common.{◌≡◌, ℕ, ◌+◌, ◌-◌, ◌≤◌, ◌^◌, min, neg_ℤ, refl, sym, subst, arith, Option, Some, None}
+use Rattle.std.specs.Prelude.{if◌then◌else◌}
+use Rattle.hive_model.specs.declared.places.Move.{Move}
+use Rattle.hive_model.specs.Positions.{Position}
+use Rattle.hive_model.specs.Games.{after}
+use Rattle.hive_model.specs.Minimax.{nodes}
+use Rattle.hive_model.specs.Costs.{cost}
+use Rattle.hive_model.specs.Courses.{Course, position, with_move, without_last}
+use Rattle.hive_model.specs.Stack.{Levels, with_level, without_level}
+use Rattle.search_laws.proofs.NodeLaws.{before-then}
+use Rattle.search_laws.proofs.CourseLaws.{level-dropped, move-undone}
+use Rattle.search_laws.specs.declared.window.Window.{Window}
+use Rattle.search_core.specs.Ticks.{Ticks, KeepsTime, IsInTime, CountsPlays}
+use Rattle.search_core.specs.declared.purse.Purse.{Purse}
+use Rattle.search_core.specs.Times.{HasEnded, counted, with_saved}
+use Rattle.search_core.specs.Moments.{Moment, Spends, Answers}
+use Rattle.search_core.proofs.CountLaws.{in_time-then, counts-none, counts-then, counts-here}
+use Rattle.search_core.proofs.TimeLaws.{keeps-none, keeps-then, keeps-more, if-some, reply-time}
+use Rattle.search_core.proofs.PurseLaws.{paid-then, paid-here, paid-play, paid-plays, saved-less, saved-time, ended-then}
+
+-- ---- what is spent
+
+pub spends-none : (a : Moment) → Spends 0 0 a a
+spends-none a = record {
+  before = record { game = refl; stack = refl };
+  often = counts-none a.ticks a.readings a.played;
+  time = keeps-none (with_saved a.ticks a.purse) a.readings a.last;
+  played = omega arith;
+  paid = record { mode = refl; plays = λ _. omega arith; counts = λ _. omega arith };
+}
+
+pub spends-then : (a b d : Moment) (n k m l : ℕ) → Spends n k a b → Spends m l b d → Spends (n + m) (k + l) a d
+spends-then a b d n k m l x y = record {
+  before = before-then _ _ _ _ _ _ x.before y.before;
+  often = counts-then _ _ _ _ _ _ _ _ _ x.time.deadline x.often y.often;
+  time = keeps-then _ _ _ _ _ _ _ _ _ _ _ x.time y.time;
+  played = omega (arith, x.played, y.played);
+  paid = paid-then _ _ _ _ _ _ _ _ _ x.paid y.paid;
+}
+
+-- no more nodes, and no more plays
+pub spends-as : (a b : Moment) (n k m l : ℕ) → Spends n k a b → n ≤ m → b.played + b.purse.saved ≤ a.played + a.purse.saved + l → Spends m l a b
+spends-as a b n k m l x fewer less = record {
+  before = x.before;
+  often = x.often;
+  time = keeps-more _ _ _ _ _ _ _ _ fewer x.time;
+  played = less;
+  paid = x.paid;
+}
+
+pub spends-more : (a b : Moment) (n k m l : ℕ) → Spends n k a b → n ≤ m → k ≤ l → Spends m l a b
+spends-more a b n k m l x fewer less = spends-as a b n k m l x fewer (omega (arith, x.played, less))
+
+-- the same moment, but that the course and the plays of the game are told by other names
+abbrev pub told_by : Moment → Course → ℕ → Moment
+told_by a course played = record a { course = course; played = played }
+
+pub spends-from : (f h : Position → ℕ) (a : Moment) (course : Course) (played : ℕ) (b : Moment) → course ≡ a.course → played ≡ a.played
+    → Spends (f (position course)) (h (position course)) (told_by a course played) b → Spends (f (position a.course)) (h (position a.course)) a b
+spends-from f h a course played b same count x =
+    subst (λ (q : ℕ). Spends (f (position a.course)) (h (position a.course)) (told_by a a.course q) b) count
+    (subst (λ (q : Course). Spends (f (position q)) (h (position q)) (told_by a q played) b) same x)
+
+-- what is said of the game of a moment holds of the same game
+pub spends-here : (f h : Position → ℕ) (start : Course) (a b : Moment) → a.course ≡ start → Spends (f (position a.course)) (h (position a.course)) a b
+    → Spends (f (position start)) (h (position start)) a b
+spends-here f h start a b same x = subst (λ (q : Course). Spends (f (position q)) (h (position q)) a b) same x
+
+-- a level was listed before, and dropped after
+pub spends-level : (a : Moment) (listed dropped : Levels) (b : Moment) (ms : _) (n k : ℕ) → 1 ≤ a.levels.free → listed ≡ with_level a.levels ms → dropped ≡ without_level b.levels
+    → Spends n k (record a { levels = listed }) b → Spends n k a (record b { levels = dropped })
+spends-level a listed dropped b ms n k room put taken x = record {
+  before = record { game = x.before.game; stack = level-dropped a.levels listed b.levels dropped ms room put x.before.stack taken };
+  often = x.often;
+  time = x.time;
+  played = x.played;
+  paid = x.paid;
+}
+
+-- a move is paid for and played, its play is counted, and it is taken back after a search behind it
+pub record Plays (a : Moment) (m : Move) (played : Course) (n : ℕ) (purse : Purse) (ticks : Ticks) (readings last : ℕ) : Type 0 where
+  pub moved : played ≡ with_move a.course m
+  pub count : n ≡ min (a.played + 1) (2 ^ 64 - 1)
+  pub mode : purse.early ≡ a.purse.early
+  pub paid : purse.saved + (if a.purse.early then 1 else 0) ≡ a.purse.saved
+  pub time : KeepsTime a.ticks ticks a.readings readings a.last last 1
+  pub often : CountsPlays a.ticks ticks a.readings readings a.played n
+
+pub spends-play : (a : Moment) (m : Move) (d : ℕ) (w turned : Window) (played : Course) (n : ℕ) (purse : Purse) (ticks : Ticks) (readings last previous : ℕ) (b : Moment) (back : Course) (n3 : ℕ)
+    → 1 ≤ a.course.spare → Plays a m played n purse ticks readings last → turned.alpha ≡ neg_ℤ w.beta → turned.beta ≡ neg_ℤ w.alpha
+    → Spends (nodes (position played) d) (cost (position played) d turned.alpha turned.beta)
+    (record { course = played; played = n; levels = a.levels; ticks = ticks; purse = purse; readings = readings; last = last; previous = previous }) b
+    → back ≡ without_last b.course → n3 ≡ b.played
+    → Spends (1 + nodes (after (position a.course) m) d) (1 + cost (after (position a.course) m) d (neg_ℤ w.beta) (neg_ℤ w.alpha)) a (told_by b back n3)
+spends-play a m d w turned played n purse ticks readings last previous b back n3 room made ea eb x taken same = record {
+  before = record { game = move-undone a.course played b.course back m room made.moved x.before.game taken; stack = x.before.stack };
+  often = counts-here a.ticks b.ticks a.readings b.readings a.played a.played b.played n3 refl same
+      (counts-then a.ticks ticks b.ticks a.readings readings b.readings a.played n b.played made.time.deadline made.often x.often);
+  time = reply-time a.course played m d (with_saved a.ticks a.purse) (with_saved ticks purse) (with_saved b.ticks b.purse) a.readings readings b.readings a.last last b.last made.moved
+      (saved-time a.ticks ticks a.purse purse a.readings readings a.last last 1 (saved-less a.purse purse made.paid) made.time) x.time;
+  played = paid-plays a.course played m d w turned a.purse purse b.purse a.played n b.played n3 made.moved ea eb made.count made.paid x.played same;
+  paid = paid-here a.purse b.purse a.played a.played b.played n3 (counted a.ticks a.readings) (counted b.ticks b.readings) refl same
+      (paid-then a.purse purse b.purse a.played n b.played (counted a.ticks a.readings) (counted ticks readings) (counted b.ticks b.readings)
+      (paid-play a.purse purse a.ticks ticks a.readings readings a.last last a.played n made.mode made.paid made.count made.time) x.paid);
+}
+
+-- ---- what is answered
+
+pub answers-some : {X : Type 0} (Is : X → Type 0) (x : X) (a b : Moment) → Is x → IsInTime a.ticks a.last b.last → Answers Is (Some x) a b
+answers-some Is x a b is time = record { found = is; in_time = time; ended = λ e. cc }
+
+pub answers-none : {X : Type 0} (Is : X → Type 0) (a b : Moment) → HasEnded b.purse a.ticks b.ticks a.last b.last b.previous → Answers Is None a b
+answers-none Is a b ended = record { found = tt; in_time = tt; ended = λ e. ended }
+
+pub answers-no : {X : Type 0} (Is : X → Type 0) (o : Option X) (a b : Moment) → o ≡ None → HasEnded b.purse a.ticks b.ticks a.last b.last b.previous → Answers Is o a b
+answers-no Is o a b none ended = subst (λ q. Answers Is q a b) (sym none) (answers-none Is a b ended)
+
+-- an answer to the rest, after what was done in time
+pub answers-then : {X : Type 0} (Is All : X → Type 0) (o : Option X) (a b d : Moment) → b.ticks.deadline ≡ a.ticks.deadline → IsInTime a.ticks a.last b.last
+    → ((x : X) → Is x → All x) → Answers Is o b d → Answers All o a d
+answers-then Is All o a b d same time so x = record {
+  found = if-some Is All o so x.found;
+  in_time = if-some _ _ o (λ _ h. in_time-then a.ticks b.ticks a.last b.last d.last same time h) x.in_time;
+  ended = λ none. ended-then d.purse a.ticks b.ticks d.ticks a.last b.last d.last d.previous same time (x.ended none);
+}

@@ -1,0 +1,118 @@
+-- What a search spends and what it answers, between two moments.
+use Rattle.std.specs.Prelude.{◌≡◌, ℕ, ◌+◌, ◌-◌, ◌≤◌, ℤ, neg_ℤ, false, Option, None, IfSome}
+use Rattle.hive_model.specs.declared.places.Move.{Move}
+use Rattle.hive_model.specs.Positions.{Position}
+use Rattle.hive_model.specs.Legal.{moves}
+use Rattle.hive_model.specs.Games.{after}
+use Rattle.hive_model.specs.Minimax.{nodes, value, reply_value}
+use Rattle.hive_model.specs.Costs.{cost, tries_cost}
+use Rattle.hive_model.specs.Courses.{Course, position}
+use Rattle.hive_model.specs.Stack.{Levels}
+use Rattle.search_laws.specs.Found.{IsFound}
+use Rattle.search_laws.specs.Nodes.{AreAsBefore}
+use Rattle.search_laws.specs.Tries.{tried_cost}
+use Rattle.search_core.specs.Ticks.{Ticks, KeepsTime, IsInTime, CountsPlays}
+use Rattle.search_core.specs.Times.{HasEnded, IsPaid, counted, with_saved, behind, sum_but}
+use Rattle.search_core.specs.declared.entries.Tried.{Tried}
+use Rattle.search_core.specs.declared.purse.Purse.{Purse}
+use Rattle.search_core.specs.declared.workspace.Node.{Node}
+use Rattle.search_core.specs.declared.workspace.Workspace.{Workspace}
+
+-- what contracts see of a game, of the workspace of a search and of a clock at one moment
+pub record Moment : Type 0 where
+  pub course : Course
+  pub played : ℕ
+  pub levels : Levels
+  pub ticks : Ticks
+  pub purse : Purse
+  pub readings : ℕ
+  pub last : ℕ
+  pub previous : ℕ
+
+-- a moment within a search, which pays for early tries from its purse
+abbrev pub moment_within : {G C : Type 0} → (G → Course) → (G → ℕ) → (C → ℕ) → (C → ℕ) → (C → ℕ)
+    → G → Workspace → C → Moment
+moment_within course played readings last previous game work clock = record {
+  course = course game;
+  played = played game;
+  levels = work.stack;
+  ticks = work.ticker;
+  purse = work.purse;
+  readings = readings clock;
+  last = last clock;
+  previous = previous clock;
+}
+
+-- a moment before or after a search, when nothing is saved
+abbrev pub moment : {G C : Type 0} → (G → Course) → (G → ℕ) → (C → ℕ) → (C → ℕ) → (C → ℕ)
+    → G → Workspace → C → Moment
+moment course played readings last previous game work clock = record {
+  course = course game;
+  played = played game;
+  levels = work.stack;
+  ticks = work.ticker;
+  purse = record { saved = 0; early = false };
+  readings = readings clock;
+  last = last clock;
+  previous = previous clock;
+}
+
+-- Between two moments a search of so many nodes left game and stack as they were and played at most
+-- so many moves. Each play was counted, the clock was read once for each 256 of them where there is
+-- a deadline, and what was saved on the way was paid for.
+pub record Spends (nodes plays : ℕ) (old new : Moment) : Type 0 where
+  pub before : AreAsBefore old.course new.course old.levels new.levels
+  pub often : CountsPlays old.ticks new.ticks old.readings new.readings old.played new.played
+  pub time : KeepsTime (with_saved old.ticks old.purse) (with_saved new.ticks new.purse)
+      old.readings new.readings old.last new.last nodes
+  pub played : new.played + new.purse.saved ≤ old.played + old.purse.saved + plays
+  pub paid : IsPaid old.purse new.purse old.played new.played
+      (counted old.ticks old.readings) (counted new.ticks new.readings)
+
+-- An answer is as it should be, and came in time. There is none only where the deadline came, or
+-- where an early try could not be paid for.
+pub record Answers {X : Type 0} (Is : X → Type 0) (answer : Option X) (old new : Moment)
+    : Type 0 where
+  pub found : IfSome answer Is
+  pub in_time : IfSome answer (λ _. IsInTime old.ticks old.last new.last)
+  pub ended : answer ≡ None
+      → HasEnded new.purse old.ticks new.ticks old.last new.last new.previous
+
+-- what a search of a node spends: the plies of all its lines, and the plays that its window costs
+abbrev pub SpendsOnNode : Node → Moment → Moment → Type 0
+SpendsOnNode node old new =
+    Spends (nodes (position old.course) node.depth)
+    (cost (position old.course) node.depth node.window.alpha node.window.beta) old new
+
+-- the plays that the moves of a node cost in its window, one after the other
+abbrev pub cost_of_moves : Position → Node → ℕ
+cost_of_moves p node =
+    tries_cost (tried_cost p (node.depth - 1) node.window.beta)
+    (reply_value p (node.depth - 1)) node.window.alpha node.window.beta (moves p)
+
+-- what a search of the moves of a node spends, but for the one at the place of the hint
+abbrev pub SpendsOnMoves : Option ℕ → Node → Moment → Moment → Type 0
+SpendsOnMoves hint node old new = let p = position old.course in
+    Spends (sum_but hint 0 (behind p (node.depth - 1)) (moves p)) (cost_of_moves p node) old new
+
+-- what a search of the moves of a node spends, but for this one
+abbrev pub SpendsOnOthers : Move → Node → Moment → Moment → Type 0
+SpendsOnOthers m node old new = let p = position old.course in
+    Spends (nodes p node.depth - behind p (node.depth - 1) m) (cost_of_moves p node) old new
+
+-- what a search for the worth of a move spends, which is played
+abbrev pub SpendsOnReply : Move → Node → Moment → Moment → Type 0
+SpendsOnReply m node old new = let behind = after (position old.course) m in
+    Spends (1 + nodes behind node.depth)
+    (1 + cost behind node.depth (neg_ℤ node.window.beta) (neg_ℤ node.window.alpha)) old new
+
+-- what a search of a node answers, in its window
+abbrev pub AnswersNode : Node → Option Tried → Moment → Moment → Type 0
+AnswersNode node answer old new =
+    Answers (λ tried. IsFound (value (position old.course) node.depth) node.window tried.value)
+    answer old new
+
+-- what a search for the worth of a move answers, in its window
+abbrev pub AnswersReply : Move → Node → Option ℤ → Moment → Moment → Type 0
+AnswersReply m node answer old new =
+    Answers (IsFound (reply_value (position old.course) node.depth m) node.window) answer old new
