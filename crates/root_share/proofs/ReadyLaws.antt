@@ -1,5 +1,5 @@
 -- What a worker knows of the child that it tried first, and that it is ready for the others.
-use Rattle.std.proofs.Common.{◌≡◌, ℕ, List, length, subst, ◌-◌, ◌≤◌, sym, ap, ◌∙◌, arith, ℤ, ◌≤ℤ◌, Some}
+use Rattle.std.proofs.Common.{◌≡◌, ℕ, length, subst, ◌-◌, ◌≤◌, sym, ap, ◌∙◌, arith, ℤ, ◌≤ℤ◌, Some}
 use Rattle.std.proofs.lemmas.Int.{ints}
 use Rattle.std.proofs.lemmas.Option.{slice_get_within}
 use Rattle.std.specs.List.{slice_get}
@@ -11,10 +11,12 @@ use Rattle.hive_model.specs.Positions.{Position}
 use Rattle.hive_model.specs.Legal.{moves}
 use Rattle.hive_model.specs.Minimax.{value, reply_value}
 use Rattle.hive_model.specs.Courses.{Course, position}
-use Rattle.atomic_table.specs.Seated.{TableId}
 use Rattle.atomic_table.specs.declared.shared.Seat.{Seat}
 use Rattle.root_share.specs.Run.{first_bound}
-use Rattle.root_share.specs.Children.{IsBound, IsDepth, IsLatest}
+use Rattle.root_share.specs.declared.work.Child.{Child}
+use Rattle.root_share.specs.declared.work.RootWork.{RootWork}
+use Rattle.root_share.specs.declared.worker.Worker.{Worker}
+use Rattle.root_share.specs.Children.{IsBound, IsChild, IsDepth, IsLatest, MaySearch}
 use Rattle.root_share.specs.Ready.{IsReady, MayBegin}
 use Rattle.root_share.specs.Word.{Known, known, IsSeat}
 use Rattle.root_share.specs.Answer.{IsKnown}
@@ -41,23 +43,24 @@ ready-still p q k known depth game later n more old at agreed same kept = record
 }
 
 -- the same of a worker that can take children
-pub begin-still : (id : TableId) (lists : List (List Move)) (game later : Course) (n more depth parts : ℕ) (seat next : Seat (Unit {0}) Known) → MayBegin id lists game n depth parts seat →
-    IsSeat id next → next.me.0.root ≡ seat.me.0.root → next.me.0.depth ≡ depth → later ≡ game → more ≡ n → MayBegin id lists later more depth parts next
-begin-still id lists game later n more depth parts seat next may seated root agreed same kept = record {
+pub begin-still : {G T : Type 0} (course : G → Course) (work : RootWork G T) (worker after : Worker G) (seat next : Seat (Unit {0}) Known) → MayBegin course work worker seat →
+    IsSeat work.word.now.table_id next → next.me.0.root ≡ seat.me.0.root → next.me.0.depth ≡ work.depth → course after.game ≡ course worker.game → after.searcher ≡ worker.searcher →
+    MayBegin course work after next
+begin-still course work worker after seat next may seated root agreed same kept = record {
   seated = seated;
-  ready = ready-still seat.me.0.root next.me.0.root seat.me.0.depth next.me.0.depth depth game later n more may.ready root agreed same kept;
+  ready = ready-still seat.me.0.root next.me.0.root seat.me.0.depth next.me.0.depth work.depth (course worker.game) (course after.game) worker.searcher after.searcher may.ready root agreed same kept;
   listed = rw root may.listed;
   some = may.some;
 }
 
 -- what a view knows
-pub root-of : {v : Known} {p : Position} {d : ℕ} {b : ℤ} → v ≡ known p d b → v.root ≡ p
+pub root-of : {v : Known} {p : Position} {d : ℕ} {b : ℤ} {n : ℕ} → v ≡ known p d b n → v.root ≡ p
 root-of e = ap (λ (w : Known). w.root) e
 
-pub top-of : {v : Known} {p : Position} {d : ℕ} {b : ℤ} → v ≡ known p d b → v.top ≡ b
+pub top-of : {v : Known} {p : Position} {d : ℕ} {b : ℤ} {n : ℕ} → v ≡ known p d b n → v.top ≡ b
 top-of e = ap (λ (w : Known). w.top) e
 
-pub depth-of : {v : Known} {p : Position} {d : ℕ} {b : ℤ} → v ≡ known p d b → v.depth ≡ d
+pub depth-of : {v : Known} {p : Position} {d : ℕ} {b : ℤ} {n : ℕ} → v ≡ known p d b n → v.depth ≡ d
 depth-of e = ap (λ (w : Known). w.depth) e
 
 -- a move of the list is legal where the game is as before
@@ -68,9 +71,20 @@ legal-still start now i m same here = subst (λ (h : Course). IsOn (moves (posit
 pub depth-known : (p : Position) (k depth : ℕ) (game : Course) (n : ℕ) (v : Known) → IsReady p k depth game n → v.root ≡ p → v.depth ≡ k → IsDepth v.root v.depth depth
 depth-known p k depth game n v ready at agreed = record { inner = rw at ready.inner; agreed = agreed ∙ ready.agreed; deep = ready.deep }
 
+-- a worker that is ready can search behind a child
+pub may-search : (p : Position) (k depth : ℕ) (game : Course) (n : ℕ) (child : Child) (m : Move) → IsReady p k depth game n → IsChild p child → m ≡ child.m → MaySearch game n m (depth - 1)
+may-search p k depth game n child m ready here same =
+    let some = ready.inner.deep in
+    record {
+      legal = rw same (on-at (moves (position game)) child.place child.m (rw (← ready.stands) here));
+      deep = omega (arith, ready.deep, some);
+      spare = omega (arith, ready.spare, some);
+      enough = omega (arith, ready.enough);
+    }
+
 -- the bound that a seat has read is the latest one
-pub latest-read : (p : Position) (k depth : ℕ) (b z : ℤ) (v : Known) → v ≡ known p k b → z ≡ b → k ≡ depth → b ≤ℤ value p k → IsLatest v.root depth v.top z
-latest-read p k depth b z v view kept agreed most = record { stands = top-of view ∙ sym kept; most = rw (kept, root-of view) (rw agreed at most) }
+pub latest-read : (p : Position) (k depth : ℕ) (b z : ℤ) (n : ℕ) (v : Known) → v ≡ known p k b n → z ≡ b → k ≡ depth → b ≤ℤ value p k → IsLatest v.root depth v.top z
+latest-read p k depth b z n v view kept agreed most = record { stands = top-of view ∙ sym kept; most = rw (kept, root-of view) (rw agreed at most) }
 
 -- it is a bound of a search
 pub bound-read-is : (p : Position) (k depth : ℕ) (b z : ℤ) → z ≡ b → k ≡ depth → depth ≤ 64 → first_bound ≤ℤ b → b ≤ℤ value p k → IsBound z

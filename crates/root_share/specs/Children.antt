@@ -1,12 +1,21 @@
 -- What a worker needs to search a child of a root, and what it learns of the child.
-use Rattle.std.specs.Prelude.{◌≡◌, ℕ, ◌<◌, ◌≤◌, ℤ, pos, ◌≤ℤ◌, ◌<ℤ◌}
+use Rattle.std.specs.Prelude.{◌≡◌, ℕ, ◌-◌, ◌<◌, ◌≤◌, ℤ, pos, ◌≤ℤ◌, ◌<ℤ◌, slice_get, Some}
 use Rattle.hive_model.specs.declared.places.Move.{Move}
 use Rattle.hive_model.specs.Positions.{Position}
 use Rattle.hive_model.specs.Lists.{IsOn}
 use Rattle.hive_model.specs.Legal.{moves}
-use Rattle.hive_model.specs.Minimax.{value, IsInner}
+use Rattle.hive_model.specs.Minimax.{value, reply_value, IsInner}
 use Rattle.hive_model.specs.Courses.{Course, position}
+use Rattle.root_share.specs.declared.work.Child.{Child}
 use Rattle.root_share.specs.Run.{first_bound}
+
+-- the child is the move at its place on the root's list
+abbrev pub IsChild : Position → Child → Type 0
+IsChild root child = slice_get (moves root) child.place ≡ Some child.m
+
+-- what a child of the root is worth where so many plies are searched in all
+abbrev pub child_worth : Position → ℕ → Child → ℤ
+child_worth root depth child = reply_value root (depth - 1) child.m
 
 -- so many plies can be searched behind a move: it is legal where the game stands, and game and
 -- searcher have room for the plies, 63 at most

@@ -1,12 +1,14 @@
 -- What a worker needs to search behind the moves of a root.
-use Rattle.std.specs.Prelude.{◌≡◌, ℕ, ◌<◌, ◌≤◌, List, [], ◌∷◌}
-use Rattle.atomic_table.specs.Seated.{TableId}
+use Rattle.std.specs.Prelude.{◌≡◌, ℕ, ◌<◌, ◌≤◌, [], ◌∷◌}
 use Rattle.atomic_table.specs.declared.shared.Seat.{Seat}
-use Rattle.hive_model.specs.declared.places.Move.{Move}
 use Rattle.hive_model.specs.Positions.{Position}
 use Rattle.hive_model.specs.Legal.{moves}
 use Rattle.hive_model.specs.Minimax.{IsInner}
 use Rattle.hive_model.specs.Courses.{Course, position}
+use Rattle.root_share.specs.declared.work.Child.{Child}
+use Rattle.root_share.specs.declared.work.RootWork.{RootWork}
+use Rattle.root_share.specs.declared.worker.Worker.{Worker}
+use Rattle.root_share.specs.Children.{IsChild}
 use Rattle.root_share.specs.Word.{Known, IsSeat}
 
 -- the worker's game stands at the root, which its seat knows with the depth; a ply is to be
@@ -19,11 +21,17 @@ pub record IsReady (root : Position) (known depth : ℕ) (game : Course) (prepar
   pub spare : depth ≤ game.spare
   pub enough : depth ≤ prepared
 
--- a worker can take the children of one of so many parts: it is ready at the root that its seat
--- knows, and the list is of that root's moves
-pub record MayBegin (id : TableId) (lists : List (List Move)) (game : Course)
-    (prepared depth parts : ℕ) (seat : Seat (Unit {0}) Known) : Type 0 where
-  pub seated : IsSeat id seat
-  pub ready : IsReady seat.me.0.root seat.me.0.depth depth game prepared
-  pub listed : lists ≡ moves seat.me.0.root ∷ []
-  pub some : 0 < parts
+-- a worker can take children: its seat is at the word that the workers share, it is ready at the
+-- root that the seat knows, and the list is of that root's moves
+pub record MayBegin {G T : Type 0} (course : G → Course) (work : RootWork G T)
+    (worker : Worker G) (seat : Seat (Unit {0}) Known) : Type 0 where
+  pub seated : IsSeat work.word.now.table_id seat
+  pub ready : IsReady seat.me.0.root seat.me.0.depth work.depth (course worker.game) worker.searcher
+  pub listed : work.root.now.lists ≡ moves seat.me.0.root ∷ []
+  pub some : 0 < work.parts
+
+-- it can take this child
+pub record MayTake {G T : Type 0} (course : G → Course) (work : RootWork G T) (child : Child)
+    (worker : Worker G) (seat : Seat (Unit {0}) Known) : Type 0 where
+  pub begin : MayBegin course work worker seat
+  pub here : IsChild seat.me.0.root child

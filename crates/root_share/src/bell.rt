@@ -1,7 +1,8 @@
 //! A clock that strikes once the shared bound was raised.
 
-ghost use Rattle.std.specs.Prelude.{◌≡◌, ◌<◌, ◌≤◌, ◌+◌, ◌^◌};
+ghost use Rattle.std.specs.Prelude.{◌≡◌, ◌≤◌, ◌≤ℤ◌};
 ghost use Rattle.io_edge.specs.Clocks.{TellsTime};
+ghost use Rattle.root_share.specs.Bells.{HasRung};
 ghost use Rattle.root_share.specs.Word.{IsSeat};
 
 use crate::word::{BoundSeat, Word, look};
@@ -18,16 +19,14 @@ pub(crate) const STRIKE: u64 = 1;
 pub(crate) struct Bell<'a, G: Game> {
     word: &'a Word<G>,
     seat: BoundSeat,
-    bound: i32,
+    made_for: i32,
     last: u64,
     previous: u64,
     readings: u64,
 }
 
 impl<'a, G: Game> Model for Bell<'a, G> {
-    ghost use Rattle.std.specs.Prelude.{◌≤◌};
-    ghost use Rattle.root_share.specs.Bells.{Strokes};
-    ghost use Rattle.root_share.specs.Word.{IsSeat};
+    ghost use Rattle.root_share.specs.Bells.{Strokes, IsBell};
 
     ghost Value = { Strokes };
 
@@ -35,10 +34,12 @@ impl<'a, G: Game> Model for Bell<'a, G> {
       last = b.last;
       previous = b.previous;
       readings = b.readings;
+      made_for = b.made_for;
+      top = b.seat.me.0.top;
+      looks = b.seat.me.0.looks;
     } };
 
-    ghost invariant = { λ b. IsSeat b.word.now.table_id b.seat × (b.seat.me.0.depth ≤ 64)
-        × (b.last ≤ 1) };
+    ghost invariant = { λ b. IsBell b.word.now.table_id b.seat b.made_for b.last };
 }
 
 impl<'a, G: Game> Bell<'a, G> {
@@ -46,12 +47,20 @@ impl<'a, G: Game> Bell<'a, G> {
     pub(crate) fn new(word: &'a Word<G>, seat: BoundSeat, bound: i32) -> Bell<'a, G>
         requires seat { IsSeat word.now.table_id seat }
         requires deep { seat.me.0.depth ≤ 64 }
-        ensures { result ≡ record { last = 0; previous = 0; readings = 0 } }
+        requires low { seat.me.0.top ≤ℤ bound }
+        ensures { result ≡ record {
+          last = 0;
+          previous = 0;
+          readings = 0;
+          made_for = bound;
+          top = seat.me.0.top;
+          looks = seat.me.0.looks;
+        } }
     {
         Bell {
             word,
             seat,
-            bound,
+            made_for: bound,
             last: 0,
             previous: 0,
             readings: 0,
@@ -66,15 +75,16 @@ impl<G: Game> Clock for Bell<'_, G> {
 
     ghost readings = { λ b. b.readings };
 
-    /// `STRIKE` where the bound is higher than when the bell was made, or was at a reading before.
+    /// `STRIKE` exactly where the bound is higher now than when the bell was made.
     fn now(&mut self) -> u64
         ensures time { TellsTime result self.old.last self.new.last self.old.readings
             self.new.readings }
         ensures previous { self.new.previous ≡ self.old.last }
+        ensures rung { HasRung self.old self.new }
     {
         let bound = look(self.word, &mut self.seat);
         self.previous = self.last;
-        if bound > self.bound {
+        if bound > self.made_for {
             self.last = STRIKE;
         }
         self.readings = self.readings.saturating_add(1);

@@ -7,8 +7,9 @@ ghost use Rattle.root_share.specs.Answer.{PlaysWithin};
 ghost use Rattle.root_share.specs.Workers.{CanSearch, AreAsBefore, plays_of, root_at};
 
 use crate::gate::Gate;
-use crate::part::{RootWork, run_parts};
+use crate::part::{Team, run_parts};
 use crate::word::begin;
+use crate::work::RootWork;
 use crate::worker::Worker;
 use hive_model::{Best, Game, MoveStack};
 use std::alloc::{AllocError, Global};
@@ -54,15 +55,17 @@ pub fn best_shared<R: Threads + Sync, G: Game + Send, T: Gate + Sync>(
     let mut root = MoveStack::new(alloc, 1)?;
     list_root(workers, &mut root);
     let (board, mut seat) = begin(alloc, &workers[0].game, depth)?;
-    let task = RootWork {
+    let team = Team {
         rt,
-        word: &board.shared,
-        gate,
-        root: &root,
-        depth,
-        parts: workers.len() as u32,
+        work: RootWork {
+            word: &board.shared,
+            gate,
+            root: &root,
+            depth,
+            parts: workers.len() as u32,
+        },
     };
-    let found = run_parts(&task, 0, &mut seat, workers);
+    let found = run_parts(&team, 0, &mut seat, workers);
     let Some(best) = found else { unreachable!() };
     Ok(Best {
         best: root.get(0, best.child),

@@ -4,12 +4,14 @@ ghost use Rattle.std.specs.Prelude.{◌≡◌, ◌+◌, ◌≤◌, [], ◌∷◌
 ghost use Rattle.hive_model.specs.Legal.{moves};
 ghost use Rattle.hive_model.specs.Minimax.{value};
 ghost use Rattle.hive_model.specs.Courses.{position};
-ghost use Rattle.root_share.specs.Word.{IsSeat, IsReply, known};
-ghost use Rattle.root_share.specs.Ready.{IsReady};
+ghost use Rattle.root_share.specs.Word.{IsReply};
+ghost use Rattle.root_share.specs.Taken.{KeepsRoot};
+ghost use Rattle.root_share.specs.Ready.{MayBegin};
 ghost use Rattle.root_share.specs.Workers.{HasPlayed};
 
 use crate::behind::end_behind;
-use crate::word::{BoundSeat, Word, look, raise};
+use crate::word::{BoundSeat, look, raise};
+use crate::work::RootWork;
 use crate::worker::Worker;
 use hive_model::{Game, MoveStack};
 use search_core::likely_win;
@@ -37,33 +39,28 @@ fn likely_end<G: Game>(game: &mut G, root: &MoveStack, depth: u32) -> Option<i32
 /// The bound as it stands; where it is lower than a win at once, the move of the root that seems to
 /// win is played and taken back, whoever's child it is, and the bound is raised if it ends the game
 /// and is worth more. At most that one move is played.
-pub(crate) fn look_for_win<G: Game>(
-    word: &Word<G>,
-    root: &MoveStack,
-    depth: u32,
+pub(crate) fn look_for_win<G: Game, T>(
+    work: &RootWork<'_, G, T>,
     seat: &mut BoundSeat,
     worker: &mut Worker<G>,
 ) -> i32
-    requires seat { IsSeat word.now.table_id seat.old }
-    requires ready { IsReady seat.old.me.0.root seat.old.me.0.depth depth (G.course worker.old.game)
-        worker.old.searcher }
-    requires listed { root.now.lists ≡ moves seat.old.me.0.root ∷ [] }
-    ensures seat { IsSeat word.now.table_id seat.new }
-    ensures view { seat.new.me.0 ≡ known seat.old.me.0.root depth result }
+    requires begin { MayBegin G.course work.now worker.old seat.old }
+    ensures seat { KeepsRoot work.now seat.old seat.new }
+    ensures top { seat.new.me.0.top ≡ result }
     ensures grows { seat.old.me.0.top ≤ℤ result }
-    ensures most { result ≤ℤ value seat.old.me.0.root depth }
+    ensures most { result ≤ℤ value seat.old.me.0.root work.now.depth }
     ensures worker { HasPlayed G.course G.played worker.old worker.new 1 }
 {
-    let bound = look(word, seat);
-    if bound >= 1_000_000 + (depth - 1) as i32 {
+    let bound = look(work.word, seat);
+    if bound >= 1_000_000 + (work.depth - 1) as i32 {
         return bound;
     }
-    let Some(worth) = likely_end(&mut worker.game, root, depth) else {
+    let Some(worth) = likely_end(&mut worker.game, work.root, work.depth) else {
         return bound;
     };
     if worth <= bound {
         return bound;
     }
-    raise(word, seat, worth);
+    raise(work.word, seat, worth);
     worth
 }

@@ -1,6 +1,6 @@
 //! The bound that workers share, and the steps on it.
 
-ghost use Rattle.std.specs.Prelude.{◌≡◌, ◌≤◌, false, IfOk, ◌≤ℤ◌};
+ghost use Rattle.std.specs.Prelude.{◌≡◌, ◌+◌, ◌≤◌, false, IfOk, ◌≤ℤ◌};
 ghost use Rattle.std.specs.Int.{int_max};
 ghost use Rattle.hive_model.specs.Minimax.{value, IsInner};
 ghost use Rattle.hive_model.specs.Courses.{position};
@@ -28,7 +28,7 @@ impl Model for View {
 
     ghost view = { λ v.
         known (opening (record { mosquito = false; ladybug = false; pillbug = false }))
-        0 first_bound };
+        0 first_bound 0 };
 }
 
 /// The root that the workers search, which the table is told when it is made.
@@ -51,7 +51,7 @@ impl<G: Game> TableRule<(), View, Root<G>> for Rule<G> {
 
     ghost holds = { λ r. Keeps (position (G.course r.game.value)) r.depth };
 
-    ghost first = { λ r. known (position (G.course r.game.value)) r.depth first_bound };
+    ghost first = { λ r. known (position (G.course r.game.value)) r.depth first_bound 0 };
 }
 
 /// A seat reads the bound.
@@ -91,6 +91,7 @@ impl Join<View> for Joins {
       root = opening (record { mosquito = false; ladybug = false; pillbug = false });
       depth = 0;
       top = first_bound;
+      looks = 0;
       spent = true;
     } };
 }
@@ -112,7 +113,7 @@ pub fn begin<G: Game>(
 ) -> Result<(Board<G>, BoundSeat), AllocError>
     requires deep { depth ≤ 64 }
     ensures { IfOk result (λ t. IsSeat t.0.shared.table_id t.1
-        × (t.1.me.0 ≡ known (position (G.course game.now)) depth first_bound)) }
+        × (t.1.me.0 ≡ known (position (G.course game.now)) depth first_bound 0)) }
 {
     let root = Root {
         game: Snapshot::of(game),
@@ -126,7 +127,8 @@ pub fn look<G: Game>(word: &Word<G>, seat: &mut BoundSeat) -> i32
     requires seat { IsSeat word.now.table_id seat.old }
     requires deep { seat.old.me.0.depth ≤ 64 }
     ensures seat { IsSeat word.now.table_id seat.new }
-    ensures view { seat.new.me.0 ≡ known seat.old.me.0.root seat.old.me.0.depth result }
+    ensures view { seat.new.me.0
+        ≡ known seat.old.me.0.root seat.old.me.0.depth result (seat.old.me.0.looks + 1) }
     ensures grows { seat.old.me.0.top ≤ℤ result }
     ensures least { first_bound ≤ℤ result }
     ensures most { result ≤ℤ value seat.old.me.0.root seat.old.me.0.depth }
@@ -143,7 +145,8 @@ pub fn raise<G: Game>(word: &Word<G>, seat: &mut BoundSeat, worth: i32)
     requires reply { IsReply seat.old.me.0.root seat.old.me.0.depth worth }
     ensures seat { IsSeat word.now.table_id seat.new }
     ensures view { seat.new.me.0
-        ≡ known seat.old.me.0.root seat.old.me.0.depth (int_max seat.old.me.0.top worth) }
+        ≡ known seat.old.me.0.root seat.old.me.0.depth (int_max seat.old.me.0.top worth)
+        seat.old.me.0.looks }
 {
     let _word_before = word.fetch_max::<Raises>(seat, 0, (worth as i64 + 2_000_000) as u64);
 }
@@ -154,7 +157,7 @@ pub fn halve<G: Game>(word: &Word<G>, seat: &mut BoundSeat) -> BoundSeat
     ensures seat { IsSeat word.now.table_id seat.new }
     ensures same { seat.new.me.0 ≡ seat.old.me.0 }
     ensures other { IsSeat word.now.table_id result }
-    ensures view { result.me.0 ≡ known seat.old.me.0.root seat.old.me.0.depth first_bound }
+    ensures view { result.me.0 ≡ known seat.old.me.0.root seat.old.me.0.depth first_bound 0 }
 {
     word.split_seat::<Splits>(seat)
 }

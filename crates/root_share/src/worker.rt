@@ -1,27 +1,29 @@
 //! What one worker does.
 
-ghost use Rattle.std.specs.Prelude.{◌≡◌, ◌+◌, ◌-◌, ◌%◌, ◌<◌, ◌≤◌, [], ◌∷◌, length, slice_get};
-ghost use Rattle.std.specs.Prelude.{Some, pos, ◌-ℤ◌, ◌<ℤ◌, ◌≤ℤ◌};
+ghost use Rattle.std.specs.Prelude.{◌≡◌, ◌+◌, ◌%◌, ◌<◌, ◌≤◌, length, pos, ◌-ℤ◌, ◌<ℤ◌, ◌≤ℤ◌};
 ghost use Rattle.hive_model.specs.Legal.{moves};
 ghost use Rattle.hive_model.specs.Games.{after};
 ghost use Rattle.hive_model.specs.Minimax.{reply_value, lowest, highest};
 ghost use Rattle.hive_model.specs.Costs.{cost, share};
 ghost use Rattle.hive_model.specs.Courses.{position};
-ghost use Rattle.root_share.specs.Word.{IsSeat, IsSeatOf};
-ghost use Rattle.root_share.specs.Answer.{IsAnswer, IsKnown, turns_share};
-ghost use Rattle.root_share.specs.Ready.{IsReady, MayBegin};
+ghost use Rattle.root_share.specs.Word.{IsSeat};
+ghost use Rattle.root_share.specs.Answer.{IsAnswer, IsKnown, tried_cost, child_cost, turns_share};
+ghost use Rattle.root_share.specs.Ready.{MayBegin, MayTake};
 ghost use Rattle.root_share.specs.Children.{MaySearch, IsBound, IsTested, IsDepth, IsLatest};
+ghost use Rattle.root_share.specs.Children.{IsChild, child_worth};
+ghost use Rattle.root_share.specs.Taken.{KeepsRoot, IsClosed, HasTried, first_cost};
 ghost use Rattle.root_share.specs.Workers.{HasPlayed};
 
 use crate::behind::value_behind;
-use crate::beside::run_beside;
+use crate::beside::{Tried, try_beside};
 use crate::candidate::{Candidate, better};
 use crate::gate::Gate;
 use crate::hint::{first_child, is_ahead};
 use crate::win::look_for_win;
-use crate::word::{BoundSeat, Word, look, raise};
+use crate::word::{BoundSeat, look, raise};
+use crate::work::{Child, RootWork};
 use deepening::Searcher;
-use hive_model::{Game, Move, MoveStack};
+use hive_model::{Game, Move};
 use search_laws::Window;
 
 /// A game of a worker's own, and what it searches with.
@@ -54,8 +56,7 @@ fn value_searched<G: Game>(worker: &mut Worker<G>, m: Move, depth: u32, bound: i
     ensures tested { IsTested (reply_value (position (G.course worker.old.game)) depth m) bound
         result }
     ensures worker { HasPlayed G.course G.played worker.old worker.new
-        (1 + cost (after (position (G.course worker.old.game)) m) depth lowest
-        (pos 1 -ℤ bound)) }
+        (tried_cost (position (G.course worker.old.game)) depth m bound) }
 {
     worker.game.play(m);
     let behind = window_behind(bound);
@@ -66,14 +67,13 @@ fn value_searched<G: Game>(worker: &mut Worker<G>, m: Move, depth: u32, bound: i
 
 /// What a child is worth where that is at least the bound, and else a number below the bound. Where
 /// only a child that ends the game could be worth the bound, it is played and not searched.
-fn child_worth<G: Game>(worker: &mut Worker<G>, m: Move, depth: u32, bound: i32) -> i32
+fn worth_of<G: Game>(worker: &mut Worker<G>, m: Move, depth: u32, bound: i32) -> i32
     requires child { MaySearch (G.course worker.old.game) worker.old.searcher m depth }
     requires bound { IsBound bound }
     ensures tested { IsTested (reply_value (position (G.course worker.old.game)) depth m) bound
         result }
     ensures worker { HasPlayed G.course G.played worker.old worker.new
-        (1 + cost (after (position (G.course worker.old.game)) m) depth lowest
-        (pos 1 -ℤ bound)) }
+        (tried_cost (position (G.course worker.old.game)) depth m bound) }
 {
     if bound >= 1_000_000 + depth as i32 {
         return value_behind(&mut worker.game, m, depth, bound);
@@ -83,220 +83,168 @@ fn child_worth<G: Game>(worker: &mut Worker<G>, m: Move, depth: u32, bound: i32)
 
 /// Closes a child whose worth was found where that is at least the bound: the bound is raised to
 /// it, and the child is an answer.
-pub(crate) fn settle<G: Game>(
-    word: &Word<G>,
-    m: Move,
-    depth: u32,
-    child: u32,
+pub(crate) fn settle<G: Game, T>(
+    work: &RootWork<'_, G, T>,
+    child: &Child,
     bound: i32,
     worth: i32,
     seat: &mut BoundSeat,
 ) -> Option<Candidate>
-    requires seat { IsSeat word.now.table_id seat.old }
-    requires depth { IsDepth seat.old.me.0.root seat.old.me.0.depth depth }
-    requires here { slice_get (moves seat.old.me.0.root) child ≡ Some m }
-    requires bound { IsLatest seat.old.me.0.root depth seat.old.me.0.top bound }
-    requires tested { IsTested (reply_value seat.old.me.0.root (depth - 1) m) bound worth }
-    ensures seat { IsSeatOf word.now.table_id seat.old.me.0.root depth seat.new }
-    ensures answer { IsAnswer seat.old.me.0.root depth (λ i. i ≡ child) result }
-    ensures top { (bound ≤ℤ seat.new.me.0.top)
-        × (reply_value seat.old.me.0.root (depth - 1) m ≤ℤ seat.new.me.0.top) }
+    requires seat { IsSeat work.now.word.now.table_id seat.old }
+    requires depth { IsDepth seat.old.me.0.root seat.old.me.0.depth work.now.depth }
+    requires here { IsChild seat.old.me.0.root child.now }
+    requires bound { IsLatest seat.old.me.0.root work.now.depth seat.old.me.0.top bound }
+    requires tested { IsTested (child_worth seat.old.me.0.root work.now.depth child.now) bound
+        worth }
+    ensures closed { IsClosed work.now child.now bound seat.old seat.new result }
 {
     if worth < bound {
         return None;
     }
-    raise(word, seat, worth);
+    raise(work.word, seat, worth);
     Some(Candidate {
-        child,
+        child: child.place,
         value: worth,
     })
 }
 
 /// Finds what a child is worth, where the bound stands so high, and raises the bound to it. It is
 /// an answer where its value is found.
-pub(crate) fn close_child<G: Game>(
-    word: &Word<G>,
-    m: Move,
-    depth: u32,
-    child: u32,
+pub(crate) fn close_child<G: Game, T>(
+    work: &RootWork<'_, G, T>,
+    child: &Child,
     bound: i32,
     seat: &mut BoundSeat,
     worker: &mut Worker<G>,
 ) -> Option<Candidate>
-    requires seat { IsSeat word.now.table_id seat.old }
-    requires ready { IsReady seat.old.me.0.root seat.old.me.0.depth depth (G.course worker.old.game)
-        worker.old.searcher }
-    requires here { slice_get (moves seat.old.me.0.root) child ≡ Some m }
-    requires bound { IsLatest seat.old.me.0.root depth seat.old.me.0.top bound }
-    ensures seat { IsSeatOf word.now.table_id seat.old.me.0.root depth seat.new }
-    ensures answer { IsAnswer seat.old.me.0.root depth (λ i. i ≡ child) result }
-    ensures top { (bound ≤ℤ seat.new.me.0.top)
-        × (reply_value seat.old.me.0.root (depth - 1) m ≤ℤ seat.new.me.0.top) }
+    requires bound { IsLatest seat.old.me.0.root work.now.depth seat.old.me.0.top bound }
+    requires may { MayTake G.course work.now child.now worker.old seat.old }
+    ensures closed { IsClosed work.now child.now bound seat.old seat.new result }
     ensures worker { HasPlayed G.course G.played worker.old worker.new
-        (1 + cost (after seat.old.me.0.root m) (depth - 1) lowest
-        (pos 1 -ℤ bound)) }
+        (child_cost seat.old.me.0.root work.now.depth child.now.m bound) }
 {
-    let worth = child_worth(worker, m.again(), depth - 1, bound);
-    settle(word, m, depth, child, bound, worth, seat)
+    let worth = worth_of(worker, child.m.again(), work.depth - 1, bound);
+    settle(work, child, bound, worth, seat)
 }
 
 /// Takes a child: the gate, the bound, what it is worth, and the raise. It is an answer where its
 /// value is found.
 fn try_child<G: Game, T: Gate>(
-    word: &Word<G>,
-    gate: &T,
-    m: Move,
-    depth: u32,
+    work: &RootWork<'_, G, T>,
     part: u32,
-    child: u32,
+    child: &Child,
     seat: &mut BoundSeat,
     worker: &mut Worker<G>,
 ) -> Option<Candidate>
-    requires seat { IsSeat word.now.table_id seat.old }
-    requires ready { IsReady seat.old.me.0.root seat.old.me.0.depth depth (G.course worker.old.game)
-        worker.old.searcher }
-    requires here { slice_get (moves seat.old.me.0.root) child ≡ Some m }
-    ensures seat { IsSeatOf word.now.table_id seat.old.me.0.root depth seat.new }
-    ensures answer { IsAnswer seat.old.me.0.root depth (λ i. i ≡ child) result }
-    ensures top { (seat.old.me.0.top ≤ℤ seat.new.me.0.top)
-        × (reply_value seat.old.me.0.root (depth - 1) m ≤ℤ seat.new.me.0.top) }
+    requires may { MayTake G.course work.now child.now worker.old seat.old }
+    ensures closed { IsClosed work.now child.now seat.old.me.0.top seat.old seat.new result }
     ensures worker { HasPlayed G.course G.played worker.old worker.new
-        (1 + cost (after seat.old.me.0.root m) (depth - 1) lowest
-        (pos 1 -ℤ seat.old.me.0.top)) }
+        (child_cost seat.old.me.0.root work.now.depth child.now.m seat.old.me.0.top) }
 {
-    gate.before_child(part, child);
-    let bound = look(word, seat);
-    close_child(word, m, depth, child, bound, seat, worker)
+    work.gate.before_child(part, child.place);
+    let bound = look(work.word, seat);
+    close_child(work, child, bound, seat, worker)
 }
 
-/// Takes the child that a worker begins with: as any other one, but that before it is searched, and
-/// after the gate, the move of the root that seems to win at once is played, if the bound is lower
-/// than such a win.
+/// Takes the child that a worker begins with. Where it is the one that looks best of all, it is
+/// taken as any other one, but that before it is searched, and after the gate, the move of the root
+/// that seems to win at once is played, if the bound is lower than such a win. Else it is left
+/// where the bound is raised meanwhile.
 fn try_first<G: Game, T: Gate>(
-    word: &Word<G>,
-    gate: &T,
-    root: &MoveStack,
-    m: Move,
-    depth: u32,
+    work: &RootWork<'_, G, T>,
     part: u32,
-    child: u32,
+    child: &Child,
     seat: &mut BoundSeat,
     worker: &mut Worker<G>,
-) -> Option<Candidate>
-    requires seat { IsSeat word.now.table_id seat.old }
-    requires ready { IsReady seat.old.me.0.root seat.old.me.0.depth depth (G.course worker.old.game)
-        worker.old.searcher }
-    requires listed { root.now.lists ≡ moves seat.old.me.0.root ∷ [] }
-    requires here { slice_get (moves seat.old.me.0.root) child ≡ Some m }
-    ensures seat { IsSeatOf word.now.table_id seat.old.me.0.root depth seat.new }
-    ensures answer { IsAnswer seat.old.me.0.root depth (λ i. i ≡ child) result }
-    ensures top { (seat.old.me.0.top ≤ℤ seat.new.me.0.top)
-        × (reply_value seat.old.me.0.root (depth - 1) m ≤ℤ seat.new.me.0.top) }
+) -> Tried
+    requires may { MayTake G.course work.now child.now worker.old seat.old }
+    ensures tried { HasTried work.now child.now seat.old seat.new result }
     ensures worker { HasPlayed G.course G.played worker.old worker.new
-        (2 + cost (after seat.old.me.0.root m) (depth - 1) lowest
-        (pos 1 -ℤ seat.old.me.0.top)) }
+        (first_cost seat.old.me.0.root work.now.depth child.now.m seat.old.me.0.top result) }
 {
-    gate.before_child(part, child);
-    let bound = look_for_win(word, root, depth, seat, worker);
-    close_child(word, m, depth, child, bound, seat, worker)
+    let ahead = is_ahead(&mut worker.game, work.root, work.parts, child.place);
+    work.gate.before_child(part, child.place);
+    if !ahead {
+        return try_beside(work, child, seat, worker);
+    }
+    let bound = look_for_win(work, seat, worker);
+    let found = close_child(work, child, bound, seat, worker);
+    Tried::Closed { found }
 }
 
 /// Tries the children whose place leaves this part when divided by the parts, in their order, but
 /// for the one at the place `tried`, if the list reaches so far: what that is worth the seat knows,
 /// and its turn costs nothing.
-pub(crate) fn run_in_turn<G: Game, T: Gate>(
-    word: &Word<G>,
-    gate: &T,
-    root: &MoveStack,
-    depth: u32,
+fn run_in_turn<G: Game, T: Gate>(
+    work: &RootWork<'_, G, T>,
     part: u32,
-    parts: u32,
     tried: u32,
     seat: &mut BoundSeat,
     worker: &mut Worker<G>,
 ) -> Option<Candidate>
-    requires begin { MayBegin word.now.table_id root.now.lists (G.course worker.old.game)
-        worker.old.searcher depth parts seat.old }
-    requires mine { tried < length (moves seat.old.me.0.root) → tried % parts ≡ part }
-    requires known { IsKnown seat.old.me.0.root depth seat.old.me.0.top tried }
-    ensures seat { IsSeatOf word.now.table_id seat.old.me.0.root depth seat.new }
-    ensures answer { IsAnswer seat.old.me.0.root depth
-        (λ i. (i % parts ≡ part) × ¬ (i ≡ tried)) result }
+    requires begin { MayBegin G.course work.now worker.old seat.old }
+    requires mine { tried < length (moves seat.old.me.0.root) → tried % work.now.parts ≡ part }
+    requires known { IsKnown seat.old.me.0.root work.now.depth seat.old.me.0.top tried }
+    ensures seat { KeepsRoot work.now seat.old seat.new }
+    ensures answer { IsAnswer seat.old.me.0.root work.now.depth
+        (λ i. (i % work.now.parts ≡ part) × ¬ (i ≡ tried)) result }
     ensures worker { HasPlayed G.course G.played worker.old worker.new
-        (turns_share seat.old.me.0.root depth part parts) }
+        (turns_share seat.old.me.0.root work.now.depth part work.now.parts) }
     ensures spared { tried < length (moves seat.old.me.0.root) → G.played worker.new.game + 1
-        ≤ G.played worker.old.game + turns_share seat.old.me.0.root depth part parts }
+        ≤ G.played worker.old.game
+        + turns_share seat.old.me.0.root work.now.depth part work.now.parts }
 {
-    let count = root.level_len(0);
+    let count = work.root.level_len(0);
     let mut found: Option<Candidate> = None;
-    for child in 0..count {
-        if child % parts != part {
+    for place in 0..count {
+        if place % work.parts != part {
             continue;
         }
-        if child == tried {
+        if place == tried {
             continue;
         }
-        let m = root.get(0, child);
-        let answer = try_child(word, gate, m, depth, part, child, seat, worker);
+        let child = Child {
+            place,
+            m: work.root.get(0, place),
+        };
+        let answer = try_child(work, part, &child, seat, worker);
         found = better(found, answer);
     }
     found
 }
 
-/// Tries each child of a part: first this one, and before it the move of the root that seems to win
-/// at once, whoever's child that is; then the others in their order.
-fn run_ahead<G: Game, T: Gate>(
-    word: &Word<G>,
-    gate: &T,
-    root: &MoveStack,
-    depth: u32,
-    part: u32,
-    parts: u32,
-    first: u32,
-    seat: &mut BoundSeat,
-    worker: &mut Worker<G>,
-) -> Option<Candidate>
-    requires begin { MayBegin word.now.table_id root.now.lists (G.course worker.old.game)
-        worker.old.searcher depth parts seat.old }
-    requires mine { first % parts ≡ part }
-    requires place { first < length (moves seat.old.me.0.root) }
-    ensures seat { IsSeatOf word.now.table_id seat.old.me.0.root depth seat.new }
-    ensures answer { IsAnswer seat.old.me.0.root depth (λ i. i % parts ≡ part) result }
-    ensures worker { HasPlayed G.course G.played worker.old worker.new
-        (share seat.old.me.0.root depth part parts) }
-{
-    let m = root.get(0, first);
-    let one = try_first(word, gate, root, m, depth, part, first, seat, worker);
-    let others = run_in_turn(word, gate, root, depth, part, parts, first, seat, worker);
-    better(one, others)
-}
-
 /// Tries each child whose place leaves this part when divided by the parts: first the one that
 /// looks best, and then the others in their order. The worker that has the one that looks best of
 /// all learns before whether a move of the root wins at once; the others leave their first one for
-/// later where the bound is raised meanwhile.
+/// its turn among the others where the bound is raised meanwhile.
 pub fn run_one<G: Game, T: Gate>(
-    word: &Word<G>,
-    gate: &T,
-    root: &MoveStack,
-    depth: u32,
+    work: &RootWork<'_, G, T>,
     part: u32,
-    parts: u32,
     seat: &mut BoundSeat,
     worker: &mut Worker<G>,
 ) -> Option<Candidate>
-    requires begin { MayBegin word.now.table_id root.now.lists (G.course worker.old.game)
-        worker.old.searcher depth parts seat.old }
-    ensures seat { IsSeatOf word.now.table_id seat.old.me.0.root depth seat.new }
-    ensures answer { IsAnswer seat.old.me.0.root depth (λ i. i % parts ≡ part) result }
+    requires begin { MayBegin G.course work.now worker.old seat.old }
+    ensures seat { KeepsRoot work.now seat.old seat.new }
+    ensures answer { IsAnswer seat.old.me.0.root work.now.depth (λ i. i % work.now.parts ≡ part)
+        result }
     ensures worker { HasPlayed G.course G.played worker.old worker.new
-        (share seat.old.me.0.root depth part parts) }
+        (share seat.old.me.0.root work.now.depth part work.now.parts) }
 {
-    let Some(first) = first_child(&mut worker.game, root, part, parts) else {
+    let Some(place) = first_child(&mut worker.game, work.root, part, work.parts) else {
         return None;
     };
-    if is_ahead(&mut worker.game, root, parts, first) {
-        return run_ahead(word, gate, root, depth, part, parts, first, seat, worker);
+    let first = Child {
+        place,
+        m: work.root.get(0, place),
+    };
+    match try_first(work, part, &first, seat, worker) {
+        Tried::Closed { found } => {
+            let others = run_in_turn(work, part, place, seat, worker);
+            better(found, others)
+        }
+        Tried::Left => {
+            let none = work.root.level_len(0);
+            run_in_turn(work, part, none, seat, worker)
+        }
     }
-    run_beside(word, gate, root, depth, part, parts, first, seat, worker)
 }
