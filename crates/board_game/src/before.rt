@@ -1,14 +1,11 @@
 //! What a game knows before each of its moves.
 
-use cut_keeper::Delta;
-use hive_model::Piece;
-use leaf_worth::Base;
+use crate::lookahead::Lookahead;
+use cut_keeper::CutKeeper;
 
-/// What a game knew before a move: what takes its keeper back, what was found of the board, and
-/// what was found of the board without the piece that was asked for last.
+/// What a game knew before a move: its keeper, and what was found of the board.
 #[derive(Drop)]
 pub(crate) struct Before {
-    pub(crate) delta: Delta,
-    pub(crate) whole: Option<Base>,
-    pub(crate) asked: Option<(Piece, Base)>,
+    pub(crate) keeper: CutKeeper,
+    pub(crate) ahead: Lookahead,
 }

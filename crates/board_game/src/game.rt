@@ -8,15 +8,14 @@ use crate::evaluation::worth_after;
 use crate::in_hand::{Placements, is_plain_in_hand, note, noted};
 use crate::keys::key_after;
 use crate::listing::{count_after, is_legal_after, list_moves, state_of};
+use crate::lookahead::Lookahead;
 use crate::moves_made::{make, unmake};
 use crate::refuting::{reply_behind, turn_behind};
-use crate::told_values::{told_least, told_value};
 use crate::turns::{side_after, turn_after};
 use cut_keeper::CutKeeper;
 use hive_model::{
     Board, Colour, Game, GameBoard, GameType, Key, Move, MoveStack, Piece, Place, Spot, State,
 };
-use leaf_worth::Base;
 use quiet_reply::most_worth;
 use std::alloc::{AllocError, Global};
 use std::marker::Model;
@@ -34,8 +33,7 @@ pub struct BoardGame<B: GameBoard> {
     from: Vec<Option<Place>>,
     keeper: CutKeeper,
     before: Vec<Before>,
-    whole: Option<Base>,
-    asked: Option<(Piece, Base)>,
+    ahead: Lookahead,
     placements: Placements,
     quiet: Option<Place>,
     spare: u32,
@@ -46,9 +44,9 @@ impl<B: GameBoard> Model for BoardGame<B> {
     ghost use Rattle.std.specs.Prelude.{◌≡◌, ◌≤◌, ◌+◌, vec_capacity, vec_len};
     ghost use Rattle.hive_model.specs.Positions.{opening};
     ghost use Rattle.board_game.specs.Replayed.{PlayedCourse, IsReplayed};
-    ghost use Rattle.one_hive.specs.Separating.{MarksSeparating};
+    ghost use Rattle.cut_keeper.specs.Keeping.{Keeps};
     ghost use Rattle.board_game.specs.Kept.{AreKept};
-    ghost use Rattle.board_game.specs.Asked.{IsAsked, IsWhole};
+    ghost use Rattle.board_game.specs.Asked.{IsKnown};
     ghost use Rattle.board_game.specs.InHand.{ArePlaced};
     ghost use Rattle.hive_model.specs.Pieces.{other_side};
     ghost use Rattle.rule_laws.specs.Soundness.{side_after};
@@ -66,12 +64,11 @@ impl<B: GameBoard> Model for BoardGame<B> {
         × (vec_len g.from ≡ vec_len g.made)
         × (vec_len g.made + g.spare ≤ vec_capacity g.made)
         × (vec_len g.made + g.spare ≤ vec_capacity g.from)
-        × MarksSeparating (B.stacks g.board) g.keeper
+        × Keeps (B.stacks g.board) g.keeper
         × AreKept (opening g.game_type) g.made.items g.before.items
         × (vec_len g.before ≡ vec_len g.made)
         × (vec_len g.made + g.spare ≤ vec_capacity g.before)
-        × IsAsked (B.stacks g.board) (other_side (side_after (vec_len g.made))) g.asked
-        × IsWhole (B.stacks g.board) (other_side (side_after (vec_len g.made))) g.whole
+        × IsKnown (B.stacks g.board) (other_side (side_after (vec_len g.made))) g.ahead
         × ArePlaced (B.stacks g.board) (other_side (side_after (vec_len g.made)))
         g.placements.items };
 }
@@ -119,8 +116,7 @@ impl<B: GameBoard> Game for BoardGame<B> {
             from: Vec::new(alloc),
             keeper: CutKeeper::new(),
             before: Vec::new(alloc),
-            whole: None,
-            asked: None,
+            ahead: Lookahead::new(),
             placements: Placements::new(),
             quiet: None,
             spare: 0,
@@ -179,18 +175,13 @@ impl<B: GameBoard> Game for BoardGame<B> {
     }
 
     fn play(&mut self, m: Move) {
-        let delta = self.keeper.delta();
-        let whole = self.whole.take();
-        let asked = self.asked.take();
+        let keeper = self.keeper.again();
+        let ahead = self.ahead.take();
         self.placements.clear();
         let from = make(&mut self.board, &mut self.keeper, &m);
         let _ = self.made.push(m);
         let _ = self.from.push(from);
-        let _ = self.before.push(Before {
-            delta,
-            whole,
-            asked,
-        });
+        let _ = self.before.push(Before { keeper, ahead });
         self.spare -= 1;
         self.count = self.count.saturating_add(1);
     }
@@ -202,9 +193,8 @@ impl<B: GameBoard> Game for BoardGame<B> {
         if let Some(m) = self.made.pop() {
             let from = self.from.pop().flatten();
             unmake(&mut self.board, &m, from);
-            self.keeper.back(before.delta);
-            self.whole = before.whole;
-            self.asked = before.asked;
+            self.keeper = before.keeper;
+            self.ahead = before.ahead;
             self.placements.clear();
             self.spare += 1;
         }
@@ -225,15 +215,9 @@ impl<B: GameBoard> Game for BoardGame<B> {
             }
         }
         let side = side_after(self.made.len() as u32).other();
-        let told = told_value(
-            &self.board,
-            &self.keeper,
-            &mut self.whole,
-            &mut self.asked,
-            piece,
-            place,
-            side,
-        );
+        let told = self
+            .ahead
+            .told_value(&self.board, &self.keeper, piece, place, side);
         if is_plain {
             note(&mut self.placements, place, told);
         }
@@ -245,15 +229,8 @@ impl<B: GameBoard> Game for BoardGame<B> {
             return None;
         };
         let side = side_after(self.made.len() as u32).other();
-        told_least(
-            &self.board,
-            &self.keeper,
-            &mut self.whole,
-            &mut self.asked,
-            piece,
-            place,
-            side,
-        )
+        self.ahead
+            .told_least(&self.board, &self.keeper, piece, place, side)
     }
 
     fn most_after(&mut self, m: Move) -> Option<i32> {

@@ -1,4 +1,4 @@
-//! What a move is worth, told from the board without its piece.
+//! What is found of a board without a piece, and what is told by it.
 
 ghost use Rattle.std.specs.Prelude.{◌≡◌, ◌≤ℤ◌, false, IfSome, IsTrue};
 ghost use Rattle.std.specs.Option.{IsSomeAnd};
@@ -13,9 +13,9 @@ ghost use Rattle.hive_model.specs.Pieces.{other_side};
 ghost use Rattle.hive_model.specs.Places.{IsWithin};
 ghost use Rattle.hive_model.specs.Positions.{Position};
 ghost use Rattle.leaf_worth.specs.Bases.{IsFound};
-ghost use Rattle.one_hive.specs.Separating.{MarksSeparating};
-ghost use Rattle.board_game.specs.Asked.{IsAsked, IsWhole};
-ghost use Rattle.board_game.specs.Replayed.{CanBeTaken, CanMake};
+ghost use Rattle.cut_keeper.specs.Keeping.{Keeps};
+ghost use Rattle.board_game.specs.Asked.{IsAsked, IsWhole, MayAsk};
+ghost use Rattle.board_game.specs.Replayed.{CanBeTaken};
 
 use cut_keeper::{CutKeeper, removed_uncounted};
 use hive_model::{Board, Colour, Lifted, Piece, Place};
@@ -23,8 +23,8 @@ use leaf_worth::Base;
 
 /// Finds what is known of the whole board, which is one hive, unless it was found before. The
 /// keeper stands for the board.
-fn find_whole<B: Board>(board: &B, keeper: &CutKeeper, known: &mut Option<Base>, side: Colour)
-    requires marks { MarksSeparating (B.stacks board.now) keeper.now }
+pub fn find_whole<B: Board>(board: &B, keeper: &CutKeeper, known: &mut Option<Base>, side: Colour)
+    requires keeps { Keeps (B.stacks board.now) keeper.now }
     requires one_hive { OneHive (B.stacks board.now) }
     requires known { IsWhole (B.stacks board.now) side known.old }
     ensures { IsSomeAnd known.new (IsFound (B.stacks board.now) side) }
@@ -47,17 +47,15 @@ fn base_without<B: Board>(
     requires loose { CanBeTaken (B.stacks board.now) piece }
     requires one_hive { OneHive (B.stacks board.now) }
     requires left { OneHive (without (B.stacks board.now) piece) }
-    requires marks { MarksSeparating (B.stacks board.now) keeper.now }
+    requires may { MayAsk (B.stacks board.now) keeper.now }
     requires whole { IsFound (B.stacks board.now) side whole.now }
-    requires white { is_surrounded (B.stacks board.now) White ≡ false }
-    requires black { is_surrounded (B.stacks board.now) Black ≡ false }
     ensures { IsFound (without (B.stacks board.now) piece) side result }
 {
     match board.spot(piece) {
         Some(spot) => {
             let mut known = keeper.again();
             let left = Lifted::new(board, piece);
-            let _delta = removed_uncounted(&mut known, &left, piece, spot.place);
+            removed_uncounted(&mut known, &left, piece, spot.place);
             whole.left_by(board, &left, known, piece, spot.place, side, true)
         }
         None => whole.again(),
@@ -66,7 +64,7 @@ fn base_without<B: Board>(
 
 /// What the position is worth to its side to move that the piece leads to when it goes to the place
 /// from the hand or from where it is on top, where that is told.
-fn value_by<B: Board>(
+pub fn value_by<B: Board>(
     board: &B,
     base: &Base,
     piece: Piece,
@@ -89,7 +87,7 @@ fn value_by<B: Board>(
 
 /// At least what that position is worth: what it is worth where that is told, else a bound where
 /// one is.
-fn least_by<B: Board>(
+pub fn least_by<B: Board>(
     board: &B,
     base: &Base,
     piece: Piece,
@@ -123,7 +121,7 @@ fn is_asked(asked: &Option<(Piece, Base)>, piece: Piece) -> bool
 /// Finds what is known of the board without the piece, by what was found of the whole board, unless
 /// this piece was asked for last. The keeper stands for the board, which is one hive with the piece
 /// and without it, and on which no queen is surrounded.
-fn find_base<B: Board>(
+pub fn find_base<B: Board>(
     board: &B,
     keeper: &CutKeeper,
     whole: &Base,
@@ -136,101 +134,11 @@ fn find_base<B: Board>(
     requires loose { CanBeTaken (B.stacks board.now) piece }
     requires one_hive { OneHive (B.stacks board.now) }
     requires left { OneHive (without (B.stacks board.now) piece) }
-    requires marks { MarksSeparating (B.stacks board.now) keeper.now }
-    requires white { is_surrounded (B.stacks board.now) White ≡ false }
-    requires black { is_surrounded (B.stacks board.now) Black ≡ false }
+    requires may { MayAsk (B.stacks board.now) keeper.now }
     ensures { IsSomeAnd asked.new (λ a. (a.0 ≡ piece)
         × IsFound (without (B.stacks board.now) piece) side a.1) }
 {
     if !is_asked(asked, piece) {
         *asked = Some((piece, base_without(board, keeper, whole, piece, side)));
-    }
-}
-
-/// Finds what is known of the whole board and of the board without the piece, unless it was found
-/// before. The keeper stands for the board, which is one hive with the piece and without it, and on
-/// which no queen is surrounded.
-fn find_known<B: Board>(
-    board: &B,
-    keeper: &CutKeeper,
-    known: &mut Option<Base>,
-    asked: &mut Option<(Piece, Base)>,
-    piece: Piece,
-    side: Colour,
-)
-    requires known { IsWhole (B.stacks board.now) side known.old }
-    requires asked { IsAsked (B.stacks board.now) side asked.old }
-    requires loose { CanBeTaken (B.stacks board.now) piece }
-    requires one_hive { OneHive (B.stacks board.now) }
-    requires left { OneHive (without (B.stacks board.now) piece) }
-    requires marks { MarksSeparating (B.stacks board.now) keeper.now }
-    requires white { is_surrounded (B.stacks board.now) White ≡ false }
-    requires black { is_surrounded (B.stacks board.now) Black ≡ false }
-    ensures known { IsSomeAnd known.new (IsFound (B.stacks board.now) side) }
-    ensures asked { IsSomeAnd asked.new (λ a. (a.0 ≡ piece)
-        × IsFound (without (B.stacks board.now) piece) side a.1) }
-{
-    find_whole(board, keeper, known, side);
-    if let Some(whole) = known.as_ref() {
-        find_base(board, keeper, whole, asked, piece, side);
-    }
-}
-
-/// What the position is worth to its side to move that the move of the piece to the place leads to,
-/// where that is told, by what is known or found now of the board. The keeper stands for the board,
-/// on which no queen is surrounded.
-pub fn told_value<B: Board>(
-    board: &B,
-    keeper: &CutKeeper,
-    known: &mut Option<Base>,
-    asked: &mut Option<(Piece, Base)>,
-    piece: Piece,
-    place: Place,
-    side: Colour,
-) -> Option<i32>
-    requires can { CanMake (B.stacks board.now) (To piece place) }
-    requires known { IsWhole (B.stacks board.now) side known.old }
-    requires asked { IsAsked (B.stacks board.now) side asked.old }
-    requires marks { MarksSeparating (B.stacks board.now) keeper.now }
-    requires white { is_surrounded (B.stacks board.now) White ≡ false }
-    requires black { is_surrounded (B.stacks board.now) Black ≡ false }
-    ensures known { IsWhole (B.stacks board.now) side known.new }
-    ensures asked { IsAsked (B.stacks board.now) side asked.new }
-    ensures value { (p : Position) → p.board ≡ B.stacks board.now → other_side p.side ≡ side
-        → IfSome result (λ v. v ≡ value (after p (To piece place)) 0) }
-{
-    find_known(board, keeper, known, asked, piece, side);
-    match asked.as_ref() {
-        Some((_, base)) => value_by(board, base, piece, place, side),
-        None => None,
-    }
-}
-
-/// At least what that position is worth, where a bound is told, by what is known or found now of
-/// the board.
-pub fn told_least<B: Board>(
-    board: &B,
-    keeper: &CutKeeper,
-    known: &mut Option<Base>,
-    asked: &mut Option<(Piece, Base)>,
-    piece: Piece,
-    place: Place,
-    side: Colour,
-) -> Option<i32>
-    requires can { CanMake (B.stacks board.now) (To piece place) }
-    requires known { IsWhole (B.stacks board.now) side known.old }
-    requires asked { IsAsked (B.stacks board.now) side asked.old }
-    requires marks { MarksSeparating (B.stacks board.now) keeper.now }
-    requires white { is_surrounded (B.stacks board.now) White ≡ false }
-    requires black { is_surrounded (B.stacks board.now) Black ≡ false }
-    ensures known { IsWhole (B.stacks board.now) side known.new }
-    ensures asked { IsAsked (B.stacks board.now) side asked.new }
-    ensures least { (p : Position) → p.board ≡ B.stacks board.now → other_side p.side ≡ side
-        → IfSome result (λ v. v ≤ℤ value (after p (To piece place)) 0) }
-{
-    find_known(board, keeper, known, asked, piece, side);
-    match asked.as_ref() {
-        Some((_, base)) => least_by(board, base, piece, place, side),
-        None => None,
     }
 }

@@ -1,14 +1,17 @@
 -- Marks that are made right, one place after another.
-use Rattle.std.proofs.Common.{◌≡◌, ◌≢◌, ◌↔◌, ℕ, Bool, true, false, List, [], ◌∷◌, ◌⊎◌, inl, inr, sym, ◌∙◌, ap, subst, arith, ◌-◌, ◌<◌}
+use Rattle.std.proofs.Common.{◌≡◌, ◌≢◌, ◌↔◌, ℕ, ◌+◌, Bool, true, false, List, [], ◌∷◌, ◌⊎◌, inl, inr, sym, ◌∙◌, ap, subst, arith, ◌-◌, ◌<◌}
 use Rattle.std.specs.Prelude.{Some, None, slice_get, nat_eq, IsTrue}
-use Rattle.std.proofs.lemmas.Bool.{cases_lt, ltb-true, eqb-true, eq-eqb}
+use Rattle.std.proofs.Math.Bool.{beq}
+use Rattle.std.proofs.lemmas.Bool.{cases_lt, cases_eq, lt-ltb, ltb-true, eqb-true, eq-eqb}
 use Rattle.hive_model.specs.declared.places.Place.{Place}
+use Rattle.hive_model.specs.declared.places.Spot.{Spot}
 use Rattle.hive_model.specs.declared.places.Dir.{Dir}
+use Rattle.hive_model.proofs.BoardLemmas.{spot_of_stands, stands_spot_of}
 use Rattle.hive_model.specs.Lists.{IsOn}
 use Rattle.hive_model.specs.Places.{step}
-use Rattle.hive_model.specs.Boards.{Stacks, stack_at, height_at, is_occupied, top_at, IsBoard}
-use Rattle.hive_model.specs.Hive.{IsSeparating, IsCut}
-use Rattle.hive_model.proofs.GetLemmas.{get_exists}
+use Rattle.hive_model.specs.Boards.{Stacks, stack_at, height_at, is_occupied, top_at, spot_of, IsBoard}
+use Rattle.hive_model.specs.Hive.{OneHive, IsSeparating, IsCut}
+use Rattle.hive_model.proofs.GetLemmas.{get_exists, get_within}
 use Rattle.hive_model.proofs.PlaceLemmas.{cases_place}
 use Rattle.one_hive.specs.Visits.{IsSet}
 use Rattle.one_hive.specs.Separating.{MarksSeparating}
@@ -116,4 +119,64 @@ pub marked_cut : (b : Stacks) (ms : List Bool) (p : Place) (top n : ℕ) → Mar
 marked_cut b ms p top n stood height here on = (
   λ e. record { alone = sym height ∙ eqb-true n 1 e; separates = (stood p top here).0 on },
   λ h. eq-eqb n 1 (height ∙ h.alone),
+)
+
+-- Marks of the pieces, one after another
+
+abbrev top_spot : Stacks → Place → Spot
+top_spot b p = record { place = p; level = height_at b p - 1 }
+
+-- a piece that is on top of a place stands there
+pub top_stands : (b : Stacks) → IsBoard b → (x : ℕ) (s : Spot) → spot_of b x ≡ Some s → (p : Place) → top_at b p ≡ Some x → s.place ≡ p
+top_stands b is x s e p top =
+    let both : Some s ≡ Some (top_spot b p) = sym e ∙ stands_spot_of b is x p (height_at b p - 1) top in
+    ap (λ (t : Spot). t.place) (let same : s ≡ top_spot b p = cc in same)
+
+pub top_on_board : (b : Stacks) → IsBoard b → (x : ℕ) → spot_of b x ≡ None → (p : Place) → top_at b p ≡ Some x → ⊥
+top_on_board b is x off p top =
+    let wrong : None ≡ Some (top_spot b p) = sym off ∙ stands_spot_of b is x p (height_at b p - 1) top in
+    absurd (cc)
+
+-- and a piece stands on an occupied place
+pub spot_occupied : (b : Stacks) (x : ℕ) (s : Spot) → spot_of b x ≡ Some s → IsTrue (is_occupied b s.place)
+spot_occupied b x s e = let low = get_within (stack_at b s.place) s.level x (spot_of_stands b x s e) in lt-ltb 0 _ (omega (arith, low))
+
+-- the pieces before this number have their marks
+abbrev pub AreMarked : Stacks → List Bool → ℕ → Type 0
+AreMarked b ms n = (y : ℕ) → y < n → (p : Place) → top_at b p ≡ Some y → IsSet ms y ↔ IsSeparating b p
+
+pub next_marked : (b : Stacks) (ms after : List Bool) (n x : ℕ) → x ≡ n → AreMarked b ms n → ((p : Place) → top_at b p ≡ Some x → IsSet after x ↔ IsSeparating b p) → ((y : ℕ) → y ≢ x → IsSet after y ↔ IsSet ms y) → AreMarked b after (n + 1)
+next_marked b ms after n x same marked here others y low p top = elim (cases_eq y x) [
+  | inl e ↦
+      let law = here p (top ∙ ap (λ (z : ℕ). Some z) e) in
+      (λ set. law.0 (subst (IsSet after) e set), λ s. subst (IsSet after) (sym e) (law.1 s))
+  | inr apart ↦
+      let law = others y apart in
+      let was = marked y (omega (arith, low, same, apart)) p top in
+      (λ set. was.0 (law.0 set), λ s. law.1 (was.1 s))
+]
+
+pub all_marked : (b : Stacks) → IsBoard b → (ms : List Bool) → AreMarked b ms 28 → MarksSeparating b ms
+all_marked b is ms marked p x top = marked x (is.pieces p (height_at b p - 1) x top) p top
+
+-- a mark that is not what is doubted is right
+pub undoubted : (b : Stacks) (ms : List Bool) (p : Place) (top : ℕ) (t doubted : Bool) → top_at b p ≡ Some top → slice_get ms top ≡ Some t → beq t doubted ≡ false → Right b ms p ⊎ HalfRight b ms p doubted → Right b ms p
+undoubted b ms p top t doubted here is apart (inl right) = right
+undoubted b ms p top true true here is apart (inr half) = let wrong : true ≡ false = apart in absurd (cc)
+undoubted b ms p top false false here is apart (inr half) = let wrong : true ≡ false = apart in absurd (cc)
+undoubted b ms p top false true here is apart (inr half) = λ x at. (
+  λ set.
+      let both : Some top ≡ Some x = sym here ∙ at in
+      let same : top ≡ x = cc in
+      let wrong : Some false ≡ Some true = sym is ∙ ap (slice_get ms) same ∙ set in
+      let no : false ≡ true = cc in
+      absurd (cc),
+  half x at,
+)
+undoubted b ms p top true false here is apart (inr half) = λ x at. (
+  half x at,
+  λ sep.
+      let both : Some top ≡ Some x = sym here ∙ at in
+      let same : top ≡ x = cc in
+      sym (ap (slice_get ms) same) ∙ is,
 )

@@ -1,5 +1,5 @@
--- Marks of the pieces on top of separating places, kept up as a board changes.
-use Rattle.std.specs.Prelude.{◌≡◌, ◌≢◌, ◌↔◌, ◌⊎◌, ℕ, Bool, true, false, List, Some}
+-- Euler's number and marks of the pieces on top of separating places, kept up as a board changes.
+use Rattle.std.specs.Prelude.{◌≡◌, ◌≢◌, ◌↔◌, ◌⊎◌, ℕ, ℤ, Bool, true, false, List, Some}
 use Rattle.hive_model.specs.declared.places.Place.{Place}
 use Rattle.hive_model.specs.declared.places.Dir.{Dir}
 use Rattle.hive_model.specs.Lists.{IsOn}
@@ -10,26 +10,51 @@ use Rattle.arcs.specs.Masks.{how_many}
 use Rattle.one_hive.specs.Visits.{IsSet}
 use Rattle.one_hive.specs.Separating.{MarksSeparating}
 use Rattle.hive_model.specs.Neighbours.{ring, ring_mask}
+use Rattle.euler.specs.Euler.{euler_number}
 use Rattle.cut_keeper.specs.Rings.{is_suspect}
 
--- these marks stood for a sound board that is one hive, and since then the piece was put on top of
--- the place, which left one hive
-pub record Grown (marks : List Bool) (b : Stacks) (x : ℕ) (p : Place) : Type 0 where
+-- what a keeper has: a number, and a mark for each piece
+pub record Kept : Type 0 where
+  pub number : ℤ
+  pub marks : List Bool
+
+-- it stands for this board: the number is Euler's, and the pieces on top of separating places are
+-- marked
+abbrev pub Keeps : Stacks → Kept → Type 0
+Keeps b k = (k.number ≡ euler_number b) × MarksSeparating b k.marks
+
+-- what stands like this stood for a sound board that is one hive, and since then the piece was put
+-- on top of the place, which left one hive
+pub record GrownBy (Stood : Stacks → Type 0) (b : Stacks) (x : ℕ) (p : Place) : Type 0 where
   pub before : Stacks
   pub sound : IsBoard before
   pub one_hive : OneHive before
-  pub stood : MarksSeparating before marks
+  pub stood : Stood before
   pub made : b ≡ put before x p
   pub still : OneHive b
 
 -- and likewise the piece was taken from the top of the place
-pub record Shrunk (marks : List Bool) (b : Stacks) (x : ℕ) (p : Place) : Type 0 where
+pub record ShrunkBy (Stood : Stacks → Type 0) (b : Stacks) (x : ℕ) (p : Place) : Type 0 where
   pub before : Stacks
   pub sound : IsBoard before
   pub one_hive : OneHive before
-  pub stood : MarksSeparating before marks
+  pub stood : Stood before
   pub made : before ≡ put b x p
   pub still : OneHive b
+
+-- so it is with a keeper
+abbrev pub Grown : Kept → Stacks → ℕ → Place → Type 0
+Grown k = GrownBy (λ b. Keeps b k)
+
+abbrev pub Shrunk : Kept → Stacks → ℕ → Place → Type 0
+Shrunk k = ShrunkBy (λ b. Keeps b k)
+
+-- and with marks
+abbrev pub MarksGrown : List Bool → Stacks → ℕ → Place → Type 0
+MarksGrown marks = GrownBy (λ b. MarksSeparating b marks)
+
+abbrev pub MarksShrunk : List Bool → Stacks → ℕ → Place → Type 0
+MarksShrunk marks = ShrunkBy (λ b. MarksSeparating b marks)
 
 -- While marks are made right
 

@@ -1,74 +1,115 @@
 //! Marks made right for a board, one place after another.
 
-ghost use Rattle.std.specs.Prelude.{◌≡◌, ◌≢◌, ◌↔◌, ◌⊎◌, ℕ, ◌+◌, ◌≤◌, Some, [], ◌∷◌, IsTrue};
+ghost use Rattle.std.specs.Prelude.{
+  ◌≡◌,
+  ◌≢◌,
+  ◌↔◌,
+  ◌⊎◌,
+  ℕ,
+  ◌+◌,
+  ◌≤◌,
+  pos,
+  Some,
+  [],
+  ◌∷◌,
+  IsTrue,
+};
 ghost use Rattle.hive_model.specs.Places.{dirs, IsOnTheMap};
 ghost use Rattle.hive_model.specs.Boards.{is_occupied, top_at};
 ghost use Rattle.hive_model.specs.Hive.{OneHive, IsSeparating};
+ghost use Rattle.euler.specs.Euler.{euler_number};
 ghost use Rattle.one_hive.specs.Visits.{IsSet};
 ghost use Rattle.cut_keeper.specs.Rings.{later};
 ghost use Rattle.cut_keeper.specs.Keeping.{Right, HalfRight, HasMask, Pending, suspects};
 
 use crate::rings::is_suspect;
-use arcs::arcs;
+use euler::told_by_arcs;
 use hive_model::{Board, Dir, Piece, Place};
 use one_hive::{Marks, Steps, walk_parts};
 use std::sync::ledger::Ledger;
 
-/// Whether an occupied place is separating: no place is whose occupied neighbours form one arc, and
-/// of another a walk tells, which ends as soon as it met all its neighbours.
-fn is_separating<B: Board, L: Ledger>(board: &B, place: Place, steps: &mut Steps<L>) -> bool
+/// Where a piece was put or taken: the place, the mask of its occupied neighbours, and Euler's
+/// number of the board.
+#[derive(Clone, Copy)]
+pub(crate) struct Site {
+    pub(crate) place: Place,
+    pub(crate) mask: u8,
+    pub(crate) number: i32,
+}
+
+/// An occupied place, and the piece on top of it.
+#[derive(Clone, Copy)]
+pub(crate) struct Topped {
+    pub(crate) place: Place,
+    pub(crate) top: Piece,
+}
+
+/// Whether an occupied place is separating: its arcs and Euler's number tell, always where the
+/// number is 1, and of another a walk tells, which ends as soon as it met all its neighbours.
+fn is_separating<B: Board, L: Ledger>(
+    board: &B,
+    number: i32,
+    place: Place,
+    steps: &mut Steps<L>,
+) -> bool
     requires one_hive { OneHive (B.stacks board.now) }
+    requires number { number ≡ euler_number (B.stacks board.now) }
     requires occupied { IsTrue (is_occupied (B.stacks board.now) place) }
     requires within { IsOnTheMap place }
     ensures cut { IsTrue result ↔ IsSeparating (B.stacks board.now) place }
+    ensures none { number ≡ pos 1 → steps.new ≡ steps.old }
     ensures step { steps.new ≤ steps.old + 1 }
 {
-    if arcs(board.neighbours(place)) == 1 {
-        return false;
+    board.is_board();
+    if let Some(told) = told_by_arcs(board.neighbours(place), number) {
+        return told;
     }
     walk_parts(board, place, steps)
 }
 
-/// Makes the mark of an occupied place right, whose top piece is given.
+/// Makes the mark of an occupied place right.
 pub(crate) fn examine<B: Board, L: Ledger>(
     marks: &mut Marks,
     board: &B,
-    place: Place,
-    top: Piece,
+    number: i32,
+    at: Topped,
     steps: &mut Steps<L>,
 )
     requires one_hive { OneHive (B.stacks board.now) }
-    requires top { top_at (B.stacks board.now) place ≡ Some top }
-    requires within { IsOnTheMap place }
-    ensures right { Right (B.stacks board.now) marks.new place }
-    ensures others { (x : ℕ) → x ≢ top → IsSet marks.new x ↔ IsSet marks.old x }
+    requires number { number ≡ euler_number (B.stacks board.now) }
+    requires top { top_at (B.stacks board.now) at.place ≡ Some at.top }
+    requires within { IsOnTheMap at.place }
+    ensures right { Right (B.stacks board.now) marks.new at.place }
+    ensures others { (x : ℕ) → x ≢ at.top → IsSet marks.new x ↔ IsSet marks.old x }
+    ensures none { number ≡ pos 1 → steps.new ≡ steps.old }
     ensures step { steps.new ≤ steps.old + 1 }
 {
-    let is_cut = is_separating(board, place, steps);
-    marks.give(top, is_cut);
+    let is_cut = is_separating(board, number, at.place, steps);
+    marks.give(at.top, is_cut);
 }
 
-/// Makes the mark of an occupied place right, whose top piece is given: it can be wrong only where
-/// it is what is doubted.
+/// Makes the mark of an occupied place right: it can be wrong only where it is what is doubted.
 fn examine_doubted<B: Board, L: Ledger>(
     marks: &mut Marks,
     board: &B,
-    place: Place,
-    top: Piece,
+    number: i32,
+    at: Topped,
     doubted: bool,
     steps: &mut Steps<L>,
 )
     requires one_hive { OneHive (B.stacks board.now) }
-    requires top { top_at (B.stacks board.now) place ≡ Some top }
-    requires within { IsOnTheMap place }
-    requires half { Right (B.stacks board.now) marks.old place
-        ⊎ HalfRight (B.stacks board.now) marks.old place doubted }
-    ensures right { Right (B.stacks board.now) marks.new place }
-    ensures others { (x : ℕ) → x ≢ top → IsSet marks.new x ↔ IsSet marks.old x }
+    requires number { number ≡ euler_number (B.stacks board.now) }
+    requires top { top_at (B.stacks board.now) at.place ≡ Some at.top }
+    requires within { IsOnTheMap at.place }
+    requires half { Right (B.stacks board.now) marks.old at.place
+        ⊎ HalfRight (B.stacks board.now) marks.old at.place doubted }
+    ensures right { Right (B.stacks board.now) marks.new at.place }
+    ensures others { (x : ℕ) → x ≢ at.top → IsSet marks.new x ↔ IsSet marks.old x }
+    ensures none { number ≡ pos 1 → steps.new ≡ steps.old }
     ensures step { steps.new ≤ steps.old + 1 }
 {
-    if marks.is_set(top) == doubted {
-        examine(marks, board, place, top, steps);
+    if marks.is_set(at.top) == doubted {
+        examine(marks, board, number, at, steps);
     }
 }
 
@@ -77,24 +118,32 @@ fn examine_doubted<B: Board, L: Ledger>(
 fn beside_one<B: Board, L: Ledger>(
     marks: &mut Marks,
     board: &B,
-    place: Place,
+    site: Site,
     dir: Dir,
-    mask: u8,
     doubted: bool,
     steps: &mut Steps<L>,
 )
-    requires ring { HasMask (B.stacks board.now) place mask }
-    requires pending { Pending (B.stacks board.now) place doubted (dir ∷ later dir) marks.old }
-    ensures pending { Pending (B.stacks board.now) place doubted (later dir) marks.new }
-    ensures steps { steps.new + suspects (B.stacks board.now) place (later dir)
-        ≤ steps.old + suspects (B.stacks board.now) place (dir ∷ later dir) }
+    requires ring { HasMask (B.stacks board.now) site.place site.mask }
+    requires number { site.number ≡ euler_number (B.stacks board.now) }
+    requires pending { Pending (B.stacks board.now) site.place doubted (dir ∷ later dir) marks.old }
+    ensures pending { Pending (B.stacks board.now) site.place doubted (later dir) marks.new }
+    ensures none { site.number ≡ pos 1 → steps.new ≡ steps.old }
+    ensures steps { steps.new + suspects (B.stacks board.now) site.place (later dir)
+        ≤ steps.old + suspects (B.stacks board.now) site.place (dir ∷ later dir) }
 {
-    if !is_suspect(mask, dir) {
+    if !is_suspect(site.mask, dir) {
         return;
     }
-    let next = place.step(dir);
-    if let Some(top) = board.top(next) {
-        examine_doubted(marks, board, next, top, doubted, steps);
+    let place = site.place.step(dir);
+    if let Some(top) = board.top(place) {
+        examine_doubted(
+            marks,
+            board,
+            site.number,
+            Topped { place, top },
+            doubted,
+            steps,
+        );
     }
 }
 
@@ -102,20 +151,21 @@ fn beside_one<B: Board, L: Ledger>(
 pub(crate) fn beside<B: Board, L: Ledger>(
     marks: &mut Marks,
     board: &B,
-    place: Place,
-    mask: u8,
+    site: Site,
     doubted: bool,
     steps: &mut Steps<L>,
 )
-    requires ring { HasMask (B.stacks board.now) place mask }
-    requires pending { Pending (B.stacks board.now) place doubted dirs marks.old }
-    ensures pending { Pending (B.stacks board.now) place doubted [] marks.new }
-    ensures steps { steps.new ≤ steps.old + suspects (B.stacks board.now) place dirs }
+    requires ring { HasMask (B.stacks board.now) site.place site.mask }
+    requires number { site.number ≡ euler_number (B.stacks board.now) }
+    requires pending { Pending (B.stacks board.now) site.place doubted dirs marks.old }
+    ensures pending { Pending (B.stacks board.now) site.place doubted [] marks.new }
+    ensures none { site.number ≡ pos 1 → steps.new ≡ steps.old }
+    ensures steps { steps.new ≤ steps.old + suspects (B.stacks board.now) site.place dirs }
 {
-    beside_one(marks, board, place, Dir::E, mask, doubted, steps);
-    beside_one(marks, board, place, Dir::NE, mask, doubted, steps);
-    beside_one(marks, board, place, Dir::NW, mask, doubted, steps);
-    beside_one(marks, board, place, Dir::W, mask, doubted, steps);
-    beside_one(marks, board, place, Dir::SW, mask, doubted, steps);
-    beside_one(marks, board, place, Dir::SE, mask, doubted, steps);
+    beside_one(marks, board, site, Dir::E, doubted, steps);
+    beside_one(marks, board, site, Dir::NE, doubted, steps);
+    beside_one(marks, board, site, Dir::NW, doubted, steps);
+    beside_one(marks, board, site, Dir::W, doubted, steps);
+    beside_one(marks, board, site, Dir::SW, doubted, steps);
+    beside_one(marks, board, site, Dir::SE, doubted, steps);
 }

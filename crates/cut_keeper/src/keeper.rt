@@ -1,53 +1,93 @@
 //! The keeper, and a board with it.
 
-ghost use Rattle.std.specs.Prelude.{◌≡◌, ◌↔◌, [], ◌+◌, ◌<◌, ◌≤◌, Some, IsTrue};
+ghost use Rattle.std.specs.Prelude.{
+  ◌≡◌,
+  ◌↔◌,
+  [],
+  ◌+◌,
+  ◌<◌,
+  ◌≤◌,
+  pos,
+  negsuc,
+  ◌-ℤ◌,
+  ◌≤ℤ◌,
+  Some,
+  IsTrue,
+};
 ghost use Rattle.hive_model.specs.Places.{IsOnTheMap};
 ghost use Rattle.hive_model.specs.Boards.{height_at, top_at};
 ghost use Rattle.hive_model.specs.Hive.{IsCut};
-ghost use Rattle.one_hive.specs.Separating.{MarksSeparating};
-ghost use Rattle.cut_keeper.specs.Keeping.{Grown, Shrunk};
+ghost use Rattle.euler.specs.Euler.{euler_number, arcs_at};
+ghost use Rattle.cut_keeper.specs.Keeping.{Keeps, Grown, Shrunk};
 
 use crate::updating::{added, removed};
+use arcs::arcs;
 use hive_model::{Board, Cuts, Piece, Place, Spot};
 use one_hive::{Marks, Steps};
 use std::marker::{Brand, Model};
 use std::sync::ledger::{Blank, Ledger};
 
-/// A mark for each piece: where a keeper stands for a board, a piece that is on top of a place is
-/// marked exactly where the place is separating.
+/// Euler's number of a board that is one hive, and a mark for each piece: where a keeper stands for
+/// a board, a piece that is on top of a place is marked exactly where the place is separating.
 #[derive(Drop)]
 pub struct CutKeeper {
+    number: i32,
     marks: Marks,
 }
 
 impl Model for CutKeeper {
-    ghost use Rattle.std.specs.Prelude.{List, Bool};
+    ghost use Rattle.cut_keeper.specs.Keeping.{Kept};
 
-    ghost Value = { List Bool };
+    ghost Value = { Kept };
 
-    ghost view = { λ k. k.marks };
+    ghost view = { λ k. record { number = k.number; marks = k.marks } };
 }
 
-/// What a keeper knew before a change.
-#[derive(Drop)]
-pub struct Delta {
-    marks: Marks,
+/// What a place adds to Euler's number of the board while it is occupied: 1, less the arcs of
+/// occupied neighbours round it.
+fn added_by<B: Board>(board: &B, place: Place) -> i32
+    requires { IsOnTheMap place }
+    ensures added { result ≡ pos 1 -ℤ pos (arcs_at (B.stacks board.now) place) }
+    ensures low { negsuc 253 ≤ℤ result }
+    ensures high { result ≤ℤ pos 1 }
+{
+    1 - arcs(board.neighbours(place)) as i32
 }
 
-impl Model for Delta {
-    ghost use Rattle.std.specs.Prelude.{List, Bool};
+/// Euler's number of the board, after a piece was put on top of the place, by a keeper that stood
+/// for the board before.
+fn number_with<B: Board>(keeper: &CutKeeper, board: &B, piece: Piece, place: Place) -> i32
+    requires grown { Grown keeper.now (B.stacks board.now) piece place }
+    requires within { IsOnTheMap place }
+    ensures { result ≡ euler_number (B.stacks board.now) }
+{
+    if board.height(place) > 1 {
+        return keeper.number;
+    }
+    keeper.number + added_by(board, place)
+}
 
-    ghost Value = { List Bool };
-
-    ghost view = { λ d. d.marks };
+/// Euler's number of the board, after a piece was taken from the top of the place, by a keeper that
+/// stood for the board before.
+fn number_without<B: Board>(keeper: &CutKeeper, board: &B, piece: Piece, place: Place) -> i32
+    requires shrunk { Shrunk keeper.now (B.stacks board.now) piece place }
+    requires within { IsOnTheMap place }
+    ensures { result ≡ euler_number (B.stacks board.now) }
+{
+    board.is_board();
+    if board.height(place) > 0 {
+        return keeper.number;
+    }
+    keeper.number - added_by(board, place)
 }
 
 impl CutKeeper {
     /// Stands for the empty board.
     pub fn new() -> CutKeeper
-        ensures { MarksSeparating [] result }
+        ensures { Keeps [] result }
     {
         CutKeeper {
+            number: 0,
             marks: Marks::new(),
         }
     }
@@ -57,72 +97,58 @@ impl CutKeeper {
         ensures { result ≡ self.now }
     {
         CutKeeper {
+            number: self.number,
             marks: self.marks.again(),
         }
     }
 
-    /// What takes the keeper back to what it knows now.
-    pub fn delta(&self) -> Delta
-        ensures { result ≡ self.now }
-    {
-        let marks = self.marks.again();
-        Delta { marks }
-    }
-
     /// After the piece was put on top of the place, makes a keeper that stood for the board before
-    /// stand for the board, and answers what takes the change back. It takes no step where the
-    /// place was occupied before, and else at most 3.
+    /// stand for the board. It takes no step where the place was occupied before, none where Euler's
+    /// number is 1 then, and else at most 3.
     pub fn added<B: Board, L: Ledger>(
         &mut self,
         board: &B,
         piece: Piece,
         place: Place,
         steps: &mut Steps<L>,
-    ) -> Delta
+    )
         requires grown { Grown self.old (B.stacks board.now) piece place }
         requires within { IsOnTheMap place }
-        ensures marks { MarksSeparating (B.stacks board.now) self.new }
-        ensures before { result ≡ self.old }
-        ensures none { 1 < height_at (B.stacks board.now) place → steps.new ≡ steps.old }
+        ensures keeps { Keeps (B.stacks board.now) self.new }
+        ensures above { 1 < height_at (B.stacks board.now) place → steps.new ≡ steps.old }
+        ensures none { euler_number (B.stacks board.now) ≡ pos 1 → steps.new ≡ steps.old }
         ensures few { steps.new ≤ steps.old + 3 }
     {
-        let delta = self.delta();
-        added(&mut self.marks, board, piece, place, steps);
-        delta
+        let number = number_with(self, board, piece, place);
+        added(&mut self.marks, board, number, piece, place, steps);
+        self.number = number;
     }
 
     /// After the piece was taken from the top of the place, makes a keeper that stood for the board
-    /// before stand for the board, and answers what takes the change back. It takes no step where
-    /// the place is occupied still, and else at most 3.
+    /// before stand for the board. It takes no step where the place is occupied still, none where
+    /// Euler's number is 1 then, and else at most 3.
     pub fn removed<B: Board, L: Ledger>(
         &mut self,
         board: &B,
         piece: Piece,
         place: Place,
         steps: &mut Steps<L>,
-    ) -> Delta
+    )
         requires shrunk { Shrunk self.old (B.stacks board.now) piece place }
         requires within { IsOnTheMap place }
-        ensures marks { MarksSeparating (B.stacks board.now) self.new }
-        ensures before { result ≡ self.old }
-        ensures none { 0 < height_at (B.stacks board.now) place → steps.new ≡ steps.old }
+        ensures keeps { Keeps (B.stacks board.now) self.new }
+        ensures above { 0 < height_at (B.stacks board.now) place → steps.new ≡ steps.old }
+        ensures none { euler_number (B.stacks board.now) ≡ pos 1 → steps.new ≡ steps.old }
         ensures few { steps.new ≤ steps.old + 3 }
     {
-        let delta = self.delta();
-        removed(&mut self.marks, board, piece, place, steps);
-        delta
+        let number = number_without(self, board, piece, place);
+        removed(&mut self.marks, board, number, piece, place, steps);
+        self.number = number;
     }
 
-    /// Takes a change back: the keeper knows what it knew before it.
-    pub fn back(&mut self, delta: Delta)
-        ensures { self.new ≡ delta }
-    {
-        self.marks = delta.marks;
-    }
-
-    /// Whether an occupied place of the board that it stands for is a cut place.
+    /// Whether a place of the board that it stands for is a cut place.
     pub fn is_cut<B: Board>(&self, board: &B, place: Place) -> bool
-        requires { MarksSeparating (B.stacks board.now) self.now }
+        requires { Keeps (B.stacks board.now) self.now }
         ensures { IsTrue result ↔ IsCut (B.stacks board.now) place }
     {
         match board.top(place) {
@@ -134,7 +160,7 @@ impl CutKeeper {
     /// Whether the place, whose top piece is given, is a cut place: few are marked, so that its
     /// height is seldom read.
     fn is_cut_below<B: Board>(&self, board: &B, place: Place, top: Piece) -> bool
-        requires marks { MarksSeparating (B.stacks board.now) self.now }
+        requires keeps { Keeps (B.stacks board.now) self.now }
         requires top { top_at (B.stacks board.now) place ≡ Some top }
         ensures { IsTrue result ↔ IsCut (B.stacks board.now) place }
     {
@@ -151,17 +177,16 @@ fn added_in<B: Board, L: Ledger>(
     piece: Piece,
     place: Place,
     blank: Blank,
-) -> Delta
+)
     requires name { blank.name ≡ L.name }
     requires parts { blank.parts ≡ L.parts }
     requires some { 0 < L.parts }
     requires grown { Grown keeper.old (B.stacks board.now) piece place }
     requires within { IsOnTheMap place }
-    ensures marks { MarksSeparating (B.stacks board.now) keeper.new }
-    ensures before { result ≡ keeper.old }
+    ensures { Keeps (B.stacks board.now) keeper.new }
 {
     let mut steps = Steps::<L>::new(blank);
-    keeper.added(board, piece, place, &mut steps)
+    keeper.added(board, piece, place, &mut steps);
 }
 
 fn removed_in<B: Board, L: Ledger>(
@@ -170,45 +195,32 @@ fn removed_in<B: Board, L: Ledger>(
     piece: Piece,
     place: Place,
     blank: Blank,
-) -> Delta
+)
     requires name { blank.name ≡ L.name }
     requires parts { blank.parts ≡ L.parts }
     requires some { 0 < L.parts }
     requires shrunk { Shrunk keeper.old (B.stacks board.now) piece place }
     requires within { IsOnTheMap place }
-    ensures marks { MarksSeparating (B.stacks board.now) keeper.new }
-    ensures before { result ≡ keeper.old }
+    ensures { Keeps (B.stacks board.now) keeper.new }
 {
     let mut steps = Steps::<L>::new(blank);
-    keeper.removed(board, piece, place, &mut steps)
+    keeper.removed(board, piece, place, &mut steps);
 }
 
 /// `CutKeeper::added` for a caller that counts no steps.
-pub fn added_uncounted<B: Board>(
-    keeper: &mut CutKeeper,
-    board: &B,
-    piece: Piece,
-    place: Place,
-) -> Delta
+pub fn added_uncounted<B: Board>(keeper: &mut CutKeeper, board: &B, piece: Piece, place: Place)
     requires grown { Grown keeper.old (B.stacks board.now) piece place }
     requires within { IsOnTheMap place }
-    ensures marks { MarksSeparating (B.stacks board.now) keeper.new }
-    ensures before { result ≡ keeper.old }
+    ensures { Keeps (B.stacks board.now) keeper.new }
 {
     added_in::<B, Brand>(keeper, board, piece, place, Blank::new(1))
 }
 
 /// `CutKeeper::removed` for a caller that counts no steps.
-pub fn removed_uncounted<B: Board>(
-    keeper: &mut CutKeeper,
-    board: &B,
-    piece: Piece,
-    place: Place,
-) -> Delta
+pub fn removed_uncounted<B: Board>(keeper: &mut CutKeeper, board: &B, piece: Piece, place: Place)
     requires shrunk { Shrunk keeper.old (B.stacks board.now) piece place }
     requires within { IsOnTheMap place }
-    ensures marks { MarksSeparating (B.stacks board.now) keeper.new }
-    ensures before { result ≡ keeper.old }
+    ensures { Keeps (B.stacks board.now) keeper.new }
 {
     removed_in::<B, Brand>(keeper, board, piece, place, Blank::new(1))
 }
@@ -218,13 +230,13 @@ pub fn removed_uncounted<B: Board>(
 pub struct KeptCuts<'a, B: Board> {
     board: &'a B,
     keeper: &'a CutKeeper,
-    ghost stands: { MarksSeparating (B.stacks board.now) keeper.now },
+    ghost stands: { Keeps (B.stacks board.now) keeper.now },
 }
 
 impl<'a, B: Board> KeptCuts<'a, B> {
     /// The board with this keeper.
     pub fn new(board: &'a B, keeper: &'a CutKeeper) -> KeptCuts<'a, B>
-        requires { MarksSeparating (B.stacks board.now) keeper.now }
+        requires { Keeps (B.stacks board.now) keeper.now }
         ensures { ⟦<KeptCuts<'a, B> as Board>⟧.stacks result ≡ B.stacks board.now }
     {
         KeptCuts { board, keeper }

@@ -1,20 +1,78 @@
 //! Marks kept up after one piece was put on a place or taken from it.
 
-ghost use Rattle.std.specs.Prelude.{◌≡◌, ◌≢◌, ◌↔◌, ℕ, ◌+◌, ◌<◌, ◌≤◌, Some, IsTrue};
+ghost use Rattle.std.specs.Prelude.{
+  ◌≡◌,
+  ◌≢◌,
+  ◌↔◌,
+  ℕ,
+  ◌+◌,
+  ◌<◌,
+  ◌≤◌,
+  pos,
+  Some,
+  IsTrue,
+};
+ghost use Rattle.hive_model.specs.declared.places.Place.{Place as AnyPlace};
 ghost use Rattle.hive_model.specs.Places.{step, IsOnTheMap};
 ghost use Rattle.hive_model.specs.Boards.{IsBoard, height_at, is_occupied, top_at};
+ghost use Rattle.hive_model.specs.Hive.{OneHive, IsSeparating};
 ghost use Rattle.arcs.specs.Arcs.{OneArc};
+ghost use Rattle.euler.specs.Euler.{euler_number};
 ghost use Rattle.one_hive.specs.Visits.{IsSet};
 ghost use Rattle.one_hive.specs.Separating.{MarksSeparating};
 ghost use Rattle.hive_model.specs.Neighbours.{weight};
-ghost use Rattle.cut_keeper.specs.Keeping.{Grown, Shrunk, HasMask};
+ghost use Rattle.cut_keeper.specs.Keeping.{MarksGrown, MarksShrunk, HasMask};
 
-use crate::examining::{beside, examine};
+use crate::examining::{Site, Topped, beside, examine};
 use crate::rings::only_in;
 use arcs::arcs;
+use euler::is_separating_on;
 use hive_model::{Board, Dir, Piece, Place};
 use one_hive::{Marks, Steps, mark_separating};
 use std::sync::ledger::Ledger;
+
+/// Gives the piece the mark of the place that it stands on, if it is on the board, which is one
+/// hive with no hole.
+fn mark_by_arcs<B: Board>(marks: &mut Marks, board: &B, piece: Piece)
+    requires one_hive { OneHive (B.stacks board.now) }
+    requires number { euler_number (B.stacks board.now) ≡ pos 1 }
+    ensures here { (p : AnyPlace) → top_at (B.stacks board.now) p ≡ Some piece
+        → IsSet marks.new piece ↔ IsSeparating (B.stacks board.now) p }
+    ensures others { (x : ℕ) → x ≢ piece → IsSet marks.new x ↔ IsSet marks.old x }
+{
+    if let Some(spot) = board.spot(piece) {
+        let is_separating = is_separating_on(board, spot.place);
+        marks.give(piece, is_separating);
+    }
+}
+
+/// Makes all marks right, of a board that is one hive with no hole.
+fn mark_all_by_arcs<B: Board>(marks: &mut Marks, board: &B)
+    requires one_hive { OneHive (B.stacks board.now) }
+    requires number { euler_number (B.stacks board.now) ≡ pos 1 }
+    ensures { MarksSeparating (B.stacks board.now) marks.new }
+{
+    board.is_board();
+    for x in 0..28u8 {
+        mark_by_arcs(marks, board, Piece::at(x));
+    }
+}
+
+/// Makes all marks right, of a board that is one hive, and whose Euler's number is given: by one
+/// walk where that is not 1.
+fn mark_all<B: Board, L: Ledger>(marks: &mut Marks, board: &B, number: i32, steps: &mut Steps<L>)
+    requires one_hive { OneHive (B.stacks board.now) }
+    requires number { number ≡ euler_number (B.stacks board.now) }
+    ensures marks { MarksSeparating (B.stacks board.now) marks.new }
+    ensures none { number ≡ pos 1 → steps.new ≡ steps.old }
+    ensures step { steps.new ≤ steps.old + 1 }
+{
+    if number == 1 {
+        mark_all_by_arcs(marks, board);
+        return;
+    }
+    *marks = mark_separating(board, steps);
+}
 
 /// Gives one piece the mark of another.
 fn hand_on(marks: &mut Marks, from: Piece, to: Piece)
@@ -28,7 +86,7 @@ fn hand_on(marks: &mut Marks, from: Piece, to: Piece)
 /// A piece was put on a place that was occupied: no place but it has another top piece.
 fn added_above<B: Board>(marks: &mut Marks, board: &B, piece: Piece, place: Place)
     requires sound { IsBoard (B.stacks board.now) }
-    requires grown { Grown marks.old (B.stacks board.now) piece place }
+    requires grown { MarksGrown marks.old (B.stacks board.now) piece place }
     requires high { 1 < height_at (B.stacks board.now) place }
     ensures { MarksSeparating (B.stacks board.now) marks.new }
 {
@@ -41,7 +99,7 @@ fn added_above<B: Board>(marks: &mut Marks, board: &B, piece: Piece, place: Plac
 /// any.
 fn added_beside_one<B: Board>(marks: &mut Marks, board: &B, piece: Piece, place: Place, dir: Dir)
     requires sound { IsBoard (B.stacks board.now) }
-    requires grown { Grown marks.old (B.stacks board.now) piece place }
+    requires grown { MarksGrown marks.old (B.stacks board.now) piece place }
     requires low { height_at (B.stacks board.now) place ≤ 1 }
     requires unmarked { IsSet marks.old piece → ⊥ }
     requires ring { HasMask (B.stacks board.now) place (weight dir) }
@@ -60,22 +118,23 @@ fn added_beside<B: Board, L: Ledger>(
     marks: &mut Marks,
     board: &B,
     piece: Piece,
-    place: Place,
-    mask: u8,
+    site: Site,
     steps: &mut Steps<L>,
 )
     requires sound { IsBoard (B.stacks board.now) }
-    requires grown { Grown marks.old (B.stacks board.now) piece place }
-    requires low { height_at (B.stacks board.now) place ≤ 1 }
-    requires ring { HasMask (B.stacks board.now) place mask }
-    requires arc { OneArc (is_occupied (B.stacks board.now)) place }
+    requires grown { MarksGrown marks.old (B.stacks board.now) piece site.place }
+    requires low { height_at (B.stacks board.now) site.place ≤ 1 }
+    requires ring { HasMask (B.stacks board.now) site.place site.mask }
+    requires number { site.number ≡ euler_number (B.stacks board.now) }
+    requires arc { OneArc (is_occupied (B.stacks board.now)) site.place }
     ensures marks { MarksSeparating (B.stacks board.now) marks.new }
+    ensures none { site.number ≡ pos 1 → steps.new ≡ steps.old }
     ensures steps { steps.new ≤ steps.old + 3 }
 {
     marks.give(piece, false);
-    match only_in(mask) {
-        Some(dir) => added_beside_one(marks, board, piece, place, dir),
-        None => beside(marks, board, place, mask, true, steps),
+    match only_in(site.mask) {
+        Some(dir) => added_beside_one(marks, board, piece, site.place, dir),
+        None => beside(marks, board, site, true, steps),
     }
 }
 
@@ -84,14 +143,17 @@ fn added_beside<B: Board, L: Ledger>(
 pub(crate) fn added<B: Board, L: Ledger>(
     marks: &mut Marks,
     board: &B,
+    number: i32,
     piece: Piece,
     place: Place,
     steps: &mut Steps<L>,
 )
-    requires grown { Grown marks.old (B.stacks board.now) piece place }
+    requires grown { MarksGrown marks.old (B.stacks board.now) piece place }
+    requires number { number ≡ euler_number (B.stacks board.now) }
     requires within { IsOnTheMap place }
     ensures marks { MarksSeparating (B.stacks board.now) marks.new }
-    ensures none { 1 < height_at (B.stacks board.now) place → steps.new ≡ steps.old }
+    ensures above { 1 < height_at (B.stacks board.now) place → steps.new ≡ steps.old }
+    ensures none { number ≡ pos 1 → steps.new ≡ steps.old }
     ensures few { steps.new ≤ steps.old + 3 }
 {
     board.is_board();
@@ -101,16 +163,21 @@ pub(crate) fn added<B: Board, L: Ledger>(
     }
     let mask = board.neighbours(place);
     if arcs(mask) == 1 {
-        added_beside(marks, board, piece, place, mask, steps);
+        let site = Site {
+            place,
+            mask,
+            number,
+        };
+        added_beside(marks, board, piece, site, steps);
         return;
     }
-    *marks = mark_separating(board, steps);
+    mark_all(marks, board, number, steps);
 }
 
 /// A piece was taken from a place that is occupied still: no place but it has another top piece.
 fn removed_above<B: Board>(marks: &mut Marks, board: &B, piece: Piece, place: Place, top: Piece)
     requires sound { IsBoard (B.stacks board.now) }
-    requires shrunk { Shrunk marks.old (B.stacks board.now) piece place }
+    requires shrunk { MarksShrunk marks.old (B.stacks board.now) piece place }
     requires top { top_at (B.stacks board.now) place ≡ Some top }
     ensures { MarksSeparating (B.stacks board.now) marks.new }
 {
@@ -122,21 +189,23 @@ fn removed_beside_one<B: Board, L: Ledger>(
     marks: &mut Marks,
     board: &B,
     piece: Piece,
-    place: Place,
+    site: Site,
     dir: Dir,
     steps: &mut Steps<L>,
 )
     requires sound { IsBoard (B.stacks board.now) }
-    requires shrunk { Shrunk marks.old (B.stacks board.now) piece place }
-    requires empty { height_at (B.stacks board.now) place ≡ 0 }
-    requires ring { HasMask (B.stacks board.now) place (weight dir) }
-    requires arc { OneArc (is_occupied (B.stacks board.now)) place }
+    requires shrunk { MarksShrunk marks.old (B.stacks board.now) piece site.place }
+    requires empty { height_at (B.stacks board.now) site.place ≡ 0 }
+    requires ring { HasMask (B.stacks board.now) site.place (weight dir) }
+    requires number { site.number ≡ euler_number (B.stacks board.now) }
+    requires arc { OneArc (is_occupied (B.stacks board.now)) site.place }
     ensures marks { MarksSeparating (B.stacks board.now) marks.new }
+    ensures none { site.number ≡ pos 1 → steps.new ≡ steps.old }
     ensures steps { steps.new ≤ steps.old + 1 }
 {
-    let next = place.step(dir);
-    if let Some(top) = board.top(next) {
-        examine(marks, board, next, top, steps);
+    let place = site.place.step(dir);
+    if let Some(top) = board.top(place) {
+        examine(marks, board, site.number, Topped { place, top }, steps);
     }
 }
 
@@ -145,21 +214,22 @@ fn removed_beside<B: Board, L: Ledger>(
     marks: &mut Marks,
     board: &B,
     piece: Piece,
-    place: Place,
-    mask: u8,
+    site: Site,
     steps: &mut Steps<L>,
 )
     requires sound { IsBoard (B.stacks board.now) }
-    requires shrunk { Shrunk marks.old (B.stacks board.now) piece place }
-    requires empty { height_at (B.stacks board.now) place ≡ 0 }
-    requires ring { HasMask (B.stacks board.now) place mask }
-    requires arc { OneArc (is_occupied (B.stacks board.now)) place }
+    requires shrunk { MarksShrunk marks.old (B.stacks board.now) piece site.place }
+    requires empty { height_at (B.stacks board.now) site.place ≡ 0 }
+    requires ring { HasMask (B.stacks board.now) site.place site.mask }
+    requires number { site.number ≡ euler_number (B.stacks board.now) }
+    requires arc { OneArc (is_occupied (B.stacks board.now)) site.place }
     ensures marks { MarksSeparating (B.stacks board.now) marks.new }
+    ensures none { site.number ≡ pos 1 → steps.new ≡ steps.old }
     ensures steps { steps.new ≤ steps.old + 3 }
 {
-    match only_in(mask) {
-        Some(dir) => removed_beside_one(marks, board, piece, place, dir, steps),
-        None => beside(marks, board, place, mask, false, steps),
+    match only_in(site.mask) {
+        Some(dir) => removed_beside_one(marks, board, piece, site, dir, steps),
+        None => beside(marks, board, site, false, steps),
     }
 }
 
@@ -168,14 +238,17 @@ fn removed_beside<B: Board, L: Ledger>(
 pub(crate) fn removed<B: Board, L: Ledger>(
     marks: &mut Marks,
     board: &B,
+    number: i32,
     piece: Piece,
     place: Place,
     steps: &mut Steps<L>,
 )
-    requires shrunk { Shrunk marks.old (B.stacks board.now) piece place }
+    requires shrunk { MarksShrunk marks.old (B.stacks board.now) piece place }
+    requires number { number ≡ euler_number (B.stacks board.now) }
     requires within { IsOnTheMap place }
     ensures marks { MarksSeparating (B.stacks board.now) marks.new }
-    ensures none { 0 < height_at (B.stacks board.now) place → steps.new ≡ steps.old }
+    ensures above { 0 < height_at (B.stacks board.now) place → steps.new ≡ steps.old }
+    ensures none { number ≡ pos 1 → steps.new ≡ steps.old }
     ensures few { steps.new ≤ steps.old + 3 }
 {
     board.is_board();
@@ -185,8 +258,13 @@ pub(crate) fn removed<B: Board, L: Ledger>(
     }
     let mask = board.neighbours(place);
     if arcs(mask) == 1 {
-        removed_beside(marks, board, piece, place, mask, steps);
+        let site = Site {
+            place,
+            mask,
+            number,
+        };
+        removed_beside(marks, board, piece, site, steps);
         return;
     }
-    *marks = mark_separating(board, steps);
+    mark_all(marks, board, number, steps);
 }

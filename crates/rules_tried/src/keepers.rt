@@ -6,7 +6,7 @@ ghost use Rattle.hive_model.specs.Boards.{is_on_top};
 ghost use Rattle.hive_model.specs.Places.{IsWithin};
 
 use cut_keeper::{CutKeeper, added_uncounted, removed_uncounted};
-use hive_model::{Board, Piece, Place, Spot};
+use hive_model::{Board, Piece, Place, Spot, is_occupied};
 use one_hive::is_one;
 use stack_board::PlainBoard;
 use std::alloc::{AllocError, Global};
@@ -74,14 +74,13 @@ struct Tried {
 
 impl Model for Tried {
     ghost use Rattle.hive_model.specs.Boards.{Stacks, IsBoard};
-    ghost use Rattle.hive_model.specs.Hive.{OneHive};
-    ghost use Rattle.one_hive.specs.Separating.{MarksSeparating};
+    ghost use Rattle.cut_keeper.specs.Keeping.{Keeps};
 
     ghost Value = { Stacks };
 
     ghost view = { λ t. t.board };
 
-    ghost invariant = { λ t. IsBoard t.board × OneHive t.board × MarksSeparating t.board t.keeper };
+    ghost invariant = { λ t. IsBoard t.board × Keeps t.board t.keeper };
 }
 
 impl Tried {
@@ -124,7 +123,7 @@ impl Tried {
             board: &board,
             calls: Cell::new(0),
         };
-        let _delta = added_uncounted(&mut keeper, &counted, piece, place);
+        added_uncounted(&mut keeper, &counted, place);
         let calls = counted.calls.get();
         Some(Tried {
             board,
@@ -151,7 +150,7 @@ impl Tried {
         if !is_one(&board) {
             return None;
         }
-        let _delta = removed_uncounted(&mut keeper, &board, piece, place);
+        removed_uncounted(&mut keeper, &board, place);
         Some(Tried {
             board,
             keeper,
@@ -159,8 +158,10 @@ impl Tried {
         })
     }
 
+    /// Whether the place is occupied, and a cut place.
     fn is_cut(&self, q: i32, r: i32) -> bool {
-        self.keeper.is_cut(&self.board, Place { q, r })
+        let place = Place { q, r };
+        is_occupied(&self.board, place) && self.keeper.is_cut(&self.board, place)
     }
 }
 

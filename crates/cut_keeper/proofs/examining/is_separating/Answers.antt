@@ -1,10 +1,11 @@
-use Rattle.std.proofs.Common.{◌≡◌, true, false, sym, ◌∙◌}
-use Rattle.arcs.proofs.ArcBoards.{one_arc_no_cut}
-use Rattle.cut_keeper.proofs.RingLaws.{arc_mask}
+use Rattle.std.proofs.Common.{◌≡◌, sym, ◌∙◌, subst, to_z, of_z, w32, rules}
+use Rattle.std.specs.Prelude.{IfSome}
+use Rattle.std.proofs.lemmas.Int.{to_z-of_z}
+use Rattle.euler.specs.Counting.{TellsBeside}
 use Rattle.cut_keeper.proofs.examining.is_separating.Goals as goal
 
-pub returns-then-arcs-eq1-clause-cut : goal.returns-then-arcs-eq1-clause-cut
-returns-then-arcs-eq1-clause-cut g c =
-    let b = g.B.Board.stacks c.args.board.now in
-    let arc = arc_mask b c.args.place c.neighbours.result c.neighbours.ensures.mask (sym c.arcs.ensures ∙ c.if-arcs-eq1.true) in
-    (λ h. let wrong : false ≡ true = h in absurd (cc), λ sep. absurd (one_arc_no_cut b c.requires.one_hive c.args.place arc sep))
+pub returns-in-Some-clause-cut : goal.returns-in-Some-clause-cut
+returns-in-Some-clause-cut g c =
+    let round : to_z w32 (of_z w32 c.args.number) ≡ c.args.number = to_z-of_z w32 c.args.number (search rules) in
+    let tells = subst (λ o. IfSome o (TellsBeside c.neighbours.result (to_z w32 (of_z w32 c.args.number)))) c.in-Some.is c.told_by_arcs.ensures.told in
+    tells (g.B.Board.stacks c.args.board.now) c.is_board.ensures c.requires.one_hive (sym c.requires.number ∙ sym round) c.args.place c.requires.occupied c.neighbours.ensures.mask

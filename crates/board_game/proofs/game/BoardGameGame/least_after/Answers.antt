@@ -5,8 +5,8 @@ use Rattle.hive_model.specs.Pieces.{other_side}
 use Rattle.hive_model.specs.Games.{replay}
 use Rattle.hive_model.specs.Minimax.{value}
 use Rattle.rule_laws.specs.Soundness.{side_after}
-use Rattle.board_game.specs.Asked.{IsAsked, IsWhole}
-use Rattle.board_game.proofs.AskLaws.{may_go, white_open, black_open, then_is, turned_is}
+use Rattle.board_game.specs.Asked.{IsKnown}
+use Rattle.board_game.proofs.AskLaws.{may_go, may_ask, then_is, turned_is}
 use Rattle.board_game.proofs.game.BoardGameGame.least_after.Goals as goal
 
 pub told_least-requires-clause-can : goal.told_least-requires-clause-can
@@ -18,26 +18,12 @@ pub told_least-requires-clause-known : goal.told_least-requires-clause-known
 told_least-requires-clause-known g c =
     let i = c.self.inside in
     let side : c.other-side.result ≡ other_side (side_after (vec_len i.made)) = c.other-side.ensures ∙ ap other_side (c.side_after.ensures ∙ ap side_after c.len.ensures) in
-    subst (λ z. IsWhole (g.B.Board.stacks i.board) z i.whole) (sym side) c.self.invariant.10
+    subst (λ z. IsKnown (g.B.Board.stacks i.board) z i.ahead) (sym side) c.self.invariant.9
 
-pub told_least-requires-clause-asked : goal.told_least-requires-clause-asked
-told_least-requires-clause-asked g c =
+pub told_least-requires-clause-may : goal.told_least-requires-clause-may
+told_least-requires-clause-may g c =
     let i = c.self.inside in
-    let side : c.other-side.result ≡ other_side (side_after (vec_len i.made)) = c.other-side.ensures ∙ ap other_side (c.side_after.ensures ∙ ap side_after c.len.ensures) in
-    subst (λ z. IsAsked (g.B.Board.stacks i.board) z i.asked) (sym side) c.self.invariant.9
-
-pub told_least-requires-clause-marks : goal.told_least-requires-clause-marks
-told_least-requires-clause-marks g c = c.self.invariant.5
-
-pub told_least-requires-clause-white : goal.told_least-requires-clause-white
-told_least-requires-clause-white g c =
-    let i = c.self.inside in
-    white_open i.game_type (g.B.Board.stacks i.board) i.made.items i.from.items i.spare i.count c.args.self.now c.args.m c.self.invariant.0 c.self.view_is c.requires
-
-pub told_least-requires-clause-black : goal.told_least-requires-clause-black
-told_least-requires-clause-black g c =
-    let i = c.self.inside in
-    black_open i.game_type (g.B.Board.stacks i.board) i.made.items i.from.items i.spare i.count c.args.self.now c.args.m c.self.invariant.0 c.self.view_is c.requires
+    may_ask i.game_type (g.B.Board.stacks i.board) i.made.items i.from.items i.spare i.count c.args.self.now c.args.m c.self.invariant.0 c.self.view_is c.requires i.keeper c.self.invariant.5
 
 pub returns-clause-least : goal.returns-clause-least
 returns-clause-least g c =
@@ -62,7 +48,6 @@ invariant_of-self g c =
       v.6,
       v.7,
       v.8,
-      subst (λ z. IsAsked b z c.told_least.new.asked) side c.told_least.ensures.asked,
-      subst (λ z. IsWhole b z c.told_least.new.known) side c.told_least.ensures.known,
-      v.11,
+      subst (λ z. IsKnown b z c.told_least.new.self) side c.told_least.ensures.known,
+      v.10,
     )

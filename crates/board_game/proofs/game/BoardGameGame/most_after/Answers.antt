@@ -3,9 +3,9 @@ use Rattle.std.specs.Prelude.{vec_len, vec_capacity}
 use Rattle.hive_model.specs.Boards.{Stacks}
 use Rattle.hive_model.specs.Pieces.{other_side}
 use Rattle.hive_model.specs.Positions.{opening}
-use Rattle.one_hive.specs.Separating.{MarksSeparating}
+use Rattle.cut_keeper.specs.Keeping.{Keeps}
 use Rattle.rule_laws.specs.Soundness.{side_after}
-use Rattle.board_game.specs.Asked.{IsAsked, IsWhole}
+use Rattle.board_game.specs.Asked.{IsKnown}
 use Rattle.board_game.specs.InHand.{ArePlaced}
 use Rattle.board_game.specs.Kept.{AreKept}
 use Rattle.board_game.specs.Replayed.{IsReplayed}
@@ -22,8 +22,8 @@ invariant_of-self g c =
     let i = c.self.inside in
     subst (λ (b : Stacks).
     IsReplayed i.game_type b i.made.items i.from.items × (vec_len i.made + i.spare ≤ 5064) × (vec_len i.from ≡ vec_len i.made) × (vec_len i.made + i.spare ≤ vec_capacity i.made) × (vec_len i.made + i.spare ≤ vec_capacity i.from)
-    × MarksSeparating b i.keeper × AreKept (opening i.game_type) i.made.items i.before.items × (vec_len i.before ≡ vec_len i.made) × (vec_len i.made + i.spare ≤ vec_capacity i.before)
-    × IsAsked b (other_side (side_after (vec_len i.made))) i.asked × IsWhole b (other_side (side_after (vec_len i.made))) i.whole
+    × Keeps b i.keeper × AreKept (opening i.game_type) i.made.items i.before.items × (vec_len i.before ≡ vec_len i.made) × (vec_len i.made + i.spare ≤ vec_capacity i.before)
+    × IsKnown b (other_side (side_after (vec_len i.made))) i.ahead
     × ArePlaced b (other_side (side_after (vec_len i.made))) i.placements.items) (sym c.reply_behind.ensures.same) c.self.invariant
 
 pub invariant_of-self-2 : goal.invariant_of-self-2
@@ -31,6 +31,6 @@ invariant_of-self-2 g c =
     let i = c.self.inside in
     subst (λ (b : Stacks).
     IsReplayed i.game_type b i.made.items i.from.items × (vec_len i.made + i.spare ≤ 5064) × (vec_len i.from ≡ vec_len i.made) × (vec_len i.made + i.spare ≤ vec_capacity i.made) × (vec_len i.made + i.spare ≤ vec_capacity i.from)
-    × MarksSeparating b i.keeper × AreKept (opening i.game_type) i.made.items i.before.items × (vec_len i.before ≡ vec_len i.made) × (vec_len i.made + i.spare ≤ vec_capacity i.before)
-    × IsAsked b (other_side (side_after (vec_len i.made))) i.asked × IsWhole b (other_side (side_after (vec_len i.made))) i.whole
+    × Keeps b i.keeper × AreKept (opening i.game_type) i.made.items i.before.items × (vec_len i.before ≡ vec_len i.made) × (vec_len i.made + i.spare ≤ vec_capacity i.before)
+    × IsKnown b (other_side (side_after (vec_len i.made))) i.ahead
     × ArePlaced b (other_side (side_after (vec_len i.made))) i.placements.items) (sym c.reply_behind.ensures.same) c.self.invariant

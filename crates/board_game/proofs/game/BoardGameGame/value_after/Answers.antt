@@ -7,9 +7,9 @@ use Rattle.hive_model.specs.Minimax.{value}
 use Rattle.rule_laws.specs.Soundness.{side_after}
 use Rattle.rule_laws.proofs.Games.{games_count}
 use Rattle.leaf_worth.specs.Hands.{IsPlainInHand}
-use Rattle.board_game.specs.Asked.{IsAsked, IsWhole}
+use Rattle.board_game.specs.Asked.{IsKnown}
 use Rattle.board_game.specs.declared.in_hand.Placed.{Placed}
-use Rattle.board_game.proofs.AskLaws.{may_go, white_open, black_open, then_is, turned_is}
+use Rattle.board_game.proofs.AskLaws.{may_go, may_ask, then_is, turned_is}
 use Rattle.board_game.proofs.PlacedLaws.{told_placed, more_placed, noted_worth}
 use Rattle.board_game.proofs.game.BoardGameGame.value_after.Goals as goal
 
@@ -24,7 +24,7 @@ returns-in-Some-clause-value g c =
     let found = subst (λ o. IfSome o (λ (t : Placed). (k : ℕ) × (slice_get c.as_slice.result.now k ≡ Some t) × (t.place ≡ c.in-To.place))) c.in-Some.is c.noted.ensures in
     let there : slice_get i.placements.items found.0 ≡ Some t = ap (λ (l : List Placed). slice_get l found.0) (sym c.as_slice.ensures.value) ∙ found.1 in
     let side : other_side p.side ≡ other_side (side_after (vec_len i.made)) = ap other_side ((games_count i.game_type i.made.items).side ∙ ap side_after (sym i.made.ok.0)) in
-    let told = noted_worth b (other_side (side_after (vec_len i.made))) t (v.11 found.0 t there) c.in-To.place found.2 p (sym v.0.board_is) side c.in-To.piece plain in
+    let told = noted_worth b (other_side (side_after (vec_len i.made))) t (v.10 found.0 t there) c.in-To.place found.2 p (sym v.0.board_is) side c.in-To.piece plain in
     subst (λ (a : Position). IfSome t.told (λ w. w ≡ value a 0)) (then_is i.game_type (g.B.Board.stacks i.board) i.made.items i.from.items i.spare i.count c.args.self.now c.args.m c.self.invariant.0 c.self.view_is c.in-To.piece c.in-To.place c.in-To.is) told
 
 pub told_value-told-requires-clause-can : goal.told_value-told-requires-clause-can
@@ -36,26 +36,12 @@ pub told_value-told-requires-clause-known : goal.told_value-told-requires-clause
 told_value-told-requires-clause-known g c =
     let i = c.self.inside in
     let side : c.other-side.result ≡ other_side (side_after (vec_len i.made)) = c.other-side.ensures ∙ ap other_side (c.side_after.ensures ∙ ap side_after c.len.ensures) in
-    subst (λ z. IsWhole (g.B.Board.stacks i.board) z i.whole) (sym side) c.self.invariant.10
+    subst (λ z. IsKnown (g.B.Board.stacks i.board) z i.ahead) (sym side) c.self.invariant.9
 
-pub told_value-told-requires-clause-asked : goal.told_value-told-requires-clause-asked
-told_value-told-requires-clause-asked g c =
+pub told_value-told-requires-clause-may : goal.told_value-told-requires-clause-may
+told_value-told-requires-clause-may g c =
     let i = c.self.inside in
-    let side : c.other-side.result ≡ other_side (side_after (vec_len i.made)) = c.other-side.ensures ∙ ap other_side (c.side_after.ensures ∙ ap side_after c.len.ensures) in
-    subst (λ z. IsAsked (g.B.Board.stacks i.board) z i.asked) (sym side) c.self.invariant.9
-
-pub told_value-told-requires-clause-marks : goal.told_value-told-requires-clause-marks
-told_value-told-requires-clause-marks g c = c.self.invariant.5
-
-pub told_value-told-requires-clause-white : goal.told_value-told-requires-clause-white
-told_value-told-requires-clause-white g c =
-    let i = c.self.inside in
-    white_open i.game_type (g.B.Board.stacks i.board) i.made.items i.from.items i.spare i.count c.args.self.now c.args.m c.self.invariant.0 c.self.view_is c.requires
-
-pub told_value-told-requires-clause-black : goal.told_value-told-requires-clause-black
-told_value-told-requires-clause-black g c =
-    let i = c.self.inside in
-    black_open i.game_type (g.B.Board.stacks i.board) i.made.items i.from.items i.spare i.count c.args.self.now c.args.m c.self.invariant.0 c.self.view_is c.requires
+    may_ask i.game_type (g.B.Board.stacks i.board) i.made.items i.from.items i.spare i.count c.args.self.now c.args.m c.self.invariant.0 c.self.view_is c.requires i.keeper c.self.invariant.5
 
 pub returns-then-is_plain-2-clause-value : goal.returns-then-is_plain-2-clause-value
 returns-then-is_plain-2-clause-value g c =
@@ -90,9 +76,8 @@ invariant_of-self g c =
       v.6,
       v.7,
       v.8,
-      subst (λ z. IsAsked b z c.told_value-told.new.asked) side c.told_value-told.ensures.asked,
-      subst (λ z. IsWhole b z c.told_value-told.new.known) side c.told_value-told.ensures.known,
-      more_placed b s i.placements.items c.note.new.placements.items (record { place = c.in-To.place; told = c.told_value-told.result }) v.11 placed c.note.ensures,
+      subst (λ z. IsKnown b z c.told_value-told.new.self) side c.told_value-told.ensures.known,
+      more_placed b s i.placements.items c.note.new.placements.items (record { place = c.in-To.place; told = c.told_value-told.result }) v.10 placed c.note.ensures,
     )
 
 pub invariant_of-self-else-is_plain-2 : goal.invariant_of-self-else-is_plain-2
@@ -111,7 +96,6 @@ invariant_of-self-else-is_plain-2 g c =
       v.6,
       v.7,
       v.8,
-      subst (λ z. IsAsked b z c.told_value-told.new.asked) side c.told_value-told.ensures.asked,
-      subst (λ z. IsWhole b z c.told_value-told.new.known) side c.told_value-told.ensures.known,
-      v.11,
+      subst (λ z. IsKnown b z c.told_value-told.new.self) side c.told_value-told.ensures.known,
+      v.10,
     )

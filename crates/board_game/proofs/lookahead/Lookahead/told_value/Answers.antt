@@ -1,0 +1,23 @@
+use Rattle.board_game.proofs.AskLaws.{found_known}
+use Rattle.board_game.proofs.lookahead.Lookahead.told_value.Goals as goal
+
+pub find-requires-clause-loose : goal.find-requires-clause-loose
+find-requires-clause-loose g c = c.requires.can.2
+
+pub find-requires-clause-one_hive : goal.find-requires-clause-one_hive
+find-requires-clause-one_hive g c = c.requires.can.6
+
+pub find-requires-clause-left : goal.find-requires-clause-left
+find-requires-clause-left g c = c.requires.can.7
+
+pub value_by-requires-clause-loose : goal.value_by-requires-clause-loose
+value_by-requires-clause-loose g c = c.requires.can.2
+
+pub value_by-requires-clause-within : goal.value_by-requires-clause-within
+value_by-requires-clause-within g c = c.requires.can.3
+
+pub returns-in-Some-clause-known : goal.returns-in-Some-clause-known
+returns-in-Some-clause-known g c = found_known (g.B.Board.stacks c.args.board.now) c.args.piece c.args.side c.find.new.self c.find.ensures.known c.find.ensures.asked
+
+pub returns-in-None-clause-known : goal.returns-in-None-clause-known
+returns-in-None-clause-known g c = found_known (g.B.Board.stacks c.args.board.now) c.args.piece c.args.side c.find.new.self c.find.ensures.known c.find.ensures.asked

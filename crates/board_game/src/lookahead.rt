@@ -1,0 +1,120 @@
+//! What was found of the board at hand, so that the worth of a move is told without making it.
+
+ghost use Rattle.std.specs.Prelude.{◌≡◌, ◌≤ℤ◌, None, IfSome};
+ghost use Rattle.std.specs.Option.{IsSomeAnd};
+ghost use Rattle.hive_model.specs.declared.places.Move.TheVariants.{To};
+ghost use Rattle.hive_model.specs.Boards.{without};
+ghost use Rattle.hive_model.specs.Games.{after};
+ghost use Rattle.hive_model.specs.Hive.{OneHive};
+ghost use Rattle.hive_model.specs.Minimax.{value};
+ghost use Rattle.hive_model.specs.Pieces.{other_side};
+ghost use Rattle.hive_model.specs.Positions.{Position};
+ghost use Rattle.leaf_worth.specs.Bases.{IsFound};
+ghost use Rattle.board_game.specs.Asked.{IsKnown, MayAsk};
+ghost use Rattle.board_game.specs.Replayed.{CanBeTaken, CanMake};
+
+use crate::told_values::{find_base, find_whole, least_by, value_by};
+use cut_keeper::CutKeeper;
+use hive_model::{Board, Colour, Piece, Place};
+use leaf_worth::Base;
+
+/// What was found for the side that is to move after the next move: of the whole board, and of the
+/// board without the piece that was asked for last.
+#[derive(Drop)]
+pub struct Lookahead {
+    pub whole: Option<Base>,
+    pub asked: Option<(Piece, Base)>,
+}
+
+impl Lookahead {
+    /// Nothing was found yet.
+    pub fn new() -> Lookahead
+        ensures whole { result.whole ≡ None }
+        ensures asked { result.asked ≡ None }
+    {
+        Lookahead {
+            whole: None,
+            asked: None,
+        }
+    }
+
+    /// What was found, which is forgotten here.
+    pub fn take(&mut self) -> Lookahead
+        ensures taken { result ≡ self.old }
+        ensures whole { self.new.whole ≡ None }
+        ensures asked { self.new.asked ≡ None }
+    {
+        Lookahead {
+            whole: self.whole.take(),
+            asked: self.asked.take(),
+        }
+    }
+
+    /// Finds what is known of the whole board and of the board without the piece, unless it was
+    /// found before. The keeper stands for the board, which is one hive with the piece and without
+    /// it, and on which no queen is surrounded.
+    fn find<B: Board>(&mut self, board: &B, keeper: &CutKeeper, piece: Piece, side: Colour)
+        requires known { IsKnown (B.stacks board.now) side self.old }
+        requires may { MayAsk (B.stacks board.now) keeper.now }
+        requires loose { CanBeTaken (B.stacks board.now) piece }
+        requires one_hive { OneHive (B.stacks board.now) }
+        requires left { OneHive (without (B.stacks board.now) piece) }
+        ensures known { IsSomeAnd self.new.whole (IsFound (B.stacks board.now) side) }
+        ensures asked { IsSomeAnd self.new.asked (λ a. (a.0 ≡ piece)
+            × IsFound (without (B.stacks board.now) piece) side a.1) }
+    {
+        find_whole(board, keeper, &mut self.whole, side);
+        if let Some(whole) = self.whole.as_ref() {
+            find_base(board, keeper, whole, &mut self.asked, piece, side);
+        }
+    }
+
+    /// What the position is worth to its side to move that the move of the piece to the place leads
+    /// to, where that is told, by what is known or found now of the board. The keeper stands for
+    /// the board, on which no queen is surrounded.
+    pub fn told_value<B: Board>(
+        &mut self,
+        board: &B,
+        keeper: &CutKeeper,
+        piece: Piece,
+        place: Place,
+        side: Colour,
+    ) -> Option<i32>
+        requires can { CanMake (B.stacks board.now) (To piece place) }
+        requires known { IsKnown (B.stacks board.now) side self.old }
+        requires may { MayAsk (B.stacks board.now) keeper.now }
+        ensures known { IsKnown (B.stacks board.now) side self.new }
+        ensures value { (p : Position) → p.board ≡ B.stacks board.now → other_side p.side ≡ side
+            → IfSome result (λ v. v ≡ value (after p (To piece place)) 0) }
+    {
+        self.find(board, keeper, piece, side);
+        match self.asked.as_ref() {
+            Some((_, base)) => value_by(board, base, piece, place, side),
+            None => None,
+        }
+    }
+
+    /// At least what that position is worth, where a bound is told, by what is known or found now
+    /// of the board.
+    pub fn told_least<B: Board>(
+        &mut self,
+        board: &B,
+        keeper: &CutKeeper,
+        piece: Piece,
+        place: Place,
+        side: Colour,
+    ) -> Option<i32>
+        requires can { CanMake (B.stacks board.now) (To piece place) }
+        requires known { IsKnown (B.stacks board.now) side self.old }
+        requires may { MayAsk (B.stacks board.now) keeper.now }
+        ensures known { IsKnown (B.stacks board.now) side self.new }
+        ensures least { (p : Position) → p.board ≡ B.stacks board.now → other_side p.side ≡ side
+            → IfSome result (λ v. v ≤ℤ value (after p (To piece place)) 0) }
+    {
+        self.find(board, keeper, piece, side);
+        match self.asked.as_ref() {
+            Some((_, base)) => least_by(board, base, piece, place, side),
+            None => None,
+        }
+    }
+}
