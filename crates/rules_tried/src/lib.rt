@@ -23,6 +23,8 @@ mod masks;
 #[cfg(test)]
 mod mosquitoes;
 #[cfg(test)]
+mod numbers;
+#[cfg(test)]
 mod stacks;
 #[cfg(test)]
 mod symmetries;
