@@ -1,9 +1,10 @@
 -- What the search of a root answers, and what one for a time tells of itself.
-use Rattle.std.specs.Prelude.{◌≡◌, ℕ, ◌+◌, ◌-◌, ◌*◌, ◌^◌, ◌<◌, ◌≤◌, Some}
+use Rattle.std.specs.Prelude.{◌≡◌, ℕ, ◌+◌, ◌-◌, ◌*◌, ◌^◌, ◌<◌, ◌≤◌, Option, Some, None, IfSome}
 use Rattle.hive_model.specs.declared.best.Best.{Best}
 use Rattle.hive_model.specs.declared.best.Timed.{Timed}
 use Rattle.hive_model.specs.Positions.{Position}
-use Rattle.hive_model.specs.Minimax.{value, best}
+use Rattle.hive_model.specs.Minimax.{value, best, reads}
+use Rattle.hive_model.specs.Courses.{Course}
 use Rattle.hive_model.specs.Costs.{share}
 
 -- the first of the legal moves that is worth most with so many plies searched, and what it is worth
@@ -33,3 +34,33 @@ IsStoppedInTime given started previous = started < previous → previous < start
 abbrev pub IsWatched : Position → ℕ → ℕ → ℕ → ℕ → Type 0
 IsWatched p readings readings' played played' = readings' < 2 ^ 64 - 1 → played' < 2 ^ 64 - 1
     → played' ≤ played + share p 1 0 1 + 256 * (readings' - readings)
+
+-- a searcher that is prepared for so many plies at most is so for these, and the game has room for
+-- them
+pub record IsPrepared (plies most : ℕ) (game : Course) : Type 0 where
+  pub prepared : plies ≤ most
+  pub spare : plies ≤ game.spare
+
+-- what a search for a time tells of its times is so, it stopped in time, and it read the clock as
+-- often as it had to, and no more
+pub record WasTimed (p : Position) (given : ℕ) (told : Timed)
+    (last last' previous' read read' played played' : ℕ) : Type 0 where
+  pub timed : IsTimed given last last' told
+  pub in_time : IsStoppedInTime given told.started previous'
+  pub readings : read' ≤ read + reads p told.depth
+  pub often : IsWatched p read read' played played'
+
+-- a search with a deadline has no answer only where the clock came to it, and an answer only where
+-- the clock did not, or was there before
+pub record KeepsDeadline {X : Type 0} (deadline : ℕ) (answer : Option X) (last last' : ℕ)
+    : Type 0 where
+  pub stopped : answer ≡ None → deadline ≤ last'
+  pub in_time : IfSome answer (λ _. deadline ≤ last' → last' ≡ last)
+
+-- a search of so many nodes reads the clock at least once for each 256 plays, where the count of
+-- readings and that of plays stand below their end, that of a u64, and at most once for each 256
+-- nodes
+pub record ReadsClock (nodes readings readings' played played' : ℕ) : Type 0 where
+  pub often : readings' < 2 ^ 64 - 1 → played' < 2 ^ 64 - 1
+      → played' < played + 256 * (readings' - readings + 1)
+  pub seldom : 256 * readings' ≤ 256 * readings + nodes

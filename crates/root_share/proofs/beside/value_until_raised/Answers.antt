@@ -17,17 +17,18 @@ play-requires-clause-legal g c = c.requires.child.legal
 pub play-requires-clause-room : goal.play-requires-clause-room
 play-requires-clause-room g c = omega (arith, c.requires.child.spare)
 
-pub value_until-found-requires-clause-open_ : goal.value_until-found-requires-clause-open_
-value_until-found-requires-clause-open_ g c = c.window_behind-behind.ensures.open_
+pub value_until-found-requires-clause-window : goal.value_until-found-requires-clause-window
+value_until-found-requires-clause-window g c = record {
+  open_ = c.window_behind-behind.ensures.open_;
+  alpha = search rules;
+  beta = c.window_behind-behind.ensures.highest;
+}
 
-pub value_until-found-requires-clause-beta : goal.value_until-found-requires-clause-beta
-value_until-found-requires-clause-beta g c = c.window_behind-behind.ensures.highest
-
-pub value_until-found-requires-clause-prepared : goal.value_until-found-requires-clause-prepared
-value_until-found-requires-clause-prepared g c = c.requires.child.enough
-
-pub value_until-found-requires-clause-spare : goal.value_until-found-requires-clause-spare
-value_until-found-requires-clause-spare g c = room-behind (g.G.Game.course c.args.worker.now.game) _ c.args.m _ c.play.ensures.moved c.requires.child.spare
+pub value_until-found-requires-clause-room : goal.value_until-found-requires-clause-room
+value_until-found-requires-clause-room g c = record {
+  prepared = c.requires.child.enough;
+  spare = room-behind (g.G.Game.course c.args.worker.now.game) _ c.args.m _ c.play.ensures.moved c.requires.child.spare;
+}
 
 pub undo-requires : goal.undo-requires
 undo-requires g c = move-made (g.G.Game.course c.args.worker.now.game) _ _ c.args.m c.play.ensures.moved c.value_until-found.ensures.game
