@@ -1,7 +1,6 @@
 -- An audit that was run over a link, and what is told of it once the program is closed.
-use Rattle.std.proofs.Common.{◌≡◌, ◌⊎◌, ℕ, zero, suc, ◌+◌, ◌<◌, true, false, Bool, List, [], ◌∷◌, ◌++◌, length, take, None, Some, Ok, Err, inl, inr, refl, ap, sym, ◌∙◌, subst, arith, length-append}
+use Rattle.std.proofs.Common.{◌≡◌, ℕ, zero, suc, ◌+◌, ◌<◌, true, false, Bool, List, [], ◌∷◌, length, None, Some, Ok, Err, inl, inr, refl, ap, sym, ◌∙◌, subst, arith, length-append}
 use Rattle.std.specs.Prelude.{◌==◌, if◌then◌else◌}
-use Rattle.std.specs.declared.option.Option.{Option}
 use Rattle.std.specs.declared.result.Result.{Result}
 use Rattle.std.specs.Result.{IfOk}
 use Rattle.std.proofs.lemmas.Option.{same_Some}
@@ -12,13 +11,13 @@ use Rattle.io_edge.specs.Lines.{Line as Mark, lines}
 use Rattle.command_runs.specs.Answered.{WritesAs}
 use Rattle.command_runs.specs.World.{World}
 use Rattle.command_runs.specs.declared.status.Status.{Status}
-use Rattle.command_runs.specs.declared.status.Status.TheVariants.{Done, Refused, WriteFault, SpawnFault}
+use Rattle.command_runs.specs.declared.status.Status.TheVariants.{Done, Refused, SpawnFault}
 use Rattle.audit_core.specs.declared.plan.Plan.{Plan}
 use Rattle.audit_core.specs.AuditState.{AuditState}
 use Rattle.audit_core.specs.Audits.{sent_in}
 use Rattle.audit_command.specs.Wires.{HasFailed, Wire}
 use Rattle.audit_command.specs.Runs.{Ends, RanOver}
-use Rattle.audit_command.specs.Audit.{AuditRun, AuditStarts, AuditedOver, CountsFault, Hears, IsStarted, IsWhole, NoneIsOpen, AuditOver, StartsOneOf, verdict_of}
+use Rattle.audit_command.specs.Audit.{AuditRun, AuditStarts, AuditedOver, CountsFault, IsStarted, NoneIsOpen, AuditOver, verdict_of}
 
 -- a link that has failed has counted it
 failed : (w0 w : Wire) → w0.reads ≡ 0 → w0.writes ≡ 0 → HasFailed w0 w → 0 < w.reads + w.writes
@@ -29,11 +28,11 @@ failed w0 w a b (inr r) = elim r.higher [ inl x ↦ omega (arith, x) | inr x ↦
 from_none : (old new : Told) (bytes : List ℕ) → old ≡ Some [] → new ≡ behind old bytes → new ≡ Some bytes
 from_none old new bytes e f = f ∙ ap (λ o. behind o bytes) e
 
--- what was heard, once the failures of the link are counted
-heard_of : (plan : Plan) (marks : List Mark) (t : AuditState) (w0 w : Wire) (before after : Engines) → (HasFailed w0 w → Rose before.engine_faults after.engine_faults) → Ends plan marks t w0 w → Hears plan marks t before after
-heard_of plan marks t w0 w before after counted (inl e) = inl e
-heard_of plan marks t w0 w before after counted (inr (inl (e, rose))) = inr (inl e, counted (inl rose))
-heard_of plan marks t w0 w before after counted (inr (inr (e, rose))) = inr (inr e, counted (inr rose))
+-- how it ended, once the failures of the link are counted
+ends_so : {A B C D : Type 0} (plan : Plan) (marks : List Mark) (sent : List ℕ) (t : AuditState) → (A → C) → (B → D) → Ends plan marks sent t A B → Ends plan marks sent t C D
+ends_so plan marks sent t f g (inl e) = inl e
+ends_so plan marks sent t f g (inr (inl (e, all, rose))) = inr (inl (e, all, f rose))
+ends_so plan marks sent t f g (inr (inr (e, part, rose))) = inr (inr (e, part, g rose))
 
 -- the audit that was run, once the program is closed
 pub audited_over : (plan : Plan) (t : AuditState) (w0 w : Wire) (before after : Engines) → w0.reads ≡ 0 → w0.writes ≡ 0 → RanOver plan t w0 w
@@ -42,8 +41,12 @@ audited_over plan t w0 w before after r0 s0 ran counts closes =
     let counted : HasFailed w0 w → Rose before.engine_faults after.engine_faults = λ x. counts.failed (failed w0 w r0 s0 x) in
     record {
       over = ran.over;
-      heard = (ran.marks, heard_of plan ran.marks t w0 w before after counted ran.ends);
-      by_link = λ bytes e f calm.
+      marks = ran.marks;
+      sent = ran.sent;
+      ends = ends_so plan ran.marks ran.sent t (λ r. counted (inl r)) (λ r. counted (inr r)) ran.ends;
+      heard = ran.first;
+      gains = λ f. subst (Collects before.sent after.sent) (from_none w0.written w.written ran.sent f ran.wrote) closes;
+      whole = λ bytes e f calm.
           let m = ran.told bytes e (λ x. calm (counted x)) in record {
             audit = m.audit;
             gains = subst (Collects before.sent after.sent) (from_none w0.written w.written (sent_in plan (lines bytes)) f m.sent) closes;
@@ -62,30 +65,31 @@ told_start None now rest written all starts e = absurd (cc)
 told_start (Some xs) None rest written all starts e = absurd starts
 told_start (Some xs) (Some ys) rest written all (bytes, xe, r, w) e = (bytes, ys, sym (same_Some _ _ e) ∙ xe, refl, r, w)
 
--- the same from before the program was started
-heard_from : (plan : Plan) (marks : List Mark) (t : AuditState) (between before after : Engines) → between.engine_faults ≡ before.engine_faults → Hears plan marks t between after → Hears plan marks t before after
-heard_from plan marks t between before after faults (inl e) = inl e
-heard_from plan marks t between before after faults (inr (e, rose)) = inr (e, subst (λ n. Rose n after.engine_faults) faults rose)
-
 -- the audit from before its program was started
 pub played_from : (plan : Plan) (t : AuditState) (rest written : Told) (before between after : Engines) → Starts before.to_come between.to_come rest written → after.to_come ≡ between.to_come
     → between.sent ≡ before.sent → between.engine_faults ≡ before.engine_faults → AuditedOver plan t rest written between after → AuditOver plan t before after
-played_from plan t rest written before between after starts stays sent faults a = record {
-  over = a.over;
-  heard = (a.heard.0, heard_from plan a.heard.0 t between before after faults a.heard.1);
-  programs = λ all e.
-      let s = told_start before.to_come between.to_come rest written all starts e in record {
-        bytes = s.0;
-        others = s.1;
-        first = s.2;
-        left = stays ∙ s.3;
-        whole = λ calm.
-            let m = a.by_link s.0 s.4 s.5 (λ rose. calm (subst (λ n. Rose n after.engine_faults) faults rose)) in record {
-              audit = m.audit;
-              gains = subst (λ x. Collects x after.sent (Some (sent_in plan (lines s.0)))) sent m.gains;
-            };
-      };
-}
+played_from plan t rest written before between after starts stays sent faults a =
+    let counted : Rose between.engine_faults after.engine_faults → Rose before.engine_faults after.engine_faults = λ rose. subst (λ n. Rose n after.engine_faults) faults rose in
+    record {
+      over = a.over;
+      marks = a.marks;
+      sent = a.sent;
+      ends = ends_so plan a.marks a.sent t counted counted a.ends;
+      programs = λ all e.
+          let s = told_start before.to_come between.to_come rest written all starts e in record {
+            bytes = s.0;
+            others = s.1;
+            first = s.2;
+            left = stays ∙ s.3;
+            heard = a.heard s.0 s.4;
+            gains = subst (λ x. Collects x after.sent (Some a.sent)) sent (a.gains s.5);
+            whole = λ calm.
+                let m = a.whole s.0 s.4 s.5 (λ rose. calm (counted rose)) in record {
+                  audit = m.audit;
+                  gains = subst (λ x. Collects x after.sent (Some (sent_in plan (lines s.0)))) sent m.gains;
+                };
+          };
+    }
 
 -- what was written of it
 

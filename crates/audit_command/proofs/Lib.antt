@@ -1,3 +1,4 @@
 pub mod Closing
 pub mod Turning
 pub mod Progress
+mod AuditLaws

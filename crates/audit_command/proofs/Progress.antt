@@ -1,15 +1,12 @@
 -- An audit under way: which lines were read, and which bytes were written.
-use Rattle.std.proofs.Common.{◌≡◌, ℕ, suc, ◌+◌, ◌<◌, ◌≤◌, true, false, cond, Bool, List, [], ◌∷◌, ◌++◌, length, take, None, Some, refl, sym, ◌∙◌, ap, subst, inl, inr, append_assoc, arith}
-use Rattle.std.specs.declared.option.Option.{Option}
+use Rattle.std.proofs.Common.{◌≡◌, ℕ, ◌<◌, true, false, cond, Bool, List, [], ◌∷◌, ◌++◌, length, take, None, Some, refl, sym, ◌∙◌, ap, subst, inl, inr, append_assoc}
 use Rattle.std.specs.Option.{option_map}
-use Rattle.std.specs.declared.result.Result.{Result}
 use Rattle.std.proofs.lemmas.Option.{same_Some}
 use Rattle.std.proofs.lemmas.List.{append-nil}
-use Rattle.std.proofs.Math.Seq.{take-length}
 use Rattle.io_edge.specs.Outside.{Told, Rose, behind}
 use Rattle.io_edge.specs.Lines.{Line as Mark, TooLong, ToldLines, LongAhead, NoneAhead, lines}
 use Rattle.io_edge.proofs.Told.{behind-behind}
-use Rattle.line_feed.specs.Feed.{Reading, fresh}
+use Rattle.line_feed.specs.Feed.{fresh}
 use Rattle.line_feed.specs.Ahead.{ahead_of}
 use Rattle.line_feed.proofs.AheadLemmas.{ahead_begin}
 use Rattle.command_runs.proofs.WrittenLemmas.{behind_none}
@@ -23,7 +20,7 @@ use Rattle.audit_core.specs.Audits.{step, after_all, close, audit_of, sent_over,
 use Rattle.audit_command.specs.Wires.{Wire}
 use Rattle.audit_command.specs.Turns.{Turns}
 use Rattle.audit_command.specs.declared.turns.Turned.TheVariants.{Heard, Long, Ended as NoLine, ReadFault, WriteFault}
-use Rattle.audit_command.specs.Runs.{IsAudit, IsFront, RanOver, unread}
+use Rattle.audit_command.specs.Runs.{RanOver, unread}
 
 -- these lines were read, and the bytes that go before them were written
 pub record Progress (plan : Plan) (s : AuditState) (ahead0 ahead : ToldLines) (w0 w : Told)
@@ -143,10 +140,9 @@ ran_over plan t a w0 w p o = record {
   over = o;
   marks = p.marks;
   first = λ bytes e. let f = first_of plan t a w0.written w.written w0.rest p bytes e in (f.0, f.2);
-  ends = inl (audit-over plan t p.marks [] p.here o ∙ ap (audit_of plan) (all-marks p.marks));
-  sent =
-      let all : sent_over (start plan) p.marks ≡ sent_in plan p.marks = sent-all-over plan t p.marks [] p.here o ∙ ap (sent_in plan) (all-marks p.marks) in
-      (length (sent_in plan p.marks), p.wrote ∙ (ap (behind w0.written) (all ∙ sym (take-length (sent_in plan p.marks)))));
+  sent = sent_in plan p.marks;
+  ends = inl (audit-over plan t p.marks [] p.here o ∙ ap (audit_of plan) (all-marks p.marks), refl);
+  wrote = p.wrote ∙ ap (behind w0.written) (sent-all-over plan t p.marks [] p.here o ∙ ap (sent_in plan) (all-marks p.marks));
   told = λ bytes e calm.
       let f = first_of plan t a w0.written w.written w0.rest p bytes e in
       record {
@@ -196,8 +192,9 @@ ran_out plan s u t a1 a2 w0 w w1 p o (next, none, wrote) e =
       over = broken-over u t Ended e;
       marks = p.marks;
       first = λ bytes f. let x = first_of plan s a1 w0.written w1 w0.rest p bytes f in (x.0, x.2);
-      ends = inl at;
-      sent = (length (sent_in plan p.marks), bytes_sent ∙ ap (behind w0.written) (sym (take-length (sent_in plan p.marks))));
+      sent = sent_in plan p.marks;
+      ends = inl (at, refl);
+      wrote = bytes_sent;
       told = λ bytes f calm.
           let x = first_of plan s a1 w0.written w1 w0.rest p bytes f in
           let same : p.marks ≡ lines bytes = sym (x.2 ∙ (ap (λ (r : List Mark). p.marks ++ r) (nothing_left a1 x.0 none x.1) ∙ all-marks p.marks)) in
@@ -213,24 +210,16 @@ ran_unread plan s u t a1 a2 w0 w w1 p (next, same, wrote) e rose = record {
   over = broken-over u t (unread plan) e;
   marks = p.marks;
   first = λ bytes f. let x = first_of plan s a1 w0.written w1 w0.rest p bytes f in (x.0, x.2);
-  ends = inr (inl (e ∙ (ap (λ (x : AuditState). break_off x (unread plan)) next ∙ ap (λ (x : AuditState). break_off x (unread plan)) p.here), rose));
-  sent = (length (sent_in plan p.marks), sent-last plan s p.marks w0.written w1 w.written p.here p.wrote wrote ∙ ap (behind w0.written) (sym (take-length (sent_in plan p.marks))));
+  sent = sent_in plan p.marks;
+  ends = inr (inl (e ∙ (ap (λ (x : AuditState). break_off x (unread plan)) next ∙ ap (λ (x : AuditState). break_off x (unread plan)) p.here), refl, rose));
+  wrote = sent-last plan s p.marks w0.written w1 w.written p.here p.wrote wrote;
   told = λ bytes f calm. absurd (calm (inl rose));
 }
 
-take-behind : (xs ys : List ℕ) (n : ℕ) → take (length xs + n) (xs ++ ys) ≡ xs ++ take n ys
-take-behind [] ys n = let z : 0 + n ≡ n = omega arith in ap (λ k. take k ys) z
-take-behind (x ∷ xs) ys n = let k : length (x ∷ xs) + n ≡ suc (length xs + n) = omega arith in
-    ap (λ k. take k (x ∷ (xs ++ ys))) k ∙ ap (λ (r : List ℕ). x ∷ r) (take-behind xs ys n)
-
-sent-front : (plan : Plan) (s : AuditState) (marks : List Mark) (w0 w1 w2 : Told) (n : ℕ) → s ≡ after_all (start plan) marks → w1 ≡ behind w0 (sent_over (start plan) marks) → w2 ≡ behind w1 (take n (line_now s)) → (k : ℕ) × (w2 ≡ behind w0 (take k (sent_in plan marks)))
-unfolding sent_in
-sent-front plan s marks w0 w1 w2 n e f g = (
-  length (sent_over (start plan) marks) + n,
-  g ∙ (ap (λ (x : Told). behind x (take n (line_now s))) f ∙ (behind-behind w0 (sent_over (start plan) marks) (take n (line_now s))
-      ∙ (ap (λ (x : AuditState). behind w0 (sent_over (start plan) marks ++ take n (line_now x))) e
-      ∙ ap (behind w0) (sym (take-behind (sent_over (start plan) marks) (line_now (after_all (start plan) marks)) n))))),
-)
+sent-front : (plan : Plan) (s : AuditState) (marks : List Mark) (w0 w1 w2 : Told) (n : ℕ) → s ≡ after_all (start plan) marks → w1 ≡ behind w0 (sent_over (start plan) marks) → w2 ≡ behind w1 (take n (line_now s)) → w2 ≡ behind w0 (sent_over (start plan) marks ++ take n (line_now (after_all (start plan) marks)))
+sent-front plan s marks w0 w1 w2 n e f g =
+    g ∙ (ap (λ (x : Told). behind x (take n (line_now s))) f ∙ (behind-behind w0 (sent_over (start plan) marks) (take n (line_now s))
+    ∙ ap (λ (x : AuditState). behind w0 (sent_over (start plan) marks ++ take n (line_now x))) e))
 
 -- a write failed
 pub ran_unsent : (plan : Plan) (s u t : AuditState) (a1 a2 : ToldLines) (w0 w : Wire) (w1 : Told) → Progress plan s (ahead_of fresh w0.rest) a1 w0.written w1 → Turns WriteFault s u a1 a2 w1 w.written → t ≡ break_off u Broke → Rose w0.writes w.writes → RanOver plan t w0 w
@@ -238,7 +227,12 @@ ran_unsent plan s u t a1 a2 w0 w w1 p (next, same, (n, low, wrote)) e rose = rec
   over = broken-over u t Broke e;
   marks = p.marks;
   first = λ bytes f. let x = first_of plan s a1 w0.written w1 w0.rest p bytes f in (x.0, x.2);
-  ends = inr (inr (e ∙ (ap (λ (x : AuditState). break_off x Broke) next ∙ ap (λ (x : AuditState). break_off x Broke) p.here), rose));
-  sent = sent-front plan s p.marks w0.written w1 w.written n p.here p.wrote wrote;
+  sent = sent_over (start plan) p.marks ++ take n (line_now (after_all (start plan) p.marks));
+  ends = inr (inr (
+    e ∙ (ap (λ (x : AuditState). break_off x Broke) next ∙ ap (λ (x : AuditState). break_off x Broke) p.here),
+    (n, subst (λ (x : AuditState). n < length (line_now x)) p.here low, refl),
+    rose,
+  ));
+  wrote = sent-front plan s p.marks w0.written w1 w.written n p.here p.wrote wrote;
   told = λ bytes f calm. absurd (calm (inr rose));
 }

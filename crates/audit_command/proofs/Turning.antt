@@ -1,14 +1,17 @@
 -- One turn: a line that is read brings the reader nearer to its limit.
-use Rattle.std.proofs.Common.{◌≡◌, ℕ, ◌+◌, ◌-◌, ◌<◌, ◌≤◌, false, cond, List, length, refl, sym, ◌∙◌, ap, subst, arith}
-use Rattle.io_edge.specs.Outside.{Told, HasCause, behind}
-use Rattle.io_edge.specs.Lines.{Line as Mark, Text, TooLong, ToldLines, LongAhead, NoneAhead}
+use Rattle.std.proofs.Common.{◌≡◌, ℕ, ◌-◌, ◌<◌, ◌≤◌, false, cond, List, [], ◌++◌, length, None, Some, sym, ◌∙◌, ap, subst, arith, length-append}
+use Rattle.std.proofs.lemmas.Option.{same_Some}
+use Rattle.io_edge.specs.Outside.{Told, HasCause, behind, in_front}
+use Rattle.io_edge.proofs.Told.{in_front-in_front, in_front-nil}
+use Rattle.io_edge.specs.Lines.{Line as Mark, TooLong, ToldLines, LongAhead, NoneAhead}
 use Rattle.line_feed.specs.Ahead.{ahead_of}
 use Rattle.audit_core.specs.AuditState.{AuditState, at_mark, is_ended, line_now, sent}
 use Rattle.audit_core.specs.Audits.{step}
 use Rattle.audit_command.specs.declared.turns.Turned.{Turned}
 use Rattle.audit_command.specs.declared.turns.Turned.TheVariants.{Heard, Long, Ended, ReadFault, WriteFault, Memory, Full}
 use Rattle.audit_command.specs.Turns.{Hears, Turns}
-use Rattle.line_feed.specs.Feed.{Reading, AddsUp, FeedsShort, Takes, input_limit, pending, settled}
+use Rattle.audit_command.specs.Wires.{HasLimit, TookLimit}
+use Rattle.line_feed.specs.Feed.{Reading, AddsUp, FeedsShort, Takes, input_limit, settled}
 use Rattle.line_feed.specs.declared.line_answers.ShortAnswer.TheVariants.{Line}
 
 less : (a b limit : ℕ) → a < b → b ≤ limit → limit - b < limit - a
@@ -50,3 +53,31 @@ writes_of r mid t old new n0 n1 n2 hears e f = record {
   rose = λ x. absurd (no_write r mid t old new hears x);
   same = λ no. f ∙ e;
 }
+
+-- Which bytes have left the link, and were counted
+
+abbrev pub HasTaken : Told → Told → ℕ → ℕ → Type 0
+HasTaken old new before now = (bytes : List ℕ) × Takes old new before now bytes
+
+pub taken_none : (r : Told) (n : ℕ) → HasTaken r r n n
+taken_none r n = ([], record { left = in_front-nil r; counted = omega arith })
+
+pub taken_more : (r0 r1 r2 : Told) (n0 n1 n2 : ℕ) → HasTaken r0 r1 n0 n1 → HasTaken r1 r2 n1 n2 → HasTaken r0 r2 n0 n2
+taken_more r0 r1 r2 n0 n1 n2 (a, p) (b, q) =
+    let before = p.counted in let after = q.counted in (
+      a ++ b,
+      record {
+        left = p.left ∙ (ap (in_front a) q.left ∙ in_front-in_front a b r2);
+        counted = omega (arith, before, after, length-append a b);
+      },
+    )
+
+-- the reader is full
+pub took_limit : (r0 r1 : Told) (n : ℕ) → HasTaken r0 r1 0 n → n ≡ input_limit → TookLimit r0 r1
+took_limit r0 r1 n (bytes, t) full = let all = t.counted in (bytes, t.left, omega (arith, all, full))
+
+pub has_limit : (r0 r1 : Told) → TookLimit r0 r1 → HasLimit r0
+has_limit r0 None (bytes, left, many) = λ all e. absurd (cc)
+has_limit r0 (Some more) (bytes, left, many) = λ all e.
+    let same : bytes ++ more ≡ all = same_Some _ _ (sym left ∙ e) in
+    subst (λ (x : List ℕ). input_limit ≤ length x) same (omega (arith, many, length-append bytes more))

@@ -1,16 +1,16 @@
 -- What the audit of a program writes, plays, sends and counts, by the status with which it ends.
-use Rattle.std.specs.Prelude.{◌≡◌, ◌⊎◌, ℕ, ◌+◌, ◌<◌, true, List, [], ◌∷◌, length, take, Some, ◌==◌, if◌then◌else◌}
-use Rattle.io_edge.specs.Outside.{Told, ToldLists, Collects, HasCause, Rose, behind, with_last}
+use Rattle.std.specs.Prelude.{◌≡◌, ◌⊎◌, ℕ, ◌+◌, ◌<◌, ◌≤◌, true, List, [], ◌∷◌, length, take, Some, ◌==◌, if◌then◌else◌}
+use Rattle.io_edge.specs.Outside.{Told, Collects, HasCause, Rose, behind, with_last}
 use Rattle.io_edge.specs.Starts.{Engines}
 use Rattle.io_edge.specs.Lines.{Line as Mark, lines}
+use Rattle.line_feed.specs.Feed.{input_limit}
 use Rattle.command_runs.specs.World.{World}
 use Rattle.command_runs.specs.declared.status.Status.{Status}
 use Rattle.command_runs.specs.declared.status.Status.TheVariants.{Done, Refused, Usage, ReadFault, WriteFault, SpawnFault, BadInput, Memory, InputFull}
 use Rattle.audit_core.specs.declared.plan.Plan.{Plan}
-use Rattle.audit_core.specs.declared.findings.Fault.TheVariants.{Broke}
 use Rattle.audit_core.specs.AuditState.{AuditState, is_ended}
 use Rattle.audit_core.specs.Audits.{audit_of, sent_in}
-use Rattle.audit_command.specs.Runs.{broken_off, unread}
+use Rattle.audit_command.specs.Runs.{Ends, IsFront}
 
 -- What was played
 
@@ -20,31 +20,30 @@ pub record IsWhole (plan : Plan) (bytes : List ℕ) (t : AuditState) (before aft
   pub audit : t ≡ audit_of plan (lines bytes)
   pub gains : Collects before.sent after.sent (Some (sent_in plan (lines bytes)))
 
--- the audit is that of these lines; or behind them a read failed, or a write, which is told as
--- broke, and the failure was counted
-abbrev pub Hears : Plan → List Mark → AuditState → Engines → Engines → Type 0
-Hears plan marks t before after =
-    (t ≡ audit_of plan marks)
-    ⊎ (((t ≡ broken_off plan marks (unread plan)) ⊎ (t ≡ broken_off plan marks Broke))
-    × Rose before.engine_faults after.engine_faults)
-
--- of the programs to come the first one was started, and no other; where no failure of it was
--- counted, its audit is whole
-pub record StartsOneOf
-    (all : List (List ℕ)) (plan : Plan) (t : AuditState) (before after : Engines) : Type 0 where
+-- Of the programs to come the first one was started, and no other. These lines are first ones of
+-- what it says, and it got these bytes; where no failure of it was counted, its audit is whole.
+pub record StartsOneOf (all : List (List ℕ)) (plan : Plan) (marks : List Mark) (sent : List ℕ)
+    (t : AuditState) (before after : Engines) : Type 0 where
   pub bytes : List ℕ
   pub others : List (List ℕ)
   pub first : all ≡ bytes ∷ others
   pub left : after.to_come ≡ Some others
+  pub heard : IsFront marks (lines bytes)
+  pub gains : Collects before.sent after.sent (Some sent)
   pub whole : ¬ Rose before.engine_faults after.engine_faults
       → IsWhole plan bytes t before after
 
--- an audit came to its end, and stands so, by some lines; and what its program says tells which
+-- An audit came to its end, and stands so, by these lines, for which these bytes were sent: it is
+-- theirs, or a call of the link failed behind them, and the failure was counted. What its program
+-- says tells which.
 pub record AuditOver (plan : Plan) (t : AuditState) (before after : Engines) : Type 0 where
   pub over : is_ended t.stage ≡ true
-  pub heard : (marks : List Mark) × Hears plan marks t before after
+  pub marks : List Mark
+  pub sent : List ℕ
+  pub ends : Ends plan marks sent t (Rose before.engine_faults after.engine_faults)
+      (Rose before.engine_faults after.engine_faults)
   pub programs : (all : List (List ℕ)) → before.to_come ≡ Some all
-      → StartsOneOf all plan t before after
+      → StartsOneOf all plan marks sent t before after
 
 -- The run
 
@@ -64,6 +63,21 @@ pub record NotBegun (before after : World) : Type 0 where
   pub written : after.sides.written ≡ before.sides.written
   pub unsent : after.engines.sent ≡ before.engines.sent
 
+-- of the programs to come the first one was started, and no other, and it says as many bytes as are
+-- read, or more
+pub record StartsLongOf (all : List (List ℕ)) (after : Engines) : Type 0 where
+  pub bytes : List ℕ
+  pub others : List (List ℕ)
+  pub first : all ≡ bytes ∷ others
+  pub left : after.to_come ≡ Some others
+  pub full : input_limit ≤ length bytes
+
+-- the program has written as many bytes as are read, and nothing was written
+pub record IsFull (before after : World) : Type 0 where
+  pub written : after.sides.written ≡ before.sides.written
+  pub programs : (all : List (List ℕ)) → before.engines.to_come ≡ Some all
+      → StartsLongOf all after.engines
+
 -- What was written and played where an audit ends with this status: `Done` says that there is no
 -- finding, and `Refused` that there are some. Where memory is wanting, or the program has written
 -- as many bytes as are read, nothing was written. Three statuses are not its own.
@@ -75,7 +89,7 @@ AuditRun plan Refused before after =
 AuditRun plan WriteFault before after = (t : AuditState) × (n : ℕ) × TellsPart plan t n before after
 AuditRun plan SpawnFault before after = NotBegun before after
 AuditRun plan Memory before after = after.sides.written ≡ before.sides.written
-AuditRun plan InputFull before after = after.sides.written ≡ before.sides.written
+AuditRun plan InputFull before after = IsFull before after
 AuditRun plan Usage before after = ⊥
 AuditRun plan ReadFault before after = ⊥
 AuditRun plan BadInput before after = ⊥
@@ -127,8 +141,13 @@ pub record EndsAudit
 pub record AuditedOver (plan : Plan) (t : AuditState) (rest written : Told) (before after : Engines)
     : Type 0 where
   pub over : is_ended t.stage ≡ true
-  pub heard : (marks : List Mark) × Hears plan marks t before after
-  pub by_link : (bytes : List ℕ) → rest ≡ Some bytes → written ≡ Some []
+  pub marks : List Mark
+  pub sent : List ℕ
+  pub ends : Ends plan marks sent t (Rose before.engine_faults after.engine_faults)
+      (Rose before.engine_faults after.engine_faults)
+  pub heard : (bytes : List ℕ) → rest ≡ Some bytes → IsFront marks (lines bytes)
+  pub gains : written ≡ Some [] → Collects before.sent after.sent (Some sent)
+  pub whole : (bytes : List ℕ) → rest ≡ Some bytes → written ≡ Some []
       → ¬ Rose before.engine_faults after.engine_faults
       → IsWhole plan bytes t before after
 

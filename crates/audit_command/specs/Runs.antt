@@ -1,12 +1,12 @@
 -- What a whole audit over a link has done.
-use Rattle.std.specs.Prelude.{◌≡◌, ◌⊎◌, ℕ, true, List, ◌++◌, take, Some, if◌then◌else◌}
+use Rattle.std.specs.Prelude.{◌≡◌, ◌⊎◌, ℕ, ◌<◌, true, List, ◌++◌, length, take, Some, if◌then◌else◌}
 use Rattle.io_edge.specs.Outside.{Told, Rose, behind}
 use Rattle.io_edge.specs.Lines.{Line as Mark, lines}
 use Rattle.audit_core.specs.declared.plan.Plan.{Plan}
 use Rattle.audit_core.specs.declared.findings.Fault.{Fault}
 use Rattle.audit_core.specs.declared.findings.Fault.TheVariants.{Late, Broke}
-use Rattle.audit_core.specs.AuditState.{AuditState, start, is_ended, break_off}
-use Rattle.audit_core.specs.Audits.{after_all, audit_of, sent_in}
+use Rattle.audit_core.specs.AuditState.{AuditState, start, is_ended, break_off, line_now}
+use Rattle.audit_core.specs.Audits.{after_all, audit_of, sent_over, sent_in}
 use Rattle.audit_command.specs.Wires.{HasFailed, Wire}
 
 -- a list goes on from its front
@@ -27,23 +27,32 @@ unread plan = if plan.patient then Late else Broke
 abbrev pub broken_off : Plan → List Mark → Fault → AuditState
 broken_off plan marks fault = break_off (after_all (start plan) marks) fault
 
--- the audit is that of an engine that says just these lines; or behind them a read failed, which is
--- told as late or as broke, or a write, which is told as broke
-abbrev pub Ends : Plan → List Mark → AuditState → Wire → Wire → Type 0
-Ends plan marks t w0 w =
-    (t ≡ audit_of plan marks)
-    ⊎ (((t ≡ broken_off plan marks (unread plan)) × Rose w0.reads w.reads)
-    ⊎ ((t ≡ broken_off plan marks Broke) × Rose w0.writes w.writes))
+-- Of what is sent for these lines just so much was sent: all that goes before the line that waits
+-- behind them, and of this line a front and not all.
+abbrev pub IsCutOff : Plan → List Mark → List ℕ → Type 0
+IsCutOff plan marks bytes =
+    (n : ℕ) × (n < length (line_now (after_all (start plan) marks)))
+    × (bytes ≡ sent_over (start plan) marks ++ take n (line_now (after_all (start plan) marks)))
+
+-- How an audit ends of whose engine these lines were read, and which bytes were sent for them. It
+-- is that of an engine that says just these lines, and all was sent; or behind them a read failed,
+-- which is told as late or as broke, and all was sent; or a write failed, which is told as broke.
+abbrev pub Ends : Plan → List Mark → List ℕ → AuditState → Type 0 → Type 0 → Type 0
+Ends plan marks bytes t read_failed write_failed =
+    ((t ≡ audit_of plan marks) × (bytes ≡ sent_in plan marks))
+    ⊎ (((t ≡ broken_off plan marks (unread plan)) × (bytes ≡ sent_in plan marks) × read_failed)
+    ⊎ ((t ≡ broken_off plan marks Broke) × IsCutOff plan marks bytes × write_failed))
 
 -- An audit over a link came to its end. Of the engine's lines the first ones, these, were read, and
--- the audit is that of an engine that says just these lines; or a call of the link failed behind
--- them. Of the bytes that are sent for these lines a front was written. Where the link tells its
--- bytes and no call failed, audit and bytes are those of all its lines.
+-- these bytes were sent for them: the audit is that of an engine that says just these lines, or a
+-- call of the link failed behind them. Where the link tells its bytes and no call failed, audit and
+-- bytes are those of all its lines.
 pub record RanOver (plan : Plan) (t : AuditState) (w0 w : Wire) : Type 0 where
   pub over : is_ended t.stage ≡ true
   pub marks : List Mark
   pub first : (bytes : List ℕ) → w0.rest ≡ Some bytes → IsFront marks (lines bytes)
-  pub ends : Ends plan marks t w0 w
-  pub sent : (n : ℕ) × (w.written ≡ behind w0.written (take n (sent_in plan marks)))
+  pub sent : List ℕ
+  pub ends : Ends plan marks sent t (Rose w0.reads w.reads) (Rose w0.writes w.writes)
+  pub wrote : w.written ≡ behind w0.written sent
   pub told : (bytes : List ℕ) → w0.rest ≡ Some bytes → ¬ HasFailed w0 w
       → IsAudit plan (lines bytes) t w0.written w.written

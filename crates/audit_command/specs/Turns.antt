@@ -1,5 +1,5 @@
 -- One turn of an audit over a link: the line that waits is sent, and a line is read.
-use Rattle.std.specs.Prelude.{◌≡◌, ℕ, List, ◌∷◌, length, take, ◌<◌}
+use Rattle.std.specs.Prelude.{◌≡◌, ℕ, ◌∷◌, length, take, ◌<◌}
 use Rattle.std.specs.Option.{option_map}
 use Rattle.io_edge.specs.Outside.{Told, behind}
 use Rattle.io_edge.specs.Lines.{Line as Mark, TooLong, ToldLines, LongAhead, NoneAhead}

@@ -1,9 +1,20 @@
 //! The command: the program is started, audited and closed, and the text is written.
-ghost use Rattle.std.specs.Prelude.{◌≡◌, ◌≢◌, ◌+◌, ◌<◌, length, map, string_bytes, IfOk};
+ghost use Rattle.std.specs.Prelude.{
+  ◌≡◌,
+  ◌≢◌,
+  ◌+◌,
+  ◌<◌,
+  length,
+  map,
+  string_bytes,
+  Err,
+  IfOk,
+};
 ghost use Rattle.io_edge.specs.Outside.{Collects, HasCause, Told};
 ghost use Rattle.command_runs.specs.Answered.{WritesAs};
 ghost use Rattle.command_runs.specs.World.{Times, sides, world};
 ghost use Rattle.audit_core.specs.Keeps.{IsPlan};
+ghost use Rattle.audit_command.specs.Wires.{HasLimit};
 ghost use Rattle.audit_command.specs.Audit.{
   AuditRun,
   AuditStarts,
@@ -43,6 +54,7 @@ fn audit_and_close<P: Spawner, G: Game + Drop>(
     requires fresh { (P.Engine.read_faults engine ≡ 0) × (P.Engine.write_faults engine ≡ 0) }
     ensures audited { IfOk result (λ a. AuditedOver plan a (P.Engine.rest engine)
         (P.Engine.written engine) (P.engines spawner.old) (P.engines spawner.new)) }
+    ensures full { result ≡ Err Halt.Full → HasLimit (P.Engine.rest engine) }
     ensures closes { (w : Told)
         × Collects (P.engines spawner.old).sent (P.engines spawner.new).sent w }
     ensures none_started { StartsNone (P.engines spawner.old) (P.engines spawner.new) }

@@ -1,8 +1,8 @@
 //! The run of an audit.
-ghost use Rattle.std.specs.Prelude.{◌≡◌, IfOk};
+ghost use Rattle.std.specs.Prelude.{◌≡◌, ◌≢◌, Err, IfOk};
 ghost use Rattle.audit_core.specs.AuditState.{break_off};
 ghost use Rattle.audit_core.specs.Keeps.{IsPlan};
-ghost use Rattle.audit_command.specs.Wires.{wire};
+ghost use Rattle.audit_command.specs.Wires.{TookLimit, wire};
 ghost use Rattle.audit_command.specs.Runs.{RanOver, unread};
 
 use crate::turns::{Turned, turn};
@@ -22,6 +22,10 @@ pub enum Halt {
 }
 
 impl From<AllocError> for Halt {
+    ghost use Rattle.audit_command.specs.declared.run.Halt.TheVariants.{Memory};
+
+    ghost from_gives = { λ _ halt. halt ≡ Memory };
+
     fn from(_fault: AllocError) -> Halt {
         Halt::Memory
     }
@@ -29,7 +33,8 @@ impl From<AllocError> for Halt {
 
 /// The auditor, where there is memory for what it writes last.
 fn broken<G: Game + Drop>(mut auditor: Auditor<G>, fault: Fault) -> Result<Auditor<G>, Halt>
-    ensures { IfOk result (λ a. a ≡ break_off auditor fault) }
+    ensures over { IfOk result (λ a. a ≡ break_off auditor fault) }
+    ensures memory { result ≢ Err Halt.Full }
 {
     match auditor.break_off(fault) {
         Ok(()) => Ok(auditor),
@@ -65,11 +70,12 @@ pub fn run_audit<L: Link, G: Game + Drop>(
     plan: Plan,
 ) -> Result<Auditor<G>, Halt>
     requires { IsPlan plan }
-    ensures { IfOk result (λ a. RanOver plan a
+    ensures over { IfOk result (λ a. RanOver plan a
         (wire (L.rest link.old) (L.written link.old)
         (L.read_faults link.old) (L.write_faults link.old))
         (wire (L.rest link.new) (L.written link.new)
         (L.read_faults link.new) (L.write_faults link.new))) }
+    ensures full { result ≡ Err Halt.Full → TookLimit (L.rest link.old) (L.rest link.new) }
 {
     let mut auditor = Auditor::new(alloc, plan)?;
     let mut reader = LineReader::new(alloc)?;

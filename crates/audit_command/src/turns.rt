@@ -1,7 +1,7 @@
 //! One turn of an audit.
-ghost use Rattle.std.specs.Prelude.{◌≡◌, ◌-◌, ◌<◌, false};
+ghost use Rattle.std.specs.Prelude.{◌≡◌, ◌-◌, ◌<◌, ℕ, List, false};
 ghost use Rattle.io_edge.specs.Outside.{HasCause};
-ghost use Rattle.line_feed.specs.Feed.{input_limit, settled};
+ghost use Rattle.line_feed.specs.Feed.{Takes, input_limit, settled};
 ghost use Rattle.line_feed.specs.Ahead.{ahead_of};
 ghost use Rattle.audit_core.specs.AuditState.{is_ended};
 ghost use Rattle.audit_command.specs.Turns.{Sends, Hears, Turns};
@@ -74,6 +74,9 @@ fn listen<L: Link, G: Game + Drop>(
         (ahead_of reader.new (L.rest link.new)) }
     ensures falls { result ≡ Turned.Heard
         → input_limit - settled reader.new < input_limit - settled reader.old }
+    ensures takes { (bytes : List ℕ) × Takes (L.rest link.old) (L.rest link.new)
+        reader.old.taken reader.new.taken bytes }
+    ensures full { result ≡ Turned.Full → reader.new.taken ≡ input_limit }
     ensures written { L.written link.new ≡ L.written link.old }
     ensures writes { L.write_faults link.new ≡ L.write_faults link.old }
     ensures cause { HasCause (result ≡ Turned.ReadFault) (L.read_faults link.old)
@@ -105,6 +108,9 @@ pub(crate) fn turn<L: Link, G: Game + Drop>(
         (ahead_of reader.new (L.rest link.new)) (L.written link.old) (L.written link.new) }
     ensures falls { result ≡ Turned.Heard
         → input_limit - settled reader.new < input_limit - settled reader.old }
+    ensures takes { (bytes : List ℕ) × Takes (L.rest link.old) (L.rest link.new)
+        reader.old.taken reader.new.taken bytes }
+    ensures full { result ≡ Turned.Full → reader.new.taken ≡ input_limit }
     ensures reads { HasCause (result ≡ Turned.ReadFault) (L.read_faults link.old)
         (L.read_faults link.new) }
     ensures writes { HasCause (result ≡ Turned.WriteFault) (L.write_faults link.old)

@@ -4,3 +4,5 @@ pub mod Picks
 pub mod Replies
 pub mod Closing
 mod Forward
+mod TriedTexts
+mod Tried

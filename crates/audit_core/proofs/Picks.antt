@@ -48,5 +48,11 @@ drawn_near keeps w ms P near =
     let pool : List Move = filter keeps ms in
     some_map (drawn w pool) (λ m. IsOn pool m) P (λ m on. near m (on_filter keeps ms m on).0) (some_on pool (w % length pool) (drawn w pool) refl)
 
+-- and it is one that was kept
+pub drawn_kept : (keeps : Move → Bool) (w : ℕ) (ms : List Move) → IfSome (drawn w (filter keeps ms)) (λ m. IsOn ms m × (keeps m ≡ true))
+drawn_kept keeps w ms =
+    let pool : List Move = filter keeps ms in
+    some_map (drawn w pool) (λ m. IsOn pool m) (λ m. IsOn ms m × (keeps m ≡ true)) (λ m on. on_filter keeps ms m on) (some_on pool (w % length pool) (drawn w pool) refl)
+
 pub same_drawn : (o : Option Move) (siege : Bool) (state : ℕ) (p : Position) → o ≡ drawn_of siege state p → IfSome o (λ m. IsOn (moves p) m)
 same_drawn o siege state p e = subst (λ o. IfSome o (λ m. IsOn (moves p) m)) (sym e) (drawn_legal siege state p)

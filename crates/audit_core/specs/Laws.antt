@@ -2,16 +2,20 @@
 use Rattle.std.specs.Prelude.{◌≡◌, ◌↔◌, ℕ, ◌-◌, ◌≤◌, Bool, true, false, List, [], ◌∷◌, ◌++◌, length, take, None}
 use Rattle.hive_model.specs.declared.pieces.GameType.{GameType}
 use Rattle.hive_model.specs.declared.places.Move.{Move}
+use Rattle.hive_model.specs.Lists.{IsOn}
 use Rattle.hive_model.specs.Boards.{Stacks}
 use Rattle.hive_model.specs.Positions.{Position}
+use Rattle.hive_model.specs.Legal.{moves}
+use Rattle.hive_model.specs.Denotes.{Denotes, text}
 use Rattle.io_edge.specs.Lines.{Line as Mark, Text, TooLong, greatest_line}
 use Rattle.audit_core.specs.declared.plan.Plan.{Plan}
 use Rattle.audit_core.specs.declared.plan.Stage.{Stage}
 use Rattle.audit_core.specs.declared.plan.Stage.TheVariants.{Greeting, Beginning, Listing, Playing, Undoing, Reviewing, Trying, Relisting, Loading, Finishing, Over}
 use Rattle.audit_core.specs.Judging.{wrong_list, wrong_refusal, wrong_string, ListsMoves, TellsGame}
 use Rattle.audit_core.specs.Texts.{is_ok, is_refusal}
-use Rattle.audit_core.specs.AuditState.{AuditState, start, position_now, is_ended, reply_with}
-use Rattle.audit_core.specs.Audits.{step, audit_of}
+use Rattle.audit_core.specs.Keeps.{IsPlan}
+use Rattle.audit_core.specs.AuditState.{AuditState, start, position_before, position_now, is_ended, reply_with}
+use Rattle.audit_core.specs.Audits.{after_all, step, audit_of}
 
 -- nothing is wrong with a list exactly where it lists the legal moves, with a string exactly where
 -- it is that of the game, and with the reply to a move that is not legal where it is a refusal
@@ -64,3 +68,19 @@ abbrev pub AuditsFindFaults : Type 0
 AuditsFindFaults =
     (plan : Plan) (marks : List Mark) →
     ((audit_of plan marks).findings ≡ 0) ↔ AreRight (start plan) marks
+
+-- A move that is tried was legal two plies before, and is not legal now. The text that is sent for
+-- it denotes no legal move.
+pub record TriesIllegal (s : AuditState) (m : Move) : Type 0 where
+  pub was_legal : IsOn (moves (position_before s)) m
+  pub not_legal : ¬ IsOn (moves (position_now s)) m
+  pub denotes_none : (n : Move)
+      → Denotes s.game_type (position_now s).board (text (position_now s).board m) n
+      → ¬ IsOn (moves (position_now s)) n
+
+-- so it is wherever an audit tries a move
+abbrev pub TriedAreIllegal : Type 0
+TriedAreIllegal =
+    (plan : Plan) (marks : List Mark) (m : Move) → IsPlan plan
+    → (after_all (start plan) marks).stage ≡ Trying m
+    → TriesIllegal (after_all (start plan) marks) m

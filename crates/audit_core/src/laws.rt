@@ -1,5 +1,5 @@
 //! What holds of every audit, as the contract of a function that does nothing.
-ghost use Rattle.audit_core.specs.Laws.{AuditsFindFaults, RepliesAreJudged};
+ghost use Rattle.audit_core.specs.Laws.{AuditsFindFaults, RepliesAreJudged, TriedAreIllegal};
 
 /// Nothing is wrong with a list exactly where it lists the legal moves of its position, each once
 /// and no other; with a string exactly where it is read as the game; and with the reply to a move
@@ -13,4 +13,10 @@ pub fn replies_are_judged()
 /// a move that is not legal.
 pub fn audits_find_faults()
     ensures { AuditsFindFaults }
+{}
+
+/// Each move that an audit tries was legal two plies before, where the same side was to move, and
+/// is not legal now; and the text that is sent for it denotes no legal move.
+pub fn tried_moves_are_illegal()
+    ensures { TriedAreIllegal }
 {}

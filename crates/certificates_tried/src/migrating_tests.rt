@@ -106,3 +106,17 @@ fn a_failed_call_ends_a_migration(rt: HostRuntime) -> Result<(), Fail> {
     }
     Ok(())
 }
+
+#[test]
+fn a_text_that_is_decided_is_read_no_further(rt: HostRuntime) -> Result<(), Fail> {
+    for (input, status, written) in [
+        REFUSED[1], REFUSED[2], REFUSED[3], REFUSED[4], REFUSED[6], REFUSED[7],
+    ] {
+        let setting = MemSetting::of(input.as_bytes()).failing(2, 0);
+        expect_run(&rt, rt.alloc(), Asked::Migrate, setting, status, written)?;
+    }
+    let (missing, _, _) = REFUSED[5];
+    let setting = MemSetting::of(missing.as_bytes()).failing(2, 0);
+    expect_run(&rt, rt.alloc(), Asked::Migrate, setting, ReadFault, "")?;
+    Ok(())
+}

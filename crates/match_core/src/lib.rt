@@ -12,7 +12,7 @@ mod verdict;
 
 pub use laws::{
     matches_are_fair, matches_are_judged, matches_are_of_their_lines, matches_begin, matches_end,
-    matches_near_their_end, plain_matches_ask,
+    matches_near_their_end, matches_tell_lates, plain_matches_ask,
 };
 pub use line_text::copy_line;
 pub use referee::Referee;

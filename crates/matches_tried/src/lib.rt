@@ -1,7 +1,9 @@
-//! Matches, cups and tournaments, tried: the public calls of their crates over texts, links, clocks
-//! and programs in memory.
+//! Matches, cups, tournaments and audits, tried: the public calls of their crates over texts,
+//! links, clocks and programs in memory.
 #![tactic(auto)]
 
+#[cfg(test)]
+mod audit_command_tests;
 #[cfg(test)]
 mod cup_command_tests;
 #[cfg(test)]

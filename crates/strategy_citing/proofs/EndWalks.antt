@@ -4,11 +4,12 @@ use Rattle.strategy_walks.specs.Walks.{WalkEnd, go_on, finish}
 use Rattle.strategy_walks.specs.Follows.{Shown, Meets}
 use Rattle.strategy_walks.specs.Items.{ToldItems}
 use Rattle.strategy_walks.specs.Parts.{ending_of}
-use Rattle.strategy_walks.specs.Answers.{CountsBad, ended, ending}
+use Rattle.strategy_walks.specs.Answers.{CountsBad, StopsUnread, ended, ending}
 use Rattle.strategy_walks.specs.Ends.{IsWhole}
-use Rattle.strategy_walks.proofs.ItemLaws.{bad-as}
-use Rattle.strategy_walks.proofs.EndLaws.{Tells, ends-left, whole-answers, whole-counts}
+use Rattle.strategy_walks.proofs.ItemLaws.{bad-as, unread-as}
+use Rattle.strategy_walks.proofs.EndLaws.{Tells, ends-left, whole-answers, whole-counts, whole-unread}
 use Rattle.strategy_walks.specs.declared.walker.Walked.{Walked}
+use Rattle.strategy_walks.specs.declared.walk_answers.Halt.{Halt as AnyHalt}
 use Rattle.strategy_walks.specs.declared.walk_answers.Halt.TheVariants.{Bad, Failed, Full}
 use Rattle.strategy_walks.specs.declared.walk_answers.Stop.{Stop}
 use Rattle.strategy_walks.specs.declared.walk_answers.WalkAnswer.{WalkAnswer}
@@ -17,6 +18,7 @@ use Rattle.strategy_walks.specs.declared.walk_answers.Checked.{Checked}
 use Rattle.strategy_walks.specs.declared.walk_answers.Checked.TheVariants.{Accepted, Refused, Halted}
 use Rattle.strategy_check.specs.declared.why.Why.{Why}
 use Rattle.strategy_check.specs.declared.why.Why.TheVariants.{Rest}
+use Rattle.strategy_check.specs.Checks.{index_faults}
 use Rattle.strategy_lemmas.specs.Short.{ShortSteps, short_rules}
 use Rattle.strategy_citing.specs.declared.draft.Draft.{Draft}
 use Rattle.strategy_citing.specs.Shortening.{ShortSeen, short_seen, short_sight}
@@ -56,3 +58,8 @@ module _ (told : ToldItems ℕ) (d : Draft) where
     certificate-counts before after count stands =
         bad-as whole_walk (go_on o (finish short_rules)) answer after same
         (whole-counts short_rules short_sight told d.taken (short_seen told d) seen-tells Rest walked answer o before after ends-so whole count stands)
+
+    pub certificate-unread : (before after : ℕ) → before ≡ ended walked d.taken → ((halt : AnyHalt) → answer ≡ Halted halt → after ≡ before) → StopsUnread index_faults whole_walk answer after
+    certificate-unread before after count stands =
+        unread-as index_faults whole_walk (go_on o (finish short_rules)) answer after same
+        (whole-unread short_rules short_sight told d.taken (short_seen told d) seen-tells index_faults (λ q h. h) refl Rest walked answer o before after ends-so whole count stands)

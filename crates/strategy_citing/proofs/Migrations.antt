@@ -9,11 +9,11 @@ use Rattle.strategy_walks.specs.declared.walk_answers.Halt.{Halt as AnyHalt}
 use Rattle.strategy_walks.specs.declared.walk_answers.Halt.TheVariants.{Bad, Failed, Full}
 use Rattle.strategy_walks.specs.declared.walk_answers.Checked.{Checked}
 use Rattle.strategy_walks.specs.declared.walk_answers.Checked.TheVariants.{Accepted, Refused as CheckRefused, Halted as CheckHalted}
-use Rattle.strategy_walks.specs.Answers.{CountsBad}
-use Rattle.strategy_walks.specs.Ends.{ChecksItems}
+use Rattle.strategy_walks.specs.Answers.{CountsBad, CountsUnread, StopsUnread}
+use Rattle.strategy_walks.specs.Ends.{ChecksItems, EndsUnread}
 use Rattle.strategy_walks.specs.Items.{Supply}
 use Rattle.strategy_check.specs.Checks.{index_faults}
-use Rattle.strategy_check.specs.Trace.{checked}
+use Rattle.strategy_check.specs.Trace.{Steps, checked}
 use Rattle.strategy_check.proofs.TakenLaws.{accepted-indices}
 use Rattle.strategy_lemmas.specs.Short.{ShortSteps, short, shortened, of_indices, written_by}
 use Rattle.strategy_lemmas.proofs.OutcomeLaws.{ends-as}
@@ -80,3 +80,26 @@ module _ (p : Position) (d : ℕ) (m : Move) (v : ℤ) where
         known = h.known;
         met = h.met;
       })
+
+  counts-is : (o : WalkEnd ShortSteps Why) (count : ℕ) → CountsUnread index_faults o count → CountsUnread index_faults (of_indices o) count
+  counts-is (Left s) count h = tt
+  counts-is (Fault why n) count h = h
+  counts-is (Halt n) count h = h
+
+  looks-is : (items : List (Option ℕ)) (count : ℕ) → CountsUnread index_faults (shortened p d m v items) count → CountsUnread index_faults (checked p d m v items) count
+  looks-is items count h = subst (λ (o : WalkEnd Steps Why). CountsUnread index_faults o count) (ends-as p d m v items) (counts-is (shortened p d m v items) count h)
+
+  unread-is : (items : List (Option ℕ)) (answer : Checked Why) (count : ℕ) → StopsUnread index_faults (shortened p d m v items) answer count → StopsUnread index_faults (checked p d m v items) answer count
+  unread-is items Accepted count h = tt
+  unread-is items (CheckRefused place why) count h = tt
+  unread-is items (CheckHalted Bad) count h = tt
+  unread-is items (CheckHalted Failed) count h = looks-is items count h
+  unread-is items (CheckHalted Full) count h = looks-is items count h
+
+  unread-told : (answer : Option (Checked Why)) (a b : Supply ℕ) → IfSome answer (λ c. EndsUnread index_faults (shortened p d m v) c a b) → IfSome answer (λ c. EndsUnread index_faults (checked p d m v) c a b)
+  unread-told None a b h = h
+  unread-told (Some answer) a b h = λ items e none. unread-is items answer b.count (h items e none)
+
+  -- where they could not be read on, what was taken away does not end the check
+  pub unread-are : (answer other : Option (Checked Why)) (a b : Supply ℕ) → other ≡ answer → IfSome answer (λ c. EndsUnread index_faults (shortened p d m v) c a b) → IfSome other (λ c. EndsUnread index_faults (checked p d m v) c a b)
+  unread-are answer other a b is h = subst (λ (x : Option (Checked Why)). IfSome x (λ c. EndsUnread index_faults (checked p d m v) c a b)) (sym is) (unread-told answer a b h)

@@ -1,9 +1,14 @@
 -- What the code of a walk that writes tokens finds at a node, and what its answers say.
-use Rattle.std.proofs.Common.{◌≡◌, ℕ, ◌+◌, Bool, true, false, List, [], ◌∷◌, ◌++◌, refl, sym, ap, subst, ◌∙◌, ℤ, Option, Some, None}
-use Rattle.std.specs.Bool.{OnTrue}
+use Rattle.std.proofs.Common.{◌≡◌, ℕ, zero, suc, ◌+◌, ◌<◌, Bool, true, false, List, [], ◌∷◌, ◌++◌, refl, sym, ap, subst, ◌∙◌, ℤ, neg_ℤ, Option, Some, None, arith}
+use Rattle.std.specs.List.{slice_get}
+use Rattle.std.specs.Bool.{OnFalse, OnTrue}
+use Rattle.hive_model.specs.declared.places.Move.{Move}
 use Rattle.hive_model.specs.Positions.{Position}
+use Rattle.hive_model.specs.Games.{after as later}
 use Rattle.hive_model.specs.Keys.{KeyParts, key}
-use Rattle.strategy_walks.specs.declared.limit.Limit.TheVariants.{AtLeast}
+use Rattle.hive_model.specs.Legal.{moves}
+use Rattle.hive_model.specs.Minimax.{IsInner}
+use Rattle.strategy_walks.specs.declared.limit.Limit.TheVariants.{AtLeast, AtMost}
 use Rattle.strategy_walks.specs.declared.walker.Walked.{Walked}
 use Rattle.strategy_walks.specs.declared.walker.Walked.TheVariants.{Done as AllDone, LeafFails as ALeafFails, BadIndex as ABadIndex, Stops}
 use Rattle.strategy_walks.specs.declared.walker.Took.{Took}
@@ -13,17 +18,20 @@ use Rattle.strategy_walks.specs.declared.walk_answers.WalkAnswer.{WalkAnswer}
 use Rattle.strategy_walks.specs.declared.walk_answers.WalkAnswer.TheVariants.{Done, Refuses, Halts}
 use Rattle.strategy_walks.specs.declared.items.ItemAnswer.TheVariants.{Item, End, Bad as BadAnswer}
 use Rattle.strategy_walks.specs.Items.{ToldItems, Takes}
-use Rattle.strategy_walks.specs.Walks.{WalkEnd, Step, Below, Ends}
-use Rattle.strategy_walks.specs.Follows.{held, Ending, Refused as RefusedFor, BadItem, Meets, Follows}
+use Rattle.strategy_walks.specs.Walks.{WalkEnd, Left, Step, Below, Ends, go_on, walk_at, walk_step}
+use Rattle.strategy_walks.specs.Follows.{held, Ending, Refused as RefusedFor, BadItem, Unread, Meets, Follows, Carries}
 use Rattle.strategy_walks.specs.Parts.{IsPart, IsFoundBy, EndsHere, Finds, ending_of}
-use Rattle.strategy_walks.specs.Answers.{ending}
+use Rattle.strategy_walks.specs.Answers.{ending, looked}
 use Rattle.strategy_walks.specs.Taking.{Moment, Taking, taking_parts}
+use Rattle.strategy_walks.proofs.CarryLaws.{then-carries, walk-carries}
+use Rattle.strategy_walks.proofs.WalkLaws.{walk-suc}
 use Rattle.strategy_walks.proofs.NodeLaws.{ends-here}
 use Rattle.strategy_walks.proofs.ItemLaws.{refuses}
 use Rattle.strategy_check.specs.declared.why.Why.{Why}
 use Rattle.strategy_check.specs.declared.why.Why.TheVariants.{BadIndex, LeafFails, TooShort}
 use Rattle.strategy_check.specs.Checks.{seen, index_sight, index_faults}
-use Rattle.strategy_check.specs.Trace.{Steps, take_index, trace}
+use Rattle.strategy_check.specs.Trace.{Steps, steps, index_rules, take_index, trace}
+use Rattle.strategy_check.specs.Taking.{index-carries_on}
 use Rattle.strategy_check.proofs.IndexWalks as items
 use Rattle.strategy_lemmas.specs.declared.tokens.Token.{Token}
 use Rattle.strategy_lemmas.specs.declared.tokens.Token.TheVariants.{Index, Cite}
@@ -35,7 +43,7 @@ use Rattle.strategy_citing.specs.declared.draft.Draft.{Draft}
 use Rattle.strategy_citing.specs.declared.shortening.ShortWalk.{ShortWalk}
 use Rattle.strategy_citing.specs.TokenText.{cite_line, token_lines}
 use Rattle.strategy_citing.specs.Drafts.{with_index, with_cite}
-use Rattle.strategy_citing.specs.Shortening.{ShortSeen, short_seen, draft_of, short_sight, short_ending}
+use Rattle.strategy_citing.specs.Shortening.{ShortSeen, short_seen, draft_of, passed-past, short_sight, short_ending}
 use Rattle.strategy_citing.specs.ShortTaking.{of_passed, of_short_stop, of_short_walk, short_stop_ending}
 use Rattle.strategy_citing.proofs.TokenTextLaws.{lines-more}
 
@@ -136,8 +144,8 @@ passed-meets o Done b k ls ks ws u text lemmas m = (
 )
 passed-meets o (Refuses why) b k ls ks ws u text lemmas m = (m.0, ap (λ (o : WalkEnd Steps Why). passes_over o ls ws) m.1, m.2)
 passed-meets o (Halts Bad) b k ls ks ws u text lemmas m = (m.0, ap (λ (o : WalkEnd Steps Why). passes_over o ls ws) m.1, m.2)
-passed-meets o (Halts Failed) b k ls ks ws u text lemmas m = tt
-passed-meets o (Halts Full) b k ls ks ws u text lemmas m = tt
+passed-meets o (Halts Failed) b k ls ks ws u text lemmas m = passed-past k o ls ws m
+passed-meets o (Halts Full) b k ls ks ws u text lemmas m = passed-past k o ls ws m
 
 -- a node where no lemma serves ends as the walk over the indices alone ends there
 none-ends : (p : Position) (d : ℕ) (x : ℤ) (a b : ToldItems ℕ) (draft : Draft) (w : WalkAnswer Why) →
@@ -211,3 +219,47 @@ on-true false h e = cc
 -- the place that the code finds
 pub server-is : (p : Position) (q : KeyParts) (d : ℕ) (x y : ℤ) (ls : List Lemma) (o : Option ℕ) → o ≡ server q d y ls → q ≡ key p → y ≡ x → o ≡ server (key p) d x ls
 server-is p q d x y ls o e eq ey = e ∙ (λ i. server (eq i) d (ey i) ls)
+
+-- ---- where no more could be read, or there was no memory for a token
+
+place-looks : (f : Move → ShortSteps → WalkEnd ShortSteps Why) → ((m : Move) → Carries short_sight (f m)) → (m : Option Move) (s : ShortSteps) (n : ShortSeen) → n.draft.taken < s.items.taken → short_sight.unread (walk_at BadIndex s.items.taken f m s) n
+place-looks f carries None s n more = omega (arith, more)
+place-looks f carries (Some m) s n more = carries m s n more
+
+step-looks : (xs : List (Option ℕ)) (k : ℕ) (ls : List Lemma) (ws : List Token) (f : Move → ShortSteps → WalkEnd ShortSteps Why) (ms : List Move) → ((m : Move) → Carries short_sight (f m)) → (n : ShortSeen) → n.draft.taken < k + 1 →
+    short_sight.unread (walk_step short_rules f ms (writes_index (take_index xs k) ls ws)) n
+step-looks [] k ls ws f ms carries n more = more
+step-looks (None ∷ xs) k ls ws f ms carries n more = more
+step-looks (Some i ∷ xs) k ls ws f ms carries n more = place-looks f carries (slice_get ms i) (short_steps (steps xs (k + 1)) ls (ws ++ Index i ∷ [])) n more
+
+-- a node where no lemma serves looks for one index more
+pub not-taken : (p : Position) (d : ℕ) (x : ℤ) (a b : ToldItems ℕ) (draft after : Draft) → after.taken ≡ draft.taken → server (key p) d x draft.lemmas ≡ None → EndsHere short_rules short_sight p d x (short_seen a draft) Unread (short_seen b after)
+not-taken p d x a b draft after same none = λ f ms carries s e.
+    let is = told-is a draft s e in
+    let count = is.taken in
+    let low : after.taken < s.items.taken + 1 = omega (arith, same, count) in
+    subst (λ (o : Option ℕ). short_sight.unread (walk_step short_rules f ms (short_take o p d x s)) (short_seen b after)) (sym (none-here (key p) d x draft s is.lemmas none))
+    (step-looks s.items.left s.items.taken s.lemmas s.written f ms carries (short_seen b after) low)
+
+-- a node that is passed over looks for one index more
+pass-looks : (p : Position) (d : ℕ) (x : ℤ) (s : Steps) → IsInner p d → held s.taken < looked index_faults (λ t. t.taken) (trace p d (AtLeast x) s)
+pass-looks p zero x s inner = let deep = inner.deep in absurd (omega (arith, deep))
+pass-looks p (suc e) x s inner =
+    let below : Move → Steps → WalkEnd Steps Why = λ m s1. go_on (trace (later p m) e (AtMost (neg_ℤ x)) s1) (λ s2. Left (index_rules.keep p (suc e) x s2)) in
+    let carries : (m : Move) → Carries index_sight (below m) =
+    λ m. then-carries index_sight (trace (later p m) e (AtMost (neg_ℤ x))) (λ s2. Left (index_rules.keep p (suc e) x s2)) (walk-carries index_rules index_sight index-carries_on e (later p m) (AtMost (neg_ℤ x))) (index-carries_on.keep p (suc e) x) in
+    subst (λ (o : WalkEnd Steps Why). held s.taken < looked index_faults (λ t. t.taken) o) (sym (walk-suc index_rules p e (AtLeast x) s inner.open_))
+    (items.unread-took (Some s.left) None (held s.taken) below (moves p) carries s refl)
+
+pub not-cited : (p : Position) (d : ℕ) (x : ℤ) (n : ℕ) (a b : ToldItems ℕ) (draft after : Draft) → after.taken ≡ draft.taken → IsInner p d → server (key p) d x draft.lemmas ≡ Some n → EndsHere short_rules short_sight p d x (short_seen a draft) Unread (short_seen b after)
+not-cited p d x n a b draft after same inner served = λ f ms carries s e.
+    let is = told-is a draft s e in
+    let here : server (key p) d x s.lemmas ≡ Some n = ap (server (key p) d x) (sym is.lemmas) ∙ served in
+    let all = trace p d (AtLeast x) s.items in
+    let past : after.taken < looked index_faults (λ t. t.taken) all = subst (λ (k : ℕ). k < looked index_faults (λ t. t.taken) all) (sym (same ∙ is.taken)) (pass-looks p d x s.items inner) in
+    subst (λ (o : Option ℕ). short_sight.unread (walk_step short_rules f ms (short_take o p d x s)) (short_seen b after)) (sym here)
+    (passed-past after.taken all s.lemmas (s.written ++ Cite n ∷ []) past)
+
+pub on-false : {P : Type 0} (r : Bool) → OnFalse r P → r ≡ false → P
+on-false true h e = cc
+on-false false h e = h

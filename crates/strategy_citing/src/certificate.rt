@@ -1,11 +1,11 @@
 //! The walk of a whole certificate that writes its tokens.
 
-ghost use Rattle.std.specs.Prelude.{◌≡◌, ◌≤◌, ℕ, List, [], Option, Some, None};
+ghost use Rattle.std.specs.Prelude.{◌≡◌, ◌≤◌, ℕ, List, [], Option, Some, None, IfSome};
 ghost use Rattle.hive_model.specs.Legal.{moves};
 ghost use Rattle.hive_model.specs.Courses.{position};
 ghost use Rattle.strategy_walks.specs.Claims.{IsClaimOf, IsTrueOf};
 ghost use Rattle.strategy_walks.specs.Walks.{place_of};
-ghost use Rattle.strategy_walks.specs.Ends.{ChecksItems};
+ghost use Rattle.strategy_walks.specs.Ends.{ChecksItems, EndsUnread};
 ghost use Rattle.strategy_lemmas.specs.Short.{shortened};
 ghost use Rattle.strategy_check.specs.Checks.{index_faults};
 ghost use Rattle.strategy_citing.specs.Migrating.{ShortAnswers};
@@ -41,6 +41,10 @@ pub fn shorten_certificate<G: Game, I: Items<Item = u32>>(
         (shortened (position (G.course game.old))
         claim.now.depth claim.now.best claim.now.value) result
         (I.supply indices.old) (I.supply indices.new) }
+    ensures unread { IfSome result (λ checked. EndsUnread index_faults
+        (shortened (position (G.course game.old))
+        claim.now.depth claim.now.best claim.now.value) checked
+        (I.supply indices.old) (I.supply indices.new)) }
     ensures game { G.course game.new ≡ G.course game.old }
     ensures stack { stack.new ≡ stack.old }
 {

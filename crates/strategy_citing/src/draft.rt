@@ -1,7 +1,7 @@
 //! What a walk has written and shown.
 
 ghost use Rattle.std.specs.Prelude.{◌≡◌, [], IfOk};
-ghost use Rattle.std.specs.Bool.{OnTrue};
+ghost use Rattle.std.specs.Bool.{OnFalse, OnTrue};
 ghost use Rattle.strategy_citing.specs.TokenText.{cite_line};
 ghost use Rattle.strategy_citing.specs.Drafts.{with_index, with_cite};
 
@@ -46,18 +46,24 @@ impl Draft {
         })
     }
 
-    /// Counts an index and writes it. The answer is whether there was memory for it.
+    /// Writes an index and counts it. The answer is whether there was memory for it; where there
+    /// was not it is not counted.
     pub fn add(&mut self, index: u32) -> bool
-        ensures { OnTrue result (self.new ≡ with_index index self.old) }
+        ensures added { OnTrue result (self.new ≡ with_index index self.old) }
+        ensures uncounted { OnFalse result (self.new.taken ≡ self.old.taken) }
     {
-        self.taken = self.taken.saturating_add(1);
         let line = index_line(index);
-        self.text.push_all(line.as_str().as_bytes()).is_ok()
+        if self.text.push_all(line.as_str().as_bytes()).is_err() {
+            return false;
+        }
+        self.taken = self.taken.saturating_add(1);
+        true
     }
 
     /// Writes what is cited. The answer is whether there was memory for it.
     pub fn cite(&mut self, place: u32) -> bool
-        ensures { OnTrue result (self.new ≡ with_cite place self.old) }
+        ensures cited { OnTrue result (self.new ≡ with_cite place self.old) }
+        ensures uncounted { self.new.taken ≡ self.old.taken }
     {
         let line = cite_line(place);
         self.text.push_all(line.as_str().as_bytes()).is_ok()

@@ -1,12 +1,24 @@
 //! A certificate becomes one that cites.
 
-ghost use Rattle.std.specs.Prelude.{◌≡◌, ◌≤◌, ◌⊎◌, ◌++◌, ℕ, List, Option, Some, None, false};
+ghost use Rattle.std.specs.Prelude.{
+  ◌≡◌,
+  ◌≤◌,
+  ◌⊎◌,
+  ◌++◌,
+  ℕ,
+  List,
+  Option,
+  Some,
+  None,
+  false,
+  IfSome,
+};
 ghost use Rattle.io_edge.specs.Outside.{HasCause};
 ghost use Rattle.hive_model.specs.Legal.{moves};
 ghost use Rattle.hive_model.specs.Courses.{position};
 ghost use Rattle.strategy_walks.specs.Claims.{IsClaimOf, IsTrueOf};
 ghost use Rattle.strategy_walks.specs.Walks.{place_of};
-ghost use Rattle.strategy_walks.specs.Ends.{ChecksItems};
+ghost use Rattle.strategy_walks.specs.Ends.{ChecksItems, EndsUnread};
 ghost use Rattle.strategy_check.specs.Checks.{index_faults};
 ghost use Rattle.strategy_check.specs.Trace.{checked};
 ghost use Rattle.strategy_indices.specs.Writing.{Wrote};
@@ -80,6 +92,10 @@ pub fn migrate<G: Game, I: Items<Item = u32>, K: Sink>(
         (checked (position (G.course game.old))
         claim.now.depth claim.now.best claim.now.value) (answered result)
         (I.supply indices.old) (I.supply indices.new) }
+    ensures unread { IfSome (answered result) (λ answer. EndsUnread index_faults
+        (checked (position (G.course game.old))
+        claim.now.depth claim.now.best claim.now.value) answer
+        (I.supply indices.old) (I.supply indices.new)) }
     ensures writes { HasCause (result ≡ Migrated.WriteFault)
         (K.write_faults sink.old) (K.write_faults sink.new) }
     ensures game { G.course game.new ≡ G.course game.old }

@@ -1,11 +1,11 @@
 -- What the parts of a migration write.
 use Rattle.std.proofs.Common.{◌≡◌, ℕ, ◌+◌, Bool, true, false, List, map, drop, ◌++◌, refl, sym, ap, subst, arith, ◌∙◌, ℤ, Option, Some, None}
-use Rattle.std.specs.Prelude.{◌≢◌, Result, Ok, Err, IsTrue, ◌↔◌}
+use Rattle.std.specs.Prelude.{◌≢◌, Result, Ok, Err, IsTrue, ◌↔◌, IfSome}
 use Rattle.io_edge.specs.Outside.{Told as AnyTold}
 use Rattle.hive_model.specs.declared.pieces.GameType.{GameType}
 use Rattle.hive_model.specs.declared.places.Move.{Move}
 use Rattle.hive_model.specs.Positions.{Position, opening}
-use Rattle.hive_model.specs.Courses.{Course}
+use Rattle.hive_model.specs.Courses.{Course, position}
 use Rattle.hive_model.specs.Legal.{is_over, moves}
 use Rattle.hive_model.specs.Lists.{IsOn}
 use Rattle.hive_model.specs.Games.{replay}
@@ -42,6 +42,7 @@ use Rattle.strategy_commands.specs.Claims.{Claims}
 use Rattle.strategy_commands.specs.Verdicts.{claimed_move, end_of, of_claim, of_items, of_lines, of_move}
 use Rattle.strategy_commands.specs.Migrating.{MigratesHead, MigratesTo, OfItems, Writes, WritesLate, first_verdict, taken_as}
 use Rattle.strategy_commands.proofs.ClaimLaws.{ends-there}
+use Rattle.strategy_commands.proofs.JudgedLaws.{claim-lines}
 
 pub writes-as : (v w : TextVerdict) (Is Also : List ℕ → Type 0) (r : Taken) (a b : AnyTold) → v ≡ w → ((text : List ℕ) → Is text → Also text) → Writes v Is r a b → Writes w Also r a b
 writes-as v w Is Also Written a b e f h = (h.0, f h.0 h.1, h.2)
@@ -64,6 +65,11 @@ claim-items head rest m first goes denotes =
     if-open (is_over (end_of head)) (of_move head.version (end_of head) head.depth (claimed_move head) head.value rest) goes
     ∙ ap (λ r. of_move head.version (end_of head) head.depth r head.value rest) denotes
     ∙ ap (λ n. of_lines n (end_of head) head.depth m head.value rest) first
+
+-- the same of the game under way
+pub course-items : (head : Head) (rest : List Line) (c : Course) (claim : Claim) → head.version ≡ 1 → Claims head c claim → of_items (position c) claim.depth claim.best claim.value (map index_in rest) ≡ of_claim head rest
+course-items head rest c claim first is =
+    ap (λ n. of_lines n (position c) claim.depth claim.best claim.value rest) (sym first) ∙ claim-lines head c claim is rest
 
 -- what is made of a claim of a game of this type and these moves
 abbrev MigratesFrom : List Line → Move → Taken → AnyTold → AnyTold → GameType → List Move → ℕ → ℤ → Type 0
@@ -146,3 +152,8 @@ read-causes (Halted Bad) before now full h = record { later = h.later; rose = λ
 read-causes (Halted Failed) before now full h = record { later = h.later; rose = λ e. h.rose refl; same = λ no. absurd (no refl); closed = λ e. cc }
 read-causes (Halted Full) before now full h = record { later = h.later; rose = λ e. cc; same = λ no. h.same (λ f. cc); closed = λ e. h.closed refl }
 read-causes Memory before now full h = record { later = h.later; rose = λ e. cc; same = λ no. h.same (λ f. f); closed = λ e. cc }
+
+-- what follows of the value, if there is one
+pub if-some : {X : Type 0} (o : Option X) (P Q : X → Type 0) → IfSome o P → ((x : X) → P x → Q x) → IfSome o Q
+if-some None P Q h f = tt
+if-some (Some x) P Q h f = f x h

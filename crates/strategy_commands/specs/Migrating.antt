@@ -23,7 +23,7 @@ use Rattle.strategy_verdicts.specs.declared.verdict.Unread.{Unread}
 use Rattle.strategy_verdicts.specs.declared.verdict.Unread.TheVariants.{ReadFault as UnreadFault}
 use Rattle.strategy_verdicts.specs.Judging.{text_verdict}
 use Rattle.strategy_verdicts.specs.Reading.{WasReadAs}
-use Rattle.strategy_verdicts.specs.Runs.{CutVerdict, Judgement, TookLess, VerdictRun}
+use Rattle.strategy_verdicts.specs.Runs.{CutVerdict, IsUndecided, Judgement, VerdictRun}
 use Rattle.strategy_commands.specs.declared.migrating.Taken.{Taken}
 use Rattle.strategy_commands.specs.declared.migrating.Taken.TheVariants.{Written, Cut, Judged, Missed}
 use Rattle.strategy_commands.specs.Verdicts.{claimed_move, end_of, of_claim}
@@ -95,7 +95,7 @@ judged_of (Missed unread) = Err unread
 -- How the lines to come were taken where so many lines were read at most: what was written of them,
 -- where they are told, by their worth and the texts that they make; and that nothing was written
 -- else. Why the input could not be read or the text not be written, and what was then read of the
--- input.
+-- input; where a read has failed the lines that were read do not decide.
 pub record MigratesAhead (worth : Judgement) (texts : List Line → List ℕ → Type 0) (most : ℕ)
     (taken : Taken) (reader : Reading) (source sink source' sink' : Aside) : Type 0 where
   pub told : (left : List Line) → ahead_of reader source.bytes ≡ Some left
@@ -105,6 +105,9 @@ pub record MigratesAhead (worth : Judgement) (texts : List Line → List ℕ →
   pub writes : HasCause (taken ≡ Cut) sink.faults sink'.faults
   pub read : (text : List ℕ) → HasRead text source.bytes reader most
       → WasReadAs 5 (judged_of taken) text source'.bytes
+  pub unread : (left : List Line) → ahead_of reader source.bytes ≡ Some left → (text : List ℕ)
+      → HasRead text source.bytes reader most → taken ≡ Missed UnreadFault
+      → IsUndecided 5 (worth left) text source'.bytes
 
 -- the text that the lines of the input make was written, and the input was read to its end
 pub record WroteMigration (input : List ℕ) (before after : Sides) : Type 0 where
@@ -124,7 +127,8 @@ pub record CutMigration (input : List ℕ) (before after : Sides) : Type 0 where
 
 -- What was written and read where `migrate` ends with this status: the text that the lines of the
 -- input make, or what a check of the first version writes of them. Where a read has failed, the
--- limit is reached or memory is wanting, nothing was written.
+-- limit is reached or memory is wanting, nothing was written; a read has failed only before the
+-- lines that decide were read.
 abbrev pub MigrateRun : Status → Sides → Sides → Type 0
 MigrateRun Done before after = WhereTold before.rest (λ input. WroteMigration input before after)
 MigrateRun WriteFault before after =
@@ -132,8 +136,7 @@ MigrateRun WriteFault before after =
     ⊎ ((n : ℕ) × CutVerdict 5 (first_verdict (lines input)) input before after n))
 MigrateRun Refused before after = VerdictRun 5 first_verdict Refused before after
 MigrateRun BadInput before after = VerdictRun 5 first_verdict BadInput before after
-MigrateRun ReadFault before after =
-    (after.written ≡ before.written) × WhereTold before.rest (λ input. TookLess input after.rest)
+MigrateRun ReadFault before after = VerdictRun 5 first_verdict ReadFault before after
 MigrateRun InputFull before after = VerdictRun 5 first_verdict InputFull before after
 MigrateRun Memory before after = VerdictRun 5 first_verdict Memory before after
 MigrateRun Usage before after = ⊥

@@ -25,12 +25,13 @@ ghost use Rattle.strategy_check.specs.Trace.{checked};
 ghost use Rattle.strategy_text.specs.Text.{head_text, index_in};
 ghost use Rattle.strategy_text.specs.Heads.{IsHead};
 ghost use Rattle.strategy_text.specs.Taken.{HasRead, StopsAt};
-ghost use Rattle.strategy_walks.specs.Answers.{CountsBad, CountsRefused, Ended};
+ghost use Rattle.strategy_walks.specs.Answers.{CountsBad, CountsRefused, Ended, StopsUnread};
 ghost use Rattle.strategy_check.specs.Checks.{index_faults};
 ghost use Rattle.strategy_citing.specs.Migrating.{MigrateAnswers, answered};
 ghost use Rattle.strategy_citing.specs.Migrating as calls;
 ghost use Rattle.command_runs.specs.Runs.{RunsAs, side_of};
 ghost use Rattle.strategy_verdicts.specs.Reading.{WasReadAs};
+ghost use Rattle.strategy_verdicts.specs.Runs.{IsUndecided};
 ghost use Rattle.strategy_walks.specs.Claims.{IsClaimOf};
 ghost use Rattle.strategy_commands.specs.Verdicts.{of_claim, of_items};
 ghost use Rattle.strategy_commands.specs.Migrating.{
@@ -92,6 +93,12 @@ fn taken_of(migrated: Migrated, lines: u64) -> Taken
         → IfSome (answered migrated) (λ answer. Ended index_faults
         (λ stop. StopsAt index_in stop reader) answer)
         → WasReadAs 5 (judged_of result) text rest }
+    ensures unread { (p : Position) (d : ℕ) (m : AnyMove) (v : ℤ) (items : List (Option ℕ))
+        → IfSome (answered migrated) (λ answer.
+        StopsUnread index_faults (checked p d m v items) answer lines)
+        → (text : List ℕ) (rest : AnyTold) (reader : Reading) → HasRead text rest reader (5 + lines)
+        → result ≡ Taken.Missed Unread.ReadFault
+        → IsUndecided 5 (of_items p d m v items) text rest }
     ensures cut { (result ≡ Taken.Cut) ↔ (migrated ≡ Migrated.WriteFault) }
 {
     match migrated {
@@ -244,6 +251,9 @@ fn migrate_input<S: Source, G: Game + Drop, K: Sink>(
     ensures late { WritesLate result (K.written output.old) (K.written output.new) }
     ensures read { (text : List ℕ) → S.rest input.old ≡ Some text
         → WasReadAs 5 (judged_of result) text (S.rest input.new) }
+    ensures unread { (text : List ℕ) → S.rest input.old ≡ Some text
+        → result ≡ Taken.Missed Unread.ReadFault
+        → IsUndecided 5 (first_verdict (lines text)) text (S.rest input.new) }
     ensures reads { HasCause (result ≡ Taken.Missed Unread.ReadFault)
         (S.read_faults input.old) (S.read_faults input.new) }
     ensures writes { HasCause (result ≡ Taken.Cut)
@@ -260,7 +270,8 @@ fn migrate_input<S: Source, G: Game + Drop, K: Sink>(
 /// same depth and value, and the tokens that cite wherever something that was shown serves, each on
 /// a line of its own. It is `Done` then. All of the input is read before the first write. Of any
 /// other input the line is written that a check of the first version writes, with its status. A
-/// read that fails, a full input and want of memory end the run with nothing written.
+/// read that fails, before the lines that decide were read, a full input and want of memory end the
+/// run with nothing written.
 pub fn migrate<S: Source, K: Sink, G: Game + Drop>(
     alloc: Global,
     input: &mut S,

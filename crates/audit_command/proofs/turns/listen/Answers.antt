@@ -1,4 +1,4 @@
-use Rattle.std.proofs.Common.{refl, ◌∙◌, ap, ℕ, List}
+use Rattle.std.proofs.Common.{◌∙◌, ap, ℕ, List}
 use Rattle.io_edge.specs.Lines.{Text}
 use Rattle.audit_core.specs.AuditState.{AuditState, at_mark}
 use Rattle.audit_command.proofs.Turning.{falls_line}
@@ -15,3 +15,12 @@ returns-in-Ok-clause-falls g c = λ _. falls_line c.args.reader.now c.next_short
 
 pub returns-in-Ok-pass_over-clause-hears : goal.returns-in-Ok-pass_over-clause-hears
 returns-in-Ok-pass_over-clause-hears g c = (c.in-Ok-pass_over.ensures, c.in-Long.ensures.ahead.0)
+
+pub returns-in-Ok-clause-takes : goal.returns-in-Ok-clause-takes
+returns-in-Ok-clause-takes g c = (c.in-Line.ensures.fed.0, c.in-Line.ensures.fed.1)
+
+pub returns-in-Err-clause-takes : goal.returns-in-Err-clause-takes
+returns-in-Err-clause-takes g c = (c.in-Line.ensures.fed.0, c.in-Line.ensures.fed.1)
+
+pub returns-in-Ok-pass_over-clause-takes : goal.returns-in-Ok-pass_over-clause-takes
+returns-in-Ok-pass_over-clause-takes g c = (c.in-Long.ensures.fed.0, c.in-Long.ensures.fed.1)

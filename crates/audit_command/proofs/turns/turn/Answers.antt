@@ -1,6 +1,6 @@
-use Rattle.std.proofs.Common.{ap, refl, ◌∙◌}
+use Rattle.std.proofs.Common.{ap, subst, sym}
 use Rattle.line_feed.specs.Ahead.{ahead_of}
-use Rattle.audit_command.proofs.Turning.{turns_of, writes_of}
+use Rattle.audit_command.proofs.Turning.{HasTaken, taken_none, turns_of, writes_of}
 use Rattle.audit_command.proofs.turns.turn.Goals as goal
 
 pub returns-in-Sent-clause-turns : goal.returns-in-Sent-clause-turns
@@ -16,3 +16,16 @@ returns-in-Sent-clause-writes g c =
 
 pub returns-in-Broke-clause-turns : goal.returns-in-Broke-clause-turns
 returns-in-Broke-clause-turns g c = (c.in-Broke.ensures.sends.0, ap (ahead_of c.args.reader.now) c.in-Broke.ensures.rest, c.in-Broke.ensures.sends.1)
+
+pub returns-in-Sent-clause-takes : goal.returns-in-Sent-clause-takes
+returns-in-Sent-clause-takes g c =
+    let taken : HasTaken (g.L.Source.rest c.send.new.link) (g.L.Source.rest c.listen.new.link) c.args.reader.now.taken c.listen.new.reader.taken = c.listen.ensures.takes in
+    subst (λ r. HasTaken r (g.L.Source.rest c.listen.new.link) c.args.reader.now.taken c.listen.new.reader.taken) c.in-Sent.ensures.rest taken
+
+pub returns-in-Broke-clause-takes : goal.returns-in-Broke-clause-takes
+returns-in-Broke-clause-takes g c =
+    subst (λ r. HasTaken (g.L.Source.rest c.args.link.now) r c.args.reader.now.taken c.args.reader.now.taken) (sym c.in-Broke.ensures.rest) (taken_none (g.L.Source.rest c.args.link.now) c.args.reader.now.taken)
+
+pub returns-in-Memory-clause-takes : goal.returns-in-Memory-clause-takes
+returns-in-Memory-clause-takes g c =
+    subst (λ r. HasTaken (g.L.Source.rest c.args.link.now) r c.args.reader.now.taken c.args.reader.now.taken) (sym c.in-Memory.ensures.rest) (taken_none (g.L.Source.rest c.args.link.now) c.args.reader.now.taken)

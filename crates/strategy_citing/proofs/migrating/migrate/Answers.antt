@@ -5,7 +5,7 @@ use Rattle.strategy_walks.specs.declared.walk_answers.Checked.TheVariants.{Accep
 use Rattle.strategy_check.specs.declared.why.Why.{Why}
 use Rattle.strategy_lemmas.specs.Short.{shortened}
 use Rattle.strategy_citing.specs.Migrating.{ShortAnswers}
-use Rattle.strategy_citing.proofs.Migrations.{accepted-is, wrote-both, refused-is, halted-told, items-are}
+use Rattle.strategy_citing.proofs.Migrations.{accepted-is, wrote-both, refused-is, halted-told, items-are, unread-are}
 use Rattle.strategy_citing.proofs.migrating.migrate.Goals as goal
 
 pub returns-then-write_both-clause-told : goal.returns-then-write_both-clause-told
@@ -63,3 +63,19 @@ returns-in-Refused-clause-items g c =
 pub returns-clause-items : goal.returns-clause-items
 returns-clause-items g c =
     items-are (position (g.G.Game.course c.args.game.now)) c.args.claim.now.depth c.args.claim.now.best c.args.claim.now.value (Some c.in-Some.checked) (Some (Halted c.in-Halted.answer)) _ _ (ap (λ x. Some x) (sym c.in-Halted.is)) c.in-Some.ensures.items
+
+pub returns-then-write_both-clause-unread : goal.returns-then-write_both-clause-unread
+returns-then-write_both-clause-unread g c =
+    unread-are (position (g.G.Game.course c.args.game.now)) c.args.claim.now.depth c.args.claim.now.best c.args.claim.now.value (Some c.in-Some.checked) (Some Accepted) (g.I.Items.supply c.args.indices.now) (g.I.Items.supply c.shorten_certificate.new.indices) (ap (λ x. Some x) (sym c.in-Accepted.is)) c.in-Some.ensures.unread
+
+pub returns-in-Accepted-clause-unread : goal.returns-in-Accepted-clause-unread
+returns-in-Accepted-clause-unread g c =
+    unread-are (position (g.G.Game.course c.args.game.now)) c.args.claim.now.depth c.args.claim.now.best c.args.claim.now.value (Some c.in-Some.checked) (Some Accepted) (g.I.Items.supply c.args.indices.now) (g.I.Items.supply c.shorten_certificate.new.indices) (ap (λ x. Some x) (sym c.in-Accepted.is)) c.in-Some.ensures.unread
+
+pub returns-in-Refused-clause-unread : goal.returns-in-Refused-clause-unread
+returns-in-Refused-clause-unread g c =
+    unread-are (position (g.G.Game.course c.args.game.now)) c.args.claim.now.depth c.args.claim.now.best c.args.claim.now.value (Some c.in-Some.checked) (Some (Refused c.in-Refused.place c.in-Refused.why)) (g.I.Items.supply c.args.indices.now) (g.I.Items.supply c.shorten_certificate.new.indices) (ap (λ x. Some x) (sym c.in-Refused.is)) c.in-Some.ensures.unread
+
+pub returns-clause-unread : goal.returns-clause-unread
+returns-clause-unread g c =
+    unread-are (position (g.G.Game.course c.args.game.now)) c.args.claim.now.depth c.args.claim.now.best c.args.claim.now.value (Some c.in-Some.checked) (Some (Halted c.in-Halted.answer)) (g.I.Items.supply c.args.indices.now) (g.I.Items.supply c.shorten_certificate.new.indices) (ap (λ x. Some x) (sym c.in-Halted.is)) c.in-Some.ensures.unread

@@ -18,7 +18,7 @@ returns-in-Cut g c = record {
 
 pub returns-in-Missed : goal.returns-in-Missed
 returns-in-Missed g c = record {
-  run = missed-run c.in-Missed.unread c.tell_judged-in-Missed.result _ _ _ c.in-Missed.ensures.late c.in-Missed.ensures.read c.tell_judged-in-Missed.ensures.told;
+  run = missed-run c.in-Missed.unread c.tell_judged-in-Missed.result _ _ _ c.in-Missed.ensures.late c.in-Missed.ensures.read c.in-Missed.ensures.unread c.tell_judged-in-Missed.ensures.told;
   reads = search rules;
   writes = search rules;
 }

@@ -3,9 +3,9 @@ use Rattle.std.specs.Prelude.{Result, Err}
 use Rattle.strategy_verdicts.specs.declared.verdict.TextVerdict.{TextVerdict}
 use Rattle.strategy_verdicts.specs.declared.verdict.Unread.{Unread}
 use Rattle.strategy_verdicts.specs.Reading.{WasReadAs}
-use Rattle.strategy_verdicts.proofs.TextLaws.{fault-judges}
+use Rattle.strategy_verdicts.proofs.TextLaws.{broken-unread, fault-judges, head-undecided}
 use Rattle.strategy_text.specs.Text.{head_of}
-use Rattle.strategy_commands.specs.Verdicts.{of_claim}
+use Rattle.strategy_commands.specs.Verdicts.{claim-not-yet, of_claim}
 use Rattle.strategy_commands.specs.Migrating.{MigratesTo, first_verdict}
 use Rattle.strategy_commands.proofs.MigrateLaws.{all-writes, fault-refuses, judged-late, judged-writes}
 use Rattle.strategy_commands.proofs.migrating.migrate_all.Goals as goal
@@ -19,6 +19,9 @@ returns-in-Ok g c = record {
   reads = search rules;
   writes = search rules;
   read = λ text r. c.migrate_claim.ensures.read text (c.in-Ok.ensures.taken.read text 0 refl r);
+  unread = λ left told text r e.
+      let read = c.in-Ok.ensures.told left told in
+      head-undecided 5 (head_of 1) of_claim left c.in-Ok.head text _ read.0 (c.migrate_claim.ensures.unread (drop 5 left) read.1 text (c.in-Ok.ensures.taken.read text 0 refl r) e);
 }
 
 pub returns-in-Err : goal.returns-in-Err
@@ -33,4 +36,7 @@ returns-in-Err g c =
       read = λ text r.
           subst (λ (j : Result TextVerdict Unread). WasReadAs 5 j text (g.S.Source.rest c.read_head.new.source)) (sym c.taken_as.ensures.judged)
           (c.fault_verdict.ensures.read 5 text _ _ (c.in-Err.ensures.taken.read text 0 refl r) (λ e. c.in-Err.ensures.taken.failed (ap Err e)) (λ e. c.in-Err.ensures.taken.full (ap Err e)));
+      unread = λ left told text r e.
+          let failed = c.fault_verdict.ensures.failed.0 (c.taken_as.ensures.missed.0 e) in
+          broken-unread 5 (head_of 1) of_claim claim-not-yet left text _ _ (c.in-Err.ensures.unread left told text r (ap Err failed));
     }

@@ -3,10 +3,11 @@ use Rattle.std.specs.Prelude.{Result}
 use Rattle.strategy_verdicts.specs.declared.verdict.TextVerdict.{TextVerdict}
 use Rattle.strategy_verdicts.specs.declared.verdict.Unread.{Unread}
 use Rattle.strategy_verdicts.specs.Reading.{WasReadAs}
+use Rattle.strategy_verdicts.specs.Runs.{IsUndecided}
 use Rattle.strategy_commands.specs.Verdicts.{of_claim}
 use Rattle.strategy_commands.specs.Migrating.{MigratesHead}
 use Rattle.strategy_commands.proofs.ClaimLaws.{no-cause}
-use Rattle.strategy_commands.proofs.MigrateLaws.{course-writes, judged-late, judged-writes}
+use Rattle.strategy_commands.proofs.MigrateLaws.{course-items, course-writes, judged-late, judged-writes}
 use Rattle.strategy_commands.proofs.migrating.migrate_claim.Goals as goal
 
 pub returns-in-Ok : goal.returns-in-Ok
@@ -22,6 +23,8 @@ returns-in-Ok g c =
       reads = search rules;
       writes = search rules;
       read = c.migrate_move.ensures.read;
+      unread = λ left told text r e.
+          subst (λ (v : TextVerdict). IsUndecided 5 v text (g.S.Source.rest c.migrate_move.new.input)) (course-items head left (g.G.Game.course made.game) made.claim (omega (arith, known, old)) is) (c.migrate_move.ensures.unread left told text r e);
     }
 
 pub returns-in-Err : goal.returns-in-Err
@@ -36,4 +39,5 @@ returns-in-Err g c =
       writes = no-cause _ taken.uncut;
       read = λ text r.
           subst (λ (j : Result TextVerdict Unread). WasReadAs 5 j text (g.S.Source.rest c.args.input.now)) (sym taken.judged) (none.read text _ _ r);
+      unread = λ left told text r e. absurd (none.has_read (taken.missed.0 e));
     }

@@ -10,3 +10,6 @@ returns-clause-told g c = λ text told. c.migrate_all.ensures.told (lines text) 
 
 pub returns-clause-read : goal.returns-clause-read
 returns-clause-read g c = λ text told. c.migrate_all.ensures.read text (read-none text _ c.in-Ok.reader told c.in-Ok.ensures)
+
+pub returns-clause-unread : goal.returns-clause-unread
+returns-clause-unread g c = λ text told. c.migrate_all.ensures.unread (lines text) (ahead_begin c.in-Ok.reader _ c.in-Ok.ensures ∙ ap (option_map lines) told) text (read-none text _ c.in-Ok.reader told c.in-Ok.ensures)

@@ -1,13 +1,18 @@
-use Rattle.std.proofs.Common.{rules, subst}
+use Rattle.std.proofs.Common.{◌≡◌, rules, subst}
 use Rattle.strategy_citing.specs.declared.migrating.Migrated.{Migrated}
+use Rattle.strategy_citing.specs.declared.migrating.Migrated.TheVariants.{Halted}
 use Rattle.std.specs.Prelude.{ℕ, IfSome}
 use Rattle.line_feed.specs.Feed.{Reading}
-use Rattle.strategy_walks.specs.Answers.{CountsRefused, Ended}
+use Rattle.strategy_walks.specs.Answers.{CountsRefused, Ended, StopsUnread}
+use Rattle.strategy_walks.specs.declared.walk_answers.Halt.TheVariants.{Failed}
 use Rattle.strategy_check.specs.Checks.{index_faults}
+use Rattle.strategy_check.specs.Trace.{checked}
 use Rattle.strategy_citing.specs.Migrating.{answered}
 use Rattle.strategy_text.specs.Taken.{StopsAt}
 use Rattle.strategy_text.specs.Text.{index_in}
+use Rattle.strategy_verdicts.specs.Verdicts.{index_refusal}
 use Rattle.strategy_verdicts.proofs.JudgeLaws.{all-read, bad-read, refused-read}
+use Rattle.strategy_verdicts.proofs.TextLaws.{walk-unread}
 use Rattle.strategy_commands.proofs.migrating.taken_of.Goals as goal
 
 -- few lines were taken
@@ -33,3 +38,10 @@ returns-in-Refused-clause-read c = λ text rest reader r few stops.
 
 pub returns-in-Halted-Bad-clause-read : goal.returns-in-Halted-Bad-clause-read
 returns-in-Halted-Bad-clause-read c = λ text rest reader r few stops. bad-read 5 c.args.lines _ text rest reader (search rules) r
+
+pub returns-in-Halted-Failed-clause-unread : goal.returns-in-Halted-Failed-clause-unread
+returns-in-Halted-Failed-clause-unread c = λ p d m v items stops text rest reader r e.
+    let failed : c.args.migrated ≡ Halted Failed = search rules in
+    let o = checked p d m v items in
+    walk-unread index_faults index_refusal (λ head lines place why few. few) 5 c.args.lines o text rest reader
+    (subst (λ (x : Migrated). IfSome (answered x) (λ answer. StopsUnread index_faults o answer c.args.lines)) failed stops) r

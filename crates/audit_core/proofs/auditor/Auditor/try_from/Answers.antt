@@ -1,4 +1,4 @@
-use Rattle.std.proofs.Common.{List, sym, ◌∙◌, ap}
+use Rattle.std.proofs.Common.{sym, ◌∙◌, ap}
 use Rattle.hive_model.specs.Legal.{moves}
 use Rattle.audit_core.specs.AuditState.{AuditState, position_now}
 use Rattle.audit_core.proofs.Replies.{tried_so}

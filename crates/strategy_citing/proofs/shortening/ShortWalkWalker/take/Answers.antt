@@ -9,7 +9,7 @@ use Rattle.strategy_lemmas.specs.Short.{short_rules}
 use Rattle.strategy_citing.specs.Drafts.{with_index}
 use Rattle.strategy_citing.specs.Shortening.{short_ending, short_seen, short_sight}
 use Rattle.strategy_citing.specs.ShortTaking.{short_moment}
-use Rattle.strategy_citing.proofs.ShortWalks.{found-is, passed-is, server-is, index-added, on-true}
+use Rattle.strategy_citing.proofs.ShortWalks.{found-is, passed-is, server-is, index-added, not-taken, on-false, on-true}
 use Rattle.strategy_citing.proofs.shortening.ShortWalkWalker.take.Goals as goal
 
 pub returns-in-Some-clause-told : goal.returns-in-Some-clause-told
@@ -45,5 +45,38 @@ returns-else-not-add-clause-told g c =
     let same : to_z w32 (of_z w32 x) ≡ x = omega (arith, ints, c.requires.small.low, c.requires.small.high) in
     let fails : c.first.result ≡ None = search rules in
     let none : server (key p) d x draft.lemmas ≡ None = sym (server-is p c.key.result d x _ draft.lemmas c.first.result c.first.ensures c.key.ensures.key same) ∙ fails in
-    let added : c.add.new.self ≡ with_index c.in-Item.place draft = on-true c.add.result c.add.ensures (search rules) in
+    let added : c.add.new.self ≡ with_index c.in-Item.place draft = on-true c.add.result c.add.ensures.added (search rules) in
     index-added p d x (g.I.Items.supply c.args.self.now.indices.now).left (g.I.Items.supply c.take.new.self).left draft c.add.new.self c.in-Item.place c.in-Item.ensures.item none added
+
+pub returns-then-not-add-clause-told : goal.returns-then-not-add-clause-told
+returns-then-not-add-clause-told g c =
+    let p = position (g.G.Game.course c.args.game.now) in
+    let d = c.args.depth in
+    let x = c.args.least in
+    let draft = c.args.self.now.draft.now in
+    let same : to_z w32 (of_z w32 x) ≡ x = omega (arith, ints, c.requires.small.low, c.requires.small.high) in
+    let fails : c.first.result ≡ None = search rules in
+    let none : server (key p) d x draft.lemmas ≡ None = sym (server-is p c.key.result d x _ draft.lemmas c.first.result c.first.ensures c.key.ensures.key same) ∙ fails in
+    not-taken p d x (g.I.Items.supply c.args.self.now.indices.now).left (g.I.Items.supply c.take.new.self).left draft c.add.new.self (on-false c.add.result c.add.ensures.uncounted (search rules)) none
+
+pub returns-in-Failed-clause-told : goal.returns-in-Failed-clause-told
+returns-in-Failed-clause-told g c =
+    let p = position (g.G.Game.course c.args.game.now) in
+    let d = c.args.depth in
+    let x = c.args.least in
+    let draft = c.args.self.now.draft.now in
+    let same : to_z w32 (of_z w32 x) ≡ x = omega (arith, ints, c.requires.small.low, c.requires.small.high) in
+    let fails : c.first.result ≡ None = search rules in
+    let none : server (key p) d x draft.lemmas ≡ None = sym (server-is p c.key.result d x _ draft.lemmas c.first.result c.first.ensures c.key.ensures.key same) ∙ fails in
+    not-taken p d x (g.I.Items.supply c.args.self.now.indices.now).left (g.I.Items.supply c.take.new.self).left draft draft refl none
+
+pub returns-in-Full-clause-told : goal.returns-in-Full-clause-told
+returns-in-Full-clause-told g c =
+    let p = position (g.G.Game.course c.args.game.now) in
+    let d = c.args.depth in
+    let x = c.args.least in
+    let draft = c.args.self.now.draft.now in
+    let same : to_z w32 (of_z w32 x) ≡ x = omega (arith, ints, c.requires.small.low, c.requires.small.high) in
+    let fails : c.first.result ≡ None = search rules in
+    let none : server (key p) d x draft.lemmas ≡ None = sym (server-is p c.key.result d x _ draft.lemmas c.first.result c.first.ensures c.key.ensures.key same) ∙ fails in
+    not-taken p d x (g.I.Items.supply c.args.self.now.indices.now).left (g.I.Items.supply c.take.new.self).left draft draft refl none
