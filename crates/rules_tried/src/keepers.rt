@@ -6,7 +6,7 @@ ghost use Rattle.hive_model.specs.Boards.{is_on_top};
 ghost use Rattle.hive_model.specs.Places.{IsWithin};
 
 use cut_keeper::{CutKeeper, added_uncounted, removed_uncounted};
-use hive_model::{Board, Piece, Place, Spot, is_occupied};
+use hive_model::{Board, Piece, Place, Spot};
 use one_hive::is_one;
 use stack_board::PlainBoard;
 use std::alloc::{AllocError, Global};
@@ -74,13 +74,14 @@ struct Tried {
 
 impl Model for Tried {
     ghost use Rattle.hive_model.specs.Boards.{Stacks, IsBoard};
+    ghost use Rattle.hive_model.specs.Hive.{OneHive};
     ghost use Rattle.cut_keeper.specs.Keeping.{Keeps};
 
     ghost Value = { Stacks };
 
     ghost view = { λ t. t.board };
 
-    ghost invariant = { λ t. IsBoard t.board × Keeps t.board t.keeper };
+    ghost invariant = { λ t. Keeps t.board t.keeper × IsBoard t.board × OneHive t.board };
 }
 
 impl Tried {
@@ -123,7 +124,7 @@ impl Tried {
             board: &board,
             calls: Cell::new(0),
         };
-        added_uncounted(&mut keeper, &counted, place);
+        added_uncounted(&mut keeper, &counted, piece, place);
         let calls = counted.calls.get();
         Some(Tried {
             board,
@@ -150,7 +151,7 @@ impl Tried {
         if !is_one(&board) {
             return None;
         }
-        removed_uncounted(&mut keeper, &board, place);
+        removed_uncounted(&mut keeper, &board, piece, place);
         Some(Tried {
             board,
             keeper,
@@ -158,10 +159,8 @@ impl Tried {
         })
     }
 
-    /// Whether the place is occupied, and a cut place.
     fn is_cut(&self, q: i32, r: i32) -> bool {
-        let place = Place { q, r };
-        is_occupied(&self.board, place) && self.keeper.is_cut(&self.board, place)
+        self.keeper.is_cut(&self.board, Place { q, r })
     }
 }
 
