@@ -1,7 +1,10 @@
 //! The game.
 
-ghost use Rattle.std.specs.Prelude.{◌≡◌, refl};
+ghost use Rattle.std.specs.Prelude.{◌≡◌, ◌≤ℤ◌, IsTrue, refl};
 ghost use Rattle.hive_model.specs.Courses.{position};
+ghost use Rattle.hive_model.specs.Legal.{moves};
+ghost use Rattle.hive_model.specs.Lists.{IsOn};
+ghost use Rattle.hive_model.specs.Minimax.{reply_value};
 
 use crate::before::Before;
 use crate::evaluation::worth_after;
@@ -10,6 +13,7 @@ use crate::keys::key_after;
 use crate::listing::{count_after, is_legal_after, list_moves, state_of};
 use crate::lookahead::Lookahead;
 use crate::moves_made::{make, unmake};
+use crate::reach::is_out_of_reach;
 use crate::refuting::{reply_behind, turn_behind};
 use crate::turns::{side_after, turn_after};
 use cut_keeper::CutKeeper;
@@ -100,6 +104,38 @@ impl<B: GameBoard> Board for BoardGame<B> {
 
     fn neighbours(&self, place: Place) -> u8 {
         self.board.neighbours(place)
+    }
+}
+
+impl<B: GameBoard> BoardGame<B> {
+    /// Whether a legal move is worth no more than alpha to the side that makes it, with no ply left
+    /// behind it, by what its piece reaches.
+    fn is_out_of_reach(&mut self, m: &Move, alpha: i32) -> bool
+        requires { IsOn (moves (position self.old.course)) m.now }
+        ensures futile { IsTrue result → reply_value (position self.old.course) 0 m.now ≤ℤ alpha }
+        ensures same { self.new.course ≡ self.old.course }
+        ensures count { self.new.count ≡ self.old.count }
+    {
+        let Move::To { piece, place } = m else {
+            return false;
+        };
+        let side = side_after(self.made.len() as u32).other();
+        let reach = self.ahead.reach_of(&self.board, &self.keeper, *piece, side);
+        is_out_of_reach(&reach, &self.board, *place, side, alpha)
+    }
+
+    /// Whether a legal move is known to be worth no more than alpha to the side that makes it, with
+    /// no ply left behind it: by what its piece reaches, or else by what is told of the move.
+    fn is_futile(&mut self, m: Move, alpha: i32) -> bool
+        requires { IsOn (moves (position self.old.course)) m }
+        ensures futile { IsTrue result → reply_value (position self.old.course) 0 m ≤ℤ alpha }
+        ensures same { self.new.course ≡ self.old.course }
+        ensures count { self.new.count ≡ self.old.count }
+    {
+        if self.is_out_of_reach(&m, alpha) {
+            return true;
+        }
+        self.is_told_futile(m, alpha)
     }
 }
 
@@ -239,6 +275,16 @@ impl<B: GameBoard> Game for BoardGame<B> {
         self.quiet = Some(quiet);
         let least = self.least_after(m)?;
         most_worth(&turn, least)
+    }
+
+    fn next_candidate(&mut self, stack: &MoveStack, level: u32, from: u32, alpha: i32) -> u32 {
+        let end = stack.level_len(level);
+        for at in from..end {
+            if !self.is_futile(stack.get(level, at), alpha) {
+                return at;
+            }
+        }
+        end
     }
 
     fn key(&self) -> Key {

@@ -1,6 +1,6 @@
 //! What was found of the board at hand, so that the worth of a move is told without making it.
 
-ghost use Rattle.std.specs.Prelude.{◌≡◌, ◌≤ℤ◌, None, IfSome};
+ghost use Rattle.std.specs.Prelude.{◌≡◌, ◌≤ℤ◌, None, Some, IfSome};
 ghost use Rattle.std.specs.Option.{IsSomeAnd};
 ghost use Rattle.hive_model.specs.declared.places.Move.TheVariants.{To};
 ghost use Rattle.hive_model.specs.Boards.{without};
@@ -11,19 +11,24 @@ ghost use Rattle.hive_model.specs.Pieces.{other_side};
 ghost use Rattle.hive_model.specs.Positions.{Position};
 ghost use Rattle.leaf_worth.specs.Bases.{IsFound};
 ghost use Rattle.board_game.specs.Asked.{IsKnown, MayAsk};
+ghost use Rattle.board_game.specs.Reaches.{IsPlacing, IsReach};
 ghost use Rattle.board_game.specs.Replayed.{CanBeTaken, CanMake};
 
+use crate::reach::{Placing, Reach, placing_by, reach_by};
 use crate::told_values::{find_base, find_whole, least_by, value_by};
 use cut_keeper::CutKeeper;
 use hive_model::{Board, Colour, Piece, Place};
 use leaf_worth::Base;
 
 /// What was found for the side that is to move after the next move: of the whole board, and of the
-/// board without the piece that was asked for last.
+/// board without the piece that was asked for last. Beside these stand what the piece reaches whose
+/// bounds were asked for last, and the bound of all placements.
 #[derive(Drop)]
 pub struct Lookahead {
     pub whole: Option<Base>,
     pub asked: Option<(Piece, Base)>,
+    pub reach: Option<Reach>,
+    pub placing: Option<Placing>,
 }
 
 impl Lookahead {
@@ -31,10 +36,14 @@ impl Lookahead {
     pub fn new() -> Lookahead
         ensures whole { result.whole ≡ None }
         ensures asked { result.asked ≡ None }
+        ensures reach { result.reach ≡ None }
+        ensures placing { result.placing ≡ None }
     {
         Lookahead {
             whole: None,
             asked: None,
+            reach: None,
+            placing: None,
         }
     }
 
@@ -43,10 +52,14 @@ impl Lookahead {
         ensures taken { result ≡ self.old }
         ensures whole { self.new.whole ≡ None }
         ensures asked { self.new.asked ≡ None }
+        ensures reach { self.new.reach ≡ None }
+        ensures placing { self.new.placing ≡ None }
     {
         Lookahead {
             whole: self.whole.take(),
             asked: self.asked.take(),
+            reach: self.reach.take(),
+            placing: self.placing.take(),
         }
     }
 
@@ -62,6 +75,8 @@ impl Lookahead {
         ensures known { IsSomeAnd self.new.whole (IsFound (B.stacks board.now) side) }
         ensures asked { IsSomeAnd self.new.asked (λ a. (a.0 ≡ piece)
             × IsFound (without (B.stacks board.now) piece) side a.1) }
+        ensures reach { self.new.reach ≡ self.old.reach }
+        ensures placing { self.new.placing ≡ self.old.placing }
     {
         find_whole(board, keeper, &mut self.whole, side);
         if let Some(whole) = self.whole.as_ref() {
@@ -116,5 +131,103 @@ impl Lookahead {
             Some((_, base)) => least_by(board, base, piece, place, side),
             None => None,
         }
+    }
+
+    /// At most what any placement is worth, by what is known or found now of the whole board. The
+    /// keeper stands for the board, which is one hive, and on which no queen is surrounded.
+    fn placing<B: Board>(&mut self, board: &B, keeper: &CutKeeper, side: Colour) -> Placing
+        requires known { IsKnown (B.stacks board.now) side self.old }
+        requires may { MayAsk (B.stacks board.now) keeper.now }
+        requires one_hive { OneHive (B.stacks board.now) }
+        ensures known { IsKnown (B.stacks board.now) side self.new }
+        ensures placing { IsPlacing (B.stacks board.now) side result }
+    {
+        if let Some(placing) = self.placing {
+            return placing;
+        }
+        find_whole(board, keeper, &mut self.whole, side);
+        let placing = match self.whole.as_ref() {
+            Some(whole) => placing_by(board, whole, side),
+            None => Placing { most: None },
+        };
+        self.placing = Some(placing);
+        placing
+    }
+
+    /// What the piece reaches, which is in hand or on top: for one in hand the bound of placements
+    /// where that is known, else by what is known or found now of the board without the piece.
+    fn find_reach<B: Board>(
+        &mut self,
+        board: &B,
+        keeper: &CutKeeper,
+        piece: Piece,
+        side: Colour,
+    ) -> Reach
+        requires known { IsKnown (B.stacks board.now) side self.old }
+        requires may { MayAsk (B.stacks board.now) keeper.now }
+        requires loose { CanBeTaken (B.stacks board.now) piece }
+        requires one_hive { OneHive (B.stacks board.now) }
+        requires left { OneHive (without (B.stacks board.now) piece) }
+        ensures known { IsKnown (B.stacks board.now) side self.new }
+        ensures piece { result.piece ≡ piece }
+        ensures reach { IsReach (B.stacks board.now) side result }
+    {
+        if board.spot(piece).is_none() {
+            let placing = self.placing(board, keeper, side);
+            if placing.most.is_some() {
+                return Reach {
+                    piece,
+                    most: placing.most,
+                    afar: None,
+                };
+            }
+        }
+        self.find(board, keeper, piece, side);
+        match self.asked.as_ref() {
+            Some((_, base)) => reach_by(board, base, piece, side),
+            None => Reach {
+                piece,
+                most: None,
+                afar: None,
+            },
+        }
+    }
+
+    /// What was answered for the piece, if it was asked for last.
+    fn known_reach(&self, piece: Piece) -> Option<Reach>
+        ensures { IfSome result (λ r. (r.piece ≡ piece) × (self.now.reach ≡ Some r)) }
+    {
+        let known = self.reach.as_ref()?;
+        if known.piece == piece {
+            Some(known.again())
+        } else {
+            None
+        }
+    }
+
+    /// What the piece reaches, which is in hand or on top: what was answered if it was asked for
+    /// last, else what is found now.
+    pub fn reach_of<B: Board>(
+        &mut self,
+        board: &B,
+        keeper: &CutKeeper,
+        piece: Piece,
+        side: Colour,
+    ) -> Reach
+        requires known { IsKnown (B.stacks board.now) side self.old }
+        requires may { MayAsk (B.stacks board.now) keeper.now }
+        requires loose { CanBeTaken (B.stacks board.now) piece }
+        requires one_hive { OneHive (B.stacks board.now) }
+        requires left { OneHive (without (B.stacks board.now) piece) }
+        ensures known { IsKnown (B.stacks board.now) side self.new }
+        ensures piece { result.piece ≡ piece }
+        ensures reach { IsReach (B.stacks board.now) side result }
+    {
+        if let Some(known) = self.known_reach(piece) {
+            return known;
+        }
+        let found = self.find_reach(board, keeper, piece, side);
+        self.reach = Some(found.again());
+        found
     }
 }

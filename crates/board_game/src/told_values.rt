@@ -34,8 +34,8 @@ pub fn find_whole<B: Board>(board: &B, keeper: &CutKeeper, known: &mut Option<Ba
     }
 }
 
-/// What is found of the board without the piece, which is in hand or on top, by what was found of
-/// the whole board. The keeper stands for the board, which is one hive with the piece and without
+/// What is found of the board without the piece, which is in hand or on top: for one in hand it is
+/// what was found of the whole board. The keeper stands for the board, which is one hive with the piece and without
 /// it, and on which no queen is surrounded.
 fn base_without<B: Board>(
     board: &B,
@@ -56,7 +56,7 @@ fn base_without<B: Board>(
             let mut known = keeper.again();
             let left = Lifted::new(board, piece);
             removed_uncounted(&mut known, &left, piece, spot.place);
-            whole.left_by(board, &left, known, piece, spot.place, side, true)
+            Base::of_hive(&left, known, side)
         }
         None => whole.again(),
     }

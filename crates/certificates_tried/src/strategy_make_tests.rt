@@ -90,11 +90,11 @@ fn failed_writes_end_a_certificate(rt: HostRuntime) -> Result<(), Fail> {
 fn checked(
     alloc: Global,
     index: u8,
-    value: i32,
+    value: u8,
     indices: &[u32],
 ) -> Result<Checked<Why>, AllocError> {
     let mut game = PlainGame::opening(alloc, BASE)?;
-    if is_over(&game) || value < -100 || value > 100 {
+    if is_over(&game) {
         return Ok(Checked::Accepted);
     }
     game.reserve(2)?;
@@ -103,7 +103,7 @@ fn checked(
     let claim = Claim {
         depth: 2,
         best,
-        value,
+        value: i32::from(value),
     };
     let mut list = ListIndices::new(indices);
     Ok(check(&mut game, &claim, &mut list, &mut stack))

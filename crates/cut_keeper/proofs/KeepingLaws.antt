@@ -10,7 +10,7 @@ use Rattle.hive_model.proofs.BoardLemmas.{spot_of_stands, stands_spot_of}
 use Rattle.hive_model.specs.Lists.{IsOn}
 use Rattle.hive_model.specs.Places.{step}
 use Rattle.hive_model.specs.Boards.{Stacks, stack_at, height_at, is_occupied, top_at, spot_of, IsBoard}
-use Rattle.hive_model.specs.Hive.{OneHive, IsSeparating, IsCut}
+use Rattle.hive_model.specs.Hive.{IsSeparating, IsCut}
 use Rattle.hive_model.proofs.GetLemmas.{get_exists, get_within}
 use Rattle.hive_model.proofs.PlaceLemmas.{cases_place}
 use Rattle.one_hive.specs.Visits.{IsSet}

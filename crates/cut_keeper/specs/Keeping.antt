@@ -1,10 +1,10 @@
 -- Euler's number and marks of the pieces on top of separating places, kept up as a board changes.
-use Rattle.std.specs.Prelude.{◌≡◌, ◌≢◌, ◌↔◌, ◌⊎◌, ℕ, ℤ, Bool, true, false, List, Some}
+use Rattle.std.specs.Prelude.{◌≡◌, ◌≢◌, ◌↔◌, ◌⊎◌, ℕ, ◌<◌, ℤ, Bool, true, false, List, Some, IsTrue}
 use Rattle.hive_model.specs.declared.places.Place.{Place}
 use Rattle.hive_model.specs.declared.places.Dir.{Dir}
 use Rattle.hive_model.specs.Lists.{IsOn}
 use Rattle.hive_model.specs.Places.{step, IsOnTheMap}
-use Rattle.hive_model.specs.Boards.{Stacks, IsBoard, is_occupied, top_at, put}
+use Rattle.hive_model.specs.Boards.{Stacks, IsBoard, StandsAt, is_occupied, is_on_top, top_at, put}
 use Rattle.hive_model.specs.Hive.{OneHive, IsSeparating}
 use Rattle.arcs.specs.Masks.{how_many}
 use Rattle.one_hive.specs.Visits.{IsSet}
@@ -13,15 +13,28 @@ use Rattle.hive_model.specs.Neighbours.{ring, ring_mask}
 use Rattle.euler.specs.Euler.{euler_number}
 use Rattle.cut_keeper.specs.Rings.{is_suspect}
 
--- what a keeper has: a number, and a mark for each piece
+-- the pieces that are on top of their places are marked, and no others
+abbrev pub MarksTops : Stacks → List Bool → Type 0
+MarksTops b tops = (x : ℕ) → IsSet tops x ↔ IsTrue (is_on_top b x)
+
+-- of the pieces on the board, covered ones too, those are marked that stand on another piece
+abbrev pub MarksHigh : Stacks → List Bool → Type 0
+MarksHigh b high =
+    (x : ℕ) (p : Place) (level : ℕ) → StandsAt b x p level → IsSet high x ↔ (0 < level)
+
+-- what a keeper has: a number, and three marks for each piece
 pub record Kept : Type 0 where
   pub number : ℤ
   pub marks : List Bool
+  pub tops : List Bool
+  pub high : List Bool
 
--- it stands for this board: the number is Euler's, and the pieces on top of separating places are
--- marked
+-- it stands for this board: the number is Euler's, and marked are the pieces on top of separating
+-- places, the pieces on top of any place, and the pieces that stand on others
 abbrev pub Keeps : Stacks → Kept → Type 0
-Keeps b k = (k.number ≡ euler_number b) × MarksSeparating b k.marks
+Keeps b k =
+    (k.number ≡ euler_number b) × MarksSeparating b k.marks × MarksTops b k.tops
+    × MarksHigh b k.high
 
 -- what stands like this stood for a sound board that is one hive, and since then the piece was put
 -- on top of the place, which left one hive
@@ -55,6 +68,15 @@ MarksGrown marks = GrownBy (λ b. MarksSeparating b marks)
 
 abbrev pub MarksShrunk : List Bool → Stacks → ℕ → Place → Type 0
 MarksShrunk marks = ShrunkBy (λ b. MarksSeparating b marks)
+
+abbrev pub TopsGrown : List Bool → Stacks → ℕ → Place → Type 0
+TopsGrown tops = GrownBy (λ b. MarksTops b tops)
+
+abbrev pub TopsShrunk : List Bool → Stacks → ℕ → Place → Type 0
+TopsShrunk tops = ShrunkBy (λ b. MarksTops b tops)
+
+abbrev pub HighGrown : List Bool → Stacks → ℕ → Place → Type 0
+HighGrown high = GrownBy (λ b. MarksHigh b high)
 
 -- While marks are made right
 

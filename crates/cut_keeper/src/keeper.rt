@@ -11,15 +11,18 @@ ghost use Rattle.std.specs.Prelude.{
   negsuc,
   ◌-ℤ◌,
   ◌≤ℤ◌,
+  None,
   Some,
   IsTrue,
 };
 ghost use Rattle.hive_model.specs.Places.{IsOnTheMap};
 ghost use Rattle.hive_model.specs.Boards.{height_at, top_at};
+ghost use Rattle.hive_model.specs.Evaluation.{free_pieces};
 ghost use Rattle.hive_model.specs.Hive.{IsCut};
 ghost use Rattle.euler.specs.Euler.{euler_number, arcs_at};
 ghost use Rattle.cut_keeper.specs.Keeping.{Keeps, Grown, Shrunk};
 
+use crate::tops::{high_added, top_added, top_removed};
 use crate::updating::{added, removed};
 use arcs::arcs;
 use hive_model::{Board, Cuts, Piece, Place, Spot};
@@ -27,12 +30,15 @@ use one_hive::{Marks, Steps};
 use std::marker::{Brand, Model};
 use std::sync::ledger::{Blank, Ledger};
 
-/// Euler's number of a board that is one hive, and a mark for each piece: where a keeper stands for
-/// a board, a piece that is on top of a place is marked exactly where the place is separating.
+/// Euler's number of a board that is one hive, and marks for each piece: where a keeper stands for a
+/// board, a piece that is on top of a place is in `marks` exactly where the place is separating,
+/// `tops` has the pieces on top of their places, and `high` those that stand on another piece.
 #[derive(Drop)]
 pub struct CutKeeper {
     number: i32,
     marks: Marks,
+    tops: Marks,
+    high: Marks,
 }
 
 impl Model for CutKeeper {
@@ -40,7 +46,7 @@ impl Model for CutKeeper {
 
     ghost Value = { Kept };
 
-    ghost view = { λ k. record { number = k.number; marks = k.marks } };
+    ghost view = { λ k. record { number = k.number; marks = k.marks; tops = k.tops; high = k.high } };
 }
 
 /// What a place adds to Euler's number of the board while it is occupied: 1, less the arcs of
@@ -89,6 +95,8 @@ impl CutKeeper {
         CutKeeper {
             number: 0,
             marks: Marks::new(),
+            tops: Marks::new(),
+            high: Marks::new(),
         }
     }
 
@@ -99,6 +107,8 @@ impl CutKeeper {
         CutKeeper {
             number: self.number,
             marks: self.marks.again(),
+            tops: self.tops.again(),
+            high: self.high.again(),
         }
     }
 
@@ -119,9 +129,12 @@ impl CutKeeper {
         ensures none { euler_number (B.stacks board.now) ≡ pos 1 → steps.new ≡ steps.old }
         ensures few { steps.new ≤ steps.old + 3 }
     {
+        board.is_board();
         let number = number_with(self, board, piece, place);
         added(&mut self.marks, board, number, piece, place, steps);
         self.number = number;
+        top_added(&mut self.tops, board, piece, place);
+        high_added(&mut self.high, board, piece, place);
     }
 
     /// After the piece was taken from the top of the place, makes a keeper that stood for the board
@@ -141,9 +154,11 @@ impl CutKeeper {
         ensures none { euler_number (B.stacks board.now) ≡ pos 1 → steps.new ≡ steps.old }
         ensures few { steps.new ≤ steps.old + 3 }
     {
+        board.is_board();
         let number = number_without(self, board, piece, place);
         removed(&mut self.marks, board, number, piece, place, steps);
         self.number = number;
+        top_removed(&mut self.tops, board, piece, place);
     }
 
     /// Whether a place of the board that it stands for is a cut place.
@@ -168,6 +183,16 @@ impl CutKeeper {
             return false;
         }
         board.height(place) == 1
+    }
+
+    /// The pieces of the board that it stands for which are on top of their places and stand on no
+    /// cut place, as a number with a bit for each piece.
+    pub fn free_pieces<B: Board>(&self, board: &B) -> u32
+        requires { Keeps (B.stacks board.now) self.now }
+        ensures { result ≡ free_pieces (B.stacks board.now) None }
+    {
+        board.is_board();
+        self.tops.bits() & (self.high.bits() | !self.marks.bits())
     }
 }
 
@@ -274,5 +299,9 @@ impl<B: Board> Board for KeptCuts<'_, B> {
 impl<B: Board> Cuts for KeptCuts<'_, B> {
     fn is_cut(&self, place: Place) -> bool {
         self.keeper.is_cut(self.board, place)
+    }
+
+    fn free_pieces(&self) -> u32 {
+        self.keeper.free_pieces(self.board)
     }
 }

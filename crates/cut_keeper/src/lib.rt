@@ -12,6 +12,7 @@
 mod examining;
 mod keeper;
 mod rings;
+mod tops;
 mod updating;
 
 pub use keeper::{CutKeeper, KeptCuts, added_uncounted, removed_uncounted};

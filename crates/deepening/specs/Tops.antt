@@ -3,14 +3,22 @@ use Rattle.std.specs.Prelude.{◌≡◌, ℕ, ◌+◌, ◌-◌, ◌*◌, ◌^◌
 use Rattle.hive_model.specs.declared.best.Best.{Best}
 use Rattle.hive_model.specs.declared.best.Timed.{Timed}
 use Rattle.hive_model.specs.Positions.{Position}
-use Rattle.hive_model.specs.Minimax.{value, best, reads}
-use Rattle.hive_model.specs.Courses.{Course}
+use Rattle.hive_model.specs.Minimax.{value, best, nodes, reads}
+use Rattle.hive_model.specs.Courses.{Course, position}
 use Rattle.hive_model.specs.Costs.{share}
+use Rattle.search_core.specs.Moments.{Moment, Spends, Answers}
 
 -- the first of the legal moves that is worth most with so many plies searched, and what it is worth
 pub record IsTop (p : Position) (depth : ℕ) (top : Best) : Type 0 where
   pub first : best p depth ≡ Some top.best
   pub worth : top.value ≡ value p depth
+
+-- Between two moments a search of a root spent no more than the plies of all its lines and the share
+-- of one worker alone, and it answers the best move.
+pub record SearchesRoot (depth : ℕ) (answer : Option Best) (old new : Moment) : Type 0 where
+  pub spends : Spends (nodes (position old.course) depth) (share (position old.course) depth 0 1)
+      old new
+  pub answers : Answers (IsTop (position old.course) depth) answer old new
 
 -- what a search tells that was given so many milliseconds, between the readings of the clock that
 -- were the last before and after it: a depth below 64 only where the time was over, and depth 1

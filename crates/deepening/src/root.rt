@@ -6,8 +6,8 @@ ghost use Rattle.std.specs.Option.{option_eq};
 ghost use Rattle.hive_model.specs.declared.places.Move.{Move as AnyMove};
 ghost use Rattle.hive_model.specs.Legal.{is_over, moves};
 ghost use Rattle.hive_model.specs.Games.{after};
-ghost use Rattle.hive_model.specs.Minimax.{value, nodes, reply_value};
-ghost use Rattle.hive_model.specs.Costs.{cost, share};
+ghost use Rattle.hive_model.specs.Minimax.{value, reply_value};
+ghost use Rattle.hive_model.specs.Costs.{cost};
 ghost use Rattle.hive_model.specs.Courses.{position};
 ghost use Rattle.search_laws.specs.Found.{IsOpen};
 ghost use Rattle.search_laws.specs.Nodes.{HasRoom, IsNode, CanReply};
@@ -15,7 +15,7 @@ ghost use Rattle.search_core.specs.Times.{behind, sum_but};
 ghost use Rattle.search_core.specs.Ticks.{has_come};
 ghost use Rattle.search_core.specs.Moments.{moment, Spends, Answers, AnswersReply};
 ghost use Rattle.deepening.specs.Shares.{turns_share};
-ghost use Rattle.deepening.specs.Tops.{IsTop};
+ghost use Rattle.deepening.specs.Tops.{IsTop, SearchesRoot};
 
 use hive_model::{Best, Game, Move};
 use io_edge::Clock;
@@ -49,12 +49,8 @@ pub(crate) fn best_reply<G: Game, C: Clock>(
     requires some { 1 ≤ depth }
     requires room { HasRoom depth (G.course game.old) work.old.stack }
     requires early { has_come work.old.ticker.deadline (C.last clock.old) ≡ false }
-    ensures spends { let at = moment G.course G.played C.readings C.last C.previous in
-        Spends (nodes (position (G.course game.old)) depth)
-        (share (position (G.course game.old)) depth 0 1)
-        (at game.old work.old clock.old) (at game.new work.new clock.new) }
-    ensures answers { let at = moment G.course G.played C.readings C.last C.previous in
-        Answers (IsTop (position (G.course game.old)) depth) result
+    ensures { let at = moment G.course G.played C.readings C.last C.previous in
+        SearchesRoot depth result
         (at game.old work.old clock.old) (at game.new work.new clock.new) }
 {
     let key = game.key();
@@ -90,12 +86,8 @@ fn try_all<G: Game, C: Clock>(
     clock: &mut C,
 ) -> Option<Best>
     requires node { IsNode depth level (G.course game.old) work.old.stack }
-    ensures spends { let at = moment G.course G.played C.readings C.last C.previous in
-        Spends (nodes (position (G.course game.old)) depth)
-        (share (position (G.course game.old)) depth 0 1)
-        (at game.old work.old clock.old) (at game.new work.new clock.new) }
-    ensures answers { let at = moment G.course G.played C.readings C.last C.previous in
-        Answers (IsTop (position (G.course game.old)) depth) result
+    ensures { let at = moment G.course G.played C.readings C.last C.previous in
+        SearchesRoot depth result
         (at game.old work.old clock.old) (at game.new work.new clock.new) }
 {
     if let Some(first) = hint {

@@ -3,6 +3,7 @@
 ghost use Rattle.std.specs.Prelude.{◌<◌};
 
 mod beside;
+mod futile;
 mod kept;
 mod rows;
 mod told;

@@ -3,3 +3,4 @@ pub mod OpenLaws
 pub mod LevelLaws
 pub mod PairLaws
 pub mod BringLaws
+pub mod EmptyDirs

@@ -3,6 +3,7 @@
 ghost use Rattle.std.specs.Prelude.{◌≡◌, ◌↔◌, ◌+◌, ◌≤◌, [], ◌++◌, map, length, IsTrue};
 ghost use Rattle.hive_model.specs.declared.places.Place.{Place};
 ghost use Rattle.hive_model.specs.declared.places.Move.TheVariants.{To};
+ghost use Rattle.hive_model.specs.Pieces.{colour_of};
 ghost use Rattle.hive_model.specs.Placement.{IsLeastInHand, MayPlace};
 ghost use Rattle.hive_model.specs.PlaceLists.{AreAll};
 ghost use Rattle.hive_model.specs.Stack.{without_level};
@@ -26,7 +27,9 @@ fn is_next<B: Board>(game_type: GameType, board: &B, piece: Piece) -> bool
 
 /// Whether the side may bring this piece into play in its turn of this number. The piece is the
 /// side's and the next of its kind. On its first turn a side brings no queen; on its fourth or a
-/// later turn, while its queen is in hand, nothing else.
+/// later turn, while its queen is in hand, nothing else. A piece of the other side or of the board
+/// is answered for without a call.
+#[inline(always)]
 pub fn may_bring<B: Board>(
     game_type: GameType,
     board: &B,
@@ -36,7 +39,25 @@ pub fn may_bring<B: Board>(
 ) -> bool
     ensures { IsTrue result ↔ MayBring game_type (B.stacks board.now) colour turn piece }
 {
-    if !piece.colour().is(colour) || !in_hand(game_type, board, piece) {
+    if !piece.colour().is(colour) || board.spot(piece).is_some() {
+        return false;
+    }
+    may_bring_from_hand(game_type, board, colour, turn, piece)
+}
+
+/// `may_bring`, where the piece is the side's.
+#[inline(never)]
+fn may_bring_from_hand<B: Board>(
+    game_type: GameType,
+    board: &B,
+    colour: Colour,
+    turn: u32,
+    piece: Piece,
+) -> bool
+    requires { colour_of piece ≡ colour }
+    ensures { IsTrue result ↔ MayBring game_type (B.stacks board.now) colour turn piece }
+{
+    if !in_hand(game_type, board, piece) {
         return false;
     }
     let is_queen = matches!(piece.kind(), Kind::Queen);

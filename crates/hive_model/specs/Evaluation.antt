@@ -5,7 +5,7 @@ use Rattle.hive_model.specs.declared.pieces.Colour.{Colour}
 use Rattle.hive_model.specs.declared.pieces.Kind.{Kind}
 use Rattle.hive_model.specs.declared.pieces.Kind.TheVariants.{Queen, Spider, Beetle, Grasshopper, Ant, Mosquito, Ladybug, Pillbug}
 use Rattle.hive_model.specs.declared.places.Spot.{Spot}
-use Rattle.hive_model.specs.Pieces.{kind_of, colour_of, is_colour, other_side, all_pieces, queen_of}
+use Rattle.hive_model.specs.Pieces.{kind_of, colour_of, is_colour, other_side, all_pieces, mask_of_pieces, queen_of}
 use Rattle.hive_model.specs.Places.{neighbours}
 use Rattle.hive_model.specs.Boards.{Stacks, height_at, is_occupied, spot_of, is_top_spot}
 use Rattle.hive_model.specs.Hive.{IsCut, is_cut}
@@ -37,6 +37,10 @@ is_uncut_top b (Some s) = is_top_spot b (Some s) && not (is_cut b s.place)
 
 abbrev pub is_free_piece : Stacks → Option ℕ → ℕ → Bool
 is_free_piece b rest x = not (is_piece x rest) && is_uncut_top b (spot_of b x)
+
+-- the free pieces, as a number with a bit for each piece
+abbrev pub free_pieces : Stacks → Option ℕ → ℕ
+free_pieces b rest = mask_of_pieces (is_free_piece b rest)
 
 -- what a piece counts for a side: its weight where it is a free piece of that side
 abbrev pub counted : Stacks → Option ℕ → Colour → ℕ → ℕ

@@ -21,6 +21,7 @@ ghost use Rattle.std.specs.Prelude.{
   OnErr,
   IsTrue,
 };
+ghost use Rattle.hive_model.specs.declared.places.Move.{Move as AnyMove};
 ghost use Rattle.hive_model.specs.Lists.{IsOn};
 ghost use Rattle.hive_model.specs.Positions.{IsSound};
 ghost use Rattle.hive_model.specs.Legal.{moves};
@@ -34,7 +35,7 @@ ghost use Rattle.hive_model.specs.Courses.{
   is_listed,
   most_plies,
 };
-ghost use Rattle.hive_model.specs.Stack.{with_level};
+ghost use Rattle.hive_model.specs.Stack.{level_of, with_level};
 ghost use Rattle.hive_model.specs.Evaluation.{eval};
 ghost use Rattle.hive_model.specs.Minimax.{value, reply_value};
 ghost use Rattle.hive_model.specs.Keys.{key};
@@ -171,6 +172,22 @@ pub trait Game: Board + Sized {
     fn most_after(&mut self, m: Move) -> Option<i32>
         requires { IsOn (moves (position (course self.old))) m }
         ensures most { IfSome result (λ b. reply_value (position (course self.old)) 1 m ≤ℤ b) }
+        ensures same { course self.new ≡ course self.old }
+        ensures count { played self.new ≡ played self.old };
+
+    /// The place of the next move of the level, from `from` on, that may raise alpha with no ply left
+    /// behind it; the length of the level where none may. Each move that is passed over is worth no
+    /// more than alpha to the side that makes it. The level holds the legal moves. The game is as
+    /// before.
+    fn next_candidate(&mut self, stack: &MoveStack, level: u32, from: u32, alpha: i32) -> u32
+        requires stands { level < length stack.now.lists }
+        requires listed { level_of stack.now level ≡ moves (position (course self.old)) }
+        requires from { from ≤ length (moves (position (course self.old))) }
+        ensures later { from ≤ result }
+        ensures within { result ≤ length (moves (position (course self.old))) }
+        ensures futile { (i : ℕ) (m : AnyMove) → from ≤ i → i < result
+            → slice_get (moves (position (course self.old))) i ≡ Some m
+            → reply_value (position (course self.old)) 0 m ≤ℤ alpha }
         ensures same { course self.new ≡ course self.old }
         ensures count { played self.new ≡ played self.old };
 

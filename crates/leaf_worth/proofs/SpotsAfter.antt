@@ -69,7 +69,7 @@ nothing_by None h = refl
 nothing_by (Some x) h = absurd (h x refl)
 
 -- where two places are occupied, one is another than n
-another_place : (b : Stacks) → HasTwo b → (n : Place) → (q : Place) × IsTrue (is_occupied b q) × (q ≢ n)
+pub another_place : (b : Stacks) → HasTwo b → (n : Place) → (q : Place) × IsTrue (is_occupied b q) × (q ≢ n)
 another_place b two n = elim (list_any (except (is_occupied b) n) (places_of b)) as (λ t. list_any (except (is_occupied b) n) (places_of b) ≡ t → (q : Place) × IsTrue (is_occupied b q) × (q ≢ n)) [
   | true ↦ λ e. let found = any_has (except (is_occupied b) n) (places_of b) e in let out = except_out (is_occupied b) n found.0 found.2 in (found.0, out.1, out.0)
   | false ↦ λ e. absurd (two n (λ q on. elim (cases_place q n) [

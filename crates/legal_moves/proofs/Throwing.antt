@@ -1,6 +1,6 @@
 -- Where a piece is thrown, and how many places a piece of the board can go to.
 use Rattle.std.proofs.Common.{◌≡◌, ◌↔◌, ℕ, ◌≤◌, ◌<◌, Bool, true, false, not, ◌||◌, List, [], ◌∷◌, length, ◌⊎◌, inl, inr, refl, sym, ◌∙◌, ap, subst, arith}
-use Rattle.std.specs.Prelude.{Option, None, Some, IsTrue, nat_eq}
+use Rattle.std.specs.Prelude.{Option, Some, IsTrue, nat_eq, slice_get}
 use Rattle.std.specs.List.{list_all}
 use Rattle.std.proofs.lemmas.Bool.{lt-ltb, ltb-true, eqb-true, or_cases, not-true}
 use Rattle.hive_model.specs.declared.pieces.Colour.{Colour}
@@ -27,7 +27,8 @@ use Rattle.hive_model.proofs.CountLaws.{rising_distinct, distinct_short, near_fe
 use Rattle.bug_moves.specs.Counts.{AreMany}
 use Rattle.bug_moves.proofs.CountLaws.{none_many, same_many}
 use Rattle.pillbug_throws.specs.Throwing.{ThrowsFrom, ThrowsTo, StandsLoose}
-use Rattle.legal_moves.specs.Going.{ThrownBy, CanLift, IsThrowable, IsGoal, AreGoals, HaveRoom, IsMoved}
+use Rattle.legal_moves.specs.declared.turns.Throwers.{Throwers}
+use Rattle.legal_moves.specs.Going.{ThrownBy, CanLift, IsThrowable, AreThrowers, IsGoal, AreGoals, HaveRoom, IsMoved}
 use Rattle.legal_moves.proofs.Walking.{same_spot, stands_there, moves_apart}
 
 -- Goals
@@ -152,10 +153,6 @@ both_throw p x y1 y2 xs ys zs e1 e2 one two q = (
 -- Who can be thrown
 
 module _ (b : Stacks) (rest : Option ℕ) (y x : ℕ) where
-  -- a piece that may throw from nowhere lifts none
-  pub none_lifted : ThrowsFrom b rest y None → ¬ CanLift b rest y x
-  none_lifted none (t, is, _) = none t is
-
   -- a piece that may throw from there lifts what is loose beside it
   pub lifted_from : (o : Spot) → ThrowsFrom b rest y (Some o) → StandsLoose b rest o.place x ↔ CanLift b rest y x
   lifted_from o by = (
@@ -163,16 +160,13 @@ module _ (b : Stacks) (rest : Option ℕ) (y x : ℕ) where
     λ (t, is, loose). subst (λ (u : Spot). StandsLoose b rest u.place x) (same_spot (spot_of b y) t o is.stands by.stands) loose,
   )
 
-  -- in the terms of the code
-  pub lifts_from : (over : Option Spot) (o : Spot) (r : Option ℕ) (lifts : Bool) → ThrowsFrom b rest y over → over ≡ Some o → r ≡ rest → IsTrue lifts ↔ StandsLoose b r o.place x → IsTrue lifts ↔ CanLift b rest y x
-  lifts_from over o r lifts by is same loose =
-      let from = lifted_from o (subst (ThrowsFrom b rest y) is by) in
-      let beside = subst (λ z. IsTrue lifts ↔ StandsLoose b z o.place x) same loose in
-      (λ e. from.0 (beside.0 e), λ h. beside.1 (from.1 h))
-
   -- what is thrown is lifted
   thrown_lifted : (q : Place) → ThrownBy b rest y x q → CanLift b rest y x
   thrown_lifted q (t, is, (a, h)) = (t, is, (a, h.stands, record { alone = h.alone; awake = h.awake; beside = h.beside; not_cut = h.not_cut }))
+
+-- a piece that is not marked beside the throwers can be lifted by nobody
+pub not_beside : (p : Position) (t : Throwers) (x : ℕ) → AreThrowers p t → (marked : Bool) → slice_get t.beside x ≡ Some marked → marked ≡ false → ¬ IsThrowable p x
+not_beside p t x h marked at none can = let wrong : Some true ≡ Some false = sym (h.lifted x can) ∙ at ∙ ap Some none in let bad : true ≡ false = cc in absurd (cc)
 
 -- what nobody can lift is not thrown
 pub no_throw : (p : Position) (x : ℕ) → (¬ IsThrowable p x) → (q : Place) → ¬ Throw p x q

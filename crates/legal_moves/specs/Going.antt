@@ -14,6 +14,7 @@ use Rattle.hive_model.specs.Positions.{Position}
 use Rattle.hive_model.specs.Throws.{IsThrower, ThrowOver, Throw}
 use Rattle.hive_model.specs.Legal.{Walk}
 use Rattle.hive_model.specs.declared.pieces.Kind.TheVariants.{Mosquito, Pillbug}
+use Rattle.one_hive.specs.Visits.{IsSet}
 use Rattle.pillbug_throws.specs.Throwing.{ThrowsFrom, StandsLoose}
 use Rattle.legal_moves.specs.declared.turns.Turn.{Turn}
 use Rattle.legal_moves.specs.declared.turns.Throwers.{Throwers}
@@ -46,10 +47,12 @@ IsThrowable p x =
     CanLift p.board p.rest (piece_of p.side Pillbug 0) x
     ⊎ CanLift p.board p.rest (piece_of p.side Mosquito 0) x
 
--- these are the spots from which the pillbug and the mosquito of the side to move may throw
+-- these are the spots from which the pillbug and the mosquito of the side to move may throw, and
+-- the pieces that they can lift are marked
 pub record AreThrowers (p : Position) (t : Throwers) : Type 0 where
   pub pillbug : ThrowsFrom p.board p.rest (piece_of p.side Pillbug 0) t.pillbug
   pub mosquito : ThrowsFrom p.board p.rest (piece_of p.side Mosquito 0) t.mosquito
+  pub lifted : (x : ℕ) → IsThrowable p x → IsSet t.beside x
 
 -- a piece of the board is moved or thrown, which takes the side's queen in play
 abbrev pub IsMoved : Position → ℕ → Place → Type 0

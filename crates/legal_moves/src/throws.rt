@@ -1,18 +1,18 @@
 //! Where a piece is thrown, and where a piece of the board goes at all.
 
-ghost use Rattle.std.specs.Prelude.{◌≡◌, ◌↔◌, ◌⊎◌, [], IsTrue};
+ghost use Rattle.std.specs.Prelude.{◌≡◌, ◌↔◌, ◌⊎◌, ℕ, [], IsTrue};
 ghost use Rattle.hive_model.specs.declared.places.Place.{Place};
 ghost use Rattle.hive_model.specs.Lists.{IsOn};
 ghost use Rattle.hive_model.specs.PlaceLists.{AreAll};
 ghost use Rattle.hive_model.specs.Boards.{IsBoard, is_in_play};
 ghost use Rattle.hive_model.specs.declared.places.Spot.{Spot};
 ghost use Rattle.hive_model.specs.Throws.{IsThrower, Throw};
+ghost use Rattle.one_hive.specs.Visits.{IsSet};
 ghost use Rattle.bug_moves.specs.Counts.{AreMany};
 ghost use Rattle.pillbug_throws.specs.Throwing.{ThrowsFrom};
 ghost use Rattle.legal_moves.specs.Going.{
   ThrownBy,
   CanLift,
-  IsThrowable,
   AreThrowers,
   AreGoals,
   IsMoved,
@@ -23,15 +23,41 @@ use crate::merging::add_all;
 use crate::turns::{Throwers, Turn, again, is_in_play, mosquito_of, pillbug_of};
 use crate::walks::{count_walks, is_walk, walks};
 use hive_model::{Board, Cuts, Piece, Place, PlaceList, Spot, has_place};
-use pillbug_throws::{may_be_thrown, throwing_spot, throws};
+use one_hive::Marks;
+use pillbug_throws::{mark_beside, may_be_thrown, throwing_spot, throws};
+
+/// Finds where the piece may throw from, and marks the pieces beside it there: among them are all
+/// that it can lift.
+fn find_thrower<B: Board>(
+    board: &B,
+    turn: &Turn,
+    thrower: Piece,
+    beside: &mut Marks,
+) -> Option<Spot>
+    ensures over { ThrowsFrom (B.stacks board.now) turn.now.rest thrower result }
+    ensures lifted { (x : ℕ) → CanLift (B.stacks board.now) turn.now.rest thrower x
+        → IsSet beside.new x }
+    ensures kept { (x : ℕ) → IsSet beside.old x → IsSet beside.new x }
+{
+    let Some(over) = throwing_spot(board, thrower, again(&turn.rest)) else {
+        return None;
+    };
+    board.is_board();
+    mark_beside(board, over.place, beside);
+    Some(over)
+}
 
 /// Finds who throws for the side to move.
 pub fn find_throwers<B: Board>(board: &B, turn: &Turn) -> Throwers
     ensures { AreThrowers (position_of (B.stacks board.now) turn.now) result }
 {
+    let mut beside = Marks::new();
+    let pillbug = find_thrower(board, turn, pillbug_of(turn.side), &mut beside);
+    let mosquito = find_thrower(board, turn, mosquito_of(turn.side), &mut beside);
     Throwers {
-        pillbug: throwing_spot(board, pillbug_of(turn.side), again(&turn.rest)),
-        mosquito: throwing_spot(board, mosquito_of(turn.side), again(&turn.rest)),
+        pillbug,
+        mosquito,
+        beside,
     }
 }
 
@@ -90,6 +116,9 @@ fn add_all_throws<B: Cuts>(
     ensures added { (q : Place) → IsOn out.new.items q
         ↔ (IsOn out.old.items q ⊎ Throw (position_of (B.stacks board.now) turn.now) piece q) }
 {
+    if !throwers.beside.is_set(piece) {
+        return;
+    }
     add_throws(
         board,
         turn,
@@ -129,42 +158,6 @@ pub fn moved_places<B: Cuts>(
     add_all_throws(board, turn, throwers, piece, out);
 }
 
-/// Whether the one piece can lift the other over itself. `over` is where the first may throw from.
-fn can_lift<B: Cuts>(
-    board: &B,
-    turn: &Turn,
-    thrower: Piece,
-    over: Option<Spot>,
-    piece: Piece,
-) -> bool
-    requires board { IsBoard (B.stacks board.now) }
-    requires over { ThrowsFrom (B.stacks board.now) turn.now.rest thrower over }
-    ensures { IsTrue result ↔ CanLift (B.stacks board.now) turn.now.rest thrower piece }
-{
-    let Some(over) = over else {
-        return false;
-    };
-    may_be_thrown(board, over.place, piece, again(&turn.rest))
-}
-
-/// Whether a thrower of the side to move can lift the piece. No other piece is thrown.
-fn is_throwable<B: Cuts>(board: &B, turn: &Turn, throwers: &Throwers, piece: Piece) -> bool
-    requires board { IsBoard (B.stacks board.now) }
-    requires throwers { AreThrowers (position_of (B.stacks board.now) turn.now) throwers.now }
-    ensures { IsTrue result ↔ IsThrowable (position_of (B.stacks board.now) turn.now) piece }
-{
-    if can_lift(board, turn, pillbug_of(turn.side), throwers.pillbug, piece) {
-        return true;
-    }
-    can_lift(
-        board,
-        turn,
-        mosquito_of(turn.side),
-        throwers.mosquito,
-        piece,
-    )
-}
-
 /// To how many places a piece of the board goes by its own rule or is thrown: as many as
 /// `moved_places` lists. `places` is a list to write on.
 pub fn count_moved<B: Cuts>(
@@ -178,7 +171,7 @@ pub fn count_moved<B: Cuts>(
     requires throwers { AreThrowers (position_of (B.stacks board.now) turn.now) throwers.now }
     ensures { AreMany (IsMoved (position_of (B.stacks board.now) turn.now) piece) result }
 {
-    if !is_throwable(board, turn, throwers, piece) {
+    if !throwers.beside.is_set(piece) {
         return count_unthrown(board, turn, piece, places);
     }
     places.clear();

@@ -6,6 +6,7 @@ ghost use Rattle.hive_model.specs.Pieces.{piece_of};
 ghost use Rattle.hive_model.specs.Boards.{is_in_play};
 
 use hive_model::{Board, Colour, GameType, Piece, Spot};
+use one_hive::Marks;
 
 /// The side to move, in a game of this type, the number of its turn from 1 on, and the piece that
 /// rests: the one that was placed, moved or thrown on the last ply.
@@ -22,6 +23,8 @@ pub struct Turn {
 pub struct Throwers {
     pub pillbug: Option<Spot>,
     pub mosquito: Option<Spot>,
+    /// The pieces that stand beside them, among which are all that they can lift.
+    pub beside: Marks,
 }
 
 /// The same once more.

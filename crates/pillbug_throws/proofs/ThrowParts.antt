@@ -1,6 +1,6 @@
 -- What a throw is made of.
-use Rattle.std.proofs.Common.{◌≡◌, ℕ, suc, zero, ◌+◌, ◌≤◌, ◌<◌, Bool, true, not, ◌&&◌, List, [], ◌∷◌, length, take, inl, inr, refl, sym, ◌∙◌, ap, subst, arith, get_or}
-use Rattle.std.specs.Prelude.{Option, Some, IsTrue, nat_eq}
+use Rattle.std.proofs.Common.{◌≡◌, ℕ, suc, zero, ◌+◌, ◌-◌, ◌≤◌, ◌<◌, Bool, true, not, ◌&&◌, List, [], ◌∷◌, length, take, inl, inr, refl, sym, ◌∙◌, ap, subst, arith, get_or}
+use Rattle.std.specs.Prelude.{Option, Some, IsTrue, nat_eq, slice_get}
 use Rattle.std.specs.declared.cmp.Ordering.TheVariants.{Less, Equal, Greater}
 use Rattle.std.proofs.lemmas.Bool.{eqb-true, eq-eqb, and_parts}
 use Rattle.hive_model.specs.declared.places.Place.{Place}
@@ -9,7 +9,7 @@ use Rattle.hive_model.specs.declared.places.Dir.TheVariants.{E}
 use Rattle.hive_model.specs.declared.places.Spot.{Spot}
 use Rattle.hive_model.specs.Lists.{IsOn, Rises}
 use Rattle.hive_model.specs.Places.{place_cmp, step, dirs}
-use Rattle.hive_model.specs.Boards.{Stacks, stack_at, height_at, is_occupied, spot_of, is_on_top, is_top_spot, lift}
+use Rattle.hive_model.specs.Boards.{Stacks, stack_at, height_at, top_at, is_occupied, spot_of, is_on_top, is_top_spot, lift}
 use Rattle.hive_model.specs.Hive.{IsCut, are_neighbours}
 use Rattle.hive_model.specs.Near.{placed_by, with_place}
 use Rattle.hive_model.specs.Positions.{is_piece}
@@ -20,7 +20,7 @@ use Rattle.hive_model.proofs.NearLaws.{on_with_place, with_place_on, rises_with}
 use Rattle.hive_model.proofs.GetLemmas.{get_within}
 use Rattle.hive_model.proofs.BoardLemmas.{stands_occupied, spot_of_stands}
 use Rattle.one_hive.proofs.Walking.{on_take_next}
-use Rattle.pillbug_throws.specs.Throwing.{IsLoose, ComesDown, ThrowsTo}
+use Rattle.pillbug_throws.specs.Throwing.{IsLoose, StandsLoose, ComesDown, ThrowsTo}
 
 -- Where a piece stands
 
@@ -44,6 +44,15 @@ loose_from b rest t x a e cut =
     let one = and_parts (nat_eq (height_at b a) 1) (not (is_piece x rest) && are_neighbours t a) e in
     let two = and_parts (not (is_piece x rest)) (are_neighbours t a) one.1 in
     record { alone = eqb-true (height_at b a) 1 one.0; awake = awake_from x rest two.0; beside = neighbours_from t a two.1; not_cut = cut }
+
+-- a piece that is loose beside a place is on top of one of its neighbours
+pub loose_top : (b : Stacks) (rest : Option ℕ) (t : Place) (x : ℕ) → StandsLoose b rest t x → (d : Dir) × (top_at b (step t d) ≡ Some x)
+loose_top b rest t x (a, stands, loose) =
+    let w = get_within (stack_at b a.place) a.level x (spot_of_stands b x a stands) in
+    let one = loose.alone in
+    let last : a.level ≡ height_at b a.place - 1 = omega (arith, w, one) in
+    let top : top_at b a.place ≡ Some x = ap (slice_get (stack_at b a.place)) (sym last) ∙ spot_of_stands b x a stands in
+    (loose.beside.0, ap (top_at b) loose.beside.1 ∙ top)
 
 -- Lists of places
 
@@ -97,16 +106,17 @@ module _ (P : Place → Type 0) (t : Place) where
       few = omega (arith, h.few, longer_by_one q ps, ap length e);
     }
 
+-- so many of its first elements are the whole list
+pub whole : (ds : List Dir) (n : ℕ) → length ds ≤ n → (d : Dir) → IsOn ds d → IsOn (take n ds) d
+whole [] n h d on = absurd on
+whole (e ∷ ds) zero h d on = absurd (omega (arith, h))
+whole (e ∷ ds) (suc n) h d on = let less : length ds ≤ n = omega (arith, h) in elim on [ inl same ↦ inl same | inr later ↦ inr (whole ds n less d later) ]
+
 -- all directions were gone over
 pub all_down : (b c : Stacks) (t a : Place) (n : ℕ) → 6 ≤ n → (ps : List Place) → AreDown (ComesDown b c t a) t n ps → (q : Place) → ComesDown b c t a q → IsOn ps q
 all_down b c t a n most ps h q there =
     let leads = there.down.leads in
     subst (IsOn ps) leads (h.all there.down.dir (whole dirs n most there.down.dir (dir_on there.down.dir)) (subst (ComesDown b c t a) (sym leads) there))
-  where
-    whole : (ds : List Dir) (n : ℕ) → length ds ≤ n → (d : Dir) → IsOn ds d → IsOn (take n ds) d
-    whole [] n h d on = absurd on
-    whole (e ∷ ds) zero h d on = absurd (omega (arith, h))
-    whole (e ∷ ds) (suc n) h d on = let less : length ds ≤ n = omega (arith, h) in elim on [ inl same ↦ inl same | inr later ↦ inr (whole ds n less d later) ]
 
 -- Throws
 

@@ -1,14 +1,28 @@
 //! Where a piece may be thrown.
 
-ghost use Rattle.std.specs.Prelude.{◌≡◌, ◌↔◌, ◌<◌, ◌&&◌, [], nat_eq, not, Some, IsTrue};
+ghost use Rattle.std.specs.Prelude.{
+  ◌≡◌,
+  ◌↔◌,
+  ◌⊎◌,
+  ℕ,
+  ◌<◌,
+  ◌&&◌,
+  [],
+  nat_eq,
+  not,
+  Option,
+  Some,
+  IsTrue,
+};
 ghost use Rattle.hive_model.specs.declared.places.Place.{Place};
 ghost use Rattle.hive_model.specs.declared.places.Spot.{Spot};
-ghost use Rattle.hive_model.specs.Boards.{height_at, is_occupied};
+ghost use Rattle.hive_model.specs.Boards.{height_at, is_occupied, top_at};
 ghost use Rattle.hive_model.specs.Hive.{are_neighbours};
 ghost use Rattle.hive_model.specs.PlaceLists.{AreAll};
 ghost use Rattle.hive_model.specs.Places.{is_place, step, IsOnTheMap};
 ghost use Rattle.hive_model.specs.Positions.{is_piece};
 ghost use Rattle.hive_model.specs.Throws.{IsThrower};
+ghost use Rattle.one_hive.specs.Visits.{IsSet};
 ghost use Rattle.pillbug_throws.specs.Throwing.{
   AreClose,
   IsLoose,
@@ -19,6 +33,7 @@ ghost use Rattle.pillbug_throws.specs.Throwing.{
 
 use gates::{climb_ok, climb_toward};
 use hive_model::{Board, Cuts, Dir, Lifted, Piece, Place, PlaceList, add_place};
+use one_hive::Marks;
 
 /// Whether a direction leads from one place to the other.
 #[tactic(auto, using(hive_model::proofs::PlaceLemmas::wider))]
@@ -50,6 +65,7 @@ fn is_at_hand<B: Board>(
 
 /// Whether the piece can be lifted from its place over the thrower's: it is alone there, does not
 /// rest, stands beside the thrower, and on no cut place.
+#[inline(never)]
 fn is_loose<B: Cuts>(board: &B, over: Place, piece: Piece, from: Place, rest: Option<Piece>) -> bool
     requires occupied { IsTrue (is_occupied (B.stacks board.now) from) }
     requires within { IsOnTheMap over }
@@ -83,7 +99,9 @@ fn is_close(place: Place, other: Place) -> bool
 }
 
 /// Whether the piece, of either colour, can be lifted over a thrower on this place: it is on the
-/// board, alone on a neighbour of the place that is no cut place, and does not rest.
+/// board, alone on a neighbour of the place that is no cut place, and does not rest. Most pieces
+/// stand far from the place, which two reads tell: no call is paid for these.
+#[inline(always)]
 pub fn may_be_thrown<B: Cuts>(board: &B, over: Place, piece: Piece, rest: Option<Piece>) -> bool
     requires { IsOnTheMap over }
     ensures { IsTrue result ↔ StandsLoose (B.stacks board.now) rest over piece }
@@ -95,6 +113,28 @@ pub fn may_be_thrown<B: Cuts>(board: &B, over: Place, piece: Piece, rest: Option
         return false;
     }
     is_loose(board, over, piece, from.place, rest)
+}
+
+/// Marks the piece on top of the place, if one is.
+fn mark_top<B: Board>(board: &B, place: Place, marks: &mut Marks)
+    ensures { (x : ℕ) → IsSet marks.new x
+        ↔ ((top_at (B.stacks board.now) place ≡ Some x) ⊎ IsSet marks.old x) }
+{
+    if let Some(piece) = board.top(place) {
+        marks.mark(piece);
+    }
+}
+
+/// Marks the top pieces of the neighbours of a thrower's place. No other piece can be thrown.
+pub fn mark_beside<B: Board>(board: &B, over: Place, marks: &mut Marks)
+    requires { IsOnTheMap over }
+    ensures beside { (rest : Option ℕ) (x : ℕ) → StandsLoose (B.stacks board.now) rest over x
+        → IsSet marks.new x }
+    ensures kept { (x : ℕ) → IsSet marks.old x → IsSet marks.new x }
+{
+    for dir in Dir::ALL {
+        mark_top(board, over.step(dir), marks);
+    }
 }
 
 /// Whether the place is empty, and not the one that the piece was lifted from.

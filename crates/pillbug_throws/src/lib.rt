@@ -5,5 +5,5 @@
 mod landing;
 mod throwers;
 
-pub use landing::{may_be_thrown, throws};
+pub use landing::{mark_beside, may_be_thrown, throws};
 pub use throwers::{may_throw, throwing_spot};

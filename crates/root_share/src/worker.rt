@@ -153,22 +153,22 @@ fn try_child<G: Game, T: Gate>(
 fn try_first<G: Game, T: Gate>(
     work: &RootWork<'_, G, T>,
     part: u32,
-    child: &Child,
+    first: &Child,
     seat: &mut BoundSeat,
     worker: &mut Worker<G>,
 ) -> Tried
-    requires may { MayTake G.course work.now child.now worker.old seat.old }
-    ensures tried { HasTried work.now child.now seat.old seat.new result }
+    requires may { MayTake G.course work.now first.now worker.old seat.old }
+    ensures tried { HasTried work.now first.now seat.old seat.new result }
     ensures worker { HasPlayed G.course G.played worker.old worker.new
-        (first_cost seat.old.me.0.root work.now.depth child.now.m seat.old.me.0.top result) }
+        (first_cost seat.old.me.0.root work.now.depth first.now.m seat.old.me.0.top result) }
 {
-    let ahead = is_ahead(&mut worker.game, work.root, work.parts, child.place);
-    work.gate.before_child(part, child.place);
+    let ahead = is_ahead(&mut worker.game, work.root, work.parts, first.place);
+    work.gate.before_child(part, first.place);
     if !ahead {
-        return try_beside(work, child, seat, worker);
+        return try_beside(work, first, seat, worker);
     }
     let bound = look_for_win(work, seat, worker);
-    let found = close_child(work, child, bound, seat, worker);
+    let found = close_child(work, first, bound, seat, worker);
     Tried::Closed { found }
 }
 

@@ -2,10 +2,9 @@
 
 ghost use Rattle.std.specs.Prelude.{◌≡◌, ◌-◌, ◌<◌, length};
 ghost use Rattle.hive_model.specs.Courses.{position};
-ghost use Rattle.search_laws.specs.Found.{IsOpen};
-ghost use Rattle.search_laws.specs.Nodes.{IsNode};
 ghost use Rattle.search_core.specs.Moments.{moment_within, Spends, SpendsOnMoves};
 ghost use Rattle.search_core.specs.Moments.{Answers, AnswersNode};
+ghost use Rattle.search_core.specs.Nodes.{IsOpenNode};
 ghost use Rattle.search_core.specs.Times.{IsAtMost, IsTriedEarly};
 
 use crate::choice::{move_at, two_told};
@@ -27,34 +26,33 @@ struct Early {
     place: Option<u32>,
 }
 
-/// The same over the moves of a level but for the one at the place `hint`, if there is one, which
+/// The same over the moves of a level but for the one at the place `tried`, if there is one, which
 /// is worth no more than alpha. The two others that look best are tried first, as far as what is
 /// saved pays for them.
 #[cycle(search)]
 pub(crate) fn search_early<G: Game, C: Clock>(
     game: &mut G,
     level: u32,
-    hint: Option<u32>,
+    tried: Option<u32>,
     node: Node,
     work: &mut Workspace,
     clock: &mut C,
 ) -> Option<Tried>
-    requires window { IsOpen node.window }
-    requires listed { IsNode node.depth level (G.course game.old) work.old.stack }
-    requires hint { IsAtMost (position (G.course game.old)) (node.depth - 1) node.window.alpha
-        hint }
+    requires node { IsOpenNode node level (G.course game.old) work.old.stack }
+    requires tried { IsAtMost (position (G.course game.old)) (node.depth - 1) node.window.alpha
+        tried }
     ensures spends { let at = moment_within G.course G.played C.readings C.last C.previous in
-        SpendsOnMoves hint node
+        SpendsOnMoves tried node
         (at game.old work.old clock.old) (at game.new work.new clock.new) }
     ensures answers { let at = moment_within G.course G.played C.readings C.last C.previous in
         AnswersNode node result
         (at game.old work.old clock.old) (at game.new work.new clock.new) }
 {
-    let likely = two_told(game, node.depth, &work.purse, &work.stack, level, hint);
+    let likely = two_told(game, node.depth, &work.purse, &work.stack, level, tried);
     let one = try_early(game, level, likely.first, node, work, clock)?;
     if one.value >= node.window.beta {
-        let tried = cut_by(game, one, level, &work.stack, &mut work.table);
-        return Some(tried);
+        let cut = cut_by(game, one, level, &work.stack, &mut work.table);
+        return Some(cut);
     }
     let inner = Node {
         depth: node.depth,
@@ -65,8 +63,8 @@ pub(crate) fn search_early<G: Game, C: Clock>(
     };
     let two = try_early(game, level, likely.second, inner, work, clock)?;
     if two.value >= inner.window.beta {
-        let tried = cut_by(game, two, level, &work.stack, &mut work.table);
-        return Some(tried);
+        let cut = cut_by(game, two, level, &work.stack, &mut work.table);
+        return Some(cut);
     }
     let rest = Node {
         depth: node.depth,
@@ -75,9 +73,9 @@ pub(crate) fn search_early<G: Game, C: Clock>(
             beta: inner.window.beta,
         },
     };
-    let better = best_place(one.value > node.window.alpha, one.place, hint);
+    let better = best_place(one.value > node.window.alpha, one.place, tried);
     let places = Places {
-        hint,
+        hint: tried,
         first: one.place,
         second: two.place,
         best: best_place(two.value > inner.window.alpha, two.place, better),
@@ -97,8 +95,7 @@ fn try_early<G: Game, C: Clock>(
     work: &mut Workspace,
     clock: &mut C,
 ) -> Option<Early>
-    requires window { IsOpen node.window }
-    requires listed { IsNode node.depth level (G.course game.old) work.old.stack }
+    requires { IsOpenNode node level (G.course game.old) work.old.stack }
     ensures spends { let at = moment_within G.course G.played C.readings C.last C.previous in
         Spends 0 0
         (at game.old work.old clock.old) (at game.new work.new clock.new) }

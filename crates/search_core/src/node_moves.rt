@@ -6,7 +6,8 @@ ghost use Rattle.hive_model.specs.Lists.{IsOn};
 ghost use Rattle.hive_model.specs.Minimax.{IsInner, reply_value};
 ghost use Rattle.hive_model.specs.Courses.{position};
 ghost use Rattle.search_laws.specs.Found.{IsOpen};
-ghost use Rattle.search_laws.specs.Nodes.{HasRoom, IsNode};
+ghost use Rattle.search_laws.specs.Nodes.{HasRoom};
+ghost use Rattle.search_core.specs.Nodes.{IsOpenNode};
 ghost use Rattle.search_core.specs.Moments.{moment_within, SpendsOnNode, SpendsOnOthers};
 ghost use Rattle.search_core.specs.Moments.{AnswersNode};
 
@@ -156,8 +157,7 @@ fn search_hinted<G: Game, C: Clock>(
     work: &mut Workspace,
     clock: &mut C,
 ) -> Option<Tried>
-    requires window { IsOpen node.window }
-    requires listed { IsNode node.depth level (G.course game.old) work.old.stack }
+    requires { IsOpenNode node level (G.course game.old) work.old.stack }
     ensures spends { let at = moment_within G.course G.played C.readings C.last C.previous in
         SpendsOnNode node
         (at game.old work.old clock.old) (at game.new work.new clock.new) }

@@ -1,15 +1,13 @@
 //! A node: where nothing is left to search, where the table answers, and else its moves.
 
-ghost use Rattle.std.specs.Prelude.{Some, ◌≡◌, ◌≤◌};
 ghost use Rattle.hive_model.specs.Keys.{key};
 ghost use Rattle.hive_model.specs.Minimax.{value};
 ghost use Rattle.hive_model.specs.Courses.{position};
-ghost use Rattle.search_laws.specs.Found.{IsFound, IsOpen};
-ghost use Rattle.search_laws.specs.Nodes.{HasRoom};
+ghost use Rattle.search_laws.specs.Found.{IsFound};
+ghost use Rattle.search_core.specs.Nodes.{HasOpenRoom};
 ghost use Rattle.search_core.specs.Moments.{moment_within, SpendsOnNode, Answers};
-ghost use Rattle.value_table.specs.Entries.{KnownParts};
+ghost use Rattle.search_core.specs.Answers.{AnswersAsKept};
 ghost use Rattle.value_table.specs.Kept.{kept};
-ghost use Rattle.value_table.specs.declared.entry.Bound.{Bound};
 
 use crate::choice::kept_hint;
 use crate::entries::{answer_of, keep_found};
@@ -28,18 +26,15 @@ pub(crate) fn search_with<G: Game, C: Clock>(
     work: &mut Workspace,
     clock: &mut C,
 ) -> Option<i32>
-    requires window { IsOpen node.window }
-    requires room { HasRoom node.depth (G.course game.old) work.old.stack }
+    requires { HasOpenRoom node (G.course game.old) work.old.stack }
     ensures spends { let at = moment_within G.course G.played C.readings C.last C.previous in
         SpendsOnNode node
         (at game.old work.old clock.old) (at game.new work.new clock.new) }
     ensures answers { let at = moment_within G.course G.played C.readings C.last C.previous in
         Answers (IsFound (value (position (G.course game.old)) node.depth) node.window) result
         (at game.old work.old clock.old) (at game.new work.new clock.new) }
-    ensures kept { (e : KnownParts) → 1 ≤ node.depth
-        → kept work.old.table (key (position (G.course game.old))) ≡ Some e → e.depth ≡ node.depth
-        → e.bound ≡ Bound.Exact
-        → (result ≡ Some e.value) × (G.played game.new ≡ G.played game.old) }
+    ensures kept { AnswersAsKept node.depth (kept work.old.table (key
+        (position (G.course game.old)))) result (G.played game.old) (G.played game.new) }
 {
     work.table.holds();
     if let Some(worth) = leaf_value(game, node.depth) {

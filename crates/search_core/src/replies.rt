@@ -1,8 +1,7 @@
 //! What a move is worth, by a search of the position after it.
 
-ghost use Rattle.search_laws.specs.Found.{IsOpen};
-ghost use Rattle.search_laws.specs.Nodes.{CanReply};
 ghost use Rattle.search_core.specs.Moments.{moment, moment_within, SpendsOnReply, AnswersReply};
+ghost use Rattle.search_core.specs.Nodes.{MayReply};
 
 use crate::nodes::search_with;
 use crate::purse::Purse;
@@ -22,8 +21,7 @@ pub fn reply<G: Game, C: Clock>(
     work: &mut Workspace,
     clock: &mut C,
 ) -> Option<i32>
-    requires window { IsOpen node.window }
-    requires can { CanReply m node.depth (G.course game.old) work.old.stack }
+    requires { MayReply m node (G.course game.old) work.old.stack }
     ensures spends { let at = moment G.course G.played C.readings C.last C.previous in
         SpendsOnReply m node
         (at game.old work.old clock.old) (at game.new work.new clock.new) }
@@ -45,8 +43,7 @@ pub(crate) fn reply_with<G: Game, C: Clock>(
     work: &mut Workspace,
     clock: &mut C,
 ) -> Option<i32>
-    requires window { IsOpen node.window }
-    requires can { CanReply m node.depth (G.course game.old) work.old.stack }
+    requires { MayReply m node (G.course game.old) work.old.stack }
     ensures spends { let at = moment_within G.course G.played C.readings C.last C.previous in
         SpendsOnReply m node
         (at game.old work.old clock.old) (at game.new work.new clock.new) }
@@ -71,8 +68,7 @@ fn play_reply<G: Game, C: Clock>(
     work: &mut Workspace,
     clock: &mut C,
 ) -> Option<i32>
-    requires window { IsOpen node.window }
-    requires can { CanReply m node.depth (G.course game.old) work.old.stack }
+    requires { MayReply m node (G.course game.old) work.old.stack }
     ensures spends { let at = moment_within G.course G.played C.readings C.last C.previous in
         SpendsOnReply m node
         (at game.old work.old clock.old) (at game.new work.new clock.new) }

@@ -1,15 +1,16 @@
 //! The moves of a node in the order of the list, but for those that were tried before their turn.
 
-ghost use Rattle.std.specs.Prelude.{◌-◌};
+ghost use Rattle.std.specs.Prelude.{◌≡◌, ◌-◌, ◌||◌, nat_eq, Some};
+ghost use Rattle.std.specs.Option.{option_eq};
 ghost use Rattle.hive_model.specs.Courses.{position};
-ghost use Rattle.search_laws.specs.Found.{IsOpen};
-ghost use Rattle.search_laws.specs.Nodes.{IsNode};
 ghost use Rattle.search_core.specs.Moments.{moment_within, SpendsOnMoves, AnswersNode};
-ghost use Rattle.search_core.specs.Times.{IsAtMost};
+ghost use Rattle.search_core.specs.Nodes.{IsOpenNode};
+ghost use Rattle.search_core.specs.Times.{WereTried};
 
 use crate::choice::move_at;
 use crate::entries::{Tried, better};
 use crate::replies::reply_with;
+use crate::told::next_candidate;
 use crate::workspace::{Node, Workspace};
 use hive_model::Game;
 use io_edge::Clock;
@@ -24,8 +25,19 @@ pub(crate) struct Places {
     pub(crate) best: Option<u32>,
 }
 
+impl Places {
+    /// Whether the move at the place was tried before its turn.
+    fn hold(self, i: u32) -> bool
+        ensures { result ≡ (option_eq nat_eq self.hint (Some i) || option_eq nat_eq self.first
+            (Some i) || option_eq nat_eq self.second (Some i)) }
+    {
+        self.hint == Some(i) || self.first == Some(i) || self.second == Some(i)
+    }
+}
+
 /// The same over the moves of a level but for those at the places, which are worth no more than
-/// alpha. The one at `hint` was paid for by a slot of its own.
+/// alpha. The one at `hint` was paid for by a slot of its own. A move that is no candidate is
+/// passed over, and saves a play as a told move does.
 #[cycle(search)]
 pub(crate) fn search_rest<G: Game, C: Clock>(
     game: &mut G,
@@ -35,14 +47,9 @@ pub(crate) fn search_rest<G: Game, C: Clock>(
     work: &mut Workspace,
     clock: &mut C,
 ) -> Option<Tried>
-    requires window { IsOpen node.window }
-    requires listed { IsNode node.depth level (G.course game.old) work.old.stack }
-    requires hint { IsAtMost (position (G.course game.old)) (node.depth - 1) node.window.alpha
-        places.hint }
-    requires first { IsAtMost (position (G.course game.old)) (node.depth - 1) node.window.alpha
-        places.first }
-    requires second { IsAtMost (position (G.course game.old)) (node.depth - 1) node.window.alpha
-        places.second }
+    requires node { IsOpenNode node level (G.course game.old) work.old.stack }
+    requires tried { WereTried (position (G.course game.old)) (node.depth - 1) node.window.alpha
+        places.hint places.first places.second }
     ensures spends { let at = moment_within G.course G.played C.readings C.last C.previous in
         SpendsOnMoves places.hint node
         (at game.old work.old clock.old) (at game.new work.new clock.new) }
@@ -53,14 +60,13 @@ pub(crate) fn search_rest<G: Game, C: Clock>(
     let count = work.stack.level_len(level);
     let mut alpha = node.window.alpha;
     let mut first = move_at(&work.stack, level, places.best);
+    let mut candidate = next_candidate(game, node.depth, &work.stack, level, 0, alpha);
     for i in 0..count {
-        if places.hint == Some(i) {
+        if places.hold(i) {
             continue;
         }
-        if places.first == Some(i) {
-            continue;
-        }
-        if places.second == Some(i) {
+        if i < candidate {
+            work.purse.save();
             continue;
         }
         let m = work.stack.get(level, i);
@@ -81,6 +87,7 @@ pub(crate) fn search_rest<G: Game, C: Clock>(
         }
         first = better(found > alpha, work.stack.get(level, i), first);
         alpha = alpha.max(found);
+        candidate = next_candidate(game, node.depth, &work.stack, level, i + 1, alpha);
     }
     Some(Tried {
         value: alpha,

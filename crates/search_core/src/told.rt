@@ -1,14 +1,16 @@
 //! What a move is worth, told without making it.
 
-ghost use Rattle.std.specs.Prelude.{◌≡◌, IfSome};
+ghost use Rattle.std.specs.Prelude.{◌≡◌, ◌-◌, ◌<◌, ◌≤◌, length, IfSome};
 ghost use Rattle.hive_model.specs.Legal.{moves};
 ghost use Rattle.hive_model.specs.Lists.{IsOn};
 ghost use Rattle.hive_model.specs.Minimax.{reply_value};
 ghost use Rattle.hive_model.specs.Courses.{position};
+ghost use Rattle.hive_model.specs.Stack.{level_of};
 ghost use Rattle.search_laws.specs.Found.{IsFound, IsOpen};
+ghost use Rattle.search_core.specs.Times.{AreAtMost};
 
 use crate::workspace::Node;
-use hive_model::{Game, Move};
+use hive_model::{Game, Move, MoveStack};
 use search_laws::Window;
 
 /// What a legal move is worth to the side that makes it with no ply left behind it, or at least
@@ -24,19 +26,6 @@ fn told_leaf<G: Game>(game: &mut G, m: Move, window: Window) -> Option<i32>
     if let Some(worth) = game.value_after(m.again()) {
         return Some(-worth);
     }
-    low_leaf(game, m, window)
-}
-
-/// At most what a legal move is worth with no ply left behind it, where this is no more than the
-/// lower end of the window.
-fn low_leaf<G: Game>(game: &mut G, m: Move, window: Window) -> Option<i32>
-    requires window { IsOpen window }
-    requires legal { IsOn (moves (position (G.course game.old))) m }
-    ensures found { IfSome result (IsFound (reply_value (position (G.course game.old)) 0 m)
-        window) }
-    ensures same { G.course game.new ≡ G.course game.old }
-    ensures count { G.played game.new ≡ G.played game.old }
-{
     let least = game.least_after(m)?;
     if least < -window.alpha {
         return None;
@@ -82,4 +71,27 @@ pub(crate) fn told_reply<G: Game>(game: &mut G, m: Move, node: Node) -> Option<i
         1 => told_bound(game, m, node.window),
         _ => None,
     }
+}
+
+/// The place of the next move of the level, from `from` on, that may raise alpha. Each move that is
+/// passed over is worth no more. None is where a ply is left behind the moves of the node.
+pub(crate) fn next_candidate<G: Game>(
+    game: &mut G,
+    depth: u32,
+    stack: &MoveStack,
+    level: u32,
+    from: u32,
+    alpha: i32,
+) -> u32
+    requires stands { level < length stack.now.lists }
+    requires listed { level_of stack.now level ≡ moves (position (G.course game.old)) }
+    requires from { from ≤ length (moves (position (G.course game.old))) }
+    ensures passed { AreAtMost (position (G.course game.old)) (depth - 1) alpha from result }
+    ensures same { G.course game.new ≡ G.course game.old }
+    ensures count { G.played game.new ≡ G.played game.old }
+{
+    if depth > 1 {
+        return from;
+    }
+    game.next_candidate(stack, level, from, alpha)
 }

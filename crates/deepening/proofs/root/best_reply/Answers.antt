@@ -36,30 +36,28 @@ keep_found-requires g c =
     let top = top-here start (g.G.Game.course c.root_choice-hint.new.game) c.args.depth c.in_ok-best.best (c.root_choice-hint.ensures.same ∙ c.list.ensures.same) c.in_ok-best.ensures.answers.found in
     kept-root (position start) c.args.depth _ _ _ c.key-key.ensures.key c.key-key.ensures.sound (to_z-of_z w32 c.in_ok-best.best.value (search rules) ∙ top.worth)
 
-pub returns-in_err-best-clause-spends : goal.returns-in_err-best-clause-spends
-returns-in_err-best-clause-spends g c =
+pub returns-in_err-best : goal.returns-in_err-best
+returns-in_err-best g c =
     let at = moment g.G.Game.course g.G.Game.played g.C.Clock.readings g.C.Clock.last g.C.Clock.previous in
     let begun = at c.args.game.now c.args.work.now c.args.clock.now in
     let ended = at c.try_all-found.new.game c.try_all-found.new.work c.try_all-found.new.clock in
     let spent = spends-from (λ q. nodes q c.args.depth) (λ q. share q c.args.depth 0 1) (record begun { levels = c.list.new.out })
     (g.G.Game.course c.root_choice-hint.new.game) (g.G.Game.played c.root_choice-hint.new.game) ended (c.root_choice-hint.ensures.same ∙ c.list.ensures.same) (c.root_choice-hint.ensures.count ∙ c.list.ensures.count) c.try_all-found.ensures.spends in
-    spends-level begun c.list.new.out c.drop_level.new.self ended (moves (position (g.G.Game.course c.args.game.now))) _ _ (omega (arith, c.requires.some, c.requires.room.free)) c.list.ensures.listed c.drop_level.ensures spent
+    record {
+      spends = spends-level begun c.list.new.out c.drop_level.new.self ended (moves (position (g.G.Game.course c.args.game.now))) _ _ (omega (arith, c.requires.some, c.requires.room.free)) c.list.ensures.listed c.drop_level.ensures spent;
+      answers = answers-no _ c.from_residual.result _ _ (search rules) (c.try_all-found.ensures.answers.ended c.in_err-best.was);
+    }
 
-pub returns-in_err-best-clause-answers : goal.returns-in_err-best-clause-answers
-returns-in_err-best-clause-answers g c =
-    answers-no _ c.from_residual.result _ _ (search rules) (c.try_all-found.ensures.answers.ended c.in_err-best.was)
-
-pub returns-clause-spends : goal.returns-clause-spends
-returns-clause-spends g c =
+pub returns : goal.returns
+returns g c =
     let at = moment g.G.Game.course g.G.Game.played g.C.Clock.readings g.C.Clock.last g.C.Clock.previous in
     let begun = at c.args.game.now c.args.work.now c.args.clock.now in
     let ended = at c.try_all-found.new.game c.try_all-found.new.work c.try_all-found.new.clock in
     let spent = spends-from (λ q. nodes q c.args.depth) (λ q. share q c.args.depth 0 1) (record begun { levels = c.list.new.out })
     (g.G.Game.course c.root_choice-hint.new.game) (g.G.Game.played c.root_choice-hint.new.game) ended (c.root_choice-hint.ensures.same ∙ c.list.ensures.same) (c.root_choice-hint.ensures.count ∙ c.list.ensures.count) c.try_all-found.ensures.spends in
-    spends-level begun c.list.new.out c.drop_level.new.self ended (moves (position (g.G.Game.course c.args.game.now))) _ _ (omega (arith, c.requires.some, c.requires.room.free)) c.list.ensures.listed c.drop_level.ensures spent
-
-pub returns-clause-answers : goal.returns-clause-answers
-returns-clause-answers g c =
-    answers-some _ _ _ _
-    (top-here (g.G.Game.course c.args.game.now) (g.G.Game.course c.root_choice-hint.new.game) c.args.depth c.in_ok-best.best (c.root_choice-hint.ensures.same ∙ c.list.ensures.same) c.in_ok-best.ensures.answers.found)
-    c.in_ok-best.ensures.answers.in_time
+    record {
+      spends = spends-level begun c.list.new.out c.drop_level.new.self ended (moves (position (g.G.Game.course c.args.game.now))) _ _ (omega (arith, c.requires.some, c.requires.room.free)) c.list.ensures.listed c.drop_level.ensures spent;
+      answers = answers-some _ _ _ _
+          (top-here (g.G.Game.course c.args.game.now) (g.G.Game.course c.root_choice-hint.new.game) c.args.depth c.in_ok-best.best (c.root_choice-hint.ensures.same ∙ c.list.ensures.same) c.in_ok-best.ensures.answers.found)
+          c.in_ok-best.ensures.answers.in_time;
+    }

@@ -15,19 +15,24 @@ use Rattle.deepening.specs.Shares.{turns_share}
 use Rattle.deepening.proofs.RootStops.{first-known, reply-least, turns-within, first-then-turns, first-alone, known-here, plays-of}
 use Rattle.deepening.proofs.root.try_all.Goals as goal
 
-pub reply-requires-clause-can : goal.reply-requires-clause-can
-reply-requires-clause-can g c =
-    node-reply (g.G.Game.course c.args.game.now) _ _ _ c.args.depth c.args.level c.in-Some.first c.get-m.result c.requires.node (record { game = refl; stack = refl }) c.get-m.ensures
+pub reply-requires : goal.reply-requires
+reply-requires g c = record {
+  window = search rules;
+  can = node-reply (g.G.Game.course c.args.game.now) _ _ _ c.args.depth c.args.level c.in-Some.first c.get-m.result c.requires.node (record { game = refl; stack = refl }) c.get-m.ensures;
+}
 
-pub returns-in_err-worth-clause-spends : goal.returns-in_err-worth-clause-spends
-returns-in_err-worth-clause-spends g c =
+pub returns-in_err-worth : goal.returns-in_err-worth
+returns-in_err-worth g c =
     let start = g.G.Game.course c.args.game.now in
     let p = position start in
     let d = c.args.depth in
     let m = c.get-m.result in
     let here : slice_get (moves p) c.in-Some.first ≡ Some m = node-at start _ _ d c.args.level c.in-Some.first m c.requires.node refl c.get-m.ensures in
     let more = first-alone p d c.in-Some.first m _ _ _ _ here refl refl (plays-of _ _ _ _ refl refl c.reply.ensures.spends) in
-    spends-as _ _ _ _ _ _ c.reply.ensures.spends (one-nodes p d c.in-Some.first m c.requires.node.inner here) (omega (arith, more))
+    record {
+      spends = spends-as _ _ _ _ _ _ c.reply.ensures.spends (one-nodes p d c.in-Some.first m c.requires.node.inner here) (omega (arith, more));
+      answers = search rules;
+    }
 
 pub try_in_turn-requires-clause-low : goal.try_in_turn-requires-clause-low
 try_in_turn-requires-clause-low g c =
@@ -49,8 +54,8 @@ try_in_turn-requires-clause-known g c =
     let first = first-known start _ c.args.depth c.args.level c.in-Some.first c.get-m.result c.in_ok-worth.worth c.requires.node c.get-m.ensures (search rules) c.in_ok-worth.ensures.answers.found in
     known-here start (g.G.Game.course c.reply.new.game) c.args.depth c.in-Some.first c.get-m.result (to_z w32 (of_z w32 c.in_ok-worth.worth)) c.reply.ensures.spends.before.game first.here first.exact
 
-pub returns-then-first-level_len-clause-spends : goal.returns-then-first-level_len-clause-spends
-returns-then-first-level_len-clause-spends g c =
+pub returns-then-first-level_len : goal.returns-then-first-level_len
+returns-then-first-level_len g c =
     let at = moment g.G.Game.course g.G.Game.played g.C.Clock.readings g.C.Clock.last g.C.Clock.previous in
     let start = g.G.Game.course c.args.game.now in
     let p = position start in
@@ -61,15 +66,21 @@ returns-then-first-level_len-clause-spends g c =
     let ended = at c.try_in_turn.new.game c.try_in_turn.new.work c.try_in_turn.new.clock in
     let others = spends-here (λ q. sum_but (Some c.in-Some.first) 0 (behind q (d - 1)) (moves q)) (λ q. turns_share q d) start tried ended c.reply.ensures.spends.before.game c.try_in_turn.ensures.spends in
     let more = first-then-turns p d c.in-Some.first m _ _ _ _ _ here refl refl (plays-of _ _ _ _ refl refl c.reply.ensures.spends) (plays-of tried ended _ _ refl refl others) in
-    spends-as _ _ _ _ _ _ (spends-then _ _ _ _ _ _ _ c.reply.ensures.spends others) (both-nodes p d c.in-Some.first m (Some c.in-Some.first) c.requires.node.inner here refl) (omega (arith, more))
+    record {
+      spends = spends-as _ _ _ _ _ _ (spends-then _ _ _ _ _ _ _ c.reply.ensures.spends others) (both-nodes p d c.in-Some.first m (Some c.in-Some.first) c.requires.node.inner here refl) (omega (arith, more));
+      answers = search rules;
+    }
 
 pub try_in_turn-requires-2-clause-high : goal.try_in_turn-requires-2-clause-high
 try_in_turn-requires-2-clause-high g c =
     let small = small-value (position (g.G.Game.course c.args.game.now)) c.args.depth c.requires.node.deep in
     omega (arith, ints, small.low)
 
-pub returns-clause-spends : goal.returns-clause-spends
-returns-clause-spends g c =
+pub returns : goal.returns
+returns g c =
     let p = position (g.G.Game.course c.args.game.now) in
     let more = turns-within p c.args.depth _ _ (plays-of _ _ _ _ refl refl c.try_in_turn-2.ensures.spends) in
-    spends-as _ _ _ _ _ _ c.try_in_turn-2.ensures.spends (no-nodes p c.args.depth c.requires.node.inner) (omega (arith, more))
+    record {
+      spends = spends-as _ _ _ _ _ _ c.try_in_turn-2.ensures.spends (no-nodes p c.args.depth c.requires.node.inner) (omega (arith, more));
+      answers = search rules;
+    }

@@ -1,12 +1,12 @@
 use Rattle.std.proofs.Common.{sym, arith}
-use Rattle.std.proofs.lemmas.Bool.{iff_false}
 use Rattle.legal_moves.specs.Going.{position_of}
-use Rattle.legal_moves.proofs.Throwing.{no_throw}
+use Rattle.legal_moves.proofs.Throwing.{no_throw, not_beside}
 use Rattle.legal_moves.proofs.throws.count_moved.Goals as goal
 
 pub count_unthrown-requires-clause-unthrown : goal.count_unthrown-requires-clause-unthrown
 count_unthrown-requires-clause-unthrown g c =
-    no_throw (position_of (g.B.Board.stacks c.args.board.now) c.args.turn.now) c.args.piece (iff_false c.is_throwable.ensures c.if-not-is_throwable.true)
+    let p = position_of (g.B.Board.stacks c.args.board.now) c.args.turn.now in
+    no_throw p c.args.piece (not_beside p c.args.throwers.now c.args.piece c.requires.throwers c.is_set.result c.is_set.ensures c.if-not-is_set.true)
 
 pub returns : goal.returns
 returns g c = record {

@@ -15,6 +15,6 @@ returns-clause-worker g c =
     record {
       game = made.game ∙ won.worker.game ∙ c.is_ahead-ahead.ensures.same;
       searcher = made.searcher ∙ won.worker.searcher;
-      plays = first-more _ _ c.args.work.now.depth c.args.child.now.m c.args.seat.now.me.0.top c.look_for_win-bound.result _ _ _ won.seat.root won.grows
+      plays = first-more _ _ c.args.work.now.depth c.args.first.now.m c.args.seat.now.me.0.top c.look_for_win-bound.result _ _ _ won.seat.root won.grows
           (rw c.is_ahead-ahead.ensures.count at won.worker.plays) (rw kept at made.plays);
     }

@@ -33,8 +33,8 @@ early::search_early-try_early-requires-2 g t c κs within =
     let w = c.args.node.window in
     let inner : Window = record { alpha = to_z w32 (of_z w32 c.max.result); beta = to_z w32 (of_z w32 w.beta) } in
     let one : Rest p d w inner c.in_ok-one.one.place =
-    rest-after start (g.G.Game.course c.two_told-likely.new.game) d w c.in_ok-one.one.value c.max.result c.in_ok-one.one.place c.two_told-likely.ensures.same c.requires.window (search rules) c.max.ensures.value c.if-one-node.false c.in_ok-one.ensures.answers.found in
-    (search rules, (within.0, (within.1, (one.open_, node-again _ _ _ _ _ _ c.requires.listed spent_one.before))))
+    rest-after start (g.G.Game.course c.two_told-likely.new.game) d w c.in_ok-one.one.value c.max.result c.in_ok-one.one.place c.two_told-likely.ensures.same c.requires.node.window (search rules) c.max.ensures.value c.if-one-node.false c.in_ok-one.ensures.answers.found in
+    (search rules, (within.0, (within.1, record { window = one.open_; listed = node-again _ _ _ _ _ _ c.requires.node.listed spent_one.before })))
 
 pub early::search_early-returns-in_err-two-clause-spends : goal.early::search_early-returns-in_err-two-clause-spends
 early::search_early-returns-in_err-two-clause-spends g t c =
@@ -75,10 +75,10 @@ early::search_early-returns-then-two-inner-clause-answers g t c =
     let w = c.args.node.window in
     let inner : Window = record { alpha = to_z w32 (of_z w32 c.max.result); beta = to_z w32 (of_z w32 w.beta) } in
     let one : Rest p d w inner c.in_ok-one.one.place =
-    rest-after start (g.G.Game.course c.two_told-likely.new.game) d w c.in_ok-one.one.value c.max.result c.in_ok-one.one.place c.two_told-likely.ensures.same c.requires.window (search rules) c.max.ensures.value c.if-one-node.false c.in_ok-one.ensures.answers.found in
+    rest-after start (g.G.Game.course c.two_told-likely.new.game) d w c.in_ok-one.one.value c.max.result c.in_ok-one.one.place c.two_told-likely.ensures.same c.requires.node.window (search rules) c.max.ensures.value c.if-one-node.false c.in_ok-one.ensures.answers.found in
     answers-some _ _ _ _
-    (subst (IsFound (value p d) w) (sym c.cut_by-tried-then-two-inner.ensures)
-    (rest-cut start (g.G.Game.course c.try_early.new.game) d w inner c.in_ok-one.one.place c.in_ok-two.two.place c.in_ok-two.two.value spent_one.before.game c.requires.window.open_ one (search rules) c.if-two-inner.true c.in_ok-two.ensures.answers.found))
+    (subst (IsFound (value p d) w) (sym c.cut_by-cut-then-two-inner.ensures)
+    (rest-cut start (g.G.Game.course c.try_early.new.game) d w inner c.in_ok-one.one.place c.in_ok-two.two.place c.in_ok-two.two.value spent_one.before.game c.requires.node.window.open_ one (search rules) c.if-two-inner.true c.in_ok-two.ensures.answers.found))
     (in_time-then _ _ _ _ _ c.try_early.ensures.spends.time.deadline c.in_ok-one.ensures.answers.in_time c.in_ok-two.ensures.answers.in_time)
 
 pub early::search_early-search_rest-requires : goal.early::search_early-search_rest-requires
@@ -96,13 +96,13 @@ early::search_early-search_rest-requires g t c κs within =
     let w = c.args.node.window in
     let inner : Window = record { alpha = to_z w32 (of_z w32 c.max.result); beta = to_z w32 (of_z w32 w.beta) } in
     let one : Rest p d w inner c.in_ok-one.one.place =
-    rest-after start (g.G.Game.course c.two_told-likely.new.game) d w c.in_ok-one.one.value c.max.result c.in_ok-one.one.place c.two_told-likely.ensures.same c.requires.window (search rules) c.max.ensures.value c.if-one-node.false c.in_ok-one.ensures.answers.found in
+    rest-after start (g.G.Game.course c.two_told-likely.new.game) d w c.in_ok-one.one.value c.max.result c.in_ok-one.one.place c.two_told-likely.ensures.same c.requires.node.window (search rules) c.max.ensures.value c.if-one-node.false c.in_ok-one.ensures.answers.found in
     let rest : Window = record { alpha = to_z w32 (of_z w32 c.max-2.result); beta = to_z w32 (of_z w32 (to_z w32 (of_z w32 w.beta))) } in
     let two : Rest p d inner rest c.in_ok-two.two.place =
     rest-after start (g.G.Game.course c.try_early.new.game) d inner c.in_ok-two.two.value c.max-2.result c.in_ok-two.two.place spent_one.before.game one.open_ (search rules) c.max-2.ensures.value c.if-two-inner.false c.in_ok-two.ensures.answers.found in
     let both : Rest p d w rest c.in_ok-one.one.place = rest-then p d w inner rest c.in_ok-one.one.place c.in_ok-two.two.place one two in
     let later = g.G.Game.course c.try_early-2.new.game in
-    let hint = at_most-here start later (d - 1) rest.alpha c.args.hint spent.before.game (at_most-more p (d - 1) w.alpha rest.alpha c.args.hint both.up.up c.requires.hint) in
+    let hint = at_most-here start later (d - 1) rest.alpha c.args.tried spent.before.game (at_most-more p (d - 1) w.alpha rest.alpha c.args.tried both.up.up c.requires.tried) in
     let tried = at_most-here start later (d - 1) rest.alpha c.in_ok-one.one.place spent.before.game both.most in
     let tried_then = at_most-here start later (d - 1) rest.alpha c.in_ok-two.two.place spent.before.game two.most in (
       search rules,
@@ -110,7 +110,7 @@ early::search_early-search_rest-requires g t c κs within =
         within.0,
         (
           within.1,
-          (two.open_, (node-again _ _ _ _ _ _ c.requires.listed spent.before, (hint, (tried, tried_then)))),
+          (record { window = two.open_; listed = node-again _ _ _ _ _ _ c.requires.node.listed spent.before }, record { hint = hint; first = tried; second = tried_then }),
         ),
       ),
     )
@@ -130,13 +130,13 @@ early::search_early-returns-clause-spends g t c =
     let w = c.args.node.window in
     let inner : Window = record { alpha = to_z w32 (of_z w32 c.max.result); beta = to_z w32 (of_z w32 w.beta) } in
     let one : Rest p d w inner c.in_ok-one.one.place =
-    rest-after start (g.G.Game.course c.two_told-likely.new.game) d w c.in_ok-one.one.value c.max.result c.in_ok-one.one.place c.two_told-likely.ensures.same c.requires.window (search rules) c.max.ensures.value c.if-one-node.false c.in_ok-one.ensures.answers.found in
+    rest-after start (g.G.Game.course c.two_told-likely.new.game) d w c.in_ok-one.one.value c.max.result c.in_ok-one.one.place c.two_told-likely.ensures.same c.requires.node.window (search rules) c.max.ensures.value c.if-one-node.false c.in_ok-one.ensures.answers.found in
     let rest : Window = record { alpha = to_z w32 (of_z w32 c.max-2.result); beta = to_z w32 (of_z w32 (to_z w32 (of_z w32 w.beta))) } in
     let two : Rest p d inner rest c.in_ok-two.two.place =
     rest-after start (g.G.Game.course c.try_early.new.game) d inner c.in_ok-two.two.value c.max-2.result c.in_ok-two.two.place spent_one.before.game one.open_ (search rules) c.max-2.ensures.value c.if-two-inner.false c.in_ok-two.ensures.answers.found in
     let both : Rest p d w rest c.in_ok-one.one.place = rest-then p d w inner rest c.in_ok-one.one.place c.in_ok-two.two.place one two in
     let ended = at c.search_rest.new.game c.search_rest.new.work c.search_rest.new.clock in
-    let others = spends-here (λ q. sum_but c.args.hint 0 (behind q (d - 1)) (moves q)) (λ q. tries_cost (tried_cost q (d - 1) rest.beta) (reply_value q (d - 1)) rest.alpha rest.beta (moves q)) start second ended spent.before.game c.search_rest.ensures.spends in
+    let others = spends-here (λ q. sum_but c.args.tried 0 (behind q (d - 1)) (moves q)) (λ q. tries_cost (tried_cost q (d - 1) rest.beta) (reply_value q (d - 1)) rest.alpha rest.beta (moves q)) start second ended spent.before.game c.search_rest.ensures.spends in
     let more = rest-falls p d w rest _ _ both.up.beta both.up.up others.played in
     spends-as begun ended _ _ _ _ (spends-then begun second ended _ _ _ _ spent others) (omega arith) (omega (arith, spent.played, more))
 
@@ -155,14 +155,14 @@ early::search_early-returns-clause-answers g t c =
     let w = c.args.node.window in
     let inner : Window = record { alpha = to_z w32 (of_z w32 c.max.result); beta = to_z w32 (of_z w32 w.beta) } in
     let one : Rest p d w inner c.in_ok-one.one.place =
-    rest-after start (g.G.Game.course c.two_told-likely.new.game) d w c.in_ok-one.one.value c.max.result c.in_ok-one.one.place c.two_told-likely.ensures.same c.requires.window (search rules) c.max.ensures.value c.if-one-node.false c.in_ok-one.ensures.answers.found in
+    rest-after start (g.G.Game.course c.two_told-likely.new.game) d w c.in_ok-one.one.value c.max.result c.in_ok-one.one.place c.two_told-likely.ensures.same c.requires.node.window (search rules) c.max.ensures.value c.if-one-node.false c.in_ok-one.ensures.answers.found in
     let rest : Window = record { alpha = to_z w32 (of_z w32 c.max-2.result); beta = to_z w32 (of_z w32 (to_z w32 (of_z w32 w.beta))) } in
     let two : Rest p d inner rest c.in_ok-two.two.place =
     rest-after start (g.G.Game.course c.try_early.new.game) d inner c.in_ok-two.two.value c.max-2.result c.in_ok-two.two.place spent_one.before.game one.open_ (search rules) c.max-2.ensures.value c.if-two-inner.false c.in_ok-two.ensures.answers.found in
     let both : Rest p d w rest c.in_ok-one.one.place = rest-then p d w inner rest c.in_ok-one.one.place c.in_ok-two.two.place one two in
     answers-then _ _ c.search_rest.result begun second _ spent.time.deadline
     (in_time-then _ _ _ _ _ c.try_early.ensures.spends.time.deadline c.in_ok-one.ensures.answers.in_time c.in_ok-two.ensures.answers.in_time)
-    (λ a found. rest-found start (g.G.Game.course c.try_early-2.new.game) d w rest c.in_ok-one.one.place a.value spent.before.game c.requires.window.open_ both found) c.search_rest.ensures.answers
+    (λ a found. rest-found start (g.G.Game.course c.try_early-2.new.game) d w rest c.in_ok-one.one.place a.value spent.before.game c.requires.node.window.open_ both found) c.search_rest.ensures.answers
 
 pub early::try_early-reply_with-found-requires : goal.early::try_early-reply_with-found-requires
 early::try_early-reply_with-found-requires g t c κs within = (
@@ -171,10 +171,10 @@ early::try_early-reply_with-found-requires g t c κs within = (
     within.0,
     (
       within.1,
-      (
-        c.requires.window,
-        node-reply _ _ _ _ c.args.node.depth c.args.level c.in-Some.i c.get-m.result c.requires.listed (record { game = refl; stack = refl }) c.get-m.ensures,
-      ),
+      record {
+        window = c.requires.window;
+        can = node-reply _ _ _ _ c.args.node.depth c.args.level c.in-Some.i c.get-m.result c.requires.listed (record { game = refl; stack = refl }) c.get-m.ensures;
+      },
     ),
   ),
 )

@@ -179,10 +179,10 @@ node_moves::search_hinted-reply_with-requires g t c κs within = (
     within.0,
     (
       within.1,
-      (
-        c.requires.window,
-        node-reply _ _ _ _ c.args.node.depth c.args.level c.in-Some.first c.get-m.result c.requires.listed (record { game = refl; stack = refl }) c.get-m.ensures,
-      ),
+      record {
+        window = c.requires.window;
+        can = node-reply _ _ _ _ c.args.node.depth c.args.level c.in-Some.first c.get-m.result c.requires.listed (record { game = refl; stack = refl }) c.get-m.ensures;
+      },
     ),
   ),
 )
@@ -241,11 +241,8 @@ node_moves::search_hinted-search_early-requires-2 g t c κs within =
         (
           within.1,
           (
-            left.open_,
-            (
-              node-again _ _ _ _ _ _ c.requires.listed c.reply_with.ensures.spends.before,
-              hint-worth start _ _ _ _ _ same here left.low,
-            ),
+            record { window = left.open_; listed = node-again _ _ _ _ _ _ c.requires.listed c.reply_with.ensures.spends.before },
+            hint-worth start _ _ _ _ _ same here left.low,
           ),
         ),
       ),

@@ -61,7 +61,7 @@ replies::play_reply-search_with-found-requires g t c κs within = (
     within.0,
     (
       within.1,
-      (turned-open _ c.requires.window, reply-room _ _ _ c.args.m _ c.requires.can c.play.ensures.moved),
+      record { window = turned-open _ c.requires.window; room = reply-room _ _ _ c.args.m _ c.requires.can c.play.ensures.moved },
     ),
   ),
 )

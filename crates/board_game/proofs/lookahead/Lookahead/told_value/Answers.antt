@@ -17,7 +17,7 @@ pub value_by-requires-clause-within : goal.value_by-requires-clause-within
 value_by-requires-clause-within g c = c.requires.can.3
 
 pub returns-in-Some-clause-known : goal.returns-in-Some-clause-known
-returns-in-Some-clause-known g c = found_known (g.B.Board.stacks c.args.board.now) c.args.piece c.args.side c.find.new.self c.find.ensures.known c.find.ensures.asked
+returns-in-Some-clause-known g c = found_known (g.B.Board.stacks c.args.board.now) c.args.side c.args.piece c.args.self.now c.find.new.self c.requires.known c.find.ensures.known c.find.ensures.asked c.find.ensures.reach c.find.ensures.placing
 
 pub returns-in-None-clause-known : goal.returns-in-None-clause-known
-returns-in-None-clause-known g c = found_known (g.B.Board.stacks c.args.board.now) c.args.piece c.args.side c.find.new.self c.find.ensures.known c.find.ensures.asked
+returns-in-None-clause-known g c = found_known (g.B.Board.stacks c.args.board.now) c.args.side c.args.piece c.args.self.now c.find.new.self c.requires.known c.find.ensures.known c.find.ensures.asked c.find.ensures.reach c.find.ensures.placing

@@ -1,7 +1,7 @@
-use Rattle.std.proofs.Common.{◌≡◌, ◌∙◌, sym, ap, arith, ℤ, ◌+ℤ◌, to_z, of_z, w32}
+use Rattle.std.proofs.Common.{◌≡◌, ◌∙◌, ap, arith, ℤ, ◌+ℤ◌, to_z, of_z, w32}
 use Rattle.std.proofs.lemmas.Int.{ints}
 use Rattle.hive_model.specs.declared.places.Place.{Place}
-use Rattle.hive_model.specs.Places.{east, south}
+use Rattle.hive_model.specs.Places.{east}
 use Rattle.hive_model.proofs.places.Place.step.Goals as goal
 
 abbrev at : ℤ → ℤ → Place
