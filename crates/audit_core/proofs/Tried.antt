@@ -24,7 +24,7 @@ use Rattle.audit_core.specs.Judging.{has_move, wrong_list, wrong_refusal, wrong_
 use Rattle.audit_core.specs.Drawing.{is_siege, tried_of}
 use Rattle.audit_core.specs.Texts.{is_ok}
 use Rattle.audit_core.specs.Keeps.{IsPlan}
-use Rattle.audit_core.specs.AuditState.{AuditState, drawn_now, start, position_now, conclude, begin, next_game, end_game, note, found, break_off, go, go_or_find, go_back, close_game, list_or_end, play_drawn, count, advance, with_move, check_string, check_list, without_plies, position_before, next_word, try_drawn, loaded, list_loaded, check_undone, check_review, check_tried, check_relisted, check_loaded, check_finish, reply_ends, fresh, keep, reply_with, sent, at_mark, is_ended, named_in}
+use Rattle.audit_core.specs.AuditState.{AuditState, drawn_now, games_before, start, position_now, conclude, begin, next_game, end_game, note, found, break_off, go, go_or_find, go_back, close_game, list_or_end, play_drawn, count, advance, with_move, check_string, check_list, without_plies, position_before, next_word, try_drawn, loaded, list_loaded, check_undone, check_review, check_tried, check_relisted, check_loaded, check_finish, reply_ends, fresh, keep, reply_with, sent, at_mark, is_ended, named_in}
 use Rattle.audit_core.specs.Audits.{step, after_all}
 use Rattle.audit_core.specs.Laws.{TriesIllegal, TriedAreIllegal}
 use Rattle.audit_core.proofs.Judged.{on_has}
@@ -163,7 +163,7 @@ string_so s reply g = judged_so s (wrong_string s.game_type s.moves reply) (list
 list_judged : (s : AuditState) (reply : List ℕ) → Games s → length s.moves < s.plan.plies → Stands (check_list s reply)
 list_judged s reply g less =
     judged_so s (wrong_list s.game_type (position_now s) reply) (play_drawn (advance (count s)) (drawn_now s)) g
-    (drawn_so (advance (count s)) (drawn_now s) g less (drawn_legal (is_siege s.plan.seed s.ended) s.state (position_now s)))
+    (drawn_so (advance (count s)) (drawn_now s) g less (drawn_legal (is_siege s.plan.seed (games_before s)) s.state (position_now s)))
 
 undone_so : (s : AuditState) (reply : List ℕ) → Games s → Stands (check_undone s reply)
 undone_so s reply g = judged_so s (wrong_string s.game_type s.moves reply) (go s Reviewing) g (g, tt)

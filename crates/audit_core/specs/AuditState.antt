@@ -18,7 +18,7 @@ use Rattle.audit_core.specs.declared.findings.Finding.{Finding}
 use Rattle.grow_game.specs.Growing.{next_state}
 use Rattle.audit_core.specs.Drawing.{drawn_of, is_siege, state_after, state_of, tried_of, type_of, undone_of}
 use Rattle.audit_core.specs.Judging.{finding, wrong_list, wrong_refusal, wrong_string}
-use Rattle.audit_core.specs.Texts.{begin_line, list_line, load_line, play_line, undo_line, is_ok, with_line, finding_line, last_line}
+use Rattle.audit_core.specs.Texts.{asked_text, begin_line, list_line, load_line, play_line, undo_line, is_ok, with_line, finding_line, last_line}
 
 -- An audit: the place that it has reached; whether the line of that place is still to be sent; how
 -- many games have ended; which expansions the engine plays; the game at hand, its moves before some
@@ -71,9 +71,14 @@ position_now s = replay (opening s.game_type) s.moves
 abbrev pub position_before : AuditState → Position
 position_before s = replay (opening s.game_type) (take (length s.moves - 2) s.moves)
 
+-- how many games of the seed come before the game at hand: those before the first game of the
+-- audit, and those of the audit that have ended
+abbrev pub games_before : AuditState → ℕ
+games_before s = s.plan.first - 1 + s.ended
+
 -- the move that is drawn in the game at hand, if there is one
 abbrev pub drawn_now : AuditState → Option Move
-drawn_now s = drawn_of (is_siege s.plan.seed s.ended) s.state (position_now s)
+drawn_now s = drawn_of (is_siege s.plan.seed (games_before s)) s.state (position_now s)
 
 -- no expansion
 abbrev pub base_type : GameType
@@ -134,10 +139,10 @@ abbrev pub begin : AuditState → AuditState
 begin s = record s {
   stage = Beginning;
   sending = true;
-  game_type = type_of s.plan.game_type s.plays s.ended;
+  game_type = type_of s.plan.game_type s.plays (games_before s);
   moves = [];
   whole = [];
-  state = state_of s.plan.seed s.ended;
+  state = state_of s.plan.seed (games_before s);
 }
 
 -- the next game begins where there is one, and else the audit is over
@@ -151,7 +156,7 @@ end_game s = record s { ended = s.ended + 1 }
 -- a finding is counted, and its line is written
 abbrev pub note : AuditState → Finding → AuditState
 note s f = record s {
-  text = s.text ++ finding_line (s.ended + 1) s.game_type s.moves f;
+  text = s.text ++ finding_line (games_before s + 1) s.game_type s.moves f;
   findings = s.findings + 1;
 }
 
@@ -160,9 +165,11 @@ abbrev pub found : AuditState → Finding → AuditState
 found s f =
     cond s.plan.stop (conclude (end_game (note s f))) (next_game (end_game (note s f)))
 
--- a finding ends the audit
+-- A reply is missing, and that ends the audit. The finding names the line of the place, which was
+-- sent last, or of which a write failed; none where the greeting is missing.
 abbrev pub break_off : AuditState → Fault → AuditState
-break_off s fault = conclude (end_game (note s (finding fault [])))
+break_off s fault =
+    conclude (end_game (note s (finding fault (asked_text (line_at s s.stage)))))
 
 -- where something is wrong it is a finding
 abbrev pub go_or_find : AuditState → Option Finding → AuditState → AuditState

@@ -9,8 +9,9 @@ use Rattle.audit_core.specs.declared.plan.Plan.{Plan}
 use Rattle.audit_core.specs.declared.plan.Stage.{Stage}
 use Rattle.audit_core.specs.declared.plan.Stage.TheVariants.{Greeting, Beginning, Listing, Playing, Undoing, Reviewing, Trying, Relisting, Loading, Finishing, Over}
 
--- a game has from 1 to 1,000 plies at most
+-- the games are numbered from 1, and a game has from 1 to 1,000 plies at most
 pub record IsPlan (plan : Plan) : Type 0 where
+  pub counted : 1 ≤ plan.first
   pub some : 1 ≤ plan.plies
   pub few : plan.plies ≤ 1000
 

@@ -11,10 +11,11 @@ use Rattle.io_edge.specs.Lines.{Line as Mark, Text, TooLong, greatest_line}
 use Rattle.audit_core.specs.declared.plan.Plan.{Plan}
 use Rattle.audit_core.specs.declared.plan.Stage.{Stage}
 use Rattle.audit_core.specs.declared.plan.Stage.TheVariants.{Greeting, Beginning, Listing, Playing, Undoing, Reviewing, Trying, Relisting, Loading, Finishing, Over}
+use Rattle.audit_core.specs.Drawing.{is_siege}
 use Rattle.audit_core.specs.Judging.{wrong_list, wrong_refusal, wrong_string, ListsMoves, TellsGame}
 use Rattle.audit_core.specs.Texts.{is_ok, is_refusal}
 use Rattle.audit_core.specs.Keeps.{IsPlan}
-use Rattle.audit_core.specs.AuditState.{AuditState, start, position_before, position_now, is_ended, reply_with}
+use Rattle.audit_core.specs.AuditState.{AuditState, begin, games_before, start, position_before, position_now, is_ended, reply_with}
 use Rattle.audit_core.specs.Audits.{after_all, step, audit_of}
 
 -- nothing is wrong with a list exactly where it lists the legal moves, with a string exactly where
@@ -84,3 +85,22 @@ TriedAreIllegal =
     (plan : Plan) (marks : List Mark) (m : Move) → IsPlan plan
     → (after_all (start plan) marks).stage ≡ Trying m
     → TriesIllegal (after_all (start plan) marks) m
+
+-- Two audits stand before the game of one number of one seed, whichever game was the first of
+-- each: for both the same type is asked for, if any, and their engines play the same expansions.
+pub record AreBeforeOneGame (s t : AuditState) : Type 0 where
+  pub seed : s.plan.seed ≡ t.plan.seed
+  pub asked : s.plan.game_type ≡ t.plan.game_type
+  pub plays : s.plays ≡ t.plays
+  pub number : games_before s ≡ games_before t
+
+-- the game at hand begins alike in two audits: it is of one type, its moves are drawn by one
+-- generator, and it is a siege in both or in none
+pub record BeginAlike (s t : AuditState) : Type 0 where
+  pub kind : (begin s).game_type ≡ (begin t).game_type
+  pub state : (begin s).state ≡ (begin t).state
+  pub siege : is_siege s.plan.seed (games_before s) ≡ is_siege t.plan.seed (games_before t)
+
+-- so the game of some number of a seed is the same in each audit that comes to it
+abbrev pub GamesStandAlone : Type 0
+GamesStandAlone = (s t : AuditState) → AreBeforeOneGame s t → BeginAlike s t

@@ -1,5 +1,5 @@
 -- What an engine is sent, and what is written of it.
-use Rattle.std.specs.Prelude.{ℕ, Bool, true, false, ◌||◌, nat_eq, List, [], ◌∷◌, ◌++◌, length, map, codes, decimal, nat_lt, if◌then◌else◌}
+use Rattle.std.specs.Prelude.{ℕ, Bool, true, false, ◌||◌, nat_eq, List, [], ◌∷◌, ◌++◌, length, map, take, codes, decimal, nat_lt, if◌then◌else◌}
 use Rattle.std.specs.List.{starts_with}
 use Rattle.std.specs.Str.{bytes_eq}
 use Rattle.hive_model.specs.declared.pieces.GameType.{GameType}
@@ -67,6 +67,16 @@ shown byte = if nat_lt byte 32 then 63 else (if nat_lt 126 byte then 63 else byt
 abbrev pub text_behind : List ℕ → List ℕ
 text_behind [] = []
 text_behind (byte ∷ bytes) = 32 ∷ map shown (byte ∷ bytes)
+
+-- The line to which no reply has come, as a finding names it. One of more than 68 bytes is cut to
+-- these, with two dots behind them. Only a game string is so long: behind `newgame ` it keeps 60.
+abbrev pub shortened : List ℕ → List ℕ
+shortened line = if nat_lt 68 (length line) then take 68 line ++ codes ".." else line
+
+-- what a finding says of the line that was sent, which ends by an LF; nothing where none was sent
+abbrev pub asked_text : List ℕ → List ℕ
+asked_text [] = []
+asked_text (byte ∷ bytes) = codes "asked " ++ shortened (take (length bytes) (byte ∷ bytes))
 
 abbrev pub fault_word : Fault → List ℕ
 fault_word Missing = codes "missing"

@@ -25,7 +25,8 @@ pub enum Fault {
 }
 
 /// What is wrong, and the text that shows it: the missing move as it is written, the part of the
-/// list as the engine wrote it, or its reply; empty where there is none.
+/// list as the engine wrote it, or its reply; where a reply is missing, `asked` and the line to
+/// which it was to come; empty where there is none.
 #[derive(Drop)]
 pub struct Finding {
     pub fault: Fault,

@@ -1,5 +1,10 @@
 //! What holds of every audit, as the contract of a function that does nothing.
-ghost use Rattle.audit_core.specs.Laws.{AuditsFindFaults, RepliesAreJudged, TriedAreIllegal};
+ghost use Rattle.audit_core.specs.Laws.{
+  AuditsFindFaults,
+  GamesStandAlone,
+  RepliesAreJudged,
+  TriedAreIllegal,
+};
 
 /// Nothing is wrong with a list exactly where it lists the legal moves of its position, each once
 /// and no other; with a string exactly where it is read as the game; and with the reply to a move
@@ -19,4 +24,10 @@ pub fn audits_find_faults()
 /// is not legal now; and the text that is sent for it denotes no legal move.
 pub fn tried_moves_are_illegal()
     ensures { TriedAreIllegal }
+{}
+
+/// The game of some number of a seed begins alike in each audit that comes to it, whichever game is
+/// the first of the audit: with one type and one generator, and as a siege in all or in none.
+pub fn games_stand_alone()
+    ensures { GamesStandAlone }
 {}

@@ -16,5 +16,7 @@ mod texts;
 
 pub use auditor::Auditor;
 pub use findings::{Fault, Finding};
-pub use laws::{audits_find_faults, replies_are_judged, tried_moves_are_illegal};
+pub use laws::{
+    audits_find_faults, games_stand_alone, replies_are_judged, tried_moves_are_illegal,
+};
 pub use plan::{Plan, Stage};

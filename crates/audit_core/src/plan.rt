@@ -6,13 +6,16 @@ use hive_model::{GameType, Move};
 pub struct Plan {
     /// How many games.
     pub games: u64,
-    /// What the moves of the games are drawn by: game n, counted from 0, by the seed and n, added
-    /// up modulo 2 to the power 64.
+    /// The number of the first game among all games of the seed, counted from 1. A game of some
+    /// number is the same whichever game is the first.
+    pub first: u64,
+    /// What the moves of the games are drawn by: those of a game by the seed and its number less 1,
+    /// added up modulo 2 to the power 64.
     pub seed: u64,
     /// The most plies of a game, from 1 to 1,000.
     pub plies: u32,
-    /// The type of all games. Where there is none, each of the eight types comes in turn, without
-    /// the expansions that the engine does not name in its greeting.
+    /// The type of all games. Where there is none, each of the eight types comes in turn, by the
+    /// number of the game, without the expansions that the engine does not name in its greeting.
     pub game_type: Option<GameType>,
     /// Whether the first finding ends the audit. Else it ends its game alone.
     pub stop: bool,

@@ -18,6 +18,8 @@ ghost use Rattle.hive_model.specs.Legal.{moves};
 ghost use Rattle.hive_model.specs.Denotes.{text};
 ghost use Rattle.move_text.specs.Moves.{IsMoveWithin};
 ghost use Rattle.audit_core.specs.Texts.{
+  asked_text,
+  shortened,
   begin_line,
   begins_by,
   play_line,
@@ -41,6 +43,9 @@ use hive_model::{Game, GameType, LineText, Move, ReplyText};
 use itoa::Buffer;
 use move_text::{type_text, write_move};
 use std::alloc::{AllocError, Global};
+
+/// The most bytes of a line that a finding names whole.
+const MOST_NAMED: usize = 68;
 
 /// A copy of these bytes.
 pub(crate) fn copy_text(alloc: Global, bytes: &[u8]) -> Result<LineText, AllocError>
@@ -226,6 +231,33 @@ fn write_behind(out: &mut ReplyText, bytes: &[u8]) -> Result<(), AllocError>
     }
     out.push(b' ')?;
     write_shown(out, bytes)
+}
+
+/// Appends a line as a finding names it: a long one is cut. After want of memory a prefix of that
+/// was appended.
+fn push_shortened(text: &mut LineText, line: &[u8]) -> Result<(), AllocError>
+    ensures { OnOk result (text.new ≡ text.old ++ shortened line.now) }
+{
+    if line.len() > MOST_NAMED {
+        let (named, _) = line.split_at(MOST_NAMED);
+        text.push_all(named)?;
+        return text.push_all(b"..");
+    }
+    text.push_all(line)
+}
+
+/// What a finding says of the line that was sent, its LF included; nothing where none was sent.
+pub(crate) fn asked_text(alloc: Global, line: &[u8]) -> Result<LineText, AllocError>
+    ensures { IfOk result (λ t. t ≡ asked_text line.now) }
+{
+    let mut text = LineText::new(alloc);
+    if line.is_empty() {
+        return Ok(text);
+    }
+    let (line, _) = line.split_at(line.len() - 1);
+    text.push_all(b"asked ")?;
+    push_shortened(&mut text, line)?;
+    Ok(text)
 }
 
 /// Appends a number.

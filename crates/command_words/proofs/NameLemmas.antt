@@ -20,5 +20,5 @@ named_first words (Match setup from) w = ap named w.give.ask.begin
 named_first words (Cup setup) w = ap named w.options.give.ask.begin
 named_first words Book e = ap named e
 named_first words Migrate e = ap named e
-named_first words (Audit games seed plies game_type stop patient) w = ap named w.give.ask.begin
+named_first words (Audit audit) w = ap named w.give.ask.begin
 named_first words (Tournament setup rounds gauntlet at_once resume) w = ap named w.options.give.ask.begin

@@ -45,9 +45,10 @@ in_range words (Match setup from) w = setup_in w.choices setup w.match_is.setup_
 in_range words (Cup setup) w = setup_in _ setup w.setup_is
 in_range words Book w = tt
 in_range words Migrate w = tt
-in_range words (Audit games seed plies game_type stop patient) w =
-    let each = number_in _ 1 1000 80 plies (omega arith) (omega arith) w.choose.plies_are in
-    (w.choose.games_are.low, w.choose.games_are.high, each.0, each.1)
+in_range words (Audit audit) w =
+    let first = number_in _ 1 1000000000 1 audit.first (omega arith) (omega arith) w.choose.first_is in
+    let each = number_in _ 1 1000 80 audit.plies (omega arith) (omega arith) w.choose.plies_are in
+    (w.choose.games_are.low, w.choose.games_are.high, first.0, first.1, each.0, each.1)
 in_range words (Tournament setup rounds gauntlet at_once resume) w =
     let some = number_in w.options.rounds 1 10000 1 rounds (omega arith) (omega arith) w.rounds_is in
     let once = number_in w.options.at_once 1 64 1 at_once (omega arith) (omega arith) w.at_once_is in

@@ -1,5 +1,5 @@
 -- The words that ask for an audit of a program.
-use Rattle.std.specs.Prelude.{◌≡◌, ℕ, Bool, ◌-◌, ◌^◌, List, [], ◌∷◌, codes, map, string_bytes, Option, None, Some, is_some, option_map}
+use Rattle.std.specs.Prelude.{◌≡◌, ℕ, ◌-◌, ◌^◌, List, [], ◌∷◌, codes, map, string_bytes, Option, None, Some, is_some, option_map}
 use Rattle.std.specs.declared.string.String.{String}
 use Rattle.std.specs.declared.alloc.Global.{Global}
 use Rattle.hive_model.specs.declared.pieces.GameType.{GameType}
@@ -7,6 +7,7 @@ use Rattle.hive_model.specs.Fields.{IsNumberText, type_bytes}
 use Rattle.match_core.specs.declared.setup.Level.{Level}
 use Rattle.match_core.specs.declared.setup.Level.TheVariants.{Depth}
 use Rattle.option_words.specs.Options.{Gives}
+use Rattle.command_words.specs.declared.audits.AuditAsked.{AuditAsked}
 use Rattle.command_words.specs.declared.audits.AuditTexts.{AuditTexts}
 use Rattle.command_words.specs.declared.care.Care.{Care}
 use Rattle.command_words.specs.Matches.{IsCareOf, IsNumberOr, IsProgram, IsRuleOf, between_spaces}
@@ -33,6 +34,7 @@ pub record AuditOptions : Type 0 where
   pub patience : Option (List ℕ)
   pub quiet : Option (List ℕ)
   pub stop : Option (List ℕ)
+  pub first : Option (List ℕ)
 
 -- a program's texts of these options
 abbrev pub options_in : AuditTexts → AuditOptions
@@ -45,18 +47,20 @@ options_in texts = record {
   patience = option_map (λ t. t.now) texts.patience;
   quiet = option_map (λ t. t.now) texts.quiet;
   stop = option_map (λ t. t.now) texts.stop;
+  first = option_map (λ t. t.now) texts.first;
 }
 
 -- the options of an audit, in the order in which their values are given
 abbrev pub audit_options : List (List ℕ)
 audit_options =
     codes "engine" ∷ (codes "games" ∷ (codes "seed" ∷ (codes "plies" ∷
-    (codes "type" ∷ (codes "patience" ∷ (codes "quiet" ∷ (codes "stop" ∷ [])))))))
+    (codes "type" ∷ (codes "patience" ∷ (codes "quiet" ∷ (codes "stop" ∷
+    (codes "first" ∷ []))))))))
 
 abbrev pub audit_values : AuditOptions → List (Option (List ℕ))
 audit_values o =
     Some o.engine ∷ (Some o.games ∷ (Some o.seed ∷ (o.plies ∷
-    (o.game_type ∷ (o.patience ∷ (o.quiet ∷ (o.stop ∷ [])))))))
+    (o.game_type ∷ (o.patience ∷ (o.quiet ∷ (o.stop ∷ (o.first ∷ []))))))))
 
 -- the words are `audit` and its options, with these values
 abbrev pub GiveAudit : List (String Global) → AuditOptions → Type 0
@@ -64,27 +68,27 @@ GiveAudit words options =
     Gives (map string_bytes words) (codes "audit") audit_options (audit_values options)
 
 -- The options have values of their form: from 1 to 1,000,000 games, whose moves are drawn from a
--- seed, any number below 2 to the power 64; from 1 to 1,000 plies a game, 80 where none are given;
--- one type for all games, or none; and whether the first finding ends the audit, by 1. The audit is
--- patient where the program is waited for just so long.
-pub record ChooseAudit (options : AuditOptions) (games seed plies : ℕ)
-    (game_type : Option GameType) (stop patient : Bool) : Type 0 where
+-- seed, any number below 2 to the power 64; the number of the first game, from 1 to 1,000,000,000,
+-- 1 where none is given; from 1 to 1,000 plies a game, 80 where none are given; one type for all
+-- games, or none; and whether the first finding ends the audit, by 1. The audit is patient where
+-- the program is waited for just so long.
+pub record ChooseAudit (options : AuditOptions) (audit : AuditAsked) : Type 0 where
   pub program : IsProgram options.engine
-  pub games_are : IsNumberText options.games 1 1000000 games
-  pub seed_is : IsNumberText options.seed 0 (2 ^ 64 - 1) seed
-  pub plies_are : IsNumberOr options.plies 1 1000 80 plies
-  pub kind : IsTypeGiven options.game_type game_type
-  pub stop_is : IsRuleOf options.stop stop
+  pub games_are : IsNumberText options.games 1 1000000 audit.games
+  pub first_is : IsNumberOr options.first 1 1000000000 1 audit.first
+  pub seed_is : IsNumberText options.seed 0 (2 ^ 64 - 1) audit.seed
+  pub plies_are : IsNumberOr options.plies 1 1000 80 audit.plies
+  pub kind : IsTypeGiven options.game_type audit.game_type
+  pub stop_is : IsRuleOf options.stop audit.stop
   pub care : Care
   pub care_is : IsCareOf options.patience options.quiet untimed care
-  pub patient_is : patient ≡ is_some care.limit
+  pub patient_is : audit.patient ≡ is_some care.limit
 
 -- `audit` and its options, of which the program, the games and the seed are required
-pub record AreAuditWords (words : List (String Global)) (games seed plies : ℕ)
-    (game_type : Option GameType) (stop patient : Bool) : Type 0 where
+pub record AreAuditWords (words : List (String Global)) (audit : AuditAsked) : Type 0 where
   pub options : AuditOptions
   pub give : GiveAudit words options
-  pub choose : ChooseAudit options games seed plies game_type stop patient
+  pub choose : ChooseAudit options audit
 
 -- the words are `audit` and options, and ask for this care of the program
 abbrev pub AskForAuditCare : List (String Global) → Care → Type 0

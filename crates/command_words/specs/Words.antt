@@ -64,8 +64,7 @@ Words words (Match setup from) = AreMatchWords words setup from
 Words words (Cup setup) = AreCupWords words setup
 Words words Book = AreAlone words BookName
 Words words Migrate = AreAlone words MigrateName
-Words words (Audit games seed plies game_type stop patient) =
-    AreAuditWords words games seed plies game_type stop patient
+Words words (Audit audit) = AreAuditWords words audit
 Words words (Tournament setup rounds gauntlet at_once resume) =
     AreTournamentWords words setup rounds gauntlet at_once resume
 
@@ -88,7 +87,7 @@ CaresFor words (Match setup from) care = AskForMatchCare words setup from care
 CaresFor words (Cup setup) care = AskForCupCare words setup care
 CaresFor words Book care = care ≡ no_care
 CaresFor words Migrate care = care ≡ no_care
-CaresFor words (Audit games seed plies game_type stop patient) care = AskForAuditCare words care
+CaresFor words (Audit audit) care = AskForAuditCare words care
 CaresFor words (Tournament setup rounds gauntlet at_once resume) care =
     AskForTournamentCare words setup rounds gauntlet at_once resume care
 
@@ -110,7 +109,7 @@ name_of (Match setup from) = MatchName
 name_of (Cup setup) = CupName
 name_of Book = BookName
 name_of Migrate = MigrateName
-name_of (Audit games seed plies game_type stop patient) = AuditName
+name_of (Audit audit) = AuditName
 name_of (Tournament setup rounds gauntlet at_once resume) = TournamentName
 
 -- the words ask for what was found, if anything, and for nothing else by this name
@@ -137,7 +136,9 @@ IsInRange (Match setup from) = IsSetup setup
 IsInRange (Cup setup) = IsSetup setup
 IsInRange Book = Unit {0}
 IsInRange Migrate = Unit {0}
-IsInRange (Audit games seed plies game_type stop patient) =
-    (1 ≤ games) × (games ≤ 1000000) × (1 ≤ plies) × (plies ≤ 1000)
+IsInRange (Audit audit) =
+    (1 ≤ audit.games) × (audit.games ≤ 1000000)
+    × (1 ≤ audit.first) × (audit.first ≤ 1000000000)
+    × (1 ≤ audit.plies) × (audit.plies ≤ 1000)
 IsInRange (Tournament setup rounds gauntlet at_once resume) =
     IsSetup setup × (1 ≤ rounds) × (rounds ≤ 10000) × (1 ≤ at_once) × (at_once ≤ 64)

@@ -24,7 +24,7 @@ ghost use Rattle.command_words.specs.Words.{
   name_of,
 };
 
-use crate::audits::{audit_care, audit_of};
+use crate::audits::{AuditAsked, audit_care, audit_of};
 use crate::care::Care;
 use crate::cups::{cup_care, cup_of};
 use crate::grown::growth_of;
@@ -33,7 +33,6 @@ use crate::name::{Name, named};
 use crate::numbered::number_of;
 use crate::replayed::replay_of;
 use crate::tournaments::{TournamentAsked, tournament_care, tournament_of};
-use hive_model::GameType;
 use match_core::Setup;
 use std::alloc::{AllocError, Global};
 
@@ -74,18 +73,8 @@ pub enum Asked {
     Book,
     /// A certificate made into one that cites what it showed before.
     Migrate,
-    /// An audit of the program that the words name: so many games, 1 to 1,000,000, whose moves are
-    /// drawn from a seed, each of at most so many plies, 1 to 1,000, and all of one type, where one
-    /// is given; up to the first finding or whatever is found; and where it is patient, the program
-    /// is waited for just so long as its care says.
-    Audit {
-        games: u64,
-        seed: u64,
-        plies: u32,
-        game_type: Option<GameType>,
-        stop: bool,
-        patient: bool,
-    },
+    /// An audit of the program that the words name, whose games are made so.
+    Audit(AuditAsked),
     /// A tournament of the programs that the words name: how each of its matches is played, how
     /// many rounds it has (1 to 10,000), whether the first engine meets all others or each engine
     /// each other one, how many games are played at once (1 to 64), and whether games that were
@@ -197,15 +186,7 @@ fn cup(alloc: Global, words: &[String]) -> Result<Option<Asked>, AllocError>
 fn audit(alloc: Global, words: &[String]) -> Result<Option<Asked>, AllocError>
     ensures { IfOk result (Finds words.now Name.Audit) }
 {
-    let audit = audit_of(alloc, words)?;
-    Ok(audit.map(|one| Asked::Audit {
-        games: one.games,
-        seed: one.seed,
-        plies: one.plies,
-        game_type: one.game_type,
-        stop: one.stop,
-        patient: one.patient,
-    }))
+    Ok(audit_of(alloc, words)?.map(Asked::Audit))
 }
 
 /// A tournament is asked for with its programs.
@@ -269,7 +250,7 @@ fn asked_care(alloc: Global, words: &[String], asked: Asked) -> Result<Care, All
     match asked {
         Asked::Match { setup, from } => match_care(alloc, words, setup, from),
         Asked::Cup(setup) => cup_care(alloc, words, setup),
-        Asked::Audit { .. } => audit_care(alloc, words),
+        Asked::Audit(_) => audit_care(alloc, words),
         Asked::Tournament {
             setup,
             rounds,

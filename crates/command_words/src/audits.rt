@@ -2,8 +2,6 @@
 ghost use Rattle.std.specs.Prelude.{
   ◌≡◌,
   ◌<◌,
-  ℕ,
-  Bool,
   MatchOption,
   Option,
   Some,
@@ -15,6 +13,7 @@ ghost use Rattle.std.specs.Prelude.{
   IfSome,
 };
 ghost use Rattle.hive_model.specs.declared.pieces.GameType.{GameType as AnyType};
+ghost use Rattle.command_words.specs.declared.audits.AuditAsked.{AuditAsked as AnyAudit};
 ghost use Rattle.command_words.specs.Audits.{
   AreAuditWords,
   AskForAuditCare,
@@ -37,22 +36,30 @@ use option_words::options_of;
 use std::alloc::{AllocError, Global};
 
 /// The options of an audit, in the order in which their values are asked for.
-const OPTIONS: [&str; 8] = [
-    "engine", "games", "seed", "plies", "type", "patience", "quiet", "stop",
+const OPTIONS: [&str; 9] = [
+    "engine", "games", "seed", "plies", "type", "patience", "quiet", "stop", "first",
 ];
 
 /// No time is set for an answer, as in a match to a depth.
 const UNTIMED: Level = Level::Depth { depth: 1 };
 
 /// How the games of an audit are made.
-#[derive(Clone, Copy)]
-pub(crate) struct Audit {
-    pub(crate) games: u64,
-    pub(crate) seed: u64,
-    pub(crate) plies: u32,
-    pub(crate) game_type: Option<GameType>,
-    pub(crate) stop: bool,
-    pub(crate) patient: bool,
+#[derive(Clone, Copy, Debug, PartialEq, Eq)]
+pub struct AuditAsked {
+    /// How many games: 1 to 1,000,000.
+    pub games: u64,
+    /// The number of the first one: 1 to 1,000,000,000.
+    pub first: u64,
+    /// The number that their moves are drawn from.
+    pub seed: u64,
+    /// The most plies of a game: 1 to 1,000.
+    pub plies: u32,
+    /// The type of all games, where one is asked for.
+    pub game_type: Option<GameType>,
+    /// Whether the first finding ends the audit.
+    pub stop: bool,
+    /// Whether the program is waited for just so long as its care says.
+    pub patient: bool,
 }
 
 /// The texts of the options of an audit.
@@ -66,6 +73,7 @@ pub(crate) struct AuditTexts<'a> {
     pub(crate) patience: Option<&'a str>,
     pub(crate) quiet: Option<&'a str>,
     pub(crate) stop: Option<&'a str>,
+    pub(crate) first: Option<&'a str>,
 }
 
 /// The texts that the words give the options of an audit: `audit` and its options, of which the
@@ -97,6 +105,7 @@ fn texts_of<'a>(alloc: Global, words: &'a [String]) -> Result<Option<AuditTexts<
         patience: given.value(5),
         quiet: given.value(6),
         stop: given.value(7),
+        first: given.value(8),
     }))
 }
 
@@ -114,31 +123,23 @@ fn type_given(text: Option<&str>) -> Option<Option<GameType>>
 
 /// How the games are made that these texts choose. None where one of them is none of its option,
 /// those of the program and on the care for it too.
-fn audit_at(texts: AuditTexts<'_>) -> Option<Audit>
-    ensures found { IfSome result (λ a. ChooseAudit (options_in texts.entry) a.games a.seed a.plies
-        a.game_type a.stop a.patient) }
-    ensures only { (g s n : ℕ) (t : Option AnyType) (r p : Bool)
-        → ChooseAudit (options_in texts.entry) g s n t r p
-        → result ≡ Some (record {
-          games = g;
-          seed = s;
-          plies = n;
-          game_type = t;
-          stop = r;
-          patient = p;
-        }) }
+fn audit_at(texts: AuditTexts<'_>) -> Option<AuditAsked>
+    ensures found { IfSome result (λ a. ChooseAudit (options_in texts.entry) a) }
+    ensures only { (a : AnyAudit) → ChooseAudit (options_in texts.entry) a → result ≡ Some a }
 {
     if !is_program(texts.engine) {
         return None;
     }
     let games = read_number(texts.games.as_bytes(), 1, 1_000_000)?;
+    let first = number_or(texts.first, 1, 1_000_000_000, 1)?;
     let seed = read_number(texts.seed.as_bytes(), 0, u64::MAX)?;
     let plies = number_or(texts.plies, 1, 1000, 80)?;
     let game_type = type_given(texts.game_type)?;
     let stop = rule_of(texts.stop)?;
     let care = care_at(texts.patience, texts.quiet, UNTIMED)?;
-    Some(Audit {
+    Some(AuditAsked {
         games,
+        first,
         seed,
         plies: plies as u32,
         game_type,
@@ -149,19 +150,9 @@ fn audit_at(texts: AuditTexts<'_>) -> Option<Audit>
 
 /// How the games of the audit are made that the words ask for. None where they ask for none; an
 /// `AllocError` where memory runs out before that is known.
-pub(crate) fn audit_of(alloc: Global, words: &[String]) -> Result<Option<Audit>, AllocError>
-    ensures found { IfOk result (λ o. IfSome o (λ a. AreAuditWords words.now a.games a.seed a.plies
-        a.game_type a.stop a.patient)) }
-    ensures only { IfOk result (λ o. (g s n : ℕ) (t : Option AnyType) (r p : Bool)
-        → AreAuditWords words.now g s n t r p
-        → o ≡ Some (record {
-          games = g;
-          seed = s;
-          plies = n;
-          game_type = t;
-          stop = r;
-          patient = p;
-        })) }
+pub(crate) fn audit_of(alloc: Global, words: &[String]) -> Result<Option<AuditAsked>, AllocError>
+    ensures found { IfOk result (λ o. IfSome o (λ a. AreAuditWords words.now a)) }
+    ensures only { IfOk result (λ o. (a : AnyAudit) → AreAuditWords words.now a → o ≡ Some a) }
 {
     match texts_of(alloc, words)? {
         Some(texts) => Ok(audit_at(texts)),
@@ -172,8 +163,7 @@ pub(crate) fn audit_of(alloc: Global, words: &[String]) -> Result<Option<Audit>,
 /// The care for its program that the words of an audit ask for. An `AllocError` where memory runs
 /// out.
 pub(crate) fn audit_care(alloc: Global, words: &[String]) -> Result<Care, AllocError>
-    requires { (g : ℕ) × (s : ℕ) × (n : ℕ) × (t : Option AnyType) × (r : Bool) × (p : Bool)
-        × AreAuditWords words.now g s n t r p }
+    requires { (a : AnyAudit) × AreAuditWords words.now a }
     ensures { IfOk result (λ care. AskForAuditCare words.now care) }
 {
     let Some(texts) = texts_of(alloc, words)? else {
@@ -188,8 +178,7 @@ pub(crate) fn audit_care(alloc: Global, words: &[String]) -> Result<Care, AllocE
 /// The program of the audit that the words ask for: the words that its option gives, separated by
 /// single spaces, in order. An `AllocError` where memory runs out.
 pub fn audited_of(alloc: Global, words: &[String]) -> Result<Vec<String>, AllocError>
-    requires { (g : ℕ) × (s : ℕ) × (n : ℕ) × (t : Option AnyType) × (r : Bool) × (p : Bool)
-        × AreAuditWords words.now g s n t r p }
+    requires { (a : AnyAudit) × AreAuditWords words.now a }
     ensures some { IfOk result (λ program. 0 < length program.items) }
     ensures program { IfOk result (λ program. AskForAudited words.now
         (map string_bytes program.items)) }

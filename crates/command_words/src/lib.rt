@@ -17,7 +17,7 @@ mod setup;
 mod tournaments;
 
 pub use asked::{Asked, asked_of, care_of};
-pub use audits::audited_of;
+pub use audits::{AuditAsked, audited_of};
 pub use care::Care;
 pub use cups::engines_of;
 pub use laws::words_have_one_answer;

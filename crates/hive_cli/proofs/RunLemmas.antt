@@ -34,10 +34,10 @@ use Rattle.command_runs.proofs.WrittenLemmas.{ends_so}
 use Rattle.command_runs.specs.declared.status.Status.{Status}
 use Rattle.command_runs.specs.declared.status.Status.TheVariants.{Usage, ReadFault, SpawnFault, BadInput, Memory}
 use Rattle.command_words.specs.declared.asked.Asked.{Asked}
+use Rattle.command_words.specs.declared.audits.AuditAsked.{AuditAsked}
 use Rattle.command_words.specs.declared.asked.Asked.TheVariants.{Session, Replay, Count, Grow, Certify, Check, Solve, Verify, Match, Cup, Book, Migrate, Audit, Tournament}
 use Rattle.audit_command.specs.Audit.{AuditRun}
 use Rattle.audit_command.proofs.Closing.{none_taken}
-use Rattle.hive_model.specs.declared.pieces.GameType.{GameType}
 use Rattle.book_command.specs.Runs.{BookRun}
 use Rattle.strategy_commands.specs.Certifying.{CertifyRun}
 use Rattle.strategy_commands.specs.Verdicts.{CheckRun}
@@ -89,8 +89,8 @@ never_usage words (Match setup true) status before after run e = let (white, bla
     read_usage setup white black status before after read e
 never_usage words (Cup setup) status before after run e = let (engines, asked, played) = run.played in
     subst (λ s. CupRun engines setup s before after) e played
-never_usage words (Audit games seed plies game_type stop patient) status before after run e =
-    subst (λ s. AuditRun (plan_of games seed plies game_type stop patient) s before after) e run.audited
+never_usage words (Audit audit) status before after run e =
+    subst (λ s. AuditRun (plan_of audit) s before after) e run.audited
 never_usage words (Tournament setup rounds gauntlet at_once resume) status before after run e = let (engines, asked, played) = run.played in
     tournament_usage engines (format_of setup rounds gauntlet at_once resume) status before after played e
 
@@ -108,7 +108,7 @@ never_spawns words Book status before after alone (run, others) e = subst (λ s.
 never_spawns words Migrate status before after alone (run, others) e = subst (λ s. MigrateRun s before.sides after.sides) e run
 never_spawns words (Match setup from) status before after alone run e = absurd (alone tt)
 never_spawns words (Cup setup) status before after alone run e = absurd (alone tt)
-never_spawns words (Audit games seed plies game_type stop patient) status before after alone run e = absurd (alone tt)
+never_spawns words (Audit audit) status before after alone run e = absurd (alone tt)
 never_spawns words (Tournament setup rounds gauntlet at_once resume) status before after alone run e = absurd (alone tt)
 
 -- a cup reads nothing
@@ -234,14 +234,14 @@ starved_contest words setup rounds gauntlet at_once resume w h = record {
 }
 
 -- where memory was wanting before the program of an audit was started, it was not
-pub starved_audited : (words : List (String Global)) (g s n : ℕ) (t : Option GameType) (r p : Bool) (engines : Engines) → AreAuditWords words g s n t r p → StartsAudited words Memory engines engines
-starved_audited words g s n t r p engines h = (between_spaces h.options.engine, (h.options, h.give, refl), inr refl)
+pub starved_audited : (words : List (String Global)) (audit : AuditAsked) (engines : Engines) → AreAuditWords words audit → StartsAudited words Memory engines engines
+starved_audited words audit engines h = (between_spaces h.options.engine, (h.options, h.give, refl), inr refl)
 
 -- an audit that wanted memory before its program was started
-starved_audit : (words : List (String Global)) (g s n : ℕ) (t : Option GameType) (r p : Bool) (w : World) → AreAuditWords words g s n t r p → RunOf words (Audit g s n t r p) Memory w w
-starved_audit words g s n t r p w asked = record {
+starved_audit : (words : List (String Global)) (audit : AuditAsked) (w : World) → AreAuditWords words audit → RunOf words (Audit audit) Memory w w
+starved_audit words audit w asked = record {
   audited = refl;
-  program = starved_audited words g s n t r p w.engines asked;
+  program = starved_audited words audit w.engines asked;
   closed = none_taken w.engines w.engines refl refl;
   unread = refl;
   untimed = no_time w.times;
@@ -260,7 +260,7 @@ starved_here words Book w h = ((refl, unread w.sides.rest), no_more w)
 starved_here words Migrate w h = (refl, no_more w)
 starved_here words (Match setup from) w h = starved_match words setup from w h
 starved_here words (Cup setup) w h = starved_cup words setup w h
-starved_here words (Audit g s n t r p) w h = starved_audit words g s n t r p w h
+starved_here words (Audit audit) w h = starved_audit words audit w h
 starved_here words (Tournament setup rounds gauntlet at_once resume) w h = starved_contest words setup rounds gauntlet at_once resume w h
 
 -- memory was wanting before anything was done
@@ -279,7 +279,7 @@ run_of words did asked status before after run e = subst (λ a. RunOf words a st
 
 -- what is no match, cup, tournament or audit starts no program
 pub is_alone : (asked : Asked) → ((setup : Setup) (from : Bool) → asked ≡ Match setup from → ⊥) → ((setup : Setup) → asked ≡ Cup setup → ⊥)
-    → ((games seed plies : ℕ) (game_type : Option GameType) (stop patient : Bool) → asked ≡ Audit games seed plies game_type stop patient → ⊥) → ((setup : Setup) (rounds : ℕ) (gauntlet : Bool) (at_once : ℕ) (resume : Bool) → asked ≡ Tournament setup rounds gauntlet at_once resume → ⊥) → ¬ UsesSpawner asked
+    → ((audit : AuditAsked) → asked ≡ Audit audit → ⊥) → ((setup : Setup) (rounds : ℕ) (gauntlet : Bool) (at_once : ℕ) (resume : Bool) → asked ≡ Tournament setup rounds gauntlet at_once resume → ⊥) → ¬ UsesSpawner asked
 is_alone (Match setup from) no_match no_cup no_audit no_tournament uses = no_match setup from refl
 is_alone (Cup setup) no_match no_cup no_audit no_tournament uses = no_cup setup refl
 is_alone Session no_match no_cup no_audit no_tournament uses = uses
@@ -292,5 +292,5 @@ is_alone (Solve plies) no_match no_cup no_audit no_tournament uses = uses
 is_alone Verify no_match no_cup no_audit no_tournament uses = uses
 is_alone Book no_match no_cup no_audit no_tournament uses = uses
 is_alone Migrate no_match no_cup no_audit no_tournament uses = uses
-is_alone (Audit games seed plies game_type stop patient) no_match no_cup no_audit no_tournament uses = no_audit games seed plies game_type stop patient refl
+is_alone (Audit audit) no_match no_cup no_audit no_tournament uses = no_audit audit refl
 is_alone (Tournament setup rounds gauntlet at_once resume) no_match no_cup no_audit no_tournament uses = no_tournament setup rounds gauntlet at_once resume refl

@@ -1,9 +1,8 @@
 -- What a run does, by what its words ask for and by the status with which it ends. A new command
 -- has a case here and in `Words`.
-use Rattle.std.specs.Prelude.{◌≡◌, ℕ, Bool, true, false, List, Option}
+use Rattle.std.specs.Prelude.{◌≡◌, ℕ, Bool, true, false, List}
 use Rattle.std.specs.declared.string.String.{String}
 use Rattle.std.specs.declared.alloc.Global.{Global}
-use Rattle.hive_model.specs.declared.pieces.GameType.{GameType}
 use Rattle.audit_core.specs.declared.plan.Plan.{Plan}
 use Rattle.audit_command.specs.Audit.{AuditRun, AuditStarts, NoneIsOpen as NoProgramIsOpen}
 use Rattle.book_command.specs.Runs.{BookRun}
@@ -18,6 +17,7 @@ use Rattle.command_words.specs.Audits.{AskForAudited}
 use Rattle.command_words.specs.Cups.{AskForEngines}
 use Rattle.command_words.specs.Matches.{AskForPrograms}
 use Rattle.command_words.specs.Tournaments.{AskForTournamentEngines}
+use Rattle.command_words.specs.declared.audits.AuditAsked.{AuditAsked}
 use Rattle.command_words.specs.declared.asked.Asked.{Asked}
 use Rattle.command_words.specs.declared.asked.Asked.TheVariants.{Session, Replay, Count, Grow, Certify, Check, Solve, Verify, Match, Cup, Book, Migrate, Audit, Tournament}
 use Rattle.cup_command.specs.Cup.{CupRun}
@@ -117,14 +117,15 @@ pub record PlayedTournament (words : List (String Global)) (format : Format) (st
   pub untimed : LeavesTimes before after
 
 -- what an audit is made by
-abbrev pub plan_of : ℕ → ℕ → ℕ → Option GameType → Bool → Bool → Plan
-plan_of games seed plies game_type stop patient = record {
-  games = games;
-  seed = seed;
-  plies = plies;
-  game_type = game_type;
-  stop = stop;
-  patient = patient;
+abbrev pub plan_of : AuditAsked → Plan
+plan_of audit = record {
+  games = audit.games;
+  first = audit.first;
+  seed = audit.seed;
+  plies = audit.plies;
+  game_type = audit.game_type;
+  stop = audit.stop;
+  patient = audit.patient;
 }
 
 -- the program of the audit that the words ask for was started, by its words
@@ -168,8 +169,7 @@ RunOf words Book status before after =
     BookRun status before.sides after.sides × LeavesAllElse before after
 RunOf words Migrate status before after =
     MigrateRun status before.sides after.sides × LeavesAllElse before after
-RunOf words (Audit games seed plies game_type stop patient) status before after =
-    MadeAudit words (plan_of games seed plies game_type stop patient) status before after
+RunOf words (Audit audit) status before after = MadeAudit words (plan_of audit) status before after
 RunOf words (Tournament setup rounds gauntlet at_once resume) status before after =
     PlayedTournament words (format_of setup rounds gauntlet at_once resume) status before after
 
@@ -183,7 +183,7 @@ UsesClock _ = ⊥
 abbrev pub UsesSpawner : Asked → Type 0
 UsesSpawner (Match setup from) = Unit {0}
 UsesSpawner (Cup setup) = Unit {0}
-UsesSpawner (Audit games seed plies game_type stop patient) = Unit {0}
+UsesSpawner (Audit audit) = Unit {0}
 UsesSpawner (Tournament setup rounds gauntlet at_once resume) = Unit {0}
 UsesSpawner _ = ⊥
 

@@ -13,12 +13,18 @@ ghost use Rattle.match_command.specs.Ends.{EndsRun};
 ghost use Rattle.match_command.specs.Match.{NoneIsOpen};
 ghost use Rattle.match_core.specs.Keeps.{IsSetup};
 ghost use Rattle.tournament_command.specs.Formats.{IsFormat};
-ghost use Rattle.hive_cli.specs.Run.{PlaysEngines, PlaysMatch, PlaysTournament, StartsAudited};
+ghost use Rattle.hive_cli.specs.Run.{
+  PlaysEngines,
+  PlaysMatch,
+  PlaysTournament,
+  StartsAudited,
+  plan_of,
+};
 
 use audit_command::audit_engine;
 use audit_core::Plan;
 use command_runs::Status;
-use command_words::{audited_of, engines_of, programs_of, tournament_engines_of};
+use command_words::{AuditAsked, audited_of, engines_of, programs_of, tournament_engines_of};
 use cup::FreeCupGate;
 use cup_command::play_cup;
 use hive_model::Game;
@@ -135,18 +141,32 @@ pub(crate) fn contested<
     )
 }
 
-/// Audits the program that the words name, by this plan.
+/// What the audit is made by that is asked for so.
+fn plan_of(audit: AuditAsked) -> Plan
+    ensures { result ≡ plan_of audit }
+{
+    Plan {
+        games: audit.games,
+        first: audit.first,
+        seed: audit.seed,
+        plies: audit.plies,
+        game_type: audit.game_type,
+        stop: audit.stop,
+        patient: audit.patient,
+    }
+}
+
+/// Audits the program that the words name, as they ask for it.
 pub(crate) fn audited<K: Sink, P: Spawner, G: Game + Drop>(
     alloc: Global,
     words: &[String],
-    plan: Plan,
+    audit: AuditAsked,
     output: &mut K,
     spawner: &mut P,
 ) -> Status
-    requires words { AreAuditWords words.now plan.games plan.seed plan.plies plan.game_type
-        plan.stop plan.patient }
-    requires plan { IsPlan plan }
-    ensures run { (rest : Told) (times : Times) → AuditRun plan result
+    requires words { AreAuditWords words.now audit }
+    requires plan { IsPlan (plan_of audit) }
+    ensures run { (rest : Told) (times : Times) → AuditRun (plan_of audit) result
         (world (sides rest (K.written output.old)) times (P.engines spawner.old))
         (world (sides rest (K.written output.new)) times (P.engines spawner.new)) }
     ensures program { StartsAudited words.now result (P.engines spawner.old)
@@ -157,5 +177,5 @@ pub(crate) fn audited<K: Sink, P: Spawner, G: Game + Drop>(
     let Ok(program) = audited_of(alloc, words) else {
         return Status::Memory;
     };
-    audit_engine::<P, K, G>(alloc, program.as_slice(), plan, output, spawner)
+    audit_engine::<P, K, G>(alloc, program.as_slice(), plan_of(audit), output, spawner)
 }

@@ -14,7 +14,6 @@ mod contests;
 mod outcome;
 
 use crate::contests::{audited, contested, cupped, matched};
-use audit_core::Plan;
 use book_command::book;
 pub use command_runs::Status;
 pub use command_words::Asked;
@@ -184,27 +183,10 @@ fn run_command<
             status: cupped::<R, K, P, G>(rt, alloc, words, setup, output, spawner),
             timed,
         },
-        Asked::Audit {
-            games,
-            seed,
-            plies,
-            game_type,
-            stop,
-            patient,
-        } => {
-            let plan = Plan {
-                games,
-                seed,
-                plies,
-                game_type,
-                stop,
-                patient,
-            };
-            Outcome {
-                status: audited::<K, P, G>(alloc, words, plan, output, spawner),
-                timed,
-            }
-        }
+        Asked::Audit(audit) => Outcome {
+            status: audited::<K, P, G>(alloc, words, audit, output, spawner),
+            timed,
+        },
         Asked::Tournament {
             setup,
             rounds,
@@ -269,7 +251,7 @@ fn run_alone<R: Threads + Sync, S: Source, K: Sink, C: Clock, G: Game + Send + D
         Asked::Verify => verify::<S, K, G>(alloc, input, output),
         Asked::Book => book::<S, K, G>(alloc, input, output),
         Asked::Migrate => migrate::<S, K, G>(alloc, input, output),
-        Asked::Match { .. } | Asked::Cup(_) | Asked::Tournament { .. } | Asked::Audit { .. } =>
+        Asked::Match { .. } | Asked::Cup(_) | Asked::Tournament { .. } | Asked::Audit(_) =>
             unreachable!(),
     };
     Outcome { status, timed }

@@ -23,22 +23,27 @@ const SENT_BEFORE: &[u8] = b"newgame Base\nvalidmoves\n";
 
 /// What is told where it breaks off then.
 const BROKE: &[u8] = b"game 1 ply 0 Base;NotStarted;White[1] extra wQ\n\
-    game 2 ply 0 Base;NotStarted;White[1] broke\n\
+    game 2 ply 0 Base;NotStarted;White[1] broke asked newgame Base\n\
     audited 2 games 0 positions 0 moves, 2 findings\n";
 
 /// The same where an answer is waited for no longer than some limit.
 const LATE: &[u8] = b"game 1 ply 0 Base;NotStarted;White[1] extra wQ\n\
-    game 2 ply 0 Base;NotStarted;White[1] late\n\
+    game 2 ply 0 Base;NotStarted;White[1] late asked newgame Base\n\
     audited 2 games 0 positions 0 moves, 2 findings\n";
 
 /// The same where its output ends.
 const ENDED: &[u8] = b"game 1 ply 0 Base;NotStarted;White[1] extra wQ\n\
-    game 2 ply 0 Base;NotStarted;White[1] ended\n\
+    game 2 ply 0 Base;NotStarted;White[1] ended asked newgame Base\n\
     audited 2 games 0 positions 0 moves, 2 findings\n";
+
+/// What is told where not even the greeting is whole.
+const UNGREETED: &[u8] = b"game 1 ply 0 Base;NotStarted;White[1] ended\n\
+    audited 1 games 0 positions 0 moves, 1 findings\n";
 
 /// Three games of the type Base.
 const THREE_GAMES: Plan = Plan {
     games: 3,
+    first: 1,
     seed: 0,
     plies: 2,
     game_type: Some(BASE),
@@ -49,12 +54,36 @@ const THREE_GAMES: Plan = Plan {
 /// The same where an answer is waited for no longer than some limit.
 const PATIENTLY: Plan = Plan {
     games: 3,
+    first: 1,
     seed: 0,
     plies: 2,
     game_type: Some(BASE),
     stop: false,
     patient: true,
 };
+
+/// Two games from the fourth on, of whatever types.
+const FROM_THE_FOURTH: Plan = Plan {
+    games: 2,
+    first: 4,
+    seed: 0,
+    plies: 2,
+    game_type: None,
+    stop: false,
+    patient: false,
+};
+
+/// The engine plays all expansions, lists the queen at the first turn, and then says no more.
+const SAID_OF_ALL: &[u8] =
+    b"id A\nMosquito;Ladybug;Pillbug\nok\nBase+ML;NotStarted;White[1]\nok\nwQ\nok\n";
+
+/// What it is sent from the fourth game on.
+const SENT_FROM_THE_FOURTH: &[u8] = b"newgame Base+ML\nvalidmoves\nnewgame Base+P\n";
+
+/// What is told of it then.
+const TOLD_FROM_THE_FOURTH: &[u8] = b"game 4 ply 0 Base+ML;NotStarted;White[1] extra wQ\n\
+    game 5 ply 0 Base+P;NotStarted;White[1] ended asked newgame Base+P\n\
+    audited 2 games 0 positions 0 moves, 2 findings\n";
 
 /// Audits the program that is set up so.
 fn audit(alloc: Global, engine: MemSetting<'_>, plan: Plan) -> Result<Played<Status>, AllocError>
@@ -107,5 +136,21 @@ fn what_was_found_before_the_end_is_told(rt: HostRuntime) -> Result<(), Fail> {
     let seen = audit(rt.alloc(), MemSetting::of(SAID), THREE_GAMES)?;
     expect_seen(&rt, &seen, Status::Refused, ENDED, 1);
     expect_sent(&rt, &seen, &[SENT]);
+    Ok(())
+}
+
+#[test]
+fn games_go_on_from_the_first_one(rt: HostRuntime) -> Result<(), Fail> {
+    let seen = audit(rt.alloc(), MemSetting::of(SAID_OF_ALL), FROM_THE_FOURTH)?;
+    expect_seen(&rt, &seen, Status::Refused, TOLD_FROM_THE_FOURTH, 1);
+    expect_sent(&rt, &seen, &[SENT_FROM_THE_FOURTH]);
+    Ok(())
+}
+
+#[test]
+fn no_line_is_named_where_the_greeting_is_missing(rt: HostRuntime) -> Result<(), Fail> {
+    let seen = audit(rt.alloc(), MemSetting::of(b"id A\n"), THREE_GAMES)?;
+    expect_seen(&rt, &seen, Status::Refused, UNGREETED, 1);
+    expect_sent(&rt, &seen, &[b"".as_slice()]);
     Ok(())
 }

@@ -5,6 +5,7 @@ ghost use Rattle.audit_core.specs.AuditState.{
   begin,
   next_game,
   end_game,
+  games_before,
   note,
   found,
   break_off,
@@ -16,8 +17,8 @@ use super::{Auditor, new_game};
 use crate::drawing::{draw_undone, generator_of, type_of};
 use crate::findings::{Fault, Finding};
 use crate::plan::Stage;
-use crate::texts::{write_finding, write_last};
-use hive_model::{Game, LineText};
+use crate::texts::{asked_text, write_finding, write_last};
+use hive_model::Game;
 use std::alloc::AllocError;
 
 /// A count with so many more.
@@ -31,6 +32,13 @@ pub(super) fn raised(count: u64, more: u64) -> Result<u64, AllocError>
 }
 
 impl<G: Game + Drop> Auditor<G> {
+    /// How many games of the seed come before the game at hand.
+    pub(super) fn games_before(&self) -> Result<u64, AllocError>
+        ensures { IfOk result (λ n. n ≡ games_before self.now) }
+    {
+        raised(self.plan.first - 1, self.ended)
+    }
+
     /// The audit is over, and its last line is written.
     fn conclude(&mut self) -> Result<(), AllocError>
         ensures { OnOk result (self.new ≡ conclude self.old) }
@@ -50,12 +58,13 @@ impl<G: Game + Drop> Auditor<G> {
     fn begin(&mut self) -> Result<(), AllocError>
         ensures { OnOk result (self.new ≡ begin self.old) }
     {
-        let game_type = type_of(self.plan.game_type, self.plays, self.ended);
+        let before = self.games_before()?;
+        let game_type = type_of(self.plan.game_type, self.plays, before);
         let game = new_game(self.alloc, game_type, self.plan.plies)?;
         let whole = new_game(self.alloc, game_type, self.plan.plies)?;
         self.game = game;
         self.whole = whole;
-        self.generator = generator_of(self.plan.seed, self.ended);
+        self.generator = generator_of(self.plan.seed, before);
         self.stage = Stage::Beginning;
         self.sending = true;
         Ok(())
@@ -84,7 +93,7 @@ impl<G: Game + Drop> Auditor<G> {
     fn note(&mut self, finding: &Finding) -> Result<(), AllocError>
         ensures { OnOk result (self.new ≡ note self.old finding.now) }
     {
-        let number = raised(self.ended, 1)?;
+        let number = raised(self.games_before()?, 1)?;
         self.findings = raised(self.findings, 1)?;
         write_finding(self.alloc, &mut self.text, number, &self.game, finding)
     }
@@ -109,7 +118,8 @@ impl<G: Game + Drop> Auditor<G> {
         }
     }
 
-    /// What is wrong with the engine's output ends the audit: a fault that no text shows.
+    /// A reply is missing, and that ends the audit. The finding names the line to which it was to
+    /// come, where there is one.
     ///
     /// # Errors
     ///
@@ -117,7 +127,8 @@ impl<G: Game + Drop> Auditor<G> {
     pub fn break_off(&mut self, fault: Fault) -> Result<(), AllocError>
         ensures { OnOk result (self.new ≡ break_off self.old fault) }
     {
-        let text = LineText::new(self.alloc);
+        let line = self.place_line()?;
+        let text = asked_text(self.alloc, line.items())?;
         let finding = Finding { fault, text };
         self.note(&finding)?;
         self.end_audit()

@@ -103,7 +103,7 @@ impl<G: Game + Drop> Auditor<G> {
         ensures drawn { IfOk result (λ o. o ≡ drawn_now self.old) }
         ensures state { OnOk result (self.new ≡ advance self.old) }
     {
-        let siege = is_siege(self.plan.seed, self.ended);
+        let siege = is_siege(self.plan.seed, self.games_before()?);
         draw(self.alloc, &self.game, siege, legal, &mut self.generator)
     }
 

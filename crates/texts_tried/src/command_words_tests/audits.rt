@@ -1,98 +1,140 @@
 //! Words that ask for an audit of a program, and those that ask for none.
 use super::{ALL, BASE, are_words_of, ask_for, expect_nothing, words_of};
-use command_words::{Asked, asked_of, audited_of};
-use hive_model::GameType;
+use command_words::{Asked, AuditAsked, asked_of, audited_of};
 use std::alloc::{AllocError, Global};
 use std::test::Fail;
 
 /// Words, separated by `|`, and how the games of the audit are made that they ask for.
 struct Row {
     words: &'static str,
-    games: u64,
-    seed: u64,
-    plies: u32,
-    game_type: Option<GameType>,
-    stop: bool,
-    patient: bool,
+    audit: AuditAsked,
 }
 
-const ROWS: [Row; 8] = [
+const ROWS: [Row; 10] = [
     Row {
         words: "audit|--engine|a|--games|1|--seed|0",
-        games: 1,
-        seed: 0,
-        plies: 80,
-        game_type: None,
-        stop: false,
-        patient: false,
+        audit: AuditAsked {
+            games: 1,
+            first: 1,
+            seed: 0,
+            plies: 80,
+            game_type: None,
+            stop: false,
+            patient: false,
+        },
     },
     Row {
         words: "audit|--engine|a|--seed=7|--games=1000000",
-        games: 1_000_000,
-        seed: 7,
-        plies: 80,
-        game_type: None,
-        stop: false,
-        patient: false,
+        audit: AuditAsked {
+            games: 1_000_000,
+            first: 1,
+            seed: 7,
+            plies: 80,
+            game_type: None,
+            stop: false,
+            patient: false,
+        },
     },
     Row {
         words: "audit|--engine|a|--games|2|--seed|18446744073709551615|--plies|1",
-        games: 2,
-        seed: u64::MAX,
-        plies: 1,
-        game_type: None,
-        stop: false,
-        patient: false,
+        audit: AuditAsked {
+            games: 2,
+            first: 1,
+            seed: u64::MAX,
+            plies: 1,
+            game_type: None,
+            stop: false,
+            patient: false,
+        },
     },
     Row {
         words: "audit|--engine|a|--plies=1000|--type|Base|--games=200|--seed=1",
-        games: 200,
-        seed: 1,
-        plies: 1000,
-        game_type: Some(BASE),
-        stop: false,
-        patient: false,
+        audit: AuditAsked {
+            games: 200,
+            first: 1,
+            seed: 1,
+            plies: 1000,
+            game_type: Some(BASE),
+            stop: false,
+            patient: false,
+        },
     },
     Row {
         words: "audit|--engine|a|--type=Base+MLP|--seed|3|--games|9",
-        games: 9,
-        seed: 3,
-        plies: 80,
-        game_type: Some(ALL),
-        stop: false,
-        patient: false,
+        audit: AuditAsked {
+            games: 9,
+            first: 1,
+            seed: 3,
+            plies: 80,
+            game_type: Some(ALL),
+            stop: false,
+            patient: false,
+        },
     },
     Row {
         words: "audit|--engine|a|--quiet|1|--patience|00:00:05|--games|1|--seed|0",
-        games: 1,
-        seed: 0,
-        plies: 80,
-        game_type: None,
-        stop: false,
-        patient: true,
+        audit: AuditAsked {
+            games: 1,
+            first: 1,
+            seed: 0,
+            plies: 80,
+            game_type: None,
+            stop: false,
+            patient: true,
+        },
     },
     Row {
         words: "audit|--engine|a|--stop|1|--games|1|--seed|0",
-        games: 1,
-        seed: 0,
-        plies: 80,
-        game_type: None,
-        stop: true,
-        patient: false,
+        audit: AuditAsked {
+            games: 1,
+            first: 1,
+            seed: 0,
+            plies: 80,
+            game_type: None,
+            stop: true,
+            patient: false,
+        },
     },
     Row {
         words: "audit|--engine|a|--games|1|--stop=0|--seed|0",
-        games: 1,
-        seed: 0,
-        plies: 80,
-        game_type: None,
-        stop: false,
-        patient: false,
+        audit: AuditAsked {
+            games: 1,
+            first: 1,
+            seed: 0,
+            plies: 80,
+            game_type: None,
+            stop: false,
+            patient: false,
+        },
+    },
+    Row {
+        words: "audit|--engine|a|--games|5|--seed|1|--first|4",
+        audit: AuditAsked {
+            games: 5,
+            first: 4,
+            seed: 1,
+            plies: 80,
+            game_type: None,
+            stop: false,
+            patient: false,
+        },
+    },
+    Row {
+        words: "audit|--first=1000000000|--engine|a|--games|5|--seed|1",
+        audit: AuditAsked {
+            games: 5,
+            first: 1_000_000_000,
+            seed: 1,
+            plies: 80,
+            game_type: None,
+            stop: false,
+            patient: false,
+        },
     },
 ];
 
 /// Words, separated by `|`, that ask for no audit.
-const NO_AUDITS: [&str; 22] = [
+const NO_AUDITS: [&str; 24] = [
     "audit",
     "audit|--engine|a",
     "audit|--engine|a|--games|1",
@@ -115,19 +157,13 @@ const NO_AUDITS: [&str; 22] = [
     "audit|--engine|a|--games|1|--seed|1|x",
     "audit|--engine|a|--games|1|--seed|1|--stop",
     "audit|--engine|a|--games|1|--seed|1|--stop|2",
+    "audit|--engine|a|--games|1|--seed|1|--first|0",
+    "audit|--engine|a|--games|1|--seed|1|--first|1000000001",
 ];
 
 /// Whether the words ask for just this audit.
 fn ask_for_audit(alloc: Global, row: &Row) -> Result<bool, AllocError> {
-    let audit = Asked::Audit {
-        games: row.games,
-        seed: row.seed,
-        plies: row.plies,
-        game_type: row.game_type,
-        stop: row.stop,
-        patient: row.patient,
-    };
-    ask_for(alloc, row.words, Some(audit))
+    ask_for(alloc, row.words, Some(Asked::Audit(row.audit)))
 }
 
 #[test]
@@ -169,7 +205,7 @@ const NAMED: [Named; 3] = [
 /// Whether the words ask for an audit of just this program.
 fn name_program(alloc: Global, row: &Named) -> Result<bool, AllocError> {
     let words = words_of(alloc, row.words, '|')?;
-    let Some(Asked::Audit { .. }) = asked_of(alloc, words.as_slice())? else {
+    let Some(Asked::Audit(_)) = asked_of(alloc, words.as_slice())? else {
         return Ok(false);
     };
     let program = audited_of(alloc, words.as_slice())?;

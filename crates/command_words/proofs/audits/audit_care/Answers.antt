@@ -7,12 +7,12 @@ use Rattle.command_words.proofs.audits.audit_care.Goals as goal
 
 pub unreachable-requires : goal.unreachable-requires
 unreachable-requires c =
-    let (g, s, n, t, r, p, w) = c.requires in
+    let (a, w) = c.requires in
     subst (λ o. MatchOption o ⊥ (λ x. options_in x ≡ w.options)) c.in_default.is (c.in_ok-texts.ensures.only w.options w.give)
 
 pub unreachable-requires-in_default-care_at : goal.unreachable-requires-in_default-care_at
 unreachable-requires-in_default-care_at c =
-    let (g, s, n, t, r, p, w) = c.requires in
+    let (a, w) = c.requires in
     let same = texts_are c.in-Some.is (c.in_ok-texts.ensures.only w.options w.give) in
     let patience = ap (λ (o : AuditOptions). o.patience) (sym same) in
     let quiet = ap (λ (o : AuditOptions). o.quiet) (sym same) in

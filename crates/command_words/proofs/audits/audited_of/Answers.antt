@@ -7,7 +7,7 @@ use Rattle.command_words.proofs.audits.audited_of.Goals as goal
 
 pub unreachable-requires : goal.unreachable-requires
 unreachable-requires c =
-    let (g, s, n, t, r, p, w) = c.requires in
+    let (a, w) = c.requires in
     subst (λ o. MatchOption o ⊥ (λ x. options_in x ≡ w.options)) c.in_default.is (c.in_ok-texts.ensures.only w.options w.give)
 
 pub returns-clause-program : goal.returns-clause-program

@@ -34,6 +34,7 @@ returns-clause-only c = λ options give.
     let patience = c.value-6.ensures ∙ ap (λ given. value_at given 5) values in
     let quiet = c.value-7.ensures ∙ ap (λ given. value_at given 6) values in
     let stop = c.value-8.ensures ∙ ap (λ given. value_at given 7) values in
+    let first = c.value-9.ensures ∙ ap (λ given. value_at given 8) values in
     λ j. record {
       engine = engine j;
       games = games j;
@@ -43,4 +44,5 @@ returns-clause-only c = λ options give.
       patience = patience j;
       quiet = quiet j;
       stop = stop j;
+      first = first j;
     }

@@ -4,5 +4,4 @@ use Rattle.hive_cli.proofs.contests.audited.Goals as goal
 
 pub returns-in_default-clause-program : goal.returns-in_default-clause-program
 returns-in_default-clause-program g c =
-    let plan = c.args.plan in
-    starved_audited c.args.words.now plan.games plan.seed plan.plies plan.game_type plan.stop plan.patient (g.P.Spawner.engines c.args.spawner.now) c.requires.words
+    starved_audited c.args.words.now c.args.audit (g.P.Spawner.engines c.args.spawner.now) c.requires.words

@@ -3,7 +3,7 @@ use Rattle.std.specs.Option.{IfSome}
 use Rattle.hive_model.specs.Lists.{IsOn}
 use Rattle.hive_model.specs.Legal.{moves}
 use Rattle.audit_core.specs.Drawing.{is_siege}
-use Rattle.audit_core.specs.AuditState.{AuditState, drawn_now, position_now, advance, count, play_drawn}
+use Rattle.audit_core.specs.AuditState.{AuditState, drawn_now, games_before, position_now, advance, count, play_drawn}
 use Rattle.audit_core.proofs.Picks.{same_drawn}
 use Rattle.audit_core.proofs.Replies.{on_ok, drawn_so}
 use Rattle.audit_core.proofs.auditor.Auditor.draw_from.Goals as goal
@@ -19,7 +19,7 @@ pub play_drawn-requires-clause-legal : goal.play_drawn-requires-clause-legal
 play_drawn-requires-clause-legal g c =
     let s1 : AuditState = c.count.new.self in
     subst (λ (s : AuditState). IfSome c.in_ok-drawn.drawn (λ m. IsOn (moves (position_now s)) m)) (sym c.in_ok-drawn.ensures.state)
-    (same_drawn c.in_ok-drawn.drawn (is_siege s1.plan.seed s1.ended) s1.state (position_now s1) c.in_ok-drawn.ensures.drawn)
+    (same_drawn c.in_ok-drawn.drawn (is_siege s1.plan.seed (games_before s1)) s1.state (position_now s1) c.in_ok-drawn.ensures.drawn)
 
 pub returns : goal.returns
 returns g c =
