@@ -1,6 +1,6 @@
 #!/usr/bin/env python3
-"""Engines whose rules are those of reference.py but for one, or which stall or do not read: they speak the Universal Hive Protocol, to be
-audited.
+"""Engines whose rules are those of reference.py but for one, or which stall, leave or do not read:
+they speak the Universal Hive Protocol, to be audited.
 
 Usage: audit_engines.py NAME, of the names in WRONG, of which the rules of `none` are right.
 """
@@ -31,7 +31,8 @@ def holed_steps(rules, board, place):
     """Steps on the ground along the hive, through gates too."""
     for index, way in enumerate(rules.AROUND):
         goal = rules.toward(place, way)
-        if goal not in board and any(rules.toward(place, rules.AROUND[(index + turn) % 6]) in board for turn in (1, 5)):
+        beside = [rules.toward(place, rules.AROUND[(index + turn) % 6]) for turn in (1, 5)]
+        if goal not in board and any(near in board for near in beside):
             yield goal
 
 
@@ -86,9 +87,9 @@ def mosquitoes_keep_their_copies(rules):
     def reach(board, start, kind):
         if kind != "M" or start not in board:
             return right(board, start, kind)
-        kinds = {rules.top(board, near)[1] for near in rules.neighbours(start) if near in board} | {"B"}
+        kinds = {rules.top(board, near)[1] for near in rules.neighbours(start) if near in board}
         goals = set()
-        for copied in kinds - {"M"}:
+        for copied in kinds - {"M"} | {"B"}:
             goals |= right(board, start, copied)
         goals.discard(start)
         return goals
@@ -110,26 +111,31 @@ def queens_come_first(rules):
 def throws_of(rules, may_be_thrown):
     """The throws where each piece on top may be thrown of which this is so."""
 
+    def throws_by(self, place):
+        for index, way in enumerate(rules.AROUND):
+            start = rules.toward(place, way)
+            thrown = rules.top(self.board, start)
+            if thrown is None or not may_be_thrown(self, start, thrown):
+                continue
+            rest = rules.without(self.board, thrown)
+            is_blocked = rules.is_blocked(rest, start, (index + 3) % 6)
+            if is_blocked or rules.is_cut_place(self.board, start):
+                continue
+            for goal_index, goal_way in enumerate(rules.AROUND):
+                goal = rules.toward(place, goal_way)
+                if goal in rest or goal == start or rules.is_blocked(rest, place, goal_index):
+                    continue
+                yield thrown, goal
+
     def throws(self):
         for place, stack in self.board.items():
             thrower = stack[0]
             if len(stack) > 1 or thrower[0] != self.side or thrower == self.rest:
                 continue
-            touches = any(rules.top(self.board, near)[1] == "P" for near in rules.neighbours(place) if near in self.board)
-            if not (thrower[1] == "P" or thrower[1] == "M" and touches):
-                continue
-            for index, way in enumerate(rules.AROUND):
-                start = rules.toward(place, way)
-                thrown = rules.top(self.board, start)
-                if thrown is None or not may_be_thrown(self, start, thrown):
-                    continue
-                rest = rules.without(self.board, thrown)
-                if rules.is_cut_place(self.board, start) or rules.is_blocked(rest, start, (index + 3) % 6):
-                    continue
-                for goal_index, goal_way in enumerate(rules.AROUND):
-                    goal = rules.toward(place, goal_way)
-                    if goal not in rest and goal != start and not rules.is_blocked(rest, place, goal_index):
-                        yield thrown, goal
+            near = [it for it in rules.neighbours(place) if it in self.board]
+            touches = any(rules.top(self.board, it)[1] == "P" for it in near)
+            if thrower[1] == "P" or thrower[1] == "M" and touches:
+                yield from throws_by(self, place)
 
     rules.Position.throws = throws
 
@@ -163,7 +169,12 @@ def a_queen_waits_for_turn_five(rules):
 
 def the_state_is_late(rules):
     """A game that is over is said to be in progress."""
-    rules.Play.string = lambda self: ";".join([self.position().game_type, "InProgress" if self.texts else "NotStarted", self.turn()] + self.texts)
+
+    def string(self):
+        state = "InProgress" if self.texts else "NotStarted"
+        return ";".join([self.position().game_type, state, self.turn()] + self.texts)
+
+    rules.Play.string = string
 
 
 def each_move_is_played(rules):
@@ -194,6 +205,12 @@ def it_stalls_at_a_move(rules):
     rules.Session.move = lambda self, text: time.sleep(1000)
 
 
+def it_leaves_at_a_load(rules):
+    """A game string ends the run."""
+    right = rules.Session.newgame
+    rules.Session.newgame = lambda self, text: None if ";" in text else right(self, text)
+
+
 def it_reads_nothing(rules):
     """The input is closed before the greeting is written."""
     os.close(0)
@@ -214,6 +231,7 @@ WRONG = {
     "refusals": each_move_is_played,
     "loads": a_loaded_game_lacks_its_last_move,
     "stalls": it_stalls_at_a_move,
+    "leaves": it_leaves_at_a_load,
     "deaf": it_reads_nothing,
     "none": lambda rules: None,
 }

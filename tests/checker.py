@@ -1,11 +1,13 @@
 #!/usr/bin/env python3
-"""A checker of certificates and solutions, written from docs/FORMATS.md over the rules of tests/reference.py, and apart from the program.
+"""A checker of certificates and solutions, written from docs/FORMATS.md over the rules of
+tests/reference.py, and apart from the program.
 
-Usage: checker.py check|migrate|verify, which reads a text and writes what the command of that name writes, with its status.
+Usage: checker.py check|migrate|verify, which reads a text and writes what the command of that name
+writes, with its status.
 """
 import sys
 
-from reference import Position, Refusal, is_number, read_game
+from reference import Refusal, is_number, read_game
 
 MOST_LINE, MOST_LEMMAS = 65536, 65536
 
@@ -27,7 +29,10 @@ def lines_of(text):
     parts = text.split(b"\n")
     if parts[-1] == b"":
         parts.pop()
-    return [None if len(part) > MOST_LINE else part.removesuffix(b"\r").decode("latin-1") for part in parts]
+    return [
+        None if len(part) > MOST_LINE else part.removesuffix(b"\r").decode("latin-1")
+        for part in parts
+    ]
 
 
 def number(text, least, most):
@@ -55,7 +60,8 @@ def answer_in(line):
 
 
 def field(lines, at, read):
-    """What a line of the head says, by how it is read, which answers None where it is not of its form."""
+    """What a line of the head says, by how it is read, which answers None where it is not of its
+    form."""
     found = read(lines[at]) if at < len(lines) and lines[at] is not None else None
     if found is None:
         raise bad(f"line {at + 1}")
@@ -76,7 +82,12 @@ def must_go_on(play):
 
 
 def key(position):
-    board = tuple(sorted((piece, place, level) for place, stack in position.board.items() for level, piece in enumerate(stack)))
+    pieces = [
+        (piece, place, level)
+        for place, stack in position.board.items()
+        for level, piece in enumerate(stack)
+    ]
+    board = tuple(sorted(pieces))
     return board, position.game_type, position.side, min(position.turn, 5), position.rest
 
 
@@ -88,12 +99,14 @@ class Walk:
         self.taken, self.lemmas, self.written = 0, [], []
 
     def token(self):
-        """The next line, as an index, or in the second version as a cite with the number behind it."""
+        """The next line: whether it is a cite, of the second version, and its number or index."""
         if self.taken == len(self.lines):
             raise refused("short", self.taken)
         line = self.lines[self.taken]
         is_cite = self.cites and line is not None and line.startswith("@")
-        found = None if line is None else number(line[1:], 0, 65535) if is_cite else number(line, 0, 5487)
+        found = None
+        if line is not None:
+            found = number(line[1:], 0, 65535) if is_cite else number(line, 0, 5487)
         if found is None:
             raise bad(f"line {self.head + self.taken + 1}")
         self.taken += 1
@@ -126,7 +139,8 @@ class Walk:
         is_cite, found = self.token()
         here = (key(position), plies)
         if is_cite:
-            if found >= len(self.lemmas) or self.lemmas[found][0] != here or self.lemmas[found][1] < x:
+            what, least = self.lemmas[found] if found < len(self.lemmas) else (None, x)
+            if what != here or least < x:
                 raise refused("cite", self.taken)
             return
         self.at_most(position.after(self.move_at(position, found)), plies - 1, -x)
@@ -167,7 +181,8 @@ class Shortening(Walk):
             self.leaf(position.value(plies) >= x)
             return
         here = (key(position), plies)
-        serving = next((n for n, (what, least) in enumerate(self.lemmas) if what == here and least >= x), None)
+        known = enumerate(self.lemmas)
+        serving = next((n for n, (what, least) in known if what == here and least >= x), None)
         if serving is not None:
             passing = Walk(self.lines, self.head, False)
             passing.taken = self.taken
@@ -183,7 +198,8 @@ class Shortening(Walk):
 
 
 def certificate(text, newest, walk_of):
-    """The head of a certificate that holds, as its version, game, depth, move and value, and the walk that showed it."""
+    """The head of a certificate that holds, as its version, game, depth, move and value, and the
+    walk that showed it."""
     lines = lines_of(text)
     version = field(lines, 0, number_behind("hive-certificate ", 1, newest))
     play = game_in(lines)
@@ -210,7 +226,8 @@ def check(text):
 
 def migrate(text):
     play, depth, move, v, walk = certificate(text, 1, Shortening)
-    return "\n".join(["hive-certificate 2", play.string(), f"depth {depth}", f"move {move}", f"value {v}"] + walk.written)
+    head = ["hive-certificate 2", play.string(), f"depth {depth}", f"move {move}", f"value {v}"]
+    return "\n".join(head + walk.written)
 
 
 def verify(text):

@@ -1,19 +1,26 @@
 #!/usr/bin/env python3
-"""Draws the layers of the crates, docs/layers.svg, from crates.txt: a band for each heading there, a box for each crate, and a line from a
-crate to each that it stands on, but for those that it reaches through others.
+"""Draws the layers of the crates, docs/layers.svg, from crates.txt: a band for each heading there,
+a box for each crate, and a line from a crate to each that it stands on, but for those that it
+reaches through others.
 
-Usage: layers.py, which ends with status 0 where the drawing is that of crates.txt; layers.py --write draws it anew.
+Usage: layers.py, which ends with status 0 where no crate stands on one of a later heading and the
+drawing is that of crates.txt; layers.py --write draws it anew.
 """
 import html
 import pathlib
 import sys
+from collections.abc import Iterator
 
 TOP = pathlib.Path(__file__).resolve().parent.parent
 DRAWING = TOP / "docs" / "layers.svg"
 WIDTH, LEFT, ROW, BOX, GAP, LETTER = 1180, 150, 38, 22, 14, 7.2
 
+Layers = list[tuple[str, list[str]]]  # headings and their crates
+Below = dict[str, list[str]]  # what each crate stands on
+Spots = dict[str, tuple[float, float]]  # the middle of each box
 
-def read_crates():
+
+def read_crates() -> tuple[Layers, Below]:
     """The headings with their crates, and what each crate stands on."""
     layers, below = [], {}
     for line in (TOP / "crates.txt").read_text(encoding="utf-8").split("\n")[1:]:
@@ -26,10 +33,22 @@ def read_crates():
         name = name.split()[0]
         below[name] = stands_on.split()
         layers[-1][1].append(name)
-    return layers, {name: [crate for crate in crates if crate in below] for name, crates in below.items()}
+    ours = {name: [it for it in crates if it in below] for name, crates in below.items()}
+    return layers, ours
 
 
-def reach(below, name):
+def upward(layers: Layers, below: Below) -> list[str]:
+    """The crates that stand on one of a later heading, each with that one."""
+    heights = {name: height for height, (_, names) in enumerate(layers) for name in names}
+    return [
+        f"{name} stands on {crate}, which is above it"
+        for name, crates in below.items()
+        for crate in crates
+        if heights[crate] > heights[name]
+    ]
+
+
+def reach(below: Below, name: str) -> set[str]:
     """All crates that a crate stands on, through others or not."""
     found, ahead = set(), list(below[name])
     while ahead:
@@ -40,8 +59,9 @@ def reach(below, name):
     return found
 
 
-def lines(below):
-    """The pairs of a crate and one that it stands on, but for those that it reaches through another."""
+def lines(below: Below) -> Iterator[tuple[str, str]]:
+    """The pairs of a crate and one that it stands on, but for those that it reaches through
+    another."""
     all_below = {name: reach(below, name) for name in below}
     for name, crates in below.items():
         for crate in crates:
@@ -49,11 +69,11 @@ def lines(below):
                 yield name, crate
 
 
-def width(name):
+def width(name: str) -> float:
     return len(name) * LETTER + 14
 
 
-def fitted(names):
+def fitted(names: list[str]) -> list[list[str]]:
     """The names in rows that fit, as even as can be."""
     room = WIDTH - LEFT - 20
     rows = -(-sum(width(name) + GAP for name in names) // room)
@@ -61,8 +81,9 @@ def fitted(names):
     return [names[at : at + each] for at in range(0, len(names), each)]
 
 
-def rows_of(names, below):
-    """The crates of a band in rows, the lowest first: each crate stands above those of the band that it stands on."""
+def rows_of(names: list[str], below: Below) -> list[list[str]]:
+    """The crates of a band in rows, the lowest first: each above those of the band that it stands
+    on."""
     left, rows = list(names), []
     while left:
         row = [name for name in left if not reach(below, name) & set(left)]
@@ -71,13 +92,13 @@ def rows_of(names, below):
     return rows
 
 
-def middle_below(name, below, spots):
+def middle_below(name: str, below: Below, spots: Spots) -> float:
     """The mean place of what a crate stands on, by which a row is put in order."""
     places = [spots[crate][0] for crate in below[name] if crate in spots]
     return sum(places) / len(places) if places else WIDTH / 2
 
 
-def put_row(names, y, spots):
+def put_row(names: list[str], y: float, spots: Spots) -> None:
     """Puts a row of boxes at this height."""
     free = WIDTH - LEFT - 20 - sum(width(name) for name in names)
     gap = min(free / (len(names) + 1), 190)
@@ -87,8 +108,9 @@ def put_row(names, y, spots):
         x += width(name) + gap
 
 
-def placed(layers, below):
-    """The bands from the bottom up as (heading, lower end, upper end), heights counted upwards, and the middle of each box."""
+def placed(layers: Layers, below: Below) -> tuple[list, Spots, float]:
+    """The bands from the bottom up as (heading, lower end, upper end), and the boxes, counted
+    upwards."""
     bands, spots, height = [], {}, 8
     direct = {name: [] for name in below}
     for name, crate in lines(below):
@@ -96,7 +118,8 @@ def placed(layers, below):
     for heading, names in layers:
         low = height
         for level in rows_of(names, below):
-            for row in fitted(sorted(level, key=lambda name: middle_below(name, direct, spots))):
+            level.sort(key=lambda name: middle_below(name, direct, spots))
+            for row in fitted(level):
                 put_row(row, height + ROW / 2, spots)
                 height += ROW
         bands.append((heading, low, height))
@@ -104,7 +127,7 @@ def placed(layers, below):
     return bands, spots, height
 
 
-def heading_lines(heading):
+def heading_lines(heading: str) -> list[str]:
     """A heading in lines of at most 18 letters or so."""
     out = [""]
     for word in heading.split():
@@ -114,29 +137,53 @@ def heading_lines(heading):
     return out
 
 
-def draw():
+def drawn_band(heading: str, top: float, height: float) -> Iterator[str]:
+    yield f'<rect x="4" y="{top}" width="{WIDTH - 8}" height="{height}" rx="6" fill="#f2f5f7"/>'
+    for number, text in enumerate(heading_lines(heading)):
+        y = top + 20 + 15 * number
+        yield f'<text x="12" y="{y}" fill="#335566">{html.escape(text)}</text>'
+
+
+def drawn_line(start: tuple[float, float], end: tuple[float, float]) -> str:
+    (x, y), (to_x, to_y) = start, end
+    bend = (to_y - y) / 2
+    path = f"M{x:.0f} {y:.0f} C{x:.0f} {y + bend:.0f} {to_x:.0f} {to_y - bend:.0f}"
+    return f'<path d="{path} {to_x:.0f} {to_y:.0f}" fill="none" stroke="#9fb3bf"/>'
+
+
+def drawn_box(name: str, x: float, y: float) -> Iterator[str]:
+    place = f'x="{x - width(name) / 2:.0f}" y="{y - BOX / 2:.0f}"'
+    size = f'width="{width(name):.0f}" height="{BOX}" rx="4"'
+    yield f'<rect {place} {size} fill="#ffffff" stroke="#557788"/>'
+    place = f'x="{x:.0f}" y="{y + 4:.0f}" text-anchor="middle"'
+    yield f'<text {place} fill="#112233">{name}</text>'
+
+
+def draw() -> str:
     layers, below = read_crates()
     bands, spots, height = placed(layers, below)
-    out = [f'<svg xmlns="http://www.w3.org/2000/svg" width="{WIDTH}" height="{height}" font-family="monospace" font-size="12">']
-    out.append(f'<rect width="{WIDTH}" height="{height}" fill="#ffffff"/>')
+    size = f'width="{WIDTH}" height="{height}"'
+    font = 'font-family="monospace" font-size="12"'
+    out = [f'<svg xmlns="http://www.w3.org/2000/svg" {size} {font}>']
+    out.append(f'<rect {size} fill="#ffffff"/>')
     for heading, low, high in bands:
-        out.append(f'<rect x="4" y="{height - high}" width="{WIDTH - 8}" height="{high - low}" rx="6" fill="#f2f5f7"/>')
-        for number, text in enumerate(heading_lines(heading)):
-            out.append(f'<text x="12" y="{height - high + 20 + 15 * number}" fill="#335566">{html.escape(text)}</text>')
+        out += drawn_band(heading, height - high, high - low)
     spots = {name: (x, height - y) for name, (x, y) in spots.items()}
-    for name, crate in lines(below):
-        (x, y), (to_x, to_y) = spots[name], spots[crate]
-        bend = (to_y - y) / 2
-        out.append(f'<path d="M{x:.0f} {y:.0f} C{x:.0f} {y + bend:.0f} {to_x:.0f} {to_y - bend:.0f} {to_x:.0f} {to_y:.0f}" fill="none" stroke="#9fb3bf"/>')
+    out += [drawn_line(spots[name], spots[crate]) for name, crate in lines(below)]
     for name, (x, y) in spots.items():
-        left, top = x - width(name) / 2, y - BOX / 2
-        out.append(f'<rect x="{left:.0f}" y="{top:.0f}" width="{width(name):.0f}" height="{BOX}" rx="4" fill="#ffffff" stroke="#557788"/>')
-        out.append(f'<text x="{x:.0f}" y="{y + 4:.0f}" text-anchor="middle" fill="#112233">{name}</text>')
+        out += drawn_box(name, x, y)
     return "\n".join(out + ["</svg>", ""])
 
 
-if __name__ == "__main__":
-    if sys.argv[1:] == ["--write"]:
+def main(words: list[str]) -> None:
+    if words == ["--write"]:
         DRAWING.write_text(draw(), encoding="utf-8")
-    elif not DRAWING.is_file() or DRAWING.read_text(encoding="utf-8") != draw():
-        raise SystemExit("docs/layers.svg is not that of crates.txt: python3 tests/layers.py --write draws it")
+    wrong = upward(*read_crates())
+    if not DRAWING.is_file() or DRAWING.read_text(encoding="utf-8") != draw():
+        wrong.append("docs/layers.svg is not that of crates.txt: layers.py --write draws it anew")
+    if wrong:
+        raise SystemExit("\n".join(wrong))
+
+
+if __name__ == "__main__":
+    main(sys.argv[1:])

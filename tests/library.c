@@ -1,5 +1,5 @@
-/* Calls the library for tests/library.py, which writes requests to standard input: a line `NAME NUMBER LENGTH WORDS`, and behind it so many
-   bytes of a text and so many of words. Of each answer it writes a line with the status and *needed, and the text with a line feed.
+/* Calls the library for tests/test_library.py, which writes requests to standard input: a line `NAME NUMBER LENGTH WORDS`, and behind it so
+   many bytes of a text and so many of words. Of each answer it writes a line with the status and *needed, and the text with a line feed.
 
    Usage: library answer, library refuse (each request for memory is refused in turn), library threads (four at once give the same),
    library time (microseconds a call). It ends with status 1, and says why, where the room or *needed is not as the header says. */

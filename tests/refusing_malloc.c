@@ -1,5 +1,5 @@
 /* Refuses one request for memory: the one whose number is in the environment's REFUSE_AT, counted from 1; 0 refuses none. At the end
-   the number of requests is written into the file that COUNT_TO names. Preloaded by allocations.py into the built program; programs
+   the number of requests is written into the file that COUNT_TO names. Preloaded by test_allocations.py into the built program; programs
    that it starts, which have another name than REFUSE_IN, are left alone. */
 #define _GNU_SOURCE
 #include <dlfcn.h>
