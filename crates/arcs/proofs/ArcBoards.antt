@@ -47,14 +47,15 @@ module _ (b c : Stacks) (p : Place) (raised : IsRaised b c p) (empty : height_at
     | inr other ↦ ap (λ t. not (is_place q r) && t) (same_else r other) ∙ h
   ]
 
-  -- a place beside whose like the others form one arc once it is gone separates after where it did before
+  -- if the neighbours without q form one arc, the places without q are one hive after exactly if
+  -- they were before
   pub same_without : (q : Place) → OneArc (except (is_occupied b) q) p → OneHiveOn (except (is_occupied c) q) ↔ OneHiveOn (except (is_occupied b) q)
   same_without q arc = (
     λ h. one_without (except (is_occupied b) q) p arc (except (is_occupied c) q) (was_or_new q) (absent q) h (still q),
     λ h. one_with (except (is_occupied b) q) (except (is_occupied c) q) p (was_or_new q) (still q) arc.first arc.here h,
   )
 
-  -- and is separating where it was
+  -- and so q is separating exactly if it was
   pub separates_same : (q : Place) → q ≢ p → OneArc (except (is_occupied b) q) p → IsSeparating c q ↔ IsSeparating b q
   separates_same q other arc =
       let same = same_without q arc in
@@ -81,7 +82,7 @@ module _ (b c : Stacks) (p : Place) (raised : IsRaised b c p) (empty : height_at
         let there : IsTrue (is_occupied b (step p e)) = ap (is_occupied b) at ∙ sym (same_else r moved) ∙ out.1 in
         out.0 (sym at ∙ ap (step p) (only e there))
 
-    -- it hangs on that neighbour, where there is another place
+    -- it hangs on that neighbour, if there is another place
     pub hangs : (q : Place) → IsTrue (is_occupied b q) → q ≢ step p d → IsTrue (is_occupied c p) → IsSeparating c (step p d)
     hangs q on_q apart new = (
       same_else (step p d) (step_moves p d) ∙ on,
@@ -100,7 +101,7 @@ module _ (b c : Stacks) (p : Place) (raised : IsRaised b c p) (empty : height_at
             let out = except_out (is_occupied c) (step p d) r h in
             elim (cases_place r p) [ inl same ↦ same | inr moved ↦ absurd (out.0 (all r (sym (same_else r moved) ∙ out.1))) ]
 
--- the neighbours stay where what is gone is none of them
+-- the neighbours stay, if what is gone is none of them
 pub arc_without : (b : Stacks) (p q : Place) → ¬ AreNeighbours p q → OneArc (is_occupied b) p → OneArc (except (is_occupied b) q) p
 arc_without b p q h arc = record {
   first = arc.first;

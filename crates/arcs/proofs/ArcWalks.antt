@@ -77,7 +77,8 @@ module _ (o : Place → Bool) (p : Place) (arc : OneArc o p) where
       subst (λ z. Joined o z b) na.1 (subst (λ z. Joined o (step p na.0) z) nb.1 way)
 
   module _ (more : Place → Bool) (was_or_new : (q : Place) → IsTrue (more q) → IsTrue (o q) ⊎ (q ≡ p)) (absent : o p ≡ false) where
-    -- a walk that may go through p, from a place of the set or from p itself, then entered from a place beside it
+    -- a walk that may go through p, from a place of the set or from p itself, then entered from a
+    -- place beside it
     rewrite : (a : Place) (ps : List Place) (b : Place) → IsPath (StepOn more) a ps b → IsTrue (o b)
         → (IsTrue (o a) → Joined o a b) × (a ≡ p → (n : Place) → AreNeighbours p n → IsTrue (o n) → Joined o n b)
     rewrite a [] b h ob = (λ _. ([], h), λ is n _ _. let wrong : false ≡ true = sym absent ∙ ap o (sym is ∙ h) ∙ ob in absurd (cc))

@@ -1,7 +1,7 @@
--- The occupied neighbours of a place as a mask: bit i is set where the neighbour in direction i is
--- occupied, in the order E, NE, NW, W, SW, SE. That order is a circle: after SE comes E. An arc is
--- a run of set bits round this circle that begins after a bit that is not set and ends before one.
--- So an arc has one to five bits, and the masks 0 and 63 have none.
+-- The occupied neighbours of a place as a mask. Bit i is set if the neighbour in direction i is
+-- occupied, in the order E, NE, NW, W, SW, SE. The order is cyclic: E follows SE. An arc is a run
+-- of set bits in the cycle, with an unset bit before it and one after it. So an arc has one to five
+-- bits, and the masks 0 and 63 have none.
 use Rattle.std.specs.Prelude.{ℕ, ◌+◌, ◌/◌, ◌%◌, ◌^◌, Bool, not, ◌&&◌, ◌==◌, List, [], ◌∷◌, map, if◌then◌else◌}
 use Rattle.std.specs.List.{range_with_len}
 use Rattle.arcs.specs.declared.masks.CaseRow.{CaseRow}
@@ -14,29 +14,29 @@ bit mask i = mask / 2 ^ i % 2 == 1
 abbrev pub six : List ℕ
 six = 0 ∷ 1 ∷ 2 ∷ 3 ∷ 4 ∷ 5 ∷ []
 
--- an arc begins here: the bit is set, and the one before it is not
+-- An arc begins here: the bit is set, and the one before it is not.
 abbrev pub is_first : ℕ → ℕ → Bool
 is_first mask i = bit mask i && not (bit mask ((i + 5) % 6))
 
--- an arc ends here: the bit is set, and the one after it is not
+-- An arc ends here: the bit is set, and the one after it is not.
 abbrev pub is_last : ℕ → ℕ → Bool
 is_last mask i = bit mask i && not (bit mask ((i + 1) % 6))
 
--- an end of an arc: the bit is set, and the two beside it are not both set
+-- An end of an arc: the bit is set, and the two beside it are not both set.
 abbrev pub is_end : ℕ → ℕ → Bool
 is_end mask i = bit mask i && not (bit mask ((i + 5) % 6) && bit mask ((i + 1) % 6))
 
--- how many of a list pass the test
+-- how many items of a list pass the test
 abbrev pub how_many : {X : Type 0} → (X → Bool) → List X → ℕ
 how_many t [] = 0
 how_many t (x ∷ xs) = (if t x then 1 else 0) + how_many t xs
 
--- the mask of those directions on a list that pass the test
+-- the mask of the directions on a list that pass the test
 abbrev pub mask_by : (ℕ → Bool) → List ℕ → ℕ
 mask_by t [] = 0
 mask_by t (i ∷ is) = (if t i then 2 ^ i else 0) + mask_by t is
 
--- how many arcs a mask has, counted by where they begin
+-- the number of arcs of a mask, counted by where they begin
 abbrev pub arcs : ℕ → ℕ
 arcs mask = how_many (is_first mask) six
 
@@ -44,7 +44,7 @@ arcs mask = how_many (is_first mask) six
 abbrev pub arc_ends : ℕ → ℕ
 arc_ends mask = mask_by (is_end mask) six
 
--- the row of a mask: how many arcs it has, and their ends
+-- the row of a mask: the number of its arcs, and their ends
 abbrev pub case_row : ℕ → CaseRow
 case_row mask = record { arcs = arcs mask; ends = arc_ends mask }
 

@@ -1,8 +1,8 @@
-//! The arcs of occupied places round a place, and what a place beside one arc leaves as it was.
+//! Arcs of occupied neighbours: which places can become separating, or cease to be, beside one arc.
 //!
-//! The occupied neighbours of a place form one arc where, in cyclic order, exactly one of them has
-//! an unoccupied place before it. A piece that comes onto such an empty place, or that leaves it,
-//! can change which places are separating at its neighbours alone.
+//! The occupied neighbours of a place form one arc if, in cyclic order, exactly one of them has an
+//! unoccupied place before it. If a piece comes onto such an empty place, or leaves it, only at its
+//! neighbours can it change which places are separating (articulation points).
 #![tactic(auto)]
 
 mod masks;
@@ -17,18 +17,18 @@ ghost use Rattle.arcs.specs.Arcs.{
 
 pub use masks::{CaseRow, CaseTable, arc_ends, arcs};
 
-/// A place is added to a board that is one hive before and after, and its occupied neighbours form
-/// one arc: then it is not separating, and every other place that is not its neighbour is
-/// separating after exactly where it was before. Read backwards this speaks of a place that is
+/// If a place is occupied whose occupied neighbours form one arc, and the board is one hive before
+/// and after, then the place is not separating. Every other place that is not its neighbour is
+/// separating after exactly if it was before. Read backwards, the law holds for a place that is
 /// taken away.
 pub fn one_arc_law()
     ensures { OneArcLaw }
 {}
 
-/// What becomes of a neighbour of the place that is added. Where the others form one arc without
-/// it, it is separating after exactly where it was before: so it is with an end of an arc of two
-/// or more. Where another neighbour is occupied, it is separating after only if it was before.
-/// Where none is, it is separating after exactly where the board before had another place.
+/// What happens to a neighbour of the place that is added. If the other neighbours form one arc
+/// without it, it is separating after exactly if it was before. So it is with an end of an arc of
+/// two or more. If another neighbour is occupied, it is separating after only if it was before. If
+/// none is, it is separating after exactly if the board before had another occupied place.
 pub fn neighbour_laws()
     ensures end { ArcButOneLaw }
     ensures another { AnotherBesideLaw }

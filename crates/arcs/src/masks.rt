@@ -1,9 +1,9 @@
-//! How many arcs the occupied neighbours of a place form, and where these end.
+//! The number of arcs that the occupied neighbours of a place form, and the ends of these arcs.
 //!
-//! The neighbours stand in a mask: bit i is set where the neighbour in direction i is occupied, in
-//! the order E, NE, NW, W, SW, SE. So a mask is below 64. The order is a circle: after SE comes E.
-//! An arc is a run of set bits round that circle that begins after a bit that is not set and ends
-//! before one. So it has one to five bits, and the masks 0 and 63 have no arc.
+//! The neighbours are a mask below 64: bit i is set if the neighbour in direction i is occupied, in
+//! the order E, NE, NW, W, SW, SE. The order is cyclic: E follows SE. An arc is a run of set bits
+//! in the cycle, with an unset bit before it and one after it. So it has one to five bits, and the
+//! masks 0 and 63 have no arc.
 
 ghost use Rattle.std.specs.Prelude.{◌≡◌, ◌<◌};
 ghost use Rattle.arcs.specs.Masks.{arcs, arc_ends, case_row, case_rows};
@@ -12,13 +12,13 @@ ghost use Rattle.arcs.specs.Masks.{is_first, is_last, mask_by, six};
 /// The row of one mask.
 #[derive(Clone, Copy, Debug, PartialEq, Eq)]
 pub struct CaseRow {
-    /// How many arcs it has, 0 to 3.
+    /// The number of arcs, 0 to 3.
     pub arcs: u8,
-    /// Their ends, as a mask: its set bits with a bit beside them that is not set.
+    /// The ends of the arcs, as a mask: the set bits with an unset bit beside them.
     pub ends: u8,
 }
 
-/// The rows of all 64 masks, each proved against the meaning of arcs and ends.
+/// The rows of all 64 masks, each proved to match the definitions of arcs and ends.
 #[derive(Clone, Copy, Debug)]
 pub struct CaseTable {
     rows: [CaseRow; 64],
@@ -26,7 +26,8 @@ pub struct CaseTable {
 }
 
 impl CaseTable {
-    /// The table. The type keeps that each row is that of its mask, so there is no other table.
+    /// The table. The type guarantees that each row is that of its mask, so there is no other
+    /// table.
     pub fn new() -> CaseTable {
         // the arcs and the ends of each mask in turn
         macro_rules! rows {
@@ -47,7 +48,7 @@ impl CaseTable {
         CaseTable { rows }
     }
 
-    /// The row of the mask, which is below 64.
+    /// The row of a mask below 64.
     pub fn row(&self, mask: usize) -> CaseRow
         requires { mask < 64 }
         ensures { result ≡ case_row mask }
@@ -56,9 +57,9 @@ impl CaseTable {
     }
 }
 
-/// How many arcs a mask below 64 has, 0 to 3: the set bits after a bit that is not set.
+/// The number of arcs of a mask below 64, 0 to 3: its set bits that follow an unset bit.
 ///
-/// The occupied neighbours form one arc exactly where this is 1.
+/// The occupied neighbours form one arc exactly if this is 1.
 pub fn arcs(mask: u8) -> u8
     requires { mask < 64 }
     ensures { result ≡ arcs mask }
@@ -66,8 +67,8 @@ pub fn arcs(mask: u8) -> u8
     first_bits(mask).count_ones() as u8
 }
 
-/// The ends of the arcs of a mask below 64, as a mask: its set bits with a bit beside them, before
-/// or after, that is not set. An arc of one bit has this bit as its one end.
+/// The ends of the arcs of a mask below 64, as a mask: its set bits with an unset bit beside them,
+/// before or after. The one bit of an arc of length 1 is its end.
 pub fn arc_ends(mask: u8) -> u8
     requires { mask < 64 }
     ensures { result ≡ arc_ends mask }
@@ -75,7 +76,7 @@ pub fn arc_ends(mask: u8) -> u8
     first_bits(mask) | last_bits(mask)
 }
 
-/// The first bit of each arc: set, with the one before it not set.
+/// The first bit of each arc: it is set, and the one before it is not.
 fn first_bits(mask: u8) -> u8
     requires { mask < 64 }
     ensures { result ≡ mask_by (is_first mask) six }
@@ -84,7 +85,7 @@ fn first_bits(mask: u8) -> u8
     mask & !before
 }
 
-/// The last bit of each arc: set, with the one after it not set.
+/// The last bit of each arc: it is set, and the one after it is not.
 fn last_bits(mask: u8) -> u8
     requires { mask < 64 }
     ensures { result ≡ mask_by (is_last mask) six }

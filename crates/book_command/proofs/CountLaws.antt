@@ -1,4 +1,4 @@
--- The games behind the first line, one after another.
+-- The games after the first line, one after another.
 use Rattle.std.proofs.Common.{◌≡◌, ◌<◌, ◌≤◌, ℕ, ◌+◌, List, [], ◌∷◌, ◌++◌, length, refl, ap, sym, ◌∙◌, subst, inr, Some, arith, append_assoc, length-append}
 use Rattle.std.proofs.lemmas.List.{append-nil, map-append}
 use Rattle.io_edge.specs.Outside.{Told}
@@ -21,8 +21,8 @@ use Rattle.book_command.specs.Reading.{Counted, GivesNone, GivesPlayed, HasBegun
 use Rattle.book_command.specs.Runs.{about_book}
 use Rattle.book_command.specs.Text.{refusal}
 
--- The counting so far: whatever was given before, these lines were given since. They are these games,
--- whose plies are counted, and each of their plies took a byte.
+-- The counting so far. Whatever was given before, these lines were given since. They are these
+-- games, whose plies are counted, and each of their plies took a byte.
 pub record Counting (start now : Reading) (from to : Told) (first last : Counts) (number : ℕ) : Type 0 where
   pub ls : List Line
   pub games : List BookGame

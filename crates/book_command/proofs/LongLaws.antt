@@ -19,7 +19,7 @@ use Rattle.game_text.proofs.OrderLaws.{denoted_size}
 use Rattle.opening_book.specs.Book.{BookGame}
 use Rattle.book_command.specs.Asked.{as_played}
 
--- a semicolon stands before each part but the first
+-- a semicolon is before each part but the first
 few_parts : (line : List ℕ) → length (parts line) ≤ length line + 1
 unfolding parts
 few_parts [] = omega arith
@@ -54,7 +54,7 @@ played_long text (Ok g) game e h =
     subst (λ (p : BookGame). length p.made < length text) same (more_bytes text g.game_type g.moves (game_found text g e))
 played_long text (Err fault) game e h = absurd (cc)
 
--- no fewer bytes pass than the line has that is given
+-- at least as many bytes pass as the line has that is given
 pub passes_text : {old new : Reading} {bytes : List ℕ} {rest : Told} (text : List ℕ) → Gives old bytes (Text text) new rest → old.passed + length text ≤ new.passed
 passes_text text gives =
     let (part, p) = gives.passes in

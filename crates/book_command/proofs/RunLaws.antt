@@ -27,7 +27,7 @@ use Rattle.book_command.specs.Text.{IsLegalHere, IsLineOf}
 
 -- The line of the book
 
--- the move that a book tells is legal
+-- the move that a book names is legal
 pub told_legal : (p : Position) (games : List BookGame) (found : Option (Move × ℕ)) → IsBook p games found → IsLegalHere p found
 told_legal p games None book = tt
 told_legal p games (Some b) book = on-at (moves p) book.place b.0 book.move
@@ -46,7 +46,7 @@ asked_good : (ls : List Line) (start : Parsed) (games : List BookGame) → Asks 
 asked_good [] start games never = absurd never
 asked_good (line ∷ others) start games asks = (start, games, asks)
 
--- the input was read to its end, and memory was wanting
+-- the input was read to its end, and memory ran out
 pub no_line : (input : List ℕ) (rest : Told) (start : Parsed) (games : List BookGame) → IsWhole input rest start games → IsUnanswered about_book NoMemory input rest
 no_line input rest start games whole = (
   lines input,

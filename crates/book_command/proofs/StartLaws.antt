@@ -102,7 +102,7 @@ none_begun {r0} {r1} {old} Memory is taken none = λ input told. elim none [
 pub unread : (rest : Told) → WhereTold rest (λ input. IsUnanswered about_book Memory input rest)
 unread rest = λ input told. ([], [], record { were_read = none_were_read input rest told; good = tt; one = omega arith })
 
--- one line was read, and memory was wanting
+-- one line was read, and memory ran out
 pub one_read : (input : List ℕ) (start : Parsed) (reader : Reading) (rest : Told) → HasBegun input start reader rest → IsUnanswered about_book Memory input rest
 one_read input start reader rest b = (
   b.line ∷ [],

@@ -1,5 +1,5 @@
--- What the lines of an input ask a book: the first is a position, and each further one a game that
--- was played.
+-- What the lines of an input ask a book. The first is a position, and each further one a played
+-- game.
 use Rattle.std.specs.Prelude.{◌≡◌, List, [], ◌∷◌, ◌++◌, map, Option, Some, None, Result, Ok, Err}
 use Rattle.io_edge.specs.Lines.{Line, Text, TooLong as LongLine}
 use Rattle.game_text.specs.declared.faults.GameFault.{GameFault}
@@ -22,19 +22,19 @@ played_in LongLine = None
 abbrev pub AreGames : List Line → List BookGame → Type 0
 AreGames ls games = map played_in ls ≡ map (λ g. Some g) games
 
--- The first line is a game that is not over, and leads to the position that is asked about. Each
--- other line is a game.
+-- The first line is a game that is not over, and the position at its end is asked about. Each other
+-- line is a game.
 abbrev pub Asks : List Line → Parsed → List BookGame → Type 0
 Asks [] start games = ⊥
 Asks (line ∷ others) start games = (game_in line ≡ Ok start) × AreGames others games
 
--- none of these lines is refused: there is none, or they ask about some position
+-- none of these lines is refused: there is no line, or they ask about some position
 abbrev pub AreGood : List Line → Type 0
 AreGood [] = Unit {0}
 AreGood (line ∷ others) =
     (start : Parsed) × (games : List BookGame) × Asks (line ∷ others) start games
 
--- Of these lines just the last is refused, which is not the first: it is no game.
+-- Only the last of these lines is refused: it is not the first, and it is no game.
 pub record IsRefused (read : List Line) : Type 0 where
   pub before : List Line
   pub last : Line

@@ -1,4 +1,4 @@
--- When the run of a book is done, and what it has written then.
+-- When the run of a book is done, and what it has then written.
 use Rattle.std.specs.Prelude.{◌≡◌, ℕ, ◌<◌, List, Option, Some, None}
 use Rattle.io_edge.specs.Outside.{behind}
 use Rattle.hive_model.specs.declared.places.Move.{Move}
@@ -15,14 +15,14 @@ use Rattle.book_command.specs.Asked.{Asks}
 use Rattle.book_command.specs.Runs.{BookRun}
 use Rattle.book_command.specs.Text.{book_line}
 
--- Where the streams served the run, and the first line of the input is a game that is not over, and
--- each other line a game, it is done, unless memory is wanting.
+-- For an input whose first line is a game that is not over, and whose other lines are games: if no
+-- read or write failed, the run is done, unless memory ran out.
 abbrev pub BooksAreDone : Type 0
 BooksAreDone =
     RunsAreDone BookRun
     (λ input. (start : Parsed) × (games : List BookGame) × Asks (lines input) start games)
 
--- a legal move of the position, made in these games as often as is told and at least once; or none
+-- a legal move of the position, made in these games as often as stated and at least once; or none
 abbrev pub IsMadeMove : Parsed → List BookGame → Option (Move × ℕ) → Type 0
 IsMadeMove start games None = Unit {0}
 IsMadeMove start games (Some b) =
@@ -38,7 +38,7 @@ pub record WroteMade (input : List ℕ) (before after : Sides) (found : Option (
   pub legal : IsMadeMove start games found
   pub wrote : after.written ≡ behind before.written (book_line (last_position start).board found)
 
--- so where a run is done, the move that was written is legal
+-- so if a run is done, the move that was written is legal
 abbrev pub WrittenMovesAreLegal : Type 0
 WrittenMovesAreLegal =
     (before : Sides) → (after : Sides) → BookRun Done before after

@@ -17,12 +17,11 @@ use Rattle.book_command.specs.Text.{refusal}
 
 -- A further line
 
--- the game that was played to reach this course
+-- the game played to reach this course
 abbrev pub played_by : Course → BookGame
 played_by course = record { game_type = course.game_type; made = course.made }
 
--- the line that was given is a game, which is under way at its end, and each of its plies took a
--- byte
+-- The line that was given is a game, and this course is at its end. Each of its plies took a byte.
 pub record GivesPlayed (course : Course) (bytes : List ℕ) (old new : Reading) (rest : Told)
     (line : Line) : Type 0 where
   pub gives : Gives old bytes line new rest
@@ -30,7 +29,7 @@ pub record GivesPlayed (course : Course) (bytes : List ℕ) (old new : Reading) 
   pub long : old.passed + length course.made < new.passed
 
 -- the text of the line with this number is no game, and the line that refuses it is to be written;
--- or memory is wanting
+-- or memory ran out
 abbrev pub LacksGame : NoGame → ℕ → Option BookGame → Type 0
 LacksGame (Bad text) number game = (game ≡ None) × (text ≡ bad_line (refusal number))
 LacksGame ReadFault number game = ⊥
@@ -42,8 +41,8 @@ abbrev pub GivesOther : List ℕ → Reading → Reading → Told → Type 0
 GivesOther bytes old new rest =
     (line : Line) × Gives old bytes line new rest × (played_in line ≡ None)
 
--- No game was given: the line with this number is none, a read has failed, the limit is reached, or
--- memory is wanting.
+-- No game was given: the line with this number is none, a read failed, the limit is reached, or
+-- memory ran out.
 abbrev pub GivesNone : NoGame → ℕ → List ℕ → Reading → Reading → Told → Type 0
 GivesNone (Bad text) number bytes old new rest =
     GivesOther bytes old new rest × (text ≡ bad_line (refusal number))
@@ -63,7 +62,8 @@ pub record HasBegun (input : List ℕ) (start : Parsed) (reader : Reading) (rest
   pub within : reader.taken ≤ input_limit
   pub little : HoldsLittle reader
 
--- the lines of the input ask about this position, their games are these, and it was read to its end
+-- the lines of the input ask about this position and have these games, and the input was read to
+-- its end
 pub record IsWhole (input : List ℕ) (rest : Told) (start : Parsed) (games : List BookGame)
     : Type 0 where
   pub asks : Asks (lines input) start games

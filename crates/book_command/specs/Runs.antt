@@ -14,8 +14,8 @@ use Rattle.book_command.specs.Text.{IsLineOf, refusal}
 
 -- What is to be written
 
--- The input was read to its end. Its lines ask about a position, and this is the line of the book
--- of that position over their games.
+-- The input was read to its end. Its lines ask about a position, and this is the line of that
+-- position's book over their games.
 pub record IsAnswer (input : List ℕ) (rest : Told) (line : List ℕ) : Type 0 where
   pub start : Parsed
   pub games : List BookGame
@@ -28,32 +28,32 @@ pub record HasNoLine (input : List ℕ) (rest : Told) : Type 0 where
   pub none : lines input ≡ []
   pub over : IsAllRead input rest
 
--- the first line was read, and is no game that is not over, for this reason
+-- the first line was read, and this is why it is no game that is not over
 pub record IsNoStart (input : List ℕ) (rest : Told) (why : List ℕ) (line : Line) : Type 0 where
   pub were_read : WereRead input rest (line ∷ [])
   pub refused : game_in line ≡ Err why
 
--- these lines were read, of which the last is refused, for this reason
+-- these lines were read, and the last is refused for this reason
 pub record IsNoGame (input : List ℕ) (rest : Told) (why : List ℕ) (read : List Line) : Type 0 where
   pub were_read : WereRead input rest read
   pub refused : IsRefused read
   pub why_is : why ≡ refusal (length read)
 
--- why the input is bad: it has no line, or this is the reason for the line that was read last
+-- why the input is bad: it has no line, or this is the reason to refuse the line read last
 abbrev pub IsBad : List ℕ → Told → List ℕ → Type 0
 IsBad input rest why =
     (HasNoLine input rest × (why ≡ codes "no line"))
     ⊎ (((line : Line) × IsNoStart input rest why line)
     ⊎ ((read : List Line) × IsNoGame input rest why read))
 
--- Where nothing is written
+-- If nothing is written
 
--- the bytes that have left the source are these, and none of their lines that end in LF is refused
+-- these bytes have left the source, and none of their lines that end in LF is refused
 pub record IsUndecided (input : List ℕ) (rest : Told) (bytes left : List ℕ) : Type 0 where
   pub was_read : WasRead input rest bytes left
   pub good : AreGood (whole_lines bytes)
 
--- of the lines that were read none before the last one is refused
+-- of the lines that were read, none before the last one is refused
 pub record WereGood (input : List ℕ) (rest : Told) (front last : List Line) : Type 0 where
   pub were_read : WereRead input rest (front ++ last)
   pub good : AreGood front
@@ -65,10 +65,10 @@ ReadsGood input rest = (front : List Line) × (last : List Line) × WereGood inp
 
 -- The run
 
--- the lines of the input are to ask about a position
+-- the lines of the input have to ask about a position
 abbrev pub about_book : Inquiry
 about_book = record { bad = IsBad; undecided = IsUndecided; begun = ReadsGood }
 
--- what was written and read where the run of a book ends with this status
+-- what was written and read if the run of a book ends with this status
 abbrev pub BookRun : Status → Sides → Sides → Type 0
 BookRun = AnsweredRun about_book IsAnswer

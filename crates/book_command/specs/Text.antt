@@ -8,7 +8,7 @@ use Rattle.hive_model.specs.Legal.{moves}
 use Rattle.hive_model.specs.Positions.{Position}
 use Rattle.opening_book.specs.Book.{IsBook, BookGame}
 
--- a move as it is written on a board, a space, and how often it was made; or `none`
+-- a move as written on a board, a space, and how often it was made; or `none`
 abbrev pub book_field : Stacks → Option (Move × ℕ) → List ℕ
 book_field board None = codes "none"
 book_field board (Some b) = text board b.0 ++ (32 ∷ decimal b.1)
@@ -17,12 +17,12 @@ book_field board (Some b) = text board b.0 ++ (32 ∷ decimal b.1)
 abbrev pub book_line : Stacks → Option (Move × ℕ) → List ℕ
 book_line board found = codes "book " ++ (book_field board found ++ 10 ∷ [])
 
--- the move that is told, if one is, is legal
+-- the named move, if there is one, is legal
 abbrev pub IsLegalHere : Position → Option (Move × ℕ) → Type 0
 IsLegalHere p None = Unit {0}
 IsLegalHere p (Some b) = IsOn (moves p) b.0
 
--- the text is the line of the book of a position over these games
+-- the text is the line of a position's book over these games
 pub record IsLineOf (p : Position) (games : List BookGame) (line : List ℕ) : Type 0 where
   pub found : Option (Move × ℕ)
   pub book : IsBook p games found

@@ -19,7 +19,7 @@ use line_feed::LineReader;
 use opening_book::Tally;
 use std::alloc::{AllocError, Global};
 
-/// The counts of the game's position over no games.
+/// The counts for the game's position over no games.
 fn tally_of<G: Game>(alloc: Global, game: &mut G) -> Result<Tally, AllocError>
     requires { is_over (position (G.course game.old)) ≡ false }
     ensures tally { IfOk result (λ t. IsTally (position (G.course game.old)) [] t) }
@@ -29,7 +29,7 @@ fn tally_of<G: Game>(alloc: Global, game: &mut G) -> Result<Tally, AllocError>
     Tally::of(alloc, game, &mut stack)
 }
 
-/// The line of the book that the input asks for.
+/// The line of the book for which the input asks.
 fn answer<S: Source, G: Game + Drop>(alloc: Global, input: &mut S) -> Result<ReplyText, NoGame>
     ensures line { IfOk result (λ line. WhereTold (S.rest input.old)
         (λ bytes. IsAnswer bytes (S.rest input.new) line)) }
@@ -73,20 +73,20 @@ fn tell<K: Sink>(line: &[u8], output: &mut K) -> Status
 
 /// Reads a position and then played games, and names the legal move that was made most often there.
 ///
-/// The first line of the input is a game string of a game that is not over; it leads to the
-/// position. Each further line is a game string, of a game that is finished or not. One game is
-/// kept at a time, so the memory does not grow with the games. A ply of a game counts where the
-/// position before it is, turned, mirrored and shifted, the one that is asked about, and so does
-/// its move; positions count as equal where type, side to move, resting piece and the turn, those
-/// from 5 on as one, are equal.
+/// The first line of the input is a game string of a game that is not over; the position is the one
+/// at its end. Each further line is a game string of a game, finished or not. One game is kept at a
+/// time, so the memory does not grow with the games. A ply of a game counts if some turning,
+/// mirroring and shifting maps the position before it to the one asked about. Its move is mapped in
+/// the same way. Equal positions have the same type, side to move, resting piece and turn, and all
+/// turns from 5 on count as one.
 ///
-/// At the end of the input it writes `book `, the move as it is written on the board of the
-/// position, a space and how often it was made, the first in the order of the moves where several
-/// were made as often; or `book none`, where none was made. It is `Done` then. Where the first line
-/// is missing, too long or no game that is not over, one line that begins with `bad` says why;
-/// where a further one is no game or too long, it is `bad line ` and its number in the input, and
-/// no further line is read. It is `BadInput` then. A read that fails, a full input and want of
-/// memory end the run with nothing written.
+/// At the end of the input it writes `book `, the move as written on the board of the position, a
+/// space and how often it was made. Of several moves made equally often, it names the first in the
+/// order of the moves. If none was made, it writes `book none`. The status is then `Done`. If the
+/// first line is missing, too long or no game that is not over, one line that begins with `bad`
+/// says why. If a further line is no game or too long, the line is `bad line ` and its number in
+/// the input. No line after it is read. The status is then `BadInput`. If a read fails, the input
+/// is full or memory runs out, the run ends with nothing written.
 pub fn book<S: Source, K: Sink, G: Game + Drop>(
     alloc: Global,
     input: &mut S,

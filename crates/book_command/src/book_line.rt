@@ -15,7 +15,7 @@ use move_text::write_move;
 use opening_book::Tally;
 use std::alloc::{AllocError, Global};
 
-/// A legal move as it is written on the board of the position, a space, and how often it was made.
+/// A legal move as written on the board of the position, a space, and how often it was made.
 fn move_field<G: Game>(
     alloc: Global,
     game: &G,
@@ -36,7 +36,7 @@ fn move_field<G: Game>(
     Ok(text)
 }
 
-/// The line that tells the move, or that there is none, its LF included.
+/// The line that names the move, or says that there is none, with its LF.
 fn line_of<G: Game>(
     alloc: Global,
     game: &G,
@@ -54,7 +54,7 @@ fn line_of<G: Game>(
     }
 }
 
-/// The line of the book of the game's position, where its moves were counted over some games.
+/// The line of the book for the game's position, whose moves were counted over some games.
 pub(crate) fn book_line<G: Game>(
     alloc: Global,
     game: &G,

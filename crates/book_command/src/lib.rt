@@ -1,4 +1,4 @@
-//! The command that names the move of a position that was made most often in played games.
+//! The command `book`: it names the move of a position that was made most often in played games.
 #![tactic(auto)]
 
 mod answering;

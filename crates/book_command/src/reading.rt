@@ -1,4 +1,4 @@
-//! The games behind the first line of the input, read and counted one at a time.
+//! Reads and counts the games after the first line of the input, one at a time.
 
 ghost use Rattle.std.specs.Prelude.{◌≡◌, ℕ, ◌+◌, ◌<◌, ◌≤◌, List, length, Some, Err, IfOk, IfErr};
 ghost use Rattle.std.specs.Prelude.{MatchOption, MatchResult};
@@ -32,7 +32,7 @@ use line_feed::{LineAnswer, LineReader};
 use opening_book::Tally;
 use std::alloc::{AllocError, Global};
 
-/// The line that refuses the line of this number, its LF included.
+/// The line that refuses the line of this number, with its LF.
 fn refusal_line(alloc: Global, number: u64) -> Result<ReplyText, AllocError>
     ensures { IfOk result (λ t. t ≡ bad_line (refusal number)) }
 {
@@ -40,7 +40,7 @@ fn refusal_line(alloc: Global, number: u64) -> Result<ReplyText, AllocError>
     line_for(alloc, b"bad ", why.items())
 }
 
-/// That the line of this number is no game.
+/// The refusal of the line of this number, which is no game.
 fn refused(alloc: Global, number: u64) -> NoGame
     ensures { Says result (refusal number) }
 {
@@ -50,8 +50,7 @@ fn refused(alloc: Global, number: u64) -> NoGame
     }
 }
 
-/// The game that the text is, finished or not, under way at its end. The text is the line of this
-/// number.
+/// The game that the text is, finished or not, at its end. The text is the line of this number.
 fn game_of<G: Game + Drop>(alloc: Global, text: &[u8], number: u64) -> Result<G, NoGame>
     requires { length text.now ≤ greatest_line }
     ensures game { IfOk result (λ g.
@@ -65,8 +64,8 @@ fn game_of<G: Game + Drop>(alloc: Global, text: &[u8], number: u64) -> Result<G,
     }
 }
 
-/// Reads the next line, which has this number, and begins its game again; there is none at the end
-/// of the input.
+/// Reads the next line, which has this number, and plays its game. It answers `None` at the end of
+/// the input.
 fn next_game<S: Source, G: Game + Drop>(
     alloc: Global,
     reader: &mut LineReader,
@@ -98,7 +97,7 @@ fn next_game<S: Source, G: Game + Drop>(
 }
 
 /// Reads the further lines of the input to its end, and counts the plies of each of their games.
-/// The first that is no game ends the reading.
+/// The first line that is no game ends the reading.
 pub(crate) fn count_games<S: Source, G: Game + Drop>(
     alloc: Global,
     reader: &mut LineReader,

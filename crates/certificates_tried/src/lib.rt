@@ -1,4 +1,4 @@
-//! Certificates and forced wins, tried: the public calls of their crates over texts, sources and
+//! Tests of certificates and forced wins: the public calls of their crates over texts, sources and
 //! sinks in memory.
 #![tactic(auto)]
 

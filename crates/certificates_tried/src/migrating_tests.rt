@@ -1,4 +1,4 @@
-//! Certificates that become certificates that cite.
+//! Certificates that are made into certificates that cite.
 
 use crate::strategy_commands_tests::{Asked, expect_answer, expect_run};
 use command_runs::Status::{self, BadInput, Done, ReadFault, Refused, WriteFault};
@@ -12,14 +12,15 @@ use strategy_commands::{certify, migrate};
 /// A certificate of the opening of the base game two plies deep, with its least indices.
 const FIRST: &str = "hive-certificate 1\nBase\ndepth 2\nmove wA1\nvalue 10\n0\n0\n0\n0\n";
 
-/// What is made of it.
+/// The citing certificate that is made of it.
 const SECOND: &str =
     "hive-certificate 2\nBase;NotStarted;White[1]\ndepth 2\nmove wA1\nvalue 10\n0\n0\n0\n0\n";
 
-/// A game of which two moves may be made in either order.
+/// A game in which two moves may be made in either order.
 const BEGUN: &str = "Base;InProgress;White[2];wS1;bS1 wS1-\n";
 
-/// What is written of this input, as the certificate four plies deep where it is a game.
+/// What is written for this input: the certificate four plies deep if it is a game, otherwise the
+/// citing certificate.
 fn written_of(alloc: Global, is_game: bool, input: &[u8]) -> Result<Vec<u8>, AllocError> {
     let setting = MemSetting::of(input);
     let mut source = setting.source(alloc)?;
@@ -51,7 +52,7 @@ fn certificates_become_citing_ones(rt: HostRuntime) -> Result<(), Fail> {
     Ok(())
 }
 
-/// Texts of which none is made that cites, and what is answered.
+/// Texts that cannot be made into a citing certificate, and the answers to them.
 const REFUSED: [(&str, Status, &str); 8] = [
     ("", BadInput, "bad line 1\n"),
     (SECOND, BadInput, "bad line 1\n"),

@@ -1,4 +1,4 @@
-//! Citing certificates of the opening, two plies deep: what is read, checked and written.
+//! Citing certificates of the opening, two plies deep: reading, checking and writing them.
 
 ghost use Rattle.std.specs.Prelude.{◌≡◌, pos};
 ghost use Rattle.hive_model.specs.Courses.{position};
@@ -31,7 +31,7 @@ fn is_over(game: &PlainGame) -> bool
     }
 }
 
-/// That White's first ant is placed best, and is worth 10.
+/// The claim that placing White's first ant is best, and worth 10.
 fn claim() -> Claim
     ensures { (result.depth ≡ 2) × (result.value ≡ pos 10) }
 {
@@ -45,7 +45,8 @@ fn claim() -> Claim
     }
 }
 
-/// What a check of these lines answers, and how many lines it took; none if the opening were over.
+/// What a check of these lines answers, and how many lines it took; `None` if the opening were
+/// over.
 fn cited(
     alloc: Global,
     setting: MemSetting<'_>,
@@ -64,7 +65,7 @@ fn cited(
     Ok(Some((answer, tokens.lines())))
 }
 
-/// That there is a first fault at this place.
+/// The answer that the first fault is at this place.
 fn refused(place: u64, why: WhyCited) -> Checked<WhyCited> {
     Checked::Refused { place, why }
 }
@@ -98,7 +99,7 @@ fn tokens_stand_one_a_line(rt: HostRuntime) -> Result<(), Fail> {
     Ok(())
 }
 
-/// What is answered where these indices are migrated; none if the opening were over.
+/// The answer to the migration of these indices; `None` if the opening were over.
 fn migrated(
     alloc: Global,
     indices: &[u32],

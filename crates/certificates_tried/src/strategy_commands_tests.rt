@@ -22,7 +22,7 @@ const DRAWN: &str = concat!(
     "wB1 wG1\\;bB1 bQ-;wA1 -wB1;bA1 bQ\\;wA1 wQ\\",
 );
 
-/// What is asked for: a certificate one ply or two deep, a check, or a certificate that cites.
+/// The command to run: a certificate one ply or two deep, a check, or a certificate that cites.
 #[derive(Clone, Copy, Debug)]
 pub(crate) enum Asked {
     OnePly,
@@ -31,7 +31,7 @@ pub(crate) enum Asked {
     Migrate,
 }
 
-/// Runs a command over these two sides, and says with which status it ended.
+/// Runs a command over these two sides, and answers the status with which it ended.
 fn ended(alloc: Global, asked: Asked, source: &mut MemSource, sink: &mut MemSink) -> Status {
     match asked {
         Asked::OnePly => certify::<MemSource, MemSink, FastGame>(alloc, 1, source, sink),
@@ -41,7 +41,7 @@ fn ended(alloc: Global, asked: Asked, source: &mut MemSource, sink: &mut MemSink
     }
 }
 
-/// Runs a command in memory, and compares the status and all that was written.
+/// Runs a command in memory, and compares the status and everything written.
 pub(crate) fn expect_run<R: Abort>(
     rt: &R,
     alloc: Global,
@@ -58,7 +58,7 @@ pub(crate) fn expect_run<R: Abort>(
     Ok(())
 }
 
-/// Runs a command, in which no call fails, in pieces of one byte, of seven, and without bound.
+/// Runs a command in which no call fails, in pieces of one byte, of seven bytes, and of any size.
 pub(crate) fn expect_answer<R: Abort>(
     rt: &R,
     alloc: Global,
@@ -82,7 +82,7 @@ fn certificates_are_written(rt: HostRuntime) -> Result<(), Fail> {
     Ok(())
 }
 
-/// Inputs of which no certificate is made, and the lines that say so.
+/// Inputs for which no certificate is made, and the lines that say so.
 const BAD_INPUTS: [(&str, &str); 4] = [
     ("", "bad no line\n"),
     ("Base;NotStarted;White[2]\n", "bad other turn\n"),
@@ -98,8 +98,8 @@ fn input_that_is_no_game_is_named(rt: HostRuntime) -> Result<(), Fail> {
     Ok(())
 }
 
-/// The move, the value and the other lines of texts that claim what the opening of the base game is
-/// worth two plies deep, and what a check of each answers.
+/// The move, the value and the other lines of texts about the opening of the base game two plies
+/// deep. With each is what a check of it answers.
 const CLAIMS: [(&str, &str, &str, Status, &str); 13] = [
     ("wA1", "10", "0\n0\n0\n0", Done, "accepted\n"),
     ("wA1", "10", "24\n0\n0\n0\n", Refused, "refused index 1\n"),
@@ -133,7 +133,7 @@ fn claims_are_checked(rt: HostRuntime) -> Result<(), Fail> {
     Ok(())
 }
 
-/// The tokens of texts for the same claim that may cite, and what a check of each answers.
+/// The tokens of texts that may cite, for the same claim, and what a check of each answers.
 const TOKENS: [(&str, Status, &str); 8] = [
     ("0\n0\n0\n0\n", Done, "accepted\n"),
     ("@0\n0\n0\n0\n", Refused, "refused cite 1\n"),
@@ -156,7 +156,7 @@ fn tokens_are_checked(rt: HostRuntime) -> Result<(), Fail> {
     Ok(())
 }
 
-/// Heads that are cut or faulty, and the lines that say so.
+/// Heads that are cut or malformed, and the lines that say so.
 const HEADS: [(&str, &str); 9] = [
     ("", "bad line 1\n"),
     ("hive-certificate 3\n", "bad line 1\n"),
@@ -180,8 +180,8 @@ fn heads_are_checked_line_by_line(rt: HostRuntime) -> Result<(), Fail> {
     Ok(())
 }
 
-/// The fronts of the certificate, by how many bytes they have at least and at most, and what a
-/// check of each of them answers.
+/// Initial parts of the certificate, by their least and greatest number of bytes, and what a check
+/// of each of them answers.
 const FRONTS: [(usize, usize, Status, &str); 14] = [
     (0, 17, BadInput, "bad line 1\n"),
     (18, 19, BadInput, "bad line 2\n"),

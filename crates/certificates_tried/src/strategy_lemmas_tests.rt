@@ -6,7 +6,7 @@ use std::alloc::{AllocError, Global};
 use std::test::Fail;
 use strategy_lemmas::Lemmas;
 
-/// The key of a board with one piece, so far along.
+/// The key of a board with one piece, `q` steps along.
 fn key_at(alloc: Global, q: i32) -> Result<Key, AllocError> {
     let mut board = PlainBoard::new(alloc)?;
     let piece = Piece::at(0);
@@ -21,7 +21,7 @@ fn key_at(alloc: Global, q: i32) -> Result<Key, AllocError> {
     Ok(Key::of(game_type, &board, Colour::White, 7, None))
 }
 
-/// Two keys, two depths and several values, each key's lemmas between those of the other.
+/// Two keys, two depths and several values. The lemmas of each key are between those of the other.
 fn several(alloc: Global, one: Key, other: Key) -> Result<Lemmas, AllocError> {
     let mut lemmas = Lemmas::new(alloc)?;
     lemmas.keep(one, 2, -5);

@@ -1,4 +1,4 @@
-//! Certificates of the opening: what is written, and what a check answers to what is claimed.
+//! Certificates of the opening: what is written, and what a check answers to each claim.
 
 ghost use Rattle.std.specs.Prelude.{◌≡◌, ◌≤◌};
 ghost use Rattle.hive_model.specs.Courses.{position};
@@ -35,7 +35,7 @@ fn is_over(game: &PlainGame) -> bool
     }
 }
 
-/// What is answered where the certificate of the opening is written; none if the opening were over.
+/// The answer to writing the certificate of the opening; `None` if the opening were over.
 fn made(
     alloc: Global,
     depth: u32,
@@ -52,7 +52,7 @@ fn made(
     Ok(Some(make(alloc, &mut searcher, &mut game, depth, sink)))
 }
 
-/// The move that places the piece of this index first.
+/// The first move, which places the piece of this index.
 fn first(index: u8) -> Move {
     Move::To {
         piece: Piece::at(index % 28),
@@ -109,7 +109,7 @@ fn checked(
     Ok(check(&mut game, &claim, &mut list, &mut stack))
 }
 
-/// That there is a first fault at this place.
+/// The answer that the first fault is at this place.
 fn refused(place: u64, why: Why) -> Checked<Why> {
     Checked::Refused { place, why }
 }

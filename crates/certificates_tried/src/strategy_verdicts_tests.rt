@@ -14,8 +14,8 @@ use strategy_verdicts::{
     IndexReasons, TextVerdict, Unread, fault_verdict, tell_judged, verdict_of,
 };
 
-/// Tells an answer in memory, and compares the status and all that was written. The write of this
-/// number fails.
+/// Writes the line of an answer in memory, and compares the status and everything written. The
+/// write of this number fails.
 fn expect_told<R: Abort>(
     rt: &R,
     alloc: Global,
@@ -32,7 +32,7 @@ fn expect_told<R: Abort>(
     Ok(())
 }
 
-/// That the text is refused for this reason, after so many indices.
+/// The verdict that the text is refused for this reason, after `place` indices.
 fn refused(place: u64, why: Why) -> Result<TextVerdict, Unread> {
     Ok(TextVerdict::Refused { place, why })
 }

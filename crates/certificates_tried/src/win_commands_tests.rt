@@ -24,7 +24,7 @@ const DRAWN: &str = concat!(
     "wB1 wG1\\;bB1 bQ-;wA1 -wB1;bA1 bQ\\;wA1 wQ\\",
 );
 
-/// What is asked for: a solution within one ply or two, or a check.
+/// The command to run: a solution within one ply or two, or a check.
 #[derive(Clone, Copy, Debug)]
 enum Asked {
     OnePly,
@@ -32,7 +32,7 @@ enum Asked {
     Verify,
 }
 
-/// Runs a command over these two sides, and says with which status it ended.
+/// Runs a command over these two sides, and answers the status with which it ended.
 fn ended(alloc: Global, asked: Asked, source: &mut MemSource, sink: &mut MemSink) -> Status {
     match asked {
         Asked::OnePly => solve::<MemSource, MemSink, FastGame>(alloc, 1, source, sink),
@@ -41,7 +41,7 @@ fn ended(alloc: Global, asked: Asked, source: &mut MemSource, sink: &mut MemSink
     }
 }
 
-/// Runs a command in memory, and compares the status and all that was written.
+/// Runs a command in memory, and compares the status and everything written.
 fn expect_run<R: Abort>(
     rt: &R,
     alloc: Global,
@@ -58,7 +58,7 @@ fn expect_run<R: Abort>(
     Ok(())
 }
 
-/// Runs a command, in which no call fails, in pieces of one byte, of seven, and without bound.
+/// Runs a command in which no call fails, in pieces of one byte, of seven bytes, and of any size.
 fn expect_answer<R: Abort>(
     rt: &R,
     alloc: Global,
@@ -96,7 +96,7 @@ fn a_win_is_told_by_one_index(rt: HostRuntime) -> Result<(), Fail> {
     Ok(())
 }
 
-/// Inputs of which no solution is made, and the lines that say so.
+/// Inputs for which no solution is made, and the lines that say so.
 const BAD_INPUTS: [(&str, &str); 4] = [
     ("", "bad no line\n"),
     ("Base;NotStarted;White[2]\n", "bad other turn\n"),
@@ -143,7 +143,7 @@ fn indices_are_checked(rt: HostRuntime) -> Result<(), Fail> {
     Ok(())
 }
 
-/// Heads that are cut or faulty, and the lines that say so.
+/// Heads that are cut or malformed, and the lines that say so.
 const HEADS: [(&str, &str); 8] = [
     ("", "bad line 1\n"),
     ("hive-solution 2\n", "bad line 1\n"),

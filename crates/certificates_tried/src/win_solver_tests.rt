@@ -15,8 +15,8 @@ const WON: &str = concat!(
     "bG1 bS1-;wB1 /wQ;bB1 bQ-;wA1 -wB1;bA1 /bB1",
 );
 
-/// Whether a win can be forced within 1, 2 and 3 plies in the game of a text, or none where it is
-/// no game.
+/// Whether a win can be forced within 1, 2 and 3 plies in the game of a text, or `None` if it is no
+/// game.
 fn answers(alloc: Global, text: &str) -> Result<Option<[bool; 3]>, AllocError> {
     let mut source = MemSetting::of(text.as_bytes()).source(alloc)?;
     let Ok(mut game) = read_one_game::<MemSource, PlainGame>(alloc, &mut source, 3) else {
@@ -29,8 +29,8 @@ fn answers(alloc: Global, text: &str) -> Result<Option<[bool; 3]>, AllocError> {
     Ok(Some([one, two, three]))
 }
 
-/// How many moves are played where a solver tells twice of the game of a text whether a win can be
-/// forced within two plies: the first time, and the second; none where it is no game.
+/// How many moves a solver plays when it decides twice, for the game of a text, whether a win can
+/// be forced within two plies: the first time and the second. `None` if the text is no game.
 fn plays_of_two_tells(alloc: Global, text: &str) -> Result<Option<(u64, u64)>, AllocError> {
     let mut source = MemSetting::of(text.as_bytes()).source(alloc)?;
     let Ok(mut game) = read_one_game::<MemSource, PlainGame>(alloc, &mut source, 2) else {
@@ -45,8 +45,8 @@ fn plays_of_two_tells(alloc: Global, text: &str) -> Result<Option<(u64, u64)>, A
     Ok(Some((told.saturating_sub(begun), again.saturating_sub(told))))
 }
 
-/// What is written of the opening within two plies, in pieces of so many bytes, where the write of
-/// this number fails, and whether all was written.
+/// What is written for the opening within two plies, and whether everything was. The pieces have
+/// `piece` bytes, and the write of the number `fails` fails.
 fn written(alloc: Global, piece: usize, fails: u64) -> Result<(bool, MemSink), AllocError> {
     let setting = MemSetting::of(b"Base".as_slice()).failing(0, fails);
     let mut source = setting.source(alloc)?;

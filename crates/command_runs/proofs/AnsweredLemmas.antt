@@ -36,7 +36,7 @@ module _ (inquiry : Inquiry) (texts : InputTexts) where
   written_run status before after text given (inr (e, (n, less, wrote))) = subst (λ s. AnsweredRun inquiry texts s before after) (sym e) (λ input told.
       (text, n, record { is_text = inr (given input told); cut = less; wrote = wrote }))
 
-  -- a run over an input that has an answer is done, unless memory is wanting
+  -- a run over an input that has an answer is done, unless memory runs out
   pub answered_done : (Asks : List ℕ → Type 0) → ((input : List ℕ) (rest : Told) (why : List ℕ) → Asks input → inquiry.bad input rest why → ⊥)
       → ((input : List ℕ) (rest : Told) (bytes left : List ℕ) → inquiry.undecided input rest bytes left → WasRead input rest bytes left) → RunsAreDone (AnsweredRun inquiry texts) Asks
   answered_done Asks good read Done before after run input served asks = inl refl

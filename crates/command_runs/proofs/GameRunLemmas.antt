@@ -26,7 +26,7 @@ asked_by_one [] game e = omega arith
 asked_by_one (line ∷ []) game e = omega arith
 asked_by_one (line ∷ (other ∷ others)) game e = absurd (more_lines (game_in line) other others game e)
 
--- the game under way is at the end of the one that was read
+-- the game in progress has reached the end of the one that was read
 pub end_is : (c : Course) (game : Parsed) → IsReplayOf c game → position c ≡ last_position game
 end_is c game end = λ j. replay (opening (end.kind j)) (end.made j)
 
@@ -47,7 +47,7 @@ game_run answers status before after c text given is_answer (inr wrote) =
 asked_once : (r : Result Parsed (List ℕ)) (game : Parsed) (why : List ℕ) → r ≡ Ok game → r ≡ Err why → ⊥
 asked_once r game why e f = cc
 
--- a run that answers the one game of its input is done, unless memory is wanting
+-- a run that answers the one game of its input is done, unless memory runs out
 pub game_run_done : (answers : Answers) → RunsAreDone (GameRun answers) AsksOne
 game_run_done answers = answered_done about_game (AnswersGame answers) AsksOne
     (λ input rest why (game, asks) bad. asked_once (asked (lines input)) game why asks bad.asks) (λ input rest bytes left is. is.was_read)

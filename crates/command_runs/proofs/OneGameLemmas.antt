@@ -1,4 +1,4 @@
--- What was read of an input that is to be one game.
+-- What was read of an input that must be one game.
 use Rattle.std.proofs.Common.{◌≡◌, ◌<◌, ◌≤◌, ℕ, List, [], ◌∷◌, ◌++◌, length, refl, ap, sym, ◌∙◌, subst, inl, inr, codes, Some, IfOk, IfErr, MatchResult, arith}
 use Rattle.std.specs.Prelude.{Result, Ok, Err}
 use Rattle.std.proofs.lemmas.List.{append-nil}

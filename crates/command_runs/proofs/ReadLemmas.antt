@@ -75,7 +75,7 @@ end_of : (finished : Bool) (bytes held : List ℕ) (given : List Line) (r1 r2 : 
 end_of true bytes held given r1 r2 (all, none, at_end) same go = subst IsAtEnd same at_end
 end_of false bytes held given r1 r2 s same go = go refl
 
--- where the source has ended, nothing of the input is left
+-- if the source has ended, nothing of the input is left
 pub all_is_read : {r0 r1 r2 : Told} {old new : Reading} {bytes b1 : List ℕ} {given : List Line} (input : List ℕ) → Fed r0 r1 old bytes given → Takes r1 r2 old.taken new.taken b1 → Ends old b1 new r2 → r0 ≡ Some input → IsAllRead input r2
 all_is_read {r0} {r1} {r2} {old} {new} {bytes} {b1} {given} input f t d e =
     let (left1, told1) = told_after r1 r0 bytes input f.left e in

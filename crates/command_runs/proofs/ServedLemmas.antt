@@ -5,7 +5,7 @@ use Rattle.line_feed.specs.SoFar.{WasRead}
 use Rattle.io_edge.specs.Outside.{Told}
 use Rattle.command_runs.specs.Served.{NoFault}
 
--- what counts no fault has not failed
+-- a call without a fault has not failed
 pub no_failure : {failed : Type 0} → NoFault failed → failed → ⊥
 no_failure none f = none.steady (none.cause.rose f)
 

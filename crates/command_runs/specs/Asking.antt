@@ -1,4 +1,4 @@
--- How the one game of an input is read: its line, and then the end of the input.
+-- How the one game of an input is read: first its line, and then the end of the input.
 use Rattle.std.specs.Prelude.{◌≡◌, ◌≢◌, ◌⊎◌, ℕ, ◌<◌, ◌≤◌, false, List, length, codes, Result, Ok, Err}
 use Rattle.io_edge.specs.Outside.{Told}
 use Rattle.hive_model.specs.Courses.{Course, position}
@@ -15,37 +15,37 @@ use Rattle.command_runs.specs.declared.no_game.NoGame.TheVariants.{Bad, ReadFaul
 
 -- A game
 
--- a game under way is at the end of a game that was read
+-- The game in progress has reached the end of a game that was read.
 pub record IsReplayOf (course : Course) (game : Parsed) : Type 0 where
   pub kind : course.game_type ≡ game.game_type
   pub made : course.made ≡ game.moves
 
--- a game under way goes on, and has at most 5,000 moves
+-- The game in progress is not over, and has at most 5,000 moves.
 pub record IsUnderWay (course : Course) : Type 0 where
   pub open_ : is_over (position course) ≡ false
   pub few : length course.made ≤ 5000
 
--- the answer is a game, and the game under way is at its end
+-- The answer is a game, and the game in progress has reached its end.
 abbrev pub Resumes : Course → Result Parsed (List ℕ) → Type 0
 Resumes course answer = (game : Parsed) × (answer ≡ Ok game) × IsReplayOf course game
 
 -- No game
 
--- the line that gives this reason is to be written, or memory is wanting
+-- The line with this reason is to be written, or memory ran out.
 abbrev pub Says : NoGame → List ℕ → Type 0
 Says (Bad text) why = text ≡ bad_line why
 Says ReadFault why = ⊥
 Says InputFull why = ⊥
 Says Memory why = Unit {0}
 
--- the same for a fault of a text; want of memory is none
+-- The same for a fault of a text. Running out of memory is not one.
 abbrev pub SaysFault : NoGame → GameFault → Type 0
 SaysFault (Bad text) fault = (fault ≢ NoMemory) × (text ≡ bad_line (reason fault))
 SaysFault ReadFault fault = ⊥
 SaysFault InputFull fault = ⊥
 SaysFault Memory fault = Unit {0}
 
--- the answer is no game, and the line with its reason is to be written; or memory is wanting
+-- The answer is not a game, and the line with its reason is to be written; or memory ran out.
 abbrev pub Lacks : NoGame → Result Parsed (List ℕ) → Type 0
 Lacks (Bad text) answer = (why : List ℕ) × (answer ≡ Err why) × (text ≡ bad_line why)
 Lacks ReadFault answer = ⊥
@@ -54,7 +54,7 @@ Lacks Memory answer = Unit {0}
 
 -- The reading
 
--- these bytes were read, and the reader is within its limit and holds little
+-- These bytes were read. The reader is within its limit and holds little.
 pub record WereTaken (bytes : List ℕ) (old new : Reading) (before after : Told) : Type 0 where
   pub takes : Takes before after old.taken new.taken bytes
   pub within : new.taken ≤ input_limit
@@ -64,18 +64,18 @@ pub record WereTaken (bytes : List ℕ) (old new : Reading) (before after : Told
 abbrev pub GivesLine : List ℕ → Reading → Reading → Told → Type 0
 GivesLine bytes old new rest = (line : Line) × Gives old bytes line new rest
 
--- the line that was given is a game, and the game under way is at its end
+-- The line that was given is a game, and the game in progress has reached its end.
 abbrev pub GivesGame : Course → List ℕ → Reading → Reading → Told → Type 0
 GivesGame course bytes old new rest =
     (line : Line) × Gives old bytes line new rest × Resumes course (game_in line)
 
--- the line that was given is no game, for this reason
+-- The line that was given is not a game, for this reason.
 abbrev pub GivesOther : List ℕ → List ℕ → Reading → Reading → Told → Type 0
 GivesOther why bytes old new rest =
     (line : Line) × Gives old bytes line new rest × (game_in line ≡ Err why)
 
--- No game was read: the line is none, there is no line, a read has failed, the limit is reached, or
--- memory is wanting.
+-- No game was read: the line is not one, there is no line, a read failed, the limit was reached, or
+-- memory ran out.
 abbrev pub GivesNone : NoGame → List ℕ → Reading → Reading → Told → Type 0
 GivesNone (Bad text) bytes old new rest =
     ((why : List ℕ) × GivesOther why bytes old new rest × (text ≡ bad_line why))
@@ -84,8 +84,8 @@ GivesNone ReadFault bytes old new rest = Holds old bytes new × (new.taken < inp
 GivesNone InputFull bytes old new rest = Holds old bytes new × (new.taken ≡ input_limit)
 GivesNone Memory bytes old new rest = GivesLine bytes old new rest ⊎ Ends old bytes new rest
 
--- The input did not end: a line was given, a read has failed, the limit is reached, or memory is
--- wanting for the line that says so.
+-- The input did not end: a line was given, a read failed, the limit was reached, or memory ran out
+-- for the line that says so.
 abbrev pub GoesOn : NoGame → List ℕ → Reading → Reading → Told → Type 0
 GoesOn (Bad text) bytes old new rest =
     GivesLine bytes old new rest × (text ≡ bad_line (codes "more lines"))

@@ -5,18 +5,18 @@ use Rattle.io_edge.specs.Lines.{Line, lines}
 use Rattle.line_feed.specs.Feed.{HoldsLittle, Reading, input_limit, pending}
 use Rattle.line_feed.specs.SoFar.{WasRead}
 
--- what is told of both sides of a run: the bytes that the source has left, and those that the sink
--- took
+-- What is known of both sides of a run: the bytes that the source has left, and those that the sink
+-- took.
 pub record Sides : Type 0 where
   pub rest : Told
   pub written : Told
 
--- what holds of the bytes of a source, where it tells them
+-- a claim about the bytes of a source, if they are known
 abbrev pub WhereTold : Told → (List ℕ → Type 0) → Type 0
 WhereTold told claim = (input : List ℕ) → told ≡ Some input → claim input
 
--- These are first lines of the input. The bytes that have left the source are within the limit:
--- they are those lines, and what a reader still holds, the front of one line and at most one piece
+-- These are the first lines of the input. The bytes that have left the source are within the limit.
+-- They are those lines, and what a reader still holds: a prefix of one line and at most one piece
 -- beyond it.
 pub record AreRead (input : List ℕ) (rest : Told) (read : List Line) (bytes left : List ℕ)
     (reader : Reading) (others : List Line) : Type 0 where
@@ -31,7 +31,7 @@ WereRead input rest read =
     (bytes : List ℕ) × (left : List ℕ) × (reader : Reading) × (others : List Line)
     × AreRead input rest read bytes left reader others
 
--- the input, which is below the limit, was read to its end
+-- The input, which is below the limit, was read to its end.
 pub record IsAllRead (input : List ℕ) (rest : Told) : Type 0 where
   pub at_end : rest ≡ Some []
   pub below : length input < input_limit

@@ -1,5 +1,5 @@
--- Input that is to be one line, a game that is not over: the game, or why there is none; and what
--- was read to know it.
+-- Input that must be one line, a game that is not over: the game, or why there is none, and what
+-- was read to find that out.
 use Rattle.std.specs.Prelude.{◌≡◌, ℕ, ◌≤◌, List, [], ◌∷◌, ◌++◌, length, codes, Result, Ok, Err, if◌then◌else◌}
 use Rattle.io_edge.specs.Outside.{Told}
 use Rattle.hive_model.specs.Positions.{Position, opening}
@@ -25,12 +25,12 @@ abbrev pub open_game : Result Parsed GameFault → Result Parsed (List ℕ)
 open_game (Ok game) = if_open game
 open_game (Err fault) = Err (reason fault)
 
--- the game of a line, which is not over, or why there is none
+-- the game of a line, if it is not over, or why there is none
 unfoldable pub game_in : Line → Result Parsed (List ℕ)
 game_in (Text bytes) = open_game (game_of bytes)
 game_in LongLine = Err (codes "line too long")
 
--- a game after which no line comes, not even an empty one
+-- The game must be followed by no further line, not even an empty one.
 abbrev pub and_no_more : Result Parsed (List ℕ) → List Line → Result Parsed (List ℕ)
 and_no_more (Err why) others = Err why
 and_no_more (Ok game) [] = Ok game
@@ -45,7 +45,7 @@ asked (line ∷ others) = and_no_more (game_in line) others
 abbrev pub AsksOne : List ℕ → Type 0
 AsksOne input = (game : Parsed) × (asked (lines input) ≡ Ok game)
 
--- the line that is written where there is no such game
+-- the line that is written if there is no such game
 abbrev pub bad_line : List ℕ → List ℕ
 bad_line why = codes "bad " ++ (why ++ 10 ∷ [])
 
@@ -54,8 +54,7 @@ pub record IsAsked (input : List ℕ) (rest : Told) (game : Parsed) : Type 0 whe
   pub asks : asked (lines input) ≡ Ok game
   pub over : IsAllRead input rest
 
--- The input asks about no game, for this reason. The lines that were read show it, and are two at
--- most.
+-- The input asks about no game, for this reason. The lines that were read, at most two, show it.
 pub record IsBad (input : List ℕ) (rest : Told) (why : List ℕ) : Type 0 where
   pub asks : asked (lines input) ≡ Err why
   pub read : List Line
@@ -63,18 +62,18 @@ pub record IsBad (input : List ℕ) (rest : Told) (why : List ℕ) : Type 0 wher
   pub shown : asked read ≡ Err why
   pub few : length read ≤ 2
 
--- lines that do not show yet what is to be answered: none, or one that is a game not over
+-- Lines that do not yet determine the answer: none, or one that is a game not over.
 abbrev pub AreUndecided : List Line → Type 0
 AreUndecided [] = Unit {0}
 AreUndecided (line ∷ []) = (game : Parsed) × (game_in line ≡ Ok game)
 AreUndecided (line ∷ (other ∷ others)) = ⊥
 
--- the bytes that have left the source are these, and their lines that end in LF do not show yet
--- what is to be answered
+-- The bytes that have left the source are these, and their lines that end in an LF do not yet
+-- determine the answer.
 pub record IsUndecided (input : List ℕ) (rest : Told) (bytes left : List ℕ) : Type 0 where
   pub was_read : WasRead input rest bytes left
   pub undecided : AreUndecided (whole_lines bytes)
 
--- two lines were read at most
+-- At most two lines were read.
 abbrev pub FewWereRead : List ℕ → Told → Type 0
 FewWereRead input rest = (read : List Line) × WereRead input rest read × (length read ≤ 2)

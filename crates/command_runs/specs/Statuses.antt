@@ -3,7 +3,7 @@ use Rattle.std.specs.Prelude.{ℕ}
 use Rattle.command_runs.specs.declared.status.Status.{Status}
 use Rattle.command_runs.specs.declared.status.Status.TheVariants.{Done, Refused, Usage, ReadFault, WriteFault, SpawnFault, BadInput, Memory, InputFull}
 
--- the number of a status, with which the program ends
+-- the number of a status, which is the exit code of the program
 abbrev pub number : Status → ℕ
 number Done = 0
 number Refused = 1

@@ -1,19 +1,19 @@
--- All that the run of a command can change, and what it leaves alone.
+-- All that the run of a command can change, and what it leaves unchanged.
 use Rattle.std.specs.Prelude.{◌≡◌, ℕ, List}
 use Rattle.io_edge.specs.Outside.{Told}
 use Rattle.io_edge.specs.Starts.{Engines}
 use Rattle.hive_model.specs.declared.best.Timed.{Timed}
 use Rattle.command_runs.specs.Input.{Sides}
 
--- the clock's last reading, how often it was read, and an entry for each search that was answered
--- in a time
+-- The last reading of the clock, how often it was read, and an entry for each timed search that was
+-- answered.
 pub record Times : Type 0 where
   pub last : ℕ
   pub readings : ℕ
   pub timed : List Timed
 
 -- All that the run of a command can change: the input that is left and what was written, the clock
--- and the entries of searches, and what is told of the programs that are started.
+-- and the entries of searches. It also has what is known of the programs that were started.
 pub record World : Type 0 where
   pub sides : Sides
   pub times : Times
@@ -28,24 +28,24 @@ times last readings timed = record { last = last; readings = readings; timed = t
 abbrev pub world : Sides → Times → Engines → World
 world sides times engines = record { sides = sides; times = times; engines = engines }
 
--- the world once this is left of the input, and nothing else is changed
+-- the world after reading so far that this is left of the input, with no other change
 abbrev pub once_read : Told → World → World
 once_read rest w = world (sides rest w.sides.written) w.times w.engines
 
--- the clock was not read, and no search was answered in a time
+-- The clock was not read, and no timed search was answered.
 pub record TakesNoTime (before after : Times) : Type 0 where
   pub last : after.last ≡ before.last
   pub readings : after.readings ≡ before.readings
   pub timed : after.timed ≡ before.timed
 
--- the input that is left is as it was
+-- the input that is left has not changed
 abbrev pub LeavesInput : World → World → Type 0
 LeavesInput before after = after.sides.rest ≡ before.sides.rest
 
--- the clock and the entries are as they were
+-- the clock and the entries have not changed
 abbrev pub LeavesTimes : World → World → Type 0
 LeavesTimes before after = TakesNoTime before.times after.times
 
--- what is told of programs is as it was: none was started or closed
+-- What is known of programs has not changed: none was started or closed.
 abbrev pub LeavesEngines : World → World → Type 0
 LeavesEngines before after = after.engines ≡ before.engines

@@ -1,4 +1,4 @@
-//! Input that is to be one line, a game that is not over.
+//! Reads input that must be one line, a game that is not over.
 ghost use Rattle.std.specs.Prelude.{◌≡◌, ℕ, ◌+◌, ◌≤◌, List, length, Err, IfOk, IfErr, MatchResult};
 ghost use Rattle.io_edge.specs.Outside.{HasCause};
 ghost use Rattle.line_feed.specs.Feed.{Ends};
@@ -33,7 +33,7 @@ use io_edge::Source;
 use line_feed::{LineAnswer, LineReader};
 use std::alloc::Global;
 
-/// That the input is not one game, for this reason.
+/// The error that the input is not one game, for this reason.
 fn bad(alloc: Global, why: &[u8]) -> NoGame
     ensures { Says result why.now }
 {
@@ -43,7 +43,7 @@ fn bad(alloc: Global, why: &[u8]) -> NoGame
     }
 }
 
-/// That a line is no game.
+/// The error that a line is not a game.
 fn bad_game(alloc: Global, fault: GameFault) -> NoGame
     ensures { SaysFault result fault }
 {
@@ -63,7 +63,7 @@ pub fn is_over<G: Game>(game: &G) -> bool
     }
 }
 
-/// The game that was read, under way and with room for so many more plies, if it is not over.
+/// The game that was read, in progress and with room for this many more plies, if it is not over.
 fn begin_again<G: Game + Drop>(alloc: Global, game: Parsed, room: u32) -> Result<G, NoGame>
     requires legal { IsGame game.game_type game.moves }
     requires few { length game.moves ≤ 5000 }
@@ -80,7 +80,8 @@ fn begin_again<G: Game + Drop>(alloc: Global, game: Parsed, room: u32) -> Result
     Ok(under_way)
 }
 
-/// The game that the text is, under way and with room for so many more plies, if it is not over.
+/// The game that the text is, in progress and with room for this many more plies, if it is not
+/// over.
 fn game_of<G: Game + Drop>(alloc: Global, text: &[u8], room: u32) -> Result<G, NoGame>
     requires short { length text.now ≤ greatest_line }
     requires few { room ≤ 64 }
@@ -95,8 +96,8 @@ fn game_of<G: Game + Drop>(alloc: Global, text: &[u8], room: u32) -> Result<G, N
     }
 }
 
-/// Reads the first line, which is to be a game that is not over. The game is under way at the end
-/// of its moves, with room for so many more plies. What stands behind the line is not looked at.
+/// Reads the first line, which must be a game that is not over. The game has reached the end of its
+/// moves and has room for this many more plies. What follows the line is not checked.
 pub fn first_game<S: Source, G: Game + Drop>(
     alloc: Global,
     reader: &mut LineReader,
@@ -123,8 +124,7 @@ pub fn first_game<S: Source, G: Game + Drop>(
     }
 }
 
-/// Reads on to the end of the input, before which no further line is to come, not even an empty
-/// one.
+/// Reads on to the end of the input. No further line may come before it, not even an empty one.
 fn no_more_lines<S: Source>(
     alloc: Global,
     reader: &mut LineReader,
@@ -146,10 +146,9 @@ fn no_more_lines<S: Source>(
     }
 }
 
-/// Reads the input, which is to be one line, a game that is not over, to its end. The game is under
-/// way at the end of its moves, of which there are at most 5,000, with room for so many more plies.
-/// A line that shows that the input
-/// is none is the last that is read.
+/// Reads the input to its end. It must be one line, a game that is not over. The game has reached
+/// the end of its moves, at most 5,000, and has room for this many more plies. The first line that
+/// shows that the input is not such a game is the last one read.
 pub fn read_one_game<S: Source, G: Game + Drop>(
     alloc: Global,
     input: &mut S,

@@ -7,7 +7,7 @@ use crate::no_game::NoGame;
 use crate::status::Status;
 use io_edge::{Sink, write_all};
 
-/// Writes a text with which the run ends so; where a write fails it ends by `WriteFault`.
+/// Writes a text and ends the run with this status, or with `WriteFault` if a write fails.
 pub fn end_with<K: Sink>(text: &[u8], status: Status, output: &mut K) -> Status
     requires { status ≢ Status.WriteFault }
     ensures told { WritesAs text.now status result (K.written output.old) (K.written output.new) }
@@ -21,7 +21,7 @@ pub fn end_with<K: Sink>(text: &[u8], status: Status, output: &mut K) -> Status
     }
 }
 
-/// Writes the line that says why the input is not one game, where that is its fault.
+/// Writes the line that says why the input is not one game, if the input is at fault.
 pub fn tell_none<K: Sink>(none: NoGame, output: &mut K) -> Status
     ensures told { TellsNone none result (K.written output.old) (K.written output.new) }
     ensures cause { HasCause (result ≡ Status.WriteFault) (K.write_faults output.old)

@@ -8,9 +8,9 @@ use std::alloc::AllocError;
 /// Why the input is not one line, a game that is not over.
 #[derive(Drop)]
 pub enum NoGame {
-    /// It is something else: the line that says what, its LF included.
+    /// The input is something else. This is the line that says what, with its LF.
     Bad(ReplyText),
-    /// A read of the input has failed.
+    /// A read of the input failed.
     ReadFault,
     /// The input has 1,099,511,627,776 bytes or more before its end.
     InputFull,

@@ -1,4 +1,4 @@
-//! Why a text is no game, and the lines that say so.
+//! The reasons for which a text is not a game, and the lines that state them.
 ghost use Rattle.std.specs.Prelude.{◌≡◌, ◌≢◌, [], ◌∷◌, ◌++◌, decimal, IfOk, OnOk};
 ghost use Rattle.command_runs.specs.Reasons.{reason};
 
@@ -7,7 +7,7 @@ use hive_model::ReplyText;
 use itoa::Buffer;
 use std::alloc::{AllocError, Global};
 
-/// These bytes.
+/// A copy of these bytes.
 fn reason_text(alloc: Global, bytes: &[u8]) -> Result<ReplyText, AllocError>
     ensures { IfOk result (λ t. t ≡ bytes.now) }
 {
@@ -16,7 +16,7 @@ fn reason_text(alloc: Global, bytes: &[u8]) -> Result<ReplyText, AllocError>
     Ok(text)
 }
 
-/// These bytes, and behind them a number.
+/// These bytes, followed by a number.
 pub fn numbered(alloc: Global, bytes: &[u8], number: u64) -> Result<ReplyText, AllocError>
     ensures { IfOk result (λ t. t ≡ bytes.now ++ decimal number) }
 {
@@ -26,7 +26,7 @@ pub fn numbered(alloc: Global, bytes: &[u8], number: u64) -> Result<ReplyText, A
     Ok(text)
 }
 
-/// Why a text is no game. Want of memory is no fault of the text, and is passed on.
+/// Why a text is not a game. Running out of memory is not a fault of the text, and is passed on.
 pub fn reason_of(alloc: Global, fault: GameFault) -> Result<ReplyText, AllocError>
     ensures reason { IfOk result (λ t. t ≡ reason fault) }
     ensures memory { OnOk result (fault ≢ GameFault.Memory) }
@@ -43,7 +43,7 @@ pub fn reason_of(alloc: Global, fault: GameFault) -> Result<ReplyText, AllocErro
     }
 }
 
-/// A line of two parts, its LF included.
+/// A line of two parts, with its LF.
 pub fn line_for(alloc: Global, start: &[u8], why: &[u8]) -> Result<ReplyText, AllocError>
     ensures { IfOk result (λ t. t ≡ start.now ++ (why.now ++ 10 ∷ [])) }
 {

@@ -2,18 +2,18 @@
 ghost use Rattle.std.specs.Prelude.{◌≡◌};
 ghost use Rattle.command_runs.specs.Statuses.{number};
 
-/// How a run ended. The program ends with the status's number, 0 to 8 in this order.
+/// How a run ended. The exit code of the program is the number of the status, 0 to 8 in this order.
 #[derive(Clone, Copy, Debug, PartialEq, Eq)]
 pub enum Status {
     /// All was done, and the input was read to its end, or to the line that ends the run.
     Done,
-    /// What was given to be checked does not hold.
+    /// What was to be checked does not hold.
     Refused,
-    /// The words of the command line ask for nothing that the program does.
+    /// The command line does not ask for anything that the program does.
     Usage,
-    /// A read of the input has failed.
+    /// A read of the input failed.
     ReadFault,
-    /// A write of the output has failed.
+    /// A write of the output failed.
     WriteFault,
     /// A program could not be started.
     SpawnFault,

@@ -39,14 +39,14 @@ seam (x ∷ front) line rest k less =
     let e : length (x ∷ front) + k ≡ suc (length front + k) = omega arith in
     ap (λ n. take n (((x ∷ front) ++ line) ++ rest)) e ∙ ap (λ xs. x ∷ xs) (seam front line rest k less)
 
--- the line for n was written behind those before
+-- the line for n was written after those before it
 pub count_on : (p : Position) (n lists : ℕ) (line : List ℕ) (w0 w1 w2 : Told) → 1 ≤ n → line ≡ count_line_of n lists → lists ≡ lines_of_play p n → w1 ≡ behind w0 (count_text p (n - 1)) → w2 ≡ behind w1 line
     → w2 ≡ behind w0 (count_text p n)
 count_on p n lists line w0 w1 w2 low is count before wrote =
     on_written w0 w1 w2 (count_text p (n - 1)) line before wrote
     ∙ ap (behind w0) (ap (λ x. count_text p (n - 1) ++ x) (is ∙ ap (count_line_of n) count) ∙ sym (text_next p n low))
 
--- of the line for n a part was written behind those before
+-- an initial part of the line for n was written after those before it
 pub count_cut : (p : Position) (n plies lists : ℕ) (line : List ℕ) (w0 w1 w2 : Told) → 1 ≤ n → n ≤ plies → line ≡ count_line_of n lists → lists ≡ lines_of_play p n → w1 ≡ behind w0 (count_text p (n - 1))
     → (k : ℕ) × (k < length line) × (w2 ≡ behind w1 (take k line)) → (m : ℕ) × (m < length (count_text p plies)) × (w2 ≡ behind w0 (take m (count_text p plies)))
 count_cut p n plies lists line w0 w1 w2 low high is count before (k, less, wrote) =

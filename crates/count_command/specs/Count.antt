@@ -7,7 +7,7 @@ use Rattle.command_runs.specs.Input.{Sides}
 use Rattle.command_runs.specs.GameRun.{Answers, GameRun}
 use Rattle.command_runs.specs.declared.status.Status.{Status}
 
--- the line for a number of plies and a number of lists: the one, a space (32), the other
+-- the line for a number of plies and a number of lists: the first, a space (32), the second
 abbrev pub count_line_of : ℕ → ℕ → List ℕ
 count_line_of plies lists = decimal plies ++ 32 ∷ (decimal lists ++ 10 ∷ [])
 
@@ -20,10 +20,10 @@ abbrev pub count_text : Position → ℕ → List ℕ
 count_text p zero = []
 count_text p (suc n) = count_text p n ++ count_line p (suc n)
 
--- a game is answered by the counts of its last position
+-- the answer to a game: the counts of its last position
 abbrev pub counts_of : ℕ → Answers
 counts_of plies game text = text ≡ count_text (last_position game) plies
 
--- what was written and read where a count of up to so many plies ends with this status
+-- what was written and read if a count of up to this number of plies ends with this status
 abbrev pub CountRun : ℕ → Status → Sides → Sides → Type 0
 CountRun plies status before after = GameRun (counts_of plies) status before after

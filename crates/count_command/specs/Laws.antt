@@ -4,7 +4,7 @@ use Rattle.command_runs.specs.OneGame.{AsksOne}
 use Rattle.command_runs.specs.Served.{RunsAreDone}
 use Rattle.count_command.specs.Count.{CountRun}
 
--- Where the streams served the run, and its input is exactly one line, a game that is not over, it
--- is done, unless memory is wanting.
+-- For an input that is exactly one line, a game that is not over: if no read or write failed, the
+-- run is done, unless memory ran out.
 abbrev pub CountsAreDone : Type 0
 CountsAreDone = (plies : ℕ) → RunsAreDone (CountRun plies) AsksOne

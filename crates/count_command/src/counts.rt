@@ -1,4 +1,4 @@
-//! How many lists of legal moves the game of the input can go on with.
+//! Counts the lists of legal moves with which the game of the input can go on.
 ghost use Rattle.std.specs.Prelude.{◌≡◌, ℕ, ◌<◌, ◌≤◌, false, length, take};
 ghost use Rattle.std.specs.Bool.{OnTrue, OnFalse};
 ghost use Rattle.io_edge.specs.Outside.{HasCause, behind};
@@ -15,7 +15,7 @@ use itoa::Buffer;
 use plain_search::{MoveCounts, count_lines};
 use std::alloc::Global;
 
-/// The line for a number of plies and a number of lists, its LF included.
+/// The line for a number of plies and a number of lists, with its LF.
 fn count_line(plies: u32, lists: u128) -> ArrayString<96>
     ensures { result.bytes ≡ count_line_of plies lists }
 {
@@ -28,8 +28,8 @@ fn count_line(plies: u32, lists: u128) -> ArrayString<96>
     line
 }
 
-/// How many positions whose moves were counted are kept. While a game is young, or where few plies
-/// are counted, keeping them costs more than it saves.
+/// How many positions keep the count of their moves. In a young game, or for few plies, keeping
+/// them costs more than it saves.
 fn room_for<G: Game>(game: &G, plies: u32) -> u32 {
     if plies >= 4 && game.plies() >= 12 {
         131_072
@@ -38,8 +38,8 @@ fn room_for<G: Game>(game: &G, plies: u32) -> u32 {
     }
 }
 
-/// Writes for each number of plies from 1 on its line as soon as it is known. The answer is whether
-/// all were written.
+/// Writes the line for each number of plies from 1 on as soon as it is known. The answer is whether
+/// all lines were written.
 fn write_counts<K: Sink, G: Game>(
     game: &mut G,
     plies: u32,
@@ -97,11 +97,12 @@ fn tell_counts<K: Sink, G: Game + Drop>(
     }
 }
 
-/// Reads the one game of the input, and writes for each number of plies, from 1 to at most 8, how
-/// many lists of so many legal moves it can go on with: the number of plies, a space and the count,
-/// each on a line of its own, as soon as it is known. It is `Done` then. Where the input is not one
-/// game that is not over, one line that begins with `bad` says why, and it is `BadInput`. A read
-/// that fails, a full input and want of memory end the run with nothing written.
+/// Reads the one game of the input. For each number of plies n, from 1 to at most 8, it writes how
+/// many lists of n legal moves the game can go on with. Each line has the number of plies, a space
+/// and the count, and is written as soon as it is known. The status is then `Done`. If the input is
+/// not exactly one game that is not over, one line that begins with `bad` says why, and the status
+/// is `BadInput`. If a read fails, the input is full or memory runs out, the run ends with nothing
+/// written.
 pub fn count<S: Source, K: Sink, G: Game + Drop>(
     alloc: Global,
     plies: u32,

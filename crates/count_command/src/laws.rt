@@ -2,8 +2,9 @@
 
 ghost use Rattle.count_command.specs.Laws.{CountsAreDone};
 
-/// A count whose input is exactly one line, a game string of a game that is not over, ends with
-/// `Done`, or for want of memory, where neither the source nor the sink counted a fault.
+/// The law covers a count whose input is exactly one line, a game string of a game that is not
+/// over. If neither the source nor the sink counted a fault, the run ends with `Done`, or because
+/// memory ran out.
 pub fn counts_are_done()
     ensures { CountsAreDone }
 {}

@@ -1,4 +1,4 @@
-//! The command that counts how many lists of legal moves a game can go on with.
+//! The command `count` (perft): how many lists of legal moves a game can go on with.
 #![tactic(auto)]
 
 mod counts;

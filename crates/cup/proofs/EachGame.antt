@@ -23,7 +23,7 @@ same-map R f same [] (y ∷ ys) all = absurd all
 same-map R f same (x ∷ xs) [] all = absurd all
 same-map R f same (x ∷ xs) (y ∷ ys) all = ap (λ v. v ∷ map f ys) (same x y all.0) ∙ ap (λ vs. f x ∷ vs) (same-map R f same xs ys all.1)
 
--- where each game has a referee, each was played
+-- if each game has a referee, each was played
 pub all-run : (xs ys : List Job) → AllZip IsPlayedOrNot xs ys → All (λ j. j.referee ≢ None) ys → AllZip IsPlayed xs ys
 all-run [] [] all some = tt
 all-run [] (y ∷ ys) all some = absurd all

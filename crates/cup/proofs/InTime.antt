@@ -1,4 +1,4 @@
--- Where engines are asked to a depth no answer is late.
+-- If engines are asked to a depth, no answer is late.
 use Rattle.std.specs.Prelude.{nat_le}
 use Rattle.std.proofs.Common.{ℕ, cond, List, [], ◌∷◌, length, subst, sym, Result, Ok, Err, Some}
 use Rattle.std.specs.Bool.{⊤}
@@ -28,7 +28,7 @@ use Rattle.match_runner.proofs.Endings.{by_end}
 use Rattle.match_runner.specs.Runs.{Ran, Run, Cut, IsLate}
 use Rattle.cup.specs.Played.{IsDepth}
 
--- a place where the clock is not read
+-- a stage at which the clock is not read
 abbrev IsTimeless : Stage → Type 0
 IsTimeless (Send job side) = ⊤
 IsTimeless (Read job side) = ⊤

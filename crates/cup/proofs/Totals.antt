@@ -96,7 +96,7 @@ worth-both None = refl
 worth-both (Some White) = refl
 worth-both (Some Black) = refl
 
--- all engines together get 2 points of a game
+-- all engines together get 2 points for a game
 game-total : (n : ℕ) (g : Pairing × Verdict) → IsInCup n g.0 → sum_by (λ e. gets e g) (numbers n) ≡ 2
 game-total n g in_ =
     sym (sum-plus (λ e. cond (nat_eq g.0.white e) (points_of g.1 White) 0) (λ e. cond (nat_eq g.0.black e) (points_of g.1 Black) 0) (numbers n))

@@ -34,7 +34,7 @@ state_winner Draw = None
 state_winner WhiteWins = Some White
 state_winner BlackWins = Some Black
 
--- the side that won by the rules, or since the other one forfeited
+-- the side that won, by the rules or because the other one forfeited
 abbrev pub winner : Verdict → Option Colour
 winner (Rules s) = state_winner s
 winner Limit = None
@@ -48,7 +48,7 @@ worth (Some w) side = if is_colour w side then 2 else 0
 abbrev pub points_of : Verdict → Colour → ℕ
 points_of v side = worth (winner v) side
 
--- what an engine gets of a game with its verdict
+-- the points of an engine for a game with its verdict
 abbrev pub gets : ℕ → Pairing × Verdict → ℕ
 gets e g =
     (if nat_eq g.0.white e then points_of g.1 White else 0)
@@ -60,7 +60,7 @@ points n vs e = sum_by (gets e) (zip (pairings n) vs)
 
 -- Standings
 
--- 1 where an engine plays in a game
+-- 1 if the engine plays in the game
 abbrev pub plays : ℕ → Pairing → ℕ
 plays e g = if nat_eq g.white e || nat_eq g.black e then 1 else 0
 
@@ -69,11 +69,11 @@ abbrev pub standing : ℕ → List Verdict → ℕ → Standing
 standing n vs e =
     record { engine = e; points = points n vs e; games = sum_by (plays e) (pairings n) }
 
--- more points, or as many and the lower number
+-- more points, or equal points and the lower number
 abbrev pub is_ahead : Standing → Standing → Bool
 is_ahead a b = nat_lt b.points a.points || nat_eq a.points b.points && nat_lt a.engine b.engine
 
--- each is ahead of all behind it
+-- each is ahead of all after it
 abbrev pub IsInOrder : List Standing → Type 0
 IsInOrder [] = Unit {0}
 IsInOrder (s ∷ ss) = Each (λ t. IsTrue (is_ahead s t)) ss × IsInOrder ss

@@ -1,4 +1,4 @@
--- The games of a cup, and what it is that one was played.
+-- The games of a cup, and what it means that one was played.
 use Rattle.std.specs.Prelude.{◌≡◌, ◌≢◌, ◌⊎◌, ℕ, List, map, Option, Some, None, IsSomeAnd, ⊤}
 use Rattle.match_core.specs.declared.setup.Level.{Level}
 use Rattle.match_core.specs.declared.setup.Level.TheVariants.{Depth, Time}
@@ -13,8 +13,7 @@ use Rattle.cup.specs.declared.pairing.Pairing.{Pairing}
 use Rattle.cup.specs.declared.standing.Standing.{Standing as Place}
 use Rattle.cup.specs.Cup.{AreStandings}
 
--- a game of a cup: two engines, a link to each, what is played by, and the referee once it was
--- played
+-- a game of a cup: two engines, a link to each, the setup, and the referee once it was played
 pub record Job : Type 0 where
   pub white : ℕ
   pub black : ℕ
@@ -23,7 +22,7 @@ pub record Job : Type 0 where
   pub setup : Setup
   pub referee : Option MatchState
 
--- a game that was not played, by this setup and over these links
+-- a game that was not played yet, with this setup and these links
 abbrev pub ready : Setup → Pairing → Wire → Wire → Job
 ready setup game white black = record {
   white = game.white;
@@ -45,7 +44,7 @@ pub record IsJob (white black : ℕ) (setup : Setup) : Type 0 where
   pub valid : IsSetup setup
   pub depth : IsDepth setup.level
 
--- the match of these two links was run by the referee, and its verdict is never a late answer
+-- the referee ran the match over these two links, and its verdict is never a late answer
 pub record IsRefereed (setup : Setup) (r : MatchState)
     (white0 white black0 black : Wire) : Type 0 where
   pub links : RanLinks (setup_plain setup) r white0 white black0 black
@@ -57,7 +56,7 @@ pub record IsSameGame (old new : Job) : Type 0 where
   pub black : new.black ≡ old.black
   pub setup : new.setup ≡ old.setup
 
--- the game was played over the links as they stood before
+-- the game was played over the links in their earlier state
 abbrev pub IsPlayed : Job → Job → Type 0
 IsPlayed old new =
     IsSomeAnd new.referee
@@ -67,7 +66,7 @@ IsPlayed old new =
 abbrev pub IsPlayedOrNot : Job → Job → Type 0
 IsPlayedOrNot old new = (new.referee ≡ None) ⊎ IsPlayed old new
 
--- what became of a game: it is the same game, and it was played or has no referee
+-- the result for a game: it is the same game, and it was played or has no referee
 pub record IsSettled (old new : Job) : Type 0 where
   pub same : IsSameGame old new
   pub settled : IsPlayedOrNot old new
@@ -82,7 +81,7 @@ pairing j = record { white = j.white; black = j.black }
 abbrev pub HasVerdict : Job → Type 0
 HasVerdict j = IsSomeAnd j.referee IsJudged
 
--- the verdict of the referee, where there is one
+-- the verdict of the referee, if there is one
 abbrev pub verdict_of : Option MatchState → Option Verdict
 verdict_of None = None
 verdict_of (Some r) = r.verdict

@@ -1,6 +1,7 @@
-//! What is called before each game of a cup.
+//! A hook that is called before each game of a cup.
 
-/// What is called before each game. It has a say in nothing: it is handed no job, and it returns.
+/// A hook that is called before each game. It cannot influence the cup: it is handed no job, and it
+/// returns.
 pub trait CupGate {
     /// The game at this place, counted from 0, is about to begin.
     fn before_game(&self, game: u32);

@@ -12,9 +12,9 @@ use match_runner::run_match;
 use std::alloc::{AllocError, Global};
 use std::marker::Model;
 
-/// A game of a cup: the numbers of two engines, a link to each, what is played by, and the referee
-/// once it was played. Of a link is seen what is to be read, what was written, and how often each
-/// has failed.
+/// A game of a cup: the numbers of two engines, a link to each, the setup, and the referee once it
+/// was played. Contracts see what a link has left to read, what was written to it, and how often
+/// its calls have failed.
 #[derive(Drop)]
 pub struct CupJob<L: Link, G: Game> {
     white: u32,
@@ -46,7 +46,7 @@ impl<L: Link, G: Game> Model for CupJob<L, G> {
 }
 
 impl<L: Link, G: Game + Drop> CupJob<L, G> {
-    /// A game of two different engines that was not played. Engines are asked to a depth.
+    /// A game of two different engines that was not played yet. Engines are asked to a depth.
     pub fn new(game: Pairing, white_link: L, black_link: L, setup: Setup) -> CupJob<L, G>
         requires game { IsJob game.white game.black setup }
         ensures { result ≡ ready setup game
@@ -65,9 +65,9 @@ impl<L: Link, G: Game + Drop> CupJob<L, G> {
         }
     }
 
-    /// Plays the game: the referee is then that of a match over the two links, whatever was there
-    /// before. Engines and setup stay. After want of memory the game counts as not played, and its
-    /// links are where the calls so far left them.
+    /// Plays the game. The referee is then that of a match over the two links, whatever was there
+    /// before. Engines and setup stay. If memory ran out, the game counts as not played, and its
+    /// links are as the calls so far left them.
     pub(crate) fn play(&mut self, alloc: Global) -> Result<(), AllocError>
         ensures same { IsSameGame self.old self.new }
         ensures played { OnOk result (IsPlayed self.old self.new) }
@@ -88,7 +88,7 @@ impl<L: Link, G: Game + Drop> CupJob<L, G> {
         Ok(())
     }
 
-    /// The referee of the game that was played, and None before.
+    /// The referee of the game once it was played, and `None` before.
     pub fn referee(&self) -> Option<&Referee<G>>
         ensures { MatchOption result (self.now.referee ≡ None)
             (λ r. self.now.referee ≡ Some r.now) }
@@ -96,7 +96,7 @@ impl<L: Link, G: Game + Drop> CupJob<L, G> {
         self.referee.as_ref()
     }
 
-    /// The two links as they stand, white's first.
+    /// The two links as they are, white's first.
     pub fn links(self) -> (L, L)
         ensures white { wire (L.rest result.0) (L.written result.0) (L.read_faults result.0)
             (L.write_faults result.0) ≡ self.white_link }

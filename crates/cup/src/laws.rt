@@ -2,8 +2,7 @@
 
 ghost use Rattle.cup.specs.Laws.{PointsAddUp};
 
-/// With n engines the points of all of them add up to twice n times n less 1, whatever the
-/// verdicts.
+/// With n engines the points of all of them add up to 2n(n - 1), whatever the verdicts.
 pub fn points_add_up()
     ensures { PointsAddUp }
 {}

@@ -1,5 +1,4 @@
-//! A cup: who plays whom, its games, each over links of its own, what each game is worth, and the
-//! standings.
+//! A cup: its pairings, its games, each over links of its own, their points, and the standings.
 #![tactic(auto)]
 
 mod gate;

@@ -5,8 +5,7 @@ ghost use Rattle.cup.specs.Cup.{pairings, row};
 
 use std::alloc::{AllocError, Global};
 
-/// A game of a cup: the number of the engine that plays white, and of the one that plays black,
-/// both from 1 on.
+/// A game of a cup: the numbers of the engines that play white and black, counted from 1.
 #[derive(Clone, Copy, Debug, PartialEq, Eq)]
 pub struct Pairing {
     pub white: u32,
@@ -27,8 +26,9 @@ fn push_row(white: u32, engines: u32, games: &mut Vec<Pairing>) -> Result<(), Al
     Ok(())
 }
 
-/// The games of a cup of up to 8 engines: each of them plays white once against each other one, by
-/// the number of white and then of black. The only error is want of memory.
+/// The games of a cup of up to 8 engines. Each engine plays white once against each other one. The
+/// games are ordered by the number of white and then of black. The only error is running out of
+/// memory.
 pub fn pairings(alloc: Global, engines: u32) -> Result<Vec<Pairing>, AllocError>
     requires few { engines ≤ 8 }
     ensures { IfOk result (λ games. games.items ≡ pairings engines) }

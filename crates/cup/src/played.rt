@@ -86,8 +86,9 @@ fn verdicts_of<L: Link, G: Game + Drop>(
     Ok(verdicts)
 }
 
-/// The standings of a cup of 2 to 8 engines whose games were all played: each engine once, the one
-/// with most points first, and equal ones by their number. The only error is want of memory.
+/// The standings of a cup of 2 to 8 engines whose games were all played. Each engine is there once,
+/// the one with most points first, and equal ones by their number. The only error is running out of
+/// memory.
 pub fn standings_of<L: Link, G: Game + Drop>(
     alloc: Global,
     jobs: &[CupJob<L, G>],

@@ -1,4 +1,4 @@
-//! What a game is worth to each side, and to an engine.
+//! The points of a game for each side, and for an engine.
 
 ghost use Rattle.std.specs.Prelude.{◌≡◌, ◌<◌, ◌≤◌, length, slice_get, Some, if◌then◌else◌};
 ghost use Rattle.std.specs.List.{sum_by, zip};
@@ -9,7 +9,7 @@ use crate::pairing::Pairing;
 use hive_model::{Colour, State};
 use match_core::Verdict;
 
-/// The side that won a match: by the rules, or since the other side forfeited.
+/// The side that won a match, by the rules or because the other side forfeited.
 fn winner(verdict: &Verdict) -> Option<Colour>
     ensures { result ≡ winner verdict.now }
 {
@@ -31,8 +31,7 @@ fn winner_of(state: State) -> Option<Colour>
     }
 }
 
-/// What a match is worth to a side: 2 points to the one that won, none to the other, and 1 to each
-/// where neither won.
+/// The points of a side for a match: 2 if it won, 0 if the other side won, and 1 if neither did.
 pub fn points_of(verdict: &Verdict, side: Colour) -> u32
     ensures points { result ≡ points_of verdict.now side }
     ensures few { result ≤ 2 }
@@ -43,7 +42,7 @@ pub fn points_of(verdict: &Verdict, side: Colour) -> u32
     }
 }
 
-/// The points of a side, where the engine plays it.
+/// The points of a side, if the engine plays it; otherwise 0.
 fn points_if(plays: bool, verdict: &Verdict, side: Colour) -> u32
     ensures points { result ≡ (if plays then points_of verdict.now side else 0) }
     ensures few { result ≤ 2 }
@@ -51,7 +50,7 @@ fn points_if(plays: bool, verdict: &Verdict, side: Colour) -> u32
     if plays { points_of(verdict, side) } else { 0 }
 }
 
-/// What an engine gets of one game.
+/// The points of an engine for one game.
 fn gets(engine: u32, game: &Pairing, verdict: &Verdict) -> u32
     ensures points { result ≡ gets engine (game.now, verdict.now) }
     ensures few { result ≤ 4 }
@@ -61,7 +60,7 @@ fn gets(engine: u32, game: &Pairing, verdict: &Verdict) -> u32
     white + black
 }
 
-/// What an engine gets of the game at a place.
+/// The points of an engine for the game at a place.
 fn gets_at(engine: u32, games: &[Pairing], verdicts: &[Verdict], i: usize) -> u32
     requires game { i < length games.now }
     requires verdict { i < length verdicts.now }
@@ -97,7 +96,7 @@ pub(crate) fn all_games(engine: u32, games: &[Pairing]) -> u32
     count
 }
 
-/// 1 where an engine plays in a game, and else 0.
+/// 1 if the engine plays in the game, otherwise 0.
 fn plays(engine: u32, game: Pairing) -> u32
     ensures count { result ≡ plays engine game }
     ensures few { result ≤ 1 }

@@ -3,8 +3,8 @@ ghost use Rattle.std.specs.Prelude.{◌≡◌, ◌<◌, length, map, string_byte
 
 use std::marker::Model;
 
-/// A program that plays in a cup: the text that names it, and its words, the first of which is the
-/// program and the others its arguments.
+/// A program that plays in a cup: the text that names it, and its words. The first word is the
+/// program, and the others are its arguments.
 #[derive(Drop)]
 pub struct Program {
     text: String,
@@ -42,7 +42,7 @@ impl Program {
         self.text.as_bytes()
     }
 
-    /// Its words, the first of which is the program.
+    /// Its words. The first is the program.
     pub fn words(&self) -> &[String]
         ensures some { 0 < length result.now }
         ensures words { map string_bytes result.now ≡ self.now.words }

@@ -14,7 +14,7 @@ use std::thread::{Threads, for_each_mut};
 /// The most games of a cup: those of 8 engines.
 const MOST_GAMES: usize = 56;
 
-/// One game, at this place. Where its match met want of memory it has no referee.
+/// Plays the game at this place. If its match ran out of memory, it has no referee.
 fn run_one<L: Link, G: Game + Drop, T: CupGate>(
     alloc: Global,
     gate: &T,
@@ -27,7 +27,7 @@ fn run_one<L: Link, G: Game + Drop, T: CupGate>(
     let _ = job.play(alloc);
 }
 
-/// All games, each in a thread of its own where one can be made.
+/// Plays all games, each in a thread of its own if one can be made.
 fn run_games<R: Threads + Sync, L: Link + Send, G: Game + Send + Drop, T: CupGate + Sync>(
     rt: &R,
     alloc: Global,
@@ -48,7 +48,7 @@ fn run_games<R: Threads + Sync, L: Link + Send, G: Game + Send + Drop, T: CupGat
     );
 }
 
-/// Want of memory, where a game has no referee.
+/// An error if the game has no referee.
 fn played<L: Link, G: Game + Drop>(job: &CupJob<L, G>) -> Result<(), AllocError>
     ensures ok { OnOk result (job.now.referee ≢ None) }
     ensures err { OnErr result (job.now.referee ≡ None) }
@@ -59,7 +59,7 @@ fn played<L: Link, G: Game + Drop>(job: &CupJob<L, G>) -> Result<(), AllocError>
     }
 }
 
-/// Want of memory, where one of the games has no referee.
+/// An error if one of the games has no referee.
 fn all_played<L: Link, G: Game + Drop>(jobs: &[CupJob<L, G>]) -> Result<(), AllocError>
     ensures ok { OnOk result (All (λ j. j.referee ≢ None) jobs.now) }
     ensures err { OnErr result (Any (λ j. j.referee ≡ None) jobs.now) }
@@ -70,13 +70,13 @@ fn all_played<L: Link, G: Game + Drop>(jobs: &[CupJob<L, G>]) -> Result<(), Allo
     Ok(())
 }
 
-/// Plays the games of a cup, at once where threads can be had, each over links of its own. Before
-/// each game the gate is called with the game's place, counted from 0.
+/// Plays the games of a cup, each over links of its own, at once if threads can be had. Before each
+/// game the gate is called with the game's place, counted from 0.
 ///
-/// Whatever is answered, each job stays at its place with its two engines and its setup, and under
-/// any schedule its referee is that of a match over its own links, whatever was there before, or it
-/// has none. The only error is want of memory: a game whose match met it has no referee, counts as
-/// not played, and its links are where the calls so far left them.
+/// Whatever is answered, each job stays at its place with its two engines and its setup. Under any
+/// schedule its referee is that of a match over its own links, whatever was there before, or it has
+/// none. The only error is running out of memory. A game that did so has no referee, counts as not
+/// played, and its links are as the calls so far left them.
 pub fn run_cup<R: Threads + Sync, L: Link + Send, G: Game + Send + Drop, T: CupGate + Sync>(
     rt: &R,
     alloc: Global,

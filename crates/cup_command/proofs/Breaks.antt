@@ -1,4 +1,4 @@
--- What was started where one program did not start, and what the closed links got.
+-- What was started if one program did not start, and what the closed links got.
 use Rattle.std.proofs.Common.{◌≡◌, ℕ, suc, ◌+◌, ◌<◌, ◌≤◌, List, [], ◌∷◌, ◌++◌, length, take, drop, replicate, Some, None, refl, ap, sym, ◌∙◌, arith, subst, append_assoc, length-append}
 use Rattle.std.specs.List.{flat_map}
 use Rattle.std.proofs.Math.Seq.{take-append-add}
@@ -88,7 +88,7 @@ all-before failed xs ys zs links before between after many starts sent named g =
       named = g.named ∙ (ap (λ s. started_after s (take (length g.late) ys)) named ∙ (started-more before.started xs (take (length g.late) ys) ∙ ap (λ ws. started_after before.started ws) (sym front)));
     }
 
--- What is told
+-- What is known
 
 pub record Late (all : List (List ℕ)) (now : ToldLists) (late : List Wire) : Type 0 where
   pub few : length late ≤ length all
@@ -108,7 +108,7 @@ late-told (x ∷ xs) all now (Some mid, (bytes, e, f, g), r) =
       wrote = (g, more.wrote);
     }
 
--- the same, where it is told what was to come before the starts
+-- the same, if the programs to come were observable before the starts
 pub told-late : (late : List Wire) (all : List (List ℕ)) (before now : ToldLists) → StartsAll before now late → before ≡ Some all → Late all now late
 told-late late all before now starts e = late-told late all now (subst (λ a. StartsAll a now late) e starts)
 
@@ -119,7 +119,7 @@ starts-first failed engines before after g = record {
   taken = λ all e. let told = told-late g.late all before.to_come after.to_come g.starts e in (told.few, told.left);
 }
 
--- the programs that were started where one did not start
+-- the programs that were started if one did not start
 pub breaks : (failed : Type 0) (engines : List Engine) (before after : Engines) → failed → GivesUp failed (cup_words engines) [] before after → BreaksOff engines before after
 breaks failed engines before after f g = record {
   count = length g.late;

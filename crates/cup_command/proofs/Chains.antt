@@ -11,7 +11,7 @@ use Rattle.cup.specs.Played.{Job}
 use Rattle.cup_command.specs.Cup.{RoseBy}
 use Rattle.cup_command.specs.Links.{ClosesLinks, StartsAll, all_links, counted, failures, has_failed}
 
--- One chain behind another
+-- One chain after another
 
 pub starts-append : (a b c : ToldLists) (xs ys : List Wire) → StartsAll a b xs → StartsAll b c ys → StartsAll a c (xs ++ ys)
 starts-append a b c [] ys e t = subst (λ m. StartsAll m c ys) e t
@@ -48,7 +48,7 @@ one-more xs rest n = elim (cases_lt n (2 ^ 64 - 1)) [
       inr (ap (λ m. counted xs m) e ∙ counted-most xs)
 ]
 
--- as many failures are counted as there are links that have failed
+-- as many failures are counted as links have failed
 pub rises : (xs : List Wire) (n : ℕ) → RoseBy (failures xs) n (counted xs n)
 rises [] n = inl (omega arith)
 rises (x ∷ xs) n = subst (λ k. RoseBy k n (counted (x ∷ xs) n)) (sym (sum_by-cons (λ link. if has_failed link then 1 else 0) x xs)) (elim (has_failed x) as (λ t. RoseBy ((if t then 1 else 0) + failures xs) n (counted xs (if t then one_more n else n))) [
@@ -80,7 +80,7 @@ closed [] lists all e = let same : all ≡ lists = cc in ap length same ∙ omeg
 closed (x ∷ xs) lists all (None, s, r) = absurd (untold xs all r)
 closed (x ∷ xs) lists all (Some mid, (bytes, e, f), r) = let more = closed xs mid all r in let one = ap length f ∙ length-append lists (bytes ∷ []) in omega (arith, more, one)
 
--- where as many links were closed as were started, none is left open
+-- if as many links were closed as were started, none is left open
 pub none-open : (before after : Engines) (xs ys : List Wire) → StartsAll before.to_come after.to_come xs → ClosesLinks before.sent after.sent ys → length ys ≡ length xs → NoneIsOpen before after
 none-open before after xs ys s c same coming later opened shut e f g h =
     let started : StartsAll (Some coming) (Some later) xs = subst (λ a. StartsAll a (Some later) xs) e (subst (λ b. StartsAll before.to_come b xs) f s) in
@@ -89,7 +89,7 @@ none-open before after xs ys s c same coming later opened shut e f g h =
     let other = closed ys opened shut ended in
     omega (arith, one, other, same)
 
--- the links of these games were started, and then those of as many games were closed
+-- the links of these games were started, and then those of the same number of games were closed
 pub none-kept : (before between after : Engines) (olds shut : List Job) → StartsAll before.to_come between.to_come (all_links olds) → between.sent ≡ before.sent
     → ClosesLinks between.sent after.sent (all_links shut) → after.to_come ≡ between.to_come → length shut ≡ length olds → NoneIsOpen before after
 none-kept before between after olds shut starts same closes come long =

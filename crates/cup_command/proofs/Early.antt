@@ -1,4 +1,4 @@
--- What was started and closed where memory was wanting.
+-- What was started and closed if memory ran out.
 use Rattle.std.proofs.Common.{◌≡◌, ℕ, ◌≤◌, List, [], ◌∷◌, ◌++◌, length, drop, map, Some, None, refl, ap, sym, ◌∙◌, arith, subst, append_assoc}
 use Rattle.std.proofs.lemmas.List.{length-map, take_all}
 use Rattle.io_edge.specs.Outside.{ToldLists}
@@ -17,7 +17,7 @@ use Rattle.cup_command.proofs.Steps.{take-none}
 
 -- What was got
 
--- what each of the links has written, where it is told
+-- what each of the links has written, if it is observable
 abbrev wrote_by : List Wire → List (List ℕ)
 wrote_by [] = []
 wrote_by (l ∷ ls) = bytes_of l.written ∷ wrote_by ls
@@ -36,7 +36,7 @@ gains-wrote (l ∷ ls) (Some lists) (Some after) (Some mid, (p, pe, pm), r) =
     let same : p ≡ bytes_of l.written = sym (ap bytes_of pe) in
     gains-wrote ls (Some mid) (Some after) r ∙ (ap (λ m. m ++ wrote_by ls) (pm ∙ ap (λ q. lists ++ q ∷ []) same) ∙ append_assoc lists (bytes_of l.written ∷ []) (wrote_by ls))
 
--- Memory was wanting
+-- Memory ran out
 
 drop-none : {A : Type 0} (xs : List A) → xs ≡ drop 0 xs
 drop-none [] = refl
@@ -63,7 +63,7 @@ early failed engines before after g = record {
   gains = λ all e. (wrote_by g.late, long-wrote g.late, gains-wrote g.late before.sent after.sent g.closes);
 }
 
--- after all starts: as many links were closed
+-- after all starts: the same number of links was closed
 pub early-all : (engines : List Engine) (games : List Pairing) (olds shut : List Job) (before between after : Engines)
     → games ≡ pairings (length engines) → map pairing olds ≡ games → length shut ≡ length olds
     → StartsAll before.to_come between.to_come (all_links olds) → between.sent ≡ before.sent → between.started ≡ started_after before.started (cup_words engines)

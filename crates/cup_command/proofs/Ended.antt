@@ -1,4 +1,4 @@
--- What holds of the ends of the games of a cup, whatever is told of its programs.
+-- What holds of the ends of the games of a cup, whatever is known of its programs.
 use Rattle.std.proofs.Common.{◌≡◌, inl, inr, ℕ, ◌+◌, ◌^◌, ◌<◌, ◌≤◌, true, false, List, [], ◌∷◌, refl, sym, arith, subst}
 use Rattle.std.specs.Prelude.{if◌then◌else◌}
 use Rattle.std.specs.List.{All}
@@ -46,14 +46,14 @@ some-below (x ∷ xs) n some =
       | false ↦ λ h. some-below xs n (omega (arith, h))
     ] (subst (λ k. 0 < k) whole some)
 
--- where a link has failed, the count rose
+-- if a link has failed, the count rose
 rose-counted : (xs : List Wire) (n : ℕ) → 0 < failures xs → Rose n (counted xs n)
 rose-counted xs n some = record {
   higher = elim (rises xs n) [ inl more ↦ inl (omega (arith, more, some)) | inr most ↦ inr most ];
   below = some-below xs n some;
 }
 
--- a link of which a call failed has failed
+-- a link with a failed call has failed
 failing-link : (old new : Wire) → HasFailed old new → 1 ≤ (if has_failed new then 1 else 0)
 failing-link old new rose = elim (has_failed new) as (λ t. has_failed new ≡ t → 1 ≤ (if t then 1 else 0)) [
   | true ↦ λ e. omega arith
@@ -64,7 +64,7 @@ failing-game : (old new : Job) (t : MatchState) → BrokeOnly t old.white_link n
 failing-game old new t b (White, e) = let one = failing-link old.white_link new.white_link (b.white e) in omega (arith, one)
 failing-game old new t b (Black, e) = let one = failing-link old.black_link new.black_link (b.black e) in omega (arith, one)
 
--- where a side broke, a link has failed
+-- if a side broke, a link has failed
 some-failed : (setup : Setup) (olds news : List Job) (ends : List MatchState) (t : MatchState) → Ran setup olds news ends → IsOn ends t → IsBroke t.verdict → 0 < failures (all_links news)
 some-failed setup [] [] [] t ran on broke = absurd on
 some-failed setup [] [] (e ∷ ends) t ran on broke = absurd ran

@@ -1,4 +1,4 @@
--- How the games of a cup stand at their ends.
+-- The states of the games of a cup at their ends.
 use Rattle.std.proofs.Common.{◌≡◌, ℕ, ◌<◌, ◌≤◌, ◌*◌, ◌-◌, List, [], ◌∷◌, ◌++◌, length, map, take, Option, Some, None, IsSomeAnd, refl, ap, sym, ◌∙◌, arith, subst, inl, inr}
 use Rattle.std.specs.List.{All, AllZip, flat_map, zip}
 use Rattle.std.proofs.lemmas.List.{length-map}
@@ -32,7 +32,7 @@ few-jobs n games jobs few e f =
     let most = few-games n few in
     omega (arith, long, most)
 
--- Each game stands at an end
+-- Each game is at an end
 
 abbrev pub cons-end : Option MatchState → List MatchState → List MatchState
 cons-end None ends = ends
@@ -94,7 +94,7 @@ texts-same setup (g ∷ games) (old ∷ olds) (new ∷ news) (t ∷ ends) ran =
 
 -- The whole cup
 
--- what is told of a cup that was played
+-- what is known of a cup that was played
 abbrev pub IsToldCup : List Engine → Setup → Engines → Engines → List ℕ → Type 0
 IsToldCup engines setup before after text =
     (ends : List MatchState) × (places : List Place) × PlayedGames engines setup ends before after × AreCupStandings (length engines) ends places × (text ≡ cup_text setup engines ends places)
@@ -119,7 +119,7 @@ told-cup engines setup games olds news text before after whole pairs ready playe
       told ∙ (ap (λ t. t ++ flat_map (standing_text engines) places) (texts-same setup games olds news ends ran) ∙ ap (λ gs. games_text setup gs ends ++ flat_map (standing_text engines) places) whole),
     )
 
--- the same, told through how all stood between the starts and the closes
+-- the same, by way of the states between the starts and the closes
 pub told-from : (engines : List Engine) (setup : Setup) (games : List Pairing) (olds mid news shut : List Job) (text : List ℕ) (before between after : Engines)
     → games ≡ pairings (length engines) → map pairing olds ≡ games → All (IsReady setup) olds → mid ≡ olds → AllZip IsPlayed mid news → shut ≡ news
     → StartsAll before.to_come between.to_come (all_links olds) → between.sent ≡ before.sent → between.engine_faults ≡ before.engine_faults → between.started ≡ started_after before.started (cup_words engines)
@@ -134,7 +134,7 @@ told-from engines setup games olds mid news shut text before between after whole
     (began ∙ named)
     told
 
--- the text of a cup that was played was written, or a front of it and not all
+-- the text of a cup that was played was written, or an initial part of it and not all
 pub told-as : (engines : List Engine) (setup : Setup) (text : List ℕ) (status : Status) (before after : World) → IsToldCup engines setup before.engines after.engines text → WritesAs text Done status before.sides.written after.sides.written → CupRun engines setup status before after
 told-as engines setup text status before after (ends, places, played, standings, told) (inl (e, wrote)) =
     subst (λ s. CupRun engines setup s before after) (sym e) (ends, places, record { played = played; standings = standings; wrote = wrote ∙ ap (λ x. behind before.sides.written x) told })

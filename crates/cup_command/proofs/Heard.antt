@@ -1,4 +1,4 @@
--- What is told of the games of a cup, and of what their programs got.
+-- What is known of the games of a cup, and of what their programs got.
 use Rattle.std.proofs.Common.{◌≡◌, ◌⊎◌, inl, inr, ℕ, ◌+◌, ◌^◌, ◌-◌, ◌<◌, ◌≤◌, true, false, Bool, List, [], ◌∷◌, ◌++◌, Option, Some, None, refl, ap, sym, ◌∙◌, arith, subst, append_assoc}
 use Rattle.std.specs.Bool.{⊤}
 use Rattle.std.specs.Prelude.{if◌then◌else◌, ◌||◌}
@@ -39,7 +39,7 @@ heard old new = record {
   excepted = has_failed new.white_link || has_failed new.black_link;
 }
 
--- the link tells what its program will say, and has written nothing
+-- what the program of a link will say is known, and nothing was written to it
 record IsTold (link : Wire) : Type 0 where
   pub rest : link.rest ≡ Some (bytes_of link.rest)
   pub written : link.written ≡ Some []
@@ -48,7 +48,7 @@ record AreTold (job : Job) : Type 0 where
   pub white : IsTold job.white_link
   pub black : IsTold job.black_link
 
--- what was written behind nothing
+-- what was written after nothing
 got-front : (old new : Told) (all : List ℕ) → old ≡ Some [] → IsFrontSent old new all → IsFront (bytes_of new) all
 got-front old new all e (bytes, f, front) = subst (λ b. IsFront b all) (sym (ap bytes_of (from_none old new bytes e f))) front
 
@@ -66,7 +66,7 @@ some rose = go rose.higher
     go (inl x) = omega (arith, x)
     go (inr x) = omega (arith, x)
 
--- a link of which no call has failed
+-- a link with no failed call
 pub sound : (old new : Wire) → has_failed new ≡ false → HasFailed old new → ⊥
 sound old new none (inl x) = let no : new.reads + new.writes ≤ 0 = grind (arith, nat_tests) in let more = some x in omega (arith, more, no)
 sound old new none (inr x) = let no : new.reads + new.writes ≤ 0 = grind (arith, nat_tests) in let more = some x in omega (arith, more, no)
@@ -114,7 +114,7 @@ all_heard [] news = []
 all_heard (old ∷ olds) [] = []
 all_heard (old ∷ olds) (new ∷ news) = heard old new ∷ all_heard olds news
 
--- all were played over their links, by this setup, and stand so at their ends
+-- all were played over their links, with this setup, and have these states at their ends
 abbrev pub Ran : Setup → List Job → List Job → List MatchState → Type 0
 Ran setup [] [] [] = ⊤
 Ran setup [] [] (t ∷ ends) = ⊥
@@ -131,7 +131,7 @@ abbrev AllTold : List Job → Type 0
 AllTold [] = ⊤
 AllTold (old ∷ olds) = AreTold old × AllTold olds
 
--- what was to come is what the programs say, and others
+-- the texts to come are those that the games' programs say, and others
 record Opened (all : List (List ℕ)) (now : ToldLists) (olds news : List Job) : Type 0 where
   pub others : List (List ℕ)
   pub first_ones : all ≡ said (all_heard olds news) ++ others
@@ -169,7 +169,7 @@ each-game setup (old ∷ olds) (new ∷ news) (t ∷ ends) ran told = (game-play
 
 -- What was got
 
--- each link has written just this
+-- each link has written exactly this
 abbrev pub AllWrote : List Wire → List (List ℕ) → Type 0
 AllWrote links wrote = AllZip (λ l w. l.written ≡ Some w) links wrote
 

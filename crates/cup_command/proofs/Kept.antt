@@ -15,11 +15,11 @@ on-err P Q f (Err e) p = f p
 
 -- Starts
 
--- where nothing was done no program was started
+-- if nothing was done, no program was started
 pub none-at-all : (before : Engines) → StartsNone before before
 none-at-all before = record { starts = refl; to_come = refl; started = refl }
 
--- where none was started, and then none again, none was started in all
+-- if none was started, and then none again, none was started in all
 pub none-then : (before between after : Engines) → StartsNone before between → StartsNone between after → StartsNone before after
 none-then before between after one other = record {
   starts = other.starts ∙ one.starts;
@@ -59,14 +59,14 @@ always-ok (Err e) p = tt
 pub no-fault : {A E P : Type 0} (a : A) (x : E) → IsErrOf {T = A} (Ok a) x → P
 no-fault a x e = let no : ⊥ = cc in absurd no
 
--- want of memory is no start that failed
+-- running out of memory is not a failed start
 pub no-failure : {A P : Type 0} → IsErrOf {T = A} (Err Memory) Failed → P
 no-failure e = let no : ⊥ = cc in absurd no
 
--- where no start failed, and then none was made, there is no cause of a value
+-- if no start failed, and then none was made, there is no cause of a value
 pub cause-ok : {A B : Type 0} (x : A) (y : B) (a b c : ℕ) → HasCause (IsErrOf {T = A} (Ok x) Failed) a b → c ≡ b → HasCause (IsErrOf {T = B} (Ok y) Failed) a c
 cause-ok {A} {B} x y a b c h e = cause-none (IsErrOf {T = A} (Ok x) Failed) (IsErrOf {T = B} (Ok y) Failed) a b c h (λ o. no-fault x Failed o) (λ o. no-fault y Failed o) e
 
--- nor of a want of memory
+-- nor of running out of memory
 pub cause-memory : {A B : Type 0} (x : A) (a b c : ℕ) → HasCause (IsErrOf {T = A} (Ok x) Failed) a b → c ≡ b → HasCause (IsErrOf {T = B} (Err Memory) Failed) a c
 cause-memory {A} {B} x a b c h e = cause-none (IsErrOf {T = A} (Ok x) Failed) (IsErrOf {T = B} (Err Memory) Failed) a b c h (λ o. no-fault x Failed o) (λ o. no-failure o) e

@@ -8,7 +8,7 @@ use Rattle.cup_command.specs.Links.{ClosesLinks, all_links, counted, links_of}
 use Rattle.cup_command.proofs.Chains.{closes-append, counted-append, nothing-left}
 use Rattle.cup_command.proofs.Kept.{none-at-all, none-then}
 
--- the links of some games were closed, and these games are left, so many
+-- the links of some games were closed, and this number of games is left
 pub record IsLeft (jobs left : List Job) (many : ℕ) (before now : Engines) : Type 0 where
   pub long : many ≡ length left
   pub sent : (later : ToldLists) → ClosesLinks now.sent later (all_links left) → ClosesLinks before.sent later (all_links jobs)
@@ -25,7 +25,7 @@ left-first jobs left many before same long =
       none_started = none-at-all before;
     })
 
--- once the links of the first one were closed the others are left
+-- once the links of the first game were closed, the others are left
 pub left-next : (jobs left rest : List Job) (job : Job) (many fewer : ℕ) (before now after : Engines) → IsLeft jobs left many before now → left ≡ job ∷ rest → fewer + 1 ≡ many
     → ClosesLinks now.sent after.sent (links_of job) → after.engine_faults ≡ counted (links_of job) now.engine_faults → StartsNone now after → IsLeft jobs rest fewer before after
 left-next jobs left rest job many fewer before now after so items gone closed failed none = record {
@@ -37,12 +37,12 @@ left-next jobs left rest job many fewer before now after so items gone closed fa
   none_started = none-then before now after so.none_started none;
 }
 
--- where none is left the links of all games were closed
+-- if none is left, the links of all games were closed
 pub left-none : (jobs left : List Job) (many : ℕ) (before now : Engines) → IsLeft jobs left many before now → many ≡ 0 → ClosesLinks before.sent now.sent (all_links jobs)
 left-none jobs left many before now so over =
     so.sent now.sent (subst (λ (js : List Job). ClosesLinks now.sent now.sent (all_links js)) (sym (nothing-left left (sym so.long ∙ over))) refl)
 
--- and so many programs had failed
+-- and this number of programs had failed
 pub left-failed : (jobs left : List Job) (many : ℕ) (before now : Engines) → IsLeft jobs left many before now → many ≡ 0 → now.engine_faults ≡ counted (all_links jobs) before.engine_faults
 left-failed jobs left many before now so over =
     ap (λ (js : List Job). counted (all_links js) now.engine_faults) (sym (nothing-left left (sym so.long ∙ over))) ∙ so.failed

@@ -39,11 +39,11 @@ text-end setup games jobs i out all past so =
     let within : length (zip games jobs) ≤ i = let many = length-zip games jobs in omega (arith, many, past) in
     sym (append-nil out) ∙ (ap (λ ps. out ++ jobs_text setup ps) (sym (drop_of_length-le (zip games jobs) within)) ∙ so)
 
--- there are as many games as there are pairs of engines
+-- there are as many games as pairs of engines
 pub same-many : (games : List Pairing) (jobs : List Job) → map pairing jobs ≡ games → length games ≡ length jobs
 same-many games jobs pairs = sym (ap (λ (gs : List Pairing). length gs) pairs) ∙ length-map jobs pairing
 
--- the lines of the games, written first, and behind them those of the standings
+-- the lines of the games, written first, and after them those of the standings
 pub both-written : (engines : List Engine) (lines start mid out : List ℕ) (listed places : List Place) → start ≡ [] → mid ≡ start ++ lines → listed ≡ places
     → out ≡ mid ++ flat_map (standing_text engines) listed → out ≡ lines ++ flat_map (standing_text engines) places
 both-written engines lines start mid out listed places empty first same then =
@@ -70,7 +70,7 @@ named-step engines games i game before mid now low g one other =
     ap (flat_map (game_words engines)) (take_more games i game low ∙ ap (λ x. take i games ++ x ∷ []) (sym g)) ∙ flat_map-append (game_words engines) (take i games) (game ∷ []) in
     other ∙ (ap (λ m. started_after m (game_words engines game)) one ∙ (started-more before (flat_map (game_words engines) (take i games)) (game_words engines game) ∙ ap (λ ws. started_after before ws) (sym words)))
 
--- where a start of the game at a place gives up
+-- if a start of the game at a place gives up
 gives-at : (failed : Type 0) (engines : List Engine) (games : List Pairing) (jobs : List Job) (i : ℕ) (game : Pairing) (before between after : Engines) → i < length games → game ≡ get_or games i game
     → map pairing jobs ≡ take i games → StartsAll before.to_come between.to_come (all_links jobs) → between.sent ≡ before.sent → between.started ≡ started_after before.started (flat_map (game_words engines) (take i games)) → GivesUp failed (game_words engines game) (all_links jobs) between after
     → GivesUp failed (flat_map (game_words engines) games) [] before after
@@ -86,14 +86,14 @@ gives-at failed engines games jobs i game before between after low g kept starts
     omega (arith, one, other, same) in
     subst (λ ws. GivesUp failed ws [] before after) (sym words) (all-before failed xs (game_words engines game) zs (all_links jobs) before between after many starts sent named gives)
 
--- the same in the words of the cup
+-- the same, in the words of the cup
 pub gives-up : (failed : Type 0) (engines : List Engine) (games : List Pairing) (jobs : List Job) (i : ℕ) (game : Pairing) (before between after : Engines) → games ≡ pairings (length engines) → i < length games → game ≡ get_or games i game
     → map pairing jobs ≡ take i games → StartsAll before.to_come between.to_come (all_links jobs) → between.sent ≡ before.sent → between.started ≡ started_after before.started (flat_map (game_words engines) (take i games)) → GivesUp failed (game_words engines game) (all_links jobs) between after
     → GivesUp failed (cup_words engines) [] before after
 gives-up failed engines games jobs i game before between after whole low g kept starts sent named gives =
     subst (λ gs. GivesUp failed (flat_map (game_words engines) gs) [] before after) whole (gives-at failed engines games jobs i game before between after low g kept starts sent named gives)
 
--- behind the last game
+-- after the last game
 
 pub take-none : {A : Type 0} (xs : List A) → take 0 xs ≡ []
 take-none [] = refl
@@ -106,7 +106,7 @@ take-front zero (x ∷ xs) ys e = absurd (omega (arith, e))
 take-front (suc n) [] ys e = absurd (omega (arith, e))
 take-front (suc n) (x ∷ xs) ys e = ap (λ zs. x ∷ zs) (take-front n xs ys (omega (arith, e)))
 
--- as many games stand there after they were played as were started
+-- after play there are as many games as were started
 pub as-many-after : (n : ℕ) (olds lent news behind : List Job) → length news ≡ length lent → length lent ≡ n → lent ≡ olds → length (take n (news ++ behind)) ≡ length olds
 as-many-after n olds lent news behind long many same = ap (λ (js : List Job). length js) (take-front n news behind (long ∙ many)) ∙ (long ∙ ap (λ (js : List Job). length js) same)
 
@@ -120,7 +120,7 @@ pub named-end : (engines : List Engine) (games : List Pairing) (i : ℕ) (before
 named-end engines games i before now whole past named =
     named ∙ ap (λ gs. started_after before (flat_map (game_words engines) gs)) (take_all i games past ∙ whole)
 
--- behind the last game all are kept
+-- after the last game all are kept
 pub kept-end : (games : List Pairing) (jobs : List Job) (i : ℕ) → length games ≤ i → map pairing jobs ≡ take i games → map pairing jobs ≡ games
 kept-end games jobs i past so = so ∙ take_all i games past
 

@@ -23,12 +23,12 @@ use Rattle.cup_command.specs.Texts.{cup_text}
 
 -- What is started
 
--- the words of a program; none where there is no program
+-- the words of a program; none if there is no program
 abbrev pub words_in : Option Engine → List (List ℕ)
 words_in None = []
 words_in (Some engine) = engine.words
 
--- the words of the engine with this number, the first one being 1
+-- the words of the engine with this number, counted from 1
 abbrev pub words_of : List Engine → ℕ → List (List ℕ)
 words_of engines number = words_in (slice_get engines (number - 1))
 
@@ -40,14 +40,14 @@ game_words engines game = words_of engines game.white ∷ (words_of engines game
 abbrev pub cup_words : List Engine → List (List (List ℕ))
 cup_words engines = flat_map (game_words engines) (pairings (length engines))
 
--- the told programs, with these behind
+-- the observable programs, with these added at the end
 abbrev pub started_after : ToldPrograms → List (List (List ℕ)) → ToldPrograms
 started_after told programs = option_map (λ before. before ++ programs) told
 
 -- What was played
 
--- what is told of a game: what its two programs say, what each of them got, and whether the game is
--- excepted, since a program of it has failed
+-- What is known of a game: what its two programs say, what each of them got, and whether the game
+-- is excepted because one of its programs failed.
 pub record Heard : Type 0 where
   pub white_says : List ℕ
   pub black_says : List ℕ
@@ -55,11 +55,11 @@ pub record Heard : Type 0 where
   pub black_got : List ℕ
   pub excepted : Bool
 
--- what all programs say, in the order of the starts
+-- what all programs say, in the order of their starts
 abbrev pub said : List Heard → List (List ℕ)
 said games = flat_map (λ g. g.white_says ∷ (g.black_says ∷ [])) games
 
--- what all programs got, in the order of the starts
+-- what all programs got, in the order of their starts
 abbrev pub got : List Heard → List (List ℕ)
 got games = flat_map (λ g. g.white_got ∷ (g.black_got ∷ [])) games
 
@@ -74,9 +74,9 @@ pub record IsTheirs (setup : Setup) (t : MatchState) (game : Heard) : Type 0 whe
   pub sent : AreSent (setup_plain setup) game.white_says game.black_says
       game.white_got game.black_got
 
--- a game was played: its moves and the bytes sent are the first ones of the match of its two
--- programs, and its verdict is that of the match, or a side broke; in a game that is not excepted
--- all are those of the match
+-- A game was played. Its moves and the bytes sent are initial parts of those of the match of its
+-- two programs. Its verdict is that of the match, or a side broke. If the game is not excepted, all
+-- three are those of the match.
 pub record IsGame (setup : Setup) (t : MatchState) (game : Heard) : Type 0 where
   pub moves : IsFront t.moves
       (end_of (setup_plain setup) game.white_says game.black_says).moves
@@ -87,19 +87,19 @@ pub record IsGame (setup : Setup) (t : MatchState) (game : Heard) : Type 0 where
       game.white_got game.black_got
   pub whole : game.excepted ≡ false → IsTheirs setup t game
 
--- where it is told after the run what was sent, it gained just these
+-- if the bytes sent are observable after the run, they gained exactly these
 abbrev pub Gains : ToldLists → ToldLists → List (List ℕ) → Type 0
 Gains before None gained = ⊤
 Gains None (Some after) gained = ⊥
 Gains (Some before) (Some after) gained = after ≡ before ++ gained
 
--- a count rose by at least this number, or stands at its greatest value, that of a u64
+-- a count rose by at least this number, or is at its greatest value, that of a u64
 abbrev pub RoseBy : ℕ → ℕ → ℕ → Type 0
 RoseBy number before now = (before + number ≤ now) ⊎ (now ≡ 2 ^ 64 - 1)
 
--- of the programs to come the first ones were started, two for each game and white's first, and
--- played; no others were started. What they got was gained in this order, and no more games are
--- excepted than programs were counted that had failed
+-- The first of the programs to come were started, two for each game and white's first, and played.
+-- No others were started. What they got was gained in this order. At most as many games are
+-- excepted as failed programs were counted.
 pub record PlayedBy
     (all : List (List ℕ)) (setup : Setup) (ends : List MatchState) (before after : Engines)
     : Type 0 where
@@ -111,16 +111,16 @@ pub record PlayedBy
   pub gains : Gains before.sent after.sent (got games)
   pub few : RoseBy (exceptions games) before.engine_faults after.engine_faults
 
--- a game was played by this setup to a verdict, which is not that an answer was late: what happened
--- in it answers the acts that were to come
+-- A game was played with this setup to a verdict, which is not that an answer was late. Its events
+-- answer the acts.
 pub record IsEnded (setup : Setup) (t : MatchState) : Type 0 where
   pub same : t.setup ≡ setup_plain setup
   pub judged : IsJudged t
   pub in_time : ¬ IsLate t.verdict
   pub course : HasCourse (setup_plain setup) t
 
--- all games of a cup were played to these ends, over programs that were started in their order;
--- where a side broke, a program was counted that had failed
+-- All games of a cup were played to these ends, over programs that were started in their order. If
+-- a side broke, a failed program was counted.
 pub record PlayedGames
     (engines : List Engine) (setup : Setup) (ends : List MatchState) (before after : Engines)
     : Type 0 where
@@ -153,7 +153,7 @@ pub record Tells
   pub wrote :
       after.sides.written ≡ behind before.sides.written (cup_text setup engines ends places)
 
--- of the text of a cup that was played the first n bytes were written, and not all
+-- the first n bytes of the text of a cup that was played were written, and not all
 pub record TellsPart
     (engines : List Engine) (setup : Setup) (ends : List MatchState) (places : List Place) (n : ℕ)
     (before after : World) : Type 0 where
@@ -164,8 +164,8 @@ pub record TellsPart
       after.sides.written
       ≡ behind before.sides.written (take n (cup_text setup engines ends places))
 
--- so many programs were started in their order; where it is told what was to come, they were the
--- first ones of those
+-- This number of programs was started, in their order. If the programs to come were observable,
+-- they were the first of those.
 pub record StartsFirst
     (engines : List Engine) (count : ℕ) (before after : Engines) : Type 0 where
   pub started : after.started ≡ started_after before.started (take count (cup_words engines))
@@ -174,8 +174,8 @@ pub record StartsFirst
       → before.to_come ≡ Some all
       → (count ≤ length all) × (after.to_come ≡ Some (drop count all))
 
--- the first programs were started, and not all; where it is told what was to come, none of them got
--- a byte
+-- The first programs were started, and not all. If the programs to come were observable, none of
+-- these got a byte.
 pub record BreaksOff (engines : List Engine) (before after : Engines) : Type 0 where
   pub count : ℕ
   pub few : count < length (cup_words engines)
@@ -190,8 +190,8 @@ pub record NotBegun (engines : List Engine) (before after : World) : Type 0 wher
   pub written : after.sides.written ≡ before.sides.written
   pub starts : BreaksOff engines before.engines after.engines
 
--- the first programs were started, perhaps all; where it is told what was to come, as many were
--- closed: what each of them got was gained
+-- The first programs were started, perhaps all. If the programs to come were observable, as many
+-- were closed, and what each of them got was gained.
 pub record EndsEarly (engines : List Engine) (before after : Engines) : Type 0 where
   pub count : ℕ
   pub few : count ≤ length (cup_words engines)
@@ -203,13 +203,13 @@ pub record EndsEarly (engines : List Engine) (before after : Engines) : Type 0 w
       × (length gained ≡ count)
       × Gains before.sent after.sent gained
 
--- memory was wanting: nothing was written
+-- memory ran out: nothing was written
 pub record Starved (engines : List Engine) (before after : World) : Type 0 where
   pub written : after.sides.written ≡ before.sides.written
   pub starts : EndsEarly engines before.engines after.engines
 
--- What was written and played where a cup of programs ends with this status. Five statuses are not
--- its own.
+-- What was written and played if a cup of programs ends with this status. It never ends with the
+-- other five statuses.
 abbrev pub CupRun : List Engine → Setup → Status → World → World → Type 0
 CupRun engines setup Done before after =
     (ends : List MatchState) × (places : List Place) × Tells engines setup ends places before after

@@ -9,8 +9,8 @@ use Rattle.match_core.specs.declared.setup.Setup.{Setup}
 use Rattle.cup.specs.Engines.{Engine}
 use Rattle.cup_command.specs.Cup.{CupRun}
 
--- Where no write to the output failed and no start did, a cup of programs is done, unless memory is
--- wanting.
+-- If no write to the output failed and no start did, a cup of programs is done, unless memory ran
+-- out.
 abbrev pub CupsAreDone : Type 0
 CupsAreDone =
     (engines : List Engine) (setup : Setup) (status : Status) (before after : World)

@@ -1,4 +1,4 @@
--- The links of a cup: their starts and their closes, one after another.
+-- The links of a cup: their starts and closes, one after another.
 use Rattle.std.specs.Prelude.{◌≡◌, ◌≢◌, ℕ, ◌+◌, ◌<◌, ◌≤◌, Bool, List, [], ◌∷◌, ◌++◌, length, take, Option, Some, None, nat_lt, if◌then◌else◌}
 use Rattle.std.specs.List.{flat_map, sum_by}
 use Rattle.io_edge.specs.Outside.{ToldLists, Starts, Collects, one_more}
@@ -18,7 +18,7 @@ use Rattle.cup_command.specs.Texts.{game_text}
 abbrev pub links_of : Job → List Wire
 links_of job = job.white_link ∷ (job.black_link ∷ [])
 
--- the links of all games, in the order of the starts
+-- the links of all games, in the order of their starts
 abbrev pub all_links : List Job → List Wire
 all_links jobs = flat_map links_of jobs
 
@@ -36,7 +36,7 @@ pub record StartsBy (words : List (List (List ℕ))) (before after : Engines) : 
   pub sent : after.sent ≡ before.sent
   pub failed : after.engine_faults ≡ before.engine_faults
 
--- a game is one of two different engines, whose numbers go from 1 to this
+-- a game of two different engines, whose numbers are from 1 to this
 pub record IsPaired (engines : ℕ) (game : Pairing) : Type 0 where
   pub white_low : 1 ≤ game.white
   pub white_high : game.white ≤ engines
@@ -62,7 +62,7 @@ ClosesLinks before after (link ∷ links) =
 abbrev pub has_failed : Wire → Bool
 has_failed link = nat_lt 0 (link.reads + link.writes)
 
--- the count of programs that had failed, after the closes of these links
+-- the count of failed programs, after these links were closed
 abbrev pub counted : List Wire → ℕ → ℕ
 counted [] count = count
 counted (link ∷ links) count =
@@ -72,8 +72,8 @@ counted (link ∷ links) count =
 abbrev pub failures : List Wire → ℕ
 failures links = sum_by (λ link. if has_failed link then 1 else 0) links
 
--- of the programs with these words the first ones were started, and all of them where none failed
--- to start; and then all links were closed, those that were there before first
+-- Of the programs with these words the first ones were started, and all of them if no start failed.
+-- Then all links were closed, first those that were there before.
 pub record GivesUp
     (failed : Type 0) (words : List (List (List ℕ))) (there : List Wire) (before after : Engines)
     : Type 0 where
@@ -86,11 +86,11 @@ pub record GivesUp
 
 -- Texts
 
--- the game was not played, or it was played by this setup
+-- the game was not played, or it was played with this setup
 abbrev pub IsOf : Setup → Job → Type 0
 IsOf setup job = (t : MatchState) → job.referee ≡ Some t → t.setup ≡ setup_plain setup
 
--- the lines of a game, where it was played
+-- the lines of a game, if it was played
 abbrev pub ended_text : Setup → Pairing → Option MatchState → List ℕ
 ended_text setup game None = []
 ended_text setup game (Some t) = game_text setup game t

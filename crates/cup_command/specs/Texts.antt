@@ -1,4 +1,4 @@
--- The lines that tell a cup: two for each game, and then one for each engine of the standings.
+-- The lines that report a cup: two for each game, and then one for each engine of the standings.
 use Rattle.std.specs.Prelude.{ℕ, ◌-◌, List, [], ◌∷◌, ◌++◌, Option, Some, None, codes, decimal, length, map, slice_get}
 use Rattle.std.specs.List.{flat_map, zip}
 use Rattle.hive_model.specs.Strings.{string_under}
@@ -10,12 +10,12 @@ use Rattle.cup.specs.declared.standing.Standing.{Standing as Place}
 use Rattle.cup.specs.Cup.{pairings}
 use Rattle.cup.specs.Engines.{Engine}
 
--- the text of a program; none where there is no program
+-- the text of a program; nothing if there is no program
 abbrev pub text_in : Option Engine → List ℕ
 text_in None = []
 text_in (Some engine) = engine.text
 
--- the text of the engine with this number, the first one being 1
+-- the text of the engine with this number, counted from 1
 abbrev pub text_of : List Engine → ℕ → List ℕ
 text_of engines number = text_in (slice_get engines (number - 1))
 
@@ -23,7 +23,7 @@ text_of engines number = text_in (slice_get engines (number - 1))
 abbrev pub numbers_text : Pairing → List ℕ
 numbers_text game = decimal game.white ++ 32 ∷ (decimal game.black ++ 32 ∷ [])
 
--- the line of a game: its numbers and its game string, with the outcome under the setup's rule for
+-- the line of a game: its numbers and its game string, with the outcome under the setup's rule as
 -- its state, with an LF (10)
 abbrev pub moves_line : Setup → Pairing → MatchState → List ℕ
 moves_line setup game t =
@@ -35,16 +35,16 @@ abbrev pub verdict_line : Setup → Pairing → MatchState → List ℕ
 verdict_line setup game t =
     codes "verdict " ++ (numbers_text game ++ (ending_text setup t.verdict ++ 10 ∷ []))
 
--- the two lines that tell a game
+-- the two lines that report a game
 abbrev pub game_text : Setup → Pairing → MatchState → List ℕ
 game_text setup game t = moves_line setup game t ++ verdict_line setup game t
 
--- the lines of games, each with how it stands at its end
+-- the lines of games, each with its state at the end
 abbrev pub games_text : Setup → List Pairing → List MatchState → List ℕ
 games_text setup games ends = flat_map (λ g. game_text setup g.0 g.1) (zip games ends)
 
--- the line of an engine: its program's text, each byte outside 32 to 126 as a question mark, its
--- points and the number of its games, with an LF (10)
+-- The line of an engine: its program's text, its points and the number of its games, with an LF
+-- (10). Each byte of the text outside 32 to 126 is a question mark.
 abbrev pub standing_text : List Engine → Place → List ℕ
 standing_text engines place =
     map shown (text_of engines place.engine)

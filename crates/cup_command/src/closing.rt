@@ -1,4 +1,4 @@
-//! The end of the links of a cup.
+//! Closes the links of a cup.
 ghost use Rattle.std.specs.Prelude.{◌≡◌};
 ghost use Rattle.match_command.specs.Match.{StartsNone};
 ghost use Rattle.cup_command.specs.Links.{ClosesLinks, all_links, counted, links_of};

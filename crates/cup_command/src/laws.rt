@@ -1,8 +1,8 @@
 //! Laws of the definitions, as contracts of functions that do nothing.
 ghost use Rattle.cup_command.specs.Laws.{CupsAreDone};
 
-/// A cup of programs ends with `Done`, or for want of memory, where neither the sink counted a
-/// failed write nor the starter of programs a failed start.
+/// The law covers a cup of programs in which the sink counted no failed write and the starter no
+/// failed start. The cup ends with `Done`, or because memory ran out.
 pub fn cups_are_done()
     ensures { CupsAreDone }
 {}

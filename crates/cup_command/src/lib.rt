@@ -1,4 +1,4 @@
-//! A cup of programs, from their starts to the text that tells it.
+//! A cup of programs, from their starts to the text that reports it.
 #![tactic(auto)]
 
 mod closing;

@@ -1,4 +1,4 @@
-//! The starts of the programs of a cup, game by game.
+//! Starts the programs of a cup, game by game.
 ghost use Rattle.std.specs.Prelude.{
   ◌≡◌,
   ◌≤◌,
@@ -40,7 +40,7 @@ use io_edge::{Spawner, StartFault};
 use match_core::Setup;
 use std::alloc::Global;
 
-/// The words of the program with this number, the first one being 1.
+/// The words of the program with this number, counted from 1.
 fn words_of(programs: &[Program], number: u32) -> &[String]
     requires low { 1 ≤ number }
     requires high { number ≤ length programs.now }
@@ -50,7 +50,7 @@ fn words_of(programs: &[Program], number: u32) -> &[String]
     programs[(number - 1) as usize].words()
 }
 
-/// The games with one more. Where there is no memory for it, all links are closed.
+/// The games with one more. If there is no memory for it, all links are closed.
 fn keep_game<P: Spawner, G: Game + Drop>(
     job: CupJob<P::Engine, G>,
     mut jobs: Vec<CupJob<P::Engine, G>>,
@@ -73,8 +73,8 @@ fn keep_game<P: Spawner, G: Game + Drop>(
     }
 }
 
-/// Starts black's program of a game, by its words, and keeps the game behind the others. Where it
-/// does not start, all links are closed, white's of this game last.
+/// Starts black's program of a game, by its words, and adds the game to the others. If it does not
+/// start, all links are closed, white's of this game last.
 fn start_black<P: Spawner, G: Game + Drop>(
     white: P::Engine,
     words: &[String],
@@ -114,8 +114,8 @@ fn start_black<P: Spawner, G: Game + Drop>(
     }
 }
 
-/// Starts the two programs of a game, white's first, and keeps the game behind the others. Where
-/// one does not start, all links are closed, in the order of their starts.
+/// Starts the two programs of a game, white's first, and adds the game to the others. If one does
+/// not start, all links are closed, in the order of their starts.
 fn start_game<P: Spawner, G: Game + Drop>(
     programs: &[Program],
     game: Pairing,
@@ -149,7 +149,7 @@ fn start_game<P: Spawner, G: Game + Drop>(
     }
 }
 
-/// Starts the programs of all games, game by game and white's first. Where one does not start, all
+/// Starts the programs of all games, game by game and white's first. If one does not start, all
 /// links are closed, in the order of their starts.
 pub(crate) fn start_links<P: Spawner, G: Game + Drop>(
     alloc: Global,

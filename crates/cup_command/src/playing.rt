@@ -1,5 +1,4 @@
-//! The command: all programs are started, the games are played, and the text that tells them is
-//! written.
+//! The command: starts all programs, plays the games, and writes the text that reports them.
 ghost use Rattle.std.specs.Prelude.{◌≡◌, ◌<◌, ◌≤◌, ◌++◌, List, length, map, IfOk, OnOk, IsErrOf};
 ghost use Rattle.std.specs.List.{All, AllZip, flat_map, zip};
 ghost use Rattle.io_edge.specs.Outside.{HasCause, Told};
@@ -32,7 +31,7 @@ use match_core::Setup;
 use std::alloc::{AllocError, Global};
 use std::thread::Threads;
 
-/// Plays the games of a cup that was started: the text that tells it.
+/// Plays the games of a cup whose programs were started. It answers the text that reports the cup.
 fn run_and_tell<R: Threads + Sync, L: Link + Send, G: Game + Send + Drop, T: CupGate + Sync>(
     rt: &R,
     alloc: Global,
@@ -58,8 +57,8 @@ fn run_and_tell<R: Threads + Sync, L: Link + Send, G: Game + Send + Drop, T: Cup
     tell_cup(alloc, programs, setup, games, jobs)
 }
 
-/// Starts all programs, plays their games and closes them: the text that tells the cup. For want of
-/// memory `Memory` is answered, wherever it was wanting.
+/// Starts all programs, plays their games and closes them. It answers the text that reports the
+/// cup. If memory runs out anywhere, the answer is `Memory`.
 fn play<R: Threads + Sync, P: Spawner, G: Game + Send + Drop, T: CupGate + Sync>(
     rt: &R,
     alloc: Global,
@@ -102,23 +101,22 @@ fn play<R: Threads + Sync, P: Spawner, G: Game + Send + Drop, T: CupGate + Sync>
     }
 }
 
-/// Plays a cup of programs and tells it.
+/// Plays a cup of programs and reports it.
 ///
-/// The engines have numbers from 1 on, in the order of the programs, and each plays white once
-/// against each other one, in the order of white's number and then of black's. All programs are
-/// started game by game, white's first, before anything else is done: for each game both of its
-/// programs, each by its words. Then the games are played at once where threads can be had; before
-/// each one the gate is called. Then all engines are closed, in the order of their starts, and only
-/// then the text is written: two lines for each game, its game string and its verdict, and one for
-/// each engine of the standings. Each engine that was started is closed before the call returns,
-/// whatever happens.
+/// The engines are numbered from 1, in the order of the programs. Each plays white once against
+/// each other one, in the order of white's number and then of black's. First all programs are
+/// started, game by game and white's first: for each game both of its programs, each by its words.
+/// Then the games are played, at once if threads can be had; before each one the gate is called.
+/// Then all engines are closed, in the order of their starts. Only then the text is written: two
+/// lines for each game, its game string and its verdict, and one for each engine of the standings.
+/// Each engine that was started is closed before the call returns, whatever happens.
 ///
 /// There are 2 to 8 programs. A setup has a depth from 1 to 64, and a limit of 1 to 1,000 plies.
 ///
-/// `Done` says that the whole text was written. `WriteFault` says that a write has failed: of the
-/// text only a front, and not all, was written. `SpawnFault` says that a program did not start, and
-/// `Memory` that memory was wanting, before or after the starts: nothing was written, and the
-/// programs that were started are the first ones. No other status is answered.
+/// `Done` says that the whole text was written. `WriteFault` says that a write failed: only an
+/// initial part of the text was written, and not all. `SpawnFault` says that a program did not
+/// start, and `Memory` that memory ran out, before or after the starts. Then nothing was written,
+/// and the programs that were started are the first ones. No other status is answered.
 pub fn play_cup<R: Threads + Sync, P: Spawner, K: Sink, G: Game + Send + Drop, T: CupGate + Sync>(
     rt: &R,
     alloc: Global,

@@ -1,4 +1,4 @@
-//! The text that tells a cup.
+//! The text that reports a cup.
 ghost use Rattle.std.specs.Prelude.{◌≡◌, ◌≤◌, ◌++◌, List, length, map, Some, IfOk, OnOk};
 ghost use Rattle.std.specs.List.{All, flat_map, zip};
 ghost use Rattle.cup.specs.Cup.{pairings};
@@ -65,7 +65,7 @@ fn write_verdict<G: Game + Drop>(
     out.push(b'\n')
 }
 
-/// Appends the two lines that tell a game, where it was played.
+/// Appends the two lines that report a game, if it was played.
 fn write_job<L: Link, G: Game + Drop>(
     alloc: Global,
     out: &mut ReplyText,
@@ -113,7 +113,7 @@ fn write_text(out: &mut ReplyText, programs: &[Program], number: u32) -> Result<
     }
 }
 
-/// Appends the line of an engine of the standings.
+/// Appends the line of an engine in the standings.
 fn write_place(out: &mut ReplyText, programs: &[Program], place: Place) -> Result<(), AllocError>
     ensures { OnOk result (out.new ≡ out.old ++ standing_text programs.now place) }
 {
@@ -139,7 +139,7 @@ fn write_places(
     Ok(())
 }
 
-/// The text that tells a cup whose games were all played.
+/// The text that reports a cup whose games were all played.
 pub(crate) fn tell_cup<L: Link, G: Game + Drop>(
     alloc: Global,
     programs: &[Program],

@@ -70,7 +70,7 @@ module _ (b c : Stacks) (x : ℕ) (p : Place) (is_b : IsBoard b) (is_c : IsBoard
   pub not_on : (q : Place) → top_at b q ≡ Some x → ⊥
   not_on q top = gone q (height_at b q - 1) top
 
-  -- on a place that was occupied the piece stands on the one that was on top
+  -- on a place that was occupied, the piece is on the one that was on top
   pub under_is : under_of c x ≡ top_at b p
   under_is =
       let back : lift c x ≡ b = ap (λ d. lift d x) made ∙ lift_put b x p is_b (is_c.pieces p (height_at b p) x stands_new) (is_c.within p now_occupied) gone in
@@ -133,7 +133,7 @@ module _ (b c : Stacks) (x : ℕ) (p : Place) (is_b : IsBoard b) (is_c : IsBoard
         at : (d : Dir) → is_occupied c (step p d) ≡ is_occupied b (step p d)
         at d = same_else b c p raised empty (step p d) (step_moves p d)
 
-    -- each other place is separating where it was, or is a suspect
+    -- each other place is separating if it was, or is a suspect
     same_or_suspect : OneArc (is_occupied b) p → (q : Place) → q ≢ p → IsTrue (is_occupied b q) → (IsSeparating c q ↔ IsSeparating b q) ⊎ ((d : Dir) × (step p d ≡ q) × (is_suspect (ring (is_occupied b) p) d ≡ true))
     same_or_suspect arc q other on = elim (are_neighbours p q) as (λ t. are_neighbours p q ≡ t → (IsSeparating c q ↔ IsSeparating b q) ⊎ ((d : Dir) × (step p d ≡ q) × (is_suspect (ring (is_occupied b) p) d ≡ true))) [
       | false ↦ λ e. inl (separates_same b c p raised empty q other (arc_without b p q (λ n. let wrong : false ≡ true = sym e ∙ from_neighbours p q n in cc) arc))

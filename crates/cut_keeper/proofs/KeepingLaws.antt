@@ -114,7 +114,7 @@ unmarked_uncut b ms p top stood here off cut =
     let wrong : false ≡ true = cc in
     cc
 
--- and a marked one is a cut place where it has one piece
+-- and a marked one is a cut place if it has one piece
 pub marked_cut : (b : Stacks) (ms : List Bool) (p : Place) (top n : ℕ) → MarksSeparating b ms → n ≡ height_at b p → top_at b p ≡ Some top → slice_get ms top ≡ Some true → IsTrue (nat_eq n 1) ↔ IsCut b p
 marked_cut b ms p top n stood height here on = (
   λ e. record { alone = sym height ∙ eqb-true n 1 e; separates = (stood p top here).0 on },
@@ -126,7 +126,7 @@ marked_cut b ms p top n stood height here on = (
 abbrev top_spot : Stacks → Place → Spot
 top_spot b p = record { place = p; level = height_at b p - 1 }
 
--- a piece that is on top of a place stands there
+-- a piece that is on top of a place is on that place
 pub top_stands : (b : Stacks) → IsBoard b → (x : ℕ) (s : Spot) → spot_of b x ≡ Some s → (p : Place) → top_at b p ≡ Some x → s.place ≡ p
 top_stands b is x s e p top =
     let both : Some s ≡ Some (top_spot b p) = sym e ∙ stands_spot_of b is x p (height_at b p - 1) top in
@@ -137,7 +137,7 @@ top_on_board b is x off p top =
     let wrong : None ≡ Some (top_spot b p) = sym off ∙ stands_spot_of b is x p (height_at b p - 1) top in
     absurd (cc)
 
--- and a piece stands on an occupied place
+-- and a piece is on an occupied place
 pub spot_occupied : (b : Stacks) (x : ℕ) (s : Spot) → spot_of b x ≡ Some s → IsTrue (is_occupied b s.place)
 spot_occupied b x s e = let low = get_within (stack_at b s.place) s.level x (spot_of_stands b x s e) in lt-ltb 0 _ (omega (arith, low))
 

@@ -89,7 +89,7 @@ same_bool true false h = sym h
 same_bool false true h = h
 same_bool false false h = refl
 
--- the mask has one arc exactly where the ring has
+-- the mask has one arc exactly if the ring has
 arcs_test : (Dir → Bool) → Bool
 arcs_test r = bool_eq (nat_eq (arcs (ring_mask r)) 1) (is_arc r)
 
@@ -101,7 +101,7 @@ pub arcs_ring : (r : Dir → Bool) → nat_eq (arcs (ring_mask r)) 1 ≡ is_arc 
 unfolding arcs_test
 arcs_ring r = same_bool _ _ (ring_at arcs_test arcs_all r)
 
--- and likewise where a neighbour is gone
+-- and likewise after a neighbour is gone
 off_test : (Dir → Bool) → Bool
 off_test r = list_all (λ d. not (r d) || bool_eq (nat_eq (arcs (ring_mask r - weight d)) 1) (is_arc (off r d))) dirs
 

@@ -1,4 +1,4 @@
-//! Marks made right for a board, one place after another.
+//! Corrects the marks for a board, one place after another.
 
 ghost use Rattle.std.specs.Prelude.{
   ◌≡◌,
@@ -28,7 +28,7 @@ use hive_model::{Board, Dir, Piece, Place};
 use one_hive::{Marks, Steps, walk_parts};
 use std::sync::ledger::Ledger;
 
-/// Where a piece was put or taken: the place, the mask of its occupied neighbours, and Euler's
+/// The place at which a piece was put or taken, the mask of its occupied neighbours, and Euler's
 /// number of the board.
 #[derive(Clone, Copy)]
 pub(crate) struct Site {
@@ -44,8 +44,9 @@ pub(crate) struct Topped {
     pub(crate) top: Piece,
 }
 
-/// Whether an occupied place is separating: its arcs and Euler's number tell, always where the
-/// number is 1, and of another a walk tells, which ends as soon as it met all its neighbours.
+/// Whether an occupied place is separating. Its arcs and Euler's number decide, always if the
+/// number is 1. Otherwise a walk may have to decide. It ends once it has met all neighbours of the
+/// place.
 fn is_separating<B: Board, L: Ledger>(
     board: &B,
     number: i32,
@@ -67,7 +68,7 @@ fn is_separating<B: Board, L: Ledger>(
     walk_parts(board, place, steps)
 }
 
-/// Makes the mark of an occupied place right.
+/// Corrects the mark of an occupied place.
 pub(crate) fn examine<B: Board, L: Ledger>(
     marks: &mut Marks,
     board: &B,
@@ -88,7 +89,7 @@ pub(crate) fn examine<B: Board, L: Ledger>(
     marks.give(at.top, is_cut);
 }
 
-/// Makes the mark of an occupied place right: it can be wrong only where it is what is doubted.
+/// Corrects the mark of an occupied place, which can be wrong only if its value is `doubted`.
 fn examine_doubted<B: Board, L: Ledger>(
     marks: &mut Marks,
     board: &B,
@@ -113,7 +114,7 @@ fn examine_doubted<B: Board, L: Ledger>(
     }
 }
 
-/// Makes the mark of the neighbour in this direction right, if it is a suspect.
+/// Corrects the mark of the neighbour in this direction, if it is a suspect.
 #[tactic(auto, using(hive_model::proofs::PlaceLemmas::wider))]
 fn beside_one<B: Board, L: Ledger>(
     marks: &mut Marks,
@@ -147,7 +148,7 @@ fn beside_one<B: Board, L: Ledger>(
     }
 }
 
-/// Makes the marks of the neighbours that are suspects right.
+/// Corrects the marks of the neighbours that are suspects.
 pub(crate) fn beside<B: Board, L: Ledger>(
     marks: &mut Marks,
     board: &B,

@@ -1,4 +1,4 @@
-//! The keeper, and a board with it.
+//! The keeper, and a board with its keeper.
 
 ghost use Rattle.std.specs.Prelude.{
   ◌≡◌,
@@ -30,9 +30,10 @@ use one_hive::{Marks, Steps};
 use std::marker::{Brand, Model};
 use std::sync::ledger::{Blank, Ledger};
 
-/// Euler's number of a board that is one hive, and marks for each piece: where a keeper stands for a
-/// board, a piece that is on top of a place is in `marks` exactly where the place is separating,
-/// `tops` has the pieces on top of their places, and `high` those that stand on another piece.
+/// Euler's number of a board that is one hive, and marks for each piece. If a keeper stands for a
+/// board, a piece that is on top of a place is in `marks` exactly if the place is separating. The
+/// pieces on top of their places are in `tops`, and those that stand on another piece are in
+/// `high`.
 #[derive(Drop)]
 pub struct CutKeeper {
     number: i32,
@@ -49,8 +50,8 @@ impl Model for CutKeeper {
     ghost view = { λ k. record { number = k.number; marks = k.marks; tops = k.tops; high = k.high } };
 }
 
-/// What a place adds to Euler's number of the board while it is occupied: 1, less the arcs of
-/// occupied neighbours round it.
+/// What a place adds to Euler's number of the board while it is occupied: 1, minus the arcs of
+/// occupied neighbours around it.
 fn added_by<B: Board>(board: &B, place: Place) -> i32
     requires { IsOnTheMap place }
     ensures added { result ≡ pos 1 -ℤ pos (arcs_at (B.stacks board.now) place) }
@@ -60,7 +61,7 @@ fn added_by<B: Board>(board: &B, place: Place) -> i32
     1 - arcs(board.neighbours(place)) as i32
 }
 
-/// Euler's number of the board, after a piece was put on top of the place, by a keeper that stood
+/// Euler's number of the board after a piece was put on top of the place, from a keeper that stood
 /// for the board before.
 fn number_with<B: Board>(keeper: &CutKeeper, board: &B, piece: Piece, place: Place) -> i32
     requires grown { Grown keeper.now (B.stacks board.now) piece place }
@@ -73,8 +74,8 @@ fn number_with<B: Board>(keeper: &CutKeeper, board: &B, piece: Piece, place: Pla
     keeper.number + added_by(board, place)
 }
 
-/// Euler's number of the board, after a piece was taken from the top of the place, by a keeper that
-/// stood for the board before.
+/// Euler's number of the board after a piece was taken from the top of the place, from a keeper
+/// that stood for the board before.
 fn number_without<B: Board>(keeper: &CutKeeper, board: &B, piece: Piece, place: Place) -> i32
     requires shrunk { Shrunk keeper.now (B.stacks board.now) piece place }
     requires within { IsOnTheMap place }
@@ -88,7 +89,7 @@ fn number_without<B: Board>(keeper: &CutKeeper, board: &B, piece: Piece, place: 
 }
 
 impl CutKeeper {
-    /// Stands for the empty board.
+    /// The keeper that stands for the empty board.
     pub fn new() -> CutKeeper
         ensures { Keeps [] result }
     {
@@ -100,7 +101,7 @@ impl CutKeeper {
         }
     }
 
-    /// The same keeper once more.
+    /// A copy of the keeper.
     pub fn again(&self) -> CutKeeper
         ensures { result ≡ self.now }
     {
@@ -112,9 +113,9 @@ impl CutKeeper {
         }
     }
 
-    /// After the piece was put on top of the place, makes a keeper that stood for the board before
-    /// stand for the board. It takes no step where the place was occupied before, none where Euler's
-    /// number is 1 then, and else at most 3.
+    /// Updates a keeper after the piece was put on top of the place: it stood for the board before,
+    /// and then stands for this board. It takes no step if the place was occupied before, or if
+    /// Euler's number is now 1. Otherwise it takes at most 3.
     pub fn added<B: Board, L: Ledger>(
         &mut self,
         board: &B,
@@ -137,9 +138,9 @@ impl CutKeeper {
         high_added(&mut self.high, board, piece, place);
     }
 
-    /// After the piece was taken from the top of the place, makes a keeper that stood for the board
-    /// before stand for the board. It takes no step where the place is occupied still, none where
-    /// Euler's number is 1 then, and else at most 3.
+    /// Updates a keeper after the piece was taken from the top of the place: it stood for the board
+    /// before, and then stands for this board. It takes no step if the place is still occupied, or
+    /// if Euler's number is now 1. Otherwise it takes at most 3.
     pub fn removed<B: Board, L: Ledger>(
         &mut self,
         board: &B,
@@ -161,7 +162,7 @@ impl CutKeeper {
         top_removed(&mut self.tops, board, piece, place);
     }
 
-    /// Whether a place of the board that it stands for is a cut place.
+    /// Whether a place of the board that the keeper stands for is a cut place.
     pub fn is_cut<B: Board>(&self, board: &B, place: Place) -> bool
         requires { Keeps (B.stacks board.now) self.now }
         ensures { IsTrue result ↔ IsCut (B.stacks board.now) place }
@@ -172,8 +173,8 @@ impl CutKeeper {
         }
     }
 
-    /// Whether the place, whose top piece is given, is a cut place: few are marked, so that its
-    /// height is seldom read.
+    /// Whether the place, whose top piece is given, is a cut place. Few pieces are marked, so that
+    /// its height is seldom read.
     fn is_cut_below<B: Board>(&self, board: &B, place: Place, top: Piece) -> bool
         requires keeps { Keeps (B.stacks board.now) self.now }
         requires top { top_at (B.stacks board.now) place ≡ Some top }
@@ -185,8 +186,8 @@ impl CutKeeper {
         board.height(place) == 1
     }
 
-    /// The pieces of the board that it stands for which are on top of their places and stand on no
-    /// cut place, as a number with a bit for each piece.
+    /// The free pieces of the board that the keeper stands for, as a number with one bit a piece.
+    /// They are on top of their places and do not stand on a cut place.
     pub fn free_pieces<B: Board>(&self, board: &B) -> u32
         requires { Keeps (B.stacks board.now) self.now }
         ensures { result ≡ free_pieces (B.stacks board.now) None }

@@ -1,5 +1,5 @@
-//! Marks of the pieces on top of places, and of those that stand on others, kept up after one piece
-//! was put on a place or taken from it.
+//! Updates two kinds of marks after one piece was put on a place or taken from it: those of the
+//! pieces on top of places, and those of the pieces that stand on others.
 
 ghost use Rattle.hive_model.specs.Boards.{IsBoard};
 ghost use Rattle.cut_keeper.specs.Keeping.{
@@ -13,7 +13,7 @@ ghost use Rattle.cut_keeper.specs.Keeping.{
 use hive_model::{Board, Piece, Place};
 use one_hive::Marks;
 
-/// After the piece was put on top of the place, marks it, and the piece that it covers no more.
+/// After the piece was put on top of the place, marks it and unmarks the piece that it covers.
 pub(crate) fn top_added<B: Board>(tops: &mut Marks, board: &B, piece: Piece, place: Place)
     requires sound { IsBoard (B.stacks board.now) }
     requires grown { TopsGrown tops.old (B.stacks board.now) piece place }
@@ -25,8 +25,8 @@ pub(crate) fn top_added<B: Board>(tops: &mut Marks, board: &B, piece: Piece, pla
     }
 }
 
-/// After the piece was taken from the top of the place, marks it no more, and the piece that it
-/// covered again.
+/// After the piece was taken from the top of the place, unmarks it and marks the piece that it
+/// covered.
 pub(crate) fn top_removed<B: Board>(tops: &mut Marks, board: &B, piece: Piece, place: Place)
     requires sound { IsBoard (B.stacks board.now) }
     requires shrunk { TopsShrunk tops.old (B.stacks board.now) piece place }

@@ -1,4 +1,4 @@
-//! Marks kept up after one piece was put on a place or taken from it.
+//! Updates the marks of separating places after one piece was put on a place or taken from it.
 
 ghost use Rattle.std.specs.Prelude.{
   ◌≡◌,
@@ -31,8 +31,8 @@ use hive_model::{Board, Dir, Piece, Place};
 use one_hive::{Marks, Steps, mark_separating};
 use std::sync::ledger::Ledger;
 
-/// Gives the piece the mark of the place that it stands on, if it is on the board, which is one
-/// hive with no hole.
+/// Sets the mark of a piece by the place that it stands on, if it is on the board. The board is one
+/// hive without holes.
 fn mark_by_arcs<B: Board>(marks: &mut Marks, board: &B, piece: Piece)
     requires one_hive { OneHive (B.stacks board.now) }
     requires number { euler_number (B.stacks board.now) ≡ pos 1 }
@@ -46,7 +46,7 @@ fn mark_by_arcs<B: Board>(marks: &mut Marks, board: &B, piece: Piece)
     }
 }
 
-/// Makes all marks right, of a board that is one hive with no hole.
+/// Corrects all marks for a board that is one hive without holes.
 fn mark_all_by_arcs<B: Board>(marks: &mut Marks, board: &B)
     requires one_hive { OneHive (B.stacks board.now) }
     requires number { euler_number (B.stacks board.now) ≡ pos 1 }
@@ -58,8 +58,8 @@ fn mark_all_by_arcs<B: Board>(marks: &mut Marks, board: &B)
     }
 }
 
-/// Makes all marks right, of a board that is one hive, and whose Euler's number is given: by one
-/// walk where that is not 1.
+/// Corrects all marks for a board that is one hive and whose Euler's number is given. It makes one
+/// walk if that is not 1.
 fn mark_all<B: Board, L: Ledger>(marks: &mut Marks, board: &B, number: i32, steps: &mut Steps<L>)
     requires one_hive { OneHive (B.stacks board.now) }
     requires number { number ≡ euler_number (B.stacks board.now) }
@@ -83,7 +83,7 @@ fn hand_on(marks: &mut Marks, from: Piece, to: Piece)
     marks.give(to, is_set);
 }
 
-/// A piece was put on a place that was occupied: no place but it has another top piece.
+/// A piece was put on a place that was occupied. Only that place has another top piece.
 fn added_above<B: Board>(marks: &mut Marks, board: &B, piece: Piece, place: Place)
     requires sound { IsBoard (B.stacks board.now) }
     requires grown { MarksGrown marks.old (B.stacks board.now) piece place }
@@ -95,7 +95,7 @@ fn added_above<B: Board>(marks: &mut Marks, board: &B, piece: Piece, place: Plac
     }
 }
 
-/// A piece was put beside one occupied place alone: that place holds it to the others, if there are
+/// A piece was put beside one occupied place only. That place joins it to the others, if there are
 /// any.
 fn added_beside_one<B: Board>(marks: &mut Marks, board: &B, piece: Piece, place: Place, dir: Dir)
     requires sound { IsBoard (B.stacks board.now) }
@@ -138,8 +138,8 @@ fn added_beside<B: Board, L: Ledger>(
     }
 }
 
-/// After a piece was put on top of the place, makes what stood for the board before stand for the
-/// board.
+/// Updates the marks after a piece was put on top of the place: they were right for the board
+/// before, and then are for this board.
 pub(crate) fn added<B: Board, L: Ledger>(
     marks: &mut Marks,
     board: &B,
@@ -174,7 +174,7 @@ pub(crate) fn added<B: Board, L: Ledger>(
     mark_all(marks, board, number, steps);
 }
 
-/// A piece was taken from a place that is occupied still: no place but it has another top piece.
+/// A piece was taken from a place that is still occupied. Only that place has another top piece.
 fn removed_above<B: Board>(marks: &mut Marks, board: &B, piece: Piece, place: Place, top: Piece)
     requires sound { IsBoard (B.stacks board.now) }
     requires shrunk { MarksShrunk marks.old (B.stacks board.now) piece place }
@@ -184,7 +184,7 @@ fn removed_above<B: Board>(marks: &mut Marks, board: &B, piece: Piece, place: Pl
     hand_on(marks, piece, top);
 }
 
-/// A piece was taken that stood beside one occupied place alone.
+/// A piece was taken that stood beside one occupied place only.
 fn removed_beside_one<B: Board, L: Ledger>(
     marks: &mut Marks,
     board: &B,
@@ -233,8 +233,8 @@ fn removed_beside<B: Board, L: Ledger>(
     }
 }
 
-/// After a piece was taken from the top of the place, makes what stood for the board before stand
-/// for the board.
+/// Updates the marks after a piece was taken from the top of the place: they were right for the
+/// board before, and then are for this board.
 pub(crate) fn removed<B: Board, L: Ledger>(
     marks: &mut Marks,
     board: &B,

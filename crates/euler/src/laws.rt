@@ -1,5 +1,4 @@
-//! Laws of Euler's number. They have no code: a function here has its law as its contract, and an
-//! empty body.
+//! Laws of Euler's number, as contracts of functions that do nothing.
 
 ghost use Rattle.euler.specs.Euler.{
   PutLaw,
@@ -14,28 +13,28 @@ ghost use Rattle.euler.specs.Euler.{
   ManyArcsLaw,
 };
 
-/// A piece that is put on an empty place adds 1 to the number, less the arcs of occupied neighbours
-/// round that place. On an occupied place it changes nothing.
+/// A piece on an empty place adds 1 to the number, minus the arcs of occupied neighbours around the
+/// place. On an occupied place it changes nothing.
 pub fn puts_change_the_number()
     ensures empty { PutLaw }
     ensures occupied { PutOnLaw }
 {}
 
-/// What a place had added goes when it is cleared, or when its one piece is lifted: 1, less the
-/// arcs of occupied neighbours round it. A piece that is lifted from another changes nothing.
+/// A place that is cleared, or whose one piece is lifted, takes away what it had added: 1, minus
+/// the arcs of occupied neighbours around it. A piece that is lifted from another changes nothing.
 pub fn lifts_change_the_number()
     ensures cleared { ClearedLaw }
     ensures ground { LiftLaw }
     ensures above { LiftOffLaw }
 {}
 
-/// Where a walk over occupied places leads from each occupied place to one on a list, the number is
+/// If each occupied place is joined to one on a list by a walk over occupied places, the number is
 /// at most the length of that list.
 pub fn parts_bound_the_number()
     ensures { PartsLaw }
 {}
 
-/// Of one hive the number is at most 1.
+/// The number of one hive is at most 1.
 pub fn one_hive_is_one_part()
     ensures { OneHiveLaw }
 {}
@@ -45,14 +44,14 @@ pub fn few_arcs_are_no_cut()
     ensures { FewArcsLaw }
 {}
 
-/// Of one hive with the number 1 an occupied place is separating exactly where its occupied
-/// neighbours form two arcs or more.
+/// On one hive with the number 1, an occupied place is separating exactly if its occupied
+/// neighbours form two or more arcs.
 pub fn arcs_tell_cuts()
     ensures { ArcsCutLaw }
 {}
 
-/// A place is separating where Euler's number of the board and the arcs of its occupied neighbours
-/// come to 3 or more.
+/// An occupied place is separating if Euler's number of the board and the number of arcs of its
+/// occupied neighbours add up to 3 or more.
 pub fn many_arcs_are_a_cut()
     ensures { ManyArcsLaw }
 {}

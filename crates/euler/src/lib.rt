@@ -1,10 +1,11 @@
-//! Euler's number of a board, and what it tells of cut places.
+//! Euler's number of a board, and the test of a separating place that it allows.
 //!
-//! The number of occupied places, less the number of touching pairs of them, plus the number of
-//! triangles of them: that is the number of separate parts of the board less the number of holes in
-//! it. A piece that comes onto an empty place adds 1, less the arcs that its occupied neighbours
-//! form. Of one hive with no hole the number is 1, and then a place is separating exactly where its
-//! neighbours form two arcs or more: no walk over the board is needed.
+//! It is the number of occupied places, minus the number of pairs of neighbours among them, plus
+//! the number of triangles of them. That is the number of separate parts of the board minus the
+//! number of its holes. A piece on an empty place adds 1, minus the arcs that its occupied
+//! neighbours form. One hive without holes has the number 1. Then a place is separating (an
+//! articulation point) exactly if its occupied neighbours form two or more arcs, and no walk over
+//! the board is needed.
 #![tactic(auto)]
 
 mod laws;

@@ -1,4 +1,4 @@
-//! Euler's number of a board, counted, and the test of a separating place that it allows.
+//! Euler's number of a board, computed, and the test of a separating place that it allows.
 
 ghost use Rattle.std.specs.Prelude.{◌≡◌, ◌↔◌, ◌<◌, ◌≤ℤ◌, pos, negsuc, IsTrue, IfSome, is_some};
 ghost use Rattle.hive_model.specs.Boards.{is_occupied, spot_of};
@@ -20,7 +20,7 @@ fn worth(mask: u8) -> i32
     1 - arcs(mask & 7) as i32
 }
 
-/// What a piece counts: a piece on the ground what its place does, and another piece nothing.
+/// What a piece counts: what its place does if it is on the ground, and 0 otherwise.
 fn counted<B: Board>(board: &B, piece: Piece) -> i32
     ensures counted { result ≡ counted (B.stacks board.now) (spot_of (B.stacks board.now) piece) }
     ensures low { negsuc 0 ≤ℤ result }
@@ -35,7 +35,7 @@ fn counted<B: Board>(board: &B, piece: Piece) -> i32
     worth(board.neighbours(spot.place))
 }
 
-/// Euler's number of the board: its occupied places, less their touching pairs, plus their
+/// Euler's number of the board: its occupied places, minus their pairs of neighbours, plus their
 /// triangles.
 pub fn euler_number<B: Board>(board: &B) -> i32
     ensures { result ≡ euler_number (B.stacks board.now) }
@@ -48,8 +48,8 @@ pub fn euler_number<B: Board>(board: &B) -> i32
     number
 }
 
-/// Whether an occupied place is separating, by the mask of its occupied neighbours, where the board
-/// is one hive with Euler's number 1: they form two arcs or more.
+/// Whether an occupied place of one hive with Euler's number 1 is separating, by the mask of its
+/// occupied neighbours: they form two or more arcs.
 pub fn is_separating_by_arcs(mask: u8) -> bool
     requires { mask < 64 }
     ensures { TellsCuts mask result }
@@ -57,8 +57,8 @@ pub fn is_separating_by_arcs(mask: u8) -> bool
     arcs(mask) > 1
 }
 
-/// Whether an occupied place of a board is separating, where the board is one hive with Euler's
-/// number 1. It asks for the neighbours of that place alone.
+/// Whether an occupied place of one hive with Euler's number 1 is separating. It reads the
+/// neighbours of that place only.
 pub fn is_separating_on<B: Board>(board: &B, place: Place) -> bool
     requires one_hive { OneHive (B.stacks board.now) }
     requires number { euler_number (B.stacks board.now) ≡ pos 1 }
@@ -70,10 +70,10 @@ pub fn is_separating_on<B: Board>(board: &B, place: Place) -> bool
     is_separating_by_arcs(board.neighbours(place))
 }
 
-/// Whether an occupied place is separating, by the mask of its occupied neighbours, where the board
-/// is one hive with this Euler's number: it is not where they form fewer than two arcs, and it is
-/// where the arcs and the number come to 3 or more. That is all where the number is 1; where it is
-/// less, no answer comes for the others.
+/// Whether an occupied place of one hive with this Euler's number is separating, by the mask of its
+/// occupied neighbours. It is not if they form fewer than two arcs. It is if the arcs and the
+/// number add up to 3 or more. If the number is 1, this decides every place. If it is less, the
+/// answer for the other places is `None`.
 pub fn told_by_arcs(mask: u8, number: i32) -> Option<bool>
     requires { mask < 64 }
     ensures told { IfSome result (TellsBeside mask number) }

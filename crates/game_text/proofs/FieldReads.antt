@@ -1,4 +1,4 @@
--- What the readers of fields answer is what the functions compute.
+-- The readers of fields return what the functions compute.
 use Rattle.std.proofs.Common.{◌≡◌, Bool, ℕ, List, ◌∷◌, refl, ◌∙◌, ap}
 use Rattle.std.specs.Prelude.{Option, Some, None}
 use Rattle.hive_model.specs.declared.pieces.GameType.{GameType}
@@ -7,7 +7,7 @@ use Rattle.hive_model.specs.Strings.{parts}
 use Rattle.move_text.specs.Readers.{type_at, state_at}
 use Rattle.game_text.specs.Reading.{at_state, after_type, at_type, game_at, game_under}
 
--- a reader that finds only what is so finds nothing where nothing is so
+-- a reader that finds only what is true finds nothing if nothing is true
 pub none_read : {X : Type 0} (at : List ℕ → Option X) (Is : List ℕ → X → Type 0) → ((text : List ℕ) (x : X) → at text ≡ Some x → Is text x) → (text : List ℕ) → ((x : X) → ¬ Is text x) → at text ≡ None
 none_read {X} at Is found text none = go (at text) refl
   where

@@ -1,4 +1,4 @@
--- A line is read as a game exactly where it is that game.
+-- A line is read as a game exactly if it is that game.
 use Rattle.std.proofs.Common.{◌≡◌, ℕ, ◌+◌, ◌≤◌, Bool, true, false, List, [], ◌∷◌, length, Result, Ok, Err, refl, sym, ◌∙◌, ap, subst, arith, inl, inr}
 use Rattle.std.specs.Prelude.{Option, Some, None, nat_eq, nat_lt, IfOk, IfErr, ◌&&◌, if◌then◌else◌}
 use Rattle.std.proofs.lemmas.Bool.{and_parts, eqb-true, eq-eqb, ltb-false, le-ltb}
@@ -188,7 +188,7 @@ under_again r line t ms (inr (f, stands)) =
     ∙ ap (λ (b : Bool). if b then (if is_turn_of (record { side = (replay (opening t) ms).side; number = (replay (opening t) ms).turn }) (replay (opening t) ms) then Ok (record { game_type = t; moves = ms }) else Err OtherTurn) else Err OtherState) (is_state_itself (outcome_under r t ms))
     ∙ ap (λ (b : Bool). if b then Ok (record { game_type = t; moves = ms }) else Err OtherTurn) (is_turn_itself (record { side = (replay (opening t) ms).side; number = (replay (opening t) ms).turn }) (replay (opening t) ms) refl refl)
 
--- Where the rule is switched off
+-- If the rule is off
 
 pub off_plain : OffIsPlain
 off_plain line t ms = (to, from)

@@ -1,4 +1,5 @@
--- No move follows the end of a game under the rule of third repetition: the test on keys, and the games that stand.
+-- No move follows the end of a game under the rule of third repetition: the test on keys, and the
+-- games that stand.
 use Rattle.std.proofs.Common.{◌≡◌, suc, Bool, true, false, not, ◌&&◌, List, [], ◌∷◌, ◌++◌, ◌⊎◌, inl, inr, length, map, refl, sym, ◌∙◌, ap, subst, append_assoc, append-nil}
 use Rattle.std.specs.Prelude.{nat_le, IsTrue}
 use Rattle.hive_model.specs.declared.pieces.GameType.{GameType}
@@ -116,7 +117,7 @@ not_follows r seen p m e = go (is_third r seen) refl
     go true f = inl f
     go false f = inr (sym (ap (λ b. not b && is_listed p m) f) ∙ e)
 
--- where the game is over no move follows
+-- if the game is over, no move follows
 pub over_stops : (r : Bool) (t : GameType) (front : List Move) (seen : List KeyParts) (p : Position) (m : Move) → IsReached t front seen p → IsTrue (is_over_state (outcome_under r t front)) → may_follow r seen p m ≡ false
 over_stops r t front seen p m h over = go (may_follow r seen p m) refl
   where

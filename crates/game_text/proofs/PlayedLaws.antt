@@ -11,7 +11,7 @@ use Rattle.hive_model.specs.Games.{replay, IsGame}
 use Rattle.hive_model.specs.Courses.{Course, position, with_move}
 use Rattle.game_text.proofs.WriteLaws.{legal_next, taken_next}
 
--- so many of the moves were played, and there is room for the others
+-- this many of the moves were played, and there is room for the others
 pub record IsPlayed (t : GameType) (ms : List Move) (c : Course) (i : ℕ) : Type 0 where
   pub kind : c.game_type ≡ t
   pub made : c.made ≡ take i ms

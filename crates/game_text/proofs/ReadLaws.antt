@@ -70,7 +70,7 @@ step_ok r seen front p x xs n m h =
     twice (Ok ms) = ap (λ l. Ok l) (sym (append_assoc front (m ∷ []) ms))
     twice (Err fault) = refl
 
--- the moves in front were played, and those of the parts are still to be read
+-- the moves in front were played, and those of the parts are yet to be read
 pub record IsUnderWay (r : Bool) (c : Course) (t : GameType) (front : List Move) (ps : List (List ℕ)) (n : ℕ) (read : Result (List Move) GameFault) : Type 0 where
   pub rest : prefixed front (moves_of r (keys c.game_type c.made) (position c) ps n) ≡ read
   pub kind : c.game_type ≡ t

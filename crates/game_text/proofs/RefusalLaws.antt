@@ -1,4 +1,4 @@
--- A line is refused with a fault exactly where the rule's words of that fault hold.
+-- A line is refused with a fault exactly if the rule's words of that fault hold.
 use Rattle.std.proofs.Common.{◌≡◌, ◌≢◌, ℕ, suc, ◌+◌, ◌≤◌, Bool, true, false, List, [], ◌∷◌, ◌++◌, length, Result, Ok, Err, refl, sym, ◌∙◌, ap, subst, arith, ◌⊎◌, inl, inr}
 use Rattle.std.specs.Prelude.{Option, Some, None, IfErr, IsTrue, nat_lt, if◌then◌else◌}
 use Rattle.std.proofs.lemmas.Bool.{ltb-true, ltb-false, lt-ltb}
@@ -74,7 +74,7 @@ empty_again ((b ∷ bs) ∷ xs) behind n h =
 
 -- The fault that was read is one of the line
 
--- the line is read up to where it stops
+-- the line is read up to its stop
 read_to_stop : (r : Bool) (line : List ℕ) (t : GameType) (s : State) (u : DeclaredTurn) (texts : List (List ℕ)) (k : ℕ) (text : List ℕ) (made : List Move) → HasForm line t s u texts → length texts ≤ 5000
     → StopsAt r (keys t []) (opening t) texts 1 k text made → IsReadUpTo r line k t made text
 read_to_stop r line t s u texts k text made form few at = record {
@@ -269,7 +269,7 @@ whole_again r line h =
     ∙ ap (confirmed r h.game_type h.declared h.turn)
     (moves_again r (keys h.game_type []) (opening h.game_type) h.texts 1 h.made h.denote h.legal (stands_open r h.game_type h.made h.stands))
 
--- what is told of a line that was read whole, by whether its turn is that of the game
+-- what holds of a line that was read whole, by whether its turn is that of the game
 by_turn : {r : Bool} {line : List ℕ} → IsReadWhole r line → Bool → Result Parsed GameFault
 by_turn h b = if b then Ok (record { game_type = h.game_type; moves = h.made }) else Err OtherTurn
 

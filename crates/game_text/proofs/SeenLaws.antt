@@ -1,4 +1,4 @@
--- The keys that are kept are those of the game's positions.
+-- The keys that are stored are those of the game's positions.
 use Rattle.std.proofs.Common.{◌≡◌, ◌≤◌, ◌<◌, Bool, true, false, List, [], ◌∷◌, ◌++◌, length, map, refl, sym, ◌∙◌, ap, subst, arith}
 use Rattle.std.specs.Prelude.{IsTrue, if◌then◌else◌}
 use Rattle.hive_model.specs.declared.places.Move.{Move}

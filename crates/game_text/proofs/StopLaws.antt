@@ -1,4 +1,4 @@
--- Where the reading of moves stops, and with which fault.
+-- At which move the reading stops, and with which fault.
 use Rattle.std.proofs.Common.{◌≡◌, ℕ, suc, ◌+◌, ◌≤◌, ◌<◌, Bool, true, false, List, [], ◌∷◌, ◌++◌, length, Result, Ok, Err, refl, sym, ◌∙◌, ap, subst, arith, ◌⊎◌, inl, inr}
 use Rattle.hive_model.specs.declared.places.Move.{Move}
 use Rattle.hive_model.specs.Lists.{IsOn}
@@ -21,7 +21,8 @@ use Rattle.game_text.specs.Reading.{prefixed, if_legal, on_move, is_third, may_f
 use Rattle.hive_model.proofs.ListedLaws.{listed_on, on_listed}
 use Rattle.game_text.proofs.OpenLaws.{follows, follows_again, not_follows, seen_by, AreOpen}
 
--- the moves before this text are legal, none follows a draw by repetition, and the texts in front of it denote them
+-- the moves before this text are legal, none follows a draw by repetition, and the texts in front
+-- of it denote them
 pub record StopsAt (r : Bool) (seen : List KeyParts) (p : Position) (xs : List (List ℕ)) (n k : ℕ) (text : List ℕ) (ms : List Move) : Type 0 where
   pub front : List (List ℕ)
   pub behind : List (List ℕ)

@@ -17,7 +17,7 @@ use Rattle.move_text.proofs.LegalSpell.{listed_within}
 use Rattle.rule_laws.proofs.Games.{games_sound}
 use Rattle.game_text.proofs.OpenLaws.{replay_more}
 
--- Parts behind others
+-- Parts after others
 
 -- each part with a semicolon before it
 abbrev pub behind : List (List ℕ) → List ℕ
@@ -54,7 +54,7 @@ taken_size [] (suc i) = omega arith
 taken_size (k ∷ ms) zero = omega arith
 taken_size (k ∷ ms) (suc i) = let rest = taken_size ms i in omega (arith, rest)
 
--- The parts that were kept
+-- The parts that were stored
 
 -- what was written, and the parts from this one on, are the string
 pub part_on : {X : Type 0} (bytes : X → List ℕ) (items : List X) (i : ℕ) (item : X) (front front2 all : List ℕ) → slice_get items i ≡ Some item → front2 ≡ front ++ 59 ∷ bytes item
@@ -84,7 +84,7 @@ parts_end {X} bytes items i p q r front start ps done before head seen =
 
 -- The copy
 
--- so many of the game's moves were played on the copy, and written
+-- this many of the game's moves were played on the copy, and written
 pub record IsCopying (g c : Course) (i : ℕ) (done : List (List ℕ)) : Type 0 where
   pub kind : c.game_type ≡ g.game_type
   pub made : c.made ≡ take i g.made

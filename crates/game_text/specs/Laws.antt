@@ -10,30 +10,30 @@ use Rattle.game_text.specs.declared.parsed.Parsed.{Parsed}
 use Rattle.game_text.specs.Reading.{game_of, game_under}
 use Rattle.game_text.specs.Refusals.{IsRefused, IsRefusedUnder}
 
--- the string of a game of at most 5,000 moves is a line that is this game
+-- The string of a game of at most 5,000 moves is a line that is this game.
 abbrev pub StringsAreGames : Type 0
 StringsAreGames =
     (t : GameType) (ms : List Move) → IsGame t ms → length ms ≤ 5000 → IsGameLine (string t ms) t ms
 
--- a line is at most one game
+-- A line is at most one game.
 abbrev pub IsOneGame : Type 0
 IsOneGame =
     (line : List ℕ) (t u : GameType) (ms ns : List Move) → IsGameLine line t ms
     → IsGameLine line u ns → (t ≡ u) × (ms ≡ ns)
 
--- the function that reads a line answers a game exactly where the line is that game
+-- The function that reads a line returns a game exactly if the line is that game.
 abbrev pub GamesAreRead : Type 0
 GamesAreRead =
     (line : List ℕ) (g : Parsed) → (game_of line ≡ Ok g) ↔ IsGameLine line g.game_type g.moves
 
--- and a fault exactly where the line is refused with that fault
+-- It returns a fault exactly if the line is refused with that fault.
 abbrev pub FaultsAreRead : Type 0
 FaultsAreRead =
     (line : List ℕ) (fault : GameFault) → (game_of line ≡ Err fault) ↔ IsRefused line fault
 
--- The same under the rule of third repetition, switched on or off
+-- The same under the rule of third repetition, on or off
 
--- the string of a game that stands is a line that is this game
+-- The string of a game that stands under the rule is a line that is this game.
 abbrev pub StringsAreGamesUnder : Type 0
 StringsAreGamesUnder =
     (r : Bool) (t : GameType) (ms : List Move) → IsGame t ms → StandsUnder r t ms → length ms ≤ 5000
@@ -54,7 +54,7 @@ FaultsAreReadUnder =
     (r : Bool) (line : List ℕ) (fault : GameFault)
     → (game_under r line ≡ Err fault) ↔ IsRefusedUnder r line fault
 
--- where the rule is switched off a line is a game under it exactly where it is a game
+-- If the rule is off, a line is a game under it exactly if it is a game.
 abbrev pub OffIsPlain : Type 0
 OffIsPlain =
     (line : List ℕ) (t : GameType) (ms : List Move)

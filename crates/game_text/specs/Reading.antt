@@ -25,7 +25,7 @@ use Rattle.game_text.specs.Turns.{turn_at}
 
 -- The moves, from the one with this number on
 
--- the moves in front, and then those that were read
+-- the moves in front, followed by those that were read
 abbrev pub prefixed : List Move → Result (List Move) GameFault → Result (List Move) GameFault
 prefixed front (Ok ms) = Ok (front ++ ms)
 prefixed front (Err fault) = Err fault
@@ -39,17 +39,16 @@ abbrev pub on_move : Result Move MoveFault → ℕ → (Move → Result (List Mo
 on_move (Err fault) n f = Err (BadMove n fault)
 on_move (Ok m) n f = f m
 
--- the rule of third repetition is switched on, and the last of these positions stands for the third
--- time
+-- The rule of third repetition is on, and the last of these positions occurs for the third time.
 abbrev pub is_third : Bool → List KeyParts → Bool
 is_third r seen = r && nat_le 3 (count_last seen)
 
--- the game is not drawn by that rule, and the move is legal, which none is where the game is over
+-- The game is not drawn by that rule, and the move is legal. No move is legal if the game is over.
 abbrev pub may_follow : Bool → List KeyParts → Position → Move → Bool
 may_follow r seen p m = not (is_third r seen) && is_listed p m
 
--- the moves that the texts denote, each on the board before it, or the fault of the first that is
--- refused; the keys are those of the positions up to this one
+-- The moves that the texts denote, each on the board before it, or the fault of the first that is
+-- refused. The keys are those of the positions up to this one.
 unfoldable pub moves_of : Bool → List KeyParts → Position → List (List ℕ) → ℕ
     → Result (List Move) GameFault
 moves_of r seen p [] n = Ok []
@@ -64,7 +63,7 @@ moves_from r t texts = moves_of r (keys t []) (opening t) texts 1
 
 -- The line
 
--- the number of the first empty part, where the first has this number
+-- the number of the first empty part, if the first part has the number k
 abbrev pub first_empty : List (List ℕ) → ℕ → Option ℕ
 first_empty [] k = None
 first_empty ([] ∷ xs) k = Some k
@@ -77,7 +76,7 @@ is_state s u = bytes_eq (state_bytes s) (state_bytes u)
 abbrev pub is_turn_of : DeclaredTurn → Position → Bool
 is_turn_of u end = is_colour u.side end.side && nat_eq u.number end.turn
 
--- the declared state is the outcome of the game, and the declared turn is that of its position
+-- The declared state must be the outcome of the game, and the declared turn that of its position.
 abbrev pub confirmed : Bool → GameType → State → DeclaredTurn → Result (List Move) GameFault
     → Result Parsed GameFault
 confirmed r t s u (Err fault) = Err fault
@@ -106,7 +105,7 @@ abbrev pub at_state : Bool → GameType → Option State → List (List ℕ) →
 at_state r t None rest = Err (Malformed 2)
 at_state r t (Some s) rest = after_state r t s rest
 
--- a type alone is its opening
+-- A type alone is its opening.
 abbrev pub after_type : Bool → GameType → List (List ℕ) → Result Parsed GameFault
 after_type r t [] = Ok (record { game_type = t; moves = [] })
 after_type r t (x ∷ rest) = at_state r t (state_at x) rest
@@ -119,17 +118,17 @@ abbrev pub game_at : Bool → List (List ℕ) → Result Parsed GameFault
 game_at r [] = Err (Malformed 1)
 game_at r (x ∷ rest) = at_type r (type_at x) rest
 
--- the game of a line, or the first fault, where the rule of third repetition is switched on or off
+-- the game of a line, or its first fault, with the rule of third repetition on or off
 unfoldable pub game_under : Bool → List ℕ → Result Parsed GameFault
 game_under r line = game_at r (parts line)
 
--- the same where it is switched off
+-- the same with the rule off
 abbrev pub game_of : List ℕ → Result Parsed GameFault
 game_of = game_under false
 
--- What a reader answers
+-- What a reader returns
 
--- the fault is that of the function, unless memory is wanting
+-- The fault is that of the function, unless memory ran out.
 abbrev pub Fails : {X : Type 0} → GameFault → Result X GameFault → Type 0
 Fails Memory read = Unit {0}
 Fails (Malformed k) read = read ≡ Err (Malformed k)
@@ -139,19 +138,19 @@ Fails (IllegalMove n) read = read ≡ Err (IllegalMove n)
 Fails OtherState read = read ≡ Err OtherState
 Fails OtherTurn read = read ≡ Err OtherTurn
 
--- the answer is that of the function, unless memory is wanting
+-- The result is that of the function, unless memory ran out.
 abbrev pub Agrees : {X : Type 0} → Result X GameFault → Result X GameFault → Type 0
 Agrees (Ok g) read = read ≡ Ok g
 Agrees (Err fault) read = Fails fault read
 
--- the text denotes the move, and it is legal in a game that is not drawn by the rule
+-- The text denotes the move, which is legal in a game that is not drawn by the rule.
 pub record Plays (r : Bool) (seen : List KeyParts) (p : Position) (x : List ℕ)
     (m : Move) : Type 0 where
   pub denoted : move_of p.game_type p.board x ≡ Ok m
   pub undrawn : is_third r seen ≡ false
   pub legal : IsOn (moves p) m
 
--- the text is refused on the board of the position, or the move that it denotes does not follow
+-- The text is refused on the board of the position, or the move that it denotes may not follow.
 abbrev pub IsMoveFault : Bool → List KeyParts → Position → List ℕ → ℕ → GameFault → Type 0
 IsMoveFault r seen p x n (BadMove k fault) = (k ≡ n) × (move_of p.game_type p.board x ≡ Err fault)
 IsMoveFault r seen p x n (IllegalMove k) =

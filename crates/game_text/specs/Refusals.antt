@@ -1,4 +1,5 @@
--- When a line is no game: each fault in the rule's own words, exactly where no earlier one stands.
+-- When a line is not a game. Each fault is stated in the rule's own words, and holds exactly if no
+-- earlier one does.
 use Rattle.std.specs.Prelude.{◌≡◌, ◌≢◌, Bool, false, IsTrue, ℕ, ◌+◌, ◌≤◌, ◌<◌, List, [], ◌∷◌, ◌++◌, length, ◌⊎◌}
 use Rattle.hive_model.specs.declared.pieces.GameType.{GameType}
 use Rattle.hive_model.specs.declared.places.State.{State}
@@ -18,14 +19,14 @@ use Rattle.game_text.specs.declared.faults.GameFault.TheVariants.{Malformed, Too
 use Rattle.game_text.specs.declared.turns.DeclaredTurn.{DeclaredTurn}
 use Rattle.game_text.specs.Turns.{IsTurn}
 
--- the first part is no type
+-- The first part is not a type.
 pub record IsNoType (line : List ℕ) : Type 0 where
   pub part : List ℕ
   pub rest : List (List ℕ)
   pub parts_are : parts line ≡ part ∷ rest
   pub none : (t : GameType) → part ≢ type_bytes t
 
--- the first part is a type, and the second no state
+-- The first part is a type, and the second is not a state.
 pub record IsNoState (line : List ℕ) : Type 0 where
   pub game_type : GameType
   pub part : List ℕ
@@ -33,7 +34,7 @@ pub record IsNoState (line : List ℕ) : Type 0 where
   pub parts_are : parts line ≡ type_bytes game_type ∷ (part ∷ rest)
   pub none : (s : State) → part ≢ state_bytes s
 
--- the first parts are a type and a state, and the third is absent or no turn
+-- The first parts are a type and a state, and the third is absent or not a turn.
 pub record IsNoTurn (line : List ℕ) : Type 0 where
   pub game_type : GameType
   pub declared : State
@@ -42,7 +43,7 @@ pub record IsNoTurn (line : List ℕ) : Type 0 where
   pub none : (part : List ℕ) (texts : List (List ℕ)) → rest ≡ part ∷ texts → (u : DeclaredTurn)
       → ¬ IsTurn part u
 
--- the parts are a type, a state, a turn, and further texts
+-- The parts are a type, a state, a turn and further texts.
 pub record HasParts (line : List ℕ) (t : GameType) (s : State) (u : DeclaredTurn)
     (texts : List (List ℕ)) : Type 0 where
   pub parts_are : parts line ≡ type_bytes t ∷ (state_bytes s ∷ (turn_bytes u.side u.number ∷ texts))
@@ -53,8 +54,8 @@ pub record HasParts (line : List ℕ) (t : GameType) (s : State) (u : DeclaredTu
 abbrev pub AreNotEmpty : List (List ℕ) → Type 0
 AreNotEmpty texts = (text : List ℕ) → IsOn texts text → text ≢ []
 
--- the first parts are a type, a state and a turn, and from the fourth on this is the first that is
--- empty
+-- The first parts are a type, a state and a turn. The part with this number is the first empty one
+-- from the fourth on.
 pub record IsEmptyMove (line : List ℕ) (number : ℕ) : Type 0 where
   pub game_type : GameType
   pub declared : State
@@ -65,19 +66,19 @@ pub record IsEmptyMove (line : List ℕ) (number : ℕ) : Type 0 where
   pub before : AreNotEmpty front
   pub counted : number ≡ 4 + length front
 
--- this is the first part that is absent or not of its form
+-- The part with this number is the first that is absent or malformed.
 abbrev pub IsMalformed : List ℕ → ℕ → Type 0
 IsMalformed line number =
     ((number ≡ 1) × IsNoType line) ⊎ (((number ≡ 2) × IsNoState line)
     ⊎ (((number ≡ 3) × IsNoTurn line) ⊎ IsEmptyMove line number))
 
--- the parts are a type, a state, a turn, and texts of which none is empty
+-- The parts are a type, a state, a turn and texts none of which is empty.
 pub record HasForm (line : List ℕ) (t : GameType) (s : State) (u : DeclaredTurn)
     (texts : List (List ℕ)) : Type 0 where
   pub parts_are : HasParts line t s u texts
   pub none_empty : AreNotEmpty texts
 
--- the line has its form, and more than 5,000 moves
+-- The line is well formed and has more than 5,000 moves.
 pub record IsTooLong (line : List ℕ) : Type 0 where
   pub game_type : GameType
   pub declared : State
@@ -86,8 +87,8 @@ pub record IsTooLong (line : List ℕ) : Type 0 where
   pub form : HasForm line game_type declared turn texts
   pub long : 5000 < length texts
 
--- the line has its form and at most 5,000 moves, of which those before this one are a game, none of
--- them after its end, and this is the text of the next
+-- The line is well formed and has at most 5,000 moves. The moves before this one are a game, none
+-- of them after its end, and this is the text of the next one.
 pub record IsReadUpTo (r : Bool) (line : List ℕ) (number : ℕ) (t : GameType) (ms : List Move)
     (text : List ℕ) : Type 0 where
   pub declared : State
@@ -101,7 +102,7 @@ pub record IsReadUpTo (r : Bool) (line : List ℕ) (number : ℕ) (t : GameType)
   pub legal : IsGame t ms
   pub stands : StandsUnder r t ms
 
--- the first move that is refused is none on its board
+-- The text of the first move that is refused does not denote a move on its board.
 pub record IsBadMove (r : Bool) (line : List ℕ) (number : ℕ) (fault : MoveFault) : Type 0 where
   pub game_type : GameType
   pub made : List Move
@@ -110,7 +111,7 @@ pub record IsBadMove (r : Bool) (line : List ℕ) (number : ℕ) (fault : MoveFa
   pub refuses : Refuses (replay (opening game_type) made).game_type
       (replay (opening game_type) made).board text fault
 
--- the first move that is refused is not legal, or follows the end of the game
+-- The first move that is refused is not legal, or follows the end of the game.
 pub record IsIllegalMove (r : Bool) (line : List ℕ) (number : ℕ) : Type 0 where
   pub game_type : GameType
   pub made : List Move
@@ -122,7 +123,7 @@ pub record IsIllegalMove (r : Bool) (line : List ℕ) (number : ℕ) : Type 0 wh
   pub illegal : (¬ IsOn (moves (replay (opening game_type) made)) move)
       ⊎ IsTrue (is_over_state (outcome_under r game_type made))
 
--- the line has its form and at most 5,000 moves, which are a game, none of them after its end
+-- The line is well formed and has at most 5,000 moves. They are a game, none of them after its end.
 pub record IsReadWhole (r : Bool) (line : List ℕ) : Type 0 where
   pub game_type : GameType
   pub declared : State
@@ -135,20 +136,20 @@ pub record IsReadWhole (r : Bool) (line : List ℕ) : Type 0 where
   pub legal : IsGame game_type made
   pub stands : StandsUnder r game_type made
 
--- the declared state is not the outcome of the game
+-- The declared state is not the outcome of the game.
 pub record IsOtherState (r : Bool) (line : List ℕ) : Type 0 where
   pub read : IsReadWhole r line
   pub other : read.declared ≢ outcome_under r read.game_type read.made
 
--- the declared state is the outcome of the game, and the declared turn is not that of the game
+-- The declared state is the outcome of the game, and the declared turn is not that of the game.
 pub record IsOtherTurn (r : Bool) (line : List ℕ) : Type 0 where
   pub read : IsReadWhole r line
   pub same : read.declared ≡ outcome_under r read.game_type read.made
   pub other : ¬ ((read.turn.side ≡ (replay (opening read.game_type) read.made).side)
       × (read.turn.number ≡ (replay (opening read.game_type) read.made).turn))
 
--- The line is refused with this fault, where the rule of third repetition is switched on or off.
--- Want of memory is none of the line.
+-- The line is refused with this fault, with the rule of third repetition on or off. Running out of
+-- memory is not a fault of the line.
 abbrev pub IsRefusedUnder : Bool → List ℕ → GameFault → Type 0
 IsRefusedUnder r line (Malformed k) = IsMalformed line k
 IsRefusedUnder r line TooLong = IsTooLong line
@@ -158,6 +159,6 @@ IsRefusedUnder r line OtherState = IsOtherState r line
 IsRefusedUnder r line OtherTurn = IsOtherTurn r line
 IsRefusedUnder r line Memory = ⊥
 
--- the same where it is switched off
+-- the same with the rule off
 abbrev pub IsRefused : List ℕ → GameFault → Type 0
 IsRefused = IsRefusedUnder false

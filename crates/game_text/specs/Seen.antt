@@ -1,12 +1,12 @@
--- The keys that are kept while a game is played.
+-- The keys that are stored while a game is played.
 use Rattle.std.specs.Prelude.{◌≡◌, Bool, List, [], if◌then◌else◌}
 use Rattle.hive_model.specs.Keys.{KeyParts}
 use Rattle.hive_model.specs.Courses.{Course}
 use Rattle.hive_model.specs.Repetition.{keys}
 use Rattle.game_text.specs.declared.seen.Seen.{Seen}
 
--- where the rule of third repetition is switched on, those of all positions of the game, and none
--- where it is switched off
+-- With the rule of third repetition on, the keys of all positions of the game. With the rule off,
+-- none.
 abbrev pub keys_kept : Bool → Course → List KeyParts
 keys_kept r c = if r then keys c.game_type c.made else []
 

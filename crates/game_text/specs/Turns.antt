@@ -1,4 +1,4 @@
--- What a part declares as the turn, as a function that computes.
+-- The turn that a part declares, as a function that computes.
 use Rattle.std.specs.Prelude.{◌≡◌, ℕ, ◌≤◌, nat_eq, List, [], ◌∷◌, codes, Option, Some, None, option_map, if◌then◌else◌}
 use Rattle.hive_model.specs.declared.pieces.Colour.{Colour}
 use Rattle.hive_model.specs.declared.pieces.Colour.TheVariants.{White, Black}
@@ -6,20 +6,20 @@ use Rattle.hive_model.specs.Strings.{turn_bytes}
 use Rattle.move_text.specs.Readers.{number_at}
 use Rattle.game_text.specs.declared.turns.DeclaredTurn.{DeclaredTurn}
 
--- the part declares this turn: `White[n]` or `Black[n]`, with a number of 1 to 9 digits that is not
--- 0
+-- The part declares this turn. It is `White[n]` or `Black[n]`, with a number of 1 to 9 digits other
+-- than 0.
 pub record IsTurn (text : List ℕ) (u : DeclaredTurn) : Type 0 where
   pub text_is : text ≡ turn_bytes u.side u.number
   pub low : 1 ≤ u.number
   pub high : u.number ≤ 999999999
 
--- what stands behind a word
+-- the text after a word
 abbrev pub behind_word : List ℕ → List ℕ → Option (List ℕ)
 behind_word [] xs = Some xs
 behind_word (p ∷ ps) [] = None
 behind_word (p ∷ ps) (x ∷ xs) = if nat_eq x p then behind_word ps xs else None
 
--- what stands before a bracket that closes the text
+-- the text before a final bracket
 abbrev pub before_close : List ℕ → Option (List ℕ)
 before_close [] = None
 before_close (x ∷ []) = if nat_eq x 93 then Some [] else None

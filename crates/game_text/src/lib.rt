@@ -1,4 +1,4 @@
-//! Game strings both ways.
+//! Game strings, read and written.
 #![tactic(auto)]
 
 mod faults;

@@ -1,11 +1,11 @@
-//! The parts of a line, which stand between its semicolons.
+//! The parts of a line, which are separated by semicolons.
 
 ghost use Rattle.std.specs.Prelude.{◌≡◌, ◌<◌, ◌≤◌, ◌∷◌, [], length, MatchOption, IfSome};
 ghost use Rattle.hive_model.specs.Strings.{parts};
 ghost use Rattle.io_edge.specs.Lines.{greatest_line};
 ghost use Rattle.game_text.specs.Reading.{first_empty};
 
-/// The first part, and what stands behind its semicolon, if it has one.
+/// The first part, and the text after its semicolon, if it has one.
 pub fn cut(text: &[u8]) -> (&[u8], Option<&[u8]>)
     ensures parts { MatchOption result.1 (parts text.now ≡ result.0.now ∷ [])
         (λ r. parts text.now ≡ result.0.now ∷ parts r.now) }
@@ -22,8 +22,7 @@ pub fn cut(text: &[u8]) -> (&[u8], Option<&[u8]>)
     (text, None)
 }
 
-/// The number of the first part that is empty, where the first part of the text is part 4 of the
-/// line.
+/// The number of the first empty part, if the first part of the text is part 4 of the line.
 pub fn empty_part(text: &[u8]) -> Option<u32>
     requires { length text.now ≤ greatest_line }
     ensures { result ≡ first_empty (parts text.now) 4 }

@@ -1,4 +1,4 @@
-//! Games played from their moves.
+//! Games that are played from lists of moves.
 ghost use Rattle.std.specs.Prelude.{◌≡◌, ◌+◌, ◌≤◌, [], length, IfOk};
 ghost use Rattle.hive_model.specs.Games.{IsGame};
 ghost use Rattle.hive_model.specs.Courses.{most_plies};
@@ -6,7 +6,7 @@ ghost use Rattle.hive_model.specs.Courses.{most_plies};
 use hive_model::{Game, GameType, Move};
 use std::alloc::{AllocError, Global};
 
-/// The game of this type in which no ply was played, with room for so many.
+/// The game of this type before its first ply, with room for this many plies.
 pub(crate) fn unplayed<G: Game + Drop>(
     alloc: Global,
     game_type: GameType,
@@ -22,8 +22,8 @@ pub(crate) fn unplayed<G: Game + Drop>(
     Ok(game)
 }
 
-/// The game of this type in which these moves were played, with room for so many more plies: a game
-/// has room for 5,064 in all.
+/// The game of this type after these moves, with room for this many more plies. A game has room for
+/// 5,064 plies in all.
 pub fn played<G: Game + Drop>(
     alloc: Global,
     game_type: GameType,

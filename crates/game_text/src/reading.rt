@@ -50,7 +50,7 @@ use hive_model::{Game, GameType, Move, MoveList, State};
 use move_text::{read_move, read_state, read_type};
 use std::alloc::Global;
 
-/// The move that the part denotes, if it follows: it is legal, and the game is not drawn by
+/// The move that the part denotes, if it may follow: it is legal, and the game is not drawn by
 /// repetition.
 fn one_move<G: Game>(game: &mut G, seen: &Seen, number: u32, part: &[u8]) -> Result<Move, GameFault>
     requires length { length part.now ≤ greatest_line }
@@ -122,7 +122,7 @@ fn play_moves<G: Game>(
     }
 }
 
-/// What the second and third parts of a line declare.
+/// The type, the state and the turn that a line declares.
 #[derive(Clone, Copy)]
 pub struct Declared {
     pub game_type: GameType,
@@ -158,7 +158,7 @@ fn confirm<G: Game>(
     })
 }
 
-/// A line without moves.
+/// Reads a line without moves.
 fn confirm_opening<G: Game + Drop>(
     alloc: Global,
     repetition: bool,
@@ -176,7 +176,7 @@ fn confirm_opening<G: Game + Drop>(
     confirm(&game, &seen, declared, MoveList::new(alloc))
 }
 
-/// The game with room for so many plies, in which none was played.
+/// The game before its first ply, with room for this many plies.
 fn opening_for<G: Game + Drop>(
     alloc: Global,
     game_type: GameType,
@@ -197,8 +197,8 @@ fn opening_for<G: Game + Drop>(
     Ok(game)
 }
 
-/// Plays the moves that the parts of the text denote. The game is the answer, if its outcome and
-/// turn are the declared ones.
+/// Plays the moves that the parts of the text denote. Returns the game, if its outcome and turn are
+/// the declared ones.
 fn play_declared<G: Game>(
     alloc: Global,
     declared: Declared,
@@ -221,8 +221,8 @@ fn play_declared<G: Game>(
     }
 }
 
-/// A line whose parts from the fourth on are those of the text, none of them empty and no more than
-/// the game has room for.
+/// Reads a line whose parts from the fourth on are those of the text. None of them is empty, and
+/// there are no more than the game has room for.
 fn read_moves_on<G: Game>(
     alloc: Global,
     repetition: bool,
@@ -244,7 +244,7 @@ fn read_moves_on<G: Game>(
     play_declared(alloc, declared, game, &mut seen, text)
 }
 
-/// A line whose parts from the fourth on are those of the text.
+/// Reads a line whose parts from the fourth on are those of the text.
 fn read_moves<G: Game + Drop>(
     alloc: Global,
     repetition: bool,
@@ -268,7 +268,7 @@ fn read_moves<G: Game + Drop>(
     }
 }
 
-/// A line whose parts from the third on are those of the text.
+/// Reads a line whose parts from the third on are those of the text.
 fn read_turn_on<G: Game + Drop>(
     alloc: Global,
     repetition: bool,
@@ -294,7 +294,7 @@ fn read_turn_on<G: Game + Drop>(
     }
 }
 
-/// A line whose parts from the second on are those of the text.
+/// Reads a line whose parts from the second on are those of the text.
 fn read_state_on<G: Game + Drop>(
     alloc: Global,
     repetition: bool,
@@ -314,7 +314,7 @@ fn read_state_on<G: Game + Drop>(
     }
 }
 
-/// The game in which no ply was played.
+/// The game before its first ply.
 fn opening_of(alloc: Global, game_type: GameType) -> Parsed
     ensures { result ≡ record { game_type = game_type; moves = [] } }
 {
@@ -343,14 +343,14 @@ fn game_of<G: Game + Drop>(
     }
 }
 
-/// The game that the line is, as `read_game` says it, where the rule of third repetition is
-/// switched on or off. Where it is on, a position that stands for the third time ends the game with
-/// a draw: no move follows it, and the state to be declared is `Draw`.
+/// The game that the line is, as for `read_game`, with the rule of third repetition on or off. If
+/// it is on, a position that occurs for the third time ends the game with a draw. No move may
+/// follow, and the declared state must be `Draw`.
 ///
 /// # Errors
 ///
-/// As those of `read_game`. A move that follows the end of the game is not legal, and a state that
-/// is not the outcome of the game is another one.
+/// Those of `read_game`. A move after the end of the game counts as illegal. The declared state
+/// must be the outcome of the game.
 pub fn read_game_under<G: Game + Drop>(
     alloc: Global,
     text: &[u8],
@@ -368,16 +368,17 @@ pub fn read_game_under<G: Game + Drop>(
     game_of::<G>(alloc, repetition, text)
 }
 
-/// The game that the line is: a game type alone, which is its opening; or game type, state, turn
-/// and moves, joined by semicolons, where each move is legal and denoted by its part on the board
-/// before it, there are at most 5,000, and the state and the turn are those after the moves. The
-/// line has at most 65,536 bytes. The moves are played on a game of the kind G that is made for it.
+/// The game that the line is. Either the line is a game type alone, which is its opening, or it is
+/// game type, state, turn and moves, joined by semicolons. Each move must be legal and denoted by
+/// its part on the board before it. There are at most 5,000 moves, and the state and the turn must
+/// be those after the moves. The line must have at most 65,536 bytes. The moves are played on a
+/// game of type G that is made for it.
 ///
 /// # Errors
 ///
-/// A part that is absent or not of its form, more than 5,000 moves, the first move that cannot be
-/// read or is not legal, and a state or a turn that is not that of the game: the first of these, in
-/// this order. And want of memory.
+/// The first of these faults, in this order. A part is absent or malformed. There are more than
+/// 5,000 moves. A move cannot be read or is not legal; the first one is reported. The state or the
+/// turn is not that of the game. Memory may also run out.
 pub fn read_game<G: Game + Drop>(alloc: Global, text: &[u8]) -> Result<Parsed, GameFault>
     requires { length text.now ≤ greatest_line }
     ensures game { IfOk result (λ g. IsGameLine text.now g.game_type g.moves) }

@@ -1,4 +1,4 @@
-//! How often the position of a game has stood.
+//! How often the position of a game has occurred.
 
 ghost use Rattle.std.specs.Prelude.{
   ◌≡◌,
@@ -26,7 +26,7 @@ ghost use Rattle.game_text.specs.Seen.{Sees};
 use hive_model::{Game, Repeats, State};
 use std::alloc::{AllocError, Global};
 
-/// The keys of a game's positions, kept only where the rule of third repetition is switched on.
+/// The keys of a game's positions, stored only if the rule of third repetition is on.
 #[derive(Drop)]
 pub struct Seen {
     pub repetition: bool,
@@ -34,7 +34,7 @@ pub struct Seen {
 }
 
 impl Seen {
-    /// No keys, as of every game in which the rule is switched off.
+    /// No keys, for a game with the rule off.
     pub fn off(alloc: Global) -> Seen
         ensures rule { result.repetition ≡ false }
         ensures none { result.keys ≡ [] }
@@ -45,7 +45,7 @@ impl Seen {
         }
     }
 
-    /// The key of a game in which no ply was played.
+    /// The key of a game before its first ply.
     pub fn of<G: Game>(alloc: Global, repetition: bool, game: &G) -> Result<Seen, AllocError>
         requires { (G.course game.now).made ≡ [] }
         ensures rule { IfOk result (λ s. s.repetition ≡ repetition) }
@@ -59,8 +59,8 @@ impl Seen {
         Ok(seen)
     }
 
-    /// Appends the key of the game's position, where the rule is switched on. After want of memory
-    /// the keys are as before.
+    /// Appends the key of the game's position, if the rule is on. If memory runs out, the keys do
+    /// not change.
     pub fn note<G: Game>(&mut self, game: &G) -> Result<(), AllocError>
         requires { length self.old.keys < 10000 }
         ensures pushed { OnOk result (self.new.keys
@@ -75,7 +75,7 @@ impl Seen {
         Ok(())
     }
 
-    /// Takes the last key away, where the rule is switched on.
+    /// Drops the last key, if the rule is on.
     pub fn forget(&mut self)
         requires { IsTrue self.old.repetition → 1 ≤ length self.old.keys }
         ensures popped { self.new.keys ≡ (if self.old.repetition then take
@@ -87,7 +87,7 @@ impl Seen {
         }
     }
 
-    /// Whether the rule is switched on and the last position stands for the third time.
+    /// Whether the rule is on and the last position occurs for the third time.
     pub fn is_third(&self) -> bool
         requires { IsTrue self.now.repetition → 1 ≤ length self.now.keys }
         ensures { result ≡ is_third self.now.repetition self.now.keys }
@@ -95,7 +95,7 @@ impl Seen {
         self.repetition && self.keys.is_third()
     }
 
-    /// How the game goes on or ended, where its position has this state.
+    /// The outcome of the game, if its position has this state.
     fn ends_as(&self, state: State) -> State
         requires { IsTrue self.now.repetition → 1 ≤ length self.now.keys }
         ensures { result ≡ ends_as (is_third self.now.repetition self.now.keys) state }

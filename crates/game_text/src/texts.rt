@@ -1,4 +1,4 @@
-//! The written moves of a game, kept.
+//! The texts of a game's moves, stored.
 
 ghost use Rattle.std.specs.Prelude.{
   ◌≡◌,
@@ -26,7 +26,7 @@ use move_text::{state_text, type_text, write_move};
 use std::alloc::{AllocError, Global};
 use std::marker::Model;
 
-/// The written texts of a game's moves, in order, each as it was on the board before its move.
+/// The texts of a game's moves in order, each as it is written on the board before its move.
 #[derive(Drop)]
 pub struct MoveTexts {
     alloc: Global,
@@ -42,7 +42,7 @@ impl Model for MoveTexts {
 }
 
 impl MoveTexts {
-    /// No text, with the allocator for those to come.
+    /// No text yet. The allocator is kept for those to come.
     pub fn new(alloc: Global) -> MoveTexts
         ensures { result ≡ [] }
     {
@@ -52,9 +52,9 @@ impl MoveTexts {
         }
     }
 
-    /// Appends the written text of a move on this board, before the move is made. The coordinates
-    /// of the destination are at most 9,500, as those of every legal move are. After want of memory
-    /// the texts are as before.
+    /// Appends the text of a move on this board, before the move is made. The coordinates of the
+    /// destination must be at most 9,500 in absolute value, as those of every legal move are. If
+    /// memory runs out, the texts do not change.
     pub fn push<B: Board>(&mut self, board: &B, m: Move) -> Result<(), AllocError>
         requires sound { IsBoard (B.stacks board.now) }
         requires within { IsMoveWithin m }
@@ -65,7 +65,7 @@ impl MoveTexts {
         Ok(())
     }
 
-    /// Takes the last text away, if there is one.
+    /// Drops the last text, if there is one.
     pub fn pop(&mut self)
         ensures { self.new ≡ take (length self.old - 1) self.old }
     {
@@ -79,9 +79,9 @@ impl MoveTexts {
         self.kept.len()
     }
 
-    /// Appends the string of a game: its type, the state, the side to move and the number of the
-    /// turn after its moves, and these texts, joined by semicolons. The time is linear in the
-    /// length of the string. After want of memory nothing was appended.
+    /// Appends the string of a game to `out`: its type, the state, the side to move and the turn
+    /// number after its moves, and these texts, joined by semicolons. The time is linear in the
+    /// length of the string. If memory runs out, nothing is appended.
     pub fn write(
         &self,
         game_type: GameType,
@@ -134,8 +134,8 @@ fn head(
     Ok(text)
 }
 
-/// Appends type, state and turn, joined by semicolons. After want of memory a prefix of these was
-/// appended.
+/// Appends type, state and turn, joined by semicolons. If memory runs out, a prefix of these may
+/// have been appended.
 fn push_head(
     text: &mut ReplyText,
     game_type: GameType,
@@ -151,7 +151,7 @@ fn push_head(
     push_turn(text, side, turn)
 }
 
-/// Appends a semicolon and the turn. After want of memory a prefix of these was appended.
+/// Appends a semicolon and the turn. If memory runs out, a prefix of these may have been appended.
 fn push_turn(text: &mut ReplyText, side: Colour, turn: u32) -> Result<(), AllocError>
     ensures { OnOk result (text.new ≡ text.old ++ 59 ∷ turn_bytes side turn) }
 {
@@ -161,7 +161,7 @@ fn push_turn(text: &mut ReplyText, side: Colour, turn: u32) -> Result<(), AllocE
     text.push(b']')
 }
 
-/// Appends a semicolon and the part. After want of memory a prefix of these was appended.
+/// Appends a semicolon and the part. If memory runs out, a prefix of these may have been appended.
 fn push_part(text: &mut ReplyText, part: &[u8]) -> Result<(), AllocError>
     ensures { OnOk result (text.new ≡ text.old ++ 59 ∷ part.now) }
 {
@@ -169,7 +169,7 @@ fn push_part(text: &mut ReplyText, part: &[u8]) -> Result<(), AllocError>
     text.push_all(part)
 }
 
-/// The name of the side and the bracket behind it.
+/// The name of the side and the bracket after it.
 fn side_name(side: Colour) -> &'static str
     ensures { result.now ≡ side_name side }
 {

@@ -7,14 +7,14 @@ ghost use Rattle.game_text.specs.Turns.{turn_at};
 use hive_model::Colour;
 use move_text::read_number;
 
-/// A declared turn: the side to move, and the number of the turn.
+/// A declared turn: the side to move and the turn number.
 #[derive(Clone, Copy, Debug, PartialEq, Eq)]
 pub struct DeclaredTurn {
     pub side: Colour,
     pub number: u64,
 }
 
-/// The side that the text names, and what stands in the brackets behind it.
+/// The side that the text names, and the text in the brackets after it.
 fn bracketed(text: &[u8]) -> Option<(Colour, &[u8])>
     ensures found { IfSome result (λ r. text.now ≡ side_name r.0 ++ (r.1.now ++ 93 ∷ [])) }
     ensures white { (digits : List ℕ) → text.now ≡ codes "White[" ++ (digits ++ 93 ∷ [])
@@ -29,8 +29,8 @@ fn bracketed(text: &[u8]) -> Option<(Colour, &[u8])>
     }
 }
 
-/// The turn that the text declares: `White[n]` or `Black[n]`, with a number of 1 to 9 digits that
-/// is not 0.
+/// The turn that the text declares: `White[n]` or `Black[n]`, with a number of 1 to 9 digits other
+/// than 0.
 pub fn read_turn(text: &[u8]) -> Option<DeclaredTurn>
     ensures { result ≡ turn_at text.now }
 {

@@ -13,8 +13,8 @@ use crate::texts::MoveTexts;
 use hive_model::{Game, ReplyText, State};
 use std::alloc::{AllocError, Global};
 
-/// The written texts of the game's moves. They are played again on a game of the same kind that is
-/// made for it.
+/// The texts of the game's moves. The moves are replayed on a game of the same type that is made
+/// for it.
 pub fn texts_of<G: Game + Drop>(alloc: Global, game: &G) -> Result<MoveTexts, AllocError>
     requires { IsGame (G.course game.now).game_type (G.course game.now).made }
     ensures { IfOk result (λ r. r ≡ texts (opening (G.course game.now).game_type)
@@ -31,8 +31,8 @@ pub fn texts_of<G: Game + Drop>(alloc: Global, game: &G) -> Result<MoveTexts, Al
     Ok(texts)
 }
 
-/// The keys of the positions of the game, where the rule is switched on. They are met again on a
-/// game of the same kind that is made for it.
+/// The keys of the game's positions, with the rule on. The moves are replayed on a game of the same
+/// type that is made for it.
 fn seen_of<G: Game + Drop>(alloc: Global, game: &G) -> Result<Seen, AllocError>
     requires { IsGame (G.course game.now).game_type (G.course game.now).made }
     ensures rule { IfOk result (λ s. s.repetition ≡ true) }
@@ -49,8 +49,7 @@ fn seen_of<G: Game + Drop>(alloc: Global, game: &G) -> Result<Seen, AllocError>
     Ok(seen)
 }
 
-/// The keys of the positions of the game where the rule is switched on, and none where it is
-/// switched off.
+/// The keys of the game's positions if the rule is on, and none if it is off.
 pub fn seen_under<G: Game + Drop>(
     alloc: Global,
     game: &G,
@@ -67,7 +66,7 @@ pub fn seen_under<G: Game + Drop>(
     }
 }
 
-/// The outcome of the game.
+/// The outcome of the game, with the rule of third repetition on or off.
 fn outcome<G: Game + Drop>(alloc: Global, game: &G, repetition: bool) -> Result<State, AllocError>
     ensures { IfOk result (λ s. s ≡ outcome_under repetition (G.course game.now).game_type
         (G.course game.now).made) }
@@ -80,8 +79,8 @@ fn outcome<G: Game + Drop>(alloc: Global, game: &G, repetition: bool) -> Result<
     Ok(seen.outcome(game))
 }
 
-/// Appends the game's string, as `write_game` does, with the outcome of the game for its state,
-/// where the rule of third repetition is switched on or off.
+/// Appends the game's string, as `write_game` does, with the rule of third repetition on or off.
+/// The state in the string is the outcome of the game under the rule.
 pub fn write_game_under<G: Game + Drop>(
     alloc: Global,
     game: &G,
@@ -98,9 +97,9 @@ pub fn write_game_under<G: Game + Drop>(
     texts.write(game.game_type(), state, game.side(), game.turn(), out)
 }
 
-/// Appends the game's string: its type, its state, its turn and its moves, joined by semicolons,
-/// each move in its one spelling on the board before it. The moves are played once again, on a game
-/// of the same kind that is made for it. After want of memory nothing was appended.
+/// Appends the game's string: its type, its state, its turn and its moves, joined by semicolons.
+/// Each move is written as its one text on the board before it. The moves are replayed on a game of
+/// the same type that is made for it. If memory runs out, nothing is appended.
 pub fn write_game<G: Game + Drop>(
     alloc: Global,
     game: &G,

@@ -1,4 +1,4 @@
--- A board of tests on which a piece is put near the origin.
+-- A board of a test, with a piece put near the origin.
 use Rattle.std.proofs.Common.{◌≡◌, ℕ, ◌⊎◌, inl, inr, true, false, [], sym, subst, arith}
 use Rattle.std.specs.Prelude.{IsTrue}
 use Rattle.std.proofs.lemmas.Int.{ints}

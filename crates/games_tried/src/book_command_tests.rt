@@ -27,13 +27,13 @@ const DRAWN: &str = concat!(
     "wB1 wG1\\;bB1 bQ-;wA1 -wB1;bA1 bQ\\;wA1 wQ\\",
 );
 
-/// No game: a spider alone is no drawn game.
+/// No game: a lone spider is no drawn game.
 const NO_GAME: &str = "Base;Draw;Black[1];wS1";
 
-/// Three pieces that no symmetry leaves in their places.
+/// Three pieces that no symmetry maps to themselves.
 const CROOKED: &str = "Base;InProgress;Black[2];wS1;bG1 wS1-;wA1 \\wS1";
 
-/// The same three pieces turned six ways and mirrored, and the same answer to each.
+/// The same three pieces turned six ways and mirrored, with the same answer to each.
 const TURNED: [&str; 12] = [
     "Base;InProgress;White[3];wS1;bG1 wS1-;wA1 \\wS1;bA1 bG1-",
     "Base;InProgress;White[3];wS1;bG1 wS1-;wA1 /wS1;bA1 bG1-",
@@ -59,7 +59,7 @@ fn input_of(alloc: Global, lines: &[&str]) -> Result<Vec<u8>, AllocError> {
     Ok(input)
 }
 
-/// Runs a book in memory, and compares the status and all that was written.
+/// Runs a book in memory, and compares the status and everything written.
 fn expect_run<R: Abort>(
     rt: &R,
     alloc: Global,
@@ -75,7 +75,7 @@ fn expect_run<R: Abort>(
     Ok(())
 }
 
-/// Runs a book over a position and games, in pieces of one byte, of seven, and without bound.
+/// Runs a book over a position and games, in pieces of one byte, of seven bytes, and of any size.
 fn expect_book<R: Abort>(
     rt: &R,
     alloc: Global,
@@ -120,11 +120,11 @@ fn a_turned_or_mirrored_game_counts(rt: HostRuntime) -> Result<(), Fail> {
     Ok(())
 }
 
-/// A game in which the first piece of white went to its other pieces.
+/// A game in which the first piece of white has moved next to its other pieces.
 const STANDING: &str =
     "Base;InProgress;Black[4];wA1;bG1 wA1-;wQ \\wA1;bA1 bG1\\;wQ \\bG1;bQ bA1-;wA1 \\wQ";
 
-/// The same pieces stand around the grasshopper, which was put on another side of the first piece.
+/// The same pieces around the grasshopper, which was put on another side of the first piece.
 const SHIFTED: &str = concat!(
     "Base;InProgress;White[5];wA1;bG1 /wA1;wQ \\wA1;bA1 bG1\\;wQ \\bG1;bQ bA1-;wA1 \\wQ;",
     "bG2 bQ-",
@@ -137,7 +137,7 @@ fn a_shifted_game_counts(rt: HostRuntime) -> Result<(), Fail> {
     Ok(())
 }
 
-/// The position is its own mirror image, so either side counts for both, and once.
+/// The position is its own mirror image. So a move on either side counts for both, and once.
 #[test]
 fn a_mirrored_move_counts_once(rt: HostRuntime) -> Result<(), Fail> {
     let position = "Base;InProgress;White[2];wS1;bG1 wS1-";
@@ -146,7 +146,7 @@ fn a_mirrored_move_counts_once(rt: HostRuntime) -> Result<(), Fail> {
     Ok(())
 }
 
-/// A position and games of which a line is none, and how that is said.
+/// A position and games of which one line is no game, and the line that says so.
 const BAD_LINES: [(&str, &[&str], &str); 5] = [
     ("", &[], "bad malformed part 1\n"),
     ("Base;NotStarted;White[2]", &[NO_GAME], "bad other turn\n"),

@@ -1,4 +1,4 @@
-//! Games on both boards side by side, a game that walks away, and the ways of the bugs on the grid.
+//! Games on both boards compared, a game that walks away, and the moves of the bugs on the grid.
 
 ghost use Rattle.std.specs.Prelude.{◌<◌};
 
@@ -38,7 +38,7 @@ fn plays<G: Game>(game: &mut G, index: u8, place: Place) -> Result<bool, AllocEr
     )
 }
 
-/// Takes the last move back, if there is one.
+/// Undoes the last move, if there is one.
 fn takes_back<G: Game>(game: &mut G) -> bool {
     if game.plies() == 0 {
         return false;

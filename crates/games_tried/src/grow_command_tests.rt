@@ -1,4 +1,4 @@
-//! Games of known seeds, as they are told.
+//! Games of known seeds, as they are written.
 
 ghost use Rattle.std.specs.Prelude.{◌≤◌};
 
@@ -12,7 +12,7 @@ use move_text::read_number;
 use std::alloc::{AllocError, Global};
 use std::test::Fail;
 
-/// What is told of one ply of seed 0.
+/// What is written about one ply of seed 0.
 const ONE_PLY: &str = "seed 0\ntype Base+MLP\nplies 1\nstate InProgress\nmoves 7\nundone 1\n\
     best bS1 -wG1\ngame Base+MLP;InProgress;Black[1];wG1\n";
 
@@ -34,7 +34,7 @@ fn told(alloc: Global, seed: u64, plies: u32, setting: MemSetting<'_>) -> Result
     Ok(Seen { status, written })
 }
 
-/// What follows the word on the first line that begins with it.
+/// The rest of the first line that begins with the word.
 fn field<'a>(text: &'a [u8], word: &[u8]) -> Option<&'a [u8]> {
     for line in text.split(|byte| *byte == b'\n') {
         if let Some(field) = line.strip_prefix(word) {
@@ -85,8 +85,8 @@ fn a_seed_is_told_the_same_twice(rt: HostRuntime) -> Result<(), Fail> {
     Ok(())
 }
 
-/// The game string is a game, with as many moves as plies are told, and in the state that is told.
-/// There is no best move exactly where it is over.
+/// The game string is a game, with the number of plies and the state that the lines say. The line
+/// of the best move says none if and only if the game is over.
 #[test]
 fn what_is_told_is_of_the_game(rt: HostRuntime) -> Result<(), Fail> {
     for seed in 0..10 {

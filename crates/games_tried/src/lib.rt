@@ -1,5 +1,5 @@
-//! Games, tried: short ones on the list of spots, grown ones on the wrapped grid beside them, and
-//! the public calls of the crates of the book and of made games over texts in memory.
+//! Tests of games: short ones on the list of spots, grown ones on the wrapped grid against it, and
+//! books and made games over texts in memory.
 #![tactic(auto)]
 
 #[cfg(test)]

@@ -1,4 +1,4 @@
-//! What a book of four short games answers.
+//! The answers of a book of four short games.
 
 ghost use Rattle.std.specs.Prelude.{◌≡◌};
 ghost use Rattle.hive_model.specs.Courses.{position};
@@ -41,7 +41,7 @@ fn is_over(game: &PlainGame) -> bool
     }
 }
 
-/// What the book of these games answers at the position that the first game leads to; none where a
+/// What the book of these games answers at the position at the end of the first game; `None` if a
 /// text is no game.
 fn book_of(
     alloc: Global,
@@ -68,7 +68,7 @@ fn book_of(
     Ok(Some(tally.best()))
 }
 
-/// The move of the piece at this place of the order to this place.
+/// The move of the piece with this index to this place.
 fn goes(index: u8, q: i32, r: i32) -> Move {
     let place = Place { q, r };
     if index < 28 {

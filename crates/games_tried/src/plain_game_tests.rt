@@ -1,4 +1,4 @@
-//! Short games: their lists of moves, played and taken back.
+//! Short games: their lists of moves, played and undone.
 
 ghost use Rattle.std.specs.Prelude.{◌<◌};
 
@@ -82,7 +82,7 @@ fn plays_all(game: &mut PlainGame, moves: &[(u8, i32, i32)]) -> Result<bool, All
     Ok(true)
 }
 
-/// Takes the last move back, if there is one.
+/// Undoes the last move, if there is one.
 fn takes_back(game: &mut PlainGame) -> bool {
     if game.plies() == 0 {
         return false;
@@ -129,8 +129,8 @@ fn played_and_taken_back(rt: HostRuntime) -> Result<(), Fail> {
     Ok(())
 }
 
-/// White has the queen, the first spider and the first ant on the board, black too. The last ply
-/// brought black's ant.
+/// Each side has the queen, the first spider and the first ant on the board. The last ply placed
+/// black's ant.
 const LAST_ANT: [(u8, i32, i32); 6] = [
     (1, 0, 0),
     (15, 1, 0),
@@ -150,7 +150,7 @@ const LAST_ANT_AGAIN: [(u8, i32, i32); 6] = [
     (22, 2, -1),
 ];
 
-/// The same placements, black's in another order: the last ply brought black's queen.
+/// The same placements, black's in another order: the last ply placed black's queen.
 const LAST_QUEEN: [(u8, i32, i32); 6] = [
     (1, 0, 0),
     (15, 1, 0),
@@ -178,8 +178,8 @@ fn keys(rt: HostRuntime) -> Result<(), Fail> {
 }
 
 /// Each queen has two neighbours, and the spiders hold the hive together. White's queen and ant are
-/// free, and of black's queen and ant the one that does not rest. Before the last ply black's queen
-/// had one neighbour, and white's ant rested.
+/// free, and so is the one of black's queen and ant that does not rest. Before the last ply black's
+/// queen had one neighbour, and white's ant rested.
 #[test]
 fn worth(rt: HostRuntime) -> Result<(), Fail> {
     let mut game = PlainGame::opening(rt.alloc(), BASE)?;

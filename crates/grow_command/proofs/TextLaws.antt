@@ -19,14 +19,14 @@ use Rattle.grow_game.specs.Growing.{full_type, start, grown_moves, choices, IsBe
 use Rattle.grow_command.specs.Laws.{BestMovesAreTold}
 use Rattle.grow_command.specs.Text.{best_field, move_field, grow_text, lines_about, lines_text}
 
--- the best move that is told is legal
+-- the best move that is written is legal
 pub told-legal : (p : Position) (told : Option Best) (b : Best) → TellsBest p told → told ≡ Some b → IsOn (moves p) b.best
 told-legal p told b tells is =
     let here : IsBestHere p b = subst (λ o. TellsBest p o) is tells in
     let first = best-is p 1 b.best here.first in
     on-at (moves p) first.place b.best first.move
 
--- the best move is told where the game goes on
+-- the best move is written if the game goes on
 pub best-told : BestMovesAreTold
 best-told p goes_on =
     let inner : IsInner p 1 = record { deep = omega arith; open_ = goes_on } in

@@ -1,4 +1,4 @@
--- When a made game is told whole, and which best move is told.
+-- When the text about a made game is whole, and which best move it names.
 use Rattle.std.specs.Prelude.{◌≡◌, ◌⊎◌, ℕ, false}
 use Rattle.io_edge.specs.Outside.{Told}
 use Rattle.hive_model.specs.declared.places.Move.{Move}
@@ -12,7 +12,7 @@ use Rattle.command_runs.specs.declared.status.Status.TheVariants.{Done, WriteFau
 use Rattle.grow_command.specs.Text.{best_field}
 use Rattle.grow_command.specs.Runs.{GrowRun}
 
--- where the count of faults of writing did not rise, it is done, unless memory is wanting
+-- if the count of write faults did not rise, it is done, unless memory ran out
 abbrev pub GrowsAreDone : Type 0
 GrowsAreDone =
     (seed plies : ℕ) → (status : Status) → (before : Told) → (after : Told)
@@ -20,7 +20,7 @@ GrowsAreDone =
     → NoFault (status ≡ WriteFault)
     → (status ≡ Done) ⊎ (status ≡ Memory)
 
--- of a position whose game goes on the best move of depth 1 is told, as it is written there
+-- if the game goes on, the best move of depth 1 is named, as written in the position
 abbrev pub BestMovesAreTold : Type 0
 BestMovesAreTold =
     (p : Position) → is_over p ≡ false

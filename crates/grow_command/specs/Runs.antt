@@ -5,13 +5,13 @@ use Rattle.command_runs.specs.declared.status.Status.{Status}
 use Rattle.command_runs.specs.declared.status.Status.TheVariants.{Done, Refused, Usage, ReadFault, WriteFault, SpawnFault, BadInput, Memory, InputFull}
 use Rattle.grow_command.specs.Text.{grow_text}
 
--- of this text the first n bytes were written, and not all
+-- the first n bytes of this text were written, and not all
 pub record WroteFront (text : List ℕ) (before after : Told) (n : ℕ) : Type 0 where
   pub cut : n < length text
   pub wrote : after ≡ behind before (take n text)
 
--- The text about the game of the seed was written. Where a write has failed a front of it was
--- written, and not all; where memory is wanting, nothing. It ends in no other way.
+-- The text about the game of the seed was written. If a write failed, an initial part of it was
+-- written, but not all. If memory ran out, nothing was. It ends in no other way.
 abbrev pub GrowRun : ℕ → ℕ → Status → Told → Told → Type 0
 GrowRun seed plies Done before after = after ≡ behind before (grow_text seed plies)
 GrowRun seed plies WriteFault before after =

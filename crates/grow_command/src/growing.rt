@@ -1,4 +1,4 @@
-//! Makes a game from a number, and tells of it.
+//! Makes a game from a number, and writes about it.
 
 ghost use Rattle.std.specs.Prelude.{◌≡◌, ◌≤◌, length, IfOk};
 ghost use Rattle.io_edge.specs.Outside.{HasCause};
@@ -15,10 +15,10 @@ use hive_model::{Game, MoveStack, ReplyText};
 use io_edge::{Sink, write_all};
 use std::alloc::{AllocError, Global};
 
-/// How many positions the table of the search of one ply keeps.
+/// How many positions the table of the one-ply search keeps.
 const TABLE_ENTRIES: u32 = 16;
 
-/// The game that the seed makes, with what is needed to search one ply.
+/// The game that the seed makes, with what a one-ply search needs.
 fn made<G: Game + Drop>(alloc: Global, seed: u64, plies: u32) -> Result<Grown<G>, AllocError>
     requires some { 1 ≤ plies }
     requires few { plies ≤ 1000 }
@@ -43,16 +43,18 @@ fn text_of<G: Game + Drop>(alloc: Global, seed: u64, plies: u32) -> Result<Reply
     text_about(alloc, seed, &grown)
 }
 
-/// Makes the game of a seed, with all three expansions and at most so many plies, from 1 to 1,000,
-/// and writes eight lines, each ended by LF: `seed` and the seed; `type Base+MLP`; `plies` and how
-/// many were played; `state` and the state of the game; `moves` and the lengths of the lists from
-/// which its moves were drawn, added up; `undone` and how many plies gave back the key before them
-/// when they were undone, which is all; `best` and the best move of depth 1 in the last position,
-/// as it is written there, or `best none` where the game is over; `game` and the game in its
-/// written form.
+/// Makes the game of a seed, with all three expansions and at most `plies` plies, from 1 to 1,000.
+/// It writes eight lines, each ended by LF:
 ///
-/// It is `Done` then. After want of memory nothing was written. Where a write fails it is
-/// `WriteFault`, and a front of the text was written, and not all. It ends in no other way.
+/// `seed` and the seed; `type Base+MLP`; `plies` and how many were played; `state` and the state of
+/// the game; `moves` and the sum of the lengths of the lists from which its moves were drawn;
+/// `undone` and how many plies gave back the key before them when they were undone, which is all;
+/// `best` and the best move of depth 1 in the last position, as written there, or `best none` if
+/// the game is over; `game` and the game in its written form.
+///
+/// The status is then `Done`. If memory ran out, nothing was written. If a write fails, the status
+/// is `WriteFault`, and an initial part of the text was written, but not all. It ends in no other
+/// way.
 pub fn grow<K: Sink, G: Game + Drop>(alloc: Global, seed: u64, plies: u32, output: &mut K) -> Status
     requires some { 1 ≤ plies }
     requires few { plies ≤ 1000 }

@@ -1,4 +1,4 @@
-//! The command that makes a game from a number and tells of it in eight lines.
+//! The command `grow`: makes a game from a number and writes eight lines about it.
 #![tactic(auto)]
 
 mod growing;

@@ -14,7 +14,7 @@ use move_text::{state_text, type_text};
 use std::alloc::{AllocError, Global};
 use strategy_text::{push_line, push_move, push_number};
 
-/// Appends the line of the best move, or that there is none.
+/// Appends the line of the best move, which says `none` if there is none.
 fn push_best<G: Game>(text: &mut ReplyText, game: &G, best: Option<Best>) -> Result<(), AllocError>
     requires { TellsBest (position (G.course game.now)) best }
     ensures { OnOk result (text.new

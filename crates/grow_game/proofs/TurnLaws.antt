@@ -20,9 +20,9 @@ use Rattle.grow_game.specs.Made.{AreMade}
 use Rattle.grow_game.proofs.GrowLaws.{grown-none, grown-legal, grown-over, grown-drawn, choices-none, choices-append}
 use Rattle.grow_game.proofs.PlyLaws.{moves_of-append, taken_next, keyed-append, keyed-at}
 
--- ---- plies that are taken back
+-- ---- plies that are undone
 
--- so many of the plies stand, the others were taken back and counted
+-- this number of plies is still played, the others were undone and counted
 pub record AreBack (from : Course) (ts : List Ply) (i : ℕ) (now : Course) (count : ℕ) : Type 0 where
   pub kind : now.game_type ≡ from.game_type
   pub made : now.made ≡ moves_of (take i ts)
@@ -53,7 +53,7 @@ shorter from now next ts i n t some turn here back =
     ap (λ (c : Course). c.made) back ∙ ap (λ (ms : List Move). take (length ms - 1) ms) (last-made from now ts i n t some turn here)
     ∙ take-all_but_last (moves_of (take (i - 1) ts)) t.m
 
--- the key that stood before the ply stands again
+-- the key from before the ply is there again
 pub back-key : (from now next : Course) (ts : List Ply) (i n : ℕ) (t : Ply) → AreKeyed (opening from.game_type) ts → 0 < i → AreBack from ts i now n →
     slice_get ts (i - 1) ≡ Some t → next ≡ without_last now → key (position next) ≡ t.before
 back-key from now next ts i n t keyed some turn here back =
@@ -73,7 +73,7 @@ back-all from now ts i n turn past =
 
 -- ---- plies that are played again
 
--- so many of the plies were played again, the others can be
+-- this number of plies was played again, and the others can be
 pub record AreForward (from : Course) (ts : List Ply) (i : ℕ) (now : Course) : Type 0 where
   pub kind : now.game_type ≡ from.game_type
   pub made : now.made ++ moves_of (drop i ts) ≡ from.made ++ moves_of ts
@@ -119,7 +119,7 @@ forward-all from now ts i turn past =
 
 -- ---- plies that are drawn
 
--- so many plies of the seed were played, and the generator in this state makes the others
+-- this number of plies of the seed was played, and the generator in this state makes the others
 pub record AreGrowing (seed plies : ℕ) (from now : Course) (state i : ℕ) (made : List Ply) (sum : ℕ) : Type 0 where
   pub kind : now.game_type ≡ from.game_type
   pub moves : now.made ≡ moves_of made
@@ -146,7 +146,7 @@ growing-none seed plies from now state fresh same begun = record {
     whole : (n : ℕ) → n - 0 ≡ n
     whole n = omega arith
 
--- a ply more, drawn by the generator's next word
+-- one ply more, drawn by the generator's next word
 pub growing-step : (seed plies : ℕ) (from now next : Course) (state i : ℕ) (made : List Ply) (sum more : ℕ) (t : Ply) → AreGrowing seed plies from now state i made sum →
     i < plies → is_over (position now) ≡ false → drawn (word state) (moves (position now)) ≡ Some t.m → t.before ≡ key (position now) → 1 ≤ now.spare →
     next ≡ with_move now t.m → more ≡ length (moves (position now)) → AreGrowing seed plies from next (next_state state) (i + 1) (made ++ t ∷ []) (sum + more)
@@ -223,7 +223,7 @@ drawn-here start old s level n i w m put on count index here =
 pub drawn-played : (start listed played : Course) (m again : Move) → listed ≡ start → again ≡ m → played ≡ with_move listed again → played ≡ with_move start m
 drawn-played start listed played m again same copied moved = moved ∙ ap (λ (c : Course). with_move c again) same ∙ ap (λ (k : Move). with_move start k) copied
 
--- ---- a game that was taken back and played again
+-- ---- a game that was undone and played again
 
 -- its moves are those of the seed
 pub made-grown : (seed plies : ℕ) (from to forth : Course) (made : List Ply) (sum : ℕ) → AreMade seed plies from to made sum → from.made ≡ [] → from.game_type ≡ full_type →
@@ -231,18 +231,18 @@ pub made-grown : (seed plies : ℕ) (from to forth : Course) (made : List Ply) (
 made-grown seed plies from to forth made sum turn fresh kind again =
     again ∙ turn.grown ∙ ap (λ (p : Position). grown (seeded seed) plies p) (begins from fresh ∙ ap opening kind)
 
--- chosen among so many
+-- chosen from this number of moves
 pub made-chosen : (seed plies : ℕ) (from to forth : Course) (made : List Ply) (sum : ℕ) → AreMade seed plies from to made sum → from.made ≡ [] → from.game_type ≡ full_type →
     forth.made ≡ moves_of made → sum ≡ choices (opening full_type) forth.made
 made-chosen seed plies from to forth made sum turn fresh kind again =
     turn.chosen ∙ ap (λ (p : Position). choices p (moves_of made)) (begins from fresh ∙ ap opening kind) ∙ ap (λ (ms : List Move). choices (opening full_type) ms) (sym again)
 
--- as many as plies were undone
+-- as many as the plies that were undone
 pub made-undone : (forth : Course) (made plies : List Ply) (undone : ℕ) → undone ≡ length plies → plies ≡ made → forth.made ≡ moves_of made → undone ≡ length forth.made
 made-undone forth made plies undone counted same again =
     counted ∙ ap (λ (ts : List Ply). length ts) same ∙ sym (length-map made (λ (t : Ply). t.m)) ∙ ap (λ (ms : List Move). length ms) (sym again)
 
--- they stand in the game that was played again from its opening
+-- they are in the game that was played again from its opening
 pub made-again : (back forth last : Course) (made plies : List Ply) → back.made ≡ [] → forth.made ≡ back.made ++ moves_of plies → plies ≡ made → last ≡ forth → last.made ≡ moves_of made
 made-again back forth last made plies none played same still =
     ap (λ (c : Course). c.made) still ∙ played ∙ ap (λ (ms : List Move). ms ++ moves_of plies) none ∙ ap moves_of same

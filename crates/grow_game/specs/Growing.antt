@@ -18,8 +18,8 @@ full_type = record { mosquito = true; ladybug = true; pillbug = true }
 abbrev pub start : Position
 start = opening full_type
 
--- SplitMix64 as a seed starts it: its state is the number that the seed's eight bytes are, the
--- least byte first
+-- SplitMix64 as a seed starts it: its state is the number whose eight bytes are the seed's, the
+-- least significant first
 abbrev pub seeded : ℕ → ℕ
 seeded seed = from_le_bytes w64 (to_le_bytes w64 seed)
 
@@ -30,18 +30,18 @@ word state = (mix_u64 state).0
 abbrev pub next_state : ℕ → ℕ
 next_state state = (mix_u64 state).1
 
--- the move that a word draws from a list: the one at the word modulo the length of the list
+-- the move that a word draws from a list: the one at place (word modulo the length of the list)
 abbrev pub drawn : ℕ → List Move → Option Move
 drawn w ms = slice_get ms (w % length ms)
 
--- a move and those that follow it, or none where there is no move
+-- a move and those that follow it; nothing if there is no move
 abbrev pub followed : Option Move → (Move → List Move) → List Move
 followed None rest = []
 followed (Some m) rest = m ∷ rest m
 
--- The moves that a generator in this state makes of a position in at most so many plies: while the
--- game is not over and a ply is left, one word draws a move from the list of legal moves, and that
--- move is played.
+-- The moves that a generator in this state makes from a position in at most n plies. While the game
+-- is not over and a ply is left, one word draws a move from the list of legal moves. That move is
+-- played.
 unfoldable pub grown : ℕ → ℕ → Position → List Move
 grown state zero p = []
 grown state (suc n) p =
@@ -49,23 +49,23 @@ grown state (suc n) p =
     then []
     else followed (drawn (word state) (moves p)) (λ m. grown (next_state state) n (after p m))
 
--- the moves that a seed makes of the opening, in at most so many plies
+-- the moves that a seed makes from the opening, in at most this number of plies
 abbrev pub grown_moves : ℕ → ℕ → List Move
 grown_moves seed plies = grown (seeded seed) plies start
 
--- among how many moves the moves were chosen, in all: the lengths of the lists of legal moves
--- before each of them, added up
+-- the number of moves from which the moves were chosen in all: the sum of the lengths of the lists
+-- of legal moves before each of them
 unfoldable pub choices : Position → List Move → ℕ
 choices p [] = 0
 choices p (m ∷ ms) = length (moves p) + choices (after p m) ms
 
--- the best move of depth 1 of a position whose game goes on, and what it is worth there
+-- the best move of depth 1 of a position whose game goes on, and its value there
 pub record IsBestHere (p : Position) (b : Best) : Type 0 where
   pub goes_on : is_over p ≡ false
   pub first : best p 1 ≡ Some b.best
   pub worth : b.value ≡ value p 1
 
--- what is told of a position: its best move, and none exactly where the game is over
+-- the answer for a position: its best move, or `None` if and only if the game is over
 abbrev pub TellsBest : Position → Option Best → Type 0
 TellsBest p None = is_over p ≡ true
 TellsBest p (Some b) = IsBestHere p b

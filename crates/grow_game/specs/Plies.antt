@@ -1,4 +1,4 @@
--- Plies that were played, with the keys that stood before them.
+-- Plies that were played, with the keys before them.
 use Rattle.std.specs.Prelude.{◌≡◌, List, [], ◌∷◌, map}
 use Rattle.hive_model.specs.declared.places.Move.{Move}
 use Rattle.hive_model.specs.Positions.{Position}
@@ -10,7 +10,7 @@ use Rattle.grow_game.specs.declared.plies.Ply.{Ply}
 abbrev pub moves_of : List Ply → List Move
 moves_of = map (λ t. t.m)
 
--- played one after the other from this position on, each ply has the key of the position before it
+-- played one after another from this position, each ply has the key of the position before it
 abbrev pub AreKeyed : Position → List Ply → Type 0
 AreKeyed p [] = Unit {0}
 AreKeyed p (t ∷ ts) = (t.before ≡ key p) × AreKeyed (after p t.m) ts

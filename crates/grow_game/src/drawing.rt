@@ -1,4 +1,4 @@
-//! One ply: a word is drawn, and the move that it picks is played.
+//! One ply: draws a word, and plays the move that it picks.
 
 ghost use Rattle.std.specs.Prelude.{◌≡◌, ◌%◌, ◌<◌, ◌≤◌, false, length, Some};
 ghost use Rattle.hive_model.specs.Legal.{is_over, moves};
@@ -16,7 +16,7 @@ pub struct Drawn {
     pub choices: u32,
 }
 
-/// The next word modulo this number of choices.
+/// The next word modulo the number of choices.
 fn draw(generator: &mut SplitMix64, choices: u32) -> u32
     requires { 1 ≤ choices }
     ensures index { result ≡ word generator.old % choices }
@@ -26,7 +26,7 @@ fn draw(generator: &mut SplitMix64, choices: u32) -> u32
     (generator.next_word() % u64::from(choices)) as u32
 }
 
-/// Draws a legal move by the next word and plays it. The stack is as before.
+/// Draws a legal move with the next word and plays it. The stack is as before.
 pub fn play_drawn<G: Game>(game: &mut G, generator: &mut SplitMix64, stack: &mut MoveStack) -> Drawn
     requires goes_on { is_over (position (G.course game.old)) ≡ false }
     requires spare { 1 ≤ (G.course game.old).spare }

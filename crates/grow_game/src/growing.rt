@@ -1,4 +1,4 @@
-//! The game that a number makes, taken back and played again.
+//! The game that a number makes, undone and played again.
 
 ghost use Rattle.std.specs.Prelude.{◌≡◌, ◌+◌, ◌≤◌, [], length, IfOk};
 ghost use Rattle.hive_model.specs.Courses.{position};
@@ -25,22 +25,22 @@ const FULL: GameType = GameType {
 pub struct Grown<G> {
     /// The game, with all its plies played.
     pub game: G,
-    /// The lengths of the lists from which its moves were drawn, added up.
+    /// The sum of the lengths of the lists from which its moves were drawn.
     pub moves: u64,
-    /// How many of its plies gave back the key that stood before them when they were undone.
+    /// How many of its plies gave back the key from before them when they were undone.
     pub undone: u32,
-    /// The best move of depth 1 at its end, where it is not over.
+    /// The best move of depth 1 at its end, if it is not over.
     pub best: Option<Best>,
 }
 
-/// The plies of a game, and among how many moves they were chosen.
+/// The plies of a game, and the sum of the lengths of the lists from which they were chosen.
 #[derive(Drop)]
 struct GrownPlies {
     plies: Vec<Ply>,
     chosen: u64,
 }
 
-/// Plays the moves of the seed, at most so many plies, in a game in which nothing was played.
+/// Plays the moves of the seed, at most `plies` of them, in a game with no moves yet.
 fn play_grown<G: Game>(
     alloc: Global,
     game: &mut G,
@@ -78,8 +78,8 @@ fn play_grown<G: Game>(
     })
 }
 
-/// The best move of depth 1 with its value, and none where the game is over. The game and the
-/// searcher are as before.
+/// The best move of depth 1 with its value, or `None` if the game is over. Game and searcher are as
+/// before.
 fn best_here<G: Game>(game: &mut G, searcher: &mut Searcher) -> Option<Best>
     requires prepared { 1 ≤ searcher.old }
     requires spare { 1 ≤ (G.course game.old).spare }
@@ -93,14 +93,14 @@ fn best_here<G: Game>(game: &mut G, searcher: &mut Searcher) -> Option<Best>
     Some(searcher.best_at(game, 1))
 }
 
-/// The game that a seed makes: with all three expansions, from the opening, of at most so many
-/// plies, from 1 to 1,000. While the game is not over and a ply is left, SplitMix64, begun with the
-/// seed's eight bytes, the least first, gives one word of 64 bits, and the move at the place of the
-/// word modulo the length of the list of legal moves is played. Then all plies are undone, one
-/// after another from the last, and played forward again.
+/// The game that a seed makes from the opening, with all three expansions and at most `plies`
+/// plies, from 1 to 1,000. SplitMix64 starts with the seed's eight bytes, the least significant
+/// first. While the game is not over and a ply is left, the generator gives one word of 64 bits.
+/// The move at place (word modulo the length of the list of legal moves) is played. Then all plies
+/// are undone from the last to the first, and played again.
 ///
-/// The searcher is prepared for depth 1 at least, and the stack has two levels free; both are as
-/// before. The only error is want of memory.
+/// The searcher is prepared for depth 1 at least, and the stack has two levels free. Both are as
+/// before. The only error is running out of memory.
 pub fn grow<G: Game + Drop>(
     alloc: Global,
     seed: u64,

@@ -1,4 +1,4 @@
-//! A game that a number makes: the legal moves that are played come from SplitMix64 alone.
+//! The game that a number makes: SplitMix64 alone picks the legal moves.
 #![tactic(auto)]
 
 mod drawing;

@@ -1,4 +1,4 @@
-//! Plies that were played: they are taken back, and played again.
+//! Plies that were played, to be undone and played again.
 
 ghost use Rattle.std.specs.Prelude.{◌≡◌, ◌+◌, ◌++◌, ◌^◌, ◌<◌, ◌≤◌, [], length, IsTrue, ◌↔◌};
 ghost use Rattle.hive_model.specs.Courses.{position, without_last};
@@ -9,14 +9,14 @@ ghost use Rattle.grow_game.specs.Plies.{moves_of, AreKeyed};
 
 use hive_model::{Game, Key, Move};
 
-/// A ply that was played: the key that stood before it, and its move.
+/// A ply that was played: the key before it, and its move.
 #[derive(Drop)]
 pub struct Ply {
     pub before: Key,
     pub m: Move,
 }
 
-/// Takes the last ply back, and says whether the key is then this one.
+/// Undoes the last ply, and says whether the key is then this one.
 fn comes_back<G: Game>(game: &mut G, before: &Key) -> bool
     requires { 1 ≤ length (G.course game.old).made }
     ensures game { G.course game.new ≡ without_last (G.course game.old) }
@@ -26,8 +26,8 @@ fn comes_back<G: Game>(game: &mut G, before: &Key) -> bool
     game.key() == *before
 }
 
-/// Takes all plies of the game back, one after another from the last, and counts those after which
-/// the key is again the one that stood before the ply.
+/// Undoes all plies of the game, from the last to the first. It counts those after which the key is
+/// again the one from before the ply.
 pub fn undo_all<G: Game>(game: &mut G, plies: &[Ply]) -> u32
     requires made { (G.course game.old).made ≡ moves_of plies.now }
     requires keyed { AreKeyed (opening (G.course game.old).game_type) plies.now }

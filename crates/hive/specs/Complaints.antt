@@ -1,11 +1,11 @@
--- What is said on standard error.
+-- What is written to standard error.
 use Rattle.std.specs.Prelude.{ℕ, List, codes, None, Some}
 use Rattle.std.specs.declared.option.Option.{Option}
 use Rattle.command_runs.specs.declared.status.Status.{Status}
 use Rattle.command_runs.specs.declared.status.Status.TheVariants.{Done, Refused, Usage, ReadFault, WriteFault, SpawnFault, BadInput, Memory, InputFull}
 
--- The line that says why a run with this status could not be done, or none where it was: where a
--- line or a text was refused, or the input was not what is taken, the output says it.
+-- The line that says why a run with this status could not be done, or `None` if it was done. If a
+-- line or a text was refused, or the input was of the wrong form, the output says so.
 abbrev pub complaint : Status → Option (List ℕ)
 complaint Done = None
 complaint Refused = None

@@ -1,7 +1,7 @@
 //! The program `hive`: a Hive engine that speaks the Universal Hive Protocol on standard input and
 //! output.
 //!
-//! It ends with the number of the status of its run. Where the run could not be done, one line on
+//! Its exit code is the number of the status of its run. If the run could not be done, one line on
 //! standard error says why.
 #![tactic(auto)]
 
@@ -24,7 +24,7 @@ use std::random::RandomSource;
 use std::thread::Threads;
 use std::{env, io, time};
 
-/// The status of a run whose words cannot be had: memory is wanting, or a word is not UTF-8.
+/// The status of a run that cannot get its words, because memory ran out or a word is not UTF-8.
 fn status_of(kind: ErrorKind) -> Status
     ensures memory { kind ≡ ErrorKind.OutOfMemory → result ≡ Status.Memory }
     ensures usage { kind ≢ ErrorKind.OutOfMemory → result ≡ Status.Usage }
@@ -35,7 +35,7 @@ fn status_of(kind: ErrorKind) -> Status
     }
 }
 
-/// The words of the command line but for the first, which is the program's name.
+/// The words of the command line without the first, which is the program's name.
 fn without_name(mut words: Vec<String>) -> Vec<String>
     ensures { result.items ≡ drop 1 words.items }
 {
@@ -45,7 +45,7 @@ fn without_name(mut words: Vec<String>) -> Vec<String>
     words
 }
 
-/// The words of the command line after the program's name, or the status of a run that cannot have
+/// The words of the command line after the program's name, or the status of a run that cannot get
 /// them.
 fn words<R: Env + AllocGlobal>(rt: &R) -> Result<Vec<String>, Status> {
     let all = env::args(rt).map_err(|error| status_of(error.kind()))?;
@@ -53,7 +53,7 @@ fn words<R: Env + AllocGlobal>(rt: &R) -> Result<Vec<String>, Status> {
     Ok(without_name(words))
 }
 
-/// Whether the words are those of an audit: the first one says so.
+/// Whether the words ask for an audit, which the first one says.
 fn is_audit(words: &[String]) -> bool
     ensures { result ≡ begin_with_audit (map string_bytes words.now) }
 {
@@ -68,8 +68,8 @@ fn is_terminal() -> bool {
     isatty(STDERR_FILENO) == 1
 }
 
-/// Runs over standard input and output, the machine's clock, and programs of the system. Where
-/// standard error is a terminal, it shows how far an audit or a tournament is.
+/// Runs over standard input and output, the machine's clock, and programs of the system. If
+/// standard error is a terminal, it shows the progress of an audit or a tournament.
 fn run_on_streams<
     R: Input
         + Print
@@ -136,7 +136,7 @@ fn main(rt: HostRuntime) -> ExitCode {
         Err(status) => status,
     };
     if let Some(text) = complaint(status) {
-        // where standard error fails too, the status alone tells
+        // if standard error fails too, only the status reports it
         let _ = rt.eprintln(text);
     }
     ExitCode::from(status.code())

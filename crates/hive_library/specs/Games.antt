@@ -1,4 +1,4 @@
--- What is answered of a game, by the definitions of the commands that answer the same.
+-- The answers about a game, by the definitions of the commands that answer the same.
 use Rattle.std.specs.Prelude.{◌≡◌, ℕ, ◌&&◌, nat_le, false, List, [], ◌∷◌, ◌++◌, length, map, Result, Ok, Err, if◌then◌else◌}
 use Rattle.hive_model.specs.declared.pieces.GameType.{GameType}
 use Rattle.hive_model.specs.declared.places.Move.{Move}
@@ -26,16 +26,16 @@ abbrev pub or_no_game : Result Parsed GameFault → Result Parsed Fault
 or_no_game (Ok game) = Ok game
 or_no_game (Err fault) = Err NoGame
 
--- the game that a line is, which is not too long
+-- the game that a line is, if the line is not too long
 unfoldable pub game_in : List ℕ → Result Parsed Fault
 game_in line = if nat_le (length line) greatest_line then or_no_game (game_of line) else Err NoGame
 
--- what is answered of the game, if there is one
+-- the answer about the game, if there is one
 abbrev pub of_game : Result Parsed Fault → (Parsed → Answer) → Answer
 of_game (Ok game) answer = answer game
 of_game (Err fault) answer = Err fault
 
--- what is answered while the game goes on
+-- the answer if the game goes on
 abbrev pub while_on : Parsed → Answer → Answer
 while_on game answer = if is_over (last_position game) then Err GameOver else answer
 
@@ -64,7 +64,7 @@ moves_answer line = of_game (game_in line) (λ game. while_on game (Ok (moves_te
 abbrev pub begun : Parsed → CurrentGame
 begun game = record { game_type = game.game_type; made = game.moves; repetition = false }
 
--- what is answered where a number is in this range
+-- the answer if a number is in this range
 abbrev pub in_range : ℕ → ℕ → ℕ → Answer → Answer
 in_range least most number answer =
     if nat_le least number && nat_le number most then answer else Err OutOfRange
@@ -75,9 +75,9 @@ best_answer line depth =
     in_range 1 64 depth
     (of_game (game_in line) (λ game. while_on game (Ok (best_text (begun game) depth))))
 
--- A move more
+-- One move more
 
--- why a text is no move on the board
+-- the fault of a text that is no move on the board
 abbrev pub move_fault : MoveFault → Fault
 move_fault (NotAMove at) = Unreadable
 move_fault NoSuchPiece = Unreadable
@@ -87,18 +87,18 @@ abbrev pub if_legal : Position → Result Move MoveFault → Result Move Fault
 if_legal p (Err fault) = Err (move_fault fault)
 if_legal p (Ok m) = if is_listed p m then Ok m else Err NotLegal
 
--- the legal move of a position that the words denote, which are not too long
+-- the legal move of a position that the words denote, if they are not too long
 unfoldable pub move_in : GameType → Position → List ℕ → Result Move Fault
 move_in t p words =
     if nat_le (length words) greatest_line then if_legal p (move_of t p.board words)
     else Err Unreadable
 
--- the written form of the game with this move behind its own
+-- the written form of the game with this move added to its own
 abbrev pub with_last : Parsed → Result Move Fault → Answer
 with_last game (Ok m) = Ok (string_under false game.game_type (game.moves ++ m ∷ []))
 with_last game (Err fault) = Err fault
 
--- the same of the words of a move; a game has no more than 5,000 moves
+-- the same for the words of a move; a game has no more than 5,000 moves
 abbrev pub behind : Parsed → List ℕ → Answer
 behind game words =
     if nat_le 5000 (length game.moves) then Err FullGame

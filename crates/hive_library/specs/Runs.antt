@@ -11,7 +11,7 @@ use Rattle.strategy_verdicts.specs.declared.verdict.TextVerdict.{TextVerdict}
 use Rattle.strategy_verdicts.specs.Verdicts.{status_of, verdict_line}
 use Rattle.hive_library.specs.Rooms.{Ends, PutsAs}
 
--- what a call may leave: its status, the room before and after, and the length that it told
+-- what a call may leave: its status, the room before and after, and the length that it stored
 abbrev pub Leaving : Type 1
 Leaving = ℕ → List ℕ → List ℕ → ℕ → Type 0
 
@@ -33,32 +33,32 @@ GivesRun InputFull written status before now told = Ends 7 status before now tol
 abbrev pub Texts : Type 1
 Texts = ℕ → List ℕ → Type 0
 
--- a check gives the line of its verdict: with 0 where it accepts, with 1 where it refuses, and with
--- 6 where what it is given is not of the form
+-- A check gives the line of its verdict: with 0 if it accepts, with 1 if it refuses, and with 6 if
+-- the text is malformed.
 abbrev pub OfVerdict : TextVerdict → Texts
 OfVerdict verdict code text = (code ≡ number (status_of verdict)) × (text ≡ verdict_line verdict)
 
--- a command about one game gives an answer to the game with 0; or with 6 the line that says why
--- there is no such game
+-- A command about one game gives its answer to the game with 0. Otherwise it gives the line that
+-- says why there is no such game with 6.
 abbrev pub OfAsked : GameAnswers → Result Parsed (List ℕ) → Texts
 OfAsked answers (Ok game) code text = (code ≡ 0) × answers game text
 OfAsked answers (Err why) code text = (code ≡ 6) × (text ≡ bad_line why)
 
 -- What a call leaves
 
--- such a text is given with its status; or memory is wanting: nothing says when that is
+-- such a text is given with its status; or memory ran out: nothing says when that happens
 abbrev pub GivesOne : Texts → Leaving
 GivesOne texts status before now told =
     Ends 7 status before now told
     ⊎ ((code : ℕ) × (text : List ℕ) × texts code text × PutsAs code text status before now told)
 
--- the same of an input that a command can read; one that is too long for it ends the call with 8
+-- the same for an input that a command can read; one that is too long for it ends the call with 8
 abbrev pub OfInput : List ℕ → Texts → Leaving
 OfInput input texts status before now told =
     ((input_limit ≤ length input) × Ends 8 status before now told)
     ⊎ ((length input < input_limit) × GivesOne texts status before now told)
 
--- the same of a number that is in this range; one that is not ends the call with 2
+-- the same for a number in this range; one outside it ends the call with 2
 abbrev pub InRange : ℕ → ℕ → ℕ → Leaving → Leaving
 InRange least most number leaves status before now told =
     (((number < least) ⊎ (most < number)) × Ends 2 status before now told)

@@ -1,4 +1,4 @@
-//! What C calls: the commands over a text.
+//! C functions that run the commands over a text.
 
 ghost use Rattle.std.specs.Prelude.{◌≡◌, ◌≢◌, ℕ, List};
 ghost use Rattle.io_edge.specs.Lines.{lines};
@@ -26,8 +26,8 @@ use std::alloc::Global;
 use strategy_commands::{certify, check};
 use win_commands::{solve, verify};
 
-/// For each number of plies from 1 to this, at most 8, how many lists of so many legal moves the
-/// one game of the text can go on with, as `count` writes them.
+/// For each number of plies n from 1 to `plies`, at most 8: how many lists of n legal moves the one
+/// game of the text can go on with, as `count` writes them.
 #[unsafe(no_mangle)]
 pub extern "C" fn hive_library_count(
     alloc: Global,
@@ -78,8 +78,8 @@ pub extern "C" fn hive_library_certify(
     give_run(status, output.bytes(), room, needed)
 }
 
-/// Whether the text is a certificate that holds, as `check` writes it. Where it is done, the claim
-/// of the text is true.
+/// Whether the text is a certificate that holds, as `check` writes it. If the status says done, the
+/// claim of the text is true.
 #[unsafe(no_mangle)]
 pub extern "C" fn hive_library_check(
     alloc: Global,
@@ -103,8 +103,8 @@ pub extern "C" fn hive_library_check(
     give_run(status, output.bytes(), room, needed)
 }
 
-/// Whether the side to move in the one game of the text can force a win within so many plies, from
-/// 1 to 16, with the indices that show it, as `solve` writes them.
+/// Whether the side to move in the one game of the text can force a win within `plies` plies, from
+/// 1 to 16. The text has the indices that show it, as `solve` writes them.
 #[unsafe(no_mangle)]
 pub extern "C" fn hive_library_solve(
     alloc: Global,
@@ -129,8 +129,8 @@ pub extern "C" fn hive_library_solve(
     give_run(status, output.bytes(), room, needed)
 }
 
-/// Whether the text is a solution that holds, as `verify` writes it. Where it is done, the answer
-/// of the text is the true one.
+/// Whether the text is a solution that holds, as `verify` writes it. If the status says done, the
+/// answer of the text is true.
 #[unsafe(no_mangle)]
 pub extern "C" fn hive_library_verify(
     alloc: Global,

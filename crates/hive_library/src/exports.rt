@@ -1,4 +1,4 @@
-//! What C calls: answers about the game that a line is.
+//! C functions that answer about the game that a line is.
 
 ghost use Rattle.std.specs.Prelude.{◌≡◌, ◌≢◌, Ok};
 ghost use Rattle.hive_library.specs.Rooms.{Answers, Puts};
@@ -50,7 +50,7 @@ pub extern "C" fn hive_library_moves(
     give(legal_moves::<FastGame>(alloc, line), room, needed)
 }
 
-/// The written form of the game that the line is, behind the move that the words denote.
+/// The written form of the game that the line is, after the move that the words denote.
 #[tactic(auto, using(crate::proofs::AnswerLemmas::answered, crate::proofs::AnswerLemmas::kept))]
 #[unsafe(no_mangle)]
 pub extern "C" fn hive_library_after(

@@ -13,7 +13,7 @@ pub enum Fault {
     NoGame,
     /// A number is out of its range.
     OutOfRange,
-    /// There was not enough memory.
+    /// Memory ran out.
     Memory,
     /// The text has 1,099,511,627,776 bytes or more.
     TooLong,
@@ -25,12 +25,12 @@ pub enum Fault {
     NotLegal,
     /// The game is over.
     GameOver,
-    /// The game has 5,000 moves, and none may follow.
+    /// The game has 5,000 moves, so that no other may follow.
     FullGame,
 }
 
 impl Fault {
-    /// Why a text is no move on the board.
+    /// The fault of a text that is no move on the board.
     pub fn of_move(fault: MoveFault) -> Fault
         ensures { result ≡ move_fault fault }
     {
@@ -40,7 +40,7 @@ impl Fault {
         }
     }
 
-    /// The status that tells of the fault.
+    /// The status that reports the fault.
     pub fn code(self) -> u32
         ensures { result ≡ code self }
     {

@@ -1,4 +1,4 @@
-//! What is answered of the game that a line is.
+//! The answers about the game that a line is.
 
 ghost use Rattle.std.specs.Prelude.{◌≡◌, ◌≤◌, false, length, map, IfOk, IfErr};
 ghost use Rattle.hive_model.specs.Courses.{position};
@@ -32,7 +32,7 @@ use move_text::{MoveFault, read_move, write_move};
 use std::alloc::Global;
 use uhp_session::joined_moves;
 
-/// The greatest number of bytes of a line.
+/// The most bytes of a line.
 const GREATEST_LINE: usize = 65536;
 
 /// How many positions the table of a search keeps.
@@ -55,7 +55,7 @@ fn parsed_in<G: Game + Drop>(alloc: Global, line: &[u8]) -> Result<Parsed, Fault
     }
 }
 
-/// The game under way, with room for so many more plies.
+/// The game under way, with room for `room` more plies.
 fn resumed<G: Game + Drop>(alloc: Global, game: &Parsed, room: u32) -> Result<G, Fault>
     requires legal { IsGame game.now.game_type game.now.moves }
     requires few { length game.now.moves ≤ 5000 }
@@ -137,7 +137,7 @@ fn text_in<G: Game + Drop>(alloc: Global, game: &G, m: Move) -> Result<ReplyText
     }
 }
 
-/// The best move of a game under way, so many plies deep, written.
+/// The best move of a game under way, `depth` plies deep, written.
 fn best_of<G: Game + Drop>(alloc: Global, game: &mut G, depth: u32) -> Result<ReplyText, Fault>
     requires goes_on { rules.is_over (position (G.course game.old)) ≡ false }
     requires some { 1 ≤ depth }
@@ -154,7 +154,7 @@ fn best_of<G: Game + Drop>(alloc: Global, game: &mut G, depth: u32) -> Result<Re
     text_in(alloc, game, found.best)
 }
 
-/// The best move of the game that the line is, so many plies deep.
+/// The best move of the game that the line is, `depth` plies deep.
 pub(crate) fn best_move<G: Game + Drop>(
     alloc: Global,
     line: &[u8],
@@ -205,7 +205,7 @@ fn move_in<G: Game + Drop>(game: &mut G, words: &[u8]) -> Result<Move, Fault>
     }
 }
 
-/// The written form of the game that the line is, behind the move that the words denote.
+/// The written form of the game that the line is, after the move that the words denote.
 pub(crate) fn after<G: Game + Drop>(
     alloc: Global,
     line: &[u8],

@@ -1,5 +1,5 @@
-//! The engine as a library for C: each call works over memory that its caller lends, keeps nothing,
-//! and tests all that it is given.
+//! The engine as a library for C: each call works in memory that its caller lends, keeps nothing,
+//! and tests everything that it is given.
 #![tactic(auto)]
 
 mod commands;

@@ -6,14 +6,14 @@ ghost use Rattle.hive_library.specs.Rooms.{Gives, IsPut, IsShort, Puts, PutsAs};
 use crate::faults::Fault;
 use hive_model::ReplyText;
 
-/// It was done.
+/// The status that the call is done.
 const DONE: u32 = 0;
 
-/// The room is too short for the text.
+/// The status that the room is too short for the text.
 const ROOM_SHORT: u32 = 9;
 
-/// Puts the text into the front of the room, if it goes there, and tells its length; the status is
-/// then this one.
+/// Puts the text at the front of the room, if it fits, and stores its length. The status is then
+/// `code`.
 pub(crate) fn put_as(code: u32, text: &[u8], room: &mut [u8], needed: &mut usize) -> u32
     ensures { PutsAs code text.now result room.old room.new needed.new }
 {
@@ -27,14 +27,14 @@ pub(crate) fn put_as(code: u32, text: &[u8], room: &mut [u8], needed: &mut usize
     code
 }
 
-/// The same with the status that it was done.
+/// The same with the status that the call is done.
 pub(crate) fn put(text: &[u8], room: &mut [u8], needed: &mut usize) -> u32
     ensures { Puts text.now result room.old room.new needed.new }
 {
     put_as(DONE, text, room, needed)
 }
 
-/// Gives the text, or tells why there is none.
+/// Gives the text, or the status that says why there is none.
 pub(crate) fn give(answer: Result<ReplyText, Fault>, room: &mut [u8], needed: &mut usize) -> u32
     ensures { Gives answer result room.old room.new needed.new }
 {

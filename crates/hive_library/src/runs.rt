@@ -11,7 +11,7 @@ use command_runs::Status;
 use io_edge::MemSink;
 use std::alloc::Global;
 
-/// The number of bytes from which on a text is too long for a command.
+/// A text of this many bytes or more is too long for a command.
 const INPUT_LIMIT: usize = 1_099_511_627_776;
 
 /// Whether the text is too long for a command.
@@ -21,16 +21,16 @@ pub(crate) fn is_too_long(text: &[u8]) -> bool
     INPUT_LIMIT <= text.len()
 }
 
-/// A sink that has taken no byte, and takes all while there is memory.
+/// A sink that has taken no byte. It takes every byte while there is memory.
 pub(crate) fn new_sink(alloc: Global) -> MemSink
     ensures { result ≡ record { written = []; sizes = []; calls = new_calls [] } }
 {
     MemSink::new(alloc, Vec::new(alloc), Vec::new(alloc))
 }
 
-/// Gives what a run over memory wrote, by the status with which it ended. Where it ended in no way
-/// of its own, memory was wanting: a text in memory is read with no fault, and a write to memory
-/// fails for want of memory alone.
+/// Gives what a run over memory wrote, by the status with which it ended. Any status other than
+/// `Done`, `Refused` and `BadInput` means that memory ran out. A text in memory is read with no
+/// fault, and a write to memory fails only if memory runs out.
 pub(crate) fn give_run(status: Status, written: &[u8], room: &mut [u8], needed: &mut usize) -> u32
     ensures { GivesRun status written.now result room.old room.new needed.new }
 {

@@ -32,7 +32,7 @@ impl<'a> Model for TextSource<'a> {
 }
 
 impl<'a> TextSource<'a> {
-    /// All of the text is left.
+    /// The whole text is left.
     pub(crate) fn new(text: &'a [u8]) -> TextSource<'a>
         ensures { result ≡ text.now }
     {
@@ -47,8 +47,8 @@ impl Source for TextSource<'_> {
 
     ghost source_aside = { λ _. no_side };
 
-    /// `End` comes where no byte is left, and else as many bytes as there are, as far as the buffer
-    /// goes.
+    /// The answer is `End` if no byte is left. Otherwise it gives the bytes that are left, as far
+    /// as the buffer has room.
     #[tactic(auto, using(io_edge::proofs::Told::next_piece))]
     fn read(&mut self, buffer: &mut [u8]) -> ReadAnswer {
         let (_, left) = self.text.split_at(self.at);

@@ -1,4 +1,4 @@
--- The tests of a mosquito's moves, and of the moves of any bug, hold exactly where their relations do.
+-- The tests of a mosquito's moves, and of the moves of any bug, hold exactly if their relations do.
 use Rattle.std.proofs.Common.{◌≡◌, ℕ, suc, zero, ◌<◌, Bool, true, false, not, inl, inr, refl, sym, ◌∙◌, ap, arith, if◌then◌else◌}
 use Rattle.std.specs.Prelude.{Option, Some, None, nat_lt}
 use Rattle.std.specs.List.{list_any}
@@ -58,7 +58,7 @@ from_copies b p q h = elim h [
       ∙ and_from _ _ (not_from_false _ (false_from_ne_true _ (λ e. one.copied (same_kind _ _ e)))) (from_reach (kind_of one.other) b p q one.reach))
 ]
 
--- a piece of this kind moves as the test says, and the test says so where it does
+-- a piece of this kind moves exactly as the test says
 moves_both : (k : Kind) (b : Stacks) (p q : Place) → (moves_as k b p q ≡ true → MovesAs k b p q) × (MovesAs k b p q → moves_as k b p q ≡ true)
 moves_both Mosquito b p q = (copies_from b p q, from_copies b p q)
 moves_both Queen b p q = (reach_from Queen b p q, from_reach Queen b p q)

@@ -30,7 +30,7 @@ listed ps q = (
   λ on. has_any (λ p. is_place p q) ps q on (is_place_itself q),
 )
 
--- no item stands on the list twice
+-- no item is on the list twice
 abbrev pub AreDistinct : {X : Type 0} → List X → Type 0
 AreDistinct [] = Unit {0}
 AreDistinct (x ∷ xs) = (¬ IsOn xs x) × AreDistinct xs
@@ -46,7 +46,7 @@ split_at_item (y ∷ ys) x on = elim on [
   | inr later ↦ let r = split_at_item ys x later in (y ∷ r.0, r.1, ap (λ zs. y ∷ zs) r.2)
 ]
 
--- distinct items that all stand on another list are no more than it has
+-- distinct items that are all on another list are at most as many as it has
 pub distinct_short : {X : Type 0} (xs ys : List X) → AreDistinct xs → ((x : X) → IsOn xs x → IsOn ys x) → length xs ≤ length ys
 distinct_short [] ys h there = omega arith
 distinct_short {X} (x ∷ xs) ys h there =

@@ -1,4 +1,4 @@
--- The test of a cut place holds exactly where its relation does.
+-- The test of a cut place holds exactly if its relation does.
 use Rattle.std.proofs.Common.{◌≡◌, ℕ, ◌<◌, Bool, true, false, not, ◌&&◌, List, [], refl, sym, ◌∙◌, ap, subst, arith, length, cond}
 use Rattle.std.specs.Prelude.{nat_eq, nat_lt}
 use Rattle.std.proofs.lemmas.Bool.{eqb-true, eq-eqb, lt-ltb, and_parts, and_from, not-true, not_from_false, false_from_ne_true}
@@ -17,7 +17,7 @@ occupied_cleared b q r = ap (λ xs. nat_lt 0 (length xs)) (stack_at-cleared b q 
     parts true xs = refl
     parts false xs = refl
 
--- the board without a place is one hive exactly where the set without it is
+-- the board without a place is one hive exactly if the set without it is
 pub cleared_to : (b : Stacks) (q : Place) → OneHive (cleared b q) → OneHiveOn (except (is_occupied b) q)
 cleared_to b q h = subst OneHiveOn (λ i r. occupied_cleared b q r i) h
 

@@ -81,7 +81,7 @@ spots-all t b side turn capped rest spots i past many end filled low =
 
 -- The spots of a board
 
--- of each piece the spot where it stands
+-- for each piece its spot
 pub spot_listed : (b : Stacks) (x : ℕ) → x < 28 → slice_index_or (map (spot_of b) all_pieces) x None ≡ spot_of b x
 spot_listed b x small =
     let at : 0 + x ≡ x = omega arith in
@@ -93,7 +93,7 @@ past_end [] x h = refl
 past_end (o ∷ xs) zero h = absurd (omega (arith, h))
 past_end (o ∷ xs) (suc x) h = let low : length xs ≤ x = omega (arith, h) in past_end xs x low
 
--- no piece of a board stands out of the plane
+-- no piece of a board is outside the plane
 pub spots_in_plane : (b : Stacks) → IsBoard b → IsInPlane (map (spot_of b) all_pieces)
 spots_in_plane b is x s e = elim (nat_lt x 28) as (λ t. nat_lt x 28 ≡ t → IsWithin 9000 s.place) [
   | true ↦ λ low. spot_within b is x s (sym (spot_listed b x (ltb-true x 28 low)) ∙ e)

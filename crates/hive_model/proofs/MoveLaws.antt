@@ -1,4 +1,4 @@
--- The list of legal moves: it has the legal moves and no other, in order, each once.
+-- The list of legal moves has the legal moves and no others, in strict order.
 use Rattle.std.proofs.Common.{◌≡◌, ℕ, suc, zero, ◌+◌, ◌<◌, Bool, true, false, List, [], ◌∷◌, ◌++◌, ◌⊎◌, inl, inr, refl, sym, ◌∙◌, ap, subst, arith, if◌then◌else◌}
 use Rattle.std.specs.Prelude.{map}
 use Rattle.std.specs.List.{filter, flat_map}
@@ -128,7 +128,7 @@ not_empty : (ms : List Move) → or_pass ms ≡ [] → {P : Type 0} → P
 not_empty [] e = let wrong : ◌≡◌ {A = List Move} (Pass ∷ []) [] = e in absurd (cc)
 not_empty (m ∷ ms) e = let wrong : ◌≡◌ {A = List Move} (m ∷ ms) [] = e in absurd (cc)
 
--- there is no move only where the game is over
+-- there is no move only if the game is over
 pub no_moves : (p : Position) → moves p ≡ [] → IsOver p
 no_moves p none = elim (is_over p) as (λ t. is_over p ≡ t → IsOver p) [ true ↦ λ e. over_from p e | false ↦ λ e. not_empty (pairs p) (sym (in_play_moves p e) ∙ none) ] refl
 
@@ -174,7 +174,7 @@ legal_moves p is Pass h = subst (λ ms. IsOn ms Pass) (sym (in_play_moves p (goe
     none_on [] k = refl
     none_on (m ∷ ms) k = absurd (k m (inl refl))
 
--- in order, each once
+-- the list is in strict order
 pub moves_rise : (p : Position) → Rises move_cmp (moves p)
 moves_rise p = elim (is_over p) as (λ t. is_over p ≡ t → Rises move_cmp (moves p)) [
   | true ↦ λ e. subst (Rises move_cmp) (sym (over_moves p e)) tt
@@ -185,7 +185,7 @@ moves_rise p = elim (is_over p) as (λ t. is_over p ≡ t → Rises move_cmp (mo
     with_pass [] h = (λ y on. absurd on, tt)
     with_pass (m ∷ ms) h = h
 
--- where the pass is on the list it is all of it
+-- if the pass is on the list, it is the whole list
 pub pass_alone : (p : Position) → IsOn (moves p) Pass → moves p ≡ Pass ∷ []
 pass_alone p on = elim (is_over p) as (λ t. is_over p ≡ t → moves p ≡ Pass ∷ []) [
   | true ↦ λ e. absurd (subst (λ ms. IsOn ms Pass) (over_moves p e) on)

@@ -1,5 +1,5 @@
--- The counts of numbers stay true where a key is added at the end, and where the last is taken away; and keys of one board have
--- one number.
+-- The counts of numbers stay true when a key is added at the end, and when the last is dropped.
+-- Keys of one board have the same number.
 use Rattle.std.proofs.Common.{◌≡◌, ℕ, ◌+◌, ◌-◌, ◌≤◌, ◌<◌, Bool, true, false, cond, Option, None, Result, Ok, Err, OnOk, OnErr, List, [], ◌∷◌, ◌++◌, refl, ap, arith, ◌∙◌, rules}
 use Rattle.std.specs.Prelude.{nat_eq, nat_le}
 use Rattle.std.specs.List.{count_by}
@@ -12,12 +12,12 @@ use Rattle.hive_model.specs.NumberCounts.{or_none, count_of, has_number, AreCoun
 use Rattle.hive_model.specs.Repetition.{same_board, count_same}
 use Rattle.hive_model.proofs.SameBoards.{boards_tested}
 
--- what is counted where one count is set
+-- the counts after one of them is set
 pub count_set : (b : Bool) (w o : Option ℕ) → or_none (cond b w o) ≡ cond b (or_none w) (or_none o)
 count_set true w o = refl
 count_set false w o = refl
 
--- a call that only fails where this is so, which it is not
+-- a call that fails only under a condition that does not hold
 pub must_do : {X E A P : Type 0} (r : Result X E) → OnErr r A → ¬ A → OnOk r P → P
 must_do (Ok x) e n p = p
 must_do (Err y) e n p = absurd (n e)
@@ -32,7 +32,7 @@ count_more test ks k = let more = sum_by-append (λ j. cond (test j) 1 0) ks (k 
 nat_turned : (a b : ℕ) → nat_eq a b ≡ nat_eq b a
 nat_turned a b = search rules
 
--- where a key is added at the end, and where the last is taken away
+-- a key is added at the end, or the last is dropped
 module _ {S : Type 0} (ks : List KeyParts) (key : KeyParts) (old new : IndexMap ℕ ℕ S) where
   abbrev pub IsMore : ℕ → Type 0
   IsMore m = (n : ℕ) → count_of new n ≡ cond (nat_eq m n) (count_of old m + 1) (count_of old n)
@@ -105,7 +105,7 @@ count_fewer p q so (k ∷ ks) =
     let rest = count_fewer p q so ks in
     omega (arith, first, second, here, rest)
 
--- no more keys have the board of a key than have its number
+-- at most as many keys have the board of a key as have its number
 pub few_alike : {S : Type 0} (ks : List KeyParts) (m : IndexMap ℕ ℕ S) → AreCounted ks m → (k : KeyParts) → count_same k ks ≤ count_of m (number_of k)
 few_alike ks m counted k =
     let here = counted (number_of k) in

@@ -1,4 +1,4 @@
--- The tests of a surrounded queen and of the end of a game hold exactly where their relations do.
+-- The tests of a surrounded queen and of the end of a game hold exactly if their relations do.
 use Rattle.std.proofs.Common.{◌≡◌, Bool, true, false, ◌||◌, inl, inr, refl, sym, ◌∙◌, ap}
 use Rattle.std.specs.Prelude.{Option, Some, None}
 use Rattle.std.proofs.lemmas.Bool.{or_cases, or_left, or_right}
@@ -31,7 +31,7 @@ from_surrounded b c h =
     let d = map_on (step h.spot.place) dirs q on in
     ap (is_occupied b) (sym d.1) ∙ h.round d.0)
 
--- the game is over where one queen is surrounded, or both are
+-- the game is over if one queen is surrounded, or both are
 over_parts : (w k fresh : Bool) → is_over_state (state_from w k fresh) ≡ (w || k)
 over_parts true true fresh = refl
 over_parts true false fresh = refl

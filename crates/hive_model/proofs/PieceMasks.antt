@@ -26,7 +26,7 @@ pub mask_below : (p : ℕ → Bool) → mask_of_pieces p < 2 ^ 28
 unfolding mask_of_pieces
 mask_below p = mask_l-lt (map p all_pieces)
 
--- a number is told by its bits
+-- a number is determined by its bits
 pub mask_from : (n : ℕ) (p : ℕ → Bool) → n < 2 ^ 28 → ((x : ℕ) → x < 28 → bit_at n x ≡ cond (p x) 1 0) → n ≡ mask_of_pieces p
 mask_from n p low bits = same_from_bits_below 28 n (mask_of_pieces p) low (mask_below p) (λ x h. bits x h ∙ sym (mask_at p x h))
 

@@ -1,4 +1,4 @@
--- The tests of hands and placements hold exactly where their relations do.
+-- The tests of hands and placements hold exactly if their relations do.
 use Rattle.std.proofs.Common.{◌≡◌, ℕ, suc, zero, ◌+◌, ◌≤◌, ◌<◌, Bool, true, false, cond, not, ◌&&◌, ◌||◌, List, [], ◌∷◌, ◌⊎◌, inl, inr, refl, sym, ◌∙◌, ap, arith, if◌then◌else◌}
 use Rattle.std.specs.Prelude.{Option, Some, None, is_some, nat_eq, nat_lt}
 use Rattle.std.specs.List.{find}
@@ -35,7 +35,7 @@ play_or_hand (Some s) = inl refl
 pub not_both : (o : Option Spot) → is_some o ≡ true → o ≡ None → {P : Type 0} → P
 not_both o e none = let wrong : false ≡ true = sym (ap is_some none) ∙ e in absurd (cc)
 
--- a place is empty exactly where it is not occupied
+-- a place is empty exactly if it is not occupied
 pub empty_from : (n : ℕ) → not (nat_lt 0 n) ≡ true → n ≡ 0
 empty_from n e = let low = ltb-false 0 n (not-true _ e) in omega (arith, low)
 
@@ -121,7 +121,7 @@ held_from t b c k x e =
 from_held : (t : GameType) (b : Stacks) (c : Colour) (k : Kind) (x : ℕ) → kind_of x ≡ k → colour_of x ≡ c → IsInHand t b x → is_held t b c k x ≡ true
 from_held t b c k x kind colour held = and_from _ _ (from_same_kind _ _ kind) (and_from _ _ (from_same_colour _ _ colour) (from_in_hand t b x held))
 
--- Some piece where it is the least in hand of the kind and colour
+-- Some piece, if it is the least in hand of the kind and colour
 pub next_of_some : (t : GameType) (b : Stacks) (c : Colour) (k : Kind) (x : ℕ) → next_of t b c k ≡ Some x → (x < 28) × (kind_of x ≡ k) × (colour_of x ≡ c) × IsLeastInHand t b x
 next_of_some t b c k x e =
     let r = found_first (is_held t b c k) 28 0 x e in
@@ -137,7 +137,7 @@ next_of_some t b c k x e =
       },
     )
 
--- None where none of the kind and colour is in hand
+-- None, if none of the kind and colour is in hand
 pub next_of_none : (t : GameType) (b : Stacks) (c : Colour) (k : Kind) → next_of t b c k ≡ None → (x : ℕ) → x < 28 → kind_of x ≡ k → colour_of x ≡ c → ¬ IsInHand t b x
 next_of_none t b c k e x small kind colour held =
     let wrong : false ≡ true = sym (found_none (is_held t b c k) all_pieces e x (on_pieces x small)) ∙ from_held t b c k x kind colour held in cc
@@ -198,7 +198,7 @@ beside_from b q e = let r = any_has (λ d. is_occupied b (step q d)) dirs e in (
 pub from_beside : (b : Stacks) (q : Place) → IsBeside b q → is_beside b q ≡ true
 from_beside b q h = has_any (λ d. is_occupied b (step q d)) dirs h.0 (dir_on h.0) h.1
 
--- Where a side may place
+-- The places on which a side may place
 
 abbrev placed_where : Stacks → Colour → Place → Bool → Bool → Bool
 placed_where b c q own other = if own then touches b c q && not (touches b (other_side c) q) else if other then is_beside b q else is_place q origin

@@ -11,7 +11,8 @@ use Rattle.hive_model.specs.Near.{near}
 use Rattle.hive_model.specs.Reach.{reaches, copies}
 use Rattle.hive_model.proofs.Worked.{place}
 
--- Two spiders side by side, and a bug on the west end: where each kind goes from there.
+-- Two spiders side by side, and a bug on the west end: the places that each kind reaches from
+-- there.
 
 pair_of_spiders : Stacks
 pair_of_spiders = put (put [] 1 origin) 15 (place (pos 1) (pos 0))
@@ -78,7 +79,8 @@ ant_finds_no_way_into_a_ring = refl
 mosquito_copies_no_mosquito : filter (copies (put [] 25 (place (pos 1) (pos 0))) origin) (near (put [] 25 (place (pos 1) (pos 0)))) ≡ []
 mosquito_copies_no_mosquito = refl
 
--- one that was lifted from the top of a spider moves as a beetle, to each of the six neighbours, whatever it touches
+-- one that was lifted from the top of a spider moves as a beetle, to each of the six neighbours,
+-- whatever it touches
 spider_and_ant : Stacks
 spider_and_ant = put (put [] 15 origin) 22 (place (pos 1) (pos 0))
 

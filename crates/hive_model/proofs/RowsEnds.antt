@@ -8,7 +8,8 @@ use Rattle.hive_model.specs.Legal.{moves, pairs, state}
 use Rattle.hive_model.specs.Positions.{opening}
 use Rattle.hive_model.proofs.Worked.{place, plain}
 
--- a white beetle stands on each of the two black pieces: black can move none, and has no top piece beside which to place
+-- a white beetle is on each of the two black pieces: black can move none, and has no top piece to
+-- place beside
 only_the_pass_is_left : moves (replay (opening plain) (To 3 origin ∷ To 15 (place (pos 1) (pos 0)) ∷ To 0 (place (pos 0) (negsuc 0)) ∷ To 14 (place (pos 2) (pos 0)) ∷ To 0 (place (pos 1) (negsuc 0)) ∷ To 14 (place (pos 1) (pos 1)) ∷ To 3 (place (pos 1) (pos 0)) ∷ To 14 (place (pos 2) (pos 0)) ∷ To 4 (place (pos 0) (pos 1)) ∷ To 14 (place (pos 1) (pos 1)) ∷ To 4 (place (pos 1) (pos 1)) ∷ [])) ≡ Pass ∷ []
 unfolding moves pairs after state
 only_the_pass_is_left = refl

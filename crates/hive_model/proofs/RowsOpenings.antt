@@ -17,7 +17,7 @@ first_moves_with_all : moves (opening with_all) ≡ To 1 origin ∷ To 3 origin 
 unfolding moves pairs state
 first_moves_with_all = refl
 
--- black answers beside the one piece on the board, whatever its colour
+-- black places beside the one piece on the board, whatever its colour
 second_moves : moves (replay (opening plain) (To 1 origin ∷ [])) ≡ To 15 (place (negsuc 0) (pos 0)) ∷ To 15 (place (negsuc 0) (pos 1)) ∷ To 15 (place (pos 0) (negsuc 0)) ∷ To 15 (place (pos 0) (pos 1)) ∷ To 15 (place (pos 1) (negsuc 0)) ∷ To 15 (place (pos 1) (pos 0)) ∷ To 17 (place (negsuc 0) (pos 0)) ∷ To 17 (place (negsuc 0) (pos 1)) ∷ To 17 (place (pos 0) (negsuc 0)) ∷ To 17 (place (pos 0) (pos 1)) ∷ To 17 (place (pos 1) (negsuc 0)) ∷ To 17 (place (pos 1) (pos 0)) ∷ To 19 (place (negsuc 0) (pos 0)) ∷ To 19 (place (negsuc 0) (pos 1)) ∷ To 19 (place (pos 0) (negsuc 0)) ∷ To 19 (place (pos 0) (pos 1)) ∷ To 19 (place (pos 1) (negsuc 0)) ∷ To 19 (place (pos 1) (pos 0)) ∷ To 22 (place (negsuc 0) (pos 0)) ∷ To 22 (place (negsuc 0) (pos 1)) ∷ To 22 (place (pos 0) (negsuc 0)) ∷ To 22 (place (pos 0) (pos 1)) ∷ To 22 (place (pos 1) (negsuc 0)) ∷ To 22 (place (pos 1) (pos 0)) ∷ []
 unfolding moves pairs after state
 second_moves = refl

@@ -1,4 +1,5 @@
--- The test of keys of one board, and the count of the keys that have the board of the last.
+-- The test of keys with the same board, and the count of the keys that have the board of the last
+-- one.
 use Rattle.std.proofs.Common.{◌≡◌, suc, ◌-◌, ◌<◌, ◌≤◌, Bool, ◌&&◌, List, [], ◌∷◌, ◌++◌, length, map, refl, sym, ◌∙◌, ap, arith}
 use Rattle.std.specs.Prelude.{Some, nat_eq, slice_get, slice_index_or}
 use Rattle.std.specs.Option.{option_eq}
@@ -48,7 +49,7 @@ pub count_at : (ks : List KeyParts) (k : KeyParts) → slice_get ks (length ks -
 unfolding count_last
 count_at ks k e = sym (ap (λ o. count_found o ks) e)
 
--- the key that is read at the end tells how often the last board stands
+-- the key that is read last determines how often the last board has occurred
 pub last_read : (keys now : List KeyParts) (last : KeyParts) → keys ≡ now → 1 ≤ length now → last ≡ slice_index_or keys (length keys - 1) last → count_same last keys ≡ count_last now
 last_read keys now last same some read =
     let size = ap length same in

@@ -1,4 +1,4 @@
--- `==` of keys answers whether they are equal.
+-- `==` of keys holds exactly if they are equal.
 use Rattle.std.proofs.Common.{◌≡◌, Bool, true, List, [], ◌∷◌, Option, None, Some, map, rules, ap, subst, nat_eq, refl, sym, ◌∙◌, ◌&&◌}
 use Rattle.std.proofs.lemmas.Bool.{and_parts}
 use lib.Pointwise.{pointwise, pointwise_decides}

@@ -1,4 +1,4 @@
--- Games stand under the rule of third repetition move by move, and all of them where it is switched off.
+-- Games stand under the rule of third repetition move by move, and all games stand if it is off.
 use Rattle.std.proofs.Common.{◌≡◌, Bool, true, false, List, [], ◌∷◌, ◌++◌, ◌⊎◌, inl, inr, refl, sym, ◌∙◌, ap, subst, append_assoc}
 use Rattle.std.specs.Prelude.{if◌then◌else◌}
 use Rattle.hive_model.specs.declared.places.Move.{Move}
@@ -8,7 +8,8 @@ use Rattle.hive_model.specs.Legal.{is_over_state, is_over, or_pass, pairs, moves
 use Rattle.hive_model.specs.Games.{after, replay, AreLegal}
 use Rattle.hive_model.specs.Repetition.{outcome_under, StandsMoveByMove, AllStandUnderFalse}
 
--- where a list ends with one item, a front before another is the whole of the rest or a front of it
+-- if a list ends with one item, a prefix before another item is the whole of the rest or a prefix
+-- of it
 pub split_last : {X : Type 0} (xs front rest : List X) (x y : X) → xs ++ x ∷ [] ≡ front ++ y ∷ rest → (front ≡ xs) ⊎ ((less : List X) × (xs ≡ front ++ y ∷ less))
 split_last [] [] rest x y e = inl refl
 split_last [] (f ∷ []) rest x y e = absurd (cc)

@@ -1,4 +1,4 @@
--- Where a moved piece ends on the board that it left: beside an occupied place or on one.
+-- A moved piece ends, on the board that it left, beside an occupied place or on one.
 use Rattle.std.proofs.Common.{◌≡◌, ◌≢◌, ℕ, suc, zero, ◌≤◌, ◌<◌, Bool, true, false, not, List, [], ◌∷◌, ◌⊎◌, inl, inr, refl, sym, ◌∙◌, ap, subst, arith}
 use Rattle.std.specs.Prelude.{IsTrue}
 use Rattle.hive_model.specs.declared.pieces.Kind.{Kind}

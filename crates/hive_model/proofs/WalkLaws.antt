@@ -1,4 +1,5 @@
--- The test of a piece's own move, and the test of a separating place, hold exactly where their relations do.
+-- The test of a piece's own move, and the test of a separating place, hold exactly if their
+-- relations do.
 use Rattle.std.proofs.Common.{◌≡◌, ◌+◌, true, false, not, refl, sym, ◌∙◌, ap, ℕ}
 use Rattle.std.specs.Prelude.{Option, Some, None}
 use Rattle.std.proofs.lemmas.Bool.{eqb-true, eq-eqb, and_parts, and_from, not-true, not_from_false, false_from_ne_true}

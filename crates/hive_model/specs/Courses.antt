@@ -1,4 +1,4 @@
--- What contracts see of a game under way.
+-- What contracts see of a game in progress.
 use Rattle.std.specs.Prelude.{ℕ, ◌+◌, ◌-◌, Bool, true, false, ◌&&◌, nat_eq, List, [], ◌∷◌, ◌++◌, take, length}
 use Rattle.std.specs.List.{list_any}
 use Rattle.hive_model.specs.declared.pieces.GameType.{GameType}
@@ -9,11 +9,11 @@ use Rattle.hive_model.specs.Positions.{Position, opening}
 use Rattle.hive_model.specs.Legal.{moves}
 use Rattle.hive_model.specs.Games.{replay}
 
--- A game that is read has at most 5,000 plies, and a search goes on from there for at most 64.
+-- A game that is read has at most 5,000 plies, and a search adds at most 64.
 abbrev pub most_plies : ℕ
 most_plies = 5064
 
--- a game type, the moves made so far, and for how many more plies there is room
+-- the game type, the moves made so far, and how many more plies there is room for
 pub record Course : Type 0 where
   pub game_type : GameType
   pub made : List Move
@@ -23,7 +23,7 @@ pub record Course : Type 0 where
 abbrev pub position : Course → Position
 position c = replay (opening c.game_type) c.made
 
--- the game with one move more
+-- the game with one more move
 abbrev pub with_move : Course → Move → Course
 with_move c m = record { game_type = c.game_type; made = c.made ++ m ∷ []; spare = c.spare - 1 }
 
@@ -32,7 +32,7 @@ abbrev pub without_last : Course → Course
 without_last c =
     record { game_type = c.game_type; made = take (length c.made - 1) c.made; spare = c.spare + 1 }
 
--- the two are one move
+-- the two moves are the same
 abbrev pub is_move : Move → Move → Bool
 is_move Pass Pass = true
 is_move Pass (To y r) = false

@@ -1,4 +1,4 @@
--- What a move text denotes, and the one spelling of a move.
+-- Which move a move text denotes, and the one text that is written for a move.
 use Rattle.std.specs.Prelude.{◌≡◌, ℕ, ◌<◌, List, [], ◌∷◌, codes, Option, Some, None, ◌⊎◌}
 use Rattle.hive_model.specs.declared.pieces.GameType.{GameType}
 use Rattle.hive_model.specs.declared.places.Place.{Place}
@@ -25,7 +25,7 @@ place_by p (Before Slash) = step p SW
 place_by p (Before Backslash) = step p NW
 place_by p (After Backslash) = step p SE
 
--- a piece alone, on an empty board
+-- A piece alone denotes its placement on the origin of an empty board.
 pub record DenotesAlone (t : GameType) (b : Stacks) (text : List ℕ) (m : Move) : Type 0 where
   pub piece : ℕ
   pub is_piece : piece < 28
@@ -34,7 +34,7 @@ pub record DenotesAlone (t : GameType) (b : Stacks) (text : List ℕ) (m : Move)
   pub empty : b ≡ []
   pub goes : m ≡ To piece origin
 
--- a piece and a destination, whose reference is on the board without the piece
+-- A piece and a destination. The reference must be on the board without the piece that moves.
 pub record DenotesBeside (t : GameType) (b : Stacks) (text : List ℕ) (m : Move) : Type 0 where
   pub piece : ℕ
   pub mark : Mark
@@ -47,17 +47,18 @@ pub record DenotesBeside (t : GameType) (b : Stacks) (text : List ℕ) (m : Move
   pub in_play : place_in (without b piece) reference ≡ Some place
   pub goes : m ≡ To piece (place_by place mark)
 
--- The text denotes the move: it is `pass` and the move is the pass, or it names the piece that
--- moves and where it goes. A reference is looked up on the board without the moving piece.
+-- The text denotes the move. Either the text is `pass` and the move is the pass, or the text names
+-- the piece that moves and its destination. References are looked up on the board without the
+-- moving piece.
 abbrev pub Denotes : GameType → Stacks → List ℕ → Move → Type 0
 Denotes t b text m =
     ((text ≡ codes "pass") × (m ≡ Pass)) ⊎ (DenotesAlone t b text m ⊎ DenotesBeside t b text m)
 
--- The one spelling of a move. A destination that is occupied is written as its top piece; an empty
--- one by the top piece of its first occupied neighbour in the order W, E, SW, NE, NW, SE. Both are
--- looked up on the board without the moving piece.
+-- The one text of a move. An occupied destination is written as its top piece. An empty one is
+-- written by the top piece of its first occupied neighbour, in the order W, E, SW, NE, NW, SE. Both
+-- are looked up on the board without the moving piece.
 
--- how a place next to a reference, or the reference itself, is named
+-- a way to name a destination: a mark, and the place of the reference that it needs
 pub record Candidate : Type 0 where
   pub mark : Mark
   pub place : Place
@@ -81,7 +82,7 @@ abbrev pub first_named : Stacks → ℕ → List Candidate → Form
 first_named c x [] = Alone x
 first_named c x (p ∷ ps) = by_top x p.mark (top_at c p.place) (first_named c x ps)
 
--- the form that is written; the first placement has no reference, and is the piece alone
+-- The form that is written. The first placement has no reference: it is the piece alone.
 abbrev pub form_of : Stacks → Move → Form
 form_of b Pass = Passes
 form_of b (To x q) = first_named (without b x) x (candidates q)

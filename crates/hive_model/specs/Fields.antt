@@ -4,13 +4,13 @@ use Rattle.hive_model.specs.declared.pieces.GameType.{GameType}
 use Rattle.hive_model.specs.declared.places.State.{State}
 use Rattle.hive_model.specs.declared.places.State.TheVariants.{NotStarted, InProgress, Draw, WhiteWins, BlackWins}
 
--- a number from `least` to `most`, with no leading zero
+-- a decimal number from `least` to `most` without leading zeros
 pub record IsNumberText (text : List ℕ) (least most n : ℕ) : Type 0 where
   pub digits : text ≡ decimal n
   pub low : least ≤ n
   pub high : n ≤ most
 
--- `Base`, and after a plus the letters of what is added
+-- The text of a game type is `Base`, and if it has expansions a plus and their letters.
 abbrev pub added : Bool → Bool → Bool → List ℕ
 added false false false = []
 added true false false = codes "+M"

@@ -8,15 +8,16 @@ use Rattle.hive_model.specs.Boards.{Stacks, height_at, is_occupied, places_of, c
 
 -- Walks over a set of places
 
--- from a place to a neighbour that is in the set
+-- one step, to a neighbour that is in the set
 abbrev pub StepOn : (Place → Bool) → Place → Place → Type 0
 StepOn o p q = AreNeighbours p q × IsTrue (o q)
 
--- a walk is a list of places of the set, each a neighbour of the one before
+-- A walk is a list of places of the set, each a neighbour of the one before it.
 abbrev pub WalkOn : (Place → Bool) → Place → List Place → Place → Type 0
 WalkOn o p walk q = IsTrue (o p) × IsPath (StepOn o) p walk q
 
--- each two places of the set are the ends of a walk over it; the empty set is one hive
+-- A set is one hive if any two of its places are joined by a walk over it. The empty set is one
+-- hive.
 abbrev pub OneHiveOn : (Place → Bool) → Type 0
 OneHiveOn o = (p q : Place) → IsTrue (o p) → IsTrue (o q) → (walk : List Place) × WalkOn o p walk q
 
@@ -24,17 +25,17 @@ OneHiveOn o = (p q : Place) → IsTrue (o p) → IsTrue (o q) → (walk : List P
 abbrev pub except : (Place → Bool) → Place → Place → Bool
 except o q p = not (is_place q p) && o p
 
--- On a board the set is that of the occupied places
+-- On a board, the set is that of the occupied places.
 
--- each two occupied places are the ends of a walk over occupied places
+-- any two occupied places are joined by a walk over occupied places
 abbrev pub OneHive : Stacks → Type 0
 OneHive b = OneHiveOn (is_occupied b)
 
--- an occupied place without whose pieces the board is not one hive
+-- A place is separating if it is occupied and the board without its pieces is not one hive.
 abbrev pub IsSeparating : Stacks → Place → Type 0
 IsSeparating b p = IsTrue (is_occupied b p) × (¬ OneHiveOn (except (is_occupied b) p))
 
--- a cut place is a separating place of height 1
+-- A cut place is a separating place of height 1.
 pub record IsCut (b : Stacks) (p : Place) : Type 0 where
   pub alone : height_at b p ≡ 1
   pub separates : IsSeparating b p
@@ -50,7 +51,7 @@ on_list ps q = list_any (λ p. is_place p q) ps
 abbrev pub all_met : List Place → List Place → Bool
 all_met ps found = list_all (on_list found) ps
 
--- from each occupied place neighbour after neighbour is met, until all are
+-- From each occupied place a search by neighbours meets all occupied places.
 abbrev pub is_one : Stacks → Bool
 is_one b =
     list_all (λ p. all_met (places_of b)

@@ -1,4 +1,5 @@
--- The number by which a table finds a key. Equal keys have equal numbers; more is not asked of it.
+-- The number under which tables look a key up. Its one requirement is that equal keys have equal
+-- numbers.
 use Rattle.std.specs.Prelude.{◌≡◌, IsTrue, ℕ, nat_eq}
 use Rattle.std.specs.Hash as fed
 use Rattle.std.proofs.Common.{ap}

@@ -8,9 +8,9 @@ use Rattle.hive_model.specs.Places.{IsWithin}
 use Rattle.hive_model.specs.Boards.{Stacks, spot_of}
 use Rattle.hive_model.specs.Positions.{Position}
 
--- The place and the level of each of the 28 pieces, in their order, the game type, the side to
--- move, the turn, capped at 5, and the resting piece. Places are absolute. From the fifth turn on
--- no rule asks for its number.
+-- The place and level of each of the 28 pieces in order, the game type, the side to move, the turn
+-- and the piece that rests. The turn is capped at 5, and places are absolute. No rule depends on
+-- the turn number from the fifth turn on.
 pub record KeyParts : Type 0 where
   pub spots : List (Option Spot)
   pub game_type : GameType
@@ -36,6 +36,6 @@ key p = key_of p.game_type p.board p.side p.turn p.rest
 abbrev pub spot_in : KeyParts → ℕ → Option Spot
 spot_in k x = slice_index_or k.spots x None
 
--- the piece of each spot stands in the plane, no coordinate larger in size than 9,000
+-- no coordinate of a spot exceeds 9,000 in absolute value
 abbrev pub IsInPlane : List (Option Spot) → Type 0
 IsInPlane spots = (x : ℕ) (s : Spot) → slice_index_or spots x None ≡ Some s → IsWithin 9000 s.place

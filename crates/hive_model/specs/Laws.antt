@@ -1,6 +1,6 @@
--- The laws of the definitions. Each rule is said twice: as a relation in the rule's own words, and
--- as a test that computes. The laws say that the test holds exactly where the relation does, and
--- what the lists of places and moves have on them.
+-- The laws of the definitions. Each rule is defined twice: as a relation in the rule's own words,
+-- and as a test that computes. The laws say that the test holds exactly if the relation does, and
+-- which members the lists of places and moves have.
 use Rattle.std.specs.Prelude.{◌≡◌, ℕ, ◌≤◌, ◌<◌, Bool, List, [], ◌∷◌, length, Option, Some, None, IsTrue, ◌↔◌}
 use Rattle.std.specs.declared.cmp.Ordering.{Ordering}
 use Rattle.hive_model.specs.declared.pieces.Colour.{Colour}
@@ -26,100 +26,102 @@ use Rattle.hive_model.specs.Legal.{IsSurrounded, IsOver, Walk, LegalPair, IsLega
 
 -- Neighbours and the hive
 
--- two places are tested to be neighbours exactly where a direction leads from one to the other
+-- The test of neighbours holds exactly if a direction leads from one place to the other.
 abbrev pub NeighboursAreTested : Type 0
 NeighboursAreTested = (p q : Place) → IsTrue (are_neighbours p q) ↔ AreNeighbours p q
 
--- a board is tested to be one hive exactly where each two occupied places are the ends of a walk
--- over occupied places
+-- The test of one hive holds exactly if any two occupied places are joined by a walk over occupied
+-- places.
 abbrev pub OneHiveIsTested : Type 0
 OneHiveIsTested = (b : Stacks) → IsBoard b → IsTrue (is_one b) ↔ OneHive b
 
--- a place is tested to be separating exactly where it is occupied and the board without its pieces
--- is not one hive
+-- The test of a separating place holds exactly if the place is occupied and the board without its
+-- pieces is not one hive.
 abbrev pub SeparatingIsTested : Type 0
 SeparatingIsTested =
     (b : Stacks) → IsBoard b → (p : Place) → IsTrue (is_separating b p) ↔ IsSeparating b p
 
--- a place is tested to be a cut place exactly where it is separating and of height 1
+-- The test of a cut place holds exactly if the place is separating and of height 1.
 abbrev pub CutIsTested : Type 0
 CutIsTested = (b : Stacks) → IsBoard b → (p : Place) → IsTrue (is_cut b p) ↔ IsCut b p
 
 -- Steps
 
--- from an empty place to an empty neighbour, with exactly one common neighbour occupied
+-- A ground step goes from an empty place to an empty neighbour and has exactly one occupied common
+-- neighbour.
 abbrev pub GroundStepIsTested : Type 0
 GroundStepIsTested = (b : Stacks) (p q : Place) → IsTrue (is_ground_step b p q) ↔ GroundStep b p q
 
--- a step that is not blocked, and has an occupied place at one of its ends
+-- A climbing step is not blocked, and at least one of its ends is occupied.
 abbrev pub ClimbingStepIsTested : Type 0
 ClimbingStepIsTested =
     (b : Stacks) (p q : Place) → IsTrue (is_climbing_step b p q) ↔ ClimbingStep b p q
 
--- a step that no two higher neighbours block
+-- A step is free if its two common neighbours do not both exceed the heights of its ends.
 abbrev pub FreeStepIsTested : Type 0
 FreeStepIsTested = (b : Stacks) (p q : Place) → IsTrue (is_free b p q) ↔ FreeStep b p q
 
 -- Moves of bugs
 
--- whatever its kind, a bug reaches by the test the places that the rule of its kind leads to: a
--- list of places of an ant's or a spider's way, a grasshopper's direction and length, the two
--- places that a ladybug goes over
+-- By the test, a bug of any kind reaches the places that the rule of its kind leads to. The rule
+-- gives a list of places for an ant's or a spider's way. For a grasshopper it gives a direction and
+-- a length, and for a ladybug the two places that it crosses.
 abbrev pub ReachIsTested : Type 0
 ReachIsTested = (k : Kind) (b : Stacks) (p q : Place) → IsTrue (reaches k b p q) ↔ Reach k b p q
 
--- a mosquito moves as a beetle on a stack, and on the ground as a neighbouring top piece that is no
--- mosquito
+-- A mosquito on a stack moves as a beetle. On the ground it moves as a neighbouring top piece that
+-- is not a mosquito.
 abbrev pub CopiesAreTested : Type 0
 CopiesAreTested = (b : Stacks) (p q : Place) → IsTrue (copies b p q) ↔ Copies b p q
 
--- every kind, the mosquito too
+-- every kind, the mosquito included
 abbrev pub MovesAsIsTested : Type 0
 MovesAsIsTested =
     (k : Kind) (b : Stacks) (p q : Place) → IsTrue (moves_as k b p q) ↔ MovesAs k b p q
 
 -- Placements
 
--- a piece is in hand where it is of the game type and not on the board
+-- A piece is in hand if it is of the game type and not on the board.
 abbrev pub InHandIsTested : Type 0
 InHandIsTested = (t : GameType) (b : Stacks) (x : ℕ) → IsTrue (is_in_hand t b x) ↔ IsInHand t b x
 
--- it is the least in hand where none of its kind and colour with a smaller number is in hand
+-- It is the least in hand if no piece of its kind and colour with a smaller number is in hand.
 abbrev pub LeastInHandIsTested : Type 0
 LeastInHandIsTested =
     (t : GameType) (b : Stacks) (x : ℕ) → x < 28
     → IsTrue (is_least_in_hand t b x) ↔ IsLeastInHand t b x
 
--- the next piece of a kind and colour is the least of them in hand
+-- The next piece of a kind and colour is the least of them in hand.
 abbrev pub NextIsLeast : Type 0
 NextIsLeast = (t : GameType) (b : Stacks) (c : Colour) (k : Kind) (x : ℕ)
     → (next_of t b c k ≡ Some x) ↔ ((x < 28) × (kind_of x ≡ k) × (colour_of x ≡ c)
     × IsLeastInHand t b x)
 
--- there is no next one exactly where none of them is in hand
+-- There is no next piece exactly if none of them is in hand.
 abbrev pub NextMayBeNone : Type 0
 NextMayBeNone = (t : GameType) (b : Stacks) (c : Colour) (k : Kind)
     → (next_of t b c k ≡ None) ↔ ((x : ℕ) → x < 28 → kind_of x ≡ k → colour_of x ≡ c
     → ¬ IsInHand t b x)
 
--- where a side may place
+-- on which places a side may place
 abbrev pub MayPlaceIsTested : Type 0
 MayPlaceIsTested = (b : Stacks) (c : Colour) (q : Place) → IsTrue (may_place b c q) ↔ MayPlace b c q
 
--- which piece may be placed, and where
+-- which piece may be placed, and on which place
 abbrev pub PlacementIsTested : Type 0
 PlacementIsTested =
     (p : Position) (x : ℕ) (q : Place) → x < 28 → IsTrue (is_placement p x q) ↔ Placement p x q
 
 -- Throws
 
--- a piece is tested to be a thrower exactly where it is one on the place where it stands
+-- The test of a thrower holds exactly if the piece is a thrower on the place that it is on.
 abbrev pub ThrowerIsTested : Type 0
 ThrowerIsTested =
     (b : Stacks) (rest : Option ℕ) (y : ℕ) → y < 28
     → IsTrue (is_thrower b rest y) ↔ ((t : Spot) × IsThrower b rest y t)
 
--- a piece is tested to be thrown over a place exactly where it is thrown from where it stands
+-- The test of a throw over a place holds exactly if the piece is thrown from the place that it is
+-- on.
 abbrev pub ThrowOverIsTested : Type 0
 ThrowOverIsTested =
     (b : Stacks) → IsBoard b → (rest : Option ℕ) (t : Spot) (x : ℕ) (q : Place)
@@ -133,27 +135,28 @@ ThrowIsTested =
 
 -- Moves of the side to move, and the end of a game
 
--- an own top piece that does not rest and stands on no cut place moves by its kind's rule
+-- A piece of the mover that is on top, does not rest and does not stand on a cut place moves by the
+-- rule of its kind.
 abbrev pub WalkIsTested : Type 0
 WalkIsTested =
     (p : Position) → IsBoard p.board → (x : ℕ) (q : Place) → IsTrue (is_walk p x q) ↔ Walk p x q
 
--- a side's queen is in play, and all six neighbours of her place are occupied
+-- A side is surrounded if its queen is in play and all six neighbours of her place are occupied.
 abbrev pub SurroundedIsTested : Type 0
 SurroundedIsTested = (b : Stacks) (c : Colour) → IsTrue (is_surrounded b c) ↔ IsSurrounded b c
 
--- the game is over where a queen is surrounded
+-- The game is over exactly if a queen is surrounded.
 abbrev pub OverIsTested : Type 0
 OverIsTested = (p : Position) → IsTrue (is_over p) ↔ IsOver p
 
--- a placement, and once the own queen is in play a walk or a throw
+-- A legal pair is a placement or, once the mover's queen is in play, also a walk or a throw.
 abbrev pub LegalPairIsTested : Type 0
 LegalPairIsTested =
     (p : Position) → IsBoard p.board → (x : ℕ) (q : Place) → x < 28
     → IsTrue (is_legal_pair p x q) ↔ LegalPair p x q
 
--- every legal pair has one of the 28 pieces and ends on the origin, an occupied place or a
--- neighbour of one
+-- Every legal pair has one of the 28 pieces, and its place is the origin, an occupied place or a
+-- neighbour of one.
 abbrev pub LegalPairIsNear : Type 0
 LegalPairIsNear =
     (p : Position) → IsBoard p.board → (x : ℕ) (q : Place) → LegalPair p x q
@@ -161,39 +164,39 @@ LegalPairIsNear =
 
 -- The list of legal moves
 
--- what stands on the list is legal, and what is legal stands on it
+-- A move is on the list exactly if it is legal.
 abbrev pub MovesAreLegal : Type 0
 MovesAreLegal = (p : Position) → IsBoard p.board → (m : Move) → IsOn (moves p) m ↔ IsLegal p m
 
--- it goes by piece and then by place, each move once
+-- The list is ordered by piece and then by place, with each move once.
 abbrev pub MovesRise : Type 0
 MovesRise = (p : Position) → Rises move_cmp (moves p)
 
--- where the pass is on the list it is all of it
+-- If the pass is on the list, it is the whole list.
 abbrev pub PassIsAlone : Type 0
 PassIsAlone = (p : Position) → IsOn (moves p) Pass → moves p ≡ Pass ∷ []
 
--- there is nothing on it exactly where the game is over
+-- The list is empty exactly if the game is over.
 abbrev pub OverHasNoMoves : Type 0
 OverHasNoMoves = (p : Position) → (moves p ≡ []) ↔ IsOver p
 
--- each move on it is of one of the 28 pieces
+-- Each move on the list that is not the pass moves one of the 28 pieces.
 abbrev pub MovesHavePieces : Type 0
 MovesHavePieces = (p : Position) (x : ℕ) (q : Place) → IsOn (moves p) (To x q) → x < 28
 
--- a move is tested to be on the list exactly where it stands there
+-- The test of a listed move holds exactly if the move is on the list.
 abbrev pub ListedMovesAreTested : Type 0
 ListedMovesAreTested = (p : Position) (m : Move) → IsTrue (is_listed p m) ↔ IsOn (moves p) m
 
 -- Boards
 
--- a piece in hand that is put on a place of the plane leaves a board
+-- Putting a piece that is not on the board on a place of the plane keeps a board a board.
 abbrev pub PutKeepsBoards : Type 0
 PutKeepsBoards =
     (b : Stacks) (x : ℕ) (p : Place) → IsBoard b → x < 28 → spot_of b x ≡ None → IsWithin 9000 p
     → IsBoard (put b x p)
 
--- a piece on top that is lifted leaves a board
+-- Lifting a piece that is on top keeps a board a board.
 abbrev pub LiftKeepsBoards : Type 0
 LiftKeepsBoards = (b : Stacks) (x : ℕ) → IsBoard b → IsTrue (is_on_top b x) → IsBoard (lift b x)
 
@@ -203,8 +206,8 @@ LiftKeepsBoards = (b : Stacks) (x : ℕ) → IsBoard b → IsTrue (is_on_top b x
 abbrev pub StepTo : (Place → Place → Bool) → List Place → Place → Place → Type 0
 StepTo s places p q = IsTrue (s p q) × IsOn places q
 
--- as many rounds as the list is long find each place that a way of one step or more over the list
--- leads to, and no other
+-- A flood finds exactly the places that a way of one step or more over the list leads to. It needs
+-- at least as many rounds as the list has places.
 abbrev pub FloodsFindWays : Type 0
 FloodsFindWays =
     (s : Place → Place → Bool) (places : List Place) (rounds : ℕ) → length places ≤ rounds
@@ -214,7 +217,7 @@ FloodsFindWays =
 
 -- Lists in order
 
--- two lists in strict order with the same members are equal
+-- Two lists in strict order with the same members are equal.
 abbrev pub IsSettledByMembers : {X : Type 0} → (X → X → Ordering) → Type 0
 IsSettledByMembers {X} R =
     (xs ys : List X) → Rises R xs → Rises R ys → ((x : X) → IsOn xs x ↔ IsOn ys x) → xs ≡ ys

@@ -25,13 +25,13 @@ use Rattle.hive_model.specs.Throws.{Throw, is_throw}
 
 -- Results
 
--- a side's queen is in play, and all six neighbours of her place are occupied
+-- A side is surrounded if its queen is in play and all six neighbours of her place are occupied.
 pub record IsSurrounded (b : Stacks) (c : Colour) : Type 0 where
   pub spot : Spot
   pub stands : spot_of b (queen_of c) ≡ Some spot
   pub round : (d : Dir) → IsTrue (is_occupied b (step spot.place d))
 
--- the game is over where a queen is surrounded
+-- The game is over if a queen is surrounded.
 abbrev pub IsOver : Position → Type 0
 IsOver p = IsSurrounded p.board White ⊎ IsSurrounded p.board Black
 
@@ -42,8 +42,8 @@ is_surrounded_at b (Some s) = is_walled b s.place
 abbrev pub is_surrounded : Stacks → Colour → Bool
 is_surrounded b c = is_surrounded_at b (spot_of b (queen_of c))
 
--- both surrounded is a draw, and one a win of the other side; else the game has not started where
--- no ply was played
+-- If both queens are surrounded, the game is a draw. If one is, the other side wins. Otherwise the
+-- game has not started if no ply was played, and else it is in progress.
 abbrev pub state_from : Bool → Bool → Bool → State
 state_from true true fresh = Draw
 state_from false true fresh = WhiteWins
@@ -68,7 +68,8 @@ is_over p = is_over_state (state p)
 
 -- Legal moves
 
--- an own top piece that does not rest and stands on no cut place moves by its kind's rule
+-- A piece of the mover that is on top, does not rest and does not stand on a cut place moves by the
+-- rule of its kind.
 pub record Walk (p : Position) (x : ℕ) (q : Place) : Type 0 where
   pub from : Spot
   pub own : colour_of x ≡ p.side
@@ -78,13 +79,14 @@ pub record Walk (p : Position) (x : ℕ) (q : Place) : Type 0 where
   pub not_cut : ¬ IsCut p.board from.place
   pub moves : MovesAs (kind_of x) (lift p.board x) from.place q
 
--- a placement; and once the mover's queen is in play, a move of a piece of its own, or a throw
+-- A legal pair is a placement or, once the mover's queen is in play, also a walk of one of its
+-- pieces or a throw.
 abbrev pub LegalPair : Position → ℕ → Place → Type 0
 LegalPair p x q =
     Placement p x q ⊎ (IsTrue (is_in_play p.board (queen_of p.side)) × (Walk p x q ⊎ Throw p x q))
 
--- while the game is not over a legal pair is a legal move, and where there is no such pair it is
--- the pass
+-- While the game is not over, each legal pair is a legal move. If there is no legal pair, the pass
+-- is the one legal move.
 abbrev pub IsLegal : Position → Move → Type 0
 IsLegal p (To x q) = (¬ IsOver p) × LegalPair p x q
 IsLegal p Pass = (¬ IsOver p) × ((x : ℕ) (q : Place) → ¬ LegalPair p x q)
@@ -114,7 +116,8 @@ abbrev pub or_pass : List Move → List Move
 or_pass [] = Pass ∷ []
 or_pass (m ∷ ms) = m ∷ ms
 
--- the legal moves in order: each pair once, or the one move pass; none where the game is over
+-- The legal moves in order: each legal pair once, or the pass alone. The list is empty if the game
+-- is over.
 unfoldable pub moves : Position → List Move
 moves p = if is_over p then [] else or_pass (pairs p)
 

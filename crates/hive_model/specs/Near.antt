@@ -7,18 +7,18 @@ use Rattle.hive_model.specs.declared.places.Place.{Place}
 use Rattle.hive_model.specs.Places.{place_cmp, neighbours, origin}
 use Rattle.hive_model.specs.Boards.{Stacks, places_of}
 
--- places in order, each once
+-- one step of an insertion: p goes before q, is q, or goes among the rest
 abbrev pub placed_by : Ordering → Place → Place → List Place → List Place → List Place
 placed_by Less p q qs more = p ∷ q ∷ qs
 placed_by Equal p q qs more = q ∷ qs
 placed_by Greater p q qs more = q ∷ more
 
--- the place put where it belongs
+-- the place inserted in order, unless the list has it
 abbrev pub with_place : Place → List Place → List Place
 with_place p [] = p ∷ []
 with_place p (q ∷ qs) = placed_by (place_cmp p q) p q qs (with_place p qs)
 
--- by q and then by r, each once
+-- the places by q and then by r, each once
 abbrev pub in_order : List Place → List Place
 in_order [] = []
 in_order (p ∷ ps) = with_place p (in_order ps)

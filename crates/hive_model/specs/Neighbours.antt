@@ -5,7 +5,7 @@ use Rattle.hive_model.specs.declared.places.Dir.{Dir}
 use Rattle.hive_model.specs.declared.places.Dir.TheVariants.{E, NE, NW, W, SW, SE}
 use Rattle.hive_model.specs.Places.{step}
 
--- which neighbours of a place are in a set
+-- whether the neighbour in each direction is in a set
 abbrev pub ring : (Place → Bool) → Place → Dir → Bool
 ring o p d = o (step p d)
 
@@ -18,7 +18,7 @@ weight W = 8
 weight SW = 16
 weight SE = 32
 
--- the bit of a direction that is in a set, and else none
+-- the bit of a direction if the set has it, and 0 otherwise
 abbrev pub bit_of : (Dir → Bool) → Dir → ℕ
 bit_of r d = if r d then weight d else 0
 

@@ -1,4 +1,4 @@
--- Placements: which piece may be brought into play, and where.
+-- Placements: which piece may be brought into play, and on which places.
 use Rattle.std.specs.Prelude.{◌≡◌, ◌≢◌, ℕ, ◌≤◌, ◌<◌, Bool, false, not, ◌&&◌, ◌||◌, nat_eq, nat_lt, Option, Some, None, IsTrue, if◌then◌else◌}
 use Rattle.std.specs.List.{list_any, find}
 use Rattle.hive_model.specs.declared.pieces.Colour.{Colour}
@@ -12,12 +12,12 @@ use Rattle.hive_model.specs.Places.{is_place, step, dirs, origin}
 use Rattle.hive_model.specs.Boards.{Stacks, height_at, is_occupied, top_at, spot_of, is_in_play}
 use Rattle.hive_model.specs.Positions.{Position}
 
--- a piece is in hand where it is of the game type and on no place
+-- A piece is in hand if it is of the game type and not on the board.
 pub record IsInHand (t : GameType) (b : Stacks) (x : ℕ) : Type 0 where
   pub of_type : OfType t x
   pub off : spot_of b x ≡ None
 
--- it is in hand, and no piece of its kind and colour with a smaller number is
+-- It is in hand, and no piece of its kind and colour with a smaller number is.
 pub record IsLeastInHand (t : GameType) (b : Stacks) (x : ℕ) : Type 0 where
   pub in_hand : IsInHand t b x
   pub least : (y : ℕ) → y < x → kind_of y ≡ kind_of x → colour_of y ≡ colour_of x → ¬ IsInHand t b y
@@ -29,28 +29,29 @@ pub record HasColour (b : Stacks) (c : Colour) : Type 0 where
   pub colour : colour_of piece ≡ c
   pub in_play : IsTrue (is_in_play b piece)
 
--- a neighbour's top piece is of this colour
+-- a neighbour of the place has a top piece of this colour
 pub record Touches (b : Stacks) (c : Colour) (q : Place) : Type 0 where
   pub dir : Dir
   pub other : ℕ
   pub stands : top_at b (step q dir) ≡ Some other
   pub colour : colour_of other ≡ c
 
--- a neighbour is occupied
+-- a neighbour of the place is occupied
 abbrev pub IsBeside : Stacks → Place → Type 0
 IsBeside b q = (d : Dir) × IsTrue (is_occupied b (step q d))
 
--- The place is empty. On an empty board it is the origin; where the other side alone has pieces on
--- the board it is beside an occupied place; else it touches a top piece of the side's colour and
--- none of the other's.
+-- A side may place only on an empty place. On an empty board that is the origin. If only the other
+-- side has pieces on the board, it is a place beside an occupied one. Otherwise the place touches a
+-- top piece of the side's colour and none of the other's.
 pub record MayPlace (b : Stacks) (c : Colour) (q : Place) : Type 0 where
   pub empty : height_at b q ≡ 0
   pub on_empty : ¬ HasColour b c → ¬ HasColour b (other_side c) → q ≡ origin
   pub on_others : ¬ HasColour b c → HasColour b (other_side c) → IsBeside b q
   pub on_own : HasColour b c → Touches b c q × (¬ Touches b (other_side c) q)
 
--- The piece is the mover's, and the least of its kind in hand. On its first turn a side places no
--- queen; on its fourth or a later turn, while its queen is in hand, nothing else.
+-- The piece is the mover's, and the least of its kind in hand, and the side may place on this
+-- place. On its first turn a side may not place its queen. From its fourth turn on, while its queen
+-- is in hand, it may place only her.
 pub record Placement (p : Position) (x : ℕ) (q : Place) : Type 0 where
   pub is_piece : IsTrue (is_in_set x)
   pub own : colour_of x ≡ p.side
@@ -72,7 +73,7 @@ is_least_in_hand t b x =
     is_in_hand t b x && not (list_any (λ y. nat_lt y x
     && (is_like x y && is_in_hand t b y)) all_pieces)
 
--- the least piece in hand of a kind and colour, or none where none of the kind is in hand
+-- the least piece in hand of a kind and colour, or none if none of them is in hand
 abbrev pub next_of : GameType → Stacks → Colour → Kind → Option ℕ
 next_of t b c k =
     find (λ x. is_kind (kind_of x) k && (is_colour (colour_of x) c && is_in_hand t b x)) all_pieces

@@ -1,4 +1,4 @@
--- Positions: what stands on the board, whose turn it is, and which piece rests.
+-- Positions: the pieces on the board, the side to move, the turn and the piece that rests.
 use Rattle.std.specs.Prelude.{◌≡◌, ℕ, ◌<◌, Bool, false, nat_eq, [], Option, Some, None, IsTrue, ◌⊎◌}
 use Rattle.hive_model.specs.declared.pieces.Colour.{Colour}
 use Rattle.hive_model.specs.declared.pieces.Colour.TheVariants.{White}
@@ -9,8 +9,8 @@ use Rattle.hive_model.specs.Pieces.{kind_of, colour_of, OfType}
 use Rattle.hive_model.specs.Boards.{Stacks, is_in_play, is_on_top, StandsAt, IsBoard}
 use Rattle.hive_model.specs.Hive.{OneHive}
 
--- a game type, the board, the side to move, the turn number, and the piece that rests: the one that
--- was placed, moved or thrown on the last ply
+-- A game type, the board, the side to move, the turn number and the piece that rests. That is the
+-- one that was placed, moved or thrown on the last ply.
 pub record Position : Type 0 where
   pub game_type : GameType
   pub board : Stacks
@@ -18,7 +18,7 @@ pub record Position : Type 0 where
   pub turn : ℕ
   pub rest : Option ℕ
 
--- the game begins with an empty board, and white moves
+-- The game begins with an empty board, and white is to move.
 abbrev pub opening : GameType → Position
 opening t = record { game_type = t; board = []; side = White; turn = 1; rest = None }
 
@@ -26,13 +26,14 @@ abbrev pub is_piece : ℕ → Option ℕ → Bool
 is_piece x None = false
 is_piece x (Some y) = nat_eq x y
 
--- the piece rests: it does not move, is not thrown and throws nothing
+-- A piece that rests (is stunned) may not move, be thrown or throw.
 abbrev pub rests : Position → ℕ → Bool
 rests p x = is_piece x p.rest
 
--- A position is sound where each piece stands at most once and is of the game type, the board is
--- one hive, only beetles and mosquitoes stand above the ground, of each kind and colour the numbers
--- on the board are the least ones, and the resting piece, if any, is on the board and on top.
+-- A position is sound under these conditions. Each piece is on the board at most once and is of the
+-- game type. The board is one hive, and only beetles and mosquitoes stand above the ground. The
+-- numbers on the board of each kind and colour are the least ones. The resting piece, if there is
+-- one, is on the board and on top.
 pub record IsSound (p : Position) : Type 0 where
   pub board : IsBoard p.board
   pub of_type : (x : ℕ) → IsTrue (is_in_play p.board x) → OfType p.game_type x

@@ -1,4 +1,4 @@
--- Where each bug moves to, on the board from which it was lifted.
+-- The places that each bug moves to, on the board from which it was lifted.
 use Rattle.std.specs.Prelude.{◌≡◌, ◌≢◌, ℕ, suc, zero, ◌-◌, ◌≤◌, ◌<◌, max, ◌-ℤ◌, Bool, true, false, not, ◌&&◌, ◌||◌, nat_eq, nat_le, List, [], ◌∷◌, length, Option, Some, None, IsTrue, ◌⊎◌, if◌then◌else◌}
 use Rattle.std.specs.List.{list_any}
 use Rattle.std.specs.Int.RustNames.{unsigned_abs}
@@ -14,8 +14,8 @@ use Rattle.hive_model.specs.Hive.{on_list}
 use Rattle.hive_model.specs.Steps.{GroundStep, ClimbingStep, is_ground_step, is_climbing_step}
 use Rattle.hive_model.specs.Near.{near}
 
--- a grasshopper hops in one direction over one or more occupied places in a row, and comes down on
--- the empty place behind
+-- A grasshopper hops in one direction over one or more occupied places in a row, and lands on the
+-- first empty place behind them.
 pub record Hop (b : Stacks) (p q : Place) : Type 0 where
   pub dir : Dir
   pub far : ℕ
@@ -24,7 +24,7 @@ pub record Hop (b : Stacks) (p q : Place) : Type 0 where
   pub empty : height_at b q ≡ 0
   pub over : (k : ℕ) → 0 < k → k < far → IsTrue (is_occupied b (steps k p dir))
 
--- a spider makes three ground steps over four distinct places
+-- A spider makes three ground steps, and its four places are distinct.
 pub record ThreeSteps (b : Stacks) (p q : Place) : Type 0 where
   pub first : Place
   pub second : Place
@@ -33,7 +33,8 @@ pub record ThreeSteps (b : Stacks) (p q : Place) : Type 0 where
   pub three : GroundStep b second q
   pub apart : (p ≢ first) × (p ≢ second) × (p ≢ q) × (first ≢ second) × (first ≢ q) × (second ≢ q)
 
--- a ladybug climbs onto an occupied place, along to a second, and down to an empty one
+-- A ladybug climbs onto an occupied place, goes on to a second occupied one, and steps down to an
+-- empty one.
 pub record OverTwo (b : Stacks) (p q : Place) : Type 0 where
   pub first : Place
   pub second : Place
@@ -44,8 +45,8 @@ pub record OverTwo (b : Stacks) (p q : Place) : Type 0 where
   pub second_occupied : IsTrue (is_occupied b second)
   pub empty : height_at b q ≡ 0
 
--- how each kind moves: queen and pillbug one ground step, a beetle one ground step or climbing
--- step, an ant one ground step after another; a mosquito has no way of its own
+-- How each kind moves. A queen or a pillbug makes one ground step. A beetle makes one ground step
+-- or one climbing step. An ant makes any number of ground steps. A mosquito has no rule of its own.
 abbrev pub ReachBy : Kind → Stacks → Place → Place → Type 0
 ReachBy Queen b p q = GroundStep b p q
 ReachBy Pillbug b p q = GroundStep b p q
@@ -56,11 +57,11 @@ ReachBy Spider b p q = ThreeSteps b p q
 ReachBy Ladybug b p q = OverTwo b p q
 ReachBy Mosquito b p q = ⊥
 
--- a bug that was lifted from p moves to another place q
+-- a bug that was lifted from p moves to a place q that is not p
 abbrev pub Reach : Kind → Stacks → Place → Place → Type 0
 Reach k b p q = (p ≢ q) × ReachBy k b p q
 
--- a mosquito that was lifted from p moves as a neighbouring top piece does that is no mosquito
+-- A mosquito that was lifted from p moves as a neighbouring top piece that is not a mosquito.
 pub record CopiesOne (b : Stacks) (p q : Place) : Type 0 where
   pub dir : Dir
   pub other : ℕ
@@ -68,12 +69,12 @@ pub record CopiesOne (b : Stacks) (p q : Place) : Type 0 where
   pub copied : kind_of other ≢ Mosquito
   pub reach : Reach (kind_of other) b p q
 
--- a mosquito on a stack moves as a beetle, and one on the ground as a piece that it touches
+-- A mosquito on a stack moves as a beetle. On the ground it moves as a piece that it touches.
 abbrev pub Copies : Stacks → Place → Place → Type 0
 Copies b p q =
     (IsTrue (is_occupied b p) × Reach Beetle b p q) ⊎ ((height_at b p ≡ 0) × CopiesOne b p q)
 
--- every kind moves by its own rule, and the mosquito by what it copies
+-- Every kind moves by its own rule, and the mosquito by what it copies.
 abbrev pub MovesAs : Kind → Stacks → Place → Place → Type 0
 MovesAs Mosquito b p q = Copies b p q
 MovesAs Queen b p q = Reach Queen b p q
@@ -90,7 +91,7 @@ abbrev pub all_over : Stacks → ℕ → Place → Dir → Bool
 all_over b zero p d = true
 all_over b (suc k) p d = is_occupied b (steps (suc k) p d) && all_over b k p d
 
--- how far the places are from each other where one direction leads to the other
+-- the distance of two places that one direction joins
 abbrev pub line_length : Place → Place → ℕ
 line_length p q = max (unsigned_abs (q.q -ℤ p.q)) (unsigned_abs (q.r -ℤ p.r))
 

@@ -1,4 +1,4 @@
--- When two keys are one.
+-- When two keys are equal.
 use Rattle.std.specs.Prelude.{◌≡◌, Bool, IsTrue, ◌↔◌}
 use Rattle.hive_model.specs.Keys.{KeyParts}
 use Rattle.hive_model.specs.contracts.key.KeyPartialEq.TheImpl.{eq-value}
@@ -7,6 +7,6 @@ use Rattle.hive_model.specs.contracts.key.KeyPartialEq.TheImpl.{eq-value}
 abbrev pub same_key : KeyParts → KeyParts → Bool
 same_key = eq-value.it
 
--- it answers whether the two are equal in all their parts
+-- `==` of keys holds exactly if they are equal in all their parts.
 abbrev pub KeysAreCompared : Type 0
 KeysAreCompared = (a b : KeyParts) → IsTrue (same_key a b) ↔ (a ≡ b)

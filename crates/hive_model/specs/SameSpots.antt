@@ -1,8 +1,8 @@
--- Tests that answer whether two are equal: `==` of tables by keys leans on them.
+-- Tests that decide equality. The `==` of tables by keys rests on them.
 use Rattle.std.proofs.Common.{◌≡◌, Bool, true, false, Some, None, refl, ap}
 use Rattle.std.specs.Option.{option_eq}
 
--- the test answers whether the two are equal
+-- the test holds exactly if the two are equal
 abbrev pub Decides : {X : Type 0} → (X → X → Bool) → Type 0
 Decides {X} E = (x y : X) → (E x y ≡ true → x ≡ y) × (x ≡ y → E x y ≡ true)
 

@@ -1,4 +1,4 @@
--- The number by which a table finds a key, of its spots alone.
+-- The number under which tables look a key up. It depends on the spots alone.
 use Rattle.std.specs.Prelude.{ℕ, ◌+◌, ◌*◌, ◌%◌, ◌^◌, bit_xor, fold, List, Option, None, Some}
 use Rattle.std.specs.Int.{cast_unsigned, w32}
 use Rattle.hive_model.specs.declared.places.Spot.{Spot}
@@ -13,7 +13,7 @@ spread_q = 0xC2B2AE3D27D4EB4F
 abbrev pub spread_r : ℕ
 spread_r = 0x165667B19E3779F9
 
--- a product of 64 bits
+-- a product modulo 2^64
 abbrev pub product : ℕ → ℕ → ℕ
 product a b = (a * b) % (2 ^ 64)
 
@@ -22,7 +22,7 @@ spot_number s =
     bit_xor (bit_xor (product (cast_unsigned w32 s.place.q) spread_q)
     (product (cast_unsigned w32 s.place.r) spread_r)) (s.level + 1)
 
--- the number of the spots before, with one spot more
+-- adds one spot to the number of the spots before it
 abbrev pub mixed : ℕ → Option Spot → ℕ
 mixed n None = product n spread
 mixed n (Some s) = product (bit_xor n (spot_number s)) spread

@@ -1,5 +1,4 @@
--- Steps of a piece to a neighbour. They are judged on the board from which the moving piece was
--- lifted.
+-- Steps of a piece to a neighbour, on the board from which the moving piece was lifted.
 use Rattle.std.specs.Prelude.{◌≡◌, max, Bool, false, not, ◌&&◌, ◌||◌, nat_eq, nat_lt, IsTrue, ◌⊎◌}
 use Rattle.std.specs.List.{list_any}
 use Rattle.hive_model.specs.declared.places.Place.{Place}
@@ -7,16 +6,15 @@ use Rattle.hive_model.specs.declared.places.Dir.{Dir}
 use Rattle.hive_model.specs.Places.{is_place, step, dirs, dir_before, dir_after}
 use Rattle.hive_model.specs.Boards.{Stacks, height_at, is_occupied}
 
--- a step is blocked where both common neighbours are higher than the greater of the heights of its
--- two places
+-- A step is blocked if both common neighbours are higher than each of its two places.
 abbrev pub is_blocked : Stacks → Place → Dir → Bool
 is_blocked b p d =
     nat_lt (max (height_at b p) (height_at b (step p d))) (height_at b (step p (dir_before d)))
     && nat_lt (max (height_at b p) (height_at b (step p d))) (height_at b (step p (dir_after d)))
 
--- a ground step goes from an empty place to an empty neighbour, and exactly one of the common
--- neighbours is occupied: with none the piece leaves the hive on its way, and with both it does not
--- fit through the gate
+-- A ground step goes from an empty place to an empty neighbour, and exactly one of the common
+-- neighbours is occupied. With none, the piece would leave the hive on its way. With
+-- both, it does not fit through the gate.
 pub record GroundStep (b : Stacks) (p q : Place) : Type 0 where
   pub dir : Dir
   pub leads : step p dir ≡ q
@@ -32,7 +30,7 @@ pub record FreeStep (b : Stacks) (p q : Place) : Type 0 where
   pub leads : step p dir ≡ q
   pub free : is_blocked b p dir ≡ false
 
--- a climbing step is not blocked, and at least one of its two places is occupied
+-- A climbing step is not blocked, and at least one of its two places is occupied.
 pub record ClimbingStep (b : Stacks) (p q : Place) : Type 0 where
   pub dir : Dir
   pub leads : step p dir ≡ q

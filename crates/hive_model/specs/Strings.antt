@@ -13,7 +13,7 @@ use Rattle.hive_model.specs.Denotes.{Denotes, text}
 use Rattle.hive_model.specs.Fields.{type_bytes, state_bytes}
 use Rattle.hive_model.specs.Repetition.{outcome_under, StandsUnder}
 
--- what stands between the semicolons: at least one part
+-- The parts between the semicolons. There is at least one.
 unfoldable pub parts : List ℕ → List (List ℕ)
 parts [] = [] ∷ []
 parts (b ∷ bs) = if nat_eq b 59 then [] ∷ parts bs else onto b (parts bs)
@@ -23,7 +23,7 @@ abbrev pub joined_on : List ℕ → List (List ℕ) → List ℕ
 joined_on p [] = p
 joined_on p (q ∷ qs) = p ++ 59 ∷ joined_on q qs
 
--- the turn is written `White[n]` or `Black[n]`
+-- The turn is written `White[n]` or `Black[n]`.
 abbrev pub side_name : Colour → List ℕ
 side_name White = codes "White["
 side_name Black = codes "Black["
@@ -31,12 +31,12 @@ side_name Black = codes "Black["
 abbrev pub turn_bytes : Colour → ℕ → List ℕ
 turn_bytes side n = side_name side ++ (decimal n ++ 93 ∷ [])
 
--- the written moves, each on the board before it
+-- the texts of the moves, each written on the board before it
 abbrev pub texts : Position → List Move → List (List ℕ)
 texts p [] = []
 texts p (m ∷ ms) = text p.board m ∷ texts (after p m) ms
 
--- type, this state, turn and moves, joined by semicolons
+-- type, given state, turn and moves, joined by semicolons
 abbrev pub string_with : GameType → State → Position → List (List ℕ) → List ℕ
 string_with t s end rest =
     joined_on (type_bytes t) (state_bytes s ∷ turn_bytes end.side end.turn ∷ rest)
@@ -45,24 +45,24 @@ string_with t s end rest =
 abbrev pub string_from : GameType → Position → List (List ℕ) → List ℕ
 string_from t end rest = string_with t (state end) end rest
 
--- the written form of a game
+-- the text of a game
 unfoldable pub string : GameType → List Move → List ℕ
 string t ms = string_from t (replay (opening t) ms) (texts (opening t) ms)
 
--- the same with the outcome under the rule of third repetition for the state
+-- the same, with the outcome under the rule of third repetition as its state
 unfoldable pub string_under : Bool → GameType → List Move → List ℕ
 string_under r t ms =
     string_with t (outcome_under r t ms) (replay (opening t) ms) (texts (opening t) ms)
 
--- the texts denote the moves, each on the board before it
+-- The texts denote the moves, each on the board before it.
 abbrev pub DenoteMoves : Position → List (List ℕ) → List Move → Type 0
 DenoteMoves p [] [] = Unit {0}
 DenoteMoves p [] (m ∷ ms) = ⊥
 DenoteMoves p (x ∷ xs) [] = ⊥
 DenoteMoves p (x ∷ xs) (m ∷ ms) = Denotes p.game_type p.board x m × DenoteMoves (after p m) xs ms
 
--- the line has a type, a state, a turn and texts that denote the moves of a game of at most 5,000
--- moves, the declared state is this one, and the declared turn is that of the game
+-- The line has a type, a state, a turn and texts that denote the moves of a game of at most 5,000
+-- moves. Its state is s, and its turn is that of the game.
 pub record IsFullWith (line : List ℕ) (s : State) (t : GameType) (ms : List Move) : Type 0 where
   pub rest : List (List ℕ)
   pub parts_are : parts line ≡ type_bytes t
@@ -72,19 +72,19 @@ pub record IsFullWith (line : List ℕ) (s : State) (t : GameType) (ms : List Mo
   pub legal : IsGame t ms
   pub few : length ms ≤ 5000
 
--- the declared state is that of the game's position
+-- The line's state is that of the game's position.
 abbrev pub IsFull : List ℕ → GameType → List Move → Type 0
 IsFull line t ms = IsFullWith line (state (replay (opening t) ms)) t ms
 
--- the line is the game: a type alone is its opening
+-- The line is the game. A type alone is its opening.
 abbrev pub IsGameLine : List ℕ → GameType → List Move → Type 0
 IsGameLine line t ms = ((line ≡ type_bytes t) × (ms ≡ [])) ⊎ IsFull line t ms
 
--- the declared state is the outcome under the rule of third repetition, and no move follows the end
--- of the game
+-- The line's state is the outcome under the rule of third repetition, and no move follows the end
+-- of the game.
 abbrev pub IsFullUnder : Bool → List ℕ → GameType → List Move → Type 0
 IsFullUnder r line t ms = IsFullWith line (outcome_under r t ms) t ms × StandsUnder r t ms
 
--- the line is the game under the rule
+-- The line is the game under the rule.
 abbrev pub IsGameLineUnder : Bool → List ℕ → GameType → List Move → Type 0
 IsGameLineUnder r line t ms = ((line ≡ type_bytes t) × (ms ≡ [])) ⊎ IsFullUnder r line t ms

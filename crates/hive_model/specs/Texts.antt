@@ -28,7 +28,7 @@ kind_code Mosquito = 77
 kind_code Ladybug = 76
 kind_code Pillbug = 80
 
--- a digit, where the kind has more than one piece
+-- a digit, if the kind has more than one piece a side
 abbrev pub number_code : ℕ → List ℕ
 number_code n = if nat_eq n 0 then [] else (48 + n) ∷ []
 
@@ -55,7 +55,7 @@ form_text Passes = codes "pass"
 form_text (Alone x) = piece_text x
 form_text (Beside x mark y) = piece_text x ++ 32 ∷ destination mark (piece_text y)
 
--- a form of pieces that there are
+-- the form's pieces are among the 28
 abbrev pub IsForm : Form → Type 0
 IsForm Passes = Unit {0}
 IsForm (Alone x) = x < 28
@@ -68,8 +68,9 @@ pub record Begins (bytes : List ℕ) : Type 0 where
   pub rest : List ℕ
   pub text : form_text form ≡ bytes ++ rest
 
--- The text is no move text. The offset is the least such that no move text begins with one byte
--- more than that, or the length, where the whole text is the beginning of a longer move text only.
+-- The text is not a move text. The offset is the least number such that no move text begins with
+-- that many bytes of the text and one more. If the whole text is a proper prefix of a move text,
+-- the offset is the length.
 pub record IsNoText (text : List ℕ) (offset : ℕ) : Type 0 where
   pub none : (f : Form) → IsForm f → ¬ (text ≡ form_text f)
   pub within : offset ≤ length text

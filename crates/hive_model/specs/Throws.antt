@@ -13,18 +13,18 @@ use Rattle.hive_model.specs.Hive.{IsCut, are_neighbours, is_cut}
 use Rattle.hive_model.specs.Steps.{FreeStep, is_free}
 use Rattle.hive_model.specs.Positions.{Position, is_piece}
 
--- a neighbouring top piece is a pillbug
+-- a neighbour of the place has a pillbug on top
 pub record BesidePillbug (b : Stacks) (t : Place) : Type 0 where
   pub dir : Dir
   pub other : ℕ
   pub stands : top_at b (step t dir) ≡ Some other
   pub pillbug : kind_of other ≡ Pillbug
 
--- a pillbug throws, and a mosquito that touches a pillbug; this is judged on the whole board
+-- A pillbug throws, and so does a mosquito that touches a pillbug on the whole board.
 abbrev pub CanThrow : Stacks → ℕ → Place → Type 0
 CanThrow b y t = (kind_of y ≡ Pillbug) ⊎ ((kind_of y ≡ Mosquito) × BesidePillbug b t)
 
--- a thrower on its place: it is alone there and does not rest; it may stand on a cut place
+-- A thrower on its place can throw, is alone there and does not rest. It may stand on a cut place.
 pub record IsThrower (b : Stacks) (rest : Option ℕ) (y : ℕ) (t : Spot) : Type 0 where
   pub is_piece : IsTrue (is_in_set y)
   pub stands : spot_of b y ≡ Some t
@@ -32,9 +32,10 @@ pub record IsThrower (b : Stacks) (rest : Option ℕ) (y : ℕ) (t : Spot) : Typ
   pub awake : rest ≢ Some y
   pub can : CanThrow b y t.place
 
--- A thrower on t throws a piece from a to q. The thrown piece, of either colour, is alone on a
--- neighbour of t that is no cut place, and does not rest. On the board without it neither the step
--- up onto the thrower nor the step down is blocked. It comes down on an empty place.
+-- A thrower on t throws a piece from a to q. The thrown piece may be of either colour. It is alone
+-- on a neighbour of t that is not a cut place, and it does not rest. On the board without it,
+-- neither the step up onto the thrower nor the step down is blocked. It lands on an empty place
+-- other than its own.
 pub record ThrowOver (b : Stacks) (rest : Option ℕ) (t : Place) (x : ℕ) (a : Spot)
     (q : Place) : Type 0 where
   pub stands : spot_of b x ≡ Some a
@@ -47,7 +48,7 @@ pub record ThrowOver (b : Stacks) (rest : Option ℕ) (t : Place) (x : ℕ) (a :
   pub empty : height_at b q ≡ 0
   pub other : a.place ≢ q
 
--- a thrower of the side to move throws the piece to q
+-- A thrower of the side to move throws the piece to q.
 pub record Throw (p : Position) (x : ℕ) (q : Place) : Type 0 where
   pub thrower : ℕ
   pub over : Spot
@@ -85,7 +86,7 @@ throws_over b rest (Some t) x (Some a) q =
     && (is_free (lift b x) a.place t.place && (is_free (lift b x) t.place q
     && (nat_eq (height_at b q) 0 && not (is_place a.place q)))))))
 
--- this piece throws that one to q, where it is a thrower
+-- the piece y throws the piece x to q, if y is a thrower
 abbrev pub is_thrown_by : Stacks → Option ℕ → ℕ → ℕ → Place → Bool
 is_thrown_by b rest y x q = throws_over b rest (spot_of b y) x (spot_of b x) q
 

@@ -1,8 +1,8 @@
-//! What a search answers.
+//! What a search returns.
 
 use crate::places::Move;
 
-/// A move, and what it is worth to the side that makes it.
+/// A move, and its value to the side that makes it.
 #[derive(Clone, Copy, Debug, PartialEq, Eq)]
 pub struct Best {
     pub best: Move,
@@ -10,7 +10,7 @@ pub struct Best {
 }
 
 /// What a timed search did: the last depth that it completed, its budget, and the first and the
-/// last reading of its clock. All times are milliseconds.
+/// last reading of its clock. The budget and the readings are in milliseconds.
 #[derive(Clone, Copy, Debug, PartialEq, Eq)]
 pub struct Timed {
     pub depth: u32,

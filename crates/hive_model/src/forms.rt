@@ -10,8 +10,8 @@ pub enum Stroke {
     Backslash,
 }
 
-/// How a destination names its place by a reference: it is the place of the reference, or beside it
-/// on the side that a stroke shows. `-R` is W of R, `R-` E, `/R` SW, `R/` NE, `\R` NW and `R\` SE.
+/// How a destination is written by a reference: as the reference itself, or with a stroke on one of
+/// its sides. `-R` is W of R, `R-` E, `/R` SW, `R/` NE, `\R` NW and `R\` SE.
 #[derive(Clone, Copy, Debug, PartialEq, Eq)]
 pub enum Mark {
     On,
@@ -19,7 +19,7 @@ pub enum Mark {
     After(Stroke),
 }
 
-/// What a move text shows: `pass`, a piece alone, or a piece and a destination beside or on a
+/// What a move text says: `pass`, a piece alone, or a piece and a destination on or beside a
 /// reference.
 #[derive(Clone, Copy, Debug, PartialEq, Eq)]
 pub enum Form {

@@ -1,4 +1,4 @@
-//! A game under way, however its board is kept.
+//! A game in progress, however its board is stored.
 
 ghost use Rattle.std.specs.Prelude.{
   ◌≡◌,
@@ -47,24 +47,24 @@ use crate::pieces::{Colour, GameType};
 use crate::places::{Move, State};
 use std::alloc::{AllocError, Global};
 
-/// A game under way. Contracts see its course: its type, the legal moves made so far, and for how
-/// many more plies it has room. Its position is the replay of the moves, and as a `Board` it is the
-/// board of that position. Beside its course stands the count that `played` answers, which only
-/// `play` raises.
+/// A game in progress. Contracts see its course: its type, the legal moves made so far, and the
+/// number of further plies that it has room for. Its position is the replay of those moves. As a
+/// `Board` it is the board of that position. Contracts also see the counter that `played` returns,
+/// which only `play` raises.
 pub trait Game: Board + Sized {
     ghost course: { Self → Course };
 
-    /// How often `play` was called; it stands still at the greatest u64.
+    /// How often `play` was called. The counter stops at the greatest u64.
     ghost played: { Self → ℕ };
 
-    /// A game of this type in which no ply was played.
+    /// A game of this type, before the first ply.
     fn opening(alloc: Global, game_type: GameType) -> Result<Self, AllocError>
         ensures kind { IfOk result (λ g. (course g).game_type ≡ game_type) }
         ensures empty { IfOk result (λ g. (course g).made ≡ []) }
         ensures unplayed { IfOk result (λ g. played g ≡ 0) };
 
-    /// Makes room for at least this many more plies; what room there is stays. Nothing else
-    /// changes, and nothing at all after want of memory.
+    /// Makes room for at least this many more plies, and keeps the room that there is. Nothing else
+    /// changes. If memory runs out, nothing changes at all.
     fn reserve(&mut self, plies: u32) -> Result<(), AllocError>
         requires { length (course self.old).made + plies ≤ most_plies }
         ensures room { OnOk result (plies ≤ (course self.new).spare) }
@@ -77,6 +77,7 @@ pub trait Game: Board + Sized {
         ensures err { OnErr result (course self.new ≡ course self.old) }
         ensures count { played self.new ≡ played self.old };
 
+    /// The game type.
     fn game_type(&self) -> GameType
         ensures { result ≡ (course self.now).game_type };
 
@@ -90,13 +91,13 @@ pub trait Game: Board + Sized {
         requires { i < length (course self.now).made }
         ensures { slice_get (course self.now).made i ≡ Some result };
 
-    /// Whether the game goes on, and how it ended. The moves are a game, and its position is sound.
+    /// Whether the game goes on, or how it ended. The moves are a game, and the position is sound.
     fn state(&self) -> State
         ensures state { result ≡ rules.state (position (course self.now)) }
         ensures game { IsGame (course self.now).game_type (course self.now).made }
         ensures sound { IsSound (position (course self.now)) };
 
-    /// That the moves are a game, and its position is sound; nothing is computed.
+    /// Establishes that the moves are a game and that the position is sound. Computes nothing.
     fn is_sound(&self)
         ensures game { IsGame (course self.now).game_type (course self.now).made }
         ensures sound { IsSound (position (course self.now)) };
@@ -105,24 +106,25 @@ pub trait Game: Board + Sized {
     fn side(&self) -> Colour
         ensures { result ≡ (position (course self.now)).side };
 
-    /// The turn number, from 1 on; it rises after black.
+    /// The turn number, from 1. It rises after black's move.
     fn turn(&self) -> u32
         ensures { result ≡ (position (course self.now)).turn };
 
-    /// Begins a level and fills it with the legal moves, in order. The game is as before.
+    /// Begins a level of the stack and fills it with the legal moves, in order. The game does not
+    /// change.
     fn list(&mut self, out: &mut MoveStack)
         requires { 1 ≤ out.old.free }
         ensures listed { out.new ≡ with_level out.old (moves (position (course self.old))) }
         ensures same { course self.new ≡ course self.old }
         ensures count { played self.new ≡ played self.old };
 
-    /// How many legal moves there are: the length of their list. The game is as before.
+    /// The number of legal moves. The game does not change.
     fn count_moves(&mut self) -> u32
         ensures counted { result ≡ length (moves (position (course self.old))) }
         ensures same { course self.new ≡ course self.old }
         ensures count { played self.new ≡ played self.old };
 
-    /// Whether the move is legal. The game is as before.
+    /// Whether the move is legal. The game does not change.
     fn is_legal(&mut self, m: Move) -> bool
         ensures legal { IsTrue result ↔ IsOn (moves (position (course self.old))) m }
         ensures test { result ≡ is_listed (position (course self.old)) m }
@@ -136,21 +138,21 @@ pub trait Game: Board + Sized {
         ensures moved { course self.new ≡ with_move (course self.old) m }
         ensures count { played self.new ≡ min (played self.old + 1) (2 ^ 64 - 1) };
 
-    /// Takes the last move back.
+    /// Undoes the last move.
     fn undo(&mut self)
         requires { 1 ≤ length (course self.old).made }
         ensures back { course self.new ≡ without_last (course self.old) }
         ensures count { played self.new ≡ played self.old };
 
-    /// What the position is worth to its side to move, judged without a search; its size is at most
-    /// 1,000. The game is as before.
+    /// The evaluation of the position for its side to move, without a search. Its absolute value is
+    /// at most 1,000. The game does not change.
     fn evaluate(&mut self) -> i32
         ensures worth { result ≡ eval (position (course self.old)) }
         ensures same { course self.new ≡ course self.old }
         ensures count { played self.new ≡ played self.old };
 
-    /// What the position after a legal move is worth to its side to move with no ply left to
-    /// search, where that is told without making the move. The game is as before.
+    /// The value at depth 0 of the position after a legal move, for the side to move there. None if
+    /// it is not known without a play. The game does not change.
     fn value_after(&mut self, m: Move) -> Option<i32>
         requires { IsOn (moves (position (course self.old))) m }
         ensures value { IfSome result (λ v. v
@@ -158,8 +160,8 @@ pub trait Game: Board + Sized {
         ensures same { course self.new ≡ course self.old }
         ensures count { played self.new ≡ played self.old };
 
-    /// At least what the position after a legal move is worth to its side to move with no ply left
-    /// to search, where a bound is told without making the move. The game is as before.
+    /// A lower bound on the value at depth 0 of the position after a legal move, for the side to
+    /// move there. None if no bound is known without a play. The game does not change.
     fn least_after(&mut self, m: Move) -> Option<i32>
         requires { IsOn (moves (position (course self.old))) m }
         ensures least { IfSome result (λ b. b
@@ -167,18 +169,18 @@ pub trait Game: Board + Sized {
         ensures same { course self.new ≡ course self.old }
         ensures count { played self.new ≡ played self.old };
 
-    /// At most what a legal move is worth to the side that makes it, with one ply of best play
-    /// behind it, where that is told without making the move. The game is as before.
+    /// An upper bound on the value of a legal move for the side that makes it, with one ply
+    /// searched after it. None if no bound is known without a play. The game does not change.
     fn most_after(&mut self, m: Move) -> Option<i32>
         requires { IsOn (moves (position (course self.old))) m }
         ensures most { IfSome result (λ b. reply_value (position (course self.old)) 1 m ≤ℤ b) }
         ensures same { course self.new ≡ course self.old }
         ensures count { played self.new ≡ played self.old };
 
-    /// The place of the next move of the level, from `from` on, that may raise alpha with no ply left
-    /// behind it; the length of the level where none may. Each move that is passed over is worth no
-    /// more than alpha to the side that makes it. The level holds the legal moves. The game is as
-    /// before.
+    /// The index of the next move of the level, at `from` or later, that may raise alpha when no
+    /// ply is searched after it. It is the length of the level if no move may. Each move that is
+    /// passed over is worth at most alpha to the side that makes it. The level must hold the legal
+    /// moves. The game does not change.
     fn next_candidate(&mut self, stack: &MoveStack, level: u32, from: u32, alpha: i32) -> u32
         requires stands { level < length stack.now.lists }
         requires listed { level_of stack.now level ≡ moves (position (course self.old)) }
@@ -191,7 +193,7 @@ pub trait Game: Board + Sized {
         ensures same { course self.new ≡ course self.old }
         ensures count { played self.new ≡ played self.old };
 
-    /// The position's key. The position is sound.
+    /// The key of the position. The position is sound.
     fn key(&self) -> Key
         ensures key { result ≡ key (position (course self.now)) }
         ensures sound { IsSound (position (course self.now)) };
@@ -200,6 +202,6 @@ pub trait Game: Board + Sized {
     fn played(&self) -> u64
         ensures { result ≡ played self.now };
 
-    /// As a board a game is the board of its position.
+    /// The board of a game is the board of its position.
     ghost on_board: { (g : Self) → Self.Board.stacks g ≡ (position (course g)).board };
 }

@@ -1,4 +1,4 @@
-//! What tells positions apart whose values may differ.
+//! Keys: sound positions with equal keys have equal values at every depth.
 
 ghost use Rattle.std.specs.Prelude.{◌≡◌, IfSome};
 ghost use Rattle.hive_model.specs.Places.{IsWithin};
@@ -15,7 +15,7 @@ use crate::places::{Place, Spot};
 use std::hash::{Hash, Hasher};
 use std::marker::Model;
 
-/// Where a piece stands, if it is in play, in six bytes. Of a piece that is in hand all is 0.
+/// The place and level of a piece in play, in six bytes. All fields are 0 for a piece in hand.
 #[derive(Clone, Copy, Debug, PartialEq, Eq)]
 struct SmallSpot {
     q: i16,
@@ -24,11 +24,11 @@ struct SmallSpot {
     in_play: bool,
 }
 
-/// A position's key: where each piece stands and at which level, the game type, the side to move,
-/// the number of the turn, capped at 5, and the piece that rests. Sound positions with equal keys
-/// are worth the same at every depth.
+/// A position's key: the place and level of each piece, the game type, the side to move, the turn
+/// number and the piece that rests. The turn number is capped at 5. Sound positions with equal keys
+/// have equal values at every depth.
 ///
-/// The number by which tables find it is kept, so that it is found once.
+/// The number under which tables look it up is stored, so that it is computed once.
 #[derive(Clone, Copy, Debug, PartialEq, Eq)]
 pub struct Key {
     number: u64,
@@ -84,7 +84,7 @@ const SPREAD_Q: u64 = 0xC2B2_AE3D_27D4_EB4F;
 
 const SPREAD_R: u64 = 0x1656_67B1_9E37_79F9;
 
-/// The number of the spots before, with one spot more.
+/// Adds one spot to the number of the spots before it.
 fn mixed(number: u64, spot: Option<Spot>) -> u64
     ensures { result ≡ mixed number spot }
 {
@@ -106,7 +106,7 @@ impl SmallSpot {
         in_play: false,
     };
 
-    /// The spot in less memory.
+    /// Packs a spot.
     fn of(spot: Option<Spot>) -> SmallSpot
         requires { IfSome spot (λ s. IsWithin 9000 s.place) }
         ensures { result ≡ small spot }
@@ -139,7 +139,7 @@ impl SmallSpot {
     }
 }
 
-/// Tables find a key by a number of its spots alone, for speed; `==` compares all.
+/// Tables look a key up by a number of its spots alone, for speed; `==` compares all parts.
 impl Hash for Key {
     ghost hash_input = { λ k. fed.u64 (number_of k) };
 
@@ -151,15 +151,15 @@ impl Hash for Key {
 }
 
 impl Key {
-    /// The number by which tables find the key. Keys of one board have one number.
+    /// The number under which tables look the key up. Keys of one board have the same number.
     pub(crate) fn number(&self) -> u64
         ensures { result ≡ number_of self.now }
     {
         self.number
     }
 
-    /// The key of a position: its game type, its board, the side to move, the number of the turn
-    /// and the piece that rests.
+    /// The key of a position: its game type, its board, the side to move, the turn number and the
+    /// piece that rests.
     pub fn of<B: Board>(
         game_type: GameType,
         board: &B,
@@ -186,7 +186,7 @@ impl Key {
         }
     }
 
-    /// Where the piece stands, and at which level, if it is in play.
+    /// The place and level of a piece, if it is in play.
     pub fn spot(&self, piece: Piece) -> Option<Spot>
         ensures spot { result ≡ spot_in self.now piece }
         ensures within { IfSome result (λ s. IsWithin 9000 s.place) }
@@ -208,21 +208,21 @@ impl Key {
         self.side
     }
 
-    /// The number of the turn, capped at 5.
+    /// The turn number, capped at 5.
     pub fn turn(&self) -> u32
         ensures { result ≡ self.now.turn }
     {
         u32::from(self.turn)
     }
 
-    /// The resting piece, if there is one.
+    /// The piece that rests, if there is one.
     pub fn rest(&self) -> Option<Piece>
         ensures { result ≡ self.now.rest }
     {
         self.rest
     }
 
-    /// Whether the two are equal in all but the turn.
+    /// Whether the two keys are equal in all but the turn.
     pub fn same_board(&self, other: &Key) -> bool
         ensures { result ≡ same_board self.now other.now }
     {

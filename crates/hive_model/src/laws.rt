@@ -1,8 +1,8 @@
 //! Laws of the definitions, as contracts of functions that do nothing.
 //!
-//! Each rule is defined twice: as a relation in the rule's own words, and as a test that computes
-//! and that makes the list of legal moves. A law says that the two agree, so that a contract which
-//! cites a test says the rule.
+//! Each rule is defined twice: as a relation in the rule's own words, and as a test that computes.
+//! The list of legal moves is made with the tests. A law says that relation and test agree, so that
+//! a contract which cites a test states the rule.
 
 ghost use Rattle.hive_model.specs.Laws.{
   NeighboursAreTested,
@@ -47,9 +47,9 @@ ghost use Rattle.hive_model.specs.Laws.{
 };
 ghost use Rattle.hive_model.specs.SameKeys.{KeysAreCompared};
 
-/// The tests of neighbours, of one hive, and of the places that hold it together: a separating
-/// place, without whose pieces the board is not one hive, and a cut place, which is one of height
-/// 1.
+/// The tests of neighbours, of one hive, of separating places and of cut places. A place is
+/// separating if the board without its pieces is not one hive. A cut place is a separating place of
+/// height 1.
 pub fn hives_are_tested()
     ensures neighbours { NeighboursAreTested }
     ensures one_hive { OneHiveIsTested }
@@ -58,26 +58,26 @@ pub fn hives_are_tested()
 {}
 
 /// The tests of a step to a neighbour: a ground step between empty places, a climbing step, and a
-/// step that no gate of two higher neighbours blocks.
+/// step that is not blocked by two higher neighbours (a gate).
 pub fn steps_are_tested()
     ensures on_ground { GroundStepIsTested }
     ensures climbing { ClimbingStepIsTested }
     ensures free { FreeStepIsTested }
 {}
 
-/// The test of where a bug of each kind moves to.
+/// The test of the places that a bug of each kind moves to.
 pub fn reach_is_tested()
     ensures { ReachIsTested }
 {}
 
-/// The tests of what a mosquito copies, and of where a bug of any kind moves to.
+/// The tests of what a mosquito copies, and of the places that any kind of bug moves to.
 pub fn copies_are_tested()
     ensures copies { CopiesAreTested }
     ensures moves { MovesAsIsTested }
 {}
 
-/// The tests of placements: which pieces are in hand, which is next of its kind, where a side may
-/// place, and which piece may be placed where.
+/// The tests of placements: which pieces are in hand, which is next of its kind, on which places a
+/// side may place, and which piece may be placed there.
 pub fn placements_are_tested()
     ensures in_hand { InHandIsTested }
     ensures least { LeastInHandIsTested }
@@ -87,15 +87,15 @@ pub fn placements_are_tested()
     ensures placement { PlacementIsTested }
 {}
 
-/// The tests of throws: who is a thrower, what it throws where, and whether the side to move throws
-/// a piece to a place.
+/// The tests of throws: which piece is a thrower, what it throws to which place, and whether the
+/// side to move throws a piece to a place.
 pub fn throws_are_tested()
     ensures thrower { ThrowerIsTested }
     ensures over { ThrowOverIsTested }
     ensures throw { ThrowIsTested }
 {}
 
-/// The test of a move of an own piece by its kind's rule.
+/// The test of a move of the mover's own piece by the rule of its kind.
 pub fn walks_are_tested()
     ensures { WalkIsTested }
 {}
@@ -106,14 +106,14 @@ pub fn ends_are_tested()
     ensures over { OverIsTested }
 {}
 
-/// The test of a legal pair of a piece and a place, and where such a pair ends: on a near place.
+/// The test of a legal pair of a piece and a place. Such a pair ends on a near place.
 pub fn legal_pairs_are_near()
     ensures tested { LegalPairIsTested }
     ensures near { LegalPairIsNear }
 {}
 
-/// The list of legal moves has the legal moves and no other, in order and each once. It is the pass
-/// alone where no piece can move, and empty where the game is over.
+/// The list of legal moves has the legal moves and no others, in order and each once. It is the
+/// pass alone if no piece can move, and it is empty if the game is over.
 pub fn moves_are_legal()
     ensures legal { MovesAreLegal }
     ensures order { MovesRise }
@@ -122,30 +122,31 @@ pub fn moves_are_legal()
     ensures pieces { MovesHavePieces }
 {}
 
-/// A piece that is put or lifted leaves a board: each piece stands once, and no stack is empty.
+/// Putting or lifting a piece keeps a board a board: each piece is on it once, and no stack is
+/// empty.
 pub fn boards_are_kept()
     ensures put { PutKeepsBoards }
     ensures lift { LiftKeepsBoards }
 {}
 
-/// The bounded search over a list of places finds a place exactly where a way over the list leads
-/// to it.
+/// The bounded search over a list of places finds a place exactly if a way over the list leads to
+/// it.
 pub fn floods_find_ways()
     ensures { FloodsFindWays }
 {}
 
-/// Two lists of places or of moves, in strict order and with the same members, are equal.
+/// Two lists of places, or of moves, that are in strict order and have the same members are equal.
 pub fn members_settle_lists()
     ensures places { PlacesAreSettled }
     ensures moves { MovesAreSettled }
 {}
 
-/// The test that finds a move on the list of legal moves.
+/// The test of whether a move is on the list of legal moves.
 pub fn listed_moves_are_tested()
     ensures { ListedMovesAreTested }
 {}
 
-/// `==` answers whether two keys are equal in all that contracts see of them.
+/// `==` of keys holds exactly if the two are equal in all that contracts see of them.
 pub fn keys_are_compared()
     ensures { KeysAreCompared }
 {}

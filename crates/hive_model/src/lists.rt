@@ -23,7 +23,7 @@ impl<T> Model for ItemList<T> {
 }
 
 impl<T: Drop> ItemList<T> {
-    /// The empty list, which keeps the allocator.
+    /// The empty list. It keeps the allocator.
     pub fn new(alloc: Global) -> ItemList<T>
         ensures { result ≡ [] }
     {
@@ -32,7 +32,7 @@ impl<T: Drop> ItemList<T> {
         }
     }
 
-    /// Appends an item. After want of memory the list is as before.
+    /// Appends an item. If memory runs out, the list does not change.
     pub fn push(&mut self, item: T) -> Result<(), AllocError>
         ensures pushed { OnOk result (self.new ≡ self.old ++ item ∷ []) }
         ensures refused { OnErr result (self.new ≡ self.old) }
@@ -41,8 +41,8 @@ impl<T: Drop> ItemList<T> {
         Ok(())
     }
 
-    /// Puts an item in front of the one at this index, or behind the last one. After want of memory
-    /// the list is as before.
+    /// Inserts an item before the one at this index, or at the end if the index is the length. If
+    /// memory runs out, the list does not change.
     pub fn insert(&mut self, index: usize, item: T) -> Result<(), AllocError>
         requires { index ≤ length self.old }
         ensures put { OnOk result (self.new ≡ insert self.old index item) }
@@ -61,7 +61,7 @@ impl<T: Drop> ItemList<T> {
 }
 
 impl<T: Copy + Drop> ItemList<T> {
-    /// Appends all of these items, or after want of memory none.
+    /// Appends all of these items, or none if memory runs out.
     pub fn push_all(&mut self, items: &[T]) -> Result<(), AllocError>
         ensures pushed { OnOk result (self.new ≡ self.old ++ items.now) }
         ensures refused { OnErr result (self.new ≡ self.old) }

@@ -1,4 +1,4 @@
-//! Lists of moves, one above the other.
+//! A stack of lists of moves, one list for each level of a search.
 
 ghost use Rattle.std.specs.Prelude.{◌≡◌, ◌+◌, ◌-◌, ◌<◌, ◌≤◌, [], length, slice_get, Some, IfOk};
 ghost use Rattle.hive_model.specs.Stack.{level_of, with_level, without_level, with_move_on_top};
@@ -7,7 +7,8 @@ use crate::places::Move;
 use std::alloc::{AllocError, Global};
 use std::marker::Model;
 
-/// Lists of moves by level, for as many levels as were made room for.
+/// Lists of moves, one for each level, up to a number of levels that is fixed when the stack is
+/// made.
 #[derive(Drop)]
 pub struct MoveStack {
     lists: Vec<Vec<Move>>,
@@ -31,7 +32,7 @@ impl Model for MoveStack {
 }
 
 impl MoveStack {
-    /// Room for this many levels, from 1 to 66, of 5,488 moves each: 28 pieces times 196 places.
+    /// Room for this many levels, from 1 to 66, of 5,488 moves each (28 pieces times 196 places).
     /// All memory is taken here.
     pub fn new(alloc: Global, levels: u32) -> Result<MoveStack, AllocError>
         requires few { levels ≤ 66 }
@@ -45,21 +46,21 @@ impl MoveStack {
         Ok(MoveStack { lists, used: 0 })
     }
 
-    /// For how many more levels there is room.
+    /// The number of further levels that there is room for.
     pub fn free_levels(&self) -> u32
         ensures { result ≡ self.now.free }
     {
         (self.lists.len() - self.used) as u32
     }
 
-    /// How many levels there are.
+    /// The number of levels in use.
     pub fn levels(&self) -> u32
         ensures { result ≡ length self.now.lists }
     {
         self.used as u32
     }
 
-    /// Begins a level that holds nothing.
+    /// Begins an empty level.
     pub fn begin_level(&mut self)
         requires { 1 ≤ self.old.free }
         ensures { self.new ≡ with_level self.old [] }
@@ -69,7 +70,7 @@ impl MoveStack {
         self.used += 1;
     }
 
-    /// Puts a move at the end of the last level.
+    /// Appends a move to the last level.
     pub fn push(&mut self, m: Move)
         requires level { 1 ≤ length self.old.lists }
         requires room { length (level_of self.old (length self.old.lists - 1)) < 5488 }
@@ -79,7 +80,7 @@ impl MoveStack {
         let _ = list.push(m);
     }
 
-    /// The number of moves of a level, counted from 0.
+    /// The number of moves of a level. Levels are counted from 0.
     pub fn level_len(&self, level: u32) -> u32
         requires { level < length self.now.lists }
         ensures { result ≡ length (level_of self.now level) }
@@ -87,7 +88,7 @@ impl MoveStack {
         self.lists[level as usize].len() as u32
     }
 
-    /// A move of a level, both counted from 0.
+    /// A move of a level. Levels and moves are counted from 0.
     pub fn get(&self, level: u32, i: u32) -> Move
         requires level { level < length self.now.lists }
         requires place { i < length (level_of self.now level) }
@@ -96,7 +97,7 @@ impl MoveStack {
         self.lists[level as usize][i as usize]
     }
 
-    /// Takes the last level away, with its moves.
+    /// Drops the last level with its moves.
     pub fn drop_level(&mut self)
         requires { 1 ≤ length self.old.lists }
         ensures { self.new ≡ without_level self.old }

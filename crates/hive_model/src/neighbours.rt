@@ -1,4 +1,4 @@
-//! The bits of directions, of which a mask of neighbours is made.
+//! The bits of directions, of which masks of neighbours are made.
 
 ghost use Rattle.std.specs.Prelude.{◌≡◌, ◌≤◌, if◌then◌else◌};
 ghost use Rattle.hive_model.specs.Neighbours.{weight};
@@ -21,7 +21,7 @@ impl Dir {
         }
     }
 
-    /// The bit of the direction in a mask that has it, and 0 in one that has it not.
+    /// The bit of the direction if `has` is true, and 0 otherwise.
     pub fn bit_if(self, has: bool) -> u8
         ensures bit { result ≡ (if has then weight self else 0) }
         ensures few { result ≤ weight self }

@@ -1,4 +1,4 @@
-//! Counts of the numbers of keys.
+//! How many keys have each number.
 
 ghost use Rattle.std.specs.Prelude.{◌≡◌, ◌+◌, ◌-◌, ◌<◌, ◌≤◌, ℕ, cond, nat_eq, OnOk, OnErr};
 ghost use Rattle.hive_model.specs.NumberCounts.{count_of};
@@ -6,14 +6,14 @@ ghost use Rattle.hive_model.specs.NumberCounts.{count_of};
 use indexmap::IndexMap;
 use std::alloc::AllocError;
 
-/// How many keys have this number.
+/// The number of keys that have this number.
 pub(crate) fn count_of(counts: &IndexMap<u64, u32>, number: u64) -> u32
     ensures { result ≡ count_of counts.now number }
 {
     counts.get(&number).copied().unwrap_or(0)
 }
 
-/// Counts a key more with this number. After want of memory the counts are as before.
+/// Counts one more key with this number. If memory runs out, the counts do not change.
 pub(crate) fn count_up(counts: &mut IndexMap<u64, u32>, number: u64) -> Result<(), AllocError>
     requires { count_of counts.old number < 10000 }
     ensures more { OnOk result ((n : ℕ) → count_of counts.new n
@@ -27,7 +27,7 @@ pub(crate) fn count_up(counts: &mut IndexMap<u64, u32>, number: u64) -> Result<(
     }
 }
 
-/// Counts a key less with this number. A number that no key has is forgotten.
+/// Counts one key less with this number. A number that no key has is removed.
 pub(crate) fn count_down(counts: &mut IndexMap<u64, u32>, number: u64)
     requires { 1 ≤ count_of counts.old number }
     ensures { (n : ℕ) → count_of counts.new n

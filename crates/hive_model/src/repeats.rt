@@ -1,4 +1,4 @@
-//! The keys of a game's positions, kept to count how often the last one stands.
+//! The keys of a game's positions, stored to count how often the last position has occurred.
 
 ghost use Rattle.std.specs.Prelude.{
   ◌≡◌,
@@ -22,8 +22,8 @@ use indexmap::IndexMap;
 use std::alloc::{AllocError, Global};
 use std::marker::Model;
 
-/// Keys in order, at most 10,000. Beside them stands how many of them have each number: keys of one
-/// board have one number, so that most boards are known at once to stand for the first time.
+/// At most 10,000 keys in order, and for each number how many of the keys have it. Keys of one
+/// board have the same number, so that most boards are known at once to be new.
 #[derive(Drop)]
 pub struct Repeats {
     kept: Vec<Key>,
@@ -42,7 +42,7 @@ impl Model for Repeats {
     ghost invariant = { λ r. (length r.kept.items ≤ 10000) × AreCounted r.kept.items r.counts };
 }
 
-/// How many of the keys have the board of this one.
+/// How many of the keys have the same board as this one.
 fn count_same(key: &Key, keys: &[Key]) -> u32
     requires { length keys.now ≤ 10000 }
     ensures { result ≡ count_same key.now keys.now }
@@ -57,7 +57,7 @@ fn count_same(key: &Key, keys: &[Key]) -> u32
 }
 
 impl Repeats {
-    /// No keys, with the allocator for those to come.
+    /// No keys yet. The allocator is kept for those to come.
     pub fn new(alloc: Global) -> Repeats
         ensures { result ≡ [] }
     {
@@ -67,8 +67,7 @@ impl Repeats {
         }
     }
 
-    /// Appends a key, where fewer than 10,000 are kept. After want of memory the keys are as
-    /// before.
+    /// Appends a key. Fewer than 10,000 must be stored. If memory runs out, the keys do not change.
     pub fn push(&mut self, key: Key) -> Result<(), AllocError>
         requires { length self.old < 10000 }
         ensures pushed { OnOk result (self.new ≡ self.old ++ key ∷ []) }
@@ -80,7 +79,7 @@ impl Repeats {
         Ok(())
     }
 
-    /// Takes the last key away.
+    /// Drops the last key.
     pub fn pop(&mut self)
         requires { 1 ≤ length self.old }
         ensures { self.new ≡ take (length self.old - 1) self.old }
@@ -90,8 +89,8 @@ impl Repeats {
         }
     }
 
-    /// How many of the keys have the board of the last one, itself among them. The turn does not
-    /// count.
+    /// How many of the keys have the same board as the last one, which is counted too. The turn
+    /// does not matter.
     pub fn times(&self) -> u32
         requires { 1 ≤ length self.now }
         ensures { result ≡ count_last self.now }
@@ -100,8 +99,9 @@ impl Repeats {
         count_same(&keys[keys.len() - 1], keys)
     }
 
-    /// Whether at least three of the keys have the board of the last one, itself among them. The
-    /// turn does not count. The keys are looked through only where three of them have one number.
+    /// Whether at least three of the keys, the last one included, have the board of the last one.
+    /// The turn does not matter. The keys are compared only if at least three of them have the
+    /// number of the last one.
     pub fn is_third(&self) -> bool
         requires { 1 ≤ length self.now }
         ensures { result ≡ nat_le 3 (count_last self.now) }

@@ -8,20 +8,20 @@ ghost use Rattle.hive_model.specs.Repetition.{
   KeysGrow,
 };
 
-/// The test of keys of one board says that all but the turns are equal.
+/// The test of keys with the same board holds exactly if all but the turns are equal.
 pub fn same_boards_are_tested()
     ensures { SameBoardIsTested }
 {}
 
-/// The keys of the positions of a game, to which each move adds one, tell how often its last
-/// position stands.
+/// The keys of a game's positions determine how often its last position has occurred. Each move
+/// adds one key.
 pub fn keys_count_repeats()
     ensures times { KeysGiveTimes }
     ensures more { KeysGrow }
 {}
 
-/// A game stands under the rule with one move more exactly where it stands and is not over. Where
-/// the rule is switched off, every game stands.
+/// A game with one more move stands under the rule exactly if the game before it stands and is not
+/// over. If the rule is off, every game stands.
 pub fn games_stand_by_moves()
     ensures more { StandsMoveByMove }
     ensures off { AllStandUnderFalse }

@@ -1,4 +1,4 @@
-//! Where each of the 28 pieces stands, kept as one list.
+//! The spots of the 28 pieces, stored as one array.
 
 ghost use Rattle.std.specs.Prelude.{◌≡◌};
 ghost use Rattle.hive_model.specs.Boards.{IsBoard, spot_of};
@@ -7,7 +7,7 @@ ghost use Rattle.hive_model.specs.Spots.{IsSpots, board_of};
 use crate::pieces::Piece;
 use crate::places::Spot;
 
-/// Where the piece stands: one read.
+/// The place and level of a piece, if it is on the board: one read.
 pub fn spot_in(spots: &[Option<Spot>; 28], piece: Piece) -> Option<Spot>
     requires { IsSpots spots.now }
     ensures answer { result ≡ spot_of (board_of spots.now) piece }
@@ -16,7 +16,7 @@ pub fn spot_in(spots: &[Option<Spot>; 28], piece: Piece) -> Option<Spot>
     spots[piece.index() as usize]
 }
 
-/// What is kept where each piece stands is a board; nothing is computed.
+/// Establishes that these spots are a board. Computes nothing.
 pub fn spots_are_board(spots: &[Option<Spot>; 28])
     requires { IsSpots spots.now }
     ensures { IsBoard (board_of spots.now) }

@@ -1,4 +1,4 @@
-//! In which direction one place is beside another.
+//! The direction from one place to a neighbour.
 
 ghost use Rattle.std.specs.Prelude.{◌≡◌, ◌≢◌, None, IfSome, IsTrue};
 ghost use Rattle.hive_model.specs.declared.places.Dir.{Dir as AnyDir};
@@ -6,7 +6,8 @@ ghost use Rattle.hive_model.specs.Places.{IsWithin, step};
 
 use crate::places::{Dir, Place};
 
-/// Whether the other place differs by more than 1 in a coordinate. No direction leads there then.
+/// Whether the places differ by more than 1 in a coordinate. Then no direction leads from one to
+/// the other.
 fn is_far(from: Place, to: Place) -> bool
     ensures { IsTrue result → (d : AnyDir) → step from d ≢ to }
 {
@@ -16,8 +17,8 @@ fn is_far(from: Place, to: Place) -> bool
 }
 
 impl Place {
-    /// The direction in which the other place is the neighbour of this one, if it is. Both
-    /// coordinates of this one lie between -10,000 and 10,000.
+    /// The direction in which the other place is a neighbour of this one, if it is. Both
+    /// coordinates of this one must lie between -10,000 and 10,000.
     pub fn towards(self, other: Place) -> Option<Dir>
         requires { IsWithin 10000 self }
         ensures some { IfSome result (λ d. step self d ≡ other) }

@@ -1,4 +1,4 @@
--- Positions stand alike where their keys have the same board.
+-- Positions stand alike if their keys have the same board.
 use Rattle.std.proofs.Common.{map}
 use Rattle.hive_model.specs.Pieces.{all_pieces}
 use Rattle.hive_model.specs.Boards.{spot_of}

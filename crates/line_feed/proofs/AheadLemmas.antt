@@ -28,7 +28,7 @@ unfolding ahead_of
 ahead_begin r None e = refl
 ahead_begin r (Some bytes) e = rw e refl
 
--- the lines to come of a reader whose source tells its bytes
+-- the lines to come of a reader whose source has known bytes
 pub ahead_told : (r : Reading) (bytes : List ℕ) → ahead_of r (Some bytes) ≡ Some (lines_left r bytes)
 unfolding ahead_of
 ahead_told r bytes = refl
@@ -67,7 +67,8 @@ gives_ahead : (old new : Reading) (bytes : List ℕ) (m : OneLine) (r0 r1 : Told
 gives_ahead old new bytes m r0 None e g = ap (ahead_of old) e ∙ rw (ahead_untold old, ahead_untold new) refl
 gives_ahead old new bytes m r0 (Some left) e g = ap (ahead_of old) e ∙ rw (ahead_told old (bytes ++ left), ahead_told new left) (ap Some (gives_told old new bytes left m g))
 
--- nothing was given: what is told of the lines to come, of all of them or of the whole ones, stays
+-- nothing was given: what is known of the lines to come, of all of them or of the whole ones, does
+-- not change
 held_left : (f : List ℕ → List OneLine) (old new : Reading) (bytes left : List ℕ) → old.finished ≡ false → new.finished ≡ false → f ((pending old ++ bytes) ++ left) ≡ f (pending new ++ left)
     → (if old.finished then [] else f (pending old ++ (bytes ++ left))) ≡ (if new.finished then [] else f (pending new ++ left))
 held_left f old new bytes left went goes same =
@@ -180,7 +181,7 @@ line_fits End old new r0 r1 fed e = absurd (cc)
 line_fits Failed old new r0 r1 fed e = absurd (cc)
 line_fits Full old new r0 r1 fed e = absurd (cc)
 
--- what passes in a call tells whether a line was too long
+-- the bytes that pass in a call decide whether a line was too long
 pub long_counts : (a : LineAnswer) (old new : Reading) (r0 r1 : Told) → (bytes : List ℕ) × Takes r0 r1 old.taken new.taken bytes × Feeds a old bytes new r1
     → (a ≡ TooLong) ↔ (old.passed + 65536 + length (lf_after new.finished) < new.passed)
 long_counts Line old new r0 r1 (bytes, t, g) = let (part, p) = g.passes in let (short, less) = text_fits part new.last p.line in let c = p.counted in (λ e. absurd (cc), λ h. absurd (omega arith))

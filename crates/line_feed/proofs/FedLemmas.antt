@@ -58,7 +58,7 @@ fed_line {r0} {r1} {r2} {old} {new} {bytes} {b1} {given} {line} f t g = record {
   below = g.below;
 }
 
--- where nothing was given, a reader goes on with what it holds
+-- if nothing was given, a reader goes on with what it holds
 pub fed_kept : {r0 r1 r2 : Told} {old new : Reading} {bytes b1 : List ℕ} {given : List OneLine} → Fed r0 r1 old bytes given → Takes r1 r2 old.taken new.taken b1 → Holds old b1 new → Fed r0 r2 new (bytes ++ b1) given
 fed_kept {r0} {r1} {r2} {old} {new} {bytes} {b1} {given} f t h =
     let s : SplitsOff [] (bytes ++ b1) (given ++ []) (pending new) = splits_compose (splits_of old.finished bytes (pending old) given r1 f.covers h.went_on) h.split in
@@ -100,7 +100,7 @@ all_of false bytes held given rest s h k =
     let n : lines (held ++ []) ≡ [] = rw h lines-nil in
     (ap lines (sym (append-nil bytes)) ∙ (e ∙ (ap (λ x. given ++ x) n ∙ append-nil given)), k refl)
 
--- where the source has ended, the lines given are all
+-- if the source has ended, the lines given are all
 pub fed_end : {r0 r1 r2 : Told} {old new : Reading} {bytes b1 : List ℕ} {given : List OneLine} (input : List ℕ) → Fed r0 r1 old bytes given → Takes r1 r2 old.taken new.taken b1 → Ends old b1 new r2 → r0 ≡ Some input → (lines input ≡ given) × (length input < input_limit)
 fed_end {r0} {r1} {r2} {old} {new} {bytes} {b1} {given} input f t d e =
     let (held, none) = append-empty (pending old) b1 d.nothing in
@@ -111,7 +111,7 @@ fed_end {r0} {r1} {r2} {old} {new} {bytes} {b1} {given} input f t d e =
     let same_count : new.taken ≡ old.taken = t.counted ∙ (ap (λ b. old.taken + length b) none ∙ add-zero old.taken) in
     (ap lines is ∙ all, subst (λ n. n < input_limit) (same_count ∙ (f.counted ∙ ap length (sym is))) d.below)
 
--- where a read has failed, the lines given are the whole ones of what was read
+-- if a read failed, the lines given are the whole ones of what was read
 pub fed_held : {r0 r1 r2 : Told} {old new : Reading} {bytes b1 : List ℕ} {given : List OneLine} (input : List ℕ) → Fed r0 r1 old bytes given → Takes r1 r2 old.taken new.taken b1 → Holds old b1 new → r0 ≡ Some input
     → (left : List ℕ) × WasRead input r2 (bytes ++ b1) left × (whole_lines (bytes ++ b1) ≡ given) × (new.taken ≡ length (bytes ++ b1))
 fed_held {r0} {r1} {r2} {old} {new} {bytes} {b1} {given} input f t h e =

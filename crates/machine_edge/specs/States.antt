@@ -13,10 +13,10 @@ pub record Readings : Type 0 where
   pub previous : ℕ
   pub readings : ℕ
 
--- a starter of programs: for how many milliseconds an answer of a program is read, if there is a
--- limit; whether what programs write on standard error is dropped; whether the games that they are
--- asked for are counted there; how many starts have failed, and how many programs had failed that
--- were ended
+-- A starter of programs. For how many milliseconds an answer of a program is read, if there is a
+-- limit; whether what programs write to standard error is thrown away; whether the games that they
+-- are asked for are counted there; how many starts have failed; and how many of the closed programs
+-- had failed.
 pub record StarterState : Type 0 where
   pub limit : Option ℕ
   pub quiet : Bool

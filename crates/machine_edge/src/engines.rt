@@ -1,5 +1,5 @@
-//! A started program as a link: what it says is read, and what it is told is written. It does not
-//! tell its bytes.
+//! A started program as a link: the code reads what it says, and writes what it is sent. Contracts
+//! cannot observe its bytes.
 ghost use Rattle.std.specs.Prelude.{◌≡◌, ◌<◌, ◌+◌, ◌↔◌, IsTrue, None, refl};
 
 use crate::games::GameCount;
@@ -12,25 +12,26 @@ use std::process::{Child, OpenProcess};
 use std::thread::sleep;
 use std::time::{Clock, Duration};
 
-/// The most bytes that are read of a program that is let go: 1 MiB.
+/// The most bytes that are read from a program that is dropped: 1 MiB.
 const MOST_PASSED: usize = 1_048_576;
 
-/// For how long a program that is let go may go on, in milliseconds.
+/// How long a program may go on after it is dropped, in milliseconds.
 const GRACE: u64 = 2_000;
 
-/// How often it is asked within this time whether a program has ended, each a millisecond or more
-/// behind the one before.
+/// How often the code looks within this time whether a program has ended, at least a millisecond
+/// apart.
 const MOST_LOOKS: u32 = 2_000;
 
 /// A program that was started, with both ends of its pipes.
 ///
 /// An answer of the program is read for no longer than the limit, if there is one. The time runs
-/// from the first read after the program was told something. When it is over a read fails.
+/// from the first read after something was sent to the program. When it is over, a read fails.
 ///
-/// Where the program is let go, its input is closed. What it still says is read and dropped, up to
-/// its end or to 1 MiB, so that a slow program can say its last line; then its output is closed, so
-/// that one that floods is stopped. It has two seconds in all until it has ended by itself. Then it
-/// is killed, and its end is waited for. What it has started itself is left to [`Mark`].
+/// When the program is dropped, its input is closed. What it still says is read and thrown away, up
+/// to its end or to 1 MiB, so that a slow program can say its last line. Then its output is closed,
+/// so that one that floods is stopped. The program has two seconds in all to end by itself. After
+/// that it is killed, and its end is awaited. Programs that it has started itself are left to
+/// [`Mark`].
 ///
 /// [`Mark`]: crate::marks::Mark
 pub struct Engine<'a, R: Clock + Eprint, P: OpenProcess + Drop>
@@ -48,7 +49,7 @@ impl<'a, R: Clock + Eprint, P: OpenProcess + Drop> Engine<'a, R, P>
 where
     P::Stdout: AsRawFd,
 {
-    /// A program with the ends of its pipes, of which an answer is read for at most this many
+    /// A program with the ends of its pipes. An answer of it is read for at most this many
     /// milliseconds. The games that it is asked for are counted.
     pub(crate) fn new(
         rt: &'a R,
@@ -79,7 +80,7 @@ where
     }
 }
 
-/// Reads what is left up to its end, or to 1 MiB, and drops it.
+/// Reads what is left up to its end, or to 1 MiB, and throws it away.
 fn pass_over<S: Source>(output: &mut S) {
     let mut buffer = [0u8; 4096];
     let mut left = MOST_PASSED;
@@ -91,7 +92,8 @@ fn pass_over<S: Source>(output: &mut S) {
     }
 }
 
-/// Whether a program ends by itself before that moment. Where this cannot be told it does not.
+/// Whether a program ends by itself before that moment. If this cannot be found out, the answer is
+/// no.
 fn ends_before<R: Clock, P: OpenProcess>(rt: &R, child: &mut Child<P>, until: u64) -> bool {
     for _ in 0..MOST_LOOKS {
         match child.try_wait() {
@@ -107,7 +109,8 @@ fn ends_before<R: Clock, P: OpenProcess>(rt: &R, child: &mut Child<P>, until: u6
     false
 }
 
-/// Waits until a program has ended by itself. At that moment it is killed.
+/// Waits until a program has ended by itself. If it has not ended at the moment `until`, it is
+/// killed.
 pub(crate) fn await_end<R: Clock, P: OpenProcess + Drop>(rt: &R, mut child: Child<P>, until: u64) {
     if !ends_before(rt, &mut child, until) {
         let _ = child.kill();
@@ -115,7 +118,7 @@ pub(crate) fn await_end<R: Clock, P: OpenProcess + Drop>(rt: &R, mut child: Chil
     let _ = child.wait();
 }
 
-/// The moment at which the grace of a program is over that is let go now.
+/// The moment until which a program that is dropped now may go on.
 pub(crate) fn end_of_grace<R: Clock>(rt: &R) -> u64 {
     match moment(rt) {
         Ok(now) => now.saturating_add(GRACE),

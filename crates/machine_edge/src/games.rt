@@ -1,10 +1,10 @@
-//! How far an audit is, on a terminal.
+//! The progress of an audit, on a terminal.
 ghost use Rattle.std.specs.Prelude.{◌≡◌};
 ghost use Rattle.machine_edge.specs.Lines.{begins_game_of};
 
 use std::io::Eprint;
 
-/// Whether a line asks for a new game of a type. One that names a whole game has a semicolon.
+/// Whether a line asks for a new game of a type. A line that names a whole game has a semicolon.
 pub fn begins_game(line: &[u8]) -> bool
     ensures { result ≡ begins_game_of line.now }
 {
@@ -19,18 +19,18 @@ pub(crate) struct GameCount {
 }
 
 impl GameCount {
-    /// No game was begun. Where none are shown, none are counted.
+    /// Begins with no game. If games are not shown, they are not counted.
     pub(crate) fn new(is_shown: bool) -> Self {
         GameCount { is_shown, games: 0 }
     }
 
-    /// Counts a game where this line begins one, and shows the number behind those before.
+    /// Counts a game if this line begins one, and shows the number in place of the one before.
     pub(crate) fn note<R: Eprint>(&mut self, rt: &R, line: &[u8]) {
         if !self.is_shown || !begins_game(line) {
             return;
         }
         self.games = self.games.saturating_add(1);
-        // where standard error fails too, the number is not seen
+        // if standard error fails too, the number is not shown
         let _ = eprint!(rt; "\rgame {}", self.games);
     }
 

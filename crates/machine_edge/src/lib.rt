@@ -1,6 +1,6 @@
-//! The outside as the machine gives it: its clock, its streams, and programs of the system.
+//! The outside as the machine provides it: its clock, its streams, and programs of the system.
 //!
-//! They meet the traits of `io_edge`. They do not tell their bytes.
+//! They implement the traits of `io_edge`. Contracts cannot observe their bytes.
 #![tactic(auto)]
 
 mod engines;

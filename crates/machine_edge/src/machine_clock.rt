@@ -6,10 +6,10 @@ use std::marker::Model;
 use std::time::Duration;
 use std::{io, time};
 
-/// The greatest reading, in milliseconds: 2 to the power 62, less 1.
+/// The greatest reading, in milliseconds: 2 to the power 62, minus 1.
 const LAST_MOMENT: u128 = 4_611_686_018_427_387_903;
 
-/// The machine's clock that never goes back. Where it cannot be read, it stands.
+/// The machine's clock, which never goes back. If it cannot be read, it stands still.
 ///
 /// Contracts see the last reading, the one before it, and how often it was read.
 #[derive(Drop)]
@@ -49,7 +49,7 @@ impl<'a, R: time::Clock> MachineClock<'a, R> {
     }
 }
 
-/// A moment in milliseconds, held at the greatest reading.
+/// A moment in milliseconds, capped at the greatest reading.
 fn held(moment: u128) -> u64
     ensures { result < 2 ^ 62 }
 {
@@ -60,7 +60,7 @@ fn held(moment: u128) -> u64
     }
 }
 
-/// The moment that was read, yet never one before the last; the last one, where none could be read.
+/// The moment that was read, but never one before the last; the last one if none could be read.
 fn moment_after(last: u64, reading: io::Result<Duration>) -> u64
     requires { last < 2 ^ 62 }
     ensures later { last ≤ result }

@@ -1,5 +1,5 @@
-//! The mark that the programs of a run have in their environment, by which those are found that
-//! they started themselves and left behind.
+//! The mark in the environment of a run's programs. It finds the programs that they started
+//! themselves and left behind.
 ghost use Rattle.std.specs.Prelude.{◌≡◌, Some, OnOk, codes, string_bytes};
 ghost use Rattle.std.specs.Process.{SameOtherVars, SameProgramAndArgs, clears_env, command_var};
 
@@ -10,17 +10,16 @@ use std::process::{Command, Processes, Stdio};
 use std::random::RandomSource;
 use std::time::Clock;
 
-/// A program of the shell that ends every process which has its first argument, whole, as one of
-/// the variables that it was started with. It looks again until it finds none, and five times at
-/// most.
+/// A shell program that kills every process whose starting environment has its first argument as a
+/// whole entry. It looks again until it finds none, at most five times.
 const SWEEP: &str = "for round in 1 2 3 4 5; do \
     found=$(grep -lszxF -e \"$1\" /proc/[0-9]*/environ); \
     [ -n \"$found\" ] || exit 0; \
     for entry in $found; do number=${entry#/proc/}; kill -KILL \"${number%/environ}\"; done; \
     done";
 
-/// A text that no other run has, which the programs of a run have as the variable `HIVE_ENGINE` of
-/// their environment. A program that they start has it too, unless they take it away.
+/// A text that no other run has. The programs of a run have it as the variable `HIVE_ENGINE` of
+/// their environment. A program that they start has it too, unless they remove it.
 #[derive(Drop)]
 pub(crate) struct Mark {
     text: String,
@@ -37,7 +36,7 @@ impl Mark {
         })
     }
 
-    /// Gives a program that is to be started this mark. All its other variables stay.
+    /// Gives this mark to a program that is about to be started. All its other variables stay.
     pub(crate) fn put_on(&self, command: &mut Command<Global>) -> Result<(), AllocError>
         ensures marked { OnOk result (command_var command.new (codes "HIVE_ENGINE")
             ≡ Some (Some (string_bytes self.now.text))) }
@@ -50,8 +49,8 @@ impl Mark {
         Ok(())
     }
 
-    /// Ends all that still runs with this mark, within two seconds. Where the system has no `sh`,
-    /// no `grep` or no `/proc`, nothing is done.
+    /// Kills everything that still runs with this mark, within two seconds. If the system has no
+    /// `sh`, no `grep` or no `/proc`, it does nothing.
     pub(crate) fn sweep<R: Processes + Clock>(&self, rt: &R, alloc: Global) -> io::Result<()> {
         let sought = format!(in alloc; "HIVE_ENGINE={}", self.text)?;
         let mut command = sweeper(alloc, sought.as_str())?;
@@ -59,14 +58,14 @@ impl Mark {
     }
 }
 
-/// The shell, to be started to end every process that has this variable.
+/// The shell command that kills every process with this variable.
 fn sweeper(alloc: Global, variable: &str) -> Result<Command<Global>, AllocError> {
     let mut command = Command::new(alloc, "sh")?;
     command.args(["-c", SWEEP, "sh", variable])?;
     Ok(command)
 }
 
-/// Starts a command that neither reads nor writes, and awaits its end, two seconds at most.
+/// Starts a command that neither reads nor writes, and awaits its end for at most two seconds.
 fn run_quietly<R: Processes + Clock>(rt: &R, command: &mut Command<Global>) -> io::Result<()> {
     let until = end_of_grace(rt);
     let child = command

@@ -11,7 +11,7 @@ use std::time::Clock;
 /// The longest wait that the system is asked for at once, in milliseconds.
 const LONGEST_WAIT: u64 = 1_000_000_000;
 
-/// How often a wait is begun again that a signal has ended.
+/// How often a wait is resumed after a signal has ended it.
 const MOST_WAITS: u32 = 10_000;
 
 /// The milliseconds of a clock that never goes back.
@@ -20,8 +20,8 @@ pub(crate) fn moment<R: Clock>(rt: &R) -> io::Result<u64> {
     Ok(u64::try_from(reading.as_millis()).unwrap_or(u64::MAX))
 }
 
-/// Waits until a read of this descriptor answers at once, or for that many milliseconds. It may end
-/// earlier, and says whether a read answers at once.
+/// Waits until a read of this descriptor answers at once, or for this many milliseconds. It may end
+/// earlier. It says whether a read answers at once.
 fn wait_once(pipe: RawFd, milliseconds: u64) -> bool {
     let mut asked = [pollfd {
         fd: pipe,
@@ -32,10 +32,10 @@ fn wait_once(pipe: RawFd, milliseconds: u64) -> bool {
     poll(&mut asked, longest) > 0
 }
 
-/// A pipe that is read for no longer than a limit: all reads of one answer together.
+/// A pipe that is read for no longer than a limit, which covers all reads of one answer together.
 ///
-/// The time runs from the first read on after the pipe was made, or after the last call of
-/// `begin_answer` or `allow`. When it is over a read fails. Without a limit a read waits.
+/// The time runs from the first read after the pipe was made, or after the last call of
+/// `begin_answer` or `allow`. When it is over, a read fails. Without a limit a read waits.
 #[derive(Drop)]
 pub(crate) struct Patient<'a, R: Clock, S> {
     rt: &'a R,
@@ -45,7 +45,7 @@ pub(crate) struct Patient<'a, R: Clock, S> {
 }
 
 impl<'a, R: Clock, S> Patient<'a, R, S> {
-    /// A pipe that is read for this many milliseconds at an answer, or without a limit.
+    /// A pipe that is read for this many milliseconds an answer, or without a limit.
     pub(crate) fn new(rt: &'a R, pipe: S, limit: Option<u64>) -> Self
         ensures limit { result.limit ≡ limit }
         ensures until { result.until ≡ None }
@@ -66,7 +66,7 @@ impl<'a, R: Clock, S> Patient<'a, R, S> {
         self.until = None;
     }
 
-    /// From the next read on the pipe is read for this many milliseconds in all.
+    /// From the next read on, the pipe is read for this many milliseconds in all.
     pub(crate) fn allow(&mut self, limit: u64)
         ensures limit { self.new.limit ≡ Some limit }
         ensures until { self.new.until ≡ None }
@@ -77,8 +77,8 @@ impl<'a, R: Clock, S> Patient<'a, R, S> {
 }
 
 impl<'a, R: Clock, S: AsRawFd> Patient<'a, R, S> {
-    /// Waits until a read answers at once. It fails when this many milliseconds are over since the
-    /// answer's first read.
+    /// Waits until a read answers at once. It fails when this many milliseconds have passed since
+    /// the answer's first read.
     fn wait(&mut self, limit: u64) -> io::Result<()> {
         for _ in 0..MOST_WAITS {
             let now = moment(self.rt)?;

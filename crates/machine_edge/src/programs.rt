@@ -1,4 +1,4 @@
-//! The starting of programs by the system.
+//! Starts programs of the system.
 ghost use Rattle.std.specs.Prelude.{
   ◌≡◌,
   ◌≢◌,
@@ -27,13 +27,14 @@ use std::process::{Child, Command, OpenProcess, Processes, Stdio};
 use std::random::RandomSource;
 use std::time::Clock;
 
-/// What starts programs of the system. It tells neither their words nor what they say or are told.
+/// Starts programs of the system. Contracts can observe neither their words nor what they say or
+/// are sent.
 ///
-/// Its programs have a mark in their environment. Where it is let go, after all of its programs,
-/// what they started themselves and left behind is ended by that mark.
+/// Its programs have a mark in their environment. When the starter is dropped, after all of its
+/// programs, that mark serves to kill what they started themselves and left behind.
 ///
-/// Contracts see how its programs are dealt with, how many starts have failed, and how many
-/// programs that were ended had failed in a call.
+/// Contracts see how its programs are treated, how many starts have failed, and how many of the
+/// closed programs had failed in a call.
 pub struct Programs<'a, R: Processes + Clock> {
     rt: &'a R,
     alloc: Global,
@@ -60,10 +61,10 @@ impl<'a, R: Processes + Clock> Model for Programs<'a, R> {
 }
 
 impl<'a, R: Processes + Clock> Programs<'a, R> {
-    /// A starter of which no start has failed, and that has ended no program. An answer of each of
-    /// its programs is read for at most this many milliseconds, if there is a limit. Where it is
-    /// quiet, what they write on standard error is dropped. The games that they are asked for may
-    /// be counted on standard error.
+    /// A starter with no failed start and no closed program. An answer of each of its programs is
+    /// read for at most this many milliseconds, if there is a limit. If it is quiet, what the
+    /// programs write to standard error is thrown away. The games that they are asked for may be
+    /// counted on standard error.
     pub fn new(
         rt: &'a R,
         alloc: Global,
@@ -105,13 +106,13 @@ impl<'a, R: Processes + Clock> Drop for Programs<'a, R> {
             engine_faults: _,
         } = self;
         if let Some(mark) = mark {
-            // where nothing can be started, nothing more can be done
+            // if nothing can be started, nothing more can be done
             let _ = mark.sweep(rt, alloc);
         }
     }
 }
 
-/// The mark of a starter, which is made where it has none yet.
+/// The mark of a starter, which is made if it has none yet.
 fn mark_in<'m, R: RandomSource>(
     rt: &R,
     alloc: Global,
@@ -124,7 +125,7 @@ fn mark_in<'m, R: RandomSource>(
     Ok(kept.insert(mark))
 }
 
-/// Where what a program writes on standard error goes.
+/// Where a program's standard error goes.
 fn errors_go(quiet: bool) -> Stdio {
     if quiet {
         Stdio::null()
@@ -133,8 +134,8 @@ fn errors_go(quiet: bool) -> Stdio {
     }
 }
 
-/// The program that the first word names, to be started with the others as its arguments. Its
-/// environment is that of this process, but for this mark.
+/// The program that the first word names, to be started with the other words as its arguments. Its
+/// environment is that of this process, plus this mark.
 fn command_of(alloc: Global, mark: &Mark, words: &[String]) -> Result<Command<Global>, AllocError>
     requires { 0 < length words.now }
     ensures inherits { IfOk result (λ c. clears_env c ≡ false) }
@@ -191,8 +192,8 @@ where
     engine_over(rt, child, limit, counts_games)
 }
 
-/// Starts the program that the first word names, with the others as its arguments and this mark,
-/// over pipes.
+/// Starts the program that the first word names over pipes, with the other words as its arguments
+/// and with this mark.
 fn start_program<'a, R: Processes + Clock + Eprint>(
     rt: &'a R,
     alloc: Global,

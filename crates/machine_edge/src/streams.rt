@@ -1,4 +1,4 @@
-//! Standard input and output as a source and a sink. They do not tell their bytes.
+//! Standard input and output as a source and a sink. Contracts cannot observe their bytes.
 ghost use Rattle.std.specs.Prelude.{◌≡◌, ◌≤◌, None, length, IfOk};
 ghost use Rattle.io_edge.specs.Outside.{no_side};
 
@@ -28,14 +28,14 @@ impl<T> Model for Counted<T> {
 }
 
 impl<T> Counted<T> {
-    /// A stream of which no call has failed.
+    /// A stream with no failed call.
     pub fn new(stream: T) -> Self
         ensures { result ≡ record { stream = stream; faults = 0 } }
     {
         Counted { stream, faults: 0 }
     }
 
-    /// How often a call has failed.
+    /// How many calls have failed.
     pub(crate) fn faults(&self) -> u64
         ensures { result ≡ self.now.faults }
     {
@@ -51,7 +51,7 @@ impl<'a, R: Clock, S> Counted<Patient<'a, R, S>> {
         self.stream.begin_answer();
     }
 
-    /// From the next read on the pipe is read for this many milliseconds in all.
+    /// From the next read on, the pipe is read for this many milliseconds in all.
     pub(crate) fn allow(&mut self, limit: u64)
         ensures { self.new.faults ≡ self.old.faults }
     {
@@ -59,7 +59,7 @@ impl<'a, R: Clock, S> Counted<Patient<'a, R, S>> {
     }
 }
 
-/// A reader as a source. Each read that fails is counted.
+/// A reader as a source. Each failed read is counted.
 impl<R: Read> Source for Counted<R> {
     ghost rest = { λ _. None };
 
@@ -80,7 +80,7 @@ impl<R: Read> Source for Counted<R> {
 }
 
 impl<W: Write> Counted<W> {
-    /// Writes the front of the bytes and flushes, and answers how many were written.
+    /// Writes an initial part of the bytes and flushes, and answers how many were written.
     fn write_through(&mut self, bytes: &[u8]) -> io::Result<usize>
         ensures faults { self.new.faults ≡ self.old.faults }
         ensures most { IfOk result (λ n. n ≤ length bytes.now) }
@@ -91,8 +91,8 @@ impl<W: Write> Counted<W> {
     }
 }
 
-/// A writer as a sink, flushed after each write. Each write or flush that fails is counted, and so
-/// is a write that takes no byte.
+/// A writer as a sink, flushed after each write. Each failed write or flush is counted, and so is a
+/// write that takes no byte.
 impl<W: Write> Sink for Counted<W> {
     ghost written = { λ _. None };
 

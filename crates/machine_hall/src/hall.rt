@@ -1,5 +1,4 @@
-//! The hall in which a tournament is played: a clock for each game, and on a terminal how far the
-//! tournament is.
+//! What the machine provides for a tournament: a clock for each game, and progress on a terminal.
 ghost use Rattle.std.specs.Prelude.{◌≡◌};
 ghost use Rattle.tournament_core.specs.Schedules.{IsPlan};
 
@@ -12,12 +11,12 @@ use std::{str, time};
 use tournament_core::{Plan, Standing, Tally, standings};
 use tournament_edge::{Clocks, Progress};
 
-/// How many of the leaders are shown.
+/// How many leaders are shown.
 const LEADERS: usize = 3;
 
-/// The machine's clocks, and standard error if the tournament is to be shown there.
+/// The machine's clocks, and standard error if progress is shown there.
 ///
-/// Contracts see whether it is.
+/// Contracts see only whether it is shown.
 #[derive(Drop)]
 pub struct Hall<'a, R> {
     rt: &'a R,
@@ -34,7 +33,7 @@ impl<'a, R> Model for Hall<'a, R> {
 }
 
 impl<'a, R: Eprint> Hall<'a, R> {
-    /// A hall that shows on standard error how far a tournament is, or nothing.
+    /// A hall that shows the progress of a tournament on standard error, or nothing.
     pub fn new(rt: &'a R, alloc: Global, is_shown: bool) -> Self
         ensures { result ≡ is_shown }
     {
@@ -50,13 +49,13 @@ impl<'a, R: Eprint> Hall<'a, R> {
         let Some(program) = programs.get((place.engine as usize).saturating_sub(1)) else {
             return;
         };
-        // where standard error fails too, the leader is not seen
+        // if standard error fails too, the leader is not shown
         if let Ok(text) = str::from_utf8(program.text()) {
             let _ = eprint!(self.rt; ", {} {}", text, place.points);
         }
     }
 
-    /// Shows how many games are done, and behind them the leaders. The line is that of before.
+    /// Shows how many games are done, and after that the leaders. It overwrites its previous line.
     fn show_line(&self, programs: &[Program], plan: Plan, tally: &Tally, places: &[Standing])
         requires { IsPlan plan }
     {

@@ -1,4 +1,4 @@
-//! What the machine gives a tournament: its clocks, and a terminal that shows how far it is.
+//! What the machine provides for a tournament: clocks, and progress on a terminal.
 #![tactic(auto)]
 
 mod hall;

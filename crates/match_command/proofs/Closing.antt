@@ -1,4 +1,4 @@
--- A match that was run over two links, and what is told of it once both are closed.
+-- A match that was run over two links, and what is known of it once both are closed.
 use Rattle.std.proofs.Common.{◌≡◌, ℕ, ◌+◌, ◌<◌, List, [], ◌∷◌, ◌++◌, None, Some, Ok, Err, inl, inr, refl, ap, sym, ◌∙◌, arith, append_assoc}
 use Rattle.std.specs.declared.option.Option.{Option}
 use Rattle.std.specs.declared.result.Result.{Result}
@@ -23,12 +23,12 @@ use Rattle.match_command.specs.Wires.{ClosesTwo, CountsEither, PlayedOver}
 
 -- What was counted
 
--- a link that has failed has counted it
+-- the failure of a link is in its counts
 failed : (w0 w : Wire) → IsFresh w0.reads w0.writes → HasFailed w0 w → 0 < w.reads + w.writes
 failed w0 w f (inl r) = elim r.higher [ inl x ↦ omega (arith, x) | inr x ↦ omega (arith, x) ]
 failed w0 w f (inr r) = elim r.higher [ inl x ↦ omega (arith, x) | inr x ↦ omega (arith, x) ]
 
--- a side that broke was counted
+-- the failure of a side that broke was counted
 broke_counted : {rose : Type 0} (t : MatchState) (w0 w b0 b : Wire) → BrokeOnly t w0 w b0 b → (HasFailed w0 w → rose) → (HasFailed b0 b → rose) → IsBroke t.verdict → rose
 broke_counted t w0 w b0 b broke white black (White, e) = white (broke.white e)
 broke_counted t w0 w b0 b broke white black (Black, e) = black (broke.black e)
@@ -51,7 +51,7 @@ gains_of (Some before) (Some after) w b x y claim (Some mid, (p, pe, pm), (q, qe
       h,
     )
 
--- what was written behind nothing
+-- what was written after nothing
 pub from_none : (old new : Told) (bytes : List ℕ) → old ≡ Some [] → new ≡ behind old bytes → new ≡ Some bytes
 from_none old new bytes e f = f ∙ ap (λ o. behind o bytes) e
 
@@ -137,7 +137,7 @@ played_over setup t w0 w b0 b r0 r timed before after wf bf ran counts closes =
       by_links = played_by_links setup t w0 w b0 b before after ran.links white black closes;
     }
 
--- the text tells the match that was played
+-- the text reports the match that was played
 pub told_match : {X : Type 0} (o : Result (List ℕ) X) (setup : FullSetup) (t : MatchState) (w b : Wire) (from to : Times) (before after : Engines) → IfOk o (λ text. text ≡ match_text (setup_of setup) t) → PlayedOver setup t w b from to before after
     → IfOk o (λ text. (t : MatchState) × (text ≡ match_text (setup_of setup) t) × PlayedOver setup t w b from to before after)
 told_match (Ok text) setup t w b from to before after e p = (t, e, p)

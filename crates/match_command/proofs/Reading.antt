@@ -1,4 +1,4 @@
--- The match that begins with the game of the input, and the end where there is none.
+-- The match that begins with the game of the input, and the end if there is none.
 use Rattle.std.proofs.Common.{◌≡◌, ℕ, ◌+◌, List, length, Some, Err, refl, ap, sym, ◌∙◌, subst, inl, arith}
 use Rattle.std.specs.Prelude.{Result}
 use Rattle.std.proofs.lemmas.Option.{same_Some}
@@ -40,11 +40,11 @@ begun_from setup used white black status c before after same given played starte
   },
 )
 
--- a match does not end by a read that has failed
+-- a match does not end by a failed read
 no_read : (setup : FullSetup) (status : Status) (before after : World) → MatchRun setup status before after → status ≡ ReadFault → ⊥
 no_read setup status before after run e = subst (λ s. MatchRun setup s before after) e run
 
--- where no read has failed before it, the count stands
+-- if no read failed before it, the count is unchanged
 pub read_well : {X : Type 0} (setup : FullSetup) (status : Status) (before after : World) (a b : ℕ) → MatchRun setup status before after → HasCause X a b → ¬ X → HasCause (status ≡ ReadFault) a b
 read_well setup status before after a b run cause well = record {
   later = cause.later;
@@ -57,11 +57,11 @@ read_well setup status before after a b run cause well = record {
 same_told : {a b : List (List ℕ)} (t : ToldLists) → t ≡ Some a → t ≡ Some b → a ≡ b
 same_told t e f = same_Some _ _ (sym e ∙ f)
 
--- where no program was started or closed, none is left open
+-- if no program was started or closed, none is left open
 pub none_left : (e : Engines) → NoneIsOpen e e
 none_left e coming later opened closed a b c d = λ j. length (same_told e.to_come a b j) + length (same_told e.sent c d j)
 
--- such a run ends by a failed read only where this is the reason
+-- such a run ends by a failed read only if this is the reason
 read_failed : (none : NoGame) (status : Status) (w0 w : Told) → TellsNone none status w0 w → status ≡ ReadFault → none ≡ NoRead
 read_failed (Bad text) status w0 w told e = absurd (ends_so text BadInput ReadFault status w0 w told (λ d. cc) (λ d. cc) e)
 read_failed NoRead status w0 w told e = refl
@@ -81,7 +81,7 @@ no_game G none = Err none
 same_none : {G : Type 0} (a b : NoGame) → no_game G a ≡ no_game G b → a ≡ b
 same_none a b e = cc
 
--- so the count of reads tells it
+-- so the count of reads shows it
 pub none_reads : {G : Type 0} (none : NoGame) (status : Status) (w0 w : Told) (a b : ℕ) → TellsNone none status w0 w → HasCause (no_game G none ≡ no_game G NoRead) a b → HasCause (status ≡ ReadFault) a b
 none_reads {G} none status w0 w a b told cause = record {
   later = cause.later;

@@ -1,4 +1,4 @@
--- The match of two programs that were started, by what was to come.
+-- The match of two programs that were started, by the programs to come.
 use Rattle.std.proofs.Common.{◌≡◌, ◌⊎◌, ℕ, ◌<◌, ◌+◌, List, [], ◌∷◌, length, take, None, Some, refl, ap, sym, ◌∙◌, subst, inl, inr, arith, length-append}
 use Rattle.std.proofs.lemmas.Option.{same_Some}
 use Rattle.io_edge.specs.Outside.{HasCause, Rose, Told, ToldLists, behind}
@@ -16,7 +16,7 @@ use Rattle.match_command.specs.Match.{AreFronts, AreSent, AreSentBy, BothStarted
 use Rattle.match_command.specs.Texts.{match_text}
 use Rattle.match_command.specs.Wires.{ClosesTwo, PlayedOver, StartsTwo}
 
--- what the links of two programs tell
+-- what is known of the links of two programs
 pub record TwoStarted (all : List (List ℕ)) (now : ToldLists) (w b : Wire) : Type 0 where
   pub white : List ℕ
   pub black : List ℕ
@@ -98,16 +98,16 @@ played_from setup t w b from to before between after starts_two stays sent fault
 
 -- What was written of it
 
--- what is told of a match that was played
+-- what is known of a match that was played
 abbrev pub IsTold : FullSetup → List ℕ → Times → Times → Engines → Engines → Type 0
 IsTold setup text from to before after = (t : MatchState) × (text ≡ match_text (setup_of setup) t) × PlayedByPrograms setup t from to before after
 
--- the same from before the two programs were started
+-- the same, from before the two programs were started
 pub told_from : (setup : FullSetup) (text : List ℕ) (w b : Wire) (from to : Times) (before between after : Engines) → ((t : MatchState) × (text ≡ match_text (setup_of setup) t) × PlayedOver setup t w b from to between after) → StartsTwo before.to_come between.to_come w.rest w.written b.rest b.written → after.to_come ≡ between.to_come
     → between.sent ≡ before.sent → between.engine_faults ≡ before.engine_faults → IsTold setup text from to before after
 told_from setup text w b from to before between after (t, told, played) starts_two stays sent faults = (t, told, played_from setup t w b from to before between after starts_two stays sent faults played)
 
--- all of it was written, or a front of it and not all
+-- all of it was written, or an initial part of it and not all
 pub told_as : (setup : FullSetup) (text : List ℕ) (status : Status) (before after : World) → IsTold setup text before.times after.times before.engines after.engines → WritesAs text Done status before.sides.written after.sides.written → MatchRun setup status before after
 told_as setup text status before after (t, told, played) (inl (e, wrote)) =
     subst (λ s. MatchRun setup s before after) (sym e) (t, record { played = played; wrote = wrote ∙ ap (λ x. behind before.sides.written x) told })
@@ -119,7 +119,7 @@ pub both_as : (text : List ℕ) (status : Status) (w0 w : Told) (white black : L
 both_as text status w0 w white black before after (inl (e, wrote)) both = subst (λ s. MatchStarts s white black before after) (sym e) both
 both_as text status w0 w white black before after (inr (e, wrote)) both = subst (λ s. MatchStarts s white black before after) (sym e) both
 
--- where a text is written no program has failed to start
+-- if a text is written, no program failed to start
 pub none_failed : (text : List ℕ) (status : Status) (w0 w : Told) (before after : ℕ) → WritesAs text Done status w0 w → after ≡ before → HasCause (status ≡ SpawnFault) before after
 none_failed text status w0 w before after told same = record {
   later = omega (arith, same);
@@ -127,12 +127,12 @@ none_failed text status w0 w before after told same = record {
   same = λ n. same;
 }
 
--- two starts took two of those to come
+-- two starts took two of the programs to come
 two_taken : (coming later : List (List ℕ)) (ws wg bs bg : Told) → StartsTwo (Some coming) (Some later) ws wg bs bg → length coming ≡ length later + 2
 two_taken coming later ws wg bs bg (None, p, q) = absurd p
 two_taken coming later ws wg bs bg (Some mid, (white, e, wr, ww), (black, f, br, bw)) = let one = ap length e in let other = ap length f in omega (arith, one, other)
 
--- two closes told of two more
+-- two closes add two to what is known
 two_closed : (opened closed : List (List ℕ)) (w b : Told) → ClosesTwo (Some opened) (Some closed) w b → length closed ≡ length opened + 2
 two_closed opened closed w b (None, p, q) = absurd q
 two_closed opened closed w b (Some mid, (white, we, e), (black, be, f)) =

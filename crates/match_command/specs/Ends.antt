@@ -6,8 +6,8 @@ use Rattle.command_runs.specs.declared.status.Status.{Status}
 use Rattle.command_runs.specs.declared.status.Status.TheVariants.{WriteFault, SpawnFault}
 use Rattle.match_command.specs.Match.{NoneIsOpen}
 
--- A run that starts programs ended with this status. No program is left open. It is `WriteFault`
--- by a write that has failed and was counted, and `SpawnFault` by such a start.
+-- A run that starts programs ended with this status. No program is left open. `WriteFault` means
+-- that a write failed and was counted, and `SpawnFault` the same of a start.
 pub record EndsRun
     (status : Status) (writes_before writes_after : ℕ) (before after : Engines) : Type 0 where
   pub closed : NoneIsOpen before after

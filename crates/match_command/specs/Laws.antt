@@ -8,8 +8,8 @@ use Rattle.command_runs.specs.declared.status.Status.TheVariants.{Done, WriteFau
 use Rattle.match_core.specs.Setups.{FullSetup}
 use Rattle.match_command.specs.Match.{MatchRun}
 
--- Where no write to the output failed and no start did, a match of two programs is done, unless
--- memory is wanting.
+-- If no write to the output failed and no start did, a match of two programs is done, unless memory
+-- ran out.
 abbrev pub MatchesAreDone : Type 0
 MatchesAreDone =
     (setup : FullSetup) (status : Status) (before after : World)

@@ -23,11 +23,11 @@ use Rattle.match_command.specs.Texts.{match_text}
 
 -- The match of two programs
 
--- how it stands at its end where they say this
+-- its state at the end, if the programs say this
 abbrev pub end_of : FullSetup → List ℕ → List ℕ → MatchState
 end_of setup white black = match_after setup (match_of setup (lines white) (lines black))
 
--- the bytes that are sent to a side in it
+-- the bytes that it sends to a side
 abbrev pub sent_in : FullSetup → List ℕ → List ℕ → Colour → List ℕ
 sent_in setup white black side =
     joined (sent (start setup) (match_of setup (lines white) (lines black)) side)
@@ -38,8 +38,8 @@ sent_in setup white black side =
 abbrev pub IsBroke : Option Verdict → Type 0
 IsBroke verdict = (side : Colour) × (verdict ≡ Some (Forfeit side Broke))
 
--- where it is told after the run what was sent, it gained just two items: what white's program got,
--- and then what black's got
+-- If the bytes sent are observable after the run, it gained exactly two items: what white's program
+-- got, and then what black's got.
 abbrev pub Gains : ToldLists → ToldLists → (List ℕ → List ℕ → Type 0) → Type 0
 Gains before None claim = Unit {0}
 Gains None (Some after) claim = ⊥
@@ -49,24 +49,24 @@ Gains (Some before) (Some after) claim =
     × (after ≡ before ++ white ∷ (black ∷ []))
     × claim white black
 
--- what each program got is all that it is sent in their match
+-- each program got everything that is sent to it in their match
 pub record AreSent (setup : FullSetup) (white black to_white to_black : List ℕ) : Type 0 where
   pub white_got : to_white ≡ sent_in setup white black White
   pub black_got : to_black ≡ sent_in setup white black Black
 
--- what each program got is a front of what it is sent in their match
+-- each program got an initial part of what is sent to it in their match
 pub record AreFronts (setup : FullSetup) (white black to_white to_black : List ℕ) : Type 0 where
   pub white_got : IsFront to_white (sent_in setup white black White)
   pub black_got : IsFront to_black (sent_in setup white black Black)
 
--- what each program got is all that these events send it
+-- each program got everything that these events send to it
 pub record AreSentBy (setup : FullSetup) (hs : List Happening) (to_white to_black : List ℕ)
     : Type 0 where
   pub white_got : to_white ≡ joined (sent (start setup) hs White)
   pub black_got : to_black ≡ joined (sent (start setup) hs Black)
 
--- moves and bytes sent are those of the match of these programs up to a reply: its last line was
--- read, and next the clock is read
+-- Moves and bytes sent are those of the match of these programs up to a reply. The last line of
+-- that reply was read, and next the clock is read.
 pub record IsUpToReply
     (setup : FullSetup) (white black : List ℕ) (t : MatchState) (before after : Engines)
     : Type 0 where
@@ -84,15 +84,16 @@ pub record IsWhole
   pub verdict : t.verdict ≡ (end_of setup white black).verdict
   pub gains : Gains before.sent after.sent (AreSent setup white black)
 
--- the verdict is this, or an answer was late, or a side broke and a program's failure was counted
+-- the verdict is this one, or an answer was late, or a side broke and a program's failure was
+-- counted
 abbrev pub IsVerdict : Option Verdict → Option Verdict → Engines → Engines → Type 0
 IsVerdict full verdict before after =
     (verdict ≡ full)
     ⊎ (IsLate verdict
     ⊎ (IsBroke verdict × Rose before.engine_faults after.engine_faults))
 
--- moves and bytes sent are the first ones of the match of these programs, and the verdict is its
--- verdict, or an answer was late, or a side broke
+-- Moves and bytes sent are initial parts of those of the match of these programs. The verdict is
+-- its verdict, or an answer was late, or a side broke.
 pub record IsPart
     (setup : FullSetup) (white black : List ℕ) (t : MatchState) (before after : Engines)
     : Type 0 where
@@ -100,8 +101,8 @@ pub record IsPart
   pub verdict : IsVerdict (end_of setup white black).verdict t.verdict before after
   pub gains : Gains before.sent after.sent (AreFronts setup white black)
 
--- What was played and sent where the two programs say this: always a part of their match. Where no
--- program's failure was counted it is the whole of it, or the match up to a reply whose answer was
+-- What was played and sent if the two programs say this. It is always a part of their match. If no
+-- program's failure was counted, it is the whole match, or the match up to a reply whose answer was
 -- late.
 pub record IsPlayedBy
     (setup : FullSetup) (white black : List ℕ) (t : MatchState) (before after : Engines)
@@ -116,7 +117,7 @@ pub record IsPlayedBy
       → IsLate t.verdict
       → IsUpToReply setup white black t before after
 
--- of the programs to come the first two were started, as white and as black, and played; no others
+-- the first two of the programs to come were started, as white and as black, and played; no others
 -- were started
 pub record StartsTwoOf
     (all : List (List ℕ)) (setup : FullSetup) (t : MatchState) (before after : Engines)
@@ -128,10 +129,9 @@ pub record StartsTwoOf
   pub left : after.to_come ≡ Some others
   pub played : IsPlayedBy setup white black t before after
 
--- A match was played to its verdict, and stands so, whatever its programs say. What happened in it
--- answers the acts that were to come, by readings of the clock in their order. A side forfeits for
--- a late answer only at its turn, where it was asked with a time and answered after this and the
--- margin.
+-- A match was played to its verdict and has this state, whatever its programs say. Its events
+-- answer the acts, with readings of the clock in their order. A side forfeits for a late answer
+-- only at its turn. It was then asked with a time, and answered after that time and the margin.
 pub record PlayedOut
     (setup : FullSetup) (t : MatchState) (from to : Times) (before after : Engines) : Type 0 where
   pub judged : IsJudged t
@@ -143,7 +143,8 @@ pub record PlayedOut
   pub course : HasTimedCourse setup t from.last to.last
   pub broke : IsBroke t.verdict → Rose before.engine_faults after.engine_faults
 
--- a match was played to its verdict, and stands so; and what its programs say tells what was played
+-- A match was played to its verdict and has this state. What its programs say determines what was
+-- played.
 pub record PlayedByPrograms
     (setup : FullSetup) (t : MatchState) (from to : Times) (before after : Engines) : Type 0 where
   pub out : PlayedOut setup t from to before after
@@ -159,7 +160,7 @@ pub record Tells (setup : FullSetup) (t : MatchState) (before after : World) : T
   pub played : PlayedByPrograms setup t before.times after.times before.engines after.engines
   pub wrote : after.sides.written ≡ behind before.sides.written (match_text (setup_of setup) t)
 
--- of the two lines of a match that was played the first n bytes were written, and not all
+-- the first n bytes of the two lines of a match that was played were written, and not all
 pub record TellsPart (setup : FullSetup) (t : MatchState) (n : ℕ) (before after : World)
     : Type 0 where
   pub played : PlayedByPrograms setup t before.times after.times before.engines after.engines
@@ -168,8 +169,8 @@ pub record TellsPart (setup : FullSetup) (t : MatchState) (n : ℕ) (before afte
       after.sides.written
       ≡ behind before.sides.written (take n (match_text (setup_of setup) t))
 
--- where it is told what was to come, no program got a byte: none was closed, or one to which
--- nothing was written
+-- If the programs to come were observable, no program got a byte. None was closed, or one was to
+-- which nothing was written.
 abbrev pub SendsNothing : Engines → Engines → Type 0
 SendsNothing before after =
     (coming : List (List ℕ))
@@ -182,8 +183,8 @@ pub record NotBegun (before after : World) : Type 0 where
   pub unsent : SendsNothing before.engines after.engines
   pub untimed : LeavesTimes before after
 
--- What was written and played where a match of two programs ends with this status. Where memory is
--- wanting nothing was written. Five statuses are not its own.
+-- What was written and played if a match of two programs ends with this status. If memory ran out,
+-- nothing was written. It never ends with the other five statuses.
 abbrev pub MatchRun : FullSetup → Status → World → World → Type 0
 MatchRun setup Done before after = (t : MatchState) × Tells setup t before after
 MatchRun setup WriteFault before after =
@@ -203,13 +204,13 @@ abbrev pub BothStarted : List (List ℕ) → List (List ℕ) → Engines → Eng
 BothStarted white black before after =
     after.started ≡ with_last (with_last before.started white) black
 
--- no program was started, or white's alone
+-- no program was started, or only white's
 abbrev pub FewerStarted : List (List ℕ) → Engines → Engines → Type 0
 FewerStarted white before after =
     (after.started ≡ before.started) ⊎ (after.started ≡ with_last before.started white)
 
--- The programs that were started, each by its words, where a match of two programs ends with this
--- status. A match that was played had both; where memory is wanting it may have had both, or fewer.
+-- The programs that were started, each by its words, if a match of two programs ends with this
+-- status. A match that was played had both. If memory ran out, both or fewer were started.
 abbrev pub MatchStarts : Status → List (List ℕ) → List (List ℕ) → Engines → Engines → Type 0
 MatchStarts Done white black before after = BothStarted white black before after
 MatchStarts WriteFault white black before after = BothStarted white black before after
@@ -228,8 +229,8 @@ pub record StartsNone (before after : Engines) : Type 0 where
   pub to_come : after.to_come ≡ before.to_come
   pub started : after.started ≡ before.started
 
--- no program that was started is left open: where it is told, as many were closed as were taken
--- from those to come
+-- No program that was started is left open. If programs are observable, as many were closed as were
+-- taken from those to come.
 abbrev pub NoneIsOpen : Engines → Engines → Type 0
 NoneIsOpen before after =
     (coming later opened closed : List (List ℕ))

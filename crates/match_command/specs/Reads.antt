@@ -1,5 +1,5 @@
--- What a match of two programs that begins with the game of the input reads, writes and plays, by
--- the status with which it ends.
+-- What a match that begins with the game of the input reads, writes and plays, by the status with
+-- which it ends.
 use Rattle.std.specs.Prelude.{◌⊎◌, ℕ, List}
 use Rattle.hive_model.specs.declared.pieces.GameType.{GameType}
 use Rattle.game_text.specs.declared.parsed.Parsed.{Parsed}
@@ -23,9 +23,9 @@ typed setup game_type = record {
   repetition = setup.repetition;
 }
 
--- This game was read, and the match was played from it, by the setup for games of its type. Where
--- the input is told, it is one line, this game, which is not over, and was read to its end. The
--- programs that were started are named by these words.
+-- This game was read, and the match was played from it, with the setup for games of its type. If
+-- the input is observable, it is one line, this game, which is not over, and was read to its end.
+-- These words name the programs that were started.
 pub record BegunFrom (setup : Setup) (white black : List (List ℕ)) (status : Status)
     (before after : World) (game : Parsed) : Type 0 where
   pub asked : WhereTold before.sides.rest (λ input. IsAsked input after.sides.rest game)
@@ -35,7 +35,8 @@ pub record BegunFrom (setup : Setup) (white black : List (List ℕ)) (status : S
   pub started : MatchStarts status white black before.engines after.engines
 
 -- No game was read, for this reason, and nothing was begun: no program was started, and the clock
--- was not read. Where the input is at fault, the line that says why was written, or a part of it.
+-- was not read. If the input is at fault, the line that says why was written, or an initial part of
+-- it.
 pub record NoneRead (status : Status) (before after : World) (none : NoGame) : Type 0 where
   pub shown :
       WhereTold before.sides.rest
@@ -44,8 +45,8 @@ pub record NoneRead (status : Status) (before after : World) (none : NoGame) : T
   pub untimed : LeavesTimes before after
   pub unstarted : LeavesEngines before after
 
--- What was read, written and played where a match of the programs of these words, which begins with
--- the game of the input, ends with this status.
+-- What was read, written and played if a match that begins with the game of the input ends with
+-- this status. The words name its programs.
 abbrev pub ReadMatchRun : Setup → List (List ℕ) → List (List ℕ) → Status → World → World → Type 0
 ReadMatchRun setup white black status before after =
     ((game : Parsed) × BegunFrom setup white black status before after game)

@@ -1,4 +1,4 @@
--- The two lines that tell a match: its game, and how it ended.
+-- The two lines that report a match: its game, and how it ended.
 use Rattle.std.specs.Prelude.{ℕ, List, [], ◌∷◌, ◌++◌, Option, Some, None, codes, decimal, map, nat_lt, if◌then◌else◌}
 use Rattle.hive_model.specs.declared.pieces.Colour.{Colour}
 use Rattle.hive_model.specs.declared.pieces.Colour.TheVariants.{White, Black}
@@ -15,7 +15,7 @@ use Rattle.match_core.specs.MatchState.{MatchState}
 abbrev pub shown : ℕ → ℕ
 shown byte = if nat_lt byte 32 then 63 else (if nat_lt 126 byte then 63 else byte)
 
--- the line that was kept, with a space (32) before it; nothing where it is empty
+-- the line that was kept, with a space (32) before it; nothing if it is empty
 abbrev pub kept_text : List ℕ → List ℕ
 kept_text [] = []
 kept_text (byte ∷ bytes) = 32 ∷ map shown (byte ∷ bytes)
@@ -46,13 +46,13 @@ verdict_text setup Limit = codes "limit " ++ decimal setup.limit
 verdict_text setup (Forfeit side cause) =
     codes "forfeit " ++ (side_text side ++ 32 ∷ cause_text cause)
 
--- the same where there is a verdict; a match that is not over has none
+-- the same if there is a verdict; a match that is not over has none
 abbrev pub ending_text : Setup → Option Verdict → List ℕ
 ending_text setup None = []
 ending_text setup (Some verdict) = verdict_text setup verdict
 
--- the game string of the moves that were played, with the outcome under the setup's rule for its
--- state, and the verdict, each with its LF (10)
+-- The game string of the moves, with the outcome under the setup's rule as its state, and the
+-- verdict, each with its LF (10).
 abbrev pub match_text : Setup → MatchState → List ℕ
 match_text setup t =
     string_under setup.repetition setup.game_type t.moves ++ 10

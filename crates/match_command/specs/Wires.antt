@@ -1,4 +1,4 @@
--- What is told of the two links of a match, and what was done over them.
+-- What contracts know of the two links of a match, and what was done over them.
 use Rattle.std.specs.Prelude.{◌≡◌, ℕ, ◌<◌, List, [], Some}
 use Rattle.io_edge.specs.Outside.{Told, ToldLists, Rose, Starts, Collects, with_last}
 use Rattle.io_edge.specs.Starts.{Engines}
@@ -8,15 +8,16 @@ use Rattle.match_core.specs.MatchState.{MatchState}
 use Rattle.match_runner.specs.Wires.{IsFresh, Wire}
 use Rattle.match_command.specs.Match.{BothStarted, FewerStarted, IsPlayedBy, NoneIsOpen, PlayedOut, SendsNothing}
 
--- two programs were started, one after the other; told of each: what it will say, what it got
+-- two programs were started, one after the other; of each is known what it will say, and what it
+-- got
 abbrev pub StartsTwo : ToldLists → ToldLists → Told → Told → Told → Told → Type 0
 StartsTwo before after white_says white_got black_says black_got =
     (between : ToldLists)
     × Starts before between white_says white_got
     × Starts between after black_says black_got
 
--- A program was started by these words, and this is its link, of which no call has failed. None was
--- closed, and no failure of one was counted.
+-- A program was started by these words. This is its link, and no call of it has failed. No program
+-- was closed, and no program's failure was counted.
 pub record StartsOne (words : List (List ℕ)) (link : Wire) (before after : Engines) : Type 0 where
   pub fresh : IsFresh link.reads link.writes
   pub next : Starts before.to_come after.to_come link.rest link.written
@@ -24,8 +25,8 @@ pub record StartsOne (words : List (List ℕ)) (link : Wire) (before after : Eng
   pub sent : after.sent ≡ before.sent
   pub failed : after.engine_faults ≡ before.engine_faults
 
--- White's program was started by its words, then black's, and these are their links, of which no
--- call has failed. None was closed, and no failure of one was counted.
+-- White's program was started by its words, then black's. These are their links, and no call of
+-- them has failed. No program was closed, and no program's failure was counted.
 pub record StartsBoth
     (white black : List (List ℕ)) (w b : Wire) (before after : Engines) : Type 0 where
   pub white_fresh : IsFresh w.reads w.writes
@@ -35,30 +36,30 @@ pub record StartsBoth
   pub sent : after.sent ≡ before.sent
   pub failed : after.engine_faults ≡ before.engine_faults
 
--- no program was started, and one that had been was closed, which had got this
+-- no program was started, and one was closed that had got this
 pub record ClosesOne (got : Told) (before after : Engines) : Type 0 where
   pub to_come : after.to_come ≡ before.to_come
   pub started : after.started ≡ before.started
   pub closed : Collects before.sent after.sent got
 
--- Of two programs none was started, or white's alone, by its words. No byte was sent to it, and it
+-- Of two programs none was started, or only white's, by its words. No byte was sent to it, and it
 -- is not left open.
 pub record StartsFewer (white : List (List ℕ)) (before after : Engines) : Type 0 where
   pub named : FewerStarted white before after
   pub unsent : SendsNothing before after
   pub closed : NoneIsOpen before after
 
--- two programs were closed, one after the other; told of each: what it got
+-- two programs were closed, one after the other; of each is known what it got
 abbrev pub ClosesTwo : ToldLists → ToldLists → Told → Told → Type 0
 ClosesTwo before after white_got black_got =
     (between : ToldLists) × Collects before between white_got × Collects between after black_got
 
--- the failure of either of two programs that were closed was counted
+-- if either of two closed programs had failed, a failure was counted
 pub record CountsEither (white_faults black_faults before after : ℕ) : Type 0 where
   pub white : 0 < white_faults → Rose before after
   pub black : 0 < black_faults → Rose before after
 
--- a match was played to its end over two links that began so, and both were closed
+-- a match was played to its end over two links with these states at its start, and both were closed
 pub record PlayedOver
     (setup : FullSetup) (t : MatchState) (w0 b0 : Wire) (from to : Times) (before after : Engines)
     : Type 0 where

@@ -1,4 +1,4 @@
-//! The two programs of a match: their start and their end.
+//! Starts and closes the two programs of a match.
 ghost use Rattle.std.specs.Prelude.{◌≡◌, ◌+◌, ◌<◌, length, map, string_bytes, IfOk, OnErr, IsErrOf};
 ghost use Rattle.io_edge.specs.Outside.{HasCause};
 ghost use Rattle.match_runner.specs.Wires.{wire};
@@ -14,7 +14,7 @@ ghost use Rattle.match_command.specs.Wires.{
 
 use io_edge::{Spawner, StartFault};
 
-/// Starts black's program beside white's, which is closed where black's does not start.
+/// Starts black's program. If it does not start, white's is closed.
 fn start_black<P: Spawner>(
     first: P::Engine,
     words: &[String],
@@ -39,7 +39,7 @@ fn start_black<P: Spawner>(
     }
 }
 
-/// Starts white's program, then black's. Where black's does not start, white's is closed.
+/// Starts white's program, then black's. If black's does not start, white's is closed.
 pub(crate) fn start_both<P: Spawner>(
     white: &[String],
     black: &[String],

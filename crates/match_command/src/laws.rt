@@ -1,8 +1,8 @@
 //! Laws of the definitions, as contracts of functions that do nothing.
 ghost use Rattle.match_command.specs.Laws.{MatchesAreDone};
 
-/// A match of two programs ends with `Done`, or for want of memory, where neither the sink counted
-/// a failed write nor the starter of programs a failed start.
+/// The law covers a match of two programs in which the sink counted no failed write and the starter
+/// no failed start. The match ends with `Done`, or because memory ran out.
 pub fn matches_are_done()
     ensures { MatchesAreDone }
 {}

@@ -1,4 +1,4 @@
-//! A match of two programs, from their start to the two lines that tell it.
+//! A match of two programs, from their start to the two lines that report it.
 #![tactic(auto)]
 
 mod engines;

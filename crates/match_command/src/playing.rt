@@ -1,4 +1,4 @@
-//! The command: both programs are started, the match is played, and its two lines are written.
+//! The command: starts both programs, plays the match, and writes its two lines.
 ghost use Rattle.std.specs.Prelude.{◌≡◌, ◌<◌, ◌≤◌, List, length, map, string_bytes, IfOk};
 ghost use Rattle.io_edge.specs.Outside.{Told};
 ghost use Rattle.hive_model.specs.declared.best.Timed.{Timed};
@@ -21,8 +21,8 @@ use match_core::{Referee, Setup};
 use match_runner::run_match_from;
 use std::alloc::{AllocError, Global};
 
-/// Plays a match of two programs that were started, from a game under way, and closes both, white's
-/// first: the two lines that tell it.
+/// Plays a match of two started programs from a game under way, and closes both, white's first. It
+/// answers the two lines that report the match.
 fn play_and_close<P: Spawner, C: Clock, G: Game + Drop>(
     alloc: Global,
     mut white: P::Engine,
@@ -61,9 +61,9 @@ fn play_and_close<P: Spawner, C: Clock, G: Game + Drop>(
     }
 }
 
-/// Plays a match of two programs from the opening, and tells it, as `play_match_from` does from a
-/// game under way. `Memory` may also say that there was none for the opening: then no program was
-/// started.
+/// Plays a match of two programs from the opening, and reports it, as `play_match_from` does from a
+/// game under way. `Memory` may also say that there was no memory for the opening: then no program
+/// was started.
 pub fn play_match<P: Spawner, K: Sink, C: Clock, G: Game + Drop>(
     alloc: Global,
     white: &[String],
@@ -94,30 +94,29 @@ pub fn play_match<P: Spawner, K: Sink, C: Clock, G: Game + Drop>(
     play_match_from(alloc, white, black, setup, game, output, clock, spawner)
 }
 
-/// Plays a match of two programs from a game under way, whose type is that of the setup, and tells
-/// it.
+/// Plays a match of two programs from a game under way, whose type is that of the setup, and
+/// reports it.
 ///
-/// White's program is started, then black's: each is the one that the first word names, with the
-/// other words as its arguments. Both are told the game to begin, and the match is run to its
-/// verdict, which comes at once where the game is over or has as many plies as the limit or more.
-/// White's engine is closed, then black's, and two lines are written: the game string of the moves
-/// that were given and of those that were played, and the verdict. Each engine that was started is
-/// closed before the call returns, whatever happens.
+/// White's program is started, then black's. Each is the one that the first word names, with the
+/// other words as its arguments. Both are sent the game, and the match is run to its verdict. The
+/// verdict comes at once if the game is over or has reached the limit of plies. White's engine is
+/// closed, then black's. Two lines are written: the game string of the moves given and played, and
+/// the verdict. Each engine that was started is closed before the call returns, whatever happens.
 ///
-/// A side forfeits for a late answer only at its turn, where it was asked with a time and answered
-/// after this and the margin. Where the starter tells its programs, and counted no failure of one,
-/// the moves played and the bytes sent are those of the match up to that reply.
+/// A side forfeits for a late answer only at its turn, if it was asked with a time and answered
+/// after that time and the margin. If the starter's programs are observable and it counted no
+/// failure of one, moves played and bytes sent are those of the match up to that reply.
 ///
 /// A setup has a limit of 1 to 1,000 plies. It has a depth from 1 to 64, or a time of whole seconds
 /// below 100 hours and a margin of at most an hour. Each list of words has at least one.
 ///
-/// `Done` says that both lines were written. `WriteFault` says that a write has failed: of the two
-/// lines only a front, and not all, was written. `SpawnFault` says that a program did not start,
-/// and `Memory` that memory was wanting: nothing was written. No other status is answered.
+/// `Done` says that both lines were written. `WriteFault` says that a write failed: only an initial
+/// part of the two lines was written, and not all. `SpawnFault` says that a program did not start,
+/// and `Memory` that memory ran out: nothing was written. No other status is answered.
 ///
-/// Where the starter tells what was started, it tells white's words and then black's of a match
-/// that was played. Behind `SpawnFault` it tells nothing more than before, or white's words alone,
-/// and behind `Memory` one of all three.
+/// If the starts of the starter are observable, a match that was played adds white's words and then
+/// black's. After `SpawnFault` nothing was added, or only white's words. After `Memory` any of the
+/// three may be so.
 pub fn play_match_from<P: Spawner, K: Sink, C: Clock, G: Game + Drop>(
     alloc: Global,
     white: &[String],

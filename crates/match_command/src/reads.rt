@@ -1,4 +1,4 @@
-//! The command that reads first: the game of the input is read, and the match is played from it.
+//! The command that first reads the game of the input, and plays the match from it.
 ghost use Rattle.std.specs.Prelude.{◌≡◌, ◌<◌, ◌≤◌, List, length, map, string_bytes};
 ghost use Rattle.io_edge.specs.Outside.{HasCause};
 ghost use Rattle.hive_model.specs.declared.best.Timed.{Timed};
@@ -22,13 +22,14 @@ fn typed(setup: Setup, game_type: GameType) -> Setup
 }
 
 /// Reads the one game of the input, and plays a match of two programs from it, as `play_match_from`
-/// does, by the setup with the type of this game in place of its own.
+/// does. The setup gets the type of this game in place of its own.
 ///
-/// The input is to be one line, a game string of a game that is not over, and is read to its end
-/// before a program is started. Where it is something else, one line that begins with `bad` says
-/// why, and it is `BadInput`. A read that fails (`ReadFault`), a full input (`InputFull`) and want
-/// of memory (`Memory`) end the run with nothing written. In each of these cases no program is
-/// started, and the clock is not read; nor where the line could not be written (`WriteFault`).
+/// The input has to be one line, a game string of a game that is not over. It is read to its end
+/// before a program is started. If it is something else, one line that begins with `bad` says why,
+/// and the status is `BadInput`. If a read fails (`ReadFault`), the input is full (`InputFull`) or
+/// memory runs out (`Memory`), the run ends with nothing written. In each of these cases no program
+/// is started, and the clock is not read. The same holds if that line could not be written
+/// (`WriteFault`).
 pub fn play_read_match<S: Source, P: Spawner, K: Sink, C: Clock, G: Game + Drop>(
     alloc: Global,
     white: &[String],

@@ -1,4 +1,4 @@
-//! The two lines that tell a match.
+//! The two lines that report a match.
 ghost use Rattle.std.specs.Prelude.{◌≡◌, ◌++◌, decimal, map, OnOk, IfOk};
 ghost use Rattle.match_command.specs.Texts.{
   shown,
@@ -35,7 +35,7 @@ pub fn write_shown(out: &mut ReplyText, bytes: &[u8]) -> Result<(), AllocError>
     Ok(())
 }
 
-/// Appends a word, and behind it the line that was kept, where it is not empty.
+/// Appends a word, and then the kept line if it is not empty.
 fn write_kept(out: &mut ReplyText, word: &[u8], line: &[u8]) -> Result<(), AllocError>
     ensures { OnOk result (out.new ≡ out.old ++ (word.now ++ kept_text line.now)) }
 {
@@ -116,7 +116,7 @@ fn write_verdict(out: &mut ReplyText, setup: Setup, verdict: &Verdict) -> Result
     }
 }
 
-/// Appends the verdict of a match, where it has one.
+/// Appends the verdict of a match, if it has one.
 pub fn write_ending<G: Game + Drop>(
     out: &mut ReplyText,
     setup: Setup,
@@ -130,7 +130,7 @@ pub fn write_ending<G: Game + Drop>(
     }
 }
 
-/// The two lines that tell a match: the game string of the moves that were played, and the verdict.
+/// The two lines that report a match: the game string of the moves, and the verdict.
 pub(crate) fn tell_match<G: Game + Drop>(
     alloc: Global,
     setup: Setup,

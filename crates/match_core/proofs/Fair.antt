@@ -1,4 +1,4 @@
--- Every match is fair: what holds at each place of it.
+-- Every match is fair: what holds at each stage of it.
 use Rattle.std.proofs.Common.{◌≡◌, ◌⊎◌, inl, inr, ℕ, Bool, true, false, cond, List, [], ◌∷◌, ◌++◌, length, refl, ap, sym, ◌∙◌, append_assoc, None, Some, IsTrue, unwrap_or, Result, Ok, Err}
 use Rattle.std.specs.declared.option.Option.{Option}
 use Rattle.std.proofs.lemmas.List.{append-nil}
@@ -30,7 +30,8 @@ use Rattle.match_core.specs.MatchState.{MatchState, Happening, Sent, Line, TooLo
 use Rattle.match_core.specs.Fairness.{Answering, told_at, told, WasTold, Reply, Heard, nothing_heard, heard_at, heard, first_of, StandsFrom}
 use Rattle.match_core.proofs.Stands.{stands_none, stands_more}
 
--- a move is accepted: it is legal, and is read from the first line of the last whole reply, which the side to move gave
+-- A move is accepted: it is legal, and is read from the first line of the last whole reply, which
+-- the side to move gave.
 pub record IsRead (s : MatchState) (reply : Reply) (m : Move) : Type 0 where
   pub side : reply.side ≡ (position_now s).side
   pub denotes : read_of s.setup.game_type (position_now s).board (first_of reply.lines) ≡ Ok m
@@ -88,14 +89,15 @@ HeardAt Before s k = k.begun ≡ []
 HeardAt After s k = (k.begun ≡ []) × (s.first ≡ first_option k.last.lines) × (k.last.side ≡ (position_now s).side)
 HeardAt Finished s k = Unit {0}
 
--- the moves are a legal game, which begins with those given, and none of the others follows the end of the game
+-- The moves are a legal game that begins with those given, and no other move follows the end of the
+-- game.
 pub record Plays (setup : FullSetup) (moves : List Move) : Type 0 where
   pub legal : AreLegal (opening setup.game_type) moves
   pub stands : StandsFrom setup moves
   pub made : List Move
   pub split : moves ≡ setup.begin ++ made
 
--- the game is not over, but it may be where it has just begun or a move is told
+-- the game is not over, unless it has just begun or a move is being sent
 abbrev pub IsOpen : FullSetup → List Move → Type 0
 IsOpen setup moves = is_over_state (outcome_under setup.repetition setup.game_type moves) ≡ false
 
@@ -118,7 +120,7 @@ pub record Good (s : MatchState) (k : Heard) (tw tb : List Move) : Type 0 where
   pub told : ToldAt s.stage s.moves tw tb
   pub heard : HeardAt s.stage s k
 
--- what a step from s comes to
+-- the result of a step from s
 pub record Steps (s t : MatchState) (k : Heard) (tw tb : List Move) : Type 0 where
   pub good : Good t k tw tb
   pub moves : ReadsOn s t k.last
@@ -328,7 +330,7 @@ goes (h ∷ hs) s k tw tb g (w, a) =
     let f : (tb ++ told_at s.stage h Black) ++ told (next s h) hs Black ≡ tb ++ told s (h ∷ hs) Black = append_assoc tb (told_at s.stage h Black) (told (next s h) hs Black) in
     record { good = rw (← e, ← f) r.good; same = r.same ∙ st.same }
 
--- the moves that the match begins with are known to both sides
+-- both sides know the moves with which the match begins
 pub good_start : (setup : FullSetup) → AreLegal (opening setup.game_type) setup.begin → Good (start setup) nothing_heard setup.begin setup.begin
 good_start setup legal = record {
   legal = record { legal = legal; stands = stands_none setup; made = []; split = sym (append-nil setup.begin) };
@@ -349,7 +351,7 @@ heard-snoc : (hs : List Happening) (s : MatchState) (k : Heard) (h : Happening) 
 heard-snoc [] s k h = refl
 heard-snoc (x ∷ hs) s k h = heard-snoc hs (next s x) (heard_at s.stage k x) h
 
--- the match before an event, and what the event comes to
+-- the match before an event, and the result of the event
 pub record Reading (setup : FullSetup) (hs : List Happening) (h : Happening) : Type 0 where
   pub fits : Answering (start setup) hs
   pub answered : IsTrue (answers (act_at (match_after setup hs).stage) h)

@@ -22,7 +22,7 @@ use Rattle.match_core.specs.Texts.{read_of}
 use Rattle.match_core.specs.Plays.{left, left_at, IsPliesAt, IsBounded, MatchesNearTheirEnd, is_finished, has_verdict}
 use Rattle.match_core.proofs.Fair.{either}
 
--- t is a place nearer to the end than n
+-- t is at a stage nearer to the end than n
 pub record Falls (t : MatchState) (n : ℕ) : Type 0 where
   pub bounded : IsBounded t
   pub less : left_at t.stage (t.setup.limit - length t.moves) t.count < n
@@ -77,7 +77,7 @@ ends_reply s Ask side c h v = answers_as s s.setup.level _ c h (omega arith) v
 ends_reply s (Tell m) White c h v = record { bounded = record { plies = h; count = omega arith; judged = v }; less = omega arith }
 ends_reply s (Tell m) Black c h v = decides s _ (omega arith) v
 
--- a reply that is read begins with so many events left, and each line of it is one less
+-- a reply begins with this number of events left, and each line of it is one less
 record ReadsFrom (job : Task) (side : Colour) (d : ℕ) : Type 0 where
   most : ℕ
   many : 1000 < most

@@ -27,7 +27,7 @@ use Rattle.match_core.specs.Fairness.{sent_at}
 use Rattle.match_core.specs.Plays.{IsBounded, given, others, reply_to, left_of_white, left_of_black, is_finished, happens}
 use Rattle.match_core.specs.Feeds.{Gave, FeedsAt, IsInTime, with_asked}
 
--- what a function makes of a match does not hang on the moment of the question
+-- what a function makes of a match does not depend on the moment of the question
 conds : (b : Bool) (x y x2 y2 : MatchState) (a : ℕ) → x2 ≡ with_asked x a → y2 ≡ with_asked y a → cond b x2 y2 ≡ with_asked (cond b x y) a
 conds true x y x2 y2 a e f = e
 conds false x y x2 y2 a e f = f
@@ -153,7 +153,7 @@ open_at Before h w = refl
 open_at After h w = refl
 open_at Finished h w = absurd (cc)
 
--- a match is over exactly where there is nothing to do
+-- a match is over if and only if there is nothing to do
 pub finish_is : (stage : Stage) → (act_at stage ≡ Finish) ↔ (is_finished stage ≡ true)
 finish_is (Send job side) = (λ e. absurd (cc), λ e. absurd (cc))
 finish_is (Read job side) = (λ e. absurd (cc), λ e. absurd (cc))

@@ -120,7 +120,7 @@ pub sent-append : (fs gs : List Happening) (s : MatchState) (to : Colour) → se
 sent-append [] gs s to = refl
 sent-append (h ∷ fs) gs s to = ap (λ z. sent_at s s.stage h to ++ z) (sent-append fs gs (next s h) to) ∙ sym (append_assoc (sent_at s s.stage h to) (sent (next s h) fs to) _)
 
--- What was done is a front of what happens
+-- What was done is an initial part of what happens
 
 pub record BeginsSo (s : MatchState) (hs : List Happening) (t : MatchState) (all : List Happening) : Type 0 where
   pub fs : List Happening
@@ -191,7 +191,7 @@ matches_begin setup hs white black w b is t i e f =
       first = record { fs = q.fs; front = (q.more, q.split); same = record { asked = q.asked; match = q.match; white = q.white; black = q.black } };
     }
 
--- all of what happens was done, where the match is over
+-- if the match is over, everything that happens was done
 pub matches_are_of_their_lines : MatchesAreOfTheirLines
 matches_are_of_their_lines setup hs white black w b is t i e f fin =
     let q = begins hs (start setup) 0 (left (start setup)) white black w b t i e f (bounded_start setup is) (omega arith) in

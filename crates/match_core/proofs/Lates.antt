@@ -1,4 +1,4 @@
--- A side forfeits for a late answer only where one was late.
+-- A side forfeits for a late answer only if its answer was late.
 use Rattle.std.specs.declared.option.Option.{Option}
 use Rattle.std.specs.declared.result.Result.{Result}
 use Rattle.std.specs.Prelude.{nat_le, nat_lt}
@@ -38,7 +38,7 @@ IsQuiet v = (side : Colour) (asked answered : ℕ) → v ≡ Some (Forfeit side 
 abbrev pub IsTimed : Level → Type 0
 IsTimed level = (budget : ℕ) × (margin : ℕ) × (level ≡ Time budget margin)
 
--- where the clock is read behind a reply, sides are asked with a time
+-- if the clock is read after a reply, sides are asked with a time
 abbrev pub TimedAt : Stage → Level → Type 0
 TimedAt (Send job side) level = Unit {0}
 TimedAt (Read job side) level = Unit {0}
@@ -97,7 +97,7 @@ hears s job side line q =
     (λ e. either Calm (is_error line) (forfeit s side (ErrLine line)) (cond (nat_le 1000 s.count) (forfeit s side (Flood 1001)) (keep s (Read job side) line)) (λ f. finishes s (Forfeit side (ErrLine line)) (λ at m n g. cc))
     (λ f. either Calm (nat_le 1000 s.count) (forfeit s side (Flood 1001)) (keep s (Read job side) line) (λ k. finishes s (Forfeit side (Flood 1001)) (λ at m n g. cc)) (λ k. record { quiet = q; timed = tt })))
 
--- the clock is read behind a reply, and its answer is late
+-- the clock is read after a reply, and its answer is late
 abbrev IsPast : Stage → MatchState → Happening → Type 0
 IsPast After s (Reading at) = is_late s at ≡ true
 IsPast After s Sent = ⊥
@@ -141,8 +141,7 @@ goes_at After s TooLong w q = absurd (cc)
 goes_at After s Ended w q = absurd (cc)
 goes_at Finished s h w q = absurd (cc)
 
--- all but the last of what happened was in time, and the last is the reading by which an answer was
--- late
+-- all events but the last were in time, and the last is the reading by which an answer was late
 pub record LateCut (s : MatchState) (hs : List Happening) : Type 0 where
   pub fs : List Happening
   pub at : ℕ
@@ -178,7 +177,7 @@ cut_here (Read job side) s h hs e l c a = absurd l
 cut_here Before s h hs e l c a = absurd l
 cut_here Finished s h hs e l c a = absurd l
 
--- no answer was late, or the last thing that happened is that one was
+-- no answer was late, or the last event is that one was
 calm_or_cut : (hs : List Happening) (s : MatchState) → Calm s → Answering s hs → Calm (after_all s hs) ⊎ LateCut s hs
 calm_or_cut [] s c a = inl c
 calm_or_cut (h ∷ hs) s c (t, u) = elim (goes_at s.stage s h t c.quiet) [
@@ -203,7 +202,7 @@ after_last : (fs : List Happening) (s : MatchState) (h : Happening) → after_al
 after_last [] s h = refl
 after_last (f ∷ fs) s h = after_last fs (next s f) h
 
--- how the match stands then
+-- the state of the match then
 pub cut_stands : (s : MatchState) (hs : List Happening) (l : LateCut s hs) → after_all s hs ≡ forfeit (after_all s l.fs) (position_now (after_all s l.fs)).side (Late (after_all s l.fs).asked l.at)
 cut_stands s hs l =
     let x = after_all s l.fs in

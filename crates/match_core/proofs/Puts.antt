@@ -1,4 +1,4 @@
--- The line that tells a move, as it is put together from its parts.
+-- The line that sends a move, made from its parts.
 use Rattle.std.proofs.Common.{◌≡◌, ℕ, ◌+◌, ◌≤◌, List, [], ◌++◌, length, ap, sym, ◌∙◌, append_assoc, arith}
 use Rattle.std.specs.Prelude.{codes}
 use Rattle.hive_model.specs.declared.pieces.Piece.{Piece}
@@ -27,7 +27,7 @@ end_fits none word all bytes shown written e more last same is few =
     let long : length bytes ≡ length written = ap length (same ∙ is) in
     omega (arith, e, more, last, few, long)
 
--- these parts are the line that tells the move
+-- these parts are the line that sends the move
 pub tells_pass : (p : Position) (m : Move) (none all : List ℕ) → m ≡ Pass → none ≡ [] → all ≡ none ++ codes "pass\n" → all ≡ tell_line p m
 unfolding tell_line
 tells_pass p m none all is e put = put ∙ ap (λ (z : List ℕ). z ++ codes "pass\n") e ∙ sym (ap (tell_line p) is)

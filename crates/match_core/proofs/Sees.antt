@@ -1,4 +1,4 @@
--- The keys that a referee keeps, at each place of a match.
+-- The keys that a referee keeps, at each stage of a match.
 use Rattle.std.proofs.Common.{◌≡◌, suc, ◌+◌, ◌-◌, ◌<◌, ◌≤◌, List, [], ◌∷◌, ◌++◌, length, take, refl, sym, ◌∙◌, ap, arith, length-append}
 use Rattle.std.proofs.lemmas.List.{take_at}
 use Rattle.std.specs.Prelude.{if◌then◌else◌}
@@ -15,7 +15,7 @@ use Rattle.match_core.specs.declared.stage.Stage.{Stage}
 use Rattle.match_core.specs.declared.stage.Stage.TheVariants.{Send, Read, Before, After, Finished}
 use Rattle.match_core.specs.Keeps.{SeesBefore, SeesFor, SeesAt, IsTold, IsTelling, IsNotTold, IsSettled}
 
--- where no move is being told, the keys are those of all positions
+-- if no move is being sent, the keys are those of all positions
 settled_for : (job : Task) (seen : Seen) (game : Course) → IsNotTold job → SeesFor job seen game → Sees seen game
 settled_for Greet seen game n h = h
 settled_for Begin seen game n h = h
@@ -29,7 +29,7 @@ settled Before seen game n h = h
 settled After seen game n h = h
 settled Finished seen game n h = absurd n
 
--- while a move is told, they are those of all but the last
+-- while a move is sent, they are those of all but the last
 telling_for : (job : Task) (seen : Seen) (game : Course) → IsTold job → SeesFor job seen game → SeesBefore seen game
 telling_for Greet seen game n h = absurd n
 telling_for Begin seen game n h = absurd n
@@ -57,7 +57,7 @@ before_few seen game h few =
     let size = taken_size game.made (length game.made - 1) in
     seen_few seen (without_last game) h.keys (omega (arith, few, size))
 
--- the key of the position that the last move leads to is kept
+-- the key of the position after the last move is kept
 pub noted : (seen new : Seen) (game : Course) → SeesBefore seen game → new.repetition ≡ seen.repetition
     → new.keys ≡ (if seen.repetition then seen.keys ++ key (position game) ∷ [] else seen.keys) → Sees new game
 noted seen new game h same pushed =

@@ -1,4 +1,5 @@
--- No move of a match follows the end of the game, move by move; and a match from the opening asks at once.
+-- No move of a match follows the end of the game, move by move. A match from the opening asks at
+-- once.
 use Rattle.std.proofs.Common.{◌≡◌, ◌⊎◌, ◌+◌, inl, inr, Bool, true, false, cond, List, [], ◌∷◌, ◌++◌, length, refl, ap, sym, ◌∙◌, append_assoc, ◌≤◌, arith}
 use Rattle.std.proofs.lemmas.List.{append-nil, append_cancel_left}
 use Rattle.std.specs.Prelude.{nat_le}
@@ -19,7 +20,7 @@ some_more : {X : Type 0} (front rest : List X) (x : X) → [] ≡ front ++ x ∷
 some_more [] rest x e = absurd (cc)
 some_more (f ∷ front) rest x e = absurd (cc)
 
--- of the moves that are given nothing is said
+-- nothing is said of the given moves
 pub stands_none : (setup : FullSetup) → StandsFrom setup setup.begin
 stands_none setup front m rest e = absurd (some_more front rest m (append_cancel_left setup.begin [] (front ++ m ∷ rest) (append-nil setup.begin ∙ e)))
 
@@ -47,7 +48,7 @@ unfolding state keys times
 open_start false t = refl
 open_start true t = ap (λ b. is_over_state (ends_as b (state (opening t)))) (one_key (key (opening t)))
 
--- where the game is not over and its limit not reached, it goes on
+-- if the game is not over and its limit not reached, it goes on
 goes_on : (b c : Bool) (x y z : MatchState) → b ≡ false → c ≡ false → cond b x (cond c y z) ≡ z
 goes_on true c x y z e f = absurd (cc)
 goes_on false true x y z e f = absurd (cc)

@@ -1,4 +1,4 @@
--- The lines that tell a side its moves are those of the moves that it is told, one after the other.
+-- The lines that send a side its moves are those of the moves that it is sent, one after the other.
 use Rattle.std.proofs.Common.{◌≡◌, ℕ, ◌-◌, cond, List, [], ◌∷◌, ◌++◌, length, take, refl, ap, sym, ◌∙◌, subst, append_assoc, arith}
 use Rattle.std.proofs.lemmas.List.{append-nil, append_cancel_left}
 use Rattle.hive_model.specs.declared.pieces.Colour.{Colour}
@@ -21,7 +21,7 @@ lines-snoc : (p : Position) (ms : List Move) (m : Move) → tell_lines p (ms ++ 
 lines-snoc p [] m = refl
 lines-snoc p (x ∷ ms) m = ap (λ (r : List (List ℕ)). tell_line p x ∷ r) (lines-snoc (after p x) ms m)
 
--- a move was made after those that a side knows, and it is told now
+-- a move was made after those that a side knows, and it is sent now
 one_more : (p : Position) (moves before tw : List Move) (m : Move) → moves ≡ before ++ m ∷ [] → tw ≡ before
     → tell_lines p (tw ++ m ∷ []) ≡ tell_lines p tw ++ tell_line (replay p (take (length moves - 1) moves)) m ∷ []
 one_more p moves before tw m made known =
@@ -84,12 +84,12 @@ tells (h ∷ hs) s k to tw tb g (w, a) =
     in_front s h hs to (known_of to tw tb) st.same (tells_at s.stage s h to tw tb g.told)
     (subst later (known_more to tw tb (told_at s.stage h)) (tells hs (next s h) (heard_at s.stage k h) to (tw ++ told_at s.stage h White) (tb ++ told_at s.stage h Black) st.good a))
 
--- the lines of some moves, and those of others behind them
+-- the lines of some moves, and those of others after them
 lines_behind : (p : Position) (xs ys : List Move) → tell_lines p (xs ++ ys) ≡ tell_lines p xs ++ tell_lines (replay p xs) ys
 lines_behind p [] ys = refl
 lines_behind p (x ∷ xs) ys = ap (λ (r : List (List ℕ)). tell_line p x ∷ r) (lines_behind (after p x) xs ys)
 
--- a side that knows the moves that the match begins with is told those behind them
+-- a side that knows the moves with which the match begins is sent those after them
 tells_behind : (setup : FullSetup) (lines : List (List ℕ)) (told : List Move) → tell_lines (opening setup.game_type) (setup.begin ++ told) ≡ tell_lines (opening setup.game_type) setup.begin ++ lines
     → lines ≡ tell_lines (first_position setup) told
 tells_behind setup lines told e = append_cancel_left (tell_lines (opening setup.game_type) setup.begin) lines (tell_lines (first_position setup) told) (sym e ∙ lines_behind (opening setup.game_type) setup.begin told)

@@ -1,4 +1,4 @@
--- How what happens takes the lines of a side.
+-- How events take the lines of a side.
 use Rattle.std.specs.Prelude.{◌≡◌, ℕ, Bool, true, false, List, [], ◌∷◌, ◌++◌, Some}
 use Rattle.std.specs.Option.{option_map}
 use Rattle.hive_model.specs.declared.pieces.Colour.{Colour}
@@ -13,8 +13,8 @@ use Rattle.match_core.specs.MatchState.{MatchState, Happening, Sent, Line, TooLo
 use Rattle.match_core.specs.Fairness.{is_side, sent, Answering}
 use Rattle.match_core.specs.Plays.{match_of}
 
--- what a reader gives of the lines to come (after the last two a match is over, and what is left is
--- not asked)
+-- What a reader gives of the lines to come. (After the last two a match is over, and nothing is
+-- said of what is left.)
 abbrev pub Gave : Happening → ToldLines → ToldLines → Type 0
 Gave (Line bytes) old new = old ≡ option_map (λ marks. Text bytes ∷ marks) new
 Gave TooLong old new = LongAhead old
@@ -23,12 +23,12 @@ Gave Sent old new = ⊥
 Gave Broke old new = ⊥
 Gave (Reading at) old new = ⊥
 
--- what is read of the side that is read, and nothing of the other
+-- what is read if this side is read; of the other side nothing is read
 abbrev pub GaveOr : Bool → Happening → ToldLines → ToldLines → Type 0
 GaveOr true h old new = Gave h old new
 GaveOr false h old new = new ≡ old
 
--- what an event takes of the lines to come of a side
+-- what an event takes of a side's lines to come
 abbrev pub FeedsAt : Stage → Happening → Colour → ToldLines → ToldLines → Type 0
 FeedsAt (Read job side) h to old new = GaveOr (is_side side to) h old new
 FeedsAt (Send job side) h to old new = new ≡ old
@@ -36,13 +36,13 @@ FeedsAt Before h to old new = new ≡ old
 FeedsAt After h to old new = new ≡ old
 FeedsAt Finished h to old new = new ≡ old
 
--- all that happened took just these lines of a side
+-- all these events took exactly these lines of a side
 abbrev pub Feeds : MatchState → List Happening → Colour → ToldLines → ToldLines → Type 0
 Feeds s [] to old new = new ≡ old
 Feeds s (h ∷ hs) to old new =
     (mid : ToldLines) × FeedsAt s.stage h to old mid × Feeds (next s h) hs to mid new
 
--- an event is no fault, and no answer is late
+-- an event is no fault, and it makes no answer late
 abbrev pub IsInTime : Stage → MatchState → Happening → Type 0
 IsInTime After s (Reading at) = is_late s at ≡ false
 IsInTime After s Sent = Unit {0}
@@ -65,11 +65,11 @@ abbrev pub AreInTime : MatchState → List Happening → Type 0
 AreInTime s [] = Unit {0}
 AreInTime s (h ∷ hs) = IsInTime s.stage s h × AreInTime (next s h) hs
 
--- the match, but for the moment at which the last question was asked
+-- the same match with another moment at which the last question was asked
 abbrev pub with_asked : MatchState → ℕ → MatchState
 with_asked s asked = record s { asked = asked }
 
--- t and fs are s and hs, but for readings of the clock
+-- t and fs are s and hs, apart from readings of the clock
 pub record AreSame (s : MatchState) (hs : List Happening) (t : MatchState)
     (fs : List Happening) : Type 0 where
   pub asked : ℕ
@@ -77,8 +77,8 @@ pub record AreSame (s : MatchState) (hs : List Happening) (t : MatchState)
   pub white : sent t fs White ≡ sent s hs White
   pub black : sent t fs Black ≡ sent s hs Black
 
--- a whole match that took just these lines, with no fault and no late answer, is the match of these
--- lines
+-- a whole match that took exactly these lines, with no fault and no late answer, is the match of
+-- these lines
 abbrev pub MatchesAreOfTheirLines : Type 0
 MatchesAreOfTheirLines =
     (setup : FullSetup) (hs : List Happening) (white black : List Mark) (w b : ToldLines)
@@ -87,20 +87,19 @@ MatchesAreOfTheirLines =
     → act_at (match_after setup hs).stage ≡ Finish
     → AreSame (start setup) hs (start setup) (match_of setup white black)
 
--- a list goes on from its front
+-- the first list is an initial part of the second
 abbrev pub IsFront : {X : Type 0} → List X → List X → Type 0
 IsFront {X} front all = (more : List X) × (all ≡ front ++ more)
 
--- what happens first in the match of these lines is what has happened, but for readings of the
--- clock
+-- what happened is an initial part of the match of these lines, apart from readings of the clock
 pub record HappensFirst (setup : FullSetup) (hs : List Happening) (white black : List Mark)
     : Type 0 where
   pub fs : List Happening
   pub front : IsFront fs (match_of setup white black)
   pub same : AreSame (start setup) hs (start setup) fs
 
--- The moves, and the lines sent to each side, are the first of those of the match of these lines,
--- and so is what has happened.
+-- The moves, the lines sent to each side and the events are initial parts of those of the match of
+-- these lines.
 pub record IsBegun (setup : FullSetup) (hs : List Happening) (white black : List Mark)
     : Type 0 where
   pub moves : IsFront (match_after setup hs).moves
@@ -111,8 +110,8 @@ pub record IsBegun (setup : FullSetup) (hs : List Happening) (white black : List
       (sent (start setup) (match_of setup white black) Black)
   pub first : HappensFirst setup hs white black
 
--- a match that took just these lines so far, with no fault and no late answer, is a front of the
--- match of these lines
+-- a match that has taken exactly these lines so far, with no fault and no late answer, is an
+-- initial part of the match of these lines
 abbrev pub MatchesBegin : Type 0
 MatchesBegin =
     (setup : FullSetup) (hs : List Happening) (white black : List Mark) (w b : ToldLines)

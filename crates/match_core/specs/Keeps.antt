@@ -1,4 +1,4 @@
--- What a referee keeps.
+-- The invariant of a referee.
 use Rattle.std.specs.Prelude.{◌≡◌, ℕ, ◌+◌, ◌%◌, unwrap_or, ◌^◌, ◌<◌, ◌≤◌, List, [], length}
 use Rattle.hive_model.specs.Courses.{Course, without_last}
 use Rattle.io_edge.specs.Lines.{greatest_line}
@@ -23,25 +23,25 @@ abbrev pub IsLevel : Level → Type 0
 IsLevel (Depth depth) = (1 ≤ depth) × (depth ≤ 64)
 IsLevel (Time budget margin) = (budget % 1000 ≡ 0) × (budget ≤ 359999000) × (margin ≤ 3600000)
 
--- a match has from 1 to 1,000 plies at most
+-- the most plies of a match are from 1 to 1,000
 pub record IsSetup (setup : Setup) : Type 0 where
   pub some : 1 ≤ setup.limit
   pub few : setup.limit ≤ 1000
   pub level : IsLevel setup.level
 
--- the same, and the moves that it begins with are a game
+-- the same, and the moves with which it begins are a game
 pub record IsFullSetup (setup : FullSetup) : Type 0 where
   pub plain : IsSetup (setup_of setup)
   pub begin : IsBegin setup
 
--- the game may go on, or is at the moves that are given, of which there may be more than the limit
+-- the game may go on, or still has only the given moves, which may be more than the limit
 abbrev pub HasNext : Task → ℕ → ℕ → ℕ → Type 0
 HasNext Greet given plies limit = plies ≤ given + limit
 HasNext Begin given plies limit = plies ≤ given + limit
 HasNext Ask given plies limit = plies < limit
 HasNext (Tell told) given plies limit = plies ≤ limit
 
--- the line of a task is ready; that to begin with is kept apart
+-- the line of a task is ready; the one that begins the game is kept apart
 abbrev pub IsReady : Task → MatchState → List ℕ → Type 0
 IsReady Greet s text = text ≡ line_for s Greet
 IsReady Begin s text = Unit {0}
@@ -60,20 +60,20 @@ FitsStage Before s text = length s.moves < s.setup.limit
 FitsStage After s text = length s.moves < s.setup.limit
 FitsStage Finished s text = Unit {0}
 
--- at least one move was made, and the keys that are kept are those of the positions before the last
+-- at least one move was made, and the kept keys are those of the positions before the last
 pub record SeesBefore (seen : Seen) (game : Course) : Type 0 where
   pub made : 1 ≤ length game.made
   pub keys : Sees seen (without_last game)
 
--- while a move is told, the key of the position that it leads to is not yet kept
+-- while a move is sent, the key of the position after it is not yet kept
 abbrev pub SeesFor : Task → Seen → Course → Type 0
 SeesFor Greet seen game = Sees seen game
 SeesFor Begin seen game = Sees seen game
 SeesFor Ask seen game = Sees seen game
 SeesFor (Tell told) seen game = SeesBefore seen game
 
--- The keys that are kept are those of all positions of the game, or of all but the last while a
--- move is told. Of a match that is over nothing is said.
+-- The kept keys are those of all positions of the game; while a move is sent, of all but the last.
+-- Nothing is said of a match that is over.
 abbrev pub SeesAt : Stage → Seen → Course → Type 0
 SeesAt (Send job side) seen game = SeesFor job seen game
 SeesAt (Read job side) seen game = SeesFor job seen game
@@ -81,14 +81,14 @@ SeesAt Before seen game = Sees seen game
 SeesAt After seen game = Sees seen game
 SeesAt Finished seen game = Unit {0}
 
--- a side is told a move
+-- a side is sent a move
 abbrev pub IsTold : Task → Type 0
 IsTold Greet = ⊥
 IsTold Begin = ⊥
 IsTold Ask = ⊥
 IsTold (Tell told) = Unit {0}
 
--- a move is being told: not every side knows it yet
+-- a move is being sent: not both sides know it yet
 abbrev pub IsTelling : Stage → Type 0
 IsTelling (Send job side) = IsTold job
 IsTelling (Read job side) = IsTold job
@@ -96,7 +96,7 @@ IsTelling Before = ⊥
 IsTelling After = ⊥
 IsTelling Finished = ⊥
 
--- a side is told no move
+-- a side is sent something other than a move
 abbrev pub IsNotTold : Task → Type 0
 IsNotTold Greet = Unit {0}
 IsNotTold Begin = Unit {0}
@@ -111,8 +111,8 @@ IsSettled Before = Unit {0}
 IsSettled After = Unit {0}
 IsSettled Finished = ⊥
 
--- The game is the one of the moves, those given among them, with room for the rest, and the rule of
--- third repetition is the setup's. The keys of the positions are kept, and the line to send is
+-- The game has the moves of the match, the given ones included, with room for the rest, and the
+-- setup's rule of third repetition. The keys of the positions are kept, and the line to send is
 -- ready.
 pub record IsReferee (s : MatchState) (game : Course) (seen : Seen) (begin text : List ℕ)
     (given room : ℕ) : Type 0 where
@@ -130,7 +130,7 @@ pub record IsReferee (s : MatchState) (game : Course) (seen : Seen) (begin text 
   pub fits : FitsStage s.stage s text
   pub has_room : most_sent ≤ room
 
--- a line is to be sent
+-- a line has to be sent
 abbrev pub IsSend : Stage → Type 0
 IsSend (Send job side) = Unit {0}
 IsSend (Read job side) = ⊥

@@ -1,4 +1,4 @@
--- How a match stands, as a fold over what has happened in it.
+-- The state of a match, as a fold over its events.
 use Rattle.std.specs.Prelude.{ℕ, ◌+◌, ◌-◌, Bool, true, false, cond, nat_lt, nat_le, List, [], ◌∷◌, ◌++◌, length, take, Option, Some, None, unwrap_or, Result, Ok, Err}
 use Rattle.hive_model.specs.declared.pieces.Colour.{Colour}
 use Rattle.hive_model.specs.declared.pieces.Colour.TheVariants.{White, Black}
@@ -28,7 +28,7 @@ use Rattle.match_core.specs.declared.stage.Event.TheVariants.{Sent as SentEvent,
 use Rattle.match_core.specs.Replies.{is_ok, is_error}
 use Rattle.match_core.specs.Texts.{read_of, begin_line, ask_line, tell_line}
 
--- what happened where an act was done
+-- what happened when an act was done
 pub data Happening : Type 0 where
   Sent : Happening
   Line : (bytes : List ℕ) → Happening
@@ -37,7 +37,7 @@ pub data Happening : Type 0 where
   Broke : Happening
   Reading : (at : ℕ) → Happening
 
--- the line counts for the event Line alone
+-- the line matters only for the event Line
 abbrev pub happening : Event → List ℕ → Happening
 happening SentEvent line = Sent
 happening LineEvent line = Line line
@@ -46,8 +46,8 @@ happening EndedEvent line = Ended
 happening BrokeEvent line = Broke
 happening (ReadingEvent at) line = Reading at
 
--- a match: the place that it has reached, the first clock reading of the current question, and of
--- the current reply the first line and the number of lines
+-- A match: its setup, its moves, its stage and its verdict. Of the current question it has the
+-- first clock reading, and of the current reply the first line and the number of lines.
 pub record MatchState : Type 0 where
   pub setup : FullSetup
   pub moves : List Move
@@ -57,7 +57,7 @@ pub record MatchState : Type 0 where
   pub count : ℕ
   pub verdict : Option Verdict
 
--- the match of this setup that stands so
+-- the match with these parts
 abbrev pub match_state :
     FullSetup → List Move → Stage → ℕ → Option (List ℕ) → ℕ → Option Verdict → MatchState
 match_state setup moves stage asked first count verdict =
@@ -71,7 +71,7 @@ match_state setup moves stage asked first count verdict =
       verdict = verdict;
     }
 
--- the position that the moves lead to
+-- the position after the moves
 abbrev pub position_now : MatchState → Position
 position_now s = replay (opening s.setup.game_type) s.moves
 
@@ -79,11 +79,11 @@ position_now s = replay (opening s.setup.game_type) s.moves
 abbrev pub position_before : MatchState → Position
 position_before s = replay (opening s.setup.game_type) (take (length s.moves - 1) s.moves)
 
--- the moves that the match begins with are made, and white's greeting is read first
+-- the moves with which the match begins are made, and white's greeting is read first
 abbrev pub start : FullSetup → MatchState
 start setup = match_state setup setup.begin (Read Greet White) 0 None 0 None
 
--- the act to come
+-- the next act
 abbrev pub act_at : Stage → Act
 act_at (Send job side) = SendAct side
 act_at (Read job side) = ReadAct side
@@ -98,7 +98,7 @@ line_for s Begin = begin_line s.setup
 line_for s Ask = ask_line s.setup.level
 line_for s (Tell told) = tell_line (position_before s) told
 
--- on to a place, where nothing was read of a reply yet
+-- goes on to a stage, with nothing read of a reply yet
 abbrev pub go : MatchState → Stage → MatchState
 go s stage = record s { stage = stage; first = None; count = 0 }
 
@@ -106,11 +106,11 @@ go s stage = record s { stage = stage; first = None; count = 0 }
 abbrev pub finish : MatchState → Verdict → MatchState
 finish s verdict = record s { stage = Finished; first = None; count = 0; verdict = Some verdict }
 
--- a side loses by this cause
+-- a side forfeits for this cause
 abbrev pub forfeit : MatchState → Colour → Cause → MatchState
 forfeit s side cause = finish s (Forfeit side cause)
 
--- the side to move is asked; with a time the clock is read first
+-- the side to move is asked; with a time, the clock is read first
 abbrev pub question : Level → Colour → Stage
 question (Depth depth) side = Send Ask side
 question (Time budget margin) side = Before
@@ -119,16 +119,16 @@ question (Time budget margin) side = Before
 unfoldable pub ask : MatchState → MatchState
 ask s = go s (question s.setup.level (position_now s).side)
 
--- a move is accepted: it is played, and then told to white and to black
+-- a move is accepted: it is played, and then sent to white and to black
 abbrev pub accept : MatchState → Move → MatchState
 accept s m =
     record s { moves = s.moves ++ m ∷ []; stage = Send (Tell m) White; first = None; count = 0 }
 
--- the first line of a reply, empty where there is none
+-- the first line of a reply; empty if there is none
 abbrev pub first_line : MatchState → List ℕ
 first_line s = unwrap_or s.first []
 
--- the side to move forfeits where its line is no move, or a move that is not legal
+-- the side to move forfeits if its line is no move, or a move that is not legal
 abbrev pub judge_read : MatchState → List ℕ → Result Move MoveFault → MatchState
 judge_read s line (Err fault) = forfeit s (position_now s).side (NotAMove line)
 judge_read s line (Ok m) =
@@ -140,8 +140,8 @@ unfoldable pub judge : MatchState → MatchState
 judge s =
     judge_read s (first_line s) (read_of s.setup.game_type (position_now s).board (first_line s))
 
--- How the game goes on or ended: by its position where that ends it; else it is drawn where the
--- match is played with the rule of third repetition and the position stands for the third time.
+-- How the game goes on or ended. Its position may end it. Otherwise it is drawn if the match is
+-- played with the rule of third repetition and the position occurs for the third time.
 abbrev pub outcome_of : MatchState → State
 outcome_of s = outcome_under s.setup.repetition s.setup.game_type s.moves
 
@@ -151,7 +151,8 @@ decide s =
     cond (is_over_state (outcome_of s)) (finish s (Rules (outcome_of s)))
     (cond (nat_le s.setup.limit (length s.moves)) (finish s Limit) (ask s))
 
--- a reply to a question has ended: where it has a time, the clock is read before it is judged
+-- a reply to a question has ended; if the side has a time, the clock is read before the reply is
+-- judged
 abbrev pub answered : MatchState → Level → MatchState
 answered s (Depth depth) = judge s
 answered s (Time budget margin) = record s { stage = After }
@@ -171,7 +172,7 @@ abbrev pub keep : MatchState → Stage → List ℕ → MatchState
 keep s stage line =
     record s { stage = stage; first = Some (unwrap_or s.first line); count = s.count + 1 }
 
--- a line of a reply ends it, tells a fault, is the 1,001st, or is kept
+-- a line of a reply ends it, reports an error, is the 1,001st, or is kept
 abbrev pub hear : MatchState → Task → Colour → List ℕ → MatchState
 hear s job side line =
     cond (is_ok line) (reply_ends s job side)
@@ -183,11 +184,11 @@ abbrev pub latest : Level → ℕ → ℕ
 latest (Depth depth) asked = asked
 latest (Time budget margin) asked = asked + budget + margin
 
--- an answer is late that comes after that moment
+-- an answer after that moment is late
 abbrev pub is_late : MatchState → ℕ → Bool
 is_late s at = nat_lt (latest s.setup.level s.asked) at
 
--- what came of sending a line
+-- the result of sending a line
 abbrev pub at_send : MatchState → Task → Colour → Happening → MatchState
 at_send s job side Sent = go s (Read job side)
 at_send s job side Broke = forfeit s side BrokeCause
@@ -196,7 +197,7 @@ at_send s job side TooLong = s
 at_send s job side Ended = s
 at_send s job side (Reading at) = s
 
--- what came of reading a line: one that is too long, an end and a fault are forfeits
+-- the result of reading a line; one that is too long, an end and a fault are forfeits
 abbrev pub at_read : MatchState → Task → Colour → Happening → MatchState
 at_read s job side (Line bytes) = hear s job side bytes
 at_read s job side TooLong = forfeit s side LongLine
@@ -205,7 +206,7 @@ at_read s job side Broke = forfeit s side BrokeCause
 at_read s job side Sent = s
 at_read s job side (Reading at) = s
 
--- the clock is read before the question
+-- the reading of the clock before a question
 abbrev pub at_before : MatchState → Happening → MatchState
 at_before s (Reading at) = record s { stage = Send Ask (position_now s).side; asked = at }
 at_before s Sent = s
@@ -214,7 +215,7 @@ at_before s TooLong = s
 at_before s Ended = s
 at_before s Broke = s
 
--- the clock is read after the reply
+-- the reading of the clock after a reply
 abbrev pub at_after : MatchState → Happening → MatchState
 at_after s (Reading at) =
     cond (is_late s at) (forfeit s (position_now s).side (Late s.asked at)) (judge s)
@@ -224,7 +225,7 @@ at_after s TooLong = s
 at_after s Ended = s
 at_after s Broke = s
 
--- what happened at a place of the match
+-- the result of an event at a stage of the match
 abbrev pub at_stage : MatchState → Stage → Happening → MatchState
 at_stage s (Send job side) h = at_send s job side h
 at_stage s (Read job side) h = at_read s job side h
@@ -232,11 +233,11 @@ at_stage s Before h = at_before s h
 at_stage s After h = at_after s h
 at_stage s Finished h = s
 
--- the match after what happened
+-- the match after an event
 unfoldable pub next : MatchState → Happening → MatchState
 next s h = at_stage s s.stage h
 
--- what happened answers the act
+-- the event answers the act
 abbrev pub answers : Act → Happening → Bool
 answers (SendAct side) Sent = true
 answers (SendAct side) Broke = true
@@ -258,11 +259,11 @@ answers Clock Ended = false
 answers Clock Broke = false
 answers Finish h = false
 
--- the match after all that happened
+-- the match after all these events
 abbrev pub after_all : MatchState → List Happening → MatchState
 after_all s [] = s
 after_all s (h ∷ hs) = after_all (next s h) hs
 
--- the match of a setup after all that happened
+-- the match of a setup after all these events
 abbrev pub match_after : FullSetup → List Happening → MatchState
 match_after setup hs = after_all (start setup) hs

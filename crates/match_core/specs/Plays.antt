@@ -25,7 +25,7 @@ is_finished Before = false
 is_finished After = false
 is_finished Finished = true
 
--- at most so many events are left, where d more moves may be made and c lines of the reply were
+-- at most this number of events is left, if d more moves may be made and c lines of the reply were
 -- read
 abbrev pub left_at : Stage → ℕ → ℕ → ℕ
 left_at (Read Greet White) d c = 8008 * d + 9009 - c
@@ -45,11 +45,11 @@ left_at (Send (Tell m) Black) d c = 8008 * d + 5005
 left_at (Read (Tell m) Black) d c = 8008 * d + 4004 - c
 left_at Finished d c = 0
 
--- at most so many events are left
+-- at most this number of events is left
 unfoldable pub left : MatchState → ℕ
 left s = left_at s.stage (s.setup.limit - length s.moves) s.count
 
--- the side's next line or mark, or else the end
+-- the side's next line or mark, or the end if there is none
 abbrev pub given : List Mark → Happening
 given [] = Ended
 given (Text bytes ∷ marks) = Line bytes
@@ -60,7 +60,7 @@ abbrev pub others : List Mark → List Mark
 others [] = []
 others (mark ∷ marks) = marks
 
--- what answers the act, where the sides' lines are these and every question is answered in time
+-- what answers the act, if the sides have these lines and every question is answered in time
 abbrev pub reply_to : Stage → ℕ → List Mark → List Mark → Happening
 reply_to (Send job side) asked white black = Sent
 reply_to (Read job White) asked white black = given white
@@ -78,7 +78,7 @@ left_of_white Before white = white
 left_of_white After white = white
 left_of_white Finished white = white
 
--- the same of black
+-- the same for black
 abbrev pub left_of_black : Stage → List Mark → List Mark
 left_of_black (Send job side) black = black
 left_of_black (Read job White) black = black
@@ -87,7 +87,7 @@ left_of_black Before black = black
 left_of_black After black = black
 left_of_black Finished black = black
 
--- what happens from here on, in at most n events, where the sides' lines are these
+-- what happens from here on, in at most n events, if the sides have these lines
 unfoldable pub happens : ℕ → MatchState → List Mark → List Mark → List Happening
 happens zero s white black = []
 happens (suc n) s white black =
@@ -96,7 +96,7 @@ happens (suc n) s white black =
     ∷ happens n (next s (reply_to s.stage s.asked white black)) (left_of_white s.stage white)
     (left_of_black s.stage black))
 
--- all that happens in the match of two sides whose lines are these
+-- all events of the match of two sides with these lines
 abbrev pub match_of : FullSetup → List Mark → List Mark → List Happening
 match_of setup white black = happens (left (start setup)) (start setup) white black
 
@@ -105,7 +105,7 @@ abbrev pub joined : List (List ℕ) → List ℕ
 joined [] = []
 joined (line ∷ lines) = line ++ joined lines
 
--- may a match that begins with so many moves be at this place, after so many moves
+-- whether a match that begins with `given` moves may be at this stage after `plies` moves
 abbrev pub IsPliesAt : Stage → ℕ → ℕ → ℕ → Type 0
 IsPliesAt (Send job side) given plies limit = HasNext job given plies limit
 IsPliesAt (Read job side) given plies limit = HasNext job given plies limit
@@ -113,8 +113,8 @@ IsPliesAt Before given plies limit = plies < limit
 IsPliesAt After given plies limit = plies < limit
 IsPliesAt Finished given plies limit = Unit {0}
 
--- a match at its place: it has no more moves and lines than it may have, and is over exactly where
--- it has a verdict
+-- a match at its stage: its moves and lines are within the limits, and it is over if and only if it
+-- has a verdict
 pub record IsBounded (s : MatchState) : Type 0 where
   pub plies : IsPliesAt s.stage (length s.setup.begin) (length s.moves) s.setup.limit
   pub count : s.count ≤ 1000
@@ -126,14 +126,14 @@ MatchesNearTheirEnd =
     (s : MatchState) (h : Happening) → IsBounded s → IsTrue (answers (act_at s.stage) h)
     → IsBounded (next s h) × (left (next s h) < left s)
 
--- the match of two sides is one to its end: what happens in it answers the acts, and is not cut
--- before there is a verdict
+-- The match of two sides runs to its end. Its events answer the acts, and are not cut before there
+-- is a verdict.
 abbrev pub MatchesEnd : Type 0
 MatchesEnd = (setup : FullSetup) (white black : List Mark) → IsFullSetup setup
     → Answering (start setup) (match_of setup white black)
     × (act_at (match_after setup (match_of setup white black)).stage ≡ Finish)
 
--- a match is over exactly where it has a verdict
+-- a match is over if and only if it has a verdict
 abbrev pub MatchesAreJudged : Type 0
 MatchesAreJudged =
     (setup : FullSetup) (hs : List Happening) → IsFullSetup setup → Answering (start setup) hs

@@ -1,4 +1,4 @@
--- What a match is played by, and the moves that it begins with.
+-- The setup of a match, and the moves with which it begins.
 use Rattle.std.specs.Prelude.{ℕ, ◌≤◌, Bool, List, [], length}
 use Rattle.hive_model.specs.declared.pieces.GameType.{GameType}
 use Rattle.hive_model.specs.declared.places.Move.{Move}
@@ -7,8 +7,7 @@ use Rattle.hive_model.specs.Courses.{most_plies}
 use Rattle.match_core.specs.declared.setup.Setup.{Setup}
 use Rattle.match_core.specs.declared.setup.Level.{Level}
 
--- a setup, and the moves of the game that the match begins with: none where it begins with the
--- opening
+-- a setup, and the moves of the game with which the match begins: none for the opening
 pub record FullSetup : Type 0 where
   pub game_type : GameType
   pub level : Level
@@ -16,7 +15,7 @@ pub record FullSetup : Type 0 where
   pub repetition : Bool
   pub begin : List Move
 
--- this setup, from the game of these moves on
+-- this setup, from the game with these moves
 abbrev pub setup_from : Setup → List Move → FullSetup
 setup_from setup begin = record {
   game_type = setup.game_type;
@@ -26,7 +25,7 @@ setup_from setup begin = record {
   begin = begin;
 }
 
--- this setup, from the opening on
+-- this setup, from the opening
 abbrev pub setup_plain : Setup → FullSetup
 setup_plain setup = setup_from setup []
 
@@ -39,8 +38,8 @@ setup_of full = record {
   repetition = full.repetition;
 }
 
--- The moves that the match begins with are a game, of no more plies than there is room for in a
--- game. There may be more of them than the limit: then the match ends at its limit at once.
+-- The moves with which the match begins are a game of no more plies than a game has room for. There
+-- may be more of them than the limit; then the match ends at its limit at once.
 pub record IsBegin (full : FullSetup) : Type 0 where
   pub game : IsGame full.game_type full.begin
   pub few : length full.begin ≤ most_plies

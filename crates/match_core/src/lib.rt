@@ -1,4 +1,5 @@
-//! The referee: what is to be done next in a match of two engines, and what came of it.
+//! The referee: what has to be done next in a match of two engines, and how each event changes the
+//! match.
 #![tactic(auto)]
 
 mod laws;

@@ -8,7 +8,7 @@ use std::alloc::{AllocError, Global};
 ///
 /// # Errors
 ///
-/// Want of memory.
+/// Out of memory.
 pub fn copy_line(alloc: Global, bytes: &[u8]) -> Result<LineText, AllocError>
     ensures { IfOk result (λ t. t ≡ bytes.now) }
 {

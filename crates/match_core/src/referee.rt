@@ -33,21 +33,21 @@ use hive_model::{Colour, Game, LineText, ReplyText};
 use std::alloc::{AllocError, Global};
 use std::marker::Model;
 
-/// A match that is under way, as it stands after what has happened in it.
+/// A match under way.
 ///
-/// Each engine greets first, white before black, and is then told the game to begin: a new one, or
-/// one under way. The side to move is asked for its best move; the first line of its reply is
-/// judged, and a legal move is played and told to white and then to black. The match ends by the
-/// rules, at its limit of plies, or by a forfeit. Where the setup says so, a position that stands
-/// for the third time draws the game.
+/// Each engine greets first, white before black. Then each is sent a line that begins the game: a
+/// new one, or one under way. The side to move is asked for its best move, and the first line of
+/// its reply is judged. A legal move is played, and sent to white and then to black. The match ends
+/// by the rules, at its limit of plies, or by a forfeit. If the setup says so, a position that
+/// occurs for the third time draws the game.
 #[derive(Drop)]
 pub struct Referee<G: Game> {
     alloc: Global,
     setup: Setup,
     game: G,
-    /// So many of the game's moves were made before the match.
+    /// The number of the game's moves that were made before the match.
     given: u32,
-    /// The line that tells a side the game to begin.
+    /// The line that begins the game for a side.
     begin: ReplyText,
     seen: Seen,
     stage: Stage,
@@ -76,8 +76,8 @@ impl<G: Game> Model for Referee<G> {
 }
 
 impl<G: Game + Drop> Referee<G> {
-    /// The referee of a match that begins with the opening. It makes room for the whole match, and
-    /// answers `AllocError` where there is none.
+    /// The referee of a match that begins with the opening. It reserves room for the whole match,
+    /// and answers `AllocError` if there is none.
     pub fn new(alloc: Global, setup: Setup) -> Result<Referee<G>, AllocError>
         requires { IsSetup setup }
         ensures { IfOk result (λ r. r ≡ start (setup_plain setup)) }
@@ -86,11 +86,11 @@ impl<G: Game + Drop> Referee<G> {
         Referee::from_game(alloc, setup, game)
     }
 
-    /// The referee of a match that begins with a game under way, of the type of the setup. Its
-    /// moves are given, and the match goes on from the position that they lead to. Where the game
-    /// is over, or has as many plies as the limit or more, the match ends as soon as both sides
-    /// were told to begin. Room is made for the whole match; where there is none the answer is
-    /// `AllocError`.
+    /// The referee of a match that begins with a game under way, of the type of the setup. The
+    /// moves of that game are given, and the match goes on from the position at its end. If the
+    /// game is over or has reached the limit of plies, the match ends as soon as both sides were
+    /// sent the game. It reserves room for the whole match, and answers `AllocError` if there is
+    /// none.
     pub fn from_game(alloc: Global, setup: Setup, game: G) -> Result<Referee<G>, AllocError>
         requires setup { IsSetup setup }
         requires kind { (G.course game).game_type ≡ setup.game_type }
@@ -105,7 +105,7 @@ impl<G: Game + Drop> Referee<G> {
         Referee::with_room(alloc, setup, game, text)
     }
 
-    /// The same of a game that has room for the whole match, with a text that has room for a line.
+    /// The same for a game that has room for the whole match, with a text that has room for a line.
     fn with_room(
         alloc: Global,
         setup: Setup,
@@ -125,7 +125,7 @@ impl<G: Game + Drop> Referee<G> {
         Ok(Referee::begun(alloc, setup, game, begin, seen, text))
     }
 
-    /// The same with all that a referee keeps: it reads white's greeting first.
+    /// The same with everything that a referee keeps. It reads white's greeting first.
     fn begun(
         alloc: Global,
         setup: Setup,
@@ -164,7 +164,7 @@ impl<G: Game + Drop> Referee<G> {
         }
     }
 
-    /// The act that is to be done now.
+    /// The act that has to be done now.
     pub fn next(&self) -> Act
         ensures { result ≡ act_at self.now.stage }
     {
@@ -179,7 +179,7 @@ impl<G: Game + Drop> Referee<G> {
 }
 
 impl<G: Game + Drop> Referee<G> {
-    /// The line that is to be sent now, its LF included.
+    /// The line that has to be sent now, with its LF.
     pub fn text(&self) -> &[u8]
         requires { IsSend self.now.stage }
         ensures { result.now ≡ line_at self.now self.now.stage }
@@ -193,7 +193,7 @@ impl<G: Game + Drop> Referee<G> {
         }
     }
 
-    /// The verdict: none until the match is over.
+    /// The verdict, or `None` until the match is over.
     pub fn verdict(&self) -> Option<&Verdict>
         ensures { MatchOption result (self.now.verdict ≡ None)
             (λ v. self.now.verdict ≡ Some v.now) }
@@ -211,14 +211,14 @@ impl<G: Game + Drop> Referee<G> {
 }
 
 impl<G: Game + Drop> Referee<G> {
-    /// Moves on by one event, which answers the act that was to be done. The line counts for the
-    /// event `Line` alone; it has at most 65,536 bytes. A reading of the clock is below 2 to the
+    /// Moves on by one event, which answers the act that had to be done. The line matters only for
+    /// the event `Line`; it has at most 65,536 bytes. A reading of the clock is below 2 to the
     /// power 62.
     ///
     /// # Errors
     ///
-    /// Only a line can want memory, for a copy or the key of a position that is kept. Then the
-    /// match stands as before.
+    /// Only a line can run out of memory, for a copy or for the key of a position that is kept.
+    /// Then the match is as before.
     #[tactic(auto, unfolding(crate::specs::MatchState::next))]
     pub fn step(&mut self, event: Event, line: &[u8]) -> Result<(), AllocError>
         requires answers { IsTrue (answers (act_at self.old.stage) (happening event line.now)) }

@@ -1,20 +1,20 @@
-//! The place that a match has reached, what is to be done there, and what can happen.
+//! The stages of a match, the acts that they call for, and the events that can happen.
 use hive_model::{Colour, Move};
 
-/// What is to be done.
+/// What has to be done.
 #[derive(Clone, Copy, Debug, PartialEq, Eq)]
 pub enum Act {
-    /// The line is to be sent to this side.
+    /// Send the line to this side.
     Send { side: Colour },
-    /// A line of this side is to be read.
+    /// Read a line of this side.
     Read { side: Colour },
-    /// The clock is to be read.
+    /// Read the clock.
     Clock,
     /// Nothing: the match is over.
     Finish,
 }
 
-/// What came of an act.
+/// The result of an act.
 #[derive(Clone, Copy, Debug, PartialEq, Eq)]
 pub enum Event {
     /// The line was sent whole.
@@ -27,11 +27,11 @@ pub enum Event {
     Ended,
     /// A read or a write failed.
     Broke,
-    /// The clock said this, in milliseconds.
+    /// The clock read this, in milliseconds.
     Reading { at: u64 },
 }
 
-/// What an engine is told or asked; a greeting comes unasked.
+/// What an engine is sent; a greeting comes unasked.
 #[derive(Clone, Copy, Debug, PartialEq, Eq)]
 pub enum Task {
     Greet,
@@ -40,16 +40,16 @@ pub enum Task {
     Tell { told: Move },
 }
 
-/// The place that a match has reached.
+/// The stage that a match has reached.
 #[derive(Clone, Copy, Debug, PartialEq, Eq)]
 pub enum Stage {
-    /// The line of a task is to be sent to a side.
+    /// The line of a task has to be sent to a side.
     Send { task: Task, side: Colour },
-    /// The reply of a side is to be read.
+    /// The reply of a side has to be read.
     Read { task: Task, side: Colour },
-    /// The clock is to be read before a question.
+    /// The clock has to be read before a question.
     Before,
-    /// The clock is to be read after the reply.
+    /// The clock has to be read after the reply.
     After,
     Finished,
 }

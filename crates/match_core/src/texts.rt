@@ -1,4 +1,4 @@
-//! The lines that are sent, and the move of a line.
+//! The lines that are sent, and the move that a line denotes.
 ghost use Rattle.std.specs.Prelude.{◌≡◌, ◌+◌, ◌≤◌, ◌++◌, length, vec_len, vec_capacity, IfOk};
 ghost use Rattle.std.specs.Prelude.{OnOk};
 ghost use Rattle.hive_model.specs.Courses.{position};
@@ -28,7 +28,7 @@ pub(crate) fn read_line<G: Game>(game: &G, line: &[u8]) -> Result<Move, MoveFaul
     read_move(game.game_type(), game, line)
 }
 
-/// Appends bytes that there is room for.
+/// Appends bytes; there is room for them.
 fn put(text: &mut Vec<u8>, bytes: &[u8])
     requires short { vec_len text.old + length bytes.now ≤ most_sent }
     requires room { most_sent ≤ vec_capacity text.old }
@@ -39,7 +39,7 @@ fn put(text: &mut Vec<u8>, bytes: &[u8])
     let _ = text.extend_from_slice(bytes);
 }
 
-/// Appends the game that is asked for: its type alone where it is the opening, else its string.
+/// Appends the game to begin with: only its type if it is the opening, otherwise its string.
 fn push_game<G: Game + Drop>(
     alloc: Global,
     setup: Setup,
@@ -57,7 +57,7 @@ fn push_game<G: Game + Drop>(
     }
 }
 
-/// The line that asks for a game, from which a match of this setup is played.
+/// The line that asks an engine to begin a match of this setup with this game.
 #[tactic(auto, unfolding(crate::specs::Texts::begin_line))]
 pub(crate) fn begin_line<G: Game + Drop>(
     alloc: Global,
@@ -97,7 +97,7 @@ pub(crate) fn write_ask(text: &mut Vec<u8>, level: Level)
     }
 }
 
-/// The line that tells a legal move, before it is made.
+/// The line that sends a legal move, before it is made.
 #[tactic(auto, unfolding(crate::specs::Texts::tell_line))]
 pub(crate) fn write_tell<G: Game>(text: &mut Vec<u8>, game: &G, m: Move)
     requires legal { IsOn (moves (position (G.course game.now))) m }

@@ -4,24 +4,25 @@ use hive_model::{Colour, LineText, State};
 /// Why a side forfeits.
 #[derive(Drop)]
 pub enum Cause {
-    /// The first line of its reply is no move of its position; it is empty where there was no line
-    /// before `ok`.
+    /// The first line of its reply is no move in its position. It is empty if no line came before
+    /// `ok`.
     NotAMove { line: LineText },
     /// The first line of its reply is a move that is not legal.
     Illegal { line: LineText },
-    /// It told a fault: a line that is `err` or `invalidmove`, or begins with one of them and a
-    /// space.
+    /// It reported an error: a line that is `err` or `invalidmove`, or begins with one of them and
+    /// a space.
     ErrLine { line: LineText },
-    /// It gave so many lines in one reply and none of them was `ok`: 1,001, which is one too many.
+    /// It sent this number of lines in one reply, and none of them was `ok`. The number is 1,001,
+    /// which is one too many.
     Flood { lines: u32 },
-    /// It gave a line of more than 65,536 bytes.
+    /// It sent a line of more than 65,536 bytes.
     LongLine,
     /// Its output ended within a reply.
     Ended,
     /// A read or a write failed.
     Broke,
-    /// It was asked at one reading of the clock and had answered only at the other, which is too
-    /// late.
+    /// It was asked at the first reading of the clock, and its answer had come only at the second,
+    /// which is too late.
     Late { asked: u64, answered: u64 },
 }
 
@@ -32,6 +33,6 @@ pub enum Verdict {
     Rules { state: State },
     /// The game has as many plies as it may have.
     Limit,
-    /// A side loses for this cause.
+    /// A side forfeits for this cause.
     Forfeit { side: Colour, cause: Cause },
 }

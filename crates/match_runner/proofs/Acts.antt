@@ -1,4 +1,4 @@
--- What an act that is done comes to.
+-- The result of an act that is done.
 use Rattle.std.proofs.Common.{◌≡◌, ℕ, [], refl, ap, sym, arith, None, Some}
 use Rattle.std.proofs.lemmas.List.{append-nil}
 use Rattle.io_edge.specs.Outside.{Told, behind, HasCause}

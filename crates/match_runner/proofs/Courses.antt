@@ -1,4 +1,4 @@
--- What happened in a match that was run, and up to which reply where an answer was late.
+-- What happened in a match that was run, and up to which reply if an answer was late.
 use Rattle.std.specs.declared.option.Option.{Option}
 use Rattle.std.proofs.Common.{◌≡◌, inl, inr, ℕ, List, [], ◌∷◌, ◌++◌, refl, ap, sym, ◌∙◌, None, Some, IsTrue, subst}
 use Rattle.std.proofs.lemmas.List.{append-nil}
@@ -80,17 +80,17 @@ readings_of (Some (Forfeit side (Late asked answered))) late = record { side = s
 quiet : (v : Option Verdict) → IsQuiet v → IsLate v → ⊥
 quiet v q late = let r = readings_of v late in q r.side r.asked r.answered r.is
 
--- a front of what happened is no fault
+-- an initial part of what happened is no fault
 sound_front : (fs gs : List Happening) → AreSound (fs ++ gs) → AreSound fs
 sound_front [] gs v = tt
 sound_front (f ∷ fs) gs (v, w) = (v, sound_front fs gs w)
 
--- and took a front of the lines
+-- and took an initial part of the lines
 feeds_front : (fs gs : List Happening) (s : MatchState) (to : Colour) (o n : ToldLines) → Feeds s (fs ++ gs) to o n → (m : ToldLines) × Feeds s fs to o m × Feeds (after_all s fs) gs to m n
 feeds_front [] gs s to o n f = (o, refl, f)
 feeds_front (h ∷ fs) gs s to o n (mid, e, f) = let (m, g, k) = feeds_front fs gs (next s h) to mid n f in (m, (mid, e, g), k)
 
--- nothing is sent by a reading behind a reply
+-- a reading after a reply sends nothing
 none_sent : (s : MatchState) (stage : Stage) (at : ℕ) (to : Colour) → stage ≡ After → sent_at s stage (Reading at) to ++ [] ≡ []
 none_sent s stage at to e = rw e refl
 

@@ -8,7 +8,7 @@ use Rattle.match_runner.specs.Wires.{Watch}
 use Rattle.match_runner.specs.Turns.{Side}
 use Rattle.match_runner.specs.Runs.{Whole, Cut, Ran}
 
--- what holds where a run ends by itself, and where it is cut by either side, holds of each run
+-- what holds if a run ends by itself, and if either side cuts it, holds of each run
 pub by_end : (setup : FullSetup) (t : MatchState) (w0 w b0 b : Side) (r0 r : Watch) {white_rose black_rose : Type 0} (P : Type 0) → Ran setup t w0 w b0 b r0 r white_rose black_rose
     → (Whole setup t w0 w b0 b r0 r → P) → ((side : Colour) → Cut side setup t w0 w b0 b r0 r → P) → P
 by_end setup t w0 w b0 b r0 r P ran whole cut = elim ran.ended [

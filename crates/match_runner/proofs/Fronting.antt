@@ -82,7 +82,7 @@ late_sends (Read job side) s h l to hs x e a = absurd l
 late_sends Before s h l to hs x e a = absurd l
 late_sends FinishedStage s h l to hs x e a = absurd l
 
--- the front of the events that is in time
+-- the initial part of the events that is in time
 record InFront (s : MatchState) (hs : List Happening) (o p : ToldLines) : Type 0 where
   fs : List Happening
   w : ToldLines
@@ -147,7 +147,7 @@ part_front n xs ys all (more, e) = (drop n ys ++ more, e ∙ (ap (λ z. (xs ++ z
 none_front : (n : ℕ) (xs all : List ℕ) (y : List (List ℕ)) → y ≡ [] → IsFront xs all → IsFront (xs ++ take n (joined y)) all
 none_front n xs all y e f = rw e (part_front n xs [] all (subst (λ z. IsFront z all) (sym (append-nil xs)) f))
 
--- the line that was to be sent goes on the front
+-- the line that had to be sent is added to that initial part
 sends_on : (stage : Stage) (side to : Colour) (o : ToldLines) → act_at stage ≡ SendAct side → FeedsAt stage Sent to o o
 sends_on (Send job at) side to o e = refl
 sends_on (Read job at) side to o e = absurd (cc)
@@ -162,7 +162,7 @@ read_nothing Before s side to e = refl
 read_nothing After s side to e = refl
 read_nothing FinishedStage s side to e = refl
 
--- both sides, where the line of this act is taken in part
+-- both sides, if the line of this act is taken in part
 record CutFronts (setup : FullSetup) (hs : List Happening) (white black : List Mark) : Type 0 where
   to_white : (n : ℕ) → IsFront (joined (sent (start setup) hs White) ++ take n (joined (sent_at (match_after setup hs) (match_after setup hs).stage Sent White))) (joined (sent (start setup) (match_of setup white black) White))
   to_black : (n : ℕ) → IsFront (joined (sent (start setup) hs Black) ++ take n (joined (sent_at (match_after setup hs) (match_after setup hs).stage Sent Black))) (joined (sent (start setup) (match_of setup white black) Black))

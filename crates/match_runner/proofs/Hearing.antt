@@ -24,7 +24,7 @@ not_long bytes e = absurd (cc)
 pub not_ended : {P : Type 0} → Ended ≡ TooLong → P
 not_ended e = absurd (cc)
 
--- an event behind which nothing more is read of a side
+-- an event after which nothing more is read of a side
 abbrev IsClosing : Happening → Type 0
 IsClosing TooLong = Unit {0}
 IsClosing Ended = Unit {0}

@@ -53,7 +53,7 @@ AskedIn Before level asked c0 c = Unit {0}
 AskedIn After level asked c0 c = InIt asked c0 c
 AskedIn Finished level asked c0 c = Unit {0}
 
--- the kept readings of a match, where the clock's last reading was c0 at the beginning and is c
+-- the readings of a match, if the clock's last reading was c0 at the start and is c now
 record Fine (t : MatchState) (c0 c : ℕ) : Type 0 where
   late : LateIn t.verdict c0 c
   asked : AskedIn t.stage t.setup.level t.asked c0 c

@@ -146,7 +146,7 @@ extra_most Before = omega arith
 extra_most After = omega arith
 extra_most Finished = omega arith
 
--- the clock is not read for the moves that the match begins with
+-- the clock is not read for the moves with which the match begins
 pub looks_bound : (setup : FullSetup) (hs : List Happening) → Answering (start setup) hs → 2 * length setup.begin + looks (start setup) hs ≤ 2 * length (match_after setup hs).moves + 2
 looks_bound setup hs t = let r = reads_all hs (start setup) (2 * length setup.begin) (omega arith) t in let e = extra_most (match_after setup hs).stage in omega (arith, r, e)
 

@@ -52,7 +52,7 @@ ran_over setup t w0 w b0 b r0 r is final = record {
   readings = read_final setup t w0 w b0 b r0 r final;
 }
 
--- an act behind which the run is over
+-- an act after which the run is over
 abbrev pub IsLast : Acted → Type 0
 IsLast GoOn = ⊥
 IsLast Finished = Unit {0}
@@ -84,7 +84,7 @@ last_act Finished setup s t w0 w2 b0 b2 x0 x x2 y0 y y2 r0 r r2 over run turned 
 last_act (ReadFault side) setup s t w0 w2 b0 b2 x0 x x2 y0 y y2 r0 r r2 over run turned c rises = cut_at side setup s t x0 x x2 y0 y y2 r0 r r2 _ _ run (inr turned.0) turned.1 turned.2 c (λ e. inl (rises.white_reads (ap ReadFault e))) (λ e. inl (rises.black_reads (ap ReadFault e)))
 last_act (WriteFault side) setup s t w0 w2 b0 b2 x0 x x2 y0 y y2 r0 r r2 over run turned c rises = cut_at side setup s t x0 x x2 y0 y y2 r0 r r2 _ _ run (inl turned.0) turned.1 turned.2 c (λ e. inr (rises.white_writes (ap WriteFault e))) (λ e. inr (rises.black_writes (ap WriteFault e)))
 
--- the run is over behind this act
+-- the run is over after this act
 pub ends_over : (turn : Acted) (setup : FullSetup) (s t : MatchState) (w_reader b_reader : Reader) (w0 w2 b0 b2 : Wire) (w b : Side) (r0 r r2 : Watch) → IsFullSetup setup → IsLast turn
     → Run setup s (side_of fresh w0.rest w0.written) w (side_of fresh b0.rest b0.written) b r0 r
     → Turns turn s t w (side_of w_reader w2.rest w2.written) b (side_of b_reader b2.rest b2.written) r.last r2.last → LeavesClock s.stage r r2

@@ -126,7 +126,7 @@ no_look stage act e f = ap (λ (a : Act). if is_clock a then 1 else 0) e ∙ ap 
 pub rose_from : (a b c : ℕ) → a ≤ b → Rose b c → Rose a c
 rose_from a b c h r = record { higher = elim r.higher [ inl x ↦ inl (omega (arith, h, x)) | inr y ↦ inr y ]; below = r.below }
 
--- what a side that breaks was to do
+-- what a side that breaks had to do
 abbrev pub WasToDo : Colour → Stage → Type 0
 WasToDo side stage = (act_at stage ≡ SendAct side) ⊎ (act_at stage ≡ ReadAct side)
 

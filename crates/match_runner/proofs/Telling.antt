@@ -23,7 +23,7 @@ use Rattle.match_core.proofs.Follows.{next_is}
 use Rattle.match_runner.proofs.Progress.{takes_lines}
 use Rattle.match_core.proofs.Fronts.{matches_are_of_their_lines}
 
--- the lines that a side will say, where its link tells its bytes
+-- the lines that a side will say, if the bytes of its link are observable
 pub feeds_from : (setup : FullSetup) (hs : List Happening) (to : Colour) (rest written : Told) (now : Side) (bytes : List ℕ) → rest ≡ Some bytes → Served (start setup) hs to (side_of fresh rest written) now → Feeds (start setup) hs to (Some (lines bytes)) now.ahead
 feeds_from setup hs to rest written now bytes e served = subst (λ x. Feeds (start setup) hs to x now.ahead) (ap (ahead_of fresh) e ∙ ahead_begin fresh (Some bytes) refl) (takes_lines hs (start setup) to _ now.ahead served.feeds)
 
@@ -53,7 +53,7 @@ pub in_time : (hs : List Happening) (s : MatchState) → Answering s hs → AreS
 in_time [] s a v f = tt
 in_time (h ∷ hs) s (t, u) (v, w) f = (in_time_at s.stage s (next s h) h hs (next_is s h) u v f, in_time hs (next s h) u w f)
 
--- a match that ended by itself, where both links tell their bytes
+-- a match that ended by itself, if the bytes of both links are observable
 pub whole_told : (setup : FullSetup) (t : MatchState) (w0 w b0 b : Wire) (w_now b_now : Side) (r0 r : Watch) (white black : List ℕ) → IsFullSetup setup → w0.rest ≡ Some white → b0.rest ≡ Some black → ¬ IsLate t.verdict
     → w_now.written ≡ w.written → b_now.written ≡ b.written → Whole setup t (side_of fresh w0.rest w0.written) w_now (side_of fresh b0.rest b0.written) b_now r0 r
     → IsMatch setup (lines white) (lines black) t w0.written w.written b0.written b.written

@@ -1,4 +1,4 @@
--- What a whole run has done.
+-- The effects of a whole run.
 use Rattle.std.specs.Prelude.{◌≡◌, ◌⊎◌, ℕ, ◌+◌, ◌-◌, ◌*◌, ◌≤◌, true, false, List, [], ◌∷◌, length, Option, Some, None}
 use Rattle.io_edge.specs.Outside.{Told, behind}
 use Rattle.hive_model.specs.declared.pieces.Colour.{Colour}
@@ -29,28 +29,28 @@ abbrev pub looks : MatchState → List Happening → ℕ
 looks s [] = 0
 looks s (h ∷ hs) = looks_at s.stage + looks (next s h) hs
 
--- the readings among the events are those of a clock: none is before the one before it, nor the
--- first before the clock's last reading at the beginning, and the latest of them is the clock's
--- last reading now
+-- The readings among the events are those of a clock. None is before the one preceding it, and the
+-- first is not before the clock's last reading at the start. The latest of them is the clock's last
+-- reading now.
 abbrev pub KeepTime : ℕ → List Happening → ℕ → Type 0
 KeepTime before [] now = now ≡ before
 KeepTime before (h ∷ hs) now = (mid : ℕ) × KeepsAt h before mid × KeepTime mid hs now
 
--- all that happened took just these lines of a side, and one that is too long was judged and not
--- passed over: it is still the first of the lines to come
+-- All these events took exactly these lines of a side. A line that is too long was judged and not
+-- passed over: it is still the first of the lines to come.
 abbrev pub JudgesAtOnce : MatchState → List Happening → Colour → ToldLines → ToldLines → Type 0
 JudgesAtOnce s [] to old new = new ≡ old
 JudgesAtOnce s (h ∷ hs) to old new =
     (mid : ToldLines) × FeedsAt s.stage h to old mid × (h ≡ TooLong → mid ≡ old)
     × JudgesAtOnce (next s h) hs to mid new
 
--- what the events did at a side
+-- the effects of the events at a side
 pub record Served (s : MatchState) (hs : List Happening) (to : Colour) (old new : Side)
     : Type 0 where
   pub feeds : JudgesAtOnce s hs to old.ahead new.ahead
   pub wrote : new.written ≡ behind old.written (joined (sent s hs to))
 
--- the match has come to this by these events
+-- these events brought the match to this state
 pub record Runs (setup : FullSetup) (s : MatchState) (w0 w b0 b : Side) (r0 r : Watch)
     (hs : List Happening) : Type 0 where
   pub here : s ≡ match_after setup hs
@@ -62,7 +62,7 @@ pub record Runs (setup : FullSetup) (s : MatchState) (w0 w b0 b : Side) (r0 r : 
   pub time : KeepTime r0.last hs r.last
   pub bounded : IsBounded s
 
--- some events have brought the match to this
+-- some events brought the match to this state
 abbrev pub Run : FullSetup → MatchState → Side → Side → Side → Side → Watch → Watch → Type 0
 Run setup s w0 w b0 b r0 r = (hs : List Happening) × Runs setup s w0 w b0 b r0 r hs
 
@@ -70,7 +70,7 @@ Run setup s w0 w b0 b r0 r = (hs : List Happening) × Runs setup s w0 w b0 b r0 
 abbrev pub Whole : FullSetup → MatchState → Side → Side → Side → Side → Watch → Watch → Type 0
 Whole setup t w0 w b0 b r0 r = Run setup t w0 w b0 b r0 r × (act_at t.stage ≡ Finish)
 
--- it was ended by a fault of this side
+-- a fault of this side ended it
 abbrev pub Cut : Colour → FullSetup → MatchState → Side → Side → Side → Side → Watch → Watch
     → Type 0
 Cut side setup t w0 w b0 b r0 r =
@@ -78,16 +78,16 @@ Cut side setup t w0 w b0 b r0 r =
     × Breaks s t w1 w b1 b
     × ((act_at s.stage ≡ SendAct side) ⊎ (act_at s.stage ≡ ReadAct side))
 
--- where a side breaks, one of its counts rose (or stands at its greatest value)
+-- if a side breaks, one of its counts rose (or is at its greatest value)
 pub record Ran (setup : FullSetup) (t : MatchState) (w0 w b0 b : Side) (r0 r : Watch)
     (white_rose black_rose : Type 0) : Type 0 where
   pub ended : (Whole setup t w0 w b0 b r0 r)
       ⊎ ((Cut White setup t w0 w b0 b r0 r × white_rose)
       ⊎ (Cut Black setup t w0 w b0 b r0 r × black_rose))
 
--- The run of a match over two links that stood so before it and stand so behind it. The lines to
--- come of each side are those of what its reader holds, the front of one line and at most one
--- piece, and of what the link has left.
+-- The run of a match over two links, with their state before and after it. The reader of each side
+-- holds the front of one line and at most one piece. The lines to come are in what it holds and in
+-- what the link has left.
 pub record FinalRun
     (setup : FullSetup) (t : MatchState) (w0 w b0 b : Wire) (r0 r : Watch) : Type 0 where
   pub white_reader : Reader
@@ -113,7 +113,7 @@ IsLate (Some (Forfeit side EndedCause)) = ⊥
 IsLate (Some (Forfeit side BrokeCause)) = ⊥
 IsLate (Some (Forfeit side (Late asked answered))) = Unit {0}
 
--- moves, verdict and the bytes sent are those of the match of these lines
+-- moves, verdict and bytes sent are those of the match of these lines
 pub record IsMatch
     (setup : FullSetup) (white black : List Mark) (t : MatchState) (w0 w b0 b : Told) : Type 0 where
   pub moves : t.moves ≡ (match_after setup (match_of setup white black)).moves
@@ -121,7 +121,8 @@ pub record IsMatch
   pub to_white : w ≡ behind w0 (joined (sent (start setup) (match_of setup white black) White))
   pub to_black : b ≡ behind b0 (joined (sent (start setup) (match_of setup white black) Black))
 
--- where both links tell their bytes, no call failed and no answer was late
+-- If both links are observable, no call failed and no answer was late, then moves, verdict and
+-- bytes sent are those of the match of their lines.
 abbrev pub ToldRun : FullSetup → MatchState → Wire → Wire → Wire → Wire → Type 0
 ToldRun setup t w0 w b0 b =
     (white black : List ℕ)
@@ -132,7 +133,7 @@ ToldRun setup t w0 w b0 b =
     → ¬ IsLate t.verdict
     → IsMatch setup (lines white) (lines black) t w0.written w.written b0.written b.written
 
--- a side is said to have broken only where a call of its link failed
+-- a side has broken only if a call of its link failed
 pub record BrokeOnly (t : MatchState) (w0 w b0 b : Wire) : Type 0 where
   pub white : t.verdict ≡ Some (Forfeit White BrokeCause) → HasFailed w0 w
   pub black : t.verdict ≡ Some (Forfeit Black BrokeCause) → HasFailed b0 b
@@ -141,8 +142,8 @@ pub record BrokeOnly (t : MatchState) (w0 w b0 b : Wire) : Type 0 where
 abbrev pub IsJudged : MatchState → Type 0
 IsJudged t = has_verdict t.verdict ≡ true
 
--- where an answer is late, it was asked for no earlier than the clock's last reading before the
--- run, it was not answered before that, and the clock has not been read since
+-- If an answer is late, it was asked for no earlier than the clock's last reading before the run.
+-- It came no earlier than it was asked for, and the clock has not been read since.
 abbrev pub LateIn : Option Verdict → ℕ → ℕ → Type 0
 LateIn None before now = Unit {0}
 LateIn (Some (Rules state)) before now = Unit {0}
@@ -157,18 +158,20 @@ LateIn (Some (Forfeit side BrokeCause)) before now = Unit {0}
 LateIn (Some (Forfeit side (Late asked answered))) before now =
     (before ≤ asked) × (asked ≤ answered) × (answered ≡ now)
 
--- the bytes sent to a side are the first of these
+-- the bytes sent to a side are an initial part of these
 abbrev pub IsFrontSent : Told → Told → List ℕ → Type 0
 IsFrontSent old new all = (bytes : List ℕ) × (new ≡ behind old bytes) × IsFront bytes all
 
--- the moves, and the bytes sent to each side, are the first ones of the match of these lines
+-- the moves, and the bytes sent to each side, are initial parts of those of the match of these
+-- lines
 pub record IsFrontOf (setup : FullSetup) (white black : List Mark) (t : MatchState)
     (w0 w b0 b : Told) : Type 0 where
   pub moves : IsFront t.moves (match_after setup (match_of setup white black)).moves
   pub to_white : IsFrontSent w0 w (joined (sent (start setup) (match_of setup white black) White))
   pub to_black : IsFrontSent b0 b (joined (sent (start setup) (match_of setup white black) Black))
 
--- where both links tell their bytes, whatever failed and however late an answer was
+-- If both links are observable, moves and bytes sent are initial parts of those of the match of
+-- their lines. This holds whatever failed and however late an answer was.
 abbrev pub FrontRun : FullSetup → MatchState → Wire → Wire → Wire → Wire → Type 0
 FrontRun setup t w0 w b0 b =
     (white black : List ℕ)
@@ -187,8 +190,8 @@ IsVerdict full verdict w0 w b0 b =
     (verdict ≡ full)
     ⊎ (IsLate verdict ⊎ (HasBroken verdict White w0 w ⊎ HasBroken verdict Black b0 b))
 
--- where both links tell their bytes, the verdict is that of the match of these lines, or an answer
--- was late, or a side broke
+-- If both links are observable, the verdict is that of the match of their lines, or an answer was
+-- late, or a side broke.
 abbrev pub VerdictRun : FullSetup → MatchState → Wire → Wire → Wire → Wire → Type 0
 VerdictRun setup t w0 w b0 b =
     (white black : List ℕ)
@@ -197,22 +200,22 @@ VerdictRun setup t w0 w b0 b =
     → IsVerdict (match_after setup (match_of setup (lines white) (lines black))).verdict t.verdict
     w0 w b0 b
 
--- what happened in a match of this setup that stands so: each answers the act that was to come
+-- the events of a match of this setup that led to this state: each answers the next act
 pub record IsCourse (setup : FullSetup) (t : MatchState) (hs : List Happening) : Type 0 where
   pub here : t ≡ match_after setup hs
   pub fits : Answering (start setup) hs
 
--- a match of this setup comes to stand so
+-- some events lead a match of this setup to this state
 abbrev pub HasCourse : FullSetup → MatchState → Type 0
 HasCourse setup t = (hs : List Happening) × IsCourse setup t hs
 
--- the same, by readings of a clock whose last one before the match and behind it are these
+-- the same, for the readings of a clock whose last ones before and after the match are these
 abbrev pub HasTimedCourse : FullSetup → MatchState → ℕ → ℕ → Type 0
 HasTimedCourse setup t before now =
     (hs : List Happening) × IsCourse setup t hs × KeepTime before hs now
 
--- The moves, and the bytes sent to each side, are those of the match of these lines up to a reply:
--- its last line was read, and next the clock is read.
+-- The moves, and the bytes sent to each side, are those of the match of these lines up to a reply.
+-- The last line of that reply was read, and next the clock is read.
 pub record IsUpToReply (setup : FullSetup) (white black : List Mark) (t : MatchState)
     (w0 w b0 b : Told) : Type 0 where
   pub hs : List Happening
@@ -222,7 +225,8 @@ pub record IsUpToReply (setup : FullSetup) (white black : List Mark) (t : MatchS
   pub to_white : w ≡ behind w0 (joined (sent (start setup) hs White))
   pub to_black : b ≡ behind b0 (joined (sent (start setup) hs Black))
 
--- where both links tell their bytes, no call failed and an answer was late
+-- If both links are observable, no call failed and an answer was late, then moves and bytes sent
+-- are those of their match up to a reply.
 abbrev pub LateRun : FullSetup → MatchState → Wire → Wire → Wire → Wire → Type 0
 LateRun setup t w0 w b0 b =
     (white black : List ℕ)
@@ -233,8 +237,8 @@ LateRun setup t w0 w b0 b =
     → IsLate t.verdict
     → IsUpToReply setup (lines white) (lines black) t w0.written w.written b0.written b.written
 
--- a match that was run over two links: it is of this setup and has a verdict, and this is known of
--- it by the links
+-- A match that was run over two links. It is of this setup and has a verdict; the other fields say
+-- how the links determine it.
 pub record RanLinks (setup : FullSetup) (t : MatchState) (w0 w b0 b : Wire) : Type 0 where
   pub same : t.setup ≡ setup
   pub judged : IsJudged t
@@ -246,8 +250,8 @@ pub record RanLinks (setup : FullSetup) (t : MatchState) (w0 w b0 b : Wire) : Ty
   pub lates : LatesAreLate t
   pub late : LateRun setup t w0 w b0 b
 
--- a match that was run over two links and a clock, which is read at most twice for each move that
--- was made in it, and twice more
+-- A match that was run over two links and a clock. The clock is read at most twice for each move
+-- made in it, and twice more.
 pub record RanOver
     (setup : FullSetup) (t : MatchState) (w0 w b0 b : Wire) (r0 r : Watch) : Type 0 where
   pub events : FinalRun setup t w0 w b0 b r0 r

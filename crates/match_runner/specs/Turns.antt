@@ -18,7 +18,7 @@ use Rattle.match_runner.specs.declared.turns.Acted.{Acted}
 use Rattle.match_runner.specs.declared.turns.Acted.TheVariants.{GoOn, Finished, ReadFault, WriteFault, Memory}
 use Rattle.match_runner.specs.Wires.{Watch}
 
--- one side: the lines to come, the bytes that were sent to it
+-- one side: the lines to come, and the bytes that were sent to it
 pub record Side : Type 0 where
   pub ahead : ToldLines
   pub written : Told
@@ -44,7 +44,7 @@ Hears side (WriteFault at) s t old new = ⊥
 Hears side Finished s t old new = ⊥
 Hears side Memory s t old new = Unit {0}
 
--- a match that goes on is within this many bytes of lines
+-- a match that goes on has taken at most this many bytes of lines
 abbrev pub Room : Acted → ℕ → MatchState → ℕ → Type 0
 Room GoOn before t after = is_finished t.stage ≡ false → after ≤ before + 65538
 Room (ReadFault side) before t after = Unit {0}
@@ -52,21 +52,22 @@ Room (WriteFault side) before t after = Unit {0}
 Room Finished before t after = Unit {0}
 Room Memory before t after = Unit {0}
 
--- a reader from which a line may be read in this match: it holds little, and is further from its
--- limit than a line is long, unless the match is over
+-- A reader from which this match may read a line. It holds little. Unless the match is over, it is
+-- further from its limit than a line is long.
 pub record MayRead (s : MatchState) (reader : Reader) : Type 0 where
   pub little : HoldsLittle reader
   pub room : is_finished s.stage ≡ false → reader.passed + greatest_line < input_limit
 
--- what an act leaves of a reader: it holds little, and where the match goes on it is one line
--- further at the most
+-- how an act leaves a reader: it holds little, and if the match goes on it is at most one line
+-- further
 pub record LeavesReader (turn : Acted) (old : Reader) (t : MatchState) (new : Reader)
     : Type 0 where
   pub little : HoldsLittle new
   pub room : Room turn old.passed t new.passed
 
--- The faults of this side that an act tells have their causes: its count of failed reads rose where
--- the act says that a read of it failed, and stands where not; and so its count of failed writes.
+-- The faults of this side that an act reports have their causes. Its count of failed reads rose if
+-- the act says that a read of it failed; otherwise it is unchanged. The same holds for its count of
+-- failed writes.
 pub record HasCauses (turn : Acted) (side : Colour)
     (reads_before reads_now writes_before writes_now : ℕ) : Type 0 where
   pub reads : HasCause (turn ≡ ReadFault side) reads_before reads_now
@@ -80,7 +81,7 @@ Looks (WriteFault side) s t before last = ⊥
 Looks Finished s t before last = ⊥
 Looks Memory s t before last = Unit {0}
 
--- a reading is that of the clock, and none before its last one
+-- a reading comes from the clock, and is not before the clock's last one
 abbrev pub KeepsAt : Happening → ℕ → ℕ → Type 0
 KeepsAt (Reading at) before now = (before ≤ at) × (now ≡ at)
 KeepsAt Sent before now = now ≡ before
@@ -102,36 +103,36 @@ is_broke Ended = false
 is_broke Broke = true
 is_broke (Reading at) = false
 
--- the clock is to be read
+-- the clock has to be read
 abbrev pub is_clock : Act → Bool
 is_clock (SendAct side) = false
 is_clock (ReadAct side) = false
 is_clock Clock = true
 is_clock Finish = false
 
--- how often the clock is read at a place
+-- how often the clock is read at a stage
 abbrev pub looks_at : Stage → ℕ
 looks_at stage = if is_clock (act_at stage) then 1 else 0
 
--- what an act leaves of the clock: it does not go back, and was read at most once, and only where
--- the match asks for its reading
+-- How an act leaves the clock. It does not go back. It was read at most once, and only if the match
+-- asks for its reading.
 pub record LeavesClock (stage : Stage) (before after : Watch) : Type 0 where
   pub later : before.last ≤ after.last
   pub no_fewer : before.readings ≤ after.readings
   pub no_more : after.readings ≤ before.readings + looks_at stage
 
--- what an event does at a side
+-- the effect of an event at a side
 pub record OneSide (s : MatchState) (h : Happening) (to : Colour) (old new : Side) : Type 0 where
   pub feeds : FeedsAt s.stage h to old.ahead new.ahead
   pub stays : h ≡ TooLong → new.ahead ≡ old.ahead
   pub wrote : new.written ≡ behind old.written (joined (sent_at s s.stage h to))
 
--- a side has got a front of the line that was to be sent to it
+-- a side has got an initial part of the line that had to be sent to it
 abbrev pub CutSide : MatchState → Colour → Side → Side → Type 0
 CutSide s to old new =
     (n : ℕ) × (new.written ≡ behind old.written (take n (joined (sent_at s s.stage Sent to))))
 
--- an event that is no fault, and what came of it at both sides
+-- an event that is no fault, and its effect at both sides
 pub record Goes (s : MatchState) (h : Happening) (t : MatchState) (w0 w b0 b : Side)
     (c0 c : ℕ) : Type 0 where
   pub time : KeepsAt h c0 c
@@ -148,7 +149,7 @@ pub record Breaks (s t : MatchState) (w0 w b0 b : Side) : Type 0 where
   pub white : CutSide s White w0 w
   pub black : CutSide s Black b0 b
 
--- what an act did to the match, to both sides and to the clock
+-- the effect of an act on the match, both sides and the clock
 abbrev pub Turns : Acted → MatchState → MatchState → Side → Side → Side → Side → ℕ → ℕ → Type 0
 Turns GoOn s t w0 w b0 b c0 c = (h : Happening) × Goes s h t w0 w b0 b c0 c
 Turns (ReadFault side) s t w0 w b0 b c0 c =

@@ -24,7 +24,7 @@ use io_edge::{Clock, Link, write_all};
 use line_feed::{LineReader, ShortAnswer};
 use match_core::{Act, Event, Referee};
 
-/// What an act came to.
+/// The result of an act.
 #[derive(Clone, Copy, Debug, PartialEq, Eq)]
 pub enum Acted {
     /// It was done, and the match may go on.
@@ -39,7 +39,7 @@ pub enum Acted {
     Memory,
 }
 
-/// Moves a referee on by an event that is no line, which wants no memory.
+/// Moves a referee on by an event that is not a line. This needs no memory.
 fn step_on<G: Game + Drop>(referee: &mut Referee<G>, event: Event)
     requires answers { IsTrue (answers (act_at referee.old.stage) (happening event [])) }
     requires early { IsEarly event }
@@ -49,7 +49,7 @@ fn step_on<G: Game + Drop>(referee: &mut Referee<G>, event: Event)
     let _ = referee.step(event, &[]);
 }
 
-/// Sends the line that is to be sent to a side.
+/// Sends the line that has to be sent to a side.
 fn tell<L: Link, G: Game + Drop>(referee: &mut Referee<G>, link: &mut L, side: Colour) -> Acted
     requires { act_at referee.old.stage ≡ Act.Send side }
     ensures told { Tells side result referee.old referee.new
@@ -67,8 +67,8 @@ fn tell<L: Link, G: Game + Drop>(referee: &mut Referee<G>, link: &mut L, side: C
     }
 }
 
-/// Reads the next line of a reply. One that is too long is judged as soon as that is certain, at
-/// its 65,537th byte: whatever follows, it is too long.
+/// Reads the next line of a reply. A line that is too long is judged at its 65,537th byte: by then
+/// it is certain, whatever follows.
 fn listen<L: Link, G: Game + Drop>(
     referee: &mut Referee<G>,
     reader: &mut LineReader,

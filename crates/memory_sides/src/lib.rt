@@ -1,5 +1,5 @@
-//! What a run in memory is tried over: sources, sinks, links and starters of programs that are made
-//! of slices, words as texts of their own, and what is seen of a run at its end.
+//! What tests need for a run in memory: sources, sinks, links and starters of programs made of
+//! slices, words as owned texts, and the result of a run.
 #![tactic(auto)]
 
 mod owned;

@@ -1,9 +1,9 @@
-//! Words as texts of their own.
+//! Words as owned texts.
 ghost use Rattle.std.specs.Prelude.{◌≡◌, length, map, string_bytes, IfOk};
 
 use std::alloc::{AllocError, Global};
 
-/// Texts of their own with these bytes, in order.
+/// Owned texts with these bytes, in order.
 pub fn owned_words(alloc: Global, words: &[&str]) -> Result<Vec<String>, AllocError>
     ensures bytes { IfOk result (λ owned. map string_bytes owned.items
         ≡ map (λ word. word.now) words.now) }

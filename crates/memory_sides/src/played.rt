@@ -1,4 +1,4 @@
-//! What is seen of a run over programs in memory at its end.
+//! The result of a run over programs in memory.
 ghost use Rattle.std.specs.Prelude.{◌≡◌};
 ghost use Rattle.memory_sides.specs.Settings.{sent_to};
 
@@ -13,8 +13,7 @@ pub struct Played<S> {
 }
 
 impl<S> Played<S> {
-    /// What was sent to the closed link of this number, from 0. Where there is none, a text says
-    /// so.
+    /// What was sent to the closed link of this number, from 0. If there is none, a text says so.
     pub fn sent(&self, number: usize) -> &[u8]
         ensures { result.now ≡ sent_to self.now.spawner.closed number }
     {

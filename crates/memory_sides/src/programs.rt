@@ -6,7 +6,7 @@ use crate::settings::MemSetting;
 use io_edge::{MemLink, MemSpawner};
 use std::alloc::{AllocError, Global};
 
-/// The links that are set up so, in order.
+/// Links with these settings, in order.
 pub fn links_of(alloc: Global, settings: &[MemSetting<'_>]) -> Result<Vec<MemLink>, AllocError>
     ensures { IfOk result (λ links. links.items
         ≡ map (λ one. link_of (setting_of one)) settings.now) }
@@ -18,7 +18,7 @@ pub fn links_of(alloc: Global, settings: &[MemSetting<'_>]) -> Result<Vec<MemLin
     Ok(links)
 }
 
-/// Links that will say these texts, in order, without bound, and of which no call fails.
+/// Links that will say these texts, in order, in pieces of any size. No call of them fails.
 pub fn links_saying(alloc: Global, texts: &[&[u8]]) -> Result<Vec<MemLink>, AllocError>
     ensures { IfOk result (λ links. links.items
         ≡ map (λ text. link_of (says text.now)) texts.now) }
@@ -30,7 +30,7 @@ pub fn links_saying(alloc: Global, texts: &[&[u8]]) -> Result<Vec<MemLink>, Allo
     Ok(links)
 }
 
-/// A starter that hands out these links in turn; the start of this number fails (0: none fails).
+/// A starter that hands out these links in turn. The start of this number fails (0: none fails).
 pub fn spawner_of(
     alloc: Global,
     links: Vec<MemLink>,

@@ -6,12 +6,13 @@ use io_edge::{MemLink, MemSink, MemSource};
 use std::alloc::{AllocError, Global};
 use std::fmt;
 
-/// Three ways to cut what both sides pass: in pieces of one byte, of seven, and without bound.
+/// Three ways to cut what both sides pass: into pieces of one byte, of seven bytes, and of any
+/// size.
 pub const CUTS: [&[usize]; 3] = [&[1], &[7], &[]];
 
-/// How the sides of a run are set up: the bytes that are read, the greatest sizes of the pieces in
-/// which both sides pass bytes (none: no bound), and the numbers, from 1, of the read and of the
-/// write that fail (0: none fails).
+/// How the sides of a run are set up. It has the bytes to read, and the greatest sizes of the
+/// pieces in which both sides pass bytes (none: no bound). It also has the numbers, from 1, of the
+/// read and of the write that fail (0: none fails).
 #[derive(Clone, Copy)]
 pub struct MemSetting<'a> {
     input: &'a [u8],
@@ -21,7 +22,7 @@ pub struct MemSetting<'a> {
 }
 
 impl<'a> MemSetting<'a> {
-    /// These bytes, without bound, and no call fails.
+    /// These bytes, in pieces of any size, and no call fails.
     pub fn of(input: &'a [u8]) -> MemSetting<'a>
         ensures { setting_of result ≡ record {
           input = input.now;
@@ -87,7 +88,7 @@ impl<'a> MemSetting<'a> {
     }
 }
 
-/// All but the bytes, for what a test says where it fails.
+/// Everything but the bytes, for the message of a test that fails.
 impl fmt::Display for MemSetting<'_> {
     fn fmt<W: fmt::Write>(&self, f: &mut fmt::Formatter<W>) -> fmt::Result {
         let pieces = self.pieces;

@@ -75,8 +75,8 @@ placed b is c q h = go (has_colour b c) (has_colour b (other_side c)) refl refl
 
 -- How a legal pair ends
 
--- A legal pair moves a piece of the type to an occupied place of the board without the piece, or to a place beside one; but for
--- the first placement, which goes to the origin of an empty board.
+-- A legal pair moves a piece of the type to an occupied place of the board without the piece, or to
+-- a place beside one; but for the first placement, which goes to the origin of an empty board.
 record Goes (p : Position) (x : ℕ) (q : Place) : Type 0 where
   small : x < 28
   of_type : OfType p.game_type x

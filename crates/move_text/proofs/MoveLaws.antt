@@ -1,4 +1,4 @@
--- What is read is what the text denotes, and each fault stands exactly where no earlier one does.
+-- What is read is what the text denotes, and each fault holds exactly if no earlier one does.
 use Rattle.std.proofs.Common.{◌≡◌, ◌≢◌, ℕ, Bool, true, false, List, [], ◌∷◌, length, Result, Ok, Err, refl, sym, ◌∙◌, ap, subst, ◌⊎◌, inl, inr}
 use Rattle.std.specs.Prelude.{Option, Some, None, is_some, IfOk, IfErr, not, if◌then◌else◌}
 use Rattle.hive_model.specs.declared.pieces.GameType.{GameType}
@@ -25,7 +25,7 @@ use Rattle.move_text.specs.Faults.{mover, Refuses}
 use Rattle.move_text.specs.Moves.{is_empty_board, moved_beside, judge, judged, move_of}
 use Rattle.move_text.proofs.FormLaws.{form_read, read_form, no_text, text_no}
 
--- A board is empty where no piece is in play
+-- A board is empty if no piece is in play
 
 pub empty_from : (b : Stacks) → IsBoard b → is_empty_board b ≡ true → b ≡ []
 empty_from [] is h = refl

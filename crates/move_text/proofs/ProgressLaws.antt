@@ -201,7 +201,7 @@ run_spelled s (b ∷ bs) last is h = go (λ next there k. run_spelled next bs la
     go more (Some next) e k = let one = progress_grows s b next is e in let rest = more next one.is k in
         record { is = rest.is; text = rest.text ∙ ap (λ (xs : List ℕ). xs ++ bs) one.text ∙ append_assoc (spelled s) (b ∷ []) bs }
 
--- Where it may end, it is a form's text
+-- If it may end, it is a form's text
 
 pub record Ends (s : Progress) (f : Form) : Type 0 where
   pub is : IsForm f

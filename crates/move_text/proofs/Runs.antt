@@ -1,4 +1,4 @@
--- Reading byte by byte: where it ends, and where it stops. Nothing here speaks of a certain state.
+-- Reading byte by byte: the ends and the stops. Nothing here depends on a certain state.
 use Rattle.std.proofs.Common.{◌≡◌, ℕ, suc, zero, ◌+◌, ◌≤◌, ◌<◌, List, [], ◌∷◌, ◌++◌, length, take, Option, Some, None, Ok, Err, refl, sym, ◌∙◌, ap, arith}
 use Rattle.std.specs.Option.{ok_or}
 use Rattle.hive_model.specs.declared.forms.Form.{Form}

@@ -22,7 +22,7 @@ name_is name xs text x h = (bytes_eq-Decides text (name x)).0 (find_passes (λ y
 pub code_is : {X : Type 0} (code : X → ℕ) (xs : List X) (byte : ℕ) (x : X) → coded_by code xs byte ≡ Some x → byte ≡ code x
 code_is code xs byte x h = eqb-true byte (code x) (find_passes (λ y. nat_eq byte (code y)) xs x h)
 
--- what a search over values answers
+-- what a search over values returns
 pub as_found : {X : Type 0} (r o : Option X) → option_map (λ x. x) r ≡ o → r ≡ o
 as_found None o h = h
 as_found (Some x) o h = h

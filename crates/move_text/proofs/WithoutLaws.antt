@@ -1,4 +1,4 @@
--- The board without a piece, wherever it stands.
+-- The board without a piece, covered or not.
 use Rattle.std.proofs.Common.{◌≡◌, ◌≢◌, ℕ, suc, zero, ◌+◌, ◌-◌, ◌≤◌, ◌<◌, true, false, List, [], ◌∷◌, ◌++◌, length, take, drop, refl, sym, ◌∙◌, ap, subst, arith, ◌⊎◌, inl, inr}
 use Rattle.std.specs.Prelude.{Option, Some, None, option_map, slice_get, IsTrue, nat_eq, nat_lt, if◌then◌else◌}
 use Rattle.std.specs.List.{remove}
@@ -46,7 +46,7 @@ module _ (b : Stacks) (is : IsBoard b) (x : ℕ) (p : Place) (level : ℕ) (stan
   stack_here : stack_at (without b x) p ≡ remove (stack_at b p) level
   stack_here = ap (λ (c : Stacks). stack_at c p) without_is ∙ stack_at-set_stack b p (remove (stack_at b p) level) p ∙ cond-true (is_place p p) (remove (stack_at b p) level) (stack_at b p) (is_place_itself p)
 
-  -- where a level of the board without the piece was
+  -- the old place of a level of the board without the piece
   abbrev WasAt : Place → ℕ → ℕ → Type 0
   WasAt q j i = ((q ≢ p) × (i ≡ j)) ⊎ (((q ≡ p) × (j < level) × (i ≡ j)) ⊎ ((q ≡ p) × (level ≤ j) × (i ≡ suc j)))
 
@@ -197,7 +197,7 @@ last_of_lowered xs (suc level) x h last =
     ∙ ap (slice_get xs) (sym one) ∙ sym (ap (λ t. if t then None else slice_get xs (suc level - 1)) some)
 
 module _ (b : Stacks) (is : IsBoard b) (x : ℕ) (p : Place) (level : ℕ) (stands : StandsAt b x p level) where
-  -- where the top piece is x, it is this place and level
+  -- if the top piece is x, it is this place and level
   top_is_here : (q : Place) → top_at b q ≡ Some x → (q ≡ p) × (height_at b q - 1 ≡ level)
   top_is_here q e = is.once x q p (height_at b q - 1) level e stands
 

@@ -10,13 +10,13 @@ use Rattle.hive_model.specs.Texts.{form_text, IsForm, IsNoText}
 use Rattle.move_text.specs.declared.faults.MoveFault.{MoveFault}
 use Rattle.move_text.specs.declared.faults.MoveFault.TheVariants.{NotAMove, NoSuchPiece, NotInPlay}
 
--- the moving piece of a form
+-- the piece that moves
 abbrev pub mover : Form → Option ℕ
 mover Passes = None
 mover (Alone x) = Some x
 mover (Beside x mark y) = Some x
 
--- the text has a form, and the moving piece is not of the game type
+-- The text has a form, and the moving piece is not of the game type.
 pub record IsOfNoPiece (t : GameType) (text : List ℕ) : Type 0 where
   pub form : Form
   pub piece : ℕ
@@ -33,7 +33,7 @@ pub record IsAloneAmong (t : GameType) (b : Stacks) (text : List ℕ) : Type 0 w
   pub text_is : text ≡ form_text (Alone piece)
   pub not_empty : b ≢ []
 
--- the reference is not on the board without the moving piece
+-- The reference is not on the board without the moving piece.
 pub record IsBesideNone (t : GameType) (b : Stacks) (text : List ℕ) (reference : ℕ) : Type 0 where
   pub piece : ℕ
   pub mark : Mark
@@ -43,8 +43,9 @@ pub record IsBesideNone (t : GameType) (b : Stacks) (text : List ℕ) (reference
   pub text_is : text ≡ form_text (Beside piece mark reference)
   pub not_in_play : place_in (without b piece) reference ≡ None
 
--- Each fault, exactly where no earlier one stands: no move text, or a moving piece that is not of
--- the type, or a piece alone on a board that is not empty, or a reference that is not on the board.
+-- Each fault holds exactly if no earlier one does, in this order: the text is not a move text, or
+-- the moving piece is not of the type. Then a piece is alone in the text but the board is not
+-- empty, or the reference is not on the board.
 abbrev pub Refuses : GameType → Stacks → List ℕ → MoveFault → Type 0
 Refuses t b text (NotAMove offset) =
     IsNoText text offset ⊎ (IsAloneAmong t b text × (offset ≡ length text))

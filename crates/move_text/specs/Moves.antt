@@ -1,4 +1,4 @@
--- What is read, as functions that compute, and which moves can be written.
+-- Reading as functions that compute, and the moves that can be written.
 use Rattle.std.specs.Prelude.{ℕ, List, length, Option, Some, None, Result, Ok, Err, not, if◌then◌else◌, Bool}
 use Rattle.std.specs.List.{list_any}
 use Rattle.hive_model.specs.declared.pieces.GameType.{GameType}
@@ -23,13 +23,13 @@ use Rattle.move_text.specs.Scan.{scan}
 abbrev pub is_empty_board : Stacks → Bool
 is_empty_board b = not (list_any (is_in_play b) all_pieces)
 
--- the move beside or on a reference, where that is in play
+-- the move beside or on a reference, if the reference is in play
 abbrev pub moved_beside : ℕ → Mark → ℕ → Option Place → Result Move MoveFault
 moved_beside x mark y None = Err (NotInPlay y)
 moved_beside x mark y (Some p) = Ok (To x (place_by p mark))
 
--- The move of a form. First the moving piece is to be of the game type; then a piece alone wants an
--- empty board, and a reference is to be on the board without the moving piece.
+-- The move of a form. The moving piece must be of the game type. Then a piece alone requires an
+-- empty board, and a reference must be on the board without the moving piece.
 abbrev pub judge : GameType → Stacks → ℕ → Form → Result Move MoveFault
 judge t b len Passes = Ok Pass
 judge t b len (Alone x) =
@@ -39,7 +39,7 @@ judge t b len (Beside x mark y) =
     if has_kind t (kind_of x) then moved_beside x mark y (place_in (without b x) y)
     else Err NoSuchPiece
 
--- the same of what was read, the form or the offset where it fails
+-- the same for what was read: a form, or the offset at which the text fails
 abbrev pub judged : GameType → Stacks → ℕ → Result Form ℕ → Result Move MoveFault
 judged t b len (Err offset) = Err (NotAMove offset)
 judged t b len (Ok f) = judge t b len f
@@ -52,7 +52,7 @@ move_of t b text = judged t b (length text) (scan (First Empty) text 0)
 abbrev pub named_beside : Place → Mark × Dir → Candidate
 named_beside q m = record { mark = m.0; place = step q m.1 }
 
--- the destination has coordinates of at most 9,500
+-- no coordinate of the destination exceeds 9,500 in absolute value
 abbrev pub IsMoveWithin : Move → Type 0
 IsMoveWithin Pass = Unit {0}
 IsMoveWithin (To x q) = IsOnTheMap q

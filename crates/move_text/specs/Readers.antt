@@ -1,4 +1,4 @@
--- What the fields of a line hold, as functions that compute.
+-- The fields of a line, as functions that compute.
 use Rattle.std.specs.Prelude.{ℕ, ◌+◌, ◌*◌, ◌-◌, ◌/◌, ◌%◌, Bool, true, false, ◌&&◌, nat_le, nat_lt, nat_eq, List, [], ◌∷◌, decimal, Option, Some, None, if◌then◌else◌}
 use Rattle.std.specs.Str.{bytes_eq}
 use Rattle.std.specs.Str.Parse.{digits_value}
@@ -8,7 +8,7 @@ use Rattle.hive_model.specs.declared.places.State.TheVariants.{NotStarted, InPro
 use Rattle.hive_model.specs.Fields.{clock_bytes, state_bytes, type_bytes}
 use Rattle.move_text.specs.Tables.{named_by}
 
--- a number with no leading zero, in this range
+-- a decimal number without leading zeros, in this range
 unfoldable pub number_at : List ℕ → ℕ → ℕ → Option ℕ
 number_at text least most =
     if bytes_eq (decimal (digits_value 10 text)) text
@@ -36,7 +36,7 @@ states = NotStarted ∷ InProgress ∷ Draw ∷ WhiteWins ∷ BlackWins ∷ []
 unfoldable pub state_at : List ℕ → Option State
 state_at = named_by state_bytes states
 
--- the number of two digits that is at most a bound
+-- the number of two digits, if it is at most a bound
 abbrev pub is_digit : ℕ → Bool
 is_digit b = nat_le 48 b && nat_lt b 58
 
@@ -58,7 +58,7 @@ time_at (a ∷ b ∷ c ∷ d ∷ e ∷ f ∷ g ∷ h ∷ []) =
     else None
 time_at _ = None
 
--- the time `hh:mm:ss` of so many milliseconds
+-- the time `hh:mm:ss` of this many milliseconds
 abbrev pub time_bytes : ℕ → List ℕ
 time_bytes budget =
     clock_bytes (budget / 1000 / 3600) (budget / 1000 / 60 % 60) (budget / 1000 % 60)

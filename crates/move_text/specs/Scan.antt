@@ -1,4 +1,4 @@
--- Reading a move text byte by byte: how far one came.
+-- Reading a move text byte by byte: the states, and their steps.
 use Rattle.std.specs.Prelude.{ℕ, ◌+◌, ◌-◌, Bool, ◌&&◌, nat_eq, nat_lt, nat_le, List, [], ◌∷◌, Option, Some, None, Result, Err, if◌then◌else◌}
 use Rattle.std.specs.Option.{ok_or}
 use Rattle.hive_model.specs.declared.pieces.Colour.{Colour}
@@ -28,7 +28,7 @@ kinds = Queen ∷ Spider ∷ Beetle ∷ Grasshopper ∷ Ant ∷ Mosquito ∷ Lad
 abbrev pub strokes : List Stroke
 strokes = Dash ∷ Slash ∷ Backslash ∷ []
 
--- what a byte stands for: a colour, a kind and a stroke
+-- what a byte stands for: a colour, a kind or a stroke
 abbrev pub colour_at : ℕ → Option Colour
 colour_at = coded_by colour_code colours
 
@@ -42,7 +42,7 @@ abbrev pub sided : Option Colour → Option Naming
 sided None = None
 sided (Some c) = Some (Side c)
 
--- the one piece of a kind that has no numbers; else the number is still to come
+-- The one piece of a kind without numbers. For other kinds the number is still to come.
 abbrev pub with_kind : Colour → Kind → Naming
 with_kind c k = if nat_eq (most_of k) 0 then Named (piece_of c k 0) else Kinded c k
 
@@ -50,22 +50,22 @@ abbrev pub kinded : Colour → Option Kind → Option Naming
 kinded c None = None
 kinded c (Some k) = Some (with_kind c k)
 
--- the byte is the digit of one of the kind's numbers
+-- The byte is the digit of one of the kind's numbers.
 abbrev pub is_number : Kind → ℕ → Bool
 is_number k b = nat_lt 48 b && nat_le (b - 48) (most_of k)
 
--- the piece of this kind with the number of a digit
+-- the piece of this kind whose number is this digit
 abbrev pub with_number : Colour → Kind → ℕ → Option Naming
 with_number c k b = if is_number k b then Some (Named (piece_of c k (b - 48))) else None
 
--- what is read of a name with one byte more
+-- what is read of a name after one more byte
 abbrev pub naming_with : Naming → ℕ → Option Naming
 naming_with Empty b = sided (colour_at b)
 naming_with (Side c) b = kinded c (kind_at b)
 naming_with (Kinded c k) b = with_number c k b
 naming_with (Named x) b = None
 
--- where the byte is no part of the first name
+-- the byte does not continue the first name
 abbrev pub after_first : Naming → ℕ → Option Progress
 after_first Empty b = if nat_eq b 112 then Some AtP else None
 after_first (Side c) b = None
@@ -84,7 +84,7 @@ abbrev pub behind_second : ℕ → ℕ → Option Stroke → Option Progress
 behind_second x y None = None
 behind_second x y (Some s) = Some (Marked x y s)
 
--- where the byte is no part of the reference's name
+-- the byte does not continue the reference's name
 abbrev pub after_second : ℕ → Option Stroke → Naming → ℕ → Option Progress
 after_second x (Some s) n b = None
 after_second x None Empty b = before_second x (stroke_at b)
@@ -96,7 +96,7 @@ abbrev pub on_second : Option Naming → ℕ → Option Stroke → Naming → �
 on_second (Some n) x s old b = Some (Second x s n)
 on_second None x s old b = after_second x s old b
 
--- what is read of a move text with one byte more
+-- what is read of a move text after one more byte
 abbrev pub progress_with : Progress → ℕ → Option Progress
 progress_with AtP b = if nat_eq b 97 then Some AtPa else None
 progress_with AtPa b = if nat_eq b 115 then Some AtPas else None
@@ -122,7 +122,7 @@ end_second x s (Side c) = None
 end_second x s (Kinded c k) = None
 end_second x s (Named y) = Some (Beside x (front_mark s) y)
 
--- the form, where the text may end here
+-- the form, if the text may end here
 abbrev pub end_of : Progress → Option Form
 end_of AtP = None
 end_of AtPa = None
@@ -136,7 +136,7 @@ abbrev pub go_on : {X : Type 0} → Option X → ℕ → (X → Result Form ℕ)
 go_on None offset f = Err offset
 go_on (Some s) offset f = f s
 
--- the form of the bytes, or the offset of the first that cannot stand there
+-- the form of the bytes, or the offset of the first byte that is not possible there
 unfoldable pub scan : Progress → List ℕ → ℕ → Result Form ℕ
 scan s [] offset = ok_or (end_of s) offset
 scan s (b ∷ bs) offset = go_on (progress_with s b) offset (λ next. scan next bs (offset + 1))

@@ -39,8 +39,8 @@ use hive_model::{GameType, State};
 use itoa::Buffer;
 use std::str;
 
-/// The number that the text spells in decimal digits, if it is from `least` to `most`. A sign is
-/// refused, and so is a leading zero but for `0` itself.
+/// The number that the text writes in decimal digits, if it is from `least` to `most`. A sign is
+/// refused, and so is a leading zero, except in `0` itself.
 pub fn read_number(text: &[u8], least: u64, most: u64) -> Option<u64>
     ensures found { IfSome result (λ n. IsNumberText text.now least most n) }
     ensures only { (n : ℕ) → IsNumberText text.now least most n → result ≡ Some n }
@@ -100,8 +100,8 @@ fn type_at(text: &[u8]) -> Option<GameType>
     }
 }
 
-/// The game type that the text names: `Base`, or `Base+` and letters of `MLP` in this order, which
-/// stand for the mosquito, the ladybug and the pillbug.
+/// The game type that the text names: `Base`, or `Base+` and letters of `MLP` in this order, for
+/// the mosquito, the ladybug and the pillbug.
 pub fn read_type(text: &[u8]) -> Option<GameType>
     ensures found { IfSome result (λ t. text.now ≡ type_bytes t) }
     ensures only { (t : AnyType) → text.now ≡ type_bytes t → result ≡ Some t }
@@ -135,7 +135,7 @@ pub fn type_text(game_type: GameType) -> ArrayString<16>
     text
 }
 
-/// The states, in the order of the rules.
+/// The states, in the order of their definition.
 const STATES: [State; 5] = [
     State::NotStarted,
     State::InProgress,
@@ -197,7 +197,7 @@ fn two_digit_number(most: u64, tens: u8, units: u8) -> Option<u64>
     if number <= most { Some(number) } else { None }
 }
 
-/// The milliseconds of a time, by its eight bytes.
+/// The milliseconds of a time of eight bytes.
 fn time_at(text: &[u8]) -> Option<u64>
     ensures { result ≡ time_at text.now }
 {
@@ -210,7 +210,7 @@ fn time_at(text: &[u8]) -> Option<u64>
     Some(((hours * 60 + minutes) * 60 + seconds) * 1000)
 }
 
-/// The milliseconds of a time `hh:mm:ss`, of two digits each, with at most 59 minutes and 59
+/// The milliseconds of a time `hh:mm:ss` of two digits each, with at most 59 minutes and 59
 /// seconds.
 pub fn read_time(text: &[u8]) -> Option<u64>
     ensures found { IfSome result (λ n. IsTimeText text.now n) }
@@ -241,8 +241,8 @@ fn push_two_digits(text: &mut ArrayString<8>, number: u64)
     push_digit(text, number % 10);
 }
 
-/// The time `hh:mm:ss` of a number of milliseconds, which is a multiple of 1,000 and at most 99
-/// hours, 59 minutes and 59 seconds.
+/// The time `hh:mm:ss` of a number of milliseconds. The number must be a multiple of 1,000 and at
+/// most 99 hours, 59 minutes and 59 seconds.
 pub fn time_text(budget: u64) -> ArrayString<8>
     requires whole { budget % 1000 ≡ 0 }
     requires most { budget ≤ 359999000 }

@@ -7,8 +7,8 @@ ghost use Rattle.hive_model.specs.Legal.{IsLegal, moves};
 ghost use Rattle.hive_model.specs.Denotes.{Denotes, text};
 ghost use Rattle.move_text.specs.Moves.{IsMoveWithin};
 
-/// In a sound position the written text of each legal move denotes that move, and each legal move,
-/// and so each move on the list of legal moves, is one that can be written.
+/// In a sound position, the written text of each legal move denotes that move. Each legal move, and
+/// so each move on the list of legal moves, can be written.
 pub fn texts_denote()
     ensures denote { (p : Position) (m : Move) → IsSound p → IsLegal p m
         → Denotes p.game_type p.board (text p.board m) m }

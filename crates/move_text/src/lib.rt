@@ -1,4 +1,4 @@
-//! Move texts both ways, and the fields of lines.
+//! Move texts, read and written, and the fields of game strings.
 #![tactic(auto)]
 
 mod faults;

@@ -31,7 +31,7 @@ fn has_kind(game_type: GameType, kind: Kind) -> bool
     }
 }
 
-/// Whether a piece is on the board.
+/// Whether the board has a piece.
 fn has_piece<B: Board>(board: &B) -> bool
     ensures { result ≡ list_any (is_in_play (B.stacks board.now)) all_pieces }
 {
@@ -43,7 +43,7 @@ fn has_piece<B: Board>(board: &B) -> bool
     false
 }
 
-/// The reference's place on the board without the piece.
+/// The place of the reference on the board without the piece.
 fn reference_place<B: Board>(board: &B, piece: Piece, reference: Piece) -> Option<Place>
     ensures place { result ≡ place_in (without (B.stacks board.now) piece) reference }
     ensures within { (p : AnyPlace) → result ≡ Some p → IsWithin 9000 p }
@@ -58,7 +58,7 @@ fn reference_place<B: Board>(board: &B, piece: Piece, reference: Piece) -> Optio
     }
 }
 
-/// The place that the mark gives.
+/// The place that the mark names.
 fn place_by(place: Place, mark: Mark) -> Place
     requires { IsWithin 9000 place }
     ensures { result ≡ place_by place mark }
@@ -111,7 +111,7 @@ fn judge<B: Board>(game_type: GameType, board: &B, len: u32, form: Form) -> Resu
     }
 }
 
-/// The form of the text is read, and then judged.
+/// Reads the form of the text, and judges it.
 fn move_of<B: Board>(game_type: GameType, board: &B, text: &[u8]) -> Result<Move, MoveFault>
     requires { length text.now ≤ greatest_line }
     ensures { result ≡ move_of game_type (B.stacks board.now) text.now }
@@ -122,17 +122,18 @@ fn move_of<B: Board>(game_type: GameType, board: &B, text: &[u8]) -> Result<Move
     }
 }
 
-/// The move that the text denotes on this board: `pass`; or a piece alone, which goes to (0,0) of
-/// an empty board; or a piece, one space and a destination, which names a reference R on the board
-/// without the moving piece: `R-` is E of R, `-R` W, `R/` NE, `/R` SW, `\R` NW, `R\` SE, and `R`
-/// alone is its own place, on top. Whether the move is legal is not judged. The text has at most
-/// 65,536 bytes.
+/// The move that the text denotes on this board. `pass` is the pass. A piece alone goes to (0,0) of
+/// an empty board. Otherwise the text is a piece, one space and a destination, which names a
+/// reference R on the board without the moving piece. `R-` is E of R, `-R` W, `R/` NE, `/R` SW,
+/// `\R` NW, `R\` SE, and `R` alone is its own place, on top.
+///
+/// Whether the move is legal is not judged. The text must have at most 65,536 bytes.
 ///
 /// # Errors
 ///
-/// A text that is no move text, a moving piece that is not of the game type, a piece alone on a
-/// board that is not empty, and a reference that is not on the board without the moving piece, in
-/// this order.
+/// In this order: the text is not a move text, or the moving piece is not of the game type. Then a
+/// piece is alone in the text but the board is not empty, or a reference is not on the board
+/// without the moving piece.
 pub fn read_move<B: Board>(game_type: GameType, board: &B, text: &[u8]) -> Result<Move, MoveFault>
     requires length { length text.now ≤ greatest_line }
     requires sound { IsBoard (B.stacks board.now) }
@@ -167,7 +168,7 @@ fn top_without<B: Board>(board: &B, piece: Piece, place: Place) -> Option<Piece>
 }
 
 /// The marks of a place next to a reference, each with the direction from the place to the
-/// reference, in the order in which references are sought.
+/// reference. They are in the order in which references are looked for.
 const BESIDE: [(Mark, Dir); 6] = [
     (Mark::After(Stroke::Dash), Dir::W),
     (Mark::Before(Stroke::Dash), Dir::E),
@@ -177,7 +178,7 @@ const BESIDE: [(Mark, Dir); 6] = [
     (Mark::Before(Stroke::Backslash), Dir::SE),
 ];
 
-/// The form of a placement, a walk or a throw in the one spelling.
+/// The form that is written for a placement, a walk or a throw.
 #[tactic(auto, using(hive_model::proofs::PlaceLemmas::wider))]
 fn form_to<B: Board>(board: &B, piece: Piece, place: Place) -> Form
     requires sound { IsBoard (B.stacks board.now) }
@@ -195,11 +196,11 @@ fn form_to<B: Board>(board: &B, piece: Piece, place: Place) -> Form
     Form::Alone(piece)
 }
 
-/// The one spelling of a move. A destination that is occupied, on the board without the moving
-/// piece, is written as its top piece. An empty one refers to the top piece of its first occupied
-/// neighbour in the order W, E, SW, NE, NW, SE. Where it has none, the piece is written alone. The
-/// coordinates of the destination are at most 9,500, as those of every legal move are. The text has
-/// at most 8 bytes.
+/// The text of a move. An occupied destination, on the board without the moving piece, is written
+/// as its top piece. An empty one refers to the top piece of its first occupied neighbour in the
+/// order W, E, SW, NE, NW, SE. If it has none, the piece is written alone. The coordinates of the
+/// destination must be at most 9,500 in absolute value, as those of every legal move are. The text
+/// has at most 8 bytes.
 pub fn write_move<B: Board>(board: &B, m: Move) -> ArrayString<16>
     requires sound { IsBoard (B.stacks board.now) }
     requires within { IsMoveWithin m }

@@ -21,8 +21,8 @@ ghost use Rattle.io_edge.specs.Lines.{greatest_line};
 
 use hive_model::{Colour, Form, Kind, Mark, Piece, Stroke};
 
-/// The part of a piece's name that was read: nothing, a colour, a colour and a kind whose number is
-/// still to come, or the whole name.
+/// What was read of a piece's name: nothing, a colour, a colour and a kind whose number is still to
+/// come, or the whole name.
 #[derive(Clone, Copy, Debug, PartialEq, Eq)]
 pub enum Naming {
     Empty,
@@ -31,20 +31,19 @@ pub enum Naming {
     Named(Piece),
 }
 
-/// The part of a move text that was read.
+/// What was read of a move text.
 #[derive(Clone, Copy, Debug, PartialEq, Eq)]
 pub enum Progress {
-    /// `p`, and then what was read of `pass`.
+    /// `p`, and below more of `pass`.
     AtP,
     AtPa,
     AtPas,
     AtPass,
     /// A part of the moving piece's name.
     First(Naming),
-    /// The moving piece, the space, a stroke where there was one, and a part of the reference's
-    /// name.
+    /// The moving piece, the space, a stroke if there was one, and a part of the reference's name.
     Second(Piece, Option<Stroke>, Naming),
-    /// The moving piece, the space, the reference and the stroke behind it: nothing may follow.
+    /// The moving piece, the space, the reference and the stroke after it. Nothing may follow.
     Marked(Piece, Piece, Stroke),
 }
 
@@ -86,7 +85,7 @@ fn stroke_at(byte: u8) -> Option<Stroke>
 }
 
 impl Naming {
-    /// With one byte more, where some piece's name begins so.
+    /// After one more byte, if the name of some piece begins like this.
     fn with_byte(&self, byte: u8) -> Option<Naming>
         ensures { result ≡ naming_with self.now byte }
     {
@@ -99,7 +98,7 @@ impl Naming {
     }
 }
 
-/// The one piece of a kind that has no numbers; else the number is still to come.
+/// The one piece of a kind without numbers. For other kinds the number is still to come.
 fn with_kind(colour: Colour, kind: Kind) -> Naming
     ensures { result ≡ with_kind colour kind }
 {
@@ -109,7 +108,7 @@ fn with_kind(colour: Colour, kind: Kind) -> Naming
     }
 }
 
-/// The piece of this kind with the number of a digit.
+/// The piece of this kind whose number is this digit.
 fn with_number(colour: Colour, kind: Kind, byte: u8) -> Option<Naming>
     ensures { result ≡ with_number colour kind byte }
 {
@@ -120,7 +119,7 @@ fn with_number(colour: Colour, kind: Kind, byte: u8) -> Option<Naming>
 }
 
 impl Progress {
-    /// With one byte more, where some move text begins so.
+    /// After one more byte, if some move text begins like this.
     fn with_byte(&self, byte: u8) -> Option<Progress>
         ensures { result ≡ progress_with self.now byte }
     {
@@ -140,7 +139,7 @@ impl Progress {
         }
     }
 
-    /// The form, where the text may end here.
+    /// The form, if the text may end here.
     fn end(self) -> Option<Form>
         ensures { result ≡ end_of self }
     {
@@ -183,7 +182,8 @@ fn end_second(piece: Piece, stroke: Option<Stroke>, naming: Naming) -> Option<Fo
     }
 }
 
-/// A byte that does not go on the first name: the `p` of `pass`, or the space behind a whole name.
+/// A byte that does not continue the first name: the `p` of `pass`, or the space after a whole
+/// name.
 fn after_first(naming: &Naming, byte: u8) -> Option<Progress>
     ensures { result ≡ after_first naming.now byte }
 {
@@ -198,7 +198,7 @@ fn after_first(naming: &Naming, byte: u8) -> Option<Progress>
     }
 }
 
-/// A byte that does not go on the reference's name: a stroke before or behind it, where there was
+/// A byte that does not continue the reference's name: a stroke before or after it, if there was
 /// none.
 fn after_second(piece: Piece, stroke: Option<Stroke>, naming: &Naming, byte: u8) -> Option<Progress>
     ensures { result ≡ after_second piece stroke naming.now byte }
@@ -219,8 +219,8 @@ fn after_second(piece: Piece, stroke: Option<Stroke>, naming: &Naming, byte: u8)
     }
 }
 
-/// The form of the text; or the offset of the first byte with which no move text goes on so, or of
-/// the end where the text is only the beginning of a move text.
+/// The form of the text. Otherwise the offset of the first byte with which no move text continues,
+/// or of the end if the text is a proper prefix of a move text.
 #[tactic(auto, unfolding(crate::specs::Scan::scan))]
 pub fn read_form(text: &[u8]) -> Result<Form, u32>
     requires { length text.now ≤ greatest_line }

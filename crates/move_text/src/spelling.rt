@@ -1,4 +1,4 @@
-//! Pieces and forms of move texts, written as bytes.
+//! Pieces and forms of move texts, as bytes.
 
 ghost use Rattle.std.specs.Prelude.{◌≡◌, ◌+◌, ◌≤◌, [], ◌∷◌, ◌++◌, length};
 ghost use Rattle.arrayvec.specs.ArrayString.{array_string_len};
@@ -73,7 +73,7 @@ fn push_piece(text: &mut ArrayString<16>, piece: Piece)
     text.push_str(number_name(piece.number()));
 }
 
-/// The name of a piece, as the texts of moves spell it.
+/// The name of a piece, as move texts write it.
 pub fn piece_name(piece: Piece) -> ArrayString<16>
     ensures { result.bytes ≡ piece_text piece }
 {

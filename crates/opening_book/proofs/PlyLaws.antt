@@ -1,4 +1,4 @@
--- One ply of a played game, as it is counted.
+-- How one ply of a played game is counted.
 use Rattle.std.proofs.Common.{◌≡◌, ◌≢◌, ℕ, zero, suc, ◌+◌, ◌-◌, ◌≤◌, ◌<◌, true, false, List, [], ◌∷◌, ◌++◌, length, take, drop, refl, sym, ◌∙◌, ap, subst, arith, inl, inr, Some, None, get_or, slice_index_or, length-append}
 use Rattle.std.specs.Prelude.{Bool, Option, IfSome, slice_get, slice_set, slice_index, ◌||◌}
 use Rattle.std.specs.List.{list_any}
@@ -87,7 +87,7 @@ next_within shifts i o long small before here s t e = elim (cases_eq s i) [
   | inr other ↦ before s t (sym (get_or-set_other shifts i s o None other) ∙ e)
 ]
 
--- The place that a move goes to, by the board after it
+-- The place to which a move goes, by the board after it
 
 pub placed_by : (r : Position) (n : Move) → IsBoard (after r n).board → IsPlaced n
 unfolding after
@@ -117,7 +117,7 @@ replay_more : (p : Position) (ms : List Move) (m : Move) → replay p (ms ++ m �
 replay_more p [] m = refl
 replay_more p (x ∷ ms) m = replay_more (after p x) ms m
 
--- The game before its last move, of which i plies were taken back
+-- the game before its last move, after i plies were undone
 
 pub record IsStep (whole now back : Course) (i : ℕ) (n : Move) : Type 0 where
   pub game_type : back.game_type ≡ whole.game_type

@@ -1,5 +1,6 @@
-//! An opening book: how often each legal move of a position was made in played games, where
-//! positions that are one another turned, mirrored and shifted count as one.
+//! An opening book: how often each legal move of a position was made in played games.
+//!
+//! Positions count as one if they differ only by turning, mirroring and shifting.
 #![tactic(auto)]
 
 mod plies;

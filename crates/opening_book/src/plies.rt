@@ -15,8 +15,8 @@ ghost use Rattle.opening_book.specs.Plies.{IsPlaced, AreShifts, is_taken_to, one
 use hive_model::{Game, Key, Move, Place};
 use symmetry::{Symmetry, alike, moved};
 
-/// Adds to the count of each move the plies of the game whose move a symmetry takes to it, and
-/// takes the game back to its opening.
+/// Adds to the count of each move the plies of the game whose move a symmetry maps to it. The game
+/// is then back at its opening.
 pub fn count_plies<G: Game>(root: &Key, moves: &[Move], counts: &mut [u64], played: &mut G)
     requires long { length counts.old ≡ length moves.now }
     requires few { (j : ℕ) → j < length counts.old → slice_index counts.old j < 2 ^ 40 }
@@ -29,7 +29,7 @@ pub fn count_plies<G: Game>(root: &Key, moves: &[Move], counts: &mut [u64], play
     ensures game_type { (G.course played.new).game_type ≡ (G.course played.old).game_type }
     ensures opening { (G.course played.new).made ≡ [] }
 {
-    // tells that the game leads to a board
+    // establishes that the game leads to a board
     played.is_sound();
     let count = played.plies();
     for i in 0..count {
@@ -41,7 +41,7 @@ pub fn count_plies<G: Game>(root: &Key, moves: &[Move], counts: &mut [u64], play
     }
 }
 
-/// Adds one to the count of each move that a symmetry takes this one to.
+/// Adds one to the count of each move to which a symmetry maps this one.
 fn count_ply(moves: &[Move], counts: &mut [u64], shifts: &[Option<Place>; 12], played: &Move)
     requires long { length counts.old ≡ length moves.now }
     requires few { (j : ℕ) → j < length counts.old → slice_index counts.old j < 2 ^ 41 }
@@ -59,7 +59,7 @@ fn count_ply(moves: &[Move], counts: &mut [u64], shifts: &[Option<Place>; 12], p
     }
 }
 
-/// By each of the symmetries the shift from the one key to the other.
+/// For each of the symmetries, the shift from the one key to the other, if there is one.
 fn shifts_between(from: &Key, to: &Key) -> [Option<Place>; 12]
     ensures { AreShifts result from.now to.now }
 {
@@ -70,7 +70,7 @@ fn shifts_between(from: &Key, to: &Key) -> [Option<Place>; 12]
     shifts
 }
 
-/// Whether one of the symmetries takes the move to the other, with its shift.
+/// Whether one of the symmetries, with its shift, maps the move to the other.
 fn is_taken_to(shifts: &[Option<Place>; 12], from: &Move, to: &Move) -> bool
     requires placed { IsPlaced from.now }
     requires within { (s : ℕ) (t : Place) → slice_index_or shifts.now s None ≡ Some t
@@ -85,7 +85,7 @@ fn is_taken_to(shifts: &[Option<Place>; 12], from: &Move, to: &Move) -> bool
     false
 }
 
-/// Whether the symmetry of this number and the shift, if there is one, take the move to the other.
+/// Whether the symmetry of this number and its shift, if there is one, map the move to the other.
 fn is_taken_by(index: u8, shift: Option<Place>, from: &Move, to: &Move) -> bool
     requires number { index < 12 }
     requires placed { IsPlaced from.now }

@@ -49,8 +49,8 @@ impl Model for Tally {
 }
 
 impl Tally {
-    /// The counts of the game's position over no games. The game is not over; it and the stack,
-    /// which needs room for one level, are as before. All memory is taken here.
+    /// The counts for the game's position over no games. The game is not over. The stack needs room
+    /// for one level. Game and stack are as before. All memory is taken here.
     pub fn of<G: Game>(
         alloc: Global,
         game: &mut G,
@@ -77,8 +77,8 @@ impl Tally {
         })
     }
 
-    /// Adds the plies of a played game, finished or not, and takes it back to its opening. Fewer
-    /// than 2 to the power 40 plies are counted with it.
+    /// Adds the plies of a played game, finished or not, and takes it back to its opening. The
+    /// caller ensures that fewer than 2 to the power 40 plies are then counted in all.
     pub fn add<G: Game>(&mut self, played: &mut G)
         requires { self.old.plies + length (G.course played.old).made < 2 ^ 40 }
         ensures added { (p : Position) (games : List BookGame) → IsTally p games self.old
@@ -101,15 +101,15 @@ impl Tally {
         self.plies += u64::from(plies);
     }
 
-    /// How many plies of played games were looked at.
+    /// How many plies of played games were counted.
     pub fn plies(&self) -> u64
         ensures { result ≡ self.now.plies }
     {
         self.plies
     }
 
-    /// The first of the legal moves that was made most often, and how often; none where none was
-    /// made.
+    /// The first of the legal moves that were made most often, and how often; `None` if none was
+    /// ever made.
     pub fn best(&self) -> Option<(Move, u64)>
         ensures { (p : Position) (games : List BookGame) → IsTally p games self.now
             → IsBook p games result }
@@ -134,7 +134,7 @@ fn listed(alloc: Global, stack: &MoveStack, level: u32) -> Result<Vec<Move>, All
     Ok(moves)
 }
 
-/// The first place of the greatest count, and that count; 0 where every count is 0.
+/// The first place of the greatest count, and that count, which is 0 if every count is 0.
 fn most_made(counts: &[u64]) -> (usize, u64)
     ensures { IsMost counts.now (length counts.now) result.0 result.1 }
 {

@@ -1,4 +1,4 @@
--- One turn of a loop that counts what is behind each move, over plain values.
+-- One turn of a loop that counts what follows each move, over plain values.
 use Rattle.std.proofs.Common.{◌≡◌, ℕ, zero, suc, ◌+◌, ◌-◌, ◌*◌, ◌^◌, ◌≤◌, ◌<◌, List, [], ◌∷◌, length, drop, refl, sym, ◌∙◌, ap, subst, arith, Some}
 use Rattle.std.specs.List.{sum_by, slice_get}
 use Rattle.std.proofs.lemmas.List.Sums.{sum_by-cons}
@@ -13,11 +13,11 @@ use Rattle.search_laws.proofs.NodesLaws.{lines-one, lines-next}
 use Rattle.plain_search.proofs.PlySteps.{behind}
 use Rattle.plain_search.proofs.FewMoves.{after-few, lines-fit}
 
--- the lists of so many moves behind a move
+-- the lists of n moves after a move
 abbrev pub lines_after : Position → ℕ → Move → ℕ
 lines_after p n m = lines (after p m) n
 
--- what is counted, with what the moves from place i on count, is the whole
+-- the count so far and that of the moves from index i on add up to the whole
 abbrev pub CountsTo : Position → ℕ → ℕ → ℕ → Type 0
 CountsTo p d i total = total + sum_by (lines_after p (d - 1)) (drop i (moves p)) ≡ lines p d
 

@@ -1,4 +1,5 @@
--- How long a list of legal moves is, and how many lists of a few legal moves there are, by the number of occupied places.
+-- How long a list of legal moves is, and how many lists of a few legal moves there are, by the
+-- number of occupied places.
 use Rattle.std.proofs.Common.{◌≡◌, ℕ, zero, suc, ◌+◌, ◌*◌, ◌^◌, ◌≤◌, ◌<◌, Bool, true, false, cond, not, List, [], ◌∷◌, ◌++◌, length, length-append, map, arith, lit<, Option, Some, None}
 use Rattle.std.specs.List.{filter, flat_map, sum_by}
 use Rattle.std.specs.FinMap.Entries.{put as put_entry, by_order}
@@ -57,7 +58,8 @@ in_order-few : (ps : List Place) → length (in_order ps) ≤ length ps
 in_order-few [] = omega arith
 in_order-few (p ∷ ps) = omega (arith, with_place-few p (in_order ps), in_order-few ps)
 
--- no more near places than the occupied places, their six neighbours each, and the origin
+-- there are at most as many near places as occupied places, their six neighbours each, and the
+-- origin
 near-few : (b : Stacks) → length (near b) ≤ 7 * length b + 1
 near-few b =
     let ps = places_of b in
@@ -69,7 +71,7 @@ near-few b =
 
 -- Legal moves
 
--- no more pairs than pieces times near places
+-- there are at most as many pairs as pieces times near places
 pairs-few : (p : Position) → length (pairs p) ≤ 28 * (7 * length p.board + 1)
 unfolding pairs
 pairs-few p =

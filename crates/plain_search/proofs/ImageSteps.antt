@@ -1,4 +1,4 @@
--- What is known behind the image of a move, over plain values.
+-- What is known after the image of a move, over plain values.
 use Rattle.std.proofs.Common.{◌≡◌, ℕ, ◌≤◌, ◌<◌, List, [], ◌∷◌, ◌++◌, length, get_or, inl, inr, refl, sym, ◌∙◌, ap, subst, arith}
 use Rattle.std.specs.Prelude.{Some}
 use Rattle.std.proofs.lemmas.Option.{slice_get-get_or}
@@ -22,7 +22,7 @@ use Rattle.symmetry.proofs.LineLaws.{lines_taken}
 use Rattle.plain_search.specs.declared.images.Known.{Known}
 use Rattle.plain_search.specs.Known.{AreKnown, AreSymmetriesOf}
 
--- as many go on behind a legal move as behind an image that is known
+-- as many lists follow a legal move as follow an image that is known
 pub image-count : (game : Course) (own : List OwnSymmetry) (known slice : List Known) (m : Move) (n count plies : ℕ) → IsGame game.game_type game.made → plies ≡ length game.made
     → plies ≤ 5064 → n < 8 → AreSymmetriesOf (position game) own → AreKnown (position game) n known → IsOn (moves (position game)) m → slice ≡ known
     → (o : OwnSymmetry) × IsOn own o × IsOn slice (record { moved = move_by o.symmetry o.shift m; count = count }) → count ≡ lines (after (position game) m) n
@@ -35,7 +35,7 @@ image-count game own known slice m n count plies is all_plies short low are all 
     all e (subst (λ (es : List Known). IsOn es e) same there)
     ∙ sym (lines_taken p m p _ sound.0.board sound.0.board takes legal (length game.made) n sound.1 sound.1 (omega (arith, all_plies, short, low)))
 
--- an item of a list stands on it
+-- an item of a list is on it
 item-on : {X : Type 0} (xs : List X) (i : ℕ) (x : X) → i < length xs → x ≡ get_or xs i x → IsOn xs x
 item-on xs i x low is = on-at xs i x (slice_get-get_or xs i x low ∙ ap Some (sym is))
 

@@ -1,4 +1,4 @@
--- Boards on which the same places are as high, and which differ in what stands on one of them.
+-- Boards with equal heights that differ in the pieces on one place only.
 use Rattle.std.proofs.Common.{◌≡◌, ◌≢◌, ℕ, Bool, true, false, cond, not, ◌&&◌, List, [], ◌∷◌, ◌++◌, length, take, inl, inr, refl, sym, ◌∙◌, ap, subst, if◌then◌else◌, length-append}
 use Rattle.std.specs.Prelude.{Some, nat_eq, nat_lt}
 use Rattle.std.specs.List.{filter, position, list_all, flat_map}
@@ -110,7 +110,7 @@ module _ (q : Place) (b c : Stacks) (k : AreLike q b c) where
   along x each [] = refl
   along x each (p ∷ ps) = let more = along x each ps in λ i. spot_here p (each p i) (more i)
 
-  -- a piece that stands on neither stack stands where it stood
+  -- a piece that is on neither stack keeps its spot
   pub spot_same : (x : ℕ) → position (nat_eq x) (stack_at b q) ≡ position (nat_eq x) (stack_at c q) → spot_of b x ≡ spot_of c x
   spot_same x here = along x (spots_among x here) (places_of b) ∙ ap (λ ps. spot_among c ps x) k.places
 

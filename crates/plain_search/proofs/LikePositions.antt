@@ -80,7 +80,7 @@ module _ (side : Colour) (q : Place) (x y : ℕ) (b c : Stacks) (k : ArePlaced s
   only_one : (z : ℕ) (level : ℕ) → slice_get (x ∷ []) level ≡ Some z → z ≡ x
   only_one z level e = elim (get_cases [] x level z e) [ inl none ↦ let wrong : None ≡ Some z = none in absurd (cc) | inr here ↦ sym here.1 ]
 
-  -- no other piece stands on the place
+  -- no other piece is on the place
   elsewhere : (z : ℕ) → z ≢ x → (s : Spot) → spot_of b z ≡ Some s → s.place ≢ q
   elsewhere z apart s e same =
       let stands : slice_get (stack_at b s.place) s.level ≡ Some z = spot_of_stands b z s e in

@@ -83,7 +83,7 @@ module _ (q : Place) (b c : Stacks) (k : AreLike q b c) where
   one_same p r None = refl
   one_same p r (Some y) = ap (λ t. not (is_kind (kind_of y) Mosquito) && t) (reach_same (kind_of y) p r)
 
-  -- a mosquito that is not beside the place where the boards differ
+  -- a mosquito that is not beside the place at which the boards differ
   copies_same : (p r : Place) → (¬ AreNeighbours p q) → copies b p r ≡ copies c p r
   copies_same p r apart =
       let top = λ (d : Dir). tops q b c k (step p d) (λ e. apart (d, e)) in

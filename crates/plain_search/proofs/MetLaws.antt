@@ -94,11 +94,11 @@ own_board a b e = (boards_tested a b).1 (record {
   rest = ap (λ (k : KeyParts). k.rest) e;
 })
 
--- the test of the boards of two keys with one turn tells whether they are one
+-- the test of the boards of two keys with one turn holds exactly if the keys are equal
 pub keys_tested : (a b : KeyParts) (tested : Bool) → a.turn ≡ b.turn → tested ≡ same_board a b → IsTrue tested ↔ a ≡ b
 keys_tested a b tested turn is = (λ h. one_key a b turn (sym is ∙ h), λ e. is ∙ own_board a b e)
 
--- what is kept of the key of a position
+-- what is stored for the key of a position
 pub known_moves : (p : Position) (k : KeyParts) (n : ℕ) → IsCountKey p k → HasMoves k n → n ≡ length (moves p)
 known_moves p k n h has = sym (has h.like h.sound h.of_key) ∙ ap length h.same_moves
 

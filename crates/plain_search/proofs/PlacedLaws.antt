@@ -57,7 +57,7 @@ the_mosquito = the_one Mosquito refl
 pub the_pillbug : (z : ℕ) → z < 28 → kind_of z ≡ Pillbug → z ≡ piece_of (colour_of z) Pillbug 0
 the_pillbug = the_one Pillbug refl
 
--- a piece that stands alone on a place is found there
+-- a piece that is alone on a place is found there
 
 or_here : (p : Place) (o : Option ℕ) (s : Option Spot) → is_some s ≡ true → is_some (spot_here p o s) ≡ true
 or_here p None s h = h

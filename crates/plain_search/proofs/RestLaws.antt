@@ -1,4 +1,4 @@
--- Legal moves where the resting piece is one that the side to move can neither move nor throw.
+-- Legal moves, if the resting piece is one that the side to move can neither move nor throw.
 use Rattle.std.proofs.Common.{◌≡◌, ℕ, Bool, true, false, not, ◌&&◌, ◌||◌, [], ◌⊎◌, inl, inr, refl, sym, ◌∙◌, ap, if◌then◌else◌}
 use Rattle.std.specs.Prelude.{Option, Some, None, nat_eq, map}
 use Rattle.std.specs.List.{filter, flat_map}
@@ -22,7 +22,7 @@ use Rattle.hive_model.proofs.ThrowLaws.{can_from}
 use Rattle.plain_search.specs.Rested.{RestsUntouched, awake, RestDoesNotMatter}
 use Rattle.plain_search.proofs.LikePositions.{and_same, any_same, not_other}
 
--- a first test that fails only where the second fails too is not needed
+-- a first test that fails only if the second fails too is not needed
 not_needed : (t u v : Bool) → (t ≡ true → u ≡ false) → (not t && (u && v)) ≡ (u && v)
 not_needed true u v h = sym (ap (λ w. w && v) (h refl))
 not_needed false u v h = refl
@@ -53,7 +53,7 @@ module _ (p : Position) (k : RestsUntouched p) where
   throws_same z e None = refl
   throws_same z e (Some s) = ap (λ t. nat_eq (height_at p.board s.place) 1 && (not t && can_throw p.board z s.place)) e
 
-  -- a thrower stands beside the resting piece nowhere
+  -- no thrower is beside the resting piece
   not_beside : (w z : ℕ) (s a : Spot) → colour_of w ≡ p.side → spot_of p.board w ≡ Some s → throws_from p.board None w (Some s) ≡ true → spot_of p.board z ≡ Some a → is_piece z p.rest ≡ true → are_neighbours s.place a.place ≡ false
   not_beside w z s a own over throws from rests = false_from_ne_true _ (λ e.
       k.untouched z w a s (rest_is z p.rest rests) from own (thrower_kind p.board w s throws) over (neighbours_from s.place a.place e))

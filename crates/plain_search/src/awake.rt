@@ -1,4 +1,4 @@
-//! The keys by which legal moves are counted once.
+//! The keys under which legal moves are counted once.
 
 ghost use Rattle.std.specs.Prelude.{◌≡◌, ℕ, IsTrue, Some};
 ghost use Rattle.hive_model.specs.declared.places.Spot.{Spot as AnySpot};
@@ -10,7 +10,7 @@ ghost use Rattle.plain_search.specs.Rested.{RestsUntouched};
 
 use hive_model::{Game, Key, Kind, Piece, Place};
 
-/// Whether the piece, where it is on the board, does not stand beside the place.
+/// Whether the piece, if it is on the board, is not beside the place.
 fn is_apart<G: Game>(game: &G, piece: Option<Piece>, place: Place) -> bool
     ensures { IsTrue result → (x : ℕ) (t : AnySpot) → piece ≡ Some x
         → spot_of (position (G.course game.now)).board x ≡ Some t → ¬ AreNeighbours t.place place }
@@ -24,8 +24,8 @@ fn is_apart<G: Game>(game: &G, piece: Option<Piece>, place: Place) -> bool
     spot.place.towards(place).is_none()
 }
 
-/// Whether the piece, which rests, is of the side that is not to move, and stands beside no pillbug
-/// and no mosquito of the side to move.
+/// Whether the piece that rests belongs to the side that is not to move, and is not beside a
+/// pillbug or a mosquito of the side to move.
 fn is_untouched<G: Game>(game: &G, rest: Piece) -> bool
     requires { (position (G.course game.now)).rest ≡ Some rest }
     ensures { IsTrue result → RestsUntouched (position (G.course game.now)) }
@@ -41,8 +41,8 @@ fn is_untouched<G: Game>(game: &G, rest: Piece) -> bool
         && is_apart(game, Piece::new(side, Kind::Mosquito, 0), spot.place)
 }
 
-/// A key by which the legal moves are counted of a game of which the given piece rests: its own,
-/// or the same without the resting piece, where the legal moves do not depend on it.
+/// A key by which the legal moves of a game are counted, if the given piece rests. It is the game's
+/// own key, or the same without the resting piece if the legal moves do not depend on it.
 pub fn count_key<G: Game>(game: &G, rest: Piece) -> Key
     requires { (position (G.course game.now)).rest ≡ Some rest }
     ensures { IsCountKey (position (G.course game.now)) result }

@@ -1,4 +1,4 @@
-//! How many lists of legal moves there are.
+//! The number of lists of legal moves (perft).
 
 ghost use Rattle.std.specs.Prelude.{◌≡◌, ◌+◌, ◌*◌, ◌<◌, ◌≤◌, length};
 ghost use Rattle.hive_model.specs.Games.{after};
@@ -13,8 +13,8 @@ use crate::replies::lines_of_two;
 use hive_model::{Game, Move, MoveStack};
 use symmetry::OwnSymmetry;
 
-/// How many lists of so many legal moves, at most 8, the game can go on with. The last ply of them
-/// is counted, neither listed nor played. The game and the stack are as before.
+/// The number of lists of `plies` legal moves, at most 8, that the game can go on with. The last
+/// ply is counted, but neither listed nor played. The game and the stack do not change.
 pub fn count_lines<G: Game>(
     game: &mut G,
     plies: u32,
@@ -33,8 +33,8 @@ pub fn count_lines<G: Game>(
     lines_from(game, plies, stack, counts)
 }
 
-/// `count_lines`, where so few places are occupied that every list of moves is short. A ply leaves
-/// at most two places more.
+/// `count_lines`, if so few places are occupied that every list of moves is short. A ply occupies
+/// at most two more places.
 #[cycle(count)]
 fn lines_from<G: Game>(
     game: &mut G,
@@ -73,8 +73,8 @@ fn lines_from<G: Game>(
     total
 }
 
-/// `lines_behind`, where it is known already how many lists go on behind some moves. As many go on
-/// behind a move that a symmetry of the position takes to one of these, so that it is not played.
+/// `lines_behind`, if it is already known how many lists follow some moves. A move that a symmetry
+/// of the position takes to one of these has as many, so that it is not played.
 #[cycle(count)]
 fn lines_once<G: Game>(
     game: &mut G,
@@ -107,7 +107,7 @@ fn lines_once<G: Game>(
     count
 }
 
-/// How many lists of so many legal moves the game can go on with behind this legal one.
+/// The number of lists of `plies` legal moves that follow this legal move.
 #[cycle(count)]
 fn lines_behind<G: Game>(
     game: &mut G,

@@ -1,4 +1,4 @@
-//! What was counted behind the moves of one position, found again by the images of a move under the
+//! What was counted after the moves of one position, found again by the images of a move under the
 //! symmetries of the position.
 
 ghost use Rattle.std.specs.Prelude.{◌≡◌, ℕ, IfSome, IsTrue};
@@ -15,18 +15,19 @@ use arrayvec::ArrayVec;
 use hive_model::{Game, Move, Piece};
 use symmetry::{OwnSymmetries, OwnSymmetry, own_symmetries};
 
-/// A move, and how many lists of so many moves go on behind it.
+/// A move, and the number of lists of moves that follow it.
 #[derive(Clone, Copy)]
 pub struct Known {
     pub moved: Move,
     pub count: u128,
 }
 
-/// What is known of the moves of one position. Where it has more, the first of them are known.
+/// What is known about the moves of one position. If there are more than 128, the first of them are
+/// known.
 pub type KnownLines = ArrayVec<Known, 128>;
 
 impl Default for Known {
-    /// What stands where nothing is known.
+    /// The entry of an unused row.
     fn default() -> Known {
         Known {
             moved: Move::Pass,
@@ -35,8 +36,8 @@ impl Default for Known {
     }
 }
 
-/// The symmetries but the identity by which the position is alike to itself, where few pieces are
-/// in play. Where there are more, hardly any position has one, and none is looked for.
+/// The symmetries, except the identity, by which the position is alike to itself, if few pieces are
+/// in play. If there are more, hardly any position has one, and none is looked for.
 pub fn symmetries_of<G: Game>(game: &G) -> OwnSymmetries
     ensures { AreSymmetriesOf (position (G.course game.now)) result.items }
 {
@@ -61,7 +62,7 @@ fn has_few_pieces<G: Game>(game: &G) -> bool {
     true
 }
 
-/// How many lists go on behind the image of the move by one of the symmetries, if that is known.
+/// The number of lists that follow the image of the move by one of the symmetries, if it is known.
 pub fn known_count(own: &[OwnSymmetry], known: &[Known], m: &Move) -> Option<u128>
     requires { IsPlaced m.now }
     ensures { IfSome result (λ n. (o : AnySymmetry) × IsOn own.now o
@@ -76,7 +77,7 @@ pub fn known_count(own: &[OwnSymmetry], known: &[Known], m: &Move) -> Option<u12
     None
 }
 
-/// How many lists go on behind the move, if that is known.
+/// The number of lists that follow the move, if it is known.
 fn count_of(known: &[Known], m: &Move) -> Option<u128>
     ensures { IfSome result (λ n. IsOn known.now (record { moved = m.now; count = n })) }
 {
@@ -88,14 +89,14 @@ fn count_of(known: &[Known], m: &Move) -> Option<u128>
     None
 }
 
-/// Whether the two are one move.
+/// Whether the two moves are the same.
 fn are_same(m: &Move, n: &Move) -> bool
     ensures { IsTrue result → m.now ≡ n.now }
 {
     m == n
 }
 
-/// Notes how many lists go on behind the move, if there is room.
+/// Stores the number of lists that follow the move, if there is room.
 pub fn note(known: &mut KnownLines, moved: Move, count: u128)
     ensures { (p : Position) (n : ℕ) → AreKnown p n known.old.items
         → count ≡ lines (after p moved) n → AreKnown p n known.new.items }

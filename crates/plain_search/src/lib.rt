@@ -1,7 +1,9 @@
-//! What a position is worth and how many lists of legal moves it has, as they are defined: every
-//! line of play is tried, with no window and no bound. Only what is known to be the same is counted
-//! once: the replies to placements on one place, what goes on behind moves that a symmetry takes to
-//! each other, and the legal moves of a position that was met before.
+//! Minimax values and counts of lists of legal moves (perft), as they are defined: every line of
+//! play is tried, without windows or bounds.
+//!
+//! What is known to be the same is counted once: the replies to placements on one place, and what
+//! follows moves that a symmetry takes to each other. The legal moves of a position that was met
+//! before are not counted again either.
 #![tactic(auto)]
 
 mod awake;

@@ -1,4 +1,4 @@
-//! How many legal moves there are in positions that were met.
+//! The numbers of legal moves in positions that were met.
 
 ghost use Rattle.std.specs.Prelude.{
   ◌≡◌,
@@ -19,16 +19,16 @@ use std::alloc::{AllocError, Global};
 use std::hash::{FoldHasher, Hash, Hasher};
 use std::marker::Model;
 
-/// A key, and how many legal moves there are in each sound position with it.
+/// A key, and the number of legal moves in each sound position with it.
 #[derive(Clone, Copy)]
 struct Met {
     key: Key,
     moves: u32,
 }
 
-/// How many legal moves there are in positions that were met, by their keys: the list of its
-/// places, each of which keeps one key with its number, or is free. Of two keys with one place the
-/// later is kept.
+/// The numbers of legal moves in positions that were met, by their keys. Contracts see the list of
+/// rows, each of which stores one key with its number, or is free. Of two keys with the same row,
+/// the later one is kept.
 #[derive(Drop)]
 pub struct MoveCounts {
     places: Vec<Option<Met>>,
@@ -46,14 +46,14 @@ impl Model for MoveCounts {
     ghost invariant = { λ c. AreMet c.places.items };
 }
 
-/// The number of a key, by which its place is found.
+/// The hash of a key, which selects its row.
 fn number_of(key: &Key) -> u64 {
     let mut state = FoldHasher::default();
     key.hash(&mut state);
     state.finish()
 }
 
-/// Whether the two are one key.
+/// Whether the two keys are equal.
 fn are_equal(key: &Key, other: &Key) -> bool
     ensures { IsTrue result ↔ key.now ≡ other.now }
 {
@@ -61,8 +61,8 @@ fn are_equal(key: &Key, other: &Key) -> bool
 }
 
 impl MoveCounts {
-    /// Room for so many positions, all of it free. With no room nothing is ever known. The only
-    /// error is want of memory.
+    /// Room for this many positions, all of it free. Without room, nothing is ever known. The only
+    /// error is that memory runs out.
     pub fn new(alloc: Global, room: u32) -> Result<MoveCounts, AllocError>
         ensures room { IfOk result (λ counts. length counts ≡ room) }
         ensures free { IfOk result (λ counts. counts ≡ replicate room None) }
@@ -72,14 +72,14 @@ impl MoveCounts {
         })
     }
 
-    /// Whether there is room for any position.
+    /// Whether there is room for at least one position.
     pub(crate) fn has_room(&self) -> bool
         ensures { IsTrue result ↔ 0 < length self.now }
     {
         !self.places.is_empty()
     }
 
-    /// The place at which the key is kept.
+    /// The index of the row for the key.
     pub(crate) fn place_of(&self, key: &Key) -> usize
         requires { 0 < length self.now }
         ensures { result < length self.now }
@@ -87,8 +87,8 @@ impl MoveCounts {
         (number_of(key) % self.places.len() as u64) as usize
     }
 
-    /// How many legal moves there are in each sound position with the key, if the place keeps the
-    /// key: the number that it keeps. Where it keeps another key or is free, nothing is known.
+    /// The number of legal moves in each sound position with the key, if the row stores the key. If
+    /// it stores another key or is free, nothing is known.
     pub(crate) fn look(&self, place: usize, key: &Key) -> Option<u32>
         requires { place < length self.now }
         ensures kept { (n : ℕ) → result ≡ Some n ↔ KeepsAt self.now place key.now n }
@@ -102,7 +102,7 @@ impl MoveCounts {
         }
     }
 
-    /// Keeps at the place how many there are, instead of what it kept before.
+    /// Stores the number for the key in the row, in place of what it had before.
     pub(crate) fn keep(&mut self, place: usize, key: Key, moves: u32)
         requires place { place < length self.old }
         requires moves { HasMoves key moves }

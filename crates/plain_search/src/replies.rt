@@ -1,5 +1,5 @@
-//! How many lists of two legal moves there are. Placements on one place that have the same replies
-//! are counted once.
+//! The number of lists of two legal moves. Placements on one place that have the same replies are
+//! counted once.
 
 ghost use Rattle.std.specs.Prelude.{
   ◌≡◌,
@@ -29,17 +29,18 @@ use crate::move_counts::MoveCounts;
 use arrayvec::ArrayVec;
 use hive_model::{Game, Kind, Move, MoveStack, Piece, Place};
 
-/// How many replies there are to a placement of any piece but a queen on the place.
+/// The number of replies to a placement on the place of any piece but a queen.
 #[derive(Clone, Copy, Default)]
 struct Counted {
     place: Place,
     replies: u32,
 }
 
-/// What was counted in one position. Where there are more places, the first of them are known.
+/// What was counted in one position. If there are more than 64 places, the first of them are known.
 type CountedPlaces = ArrayVec<Counted, 64>;
 
-/// How many lists of two legal moves the game can go on with. The game and the stack are as before.
+/// The number of lists of two legal moves that the game can go on with. The game and the stack do
+/// not change.
 pub fn lines_of_two<G: Game>(game: &mut G, stack: &mut MoveStack, counts: &mut MoveCounts) -> u128
     requires few { length (position (G.course game.old)).board + 4 ≤ 44 }
     requires room { HasRoom 2 (G.course game.old) stack.old }
@@ -60,7 +61,7 @@ pub fn lines_of_two<G: Game>(game: &mut G, stack: &mut MoveStack, counts: &mut M
     total
 }
 
-/// Where the mosquito of the side that is not to move stands, if it is on the board.
+/// The place of the mosquito of the side that is not to move, if it is on the board.
 fn their_mosquito<G: Game>(game: &G) -> Option<Place>
     ensures place { result ≡ their_mosquito (position (G.course game.now)) }
     ensures within { IfSome result (λ r. IsWithin 9000 r) }
@@ -74,7 +75,7 @@ fn their_mosquito<G: Game>(game: &G) -> Option<Place>
     Some(spot.place)
 }
 
-/// How many replies a legal move has. The game is as before.
+/// The number of replies to a legal move. The game does not change.
 fn replies_to<G: Game>(
     game: &mut G,
     m: Move,
@@ -99,7 +100,8 @@ fn replies_to<G: Game>(
     replies_after(game, m, counts)
 }
 
-/// Whether the piece is in hand and no queen, and the place not beside the other side's mosquito.
+/// Whether the piece is in hand and not a queen, and the place is not beside the other side's
+/// mosquito.
 fn is_plain<G: Game>(game: &G, piece: Piece, place: Place, mosquito: Option<Place>) -> bool
     requires mosquito { mosquito ≡ their_mosquito (position (G.course game.now)) }
     requires within { ForSome mosquito (λ r. IsWithin 9000 r) }
@@ -117,7 +119,8 @@ fn is_plain<G: Game>(game: &G, piece: Piece, place: Place, mosquito: Option<Plac
     from.towards(place).is_none()
 }
 
-/// How many replies a plain placement has: as many as another on the place that was counted.
+/// The number of replies to a plain placement: as many as to another one that was counted on the
+/// place.
 fn replies_to_plain<G: Game>(
     game: &mut G,
     piece: Piece,
@@ -143,7 +146,7 @@ fn replies_to_plain<G: Game>(
     replies
 }
 
-/// How many replies were counted to a placement on the place, if any were.
+/// The number of replies to a placement on the place, if it was counted.
 fn replies_known(counted: &[Counted], place: Place) -> Option<u32>
     ensures { IfSome result (λ n. (i : ℕ) × (slice_get counted.now i
         ≡ Some (record { place = place; replies = n }))) }
@@ -156,7 +159,7 @@ fn replies_known(counted: &[Counted], place: Place) -> Option<u32>
     None
 }
 
-/// Notes how many replies there are to a placement on the place, if there is room.
+/// Stores the number of replies to a placement on the place, if there is room.
 fn note(counted: &mut CountedPlaces, place: Place, replies: u32)
     ensures { (i : ℕ) (e : AnyCounted) → slice_get counted.new.items i ≡ Some e
         → (slice_get counted.old.items i ≡ Some e)
@@ -165,7 +168,8 @@ fn note(counted: &mut CountedPlaces, place: Place, replies: u32)
     let _ = counted.try_push(Counted { place, replies });
 }
 
-/// How many replies a legal move has, counted behind it, or as many as in a position that was met.
+/// The number of replies to a legal move: counted after it, or looked up if the position was met
+/// before.
 fn replies_after<G: Game>(game: &mut G, m: Move, counts: &mut MoveCounts) -> u32
     requires legal { IsOn (moves (position (G.course game.old))) m }
     requires spare { 1 ≤ (G.course game.old).spare }
@@ -178,8 +182,8 @@ fn replies_after<G: Game>(game: &mut G, m: Move, counts: &mut MoveCounts) -> u32
     replies
 }
 
-/// How many legal moves the game has behind this one, as many as in a position that was met, if one
-/// with its key was. The game is as before.
+/// The number of legal moves after this move, looked up if a position with the same key was met
+/// before. The game does not change.
 fn count_once<G: Game>(game: &mut G, m: &Move, counts: &mut MoveCounts) -> u32
     requires { (position (G.course game.old)).rest ≡ moved m.now }
     ensures count { result ≡ length (moves (position (G.course game.old))) }

@@ -1,4 +1,4 @@
-//! What a position is worth by minimax.
+//! The minimax value of a position.
 
 ghost use Rattle.std.specs.Prelude.{◌≡◌};
 ghost use Rattle.hive_model.specs.Minimax.{value, reply_value};
@@ -8,13 +8,12 @@ ghost use Rattle.search_laws.specs.Nodes.{HasRoom, CanReply, AreAsBefore};
 use hive_model::{Game, Move, MoveStack};
 use search_laws::leaf_value;
 
-/// Below what any position is worth.
+/// A number below the value of every position.
 const LOWEST: i32 = -1_000_100;
 
-/// What the position is worth to its side to move after `depth` plies of best play of both sides,
-/// from 0 to 64: every line of play is searched, with no window and no table. At depth 0, and where
-/// the game is over, that is the worth of the position itself. The game and the stack are as
-/// before.
+/// The minimax value of the position for its side to move at `depth`, from 0 to 64: every line of
+/// play is searched, without windows or tables. At depth 0, and if the game is over, it is the
+/// value of the position itself. The game and the stack do not change.
 #[cycle(minimax)]
 pub fn minimax<G: Game>(game: &mut G, depth: u32, stack: &mut MoveStack) -> i32
     requires room { HasRoom depth (G.course game.old) stack.old }
@@ -36,7 +35,7 @@ pub fn minimax<G: Game>(game: &mut G, depth: u32, stack: &mut MoveStack) -> i32
     best
 }
 
-/// What a legal move is worth to the side that makes it, with `depth` plies of best play behind it.
+/// The value of a legal move for the side that makes it, with `depth` plies searched after it.
 #[cycle(minimax)]
 fn reply<G: Game>(game: &mut G, m: Move, depth: u32, stack: &mut MoveStack) -> i32
     requires can { CanReply m depth (G.course game.old) stack.old }

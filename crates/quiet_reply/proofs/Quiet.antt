@@ -1,4 +1,4 @@
--- After a quiet reply the board is worth what it was while no piece rested.
+-- After a quiet reply the board is worth what it was worth with no piece resting.
 use Rattle.std.proofs.Common.{◌≡◌, ◌≢◌, ℕ, zero, suc, ◌+◌, ◌-◌, ◌<◌, Bool, true, false, ◌&&◌, List, [], ◌∷◌, inl, inr, refl, sym, ◌∙◌, ap, subst, arith, if◌then◌else◌, ℤ, pos, neg_ℤ, ◌+ℤ◌, ◌-ℤ◌, ◌*ℤ◌, ◌≤ℤ◌, sum_by, count_by}
 use Rattle.std.specs.Prelude.{Option, Some, None, slice_get}
 use Rattle.std.proofs.lemmas.Int.{ints}
@@ -33,7 +33,7 @@ use Rattle.search_laws.proofs.ReplyLaws.{reply-at, reply-most}
 use Rattle.quiet_reply.specs.Quiet.{IsApart, IsQuiet, HasQuietReply, QuietRepliesHold, rest_weight}
 use Rattle.quiet_reply.proofs.Resting.{rest_most, other_worth}
 
--- where the game goes on no queen is surrounded
+-- if the game goes on, no queen is surrounded
 open_queen : (p : Position) → is_over p ≡ false → (c : Colour) → is_surrounded p.board c ≡ false
 open_queen p going White = false_from_ne_true _ (λ e. let wrong : false ≡ true = sym going ∙ from_over p (inl (surrounded_from p.board White e)) in cc)
 open_queen p going Black = false_from_ne_true _ (λ e. let wrong : false ≡ true = sym going ∙ from_over p (inr (surrounded_from p.board Black e)) in cc)
@@ -115,7 +115,7 @@ module _ (p : Position) (is : IsBoard p.board) (going : is_over p ≡ false) (re
   calm : (c : Colour) → is_surrounded (put (without p.board y) y q) c ≡ false
   calm c = ap (λ b. is_surrounded (put b y q) c) left ∙ still_open p.board is y q low absent reply.no_queen p.side reply.quiet c (open_queen p going c)
 
-  -- what the position after the reply is worth to the other side
+  -- the value of the position after the reply, for the other side
   then_worth : value (after p (To y q)) 0 ≡ neg_ℤ (evaluation p.board None p.side)
   then_worth =
       value_is p y q (calm White) (calm Black) ∙ ap (λ b. evaluation (put b y q) (Some y) (other_side p.side)) left

@@ -1,4 +1,4 @@
--- What the resting piece changes of what a board is worth, and what the other side says of it.
+-- How the resting piece changes the evaluation of a board, and the evaluation for the other side.
 use Rattle.std.proofs.Common.{◌≡◌, ◌≢◌, ℕ, zero, suc, ◌+◌, ◌<◌, ◌≤◌, Bool, true, false, not, ◌&&◌, inl, inr, refl, sym, ◌∙◌, ap, arith, if◌then◌else◌, ℤ, pos, neg_ℤ, ◌+ℤ◌, ◌-ℤ◌, ◌*ℤ◌, ◌≤ℤ◌, sum_by}
 use Rattle.std.specs.Prelude.{Some, None, nat_eq}
 use Rattle.std.proofs.lemmas.Int.{ints}
@@ -88,7 +88,7 @@ module _ (b : Stacks) (x : ℕ) where
       let most = counted_most c in
       omega (arith, sum, most)
 
-  -- a board is worth less to a side by no more than the piece counts where it rests no more
+  -- a board is worth less to a side by at most the weight of the piece, once it no longer rests
   pub rest_most : (s : Colour) → evaluation b (Some x) s ≤ℤ (evaluation b None s +ℤ pos (weight_of (kind_of x)))
   unfolding evaluation
   rest_most s =
@@ -98,7 +98,7 @@ module _ (b : Stacks) (x : ℕ) where
       go : (r : ℤ) (a c d e w : ℕ) → a ≤ c → e ≤ d + w → (r +ℤ (pos a -ℤ pos d)) ≤ℤ ((r +ℤ (pos c -ℤ pos e)) +ℤ pos w)
       go r a c d e w low high = omega (arith, ints, low, high)
 
--- what a board is worth to one side it costs the other
+-- the evaluation for one side is the negative of that for the other
 pub other_worth : (b : Stacks) (s : Colour) → evaluation b None (other_side s) ≡ neg_ℤ (evaluation b None s)
 unfolding evaluation
 other_worth b White = go (round_queen b White) (round_queen b Black) (free_weight b None White) (free_weight b None Black)

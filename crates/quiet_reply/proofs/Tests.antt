@@ -1,4 +1,4 @@
--- What the tests of the code tell.
+-- What the tests of the code establish.
 use Rattle.std.proofs.Common.{◌≡◌, Bool, true, false, int_lt, refl, ap, ◌∙◌}
 use Rattle.std.specs.Prelude.{Option, Some, None, is_some, IfSome}
 use Rattle.hive_model.specs.declared.places.Place.{Place}
@@ -54,7 +54,7 @@ module _ (r v : ℤ) (n : ℕ) (is : r ≡ pos n) (few : r ≤ℤ pos 10) (fits 
       let sum : to_z w32 (of_z w32 (difference r v)) ≡ pos n -ℤ to_z w32 (of_z w32 v) = omega (arith, ints, least, is, few) in
       sum ∙ ap (λ z. pos n -ℤ z) (to_z-of_z w32 v fits)
 
--- Where no queen is surrounded the game goes on
+-- If no queen is surrounded, the game goes on
 
 open_state : (w k fresh : Bool) → w ≡ false → k ≡ false → is_over_state (state_from w k fresh) ≡ false
 open_state true k fresh white black = absurd (cc)

@@ -1,4 +1,5 @@
--- Quiet replies: a piece that is brought to a quiet place changes nothing of a board's worth.
+-- Quiet replies: a piece that is placed on a quiet place does not change the evaluation of the
+-- board.
 use Rattle.std.specs.Prelude.{◌≡◌, ◌≢◌, ℕ, false, Option, Some, None, pos, ◌+ℤ◌, ◌≤ℤ◌}
 use Rattle.hive_model.specs.declared.pieces.Colour.{Colour}
 use Rattle.hive_model.specs.declared.pieces.Colour.TheVariants.{White, Black}
@@ -18,18 +19,18 @@ use Rattle.hive_model.specs.Minimax.{value}
 use Rattle.arcs.specs.Arcs.{OneArc}
 use Rattle.cut_keeper.specs.Rings.{is_suspect}
 
--- The occupied neighbours of the place are two that touch: they form one arc, of more than one, and
--- none of them stands between others.
+-- The occupied neighbours of the place are two that touch: they form one arc, of more than one
+-- place, and none of them lies between others.
 pub record IsBesidePair (b : Stacks) (q : Place) : Type 0 where
   pub arc : OneArc (is_occupied b) q
   pub more : (d : Dir) → ring_mask (ring (is_occupied b) q) ≢ weight d
   pub ends : (d : Dir) → is_suspect (ring (is_occupied b) q) d ≡ false
 
--- the side's queen, if she is in play, stands on no neighbour of the place
+-- The side's queen, if she is in play, is not on a neighbour of the place.
 abbrev pub IsApart : Stacks → Colour → Place → Type 0
 IsApart b c q = (s : Spot) → spot_of b (queen_of c) ≡ Some s → (d : Dir) → step s.place d ≢ q
 
--- the side may bring pieces to the place, which is beside two places that touch and beside no queen
+-- The side may place on this place, which is beside two places that touch and beside no queen.
 pub record IsQuiet (b : Stacks) (c : Colour) (q : Place) : Type 0 where
   pub within : IsWithin 9000 q
   pub may : MayPlace b c q
@@ -37,7 +38,7 @@ pub record IsQuiet (b : Stacks) (c : Colour) (q : Place) : Type 0 where
   pub white : IsApart b White q
   pub black : IsApart b Black q
 
--- the side to move may bring a piece that is no queen to a quiet place
+-- The side to move may place a piece other than its queen on a quiet place.
 pub record HasQuietReply (p : Position) : Type 0 where
   pub piece : ℕ
   pub place : Place
@@ -45,13 +46,14 @@ pub record HasQuietReply (p : Position) : Type 0 where
   pub no_queen : kind_of piece ≢ Queen
   pub quiet : IsQuiet p.board p.side place
 
--- what the piece that rests counts where it is free and rests no more
+-- the weight of the piece that rests, once it is free and no longer rests
 abbrev pub rest_weight : Option ℕ → ℕ
 rest_weight None = 0
 rest_weight (Some x) = weight_of (kind_of x)
 
--- Where the side to move has a quiet reply, one ply more costs it at most what the resting piece
--- counts: after the reply the board is worth to it what it was, but for the piece that rested.
+-- If the side to move has a quiet reply, one more ply costs it at most the weight of the resting
+-- piece. After the reply, the board is worth to it what it was before, except for the piece that
+-- rested.
 abbrev pub QuietRepliesHold : Type 0
 QuietRepliesHold =
     (p : Position) → IsBoard p.board → is_over p ≡ false → HasQuietReply p

@@ -2,8 +2,8 @@
 
 ghost use Rattle.quiet_reply.specs.Quiet.{QuietRepliesHold};
 
-/// Where the side to move has a quiet reply, one ply more costs it at most what the resting piece
-/// counts.
+/// If the side to move has a quiet reply, one more ply costs it at most the weight of the resting
+/// piece.
 pub fn quiet_replies_hold()
     ensures { QuietRepliesHold }
 {}

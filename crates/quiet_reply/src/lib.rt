@@ -1,9 +1,9 @@
-//! Replies that keep what a position is worth, told without being made.
+//! Quiet replies: placements that keep the evaluation of a position, found without a play.
 //!
-//! A piece that is brought to a place beside two places that touch makes no place a cut place and
-//! frees none, and beside no queen it changes no queen's neighbours; it rests itself, and counts
-//! nothing. So after it the board is worth what it was, but for the piece that rested before. The
-//! side to move gets at least this with one ply of best play.
+//! A piece that is placed beside two places that touch makes no place a cut place and frees none.
+//! If it is beside no queen, it changes no queen's neighbours. It rests itself, and so counts
+//! nothing. After it, the board is worth what it was before, except for the piece that rested. With
+//! one ply of best play, the side to move gets at least this.
 #![tactic(auto)]
 
 mod laws;

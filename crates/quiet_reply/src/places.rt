@@ -14,14 +14,14 @@ use cut_keeper::{is_suspect, only_in};
 use hand_rules::may_place;
 use hive_model::{Board, Colour, Dir, Piece, Place};
 
-/// Whether no coordinate of the place is larger in size than 9,000.
+/// Whether no coordinate of the place exceeds 9,000 in absolute value.
 fn is_inside(place: Place) -> bool
     ensures { IsTrue result → IsWithin 9000 place }
 {
     place.q >= -9000 && place.q <= 9000 && place.r >= -9000 && place.r <= 9000
 }
 
-/// Whether none of these neighbours stands between others.
+/// Whether none of these neighbours lies between others.
 fn all_are_ends(mask: u8) -> bool
     requires { mask < 64 }
     ensures { (b : Stacks) (p : AnyPlace) → mask ≡ ring_mask (ring (is_occupied b) p)
@@ -64,7 +64,7 @@ fn is_beside_pair<B: Board>(board: &B, place: Place) -> bool
     }
 }
 
-/// Whether the other place is no neighbour of the first.
+/// Whether the other place is not a neighbour of the first.
 fn are_apart(from: Place, to: Place) -> bool
     requires { IsWithin 10000 from }
     ensures { IsTrue result → (d : AnyDir) → step from d ≢ to }
@@ -75,7 +75,7 @@ fn are_apart(from: Place, to: Place) -> bool
     }
 }
 
-/// Whether the side's queen is in hand or on no neighbour of the place.
+/// Whether the side's queen is in hand, or not on a neighbour of the place.
 #[tactic(auto, using(hive_model::proofs::PlaceLemmas::wider, hive_model::proofs::PlaceLemmas::wider_on_board))]
 fn is_apart<B: Board>(board: &B, side: Colour, place: Place) -> bool
     ensures { IsTrue result → IsApart (B.stacks board.now) side place }
@@ -86,8 +86,8 @@ fn is_apart<B: Board>(board: &B, side: Colour, place: Place) -> bool
     }
 }
 
-/// Whether the place is quiet for the side: it may bring pieces there, beside two places that touch
-/// and beside no queen.
+/// Whether the place is quiet for the side: the side may place there, and the place is beside two
+/// places that touch and beside no queen.
 #[tactic(auto, using(hive_model::proofs::PlaceLemmas::wider, hive_model::proofs::PlaceLemmas::wider_on_board))]
 pub fn is_quiet<B: Board>(board: &B, side: Colour, place: Place) -> bool
     ensures { IsTrue result → IsQuiet (B.stacks board.now) side place }
@@ -121,7 +121,7 @@ fn quiet_beside<B: Board>(board: &B, side: Colour, place: Place) -> Option<Place
     None
 }
 
-/// A quiet place for the side beside a piece of its own.
+/// A quiet place for the side beside one of its own pieces.
 fn quiet_beside_own<B: Board>(board: &B, side: Colour) -> Option<Place>
     ensures { IfSome result (IsQuiet (B.stacks board.now) side) }
 {
@@ -141,7 +141,8 @@ fn quiet_beside_own<B: Board>(board: &B, side: Colour) -> Option<Place>
     None
 }
 
-/// A quiet place for the side: the one that is hinted at, else one beside a piece of its own.
+/// A quiet place for the side: the hint, if it is quiet, and otherwise one beside a piece of its
+/// own.
 pub fn find_quiet<B: Board>(board: &B, side: Colour, hint: Option<Place>) -> Option<Place>
     ensures { IfSome result (IsQuiet (B.stacks board.now) side) }
 {

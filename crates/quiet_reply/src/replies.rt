@@ -29,7 +29,7 @@ use hive_eval::weight_of;
 use hive_model::{Board, Colour, Kind, Piece, Place, is_walled};
 use legal_moves::Turn;
 
-/// A piece that is no queen and that the side to move may bring into play.
+/// A piece other than a queen that the side to move may place.
 fn any_brought<B: Board>(board: &B, turn: &Turn) -> Option<Piece>
     ensures brought { IfSome result (MayBring turn.now.game_type (B.stacks board.now) turn.now.side
         turn.now.number) }
@@ -58,9 +58,9 @@ fn is_open<B: Board>(board: &B, side: Colour) -> bool
     }
 }
 
-/// A place to which the side to move may bring a piece so that one ply more of best play costs it
-/// at most what the resting piece counts; the place that is hinted at is tried first. None where no
-/// such reply is found, or the game is over.
+/// The place of a quiet reply of the side to move: one more ply of best play costs it at most the
+/// weight of the resting piece. The hint is tried first. None if no such reply is found or the game
+/// is over.
 pub fn quiet_reply<B: Board>(board: &B, turn: &Turn, hint: Option<Place>) -> Option<Place>
     ensures { IfSome result (λ q. value (position_of (B.stacks board.now) turn.now) 0
         ≤ℤ (value (position_of (B.stacks board.now) turn.now) 1
@@ -78,7 +78,7 @@ pub fn quiet_reply<B: Board>(board: &B, turn: &Turn, hint: Option<Place>) -> Opt
     find_quiet(board, turn.side, hint)
 }
 
-/// What the piece that rests counts where it is free and rests no more.
+/// The weight of the piece that rests, once it is free and no longer rests.
 fn rest_weight(rest: &Option<Piece>) -> i32
     ensures weight { result ≡ pos (rest_weight rest.now) }
     ensures most { result ≤ℤ pos 10 }
@@ -89,9 +89,10 @@ fn rest_weight(rest: &Option<Piece>) -> i32
     weight_of(piece.kind())
 }
 
-/// At most what a move is worth to the side that made it with one ply behind it, where there is a
-/// quiet reply; `least` is at least what the position after it is worth to its side to move with no
-/// ply left. None where that is below -1,000,000,000, as no worth is.
+/// An upper bound on the value of a move with one ply searched after it, for the side that made it,
+/// if there is a quiet reply. `least` is a lower bound on the value at depth 0 of the position
+/// after the move, for its side to move. None if `least` is below -1,000,000,000, which no value
+/// is.
 pub fn most_worth(turn: &Turn, least: i32) -> Option<i32>
     ensures most { IfSome result (λ b. b ≡ (pos (rest_weight turn.now.rest) -ℤ least)) }
     ensures low { result ≡ None → least <ℤ negsuc 999999999 }

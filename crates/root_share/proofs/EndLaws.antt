@@ -1,4 +1,4 @@
--- What a child is worth that ends the game, and how much less one is that does not.
+-- The value of a child that ends the game, and how much less the value of one is that does not.
 use Rattle.std.proofs.Common.{◌≡◌, ℕ, zero, suc, ◌+◌, ◌-◌, ◌≤◌, List, [], ◌∷◌, map, false, refl, sym, ap, subst, ◌∙◌, arith, ℤ, pos, neg_ℤ, ◌≤ℤ◌, ◌<ℤ◌, Option, Some, None}
 use Rattle.std.proofs.lemmas.Int.{ints}
 use Rattle.std.specs.List.{slice_get}
@@ -52,7 +52,7 @@ reply-under p d (m ∷ ms) zero n e =
     rw same at (IsSmall-neg (1000000 + d) (value (after p m) d) (value-within (after p m) d))
 reply-under p d (m ∷ ms) (suc i) n e = reply-under p d ms i n e
 
--- a position where the game goes on is not lost at once
+-- a position that is not over is not lost at once
 pub open-less : (p : Position) (d : ℕ) → is_over p ≡ false → neg_ℤ (value p d) <ℤ pos (1000000 + d)
 open-less p zero h =
     let is = value-open p h in
@@ -67,11 +67,11 @@ open-less p (suc d) h =
     let low = small.low in
     omega (arith, ints, low)
 
--- so a move behind which the game goes on is worth less than a win at once
+-- so a move after which the game goes on is worth less than a win at once
 pub open-below : (p : Position) (m : Move) (d : ℕ) (b : ℤ) → is_over (after p m) ≡ false → pos (1000000 + d) ≤ℤ b → reply_value p d m <ℤ b
 open-below p m d b h most = let k = open-less (after p m) d h in omega (arith, ints, k, most)
 
--- what a move that ends the game is worth some child is worth
+-- some child has the value of a move that ends the game
 pub some-reply : (p : Position) (d i : ℕ) (m : Move) (o : Option ℤ) → slice_get (moves p) i ≡ Some m → MatchOption o (is_over (after p m) ≡ false) (λ v. v ≡ reply_value p (d - 1) m) → IfSome o (IsReply p d)
 some-reply p d i m None here told = tt
 some-reply p d i m (Some v) here told =

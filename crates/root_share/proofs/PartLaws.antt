@@ -24,7 +24,7 @@ all-left P xs ys all k d h = let long = length-append xs ys in subst P (get_or_a
 pub all-right : {A : Type 0} (P : A → Type 0) (xs ys : List A) → All P (xs ++ ys) → All P ys
 all-right P xs ys all k d h = let long = length-append xs ys in subst P (get_or-append-add xs ys k d) (all (length xs + k) d (omega (arith, long)))
 
--- a half of the workers may run where the whole may, with a seat that knows the same
+-- a half of the workers may run if the whole may, with a seat that knows the same
 pub may-half : {G T : Type 0} (course : G → Course) (work : RootWork G T) (from up : ℕ) (seat other : Seat (Unit {0}) Known) (workers half : List (Worker G)) →
     MayRun course work from seat workers → IsSeat work.word.now.table_id other → other.me.0.root ≡ seat.me.0.root → other.me.0.depth ≡ seat.me.0.depth →
     0 < length half → up + length half ≤ work.parts → ((P : Worker G → Type 0) → All P workers → All P half) → MayRun course work up other half
@@ -37,7 +37,7 @@ may-half course work from up seat other workers half may seated root known some 
   ready = rw (root, known) (part (λ w. IsReady seat.me.0.root seat.me.0.depth work.depth (course w.game) w.searcher) may.ready);
 }
 
--- the first of the workers may begin where all may run
+-- the first of the workers may begin if all may run
 pub may-begin : {G T : Type 0} (course : G → Course) (work : RootWork G T) (from : ℕ) (seat : Seat (Unit {0}) Known) (workers : List (Worker G)) (d : Worker G) →
     MayRun course work from seat workers → MayBegin course work (get_or workers 0 d) seat
 may-begin course work from seat workers d may =

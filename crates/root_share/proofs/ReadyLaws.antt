@@ -27,11 +27,11 @@ known-still p d g h first up known m here = let k = known m here in omega (arith
 pub known-one : (p : Position) (d : ℕ) (g : ℤ) (child : ℕ) (m : Move) → slice_get (moves p) child ≡ Some m → reply_value p (d - 1) m ≤ℤ g → IsKnown p d g child
 known-one p d g child m here worth n there = let same : m ≡ n = cc in rw (← same) worth
 
--- nothing is to be known of a place behind the list
+-- nothing needs to be known of a place after the end of the list
 pub known-none : (p : Position) (d : ℕ) (g : ℤ) (behind : ℕ) → length (moves p) ≤ behind → IsKnown p d g behind
 known-none p d g behind past m here = absurd (let k = slice_get_within (moves p) behind m here in omega (arith, k, past))
 
--- game and searcher as before, and a seat that knows the same
+-- game and searcher have not changed, and a seat knows the same
 pub ready-still : (p q : Position) (k known depth : ℕ) (game later : Course) (n more : ℕ) → IsReady p k depth game n → q ≡ p → known ≡ depth → later ≡ game → more ≡ n → IsReady q known depth later more
 ready-still p q k known depth game later n more old at agreed same kept = record {
   stands = at ∙ old.stands ∙ sym (ap position same);
@@ -63,7 +63,7 @@ top-of e = ap (λ (w : Known). w.top) e
 pub depth-of : {v : Known} {p : Position} {d : ℕ} {b : ℤ} {n : ℕ} → v ≡ known p d b n → v.depth ≡ d
 depth-of e = ap (λ (w : Known). w.depth) e
 
--- a move of the list is legal where the game is as before
+-- a move of the list is legal if the game has not changed
 pub legal-still : (start now : Course) (i : ℕ) (m : Move) → now ≡ start → slice_get (moves (position start)) i ≡ Some m → IsOn (moves (position now)) m
 legal-still start now i m same here = subst (λ (h : Course). IsOn (moves (position h)) m) (sym same) (on-at (moves (position start)) i m here)
 
@@ -71,7 +71,7 @@ legal-still start now i m same here = subst (λ (h : Course). IsOn (moves (posit
 pub depth-known : (p : Position) (k depth : ℕ) (game : Course) (n : ℕ) (v : Known) → IsReady p k depth game n → v.root ≡ p → v.depth ≡ k → IsDepth v.root v.depth depth
 depth-known p k depth game n v ready at agreed = record { inner = rw at ready.inner; agreed = agreed ∙ ready.agreed; deep = ready.deep }
 
--- a worker that is ready can search behind a child
+-- a worker that is ready can search after a child
 pub may-search : (p : Position) (k depth : ℕ) (game : Course) (n : ℕ) (child : Child) (m : Move) → IsReady p k depth game n → IsChild p child → m ≡ child.m → MaySearch game n m (depth - 1)
 may-search p k depth game n child m ready here same =
     let some = ready.inner.deep in

@@ -1,11 +1,11 @@
--- What contracts see of a bell, and what a reading of it is.
+-- What contracts see of a bell, and what a reading of it returns.
 use Rattle.std.specs.Prelude.{◌≡◌, ℕ, ◌+◌, ◌≤◌, ℤ, ◌≤ℤ◌, int_lt, if◌then◌else◌}
 use Rattle.atomic_table.specs.Seated.{TableId}
 use Rattle.atomic_table.specs.declared.shared.Seat.{Seat}
 use Rattle.root_share.specs.Word.{Known, IsSeat}
 
--- its last reading, the one before it, and how often it was read; the bound that it was made for,
--- the bound that its seat knows, and how often that seat has looked at the word
+-- The last reading, the one before it, and the number of readings. The bound that the bell was made
+-- for, the bound that its seat knows, and how often that seat has read the word.
 pub record Strokes : Type 0 where
   pub last : ℕ
   pub previous : ℕ
@@ -14,20 +14,20 @@ pub record Strokes : Type 0 where
   pub top : ℤ
   pub looks : ℕ
 
--- what a bell reads that was made for a bound, where the bound now stands at `top`
+-- the reading of a bell that was made for one bound, if the bound is now `top`
 abbrev pub stroke : ℤ → ℤ → ℕ
 stroke made_for top = if int_lt made_for top then 1 else 0
 
--- A bell was read: it has looked at the word once more, and it has struck exactly where the bound
--- that stood there is higher than the one that it was made for.
+-- The bell was read: its seat has read the word once more. The bell has struck exactly if the bound
+-- there is higher than the one that it was made for.
 pub record HasRung (before after : Strokes) : Type 0 where
   pub looked : after.looks ≡ before.looks + 1
   pub made_for : after.made_for ≡ before.made_for
   pub grows : before.top ≤ℤ after.top
   pub struck : after.last ≡ stroke after.made_for after.top
 
--- what a bell keeps: a seat at the word that knows how deep the root is searched, and the stroke of
--- the bound that it knows
+-- The invariant of a bell: its seat at the word knows the depth of the root, and its last reading
+-- fits the bound that the seat knows.
 pub record IsBell (id : TableId) (seat : Seat (Unit {0}) Known) (made_for : ℤ) (last : ℕ)
     : Type 0 where
   pub seated : IsSeat id seat

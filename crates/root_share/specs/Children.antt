@@ -1,4 +1,4 @@
--- What a worker needs to search a child of a root, and what it learns of the child.
+-- What a worker needs to search a child of a root, and what it finds out about the child.
 use Rattle.std.specs.Prelude.{◌≡◌, ℕ, ◌-◌, ◌<◌, ◌≤◌, ℤ, pos, ◌≤ℤ◌, ◌<ℤ◌, slice_get, Some}
 use Rattle.hive_model.specs.declared.places.Move.{Move}
 use Rattle.hive_model.specs.Positions.{Position}
@@ -9,39 +9,40 @@ use Rattle.hive_model.specs.Courses.{Course, position}
 use Rattle.root_share.specs.declared.work.Child.{Child}
 use Rattle.root_share.specs.Run.{first_bound}
 
--- the child is the move at its place on the root's list
+-- The child is the move at its place on the root's list.
 abbrev pub IsChild : Position → Child → Type 0
 IsChild root child = slice_get (moves root) child.place ≡ Some child.m
 
--- what a child of the root is worth where so many plies are searched in all
+-- the value of a child of the root, if the root is searched to this depth
 abbrev pub child_worth : Position → ℕ → Child → ℤ
 child_worth root depth child = reply_value root (depth - 1) child.m
 
--- so many plies can be searched behind a move: it is legal where the game stands, and game and
--- searcher have room for the plies, 63 at most
+-- This many plies can be searched after a move. The move is legal in the game's position, and the
+-- game and the searcher have room for the plies, 63 at most.
 pub record MaySearch (game : Course) (prepared : ℕ) (m : Move) (depth : ℕ) : Type 0 where
   pub legal : IsOn (moves (position game)) m
   pub deep : depth < 64
   pub spare : depth < game.spare
   pub enough : depth ≤ prepared
 
--- no lower than the bound that a word begins with, and no higher than any root's value
+-- The bound is at least the first bound of a word, and at most the greatest value of a root.
 pub record IsBound (bound : ℤ) : Type 0 where
   pub low : first_bound ≤ℤ bound
   pub high : bound ≤ℤ pos 1000064
 
--- what was found is the worth where it is at least the bound, and else the worth is below the bound
+-- If the number found is at least the bound, it is the value. Otherwise the value is below the
+-- bound.
 pub record IsTested (worth bound found : ℤ) : Type 0 where
   pub exact : bound ≤ℤ found → found ≡ worth
   pub below : found <ℤ bound → worth <ℤ bound
 
--- a ply is to be searched at the root, and 64 at most; the seat knows how many
+-- At least one ply is to be searched at the root, and at most 64. The seat knows how many.
 pub record IsDepth (root : Position) (known depth : ℕ) : Type 0 where
   pub inner : IsInner root depth
   pub agreed : known ≡ depth
   pub deep : depth ≤ 64
 
--- the bound is the one that the seat knows, and no higher than what the root is worth
+-- The bound is the one that the seat knows, and at most the value of the root.
 pub record IsLatest (root : Position) (depth : ℕ) (top bound : ℤ) : Type 0 where
   pub stands : top ≡ bound
   pub most : bound ≤ℤ value root depth

@@ -1,4 +1,4 @@
--- What the workers of some parts need side by side, and what they leave.
+-- What the workers of some parts require when they run side by side, and what they leave.
 use Rattle.std.specs.Prelude.{◌≡◌, ℕ, ◌+◌, ◌<◌, ◌≤◌, List, [], ◌∷◌, length}
 use Rattle.std.specs.List.{All}
 use Rattle.std.specs.declared.option.Option.{Option}
@@ -14,8 +14,9 @@ use Rattle.root_share.specs.Taken.{KeepsRoot}
 use Rattle.root_share.specs.Word.{Known, IsSeat}
 use Rattle.root_share.specs.Workers.{AreAsBefore, plays_of}
 
--- there is a worker, there are as many parts as workers from this part on, and 16 at most, each
--- worker is ready at the root that the seat knows, and the list is of that root's moves
+-- There is at least one worker. There are at least as many parts as workers from this part on, and
+-- at most 16. Each worker is ready at the root that the seat knows, and the list has that root's
+-- moves.
 pub record MayRun {G T : Type 0} (course : G → Course) (work : RootWork G T) (from : ℕ)
     (seat : Seat (Unit {0}) Known) (workers : List (Worker G)) : Type 0 where
   pub seated : IsSeat work.word.now.table_id seat
@@ -26,8 +27,8 @@ pub record MayRun {G T : Type 0} (course : G → Course) (work : RootWork G T) (
   pub ready : All
       (λ w. IsReady seat.me.0.root seat.me.0.depth work.depth (course w.game) w.searcher) workers
 
--- the seat knows the root and the depth as before, the answer is of the children of these parts,
--- games and searchers are as before, and no worker has played more than its share
+-- The seat still knows the root and the depth. The answer is for the children of these parts. Games
+-- and searchers have not changed, and no worker has played more than its share.
 pub record HaveRun {G T : Type 0} (course : G → Course) (played : G → ℕ) (work : RootWork G T)
     (from : ℕ) (seat later : Seat (Unit {0}) Known) (workers after : List (Worker G))
     (found : Option Candidate) : Type 0 where

@@ -1,4 +1,4 @@
--- What a worker needs to search behind the moves of a root.
+-- What a worker needs to search the moves of a root.
 use Rattle.std.specs.Prelude.{◌≡◌, ℕ, ◌<◌, ◌≤◌, [], ◌∷◌}
 use Rattle.atomic_table.specs.declared.shared.Seat.{Seat}
 use Rattle.hive_model.specs.Positions.{Position}
@@ -11,8 +11,8 @@ use Rattle.root_share.specs.declared.worker.Worker.{Worker}
 use Rattle.root_share.specs.Children.{IsChild}
 use Rattle.root_share.specs.Word.{Known, IsSeat}
 
--- the worker's game stands at the root, which its seat knows with the depth; a ply is to be
--- searched there, and game and searcher have room for the plies, 64 at most
+-- The worker's game has reached the root, and its seat knows the root and the depth. At least one
+-- ply is to be searched there. The game and the searcher have room for the plies, 64 at most.
 pub record IsReady (root : Position) (known depth : ℕ) (game : Course) (prepared : ℕ) : Type 0 where
   pub stands : root ≡ position game
   pub agreed : known ≡ depth
@@ -21,8 +21,8 @@ pub record IsReady (root : Position) (known depth : ℕ) (game : Course) (prepar
   pub spare : depth ≤ game.spare
   pub enough : depth ≤ prepared
 
--- a worker can take children: its seat is at the word that the workers share, it is ready at the
--- root that the seat knows, and the list is of that root's moves
+-- A worker can take children. Its seat is at the shared word, it is ready at the root that the seat
+-- knows, and the list has that root's moves.
 pub record MayBegin {G T : Type 0} (course : G → Course) (work : RootWork G T)
     (worker : Worker G) (seat : Seat (Unit {0}) Known) : Type 0 where
   pub seated : IsSeat work.word.now.table_id seat
@@ -30,7 +30,7 @@ pub record MayBegin {G T : Type 0} (course : G → Course) (work : RootWork G T)
   pub listed : work.root.now.lists ≡ moves seat.me.0.root ∷ []
   pub some : 0 < work.parts
 
--- it can take this child
+-- It can take this child.
 pub record MayTake {G T : Type 0} (course : G → Course) (work : RootWork G T) (child : Child)
     (worker : Worker G) (seat : Seat (Unit {0}) Known) : Type 0 where
   pub begin : MayBegin course work worker seat

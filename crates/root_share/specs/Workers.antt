@@ -1,4 +1,4 @@
--- The workers at a root: what they need to search it, and how they are afterwards.
+-- The workers at a root: what they need to search it, and their state afterwards.
 use Rattle.std.specs.Prelude.{◌≡◌, ℕ, ◌+◌, ◌≤◌, false, List, map, length}
 use Rattle.std.specs.List.{All}
 use Rattle.hive_model.specs.Positions.{Position}
@@ -11,20 +11,20 @@ use Rattle.root_share.specs.Answer.{root_of, AreEqualGames}
 abbrev pub games_of : {G : Type 0} → (G → Course) → List (Worker G) → List Course
 games_of course workers = map (λ w. course w.game) workers
 
--- for how many plies each worker's searcher is prepared
+-- the number of plies for which each worker's searcher is prepared
 abbrev pub searchers_of : {G : Type 0} → List (Worker G) → List ℕ
 searchers_of workers = map (λ w. w.searcher) workers
 
--- how many moves each worker's game has played
+-- the number of moves that each worker's game has played
 abbrev pub plays_of : {G : Type 0} → (G → ℕ) → List (Worker G) → List ℕ
 plays_of played workers = map (λ w. played w.game) workers
 
--- where the workers' games stand
+-- the position of the workers' games
 abbrev pub root_at : {G : Type 0} → (G → Course) → List (Worker G) → Position
 root_at course workers = root_of (games_of course workers)
 
--- 1 to 16 workers that can search so many plies at one root: their games are equal and go on, and
--- each game has room, and each searcher is prepared, for the plies
+-- 1 to 16 workers that can search this many plies from one root. Their games are equal and not
+-- over. Each game has room for the plies, and each searcher is prepared for them.
 pub record CanSearch {G : Type 0} (course : G → Course) (depth : ℕ)
     (workers : List (Worker G)) : Type 0 where
   pub some : 1 ≤ length workers
@@ -34,13 +34,14 @@ pub record CanSearch {G : Type 0} (course : G → Course) (depth : ℕ)
   pub spare : All (λ (c : Course). depth ≤ c.spare) (games_of course workers)
   pub prepared : All (λ (n : ℕ). depth ≤ n) (searchers_of workers)
 
--- games and searchers are as before
+-- games and searchers have not changed
 pub record AreAsBefore {G : Type 0} (course : G → Course)
     (workers later : List (Worker G)) : Type 0 where
   pub games : games_of course later ≡ games_of course workers
   pub searchers : searchers_of later ≡ searchers_of workers
 
--- a worker's game and searcher are as before, and it has played no more than so many moves
+-- The game and the searcher of a worker have not changed, and it has played at most this many
+-- moves.
 pub record HasPlayed {G : Type 0} (course : G → Course) (played : G → ℕ)
     (worker later : Worker G) (most : ℕ) : Type 0 where
   pub game : course later.game ≡ course worker.game

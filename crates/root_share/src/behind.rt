@@ -1,4 +1,4 @@
-//! Children that are played and not searched.
+//! Children that are played but not searched.
 
 ghost use Rattle.std.specs.Prelude.{◌≡◌, ◌+◌, ◌<◌, ◌≤◌, false, pos, ◌≤ℤ◌, MatchOption};
 ghost use Rattle.hive_model.specs.Lists.{IsOn};
@@ -11,8 +11,8 @@ ghost use Rattle.root_share.specs.Children.{IsTested};
 use hive_model::{Game, Move};
 use search_laws::end_value;
 
-/// What a legal move is worth to the side that makes it, with so many plies behind it, where it
-/// ends the game; none where the game goes on. It is played and taken back.
+/// The value of a legal move for the side that makes it, with `depth` plies searched after it, if
+/// it ends the game. None if the game goes on. The move is played and undone.
 pub(crate) fn end_behind<G: Game>(game: &mut G, m: Move, depth: u32) -> Option<i32>
     requires legal { IsOn (moves (position (G.course game.old))) m }
     requires deep { depth ≤ 64 }
@@ -31,9 +31,9 @@ pub(crate) fn end_behind<G: Game>(game: &mut G, m: Move, depth: u32) -> Option<i
     }
 }
 
-/// What a legal move is worth where that is at least the bound, and else a number below the bound,
-/// which is no less than what a move is worth that wins at once. Where the game goes on behind the
-/// move it is worth less.
+/// The value of a legal move if that is at least the bound, and otherwise a number below the bound.
+/// The bound must be at least the value of a move that wins at once. If the game goes on after the
+/// move, its value is below the bound.
 pub(crate) fn value_behind<G: Game>(game: &mut G, m: Move, depth: u32, bound: i32) -> i32
     requires legal { IsOn (moves (position (G.course game.old))) m }
     requires deep { depth < 64 }

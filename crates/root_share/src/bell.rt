@@ -10,11 +10,12 @@ use hive_model::Game;
 use io_edge::Clock;
 use std::marker::Model;
 
-/// When a bell strikes: the first reading of it after the bound was raised.
+/// The reading of a bell that has struck: the first one after the bound was raised, and all later
+/// ones.
 pub(crate) const STRIKE: u64 = 1;
 
-/// A clock over the bound that workers share. It stands at 0 until it is read while the bound is
-/// higher than when the bell was made, and at `STRIKE` from then on.
+/// A clock that watches the bound which the workers share. It reads 0 until a reading at which the
+/// bound is higher than when the bell was made. From then on it reads `STRIKE`.
 #[derive(Drop)]
 pub(crate) struct Bell<'a, G: Game> {
     word: &'a Word<G>,
@@ -43,7 +44,7 @@ impl<'a, G: Game> Model for Bell<'a, G> {
 }
 
 impl<'a, G: Game> Bell<'a, G> {
-    /// A bell that has not struck, for a bound that stands so high.
+    /// A bell that has not struck, made for this bound.
     pub(crate) fn new(word: &'a Word<G>, seat: BoundSeat, bound: i32) -> Bell<'a, G>
         requires seat { IsSeat word.now.table_id seat }
         requires deep { seat.me.0.depth ≤ 64 }
@@ -75,7 +76,7 @@ impl<G: Game> Clock for Bell<'_, G> {
 
     ghost readings = { λ b. b.readings };
 
-    /// `STRIKE` exactly where the bound is higher now than when the bell was made.
+    /// `STRIKE` exactly if the bound is now higher than when the bell was made.
     fn now(&mut self) -> u64
         ensures time { TellsTime result self.old.last self.new.last self.old.readings
             self.new.readings }

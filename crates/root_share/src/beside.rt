@@ -1,5 +1,5 @@
-//! How a worker begins that does not have the move that looks best: the bound is not known yet, and
-//! its first child is left as soon as another worker raises it.
+//! How a worker begins that does not have the move that looks best. The bound is not yet known, and
+//! it leaves its first child as soon as another worker raises the bound.
 
 ghost use Rattle.std.specs.Prelude.{◌≡◌, ◌+◌, ◌≤◌, IfSome, pos, ◌-ℤ◌};
 ghost use Rattle.hive_model.specs.Games.{after};
@@ -20,16 +20,16 @@ use crate::work::{Child, RootWork};
 use crate::worker::{Worker, close_child, settle, window_behind};
 use hive_model::{Game, Move};
 
-/// What came of the child that a worker began with.
+/// The outcome for the child that a worker began with.
 pub(crate) enum Tried {
-    /// It is known to be worth no more than the bound, and is an answer where its value was found.
+    /// The child is known to be worth at most the bound, and is an answer if its value was found.
     Closed { found: Option<Candidate> },
-    /// The bound was raised meanwhile, and nothing is known of the child.
+    /// The bound was raised meanwhile, and nothing is known about the child.
     Left,
 }
 
-/// What a child is worth where that is at least the bound, and else a number below the bound. None
-/// where another worker raised the bound meanwhile.
+/// The value of a child if that is at least the bound, and otherwise a number below the bound. None
+/// if another worker raised the bound meanwhile.
 fn value_until_raised<G: Game>(
     word: &Word<G>,
     m: Move,
@@ -63,8 +63,8 @@ fn value_until_raised<G: Game>(
     }
 }
 
-/// What the child that a worker begins with is worth, where another worker has the one that looks
-/// best. Where no bound is known, it is left as soon as another worker raises the bound.
+/// Tries the child that a worker begins with, if another worker has the one that looks best. If no
+/// bound is known, the child is left as soon as another worker raises the bound.
 pub(crate) fn try_beside<G: Game, T>(
     work: &RootWork<'_, G, T>,
     child: &Child,

@@ -15,7 +15,7 @@ use hive_model::{Best, Game, MoveStack};
 use std::alloc::{AllocError, Global};
 use std::thread::Threads;
 
-/// The moves of the root, by the first worker's game.
+/// Lists the moves of the root, with the first worker's game.
 fn list_root<G: Game>(workers: &mut [Worker<G>], root: &mut MoveStack)
     requires some { 0 < length workers.old }
     requires empty { root.old.lists ≡ [] }
@@ -27,13 +27,16 @@ fn list_root<G: Game>(workers: &mut [Worker<G>], root: &mut MoveStack)
     workers[0].game.list(root);
 }
 
-/// The best move of a root and its value at a depth from 1 to 64, by 1 to 16 workers, each with a
-/// game of its own at the root. Worker w of W searches the moves whose place on the list of the
-/// root leaves w when divided by W; it plays no more than its share. The workers run beside each
-/// other where threads can be had, and the answer is the one of a single worker under any schedule.
-/// Before each move a worker calls the gate. Games and searchers are as before, also after want of
-/// memory, which is the only other answer and comes before the first move is tried: no game has
-/// played a move then.
+/// The best move of a root and its value, at a depth from 1 to 64. It is found by 1 to 16 workers,
+/// each with its own game at the root.
+///
+/// Worker w of W searches the moves whose index on the root's list leaves the remainder w when
+/// divided by W. It plays at most its share. The workers run concurrently if threads can be had,
+/// and under any schedule the answer is that of a single worker. A worker calls the gate before
+/// each move. Games and searchers do not change.
+///
+/// The only error is that memory runs out. It comes before the first move is tried, so that no game
+/// has played a move.
 pub fn best_shared<R: Threads + Sync, G: Game + Send, T: Gate + Sync>(
     rt: &R,
     alloc: Global,

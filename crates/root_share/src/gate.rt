@@ -1,10 +1,9 @@
-//! What is called before each move that a worker searches.
+//! The call that each worker makes before each move that it searches.
 
-/// What each worker calls before it begins a child. It has a say in nothing: it is handed no game
-/// and
-/// no bound, and it returns.
+/// What each worker calls before it begins a child. It cannot influence the result: it sees neither
+/// game nor bound, and it always returns.
 pub trait Gate {
-    /// The worker, counted from 0, is about to begin the move at this place of the root's list.
+    /// The worker, counted from 0, is about to begin the move at this index of the root's list.
     fn before_child(&self, worker: u32, child: u32);
 }
 

@@ -1,5 +1,5 @@
-//! Which of its children a worker begins with. Any choice is right; a good one raises the bound
-//! early, for all workers.
+//! The child with which a worker begins. Any choice is correct; a good one raises the bound early,
+//! for all workers.
 
 ghost use Rattle.std.specs.Prelude.{◌≡◌, ◌≢◌, ℕ, ◌%◌, ◌<◌, [], ◌∷◌, length, MatchOption};
 ghost use Rattle.hive_model.specs.Legal.{moves};
@@ -7,8 +7,8 @@ ghost use Rattle.hive_model.specs.Courses.{position};
 
 use hive_model::{Game, MoveStack};
 
-/// The first place of a child of this part that is worth most, of those whose worth the game tells
-/// without making the move. The game is as before, and nothing is played.
+/// The first child of this part with the greatest value, among those whose value the game knows
+/// without a play. The game does not change, and nothing is played.
 fn best_told<G: Game>(game: &mut G, root: &MoveStack, part: u32, parts: u32) -> Option<u32>
     requires listed { root.now.lists ≡ moves (position (G.course game.old)) ∷ [] }
     requires parts { 0 < parts }
@@ -32,9 +32,9 @@ fn best_told<G: Game>(game: &mut G, root: &MoveStack, part: u32, parts: u32) -> 
     best
 }
 
-/// The child of this part that a worker begins with: the one that looks best, where the game tells
-/// of one, and else the first. None where the part has no child. The game is as before, and nothing
-/// is played.
+/// The child of this part with which a worker begins. It is the one that looks best if the game
+/// knows a value, and otherwise the first. None if the part has no child. The game does not change,
+/// and nothing is played.
 pub(crate) fn first_child<G: Game>(
     game: &mut G,
     root: &MoveStack,
@@ -61,8 +61,8 @@ pub(crate) fn first_child<G: Game>(
     None
 }
 
-/// Whether the child that a worker begins with is the one that looks best of all. The game is as
-/// before, and nothing is played.
+/// Whether the child with which a worker begins is the one that looks best of all children. The
+/// game does not change, and nothing is played.
 pub(crate) fn is_ahead<G: Game>(game: &mut G, root: &MoveStack, parts: u32, first: u32) -> bool
     requires { root.now.lists ≡ moves (position (G.course game.old)) ∷ [] }
     ensures same { G.course game.new ≡ G.course game.old }

@@ -2,8 +2,8 @@
 
 ghost use Rattle.root_share.specs.Run.{ClosedChildrenGiveTheBest};
 
-/// Where every child of a root was closed by true steps, the first with the greatest exact value is
-/// the first that is worth most.
+/// If every child of a root was closed by true steps, the first child with the greatest exact value
+/// is the first with the greatest value.
 pub fn closed_children_give_the_best()
     ensures { ClosedChildrenGiveTheBest }
 {}

@@ -12,15 +12,15 @@ use crate::worker::{Worker, run_one};
 use hive_model::Game;
 use std::thread::{Threads, join_mut};
 
-/// The work at a root, and the runtime that gives threads for it.
+/// The work at a root, and the runtime that provides threads for it.
 #[derive(Drop)]
 pub struct Team<'r, 'a, R, G: Game, T> {
     pub rt: &'r R,
     pub work: RootWork<'a, G, T>,
 }
 
-/// The workers of the parts from `from` on, each on its own children. A child is a move of the
-/// root, named by its place on the root's list.
+/// Runs the workers of the parts from `from` on, each on its own children. A child is a move of the
+/// root, named by its index on the root's list.
 #[cycle(parts)]
 pub fn run_parts<R: Threads + Sync, G: Game + Send, T: Gate + Sync>(
     team: &Team<'_, '_, R, G, T>,
@@ -43,7 +43,7 @@ pub fn run_parts<R: Threads + Sync, G: Game + Send, T: Gate + Sync>(
     better(a, b)
 }
 
-/// Both halves, each in a thread of its own where one can be made.
+/// Runs both halves, each in its own thread if one can be had.
 #[cycle(parts)]
 fn run_halves<R: Threads + Sync, G: Game + Send, T: Gate + Sync>(
     team: &Team<'_, '_, R, G, T>,

@@ -1,4 +1,4 @@
-//! What the steps of workers at a root come to.
+//! What the steps of the workers at a root amount to.
 
 ghost use Rattle.std.specs.Prelude.{◌≡◌, ◌+◌, ◌<◌, [], ◌∷◌, ◌++◌, length, IfOk, None};
 ghost use Rattle.std.specs.Prelude.{slice_index_or};
@@ -10,9 +10,8 @@ use crate::steps::{RootStep, RootVerdict};
 use std::alloc::{AllocError, Global};
 use std::marker::Model;
 
-/// The work at a root, seen as its number of children and the list of the steps so far. A child is
-/// a
-/// move of the root, named by its place on the root's list.
+/// The work at a root. Contracts see its number of children and the list of the steps so far. A
+/// child is a move of the root, named by its index on the root's list.
 #[derive(Drop)]
 pub struct RootCore {
     children: u32,
@@ -36,7 +35,7 @@ impl Model for RootCore {
 }
 
 impl RootCore {
-    /// A root with so many children, of which none was begun. All memory is taken here.
+    /// A root with this many children, none of which was begun. All memory is taken here.
     pub fn new(alloc: Global, children: u32) -> Result<RootCore, AllocError>
         ensures { IfOk result (λ c. c ≡ record { children = children; steps = [] }) }
     {
@@ -52,9 +51,9 @@ impl RootCore {
         })
     }
 
-    /// Takes down a step. A child is begun at most once and done at most once, after it was begun;
-    /// that it is worth less than a bound names the bound that stood when it was begun. Whether a
-    /// verdict is true of its child is not asked.
+    /// Records a step. A child is begun at most once, and closed at most once, after it was begun.
+    /// The verdict `Below` names the bound of the time when the child was begun. Whether a verdict
+    /// is true is not checked.
     pub fn step(&mut self, step: RootStep)
         requires { MayFollow self.old.children self.old.steps step }
         ensures { self.new
@@ -91,17 +90,16 @@ impl RootCore {
         let _ = self.steps.push(RootStep::Close { child, verdict });
     }
 
-    /// The greatest of the values that children were found to be worth, and -1,000,090, which is
-    /// less
-    /// than any child is worth, where there is none.
+    /// The greatest of the exact values found so far. It is -1,000,090, below the value of any
+    /// child, if there are none.
     pub fn bound(&self) -> i32
         ensures { result ≡ bound_of self.now.steps }
     {
         self.bound
     }
 
-    /// The first child with the greatest value, and that value, among those whose value was found;
-    /// none exactly where no value was.
+    /// The first child with the greatest value among those whose exact value was found, and that
+    /// value. None exactly if no exact value was found.
     pub fn best_child(&self) -> Option<(u32, i32)>
         ensures { IsBestChild self.now.steps result }
     {

@@ -1,19 +1,19 @@
 //! The steps of the work at a root.
 
-/// What the search of a child showed.
+/// What the search of a child has shown.
 #[derive(Clone, Copy, PartialEq, Eq, Debug)]
 pub enum RootVerdict {
-    /// The child is worth this.
+    /// The child has this value.
     Exact { value: i32 },
-    /// The child is worth less than this.
+    /// The value of the child is below this bound.
     Below { bound: i32 },
 }
 
 /// A step of the work at a root.
 #[derive(Clone, Copy, PartialEq, Eq, Debug)]
 pub enum RootStep {
-    /// A worker begins a child, and notes the bound as it stands.
+    /// A worker begins a child, and notes the current bound.
     Take { child: u32 },
-    /// A child is done.
+    /// A child is finished.
     Close { child: u32, verdict: RootVerdict },
 }

@@ -1,4 +1,4 @@
-//! A win that a worker learns of before it searches.
+//! A win that a worker looks for before it searches.
 
 ghost use Rattle.std.specs.Prelude.{◌≡◌, ◌+◌, ◌≤◌, [], ◌∷◌, ◌≤ℤ◌, IfSome};
 ghost use Rattle.hive_model.specs.Legal.{moves};
@@ -16,8 +16,8 @@ use crate::worker::Worker;
 use hive_model::{Game, MoveStack};
 use search_core::likely_win;
 
-/// What the move of a root is worth that seems to win at once, where the root has one and it ends
-/// the game. It is played and taken back.
+/// The value of the root's move that seems to win at once, if the root has one and it ends the
+/// game. The move is played and undone.
 fn likely_end<G: Game>(game: &mut G, root: &MoveStack, depth: u32) -> Option<i32>
     requires some { 1 ≤ depth }
     requires deep { depth ≤ 64 }
@@ -36,9 +36,10 @@ fn likely_end<G: Game>(game: &mut G, root: &MoveStack, depth: u32) -> Option<i32
     end_behind(game, root.get(0, place), depth - 1)
 }
 
-/// The bound as it stands; where it is lower than a win at once, the move of the root that seems to
-/// win is played and taken back, whoever's child it is, and the bound is raised if it ends the game
-/// and is worth more. At most that one move is played.
+/// The current bound, after a look for a win at once. If the bound is lower than such a win, the
+/// root's move that seems to win is played and undone, whichever worker it belongs to. If it ends
+/// the game and its value is above the bound, the bound is raised to it. At most that one move is
+/// played.
 pub(crate) fn look_for_win<G: Game, T>(
     work: &RootWork<'_, G, T>,
     seat: &mut BoundSeat,

@@ -1,4 +1,4 @@
-//! The bound that workers share, and the steps on it.
+//! The bound that the workers share, and the steps on it.
 
 ghost use Rattle.std.specs.Prelude.{◌≡◌, ◌+◌, ◌≤◌, false, IfOk, ◌≤ℤ◌};
 ghost use Rattle.std.specs.Int.{int_max};
@@ -13,7 +13,7 @@ use std::alloc::{AllocError, Global};
 use std::marker::{Model, PhantomData};
 use std::snapshot::Snapshot;
 
-/// What a seat at the word knows. No value of it is made.
+/// What a seat at the word knows. No value of this type is ever made.
 pub struct View {
     unit: (),
 }
@@ -31,15 +31,15 @@ impl Model for View {
         0 first_bound 0 };
 }
 
-/// The root that the workers search, which the table is told when it is made.
+/// The root that the workers search, given to the table when it is made.
 #[derive(Drop)]
 pub struct Root<G> {
     pub game: Snapshot<G>,
     pub depth: u32,
 }
 
-/// What holds of the word between any two steps: it stands for a bound between what each seat knows
-/// and what the root is worth. The bound is the word less 2,000,000.
+/// The invariant of the word between any two steps: its bound is at least what each seat knows, and
+/// at most the value of the root. The bound is the word minus 2,000,000.
 pub struct Rule<G> {
     game: PhantomData<G>,
 }
@@ -61,14 +61,14 @@ impl Play<(), View> for Loads {
     ghost then = { looked };
 }
 
-/// A seat raises the bound to what some child of the root is worth.
+/// A seat raises the bound to the value of some child of the root.
 pub struct Raises;
 
 impl Play<(), View> for Raises {
     ghost then = { has_raised };
 }
 
-/// A seat for one more worker, which knows the root alone.
+/// A seat for one more worker, which knows only the root.
 pub struct Splits;
 
 impl Split<View> for Splits {
@@ -77,7 +77,7 @@ impl Split<View> for Splits {
     ghost right = { fresh };
 }
 
-/// A seat takes over what another one knows, which is spent.
+/// A seat takes over what another one knows. The other one is then spent.
 pub struct Joins;
 
 impl Join<View> for Joins {
@@ -102,10 +102,10 @@ pub type BoundSeat = Seat<(), View>;
 /// The word that all workers share.
 pub type Word<G> = Shared<(), View, Root<G>, Rule<G>>;
 
-/// The word with the memory that it lies in.
+/// The word, with the memory that holds it.
 pub type Board<G> = Table<(), View, Root<G>, Rule<G>, Global>;
 
-/// A word below the value of every child, and the first seat at it.
+/// A word whose bound is below the value of every child, and the first seat at it.
 pub fn begin<G: Game>(
     alloc: Global,
     game: &G,
@@ -122,7 +122,7 @@ pub fn begin<G: Game>(
     Table::of_words(alloc, &[999_910], &root)
 }
 
-/// The bound as it stands.
+/// The current bound.
 pub fn look<G: Game>(word: &Word<G>, seat: &mut BoundSeat) -> i32
     requires seat { IsSeat word.now.table_id seat.old }
     requires deep { seat.old.me.0.depth ≤ 64 }

@@ -3,8 +3,8 @@
 use crate::word::Word;
 use hive_model::{Game, Move, MoveStack};
 
-/// What the workers share: the word that their bound lies in, the gate, the root's list of moves,
-/// how many plies are to be searched in all, and in how many parts the moves are shared out.
+/// What the workers share: the word with their bound, the gate and the root's list of moves. They
+/// also share the depth of the root, and the number of parts into which the moves are divided.
 #[derive(Drop)]
 pub struct RootWork<'a, G: Game, T> {
     pub word: &'a Word<G>,
@@ -14,7 +14,7 @@ pub struct RootWork<'a, G: Game, T> {
     pub parts: u32,
 }
 
-/// A child of the root: a move, and its place on the root's list.
+/// A child of the root: a move, and its index on the root's list.
 #[derive(Drop)]
 pub struct Child {
     pub place: u32,

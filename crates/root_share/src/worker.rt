@@ -1,4 +1,4 @@
-//! What one worker does.
+//! The work of one worker.
 
 ghost use Rattle.std.specs.Prelude.{◌≡◌, ◌+◌, ◌%◌, ◌<◌, ◌≤◌, length, pos, ◌-ℤ◌, ◌<ℤ◌, ◌≤ℤ◌};
 ghost use Rattle.hive_model.specs.Legal.{moves};
@@ -26,15 +26,14 @@ use deepening::Searcher;
 use hive_model::{Game, Move};
 use search_laws::Window;
 
-/// A game of a worker's own, and what it searches with.
+/// A worker: its own game, and its searcher.
 #[derive(Drop)]
 pub struct Worker<G> {
     pub game: G,
     pub searcher: Searcher,
 }
 
-/// The window in which a child is searched where the bound stands so high, as the other side sees
-/// it.
+/// The window in which a child is searched if this is the bound, from the view of the other side.
 pub(crate) fn window_behind(bound: i32) -> Window
     requires { IsBound bound }
     ensures alpha { result.alpha ≡ lowest }
@@ -48,8 +47,8 @@ pub(crate) fn window_behind(bound: i32) -> Window
     }
 }
 
-/// What the search of a child shows: its value where that is at least the bound, and else that it
-/// is below.
+/// The value of a child, searched, if that is at least the bound, and otherwise a number below the
+/// bound.
 fn value_searched<G: Game>(worker: &mut Worker<G>, m: Move, depth: u32, bound: i32) -> i32
     requires child { MaySearch (G.course worker.old.game) worker.old.searcher m depth }
     requires bound { IsBound bound }
@@ -65,8 +64,8 @@ fn value_searched<G: Game>(worker: &mut Worker<G>, m: Move, depth: u32, bound: i
     -found
 }
 
-/// What a child is worth where that is at least the bound, and else a number below the bound. Where
-/// only a child that ends the game could be worth the bound, it is played and not searched.
+/// The value of a child if that is at least the bound, and otherwise a number below the bound. If
+/// only a child that ends the game can reach the bound, it is played but not searched.
 fn worth_of<G: Game>(worker: &mut Worker<G>, m: Move, depth: u32, bound: i32) -> i32
     requires child { MaySearch (G.course worker.old.game) worker.old.searcher m depth }
     requires bound { IsBound bound }
@@ -81,8 +80,8 @@ fn worth_of<G: Game>(worker: &mut Worker<G>, m: Move, depth: u32, bound: i32) ->
     value_searched(worker, m, depth, bound)
 }
 
-/// Closes a child whose worth was found where that is at least the bound: the bound is raised to
-/// it, and the child is an answer.
+/// Closes a child that was searched. If its value is at least the bound, the bound is raised to it
+/// and the child is an answer.
 pub(crate) fn settle<G: Game, T>(
     work: &RootWork<'_, G, T>,
     child: &Child,
@@ -108,8 +107,8 @@ pub(crate) fn settle<G: Game, T>(
     })
 }
 
-/// Finds what a child is worth, where the bound stands so high, and raises the bound to it. It is
-/// an answer where its value is found.
+/// Finds the value of a child if that is at least the bound, and raises the bound to it. The child
+/// is an answer if its value is found.
 pub(crate) fn close_child<G: Game, T>(
     work: &RootWork<'_, G, T>,
     child: &Child,
@@ -127,8 +126,8 @@ pub(crate) fn close_child<G: Game, T>(
     settle(work, child, bound, worth, seat)
 }
 
-/// Takes a child: the gate, the bound, what it is worth, and the raise. It is an answer where its
-/// value is found.
+/// Takes a child: calls the gate, reads the bound, searches, and raises the bound. The child is an
+/// answer if its value is found.
 fn try_child<G: Game, T: Gate>(
     work: &RootWork<'_, G, T>,
     part: u32,
@@ -146,10 +145,10 @@ fn try_child<G: Game, T: Gate>(
     close_child(work, child, bound, seat, worker)
 }
 
-/// Takes the child that a worker begins with. Where it is the one that looks best of all, it is
-/// taken as any other one, but that before it is searched, and after the gate, the move of the root
-/// that seems to win at once is played, if the bound is lower than such a win. Else it is left
-/// where the bound is raised meanwhile.
+/// Takes the child with which a worker begins. If it is the one that looks best of all, it is taken
+/// as any other, with one addition. After the gate and before the search, the root's move that
+/// seems to win at once is played, if the bound is lower than such a win. If it is not the one that
+/// looks best of all, it is left once the bound is raised meanwhile.
 fn try_first<G: Game, T: Gate>(
     work: &RootWork<'_, G, T>,
     part: u32,
@@ -172,9 +171,9 @@ fn try_first<G: Game, T: Gate>(
     Tried::Closed { found }
 }
 
-/// Tries the children whose place leaves this part when divided by the parts, in their order, but
-/// for the one at the place `tried`, if the list reaches so far: what that is worth the seat knows,
-/// and its turn costs nothing.
+/// Tries in order the children whose index leaves the remainder `part` when divided by the parts,
+/// except the one at the index `tried`, if the list is that long. The seat already knows a bound
+/// for that one, and its turn costs nothing.
 fn run_in_turn<G: Game, T: Gate>(
     work: &RootWork<'_, G, T>,
     part: u32,
@@ -213,10 +212,10 @@ fn run_in_turn<G: Game, T: Gate>(
     found
 }
 
-/// Tries each child whose place leaves this part when divided by the parts: first the one that
-/// looks best, and then the others in their order. The worker that has the one that looks best of
-/// all learns before whether a move of the root wins at once; the others leave their first one for
-/// its turn among the others where the bound is raised meanwhile.
+/// Tries each child whose index leaves the remainder `part` when divided by the parts: first the
+/// one that looks best, and then the others in order. The worker that has the one that looks best
+/// of all first looks for a move of the root that wins at once. Any other worker leaves its first
+/// child until its turn, if the bound is raised meanwhile.
 pub fn run_one<G: Game, T: Gate>(
     work: &RootWork<'_, G, T>,
     part: u32,

@@ -1,4 +1,4 @@
--- Where a moved piece ends: on an empty place unless it is a beetle or a mosquito.
+-- A moved piece ends on an empty place, unless it is a beetle or a mosquito.
 use Rattle.std.proofs.Common.{◌≡◌, ◌⊎◌, inl, inr, refl}
 use Rattle.hive_model.specs.declared.pieces.Kind.{Kind}
 use Rattle.hive_model.specs.declared.pieces.Kind.TheVariants.{Queen, Spider, Beetle, Grasshopper, Ant, Mosquito, Ladybug, Pillbug}

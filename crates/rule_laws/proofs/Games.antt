@@ -62,7 +62,7 @@ turn_next n = elim (even_or_odd n) [
   | inr odd ↦ ap (λ c. n / 2 + 1 + (if is_colour c Black then 1 else 0)) (black_after n odd) ∙ (let same : n / 2 + 1 + 1 ≡ (n + 1) / 2 + 1 = omega (arith, odd) in same)
 ]
 
--- what the number of plies tells of a position
+-- what the number of plies determines of a position
 record Counted (t : GameType) (n : ℕ) (p : Position) : Type 0 where
   game_type : p.game_type ≡ t
   side : p.side ≡ side_after n

@@ -1,4 +1,4 @@
--- What is left on the board when a piece goes: the others stand where they stood, in one hive.
+-- What a piece that goes leaves on the board: the others keep their spots, in one hive.
 use Rattle.std.proofs.Common.{◌≡◌, ◌≢◌, ℕ, suc, zero, ◌+◌, ◌<◌, true, false, List, [], ◌∷◌, take, refl, sym, ◌∙◌, ap, subst, arith}
 use Rattle.std.specs.Prelude.{Some, None, nat_lt}
 use Rattle.std.proofs.lemmas.Bool.{lt-ltb}
@@ -71,7 +71,7 @@ module _ (b : Stacks) (is : IsBoard b) (x : ℕ) (p : Place) (level : ℕ) (stan
     one_hive = lifted_one one not_cut level refl;
   }
 
--- a top piece that stands on no cut place leaves the lifted board
+-- `Leaves` holds of a top piece that is not on a cut place
 pub leaves_top : (b : Stacks) (x : ℕ) (s : Spot) → IsBoard b → OneHive b → spot_of b x ≡ Some s → s.level + 1 ≡ height_at b s.place → (¬ IsCut b s.place) → Leaves b (without b x) x
 leaves_top b x s is one e top not_cut =
     subst (λ c. Leaves b c x) (lift_is_without b x s e top) (leaves_lifted b is x s.place s.level (spot_of_stands b x s e) (sym top) one not_cut)

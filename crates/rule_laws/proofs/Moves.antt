@@ -94,7 +94,7 @@ one_or_other White Black = inr refl
 one_or_other Black White = inr refl
 one_or_other Black Black = inl refl
 
--- where neither side has a piece on the board no place is occupied
+-- if neither side has a piece on the board, no place is occupied
 none_occupied : (b : Stacks) → IsBoard b → (c : Colour) → (¬ HasColour b c) → (¬ HasColour b (other_side c)) → (z : Place) → ¬ IsTrue (is_occupied b z)
 none_occupied b is c own other z h =
     let y = occupied_stands b z h in

@@ -1,10 +1,10 @@
--- How far the places of one hive are from each other.
+-- How far apart the places of one hive are.
 use Rattle.std.specs.Prelude.{ℤ, pos, ◌+ℤ◌, ◌≤ℤ◌, IsTrue}
 use Rattle.hive_model.specs.declared.places.Place.{Place}
 use Rattle.hive_model.specs.Boards.{Stacks, is_occupied, IsBoard}
 use Rattle.hive_model.specs.Hive.{OneHive}
 
--- two occupied places of one hive differ by at most 27 in each coordinate
+-- Two occupied places of one hive differ by at most 27 in each coordinate.
 abbrev pub SpanLaw : Type 0
 SpanLaw =
     (b : Stacks) → IsBoard b → OneHive b → (p q : Place) → IsTrue (is_occupied b p)

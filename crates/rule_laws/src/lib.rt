@@ -1,7 +1,7 @@
-//! Laws of positions and games: what a legal move leaves of a sound position, what each game
-//! keeps, how far the places of one hive are from each other, and what the rules come to in a
-//! player's words. They have no code: a function here has its law as its contract, and an empty
-//! body.
+//! Laws of positions and games, each the contract of a function that does nothing.
+//!
+//! They state what a legal move does to a sound position, and what every game keeps. They bound how
+//! far apart the places of one hive are, and say what the rules amount to in a player's words.
 #![tactic(auto)]
 
 mod readings;
@@ -20,30 +20,31 @@ pub use readings::{
 };
 pub use spans::hives_are_short;
 
-/// The opening of every game type is a sound position, and no coordinate of a piece on its board is
-/// larger in size than 0.
+/// The opening of every game type is a sound position, and no coordinate of a piece on its board
+/// exceeds 0 in absolute value.
 pub fn openings_are_sound()
     ensures { OpeningsAreSound }
 {}
 
-/// A legal move of a sound position leaves a sound position: each piece stands once, in one hive,
-/// only beetles and mosquitoes above the ground, of each kind and colour the least numbers, and the
-/// moved piece rests on top. No piece then stands more than one place further out than any piece
-/// stood before. The same holds of each move on the list of legal moves.
+/// A legal move of a sound position leads to a sound position. Each piece is on the board at most
+/// once, and the board is one hive. Only beetles and mosquitoes are above the ground, and the
+/// numbers of each kind and colour are the least ones. The moved piece rests, on top. No piece then
+/// stands more than one place further out than any piece stood before. The same holds of each move
+/// on the list of legal moves.
 pub fn legal_moves_keep_soundness()
     ensures legal { LegalMovesKeepSoundness }
     ensures listed { ListedMovesKeepSoundness }
 {}
 
-/// A game of at most 9,000 plies leads to a sound position, in which no coordinate of a piece is
-/// larger in size than the number of plies.
+/// A game of at most 9,000 plies leads to a sound position, in which no coordinate of a piece
+/// exceeds the number of plies in absolute value.
 pub fn games_are_sound()
     ensures { GamesAreSound }
 {}
 
-/// The number of plies of a game tells whose turn it is and the number of the turn: white moves
-/// after an even number of plies, and the turn number is half of the plies, rounded down, and one.
-/// The game type stays as it is.
+/// The number of plies of a game determines the side to move and the turn number. White moves after
+/// an even number of plies. The turn number is half the number of plies, rounded down, plus one.
+/// The game type does not change.
 pub fn games_count_plies()
     ensures { GamesCountPlies }
 {}

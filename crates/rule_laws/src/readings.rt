@@ -1,4 +1,4 @@
-//! What the definitions of the rules come to, in a player's words.
+//! What the definitions of the rules amount to, in a player's words.
 
 ghost use Rattle.rule_laws.specs.Readings.{
   QueensComeFirst,
@@ -14,21 +14,21 @@ pub fn queens_come_first()
     ensures { QueensComeFirst }
 {}
 
-/// The near places of a board, on which every legal move ends, are the origin, the occupied places
-/// and their neighbours.
+/// The near places of a board are the origin, the occupied places and their neighbours. Every legal
+/// move ends on one.
 pub fn near_places_are_beside()
     ensures { NearPlacesAreBeside }
 {}
 
-/// A game has not started exactly where no ply was played, and it is in progress exactly where some
-/// ply was played and no queen is surrounded.
+/// A game has not started exactly if no ply was played. It is in progress exactly if some ply was
+/// played and no queen is surrounded.
 pub fn games_begin_and_go_on()
     ensures begins { NothingPlayedIsNotStarted }
     ensures goes_on { PlayGoesOn }
 {}
 
-/// The evaluation of a sound position counts the free pieces of its game type, and no other piece:
-/// none other stands on its board.
+/// The evaluation of a sound position counts the free pieces of its game type and no others, since
+/// no others are on its board.
 pub fn evaluations_count_the_type()
     ensures { TypesAreCounted }
 {}

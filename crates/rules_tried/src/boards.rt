@@ -6,7 +6,7 @@ use hive_model::{Board, Colour, Kind, Piece, Place};
 use stack_board::PlainBoard;
 use std::alloc::{AllocError, Global};
 
-/// A board with these pieces, each at a place near the origin, one after another.
+/// A board with these pieces, each at a place near the origin, put one after another.
 pub fn board_of(
     alloc: Global,
     pieces: &[(Colour, Kind, u8, i32, i32)],
@@ -26,7 +26,7 @@ pub fn board_of(
     Ok(board)
 }
 
-/// The board on which the first pieces stand on these places, in turn.
+/// The board with the first pieces on these places, in turn.
 pub fn board_on(alloc: Global, places: &[(i32, i32)]) -> Result<PlainBoard, AllocError> {
     let mut board = PlainBoard::new(alloc)?;
     for (x, (q, r)) in places.iter().enumerate() {
@@ -40,7 +40,7 @@ pub fn board_on(alloc: Global, places: &[(i32, i32)]) -> Result<PlainBoard, Allo
     Ok(board)
 }
 
-/// The same once more.
+/// A copy of it.
 pub fn again(rest: &Option<Piece>) -> Option<Piece>
     ensures { result ≡ rest.now }
 {

@@ -1,4 +1,4 @@
-//! Of `win_bounds`: games in which a queen is about to be surrounded, or far from it.
+//! Tests of `win_bounds`: games in which a queen is about to be surrounded, or far from it.
 
 use hive_model::{Game, GameType, Kind, Move, Piece, Place};
 use plain_game::PlainGame;
@@ -6,10 +6,10 @@ use std::alloc::{AllocError, Global};
 use std::test::Fail;
 use win_bounds::{is_far_from_loss, is_far_from_win};
 
-/// A piece of the side to move by its kind and number, and the place where it is put.
+/// A piece of the side to move by its kind and number, and the place to which it goes.
 type Put = (Kind, u8, i32, i32);
 
-/// Whether the side to move is far from a win, and from a loss; nothing where a move was not legal.
+/// Whether the side to move is far from a win, and from a loss; `None` if a move was not legal.
 type Far = Option<(bool, bool)>;
 
 const ALL: GameType = GameType {
@@ -47,7 +47,7 @@ fn plays_all(game: &mut PlainGame, puts: &[Put]) -> Result<bool, AllocError> {
     Ok(true)
 }
 
-/// What is told of the game in which these are played, then those, and then some more.
+/// The answers for the game in which the three lists of moves were played one after another.
 fn far_after(alloc: Global, first: &[Put], then: &[Put], more: &[Put]) -> Result<Far, AllocError> {
     let mut game = PlainGame::opening(alloc, ALL)?;
     if !plays_all(&mut game, first)? || !plays_all(&mut game, then)? {
@@ -78,8 +78,8 @@ fn queens_in_hand_are_far_from_a_win_alone(rt: HostRuntime) -> Result<(), Fail> 
     Ok(())
 }
 
-/// Black's queen at (2, 0) comes to have four neighbours, which are ants and a spider of both
-/// sides; black's other pieces stand in a line behind her. White's queen has one neighbour.
+/// Black's queen at (2, 0) gets four neighbours, which are ants and a spider of both sides. Black's
+/// other pieces are in a line behind her. White's queen has one neighbour.
 const FOUR_ROUND: [Put; 12] = [
     (Kind::Spider, 1, 0, 0),
     (Kind::Spider, 1, 1, 0),
@@ -133,9 +133,9 @@ fn beetles_above_are_no_neighbours_more(rt: HostRuntime) -> Result<(), Fail> {
     Ok(())
 }
 
-/// Behind a first piece of white's at (0, 0): both queens come to stand beside it, black's at
-/// (0, -1), and of the six neighbours of the empty place (0, 1), which is beside that piece too,
-/// only (-1, 1) is left empty.
+/// These moves follow a first piece of white's at (0, 0). Both queens end beside it, black's at (0,
+/// -1). The empty place (0, 1) is beside that piece too. Of its six neighbours only (-1, 1) is left
+/// empty.
 const NEAR_RING: [Put; 11] = [
     (Kind::Spider, 1, -1, 0),
     (Kind::Queen, 0, 1, 0),
@@ -150,11 +150,11 @@ const NEAR_RING: [Put; 11] = [
     (Kind::Grasshopper, 2, -4, 0),
 ];
 
-/// White's ant closes the ring round the hole, and black waits.
+/// White's ant closes the ring around the hole, and black makes a move elsewhere.
 const CLOSED: [Put; 2] = [(Kind::Ant, 3, -1, 1), (Kind::Grasshopper, 3, -5, 0)];
 
-/// What is told where this piece of white's stands beside both queens and the ring that is open,
-/// and then those are played, and some more.
+/// The answers with this piece of white's beside both queens and the open ring, after the two lists
+/// of moves.
 fn far_beside(alloc: Global, kind: Kind, then: &[Put], more: &[Put]) -> Result<Far, AllocError> {
     let mut puts = Vec::from_slice(alloc, &[(kind, 0, 0, 0)])?;
     puts.extend_from_slice(&NEAR_RING)?;
@@ -194,8 +194,8 @@ fn own_pillbugs_and_mosquitoes_throw_queens_into_a_hole(rt: HostRuntime) -> Resu
     Ok(())
 }
 
-/// Behind white's spider at (0, 0) and a piece of black's at (1, 0): black's queen stands beside
-/// this piece, and black's ant closes the ring round the hole (1, 1), which is beside it too.
+/// These moves follow white's spider at (0, 0) and a piece of black's at (1, 0). Black's queen is
+/// beside that piece. Black's ant closes the ring around the hole (1, 1), which is beside it too.
 const BLACK_RING: [Put; 14] = [
     (Kind::Queen, 0, -1, 0),
     (Kind::Queen, 0, 2, -1),

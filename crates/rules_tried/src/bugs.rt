@@ -1,4 +1,4 @@
-//! Of `bug_moves`: each kind beside two pieces, round them, and in a ring.
+//! Tests of `bug_moves`: each kind beside two pieces, around them, and in a ring.
 
 ghost use Rattle.std.specs.Prelude.{◌≢◌};
 ghost use Rattle.hive_model.specs.declared.pieces.Kind.TheVariants.{Mosquito};

@@ -1,4 +1,4 @@
-//! Of `torus_board`: places with equal residues, and a stack of two, put and lifted.
+//! Tests of `torus_board`: places with equal residues, and a stack of two, put and lifted.
 
 ghost use Rattle.std.specs.Prelude.{◌≤ℤ◌, pos, negsuc};
 ghost use Rattle.torus_board.specs.Grid.{IsSide};
@@ -10,14 +10,14 @@ use torus_board::Torus;
 
 const ORIGIN: Place = Place { q: 0, r: 0 };
 
-/// Whether the place reads as empty.
+/// Whether the board shows the place as empty.
 fn is_empty<B: Board>(board: &B, q: i32, r: i32) -> bool {
     let place = Place { q, r };
     board.top(place).is_none() && board.height(place) == 0
 }
 
-/// Whether a piece on the origin is seen there, and not on three places of the same cell, which are
-/// a side away.
+/// Whether a piece on the origin is seen there, and not on three places of the same cell, a side's
+/// length away.
 fn sees_one_place<const SIDE: usize>(alloc: Global, far: i32) -> Result<bool, AllocError>
     requires side { IsSide SIDE }
     requires low { negsuc 199 ≤ℤ far }

@@ -1,4 +1,4 @@
-//! Of `hand_rules`: placements in small positions.
+//! Tests of `hand_rules`: placements in small positions.
 
 ghost use Rattle.std.specs.Prelude.{◌<◌, length};
 ghost use Rattle.hive_model.specs.Places.{IsWithin};
@@ -28,7 +28,7 @@ fn put(rt: &impl Abort, board: &mut PlainBoard, piece: Piece, place: Place)
     board.put(piece, place);
 }
 
-/// The moves of the first level are these pieces to these places.
+/// Asserts that the moves of the first level are these pieces to these places.
 fn holds(rt: &impl Abort, moves: &MoveStack, wanted: &[(u8, i32, i32)])
     requires { 0 < length moves.now.lists }
 {

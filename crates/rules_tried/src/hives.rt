@@ -1,4 +1,4 @@
-//! Of `one_hive`: lines, rings and hives apart.
+//! Tests of `one_hive`: lines, rings and separate hives.
 
 ghost use Rattle.std.specs.Prelude.{◌≡◌, ◌<◌};
 

@@ -1,5 +1,5 @@
-//! Of `cut_keeper`: a line and a beetle on it, a ring that is opened, and how often a keeper asks a
-//! board.
+//! Tests of `cut_keeper`: a line with a beetle on it, a ring that is opened, and how often a keeper
+//! asks a board.
 
 ghost use Rattle.std.specs.Prelude.{◌<◌, IsTrue};
 ghost use Rattle.hive_model.specs.Boards.{is_on_top};
@@ -14,7 +14,7 @@ use std::cell::Cell;
 use std::marker::Model;
 use std::test::Fail;
 
-/// A board that hands each call on, and counts the calls.
+/// A board that passes each call on, and counts the calls.
 #[derive(Drop)]
 struct Counted<'a> {
     board: &'a PlainBoard,
@@ -64,7 +64,7 @@ fn is_on_top(board: &PlainBoard, piece: Piece) -> bool
     }
 }
 
-/// A board that is one hive, and the keeper that stands for it.
+/// A board that is one hive, and a keeper in sync with it.
 #[derive(Drop)]
 struct Tried {
     board: PlainBoard,
@@ -100,8 +100,8 @@ impl Tried {
         }))
     }
 
-    /// With the piece on the place, if it was not on the board and leaves one hive. Remembers how
-    /// often the keeper asked the board.
+    /// The same with the piece on the place, if it was not on the board and leaves one hive. It
+    /// remembers how often the keeper asked the board.
     fn put(self, index: u8, place: Place) -> Option<Tried>
         requires small { index < 28 }
         requires within { IsWithin 9000 place }
@@ -133,7 +133,7 @@ impl Tried {
         })
     }
 
-    /// Without the piece, if it is on top and leaves one hive.
+    /// The same without the piece, if it is on top and leaves one hive.
     fn lifted(self, index: u8) -> Option<Tried>
         requires { index < 28 }
     {
@@ -164,7 +164,7 @@ impl Tried {
     }
 }
 
-/// The board on which the first pieces stand on these places, in turn.
+/// The board with the first pieces on these places, in turn.
 fn tried_of(alloc: Global, places: &[(i32, i32)]) -> Result<Option<Tried>, AllocError> {
     let Some(mut tried) = Tried::new(alloc)? else {
         return Ok(None);

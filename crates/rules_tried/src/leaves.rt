@@ -1,4 +1,4 @@
-//! Of `leaf_worth`: the worth told before a put, beside the worth after it.
+//! Tests of `leaf_worth`: the worth found before a put, compared with the worth after it.
 
 ghost use Rattle.std.specs.Prelude.{◌≡◌, false, IsTrue};
 ghost use Rattle.hive_model.specs.Legal.{is_surrounded};
@@ -14,7 +14,7 @@ use std::alloc::{AllocError, Global};
 use std::process::Abort;
 use std::test::Fail;
 
-/// Whether the side's queen surely is not surrounded.
+/// Whether the side's queen is certainly not surrounded.
 fn is_open<B: Board>(board: &B, side: Colour) -> bool
     ensures { IsTrue result → is_surrounded (B.stacks board.now) side ≡ false }
 {
@@ -24,13 +24,13 @@ fn is_open<B: Board>(board: &B, side: Colour) -> bool
     }
 }
 
-/// What the board is worth to the side where the piece rests.
+/// What the board is worth to the side if this piece rests.
 fn worth(board: &PlainBoard, side: Colour, rest: Option<Piece>) -> i32 {
     let separating = Separating::found(board);
     evaluate(&KnownCuts::new(board, &separating), side, rest)
 }
 
-/// What is told of the put, if anything.
+/// The worth of the put found without a play, if any.
 fn told(board: &PlainBoard, piece: Piece, place: Place, side: Colour) -> Option<i32>
     requires { IsWithin 9000 place }
 {
@@ -48,7 +48,7 @@ fn told(board: &PlainBoard, piece: Piece, place: Place, side: Colour) -> Option<
     worth_after_put(&known, base, piece, place, side, two, one)
 }
 
-/// The bound that is told of the put, if there is one.
+/// The bound of the put, if there is one.
 fn bound(board: &PlainBoard, piece: Piece, place: Place, side: Colour) -> Option<i32>
     requires { IsWithin 9000 place }
 {
@@ -64,8 +64,9 @@ fn bound(board: &PlainBoard, piece: Piece, place: Place, side: Colour) -> Option
     least_after_put(&known, base, piece, place, side)
 }
 
-/// The puts of all pieces on the places near the origin: for how many the worth is told, and for
-/// how many it is not. What is told is what the board is worth after the put.
+/// The puts of all pieces on the places near the origin: for how many the worth is found without a
+/// play, and for how many it is not. Each worth that is found is what the board is worth after the
+/// put.
 fn told_and_not(
     rt: &impl Abort,
     alloc: Global,
@@ -104,7 +105,7 @@ fn told_and_not(
     Ok((has, not))
 }
 
-/// A line: each put beside one end has one neighbour alone. Black's queen is in hand.
+/// A line: each put beside one end has only one neighbour. Black's queen is in hand.
 #[test]
 fn a_line(rt: HostRuntime) -> Result<(), Fail> {
     let pieces = [
@@ -130,8 +131,8 @@ fn a_stack_and_two_queens(rt: HostRuntime) -> Result<(), Fail> {
     Ok(())
 }
 
-/// White's queen has five neighbours and a gap: no put into the gap is told. A tail hangs on one of
-/// the five, which is a cut place within the gap's arc no more than at its end.
+/// White's queen has five neighbours and a gap. No put into the gap is valued without a play. A
+/// tail of Black's queen and a stack hangs on two of the five, none of which is on a cut place.
 #[test]
 fn a_ring_with_a_gap_and_a_tail(rt: HostRuntime) -> Result<(), Fail> {
     let pieces = [
@@ -149,8 +150,8 @@ fn a_ring_with_a_gap_and_a_tail(rt: HostRuntime) -> Result<(), Fail> {
     Ok(())
 }
 
-/// One piece alone: a put beside it is not told, since no other place is occupied then, and one on
-/// it is.
+/// A single piece. A put beside it is not valued without a play, since no other place is then
+/// occupied; a put on top of it is.
 #[test]
 fn one_piece(rt: HostRuntime) -> Result<(), Fail> {
     let pieces = [(Colour::White, Kind::Grasshopper, 1, 0, 0)];
@@ -158,9 +159,9 @@ fn one_piece(rt: HostRuntime) -> Result<(), Fail> {
     Ok(())
 }
 
-/// A bent line of three: a piece that is put into the bend joins its ends, and White's ant in the
-/// middle, on a cut place before, counts 10 then beside the spider's 4. Black's grasshopper counts
-/// 6, and the beetle that was put rests.
+/// A bent line of three. A piece put into the bend joins its ends. White's ant in the middle, which
+/// was on a cut place, then counts 10, and the spider 4. Black's grasshopper counts 6, and the
+/// beetle that was put rests.
 #[test]
 fn a_put_into_a_bend(rt: HostRuntime) -> Result<(), Fail> {
     let pieces = [
@@ -178,8 +179,8 @@ fn a_put_into_a_bend(rt: HostRuntime) -> Result<(), Fail> {
     Ok(())
 }
 
-/// Three pieces round one, no two beside each other: a put between two of them leaves it a cut
-/// place, and is not told.
+/// Three pieces around one, no two of them neighbours. A put between two of them leaves the middle
+/// a cut place, and is not valued without a play.
 #[test]
 fn a_middle_that_stays_a_cut_place(rt: HostRuntime) -> Result<(), Fail> {
     let pieces = [
@@ -199,10 +200,10 @@ fn a_middle_that_stays_a_cut_place(rt: HostRuntime) -> Result<(), Fail> {
     Ok(())
 }
 
-/// Five pieces of a ring, and the place that closes it: beside it are the two ends, which are not
-/// beside each other, so that every held piece counts. Free are White's grasshopper, 6, and Black's
-/// ant, 10. Held are Black's beetle, 8, and White's spider and ant, 4 and 10. The queens are in
-/// hand.
+/// Five pieces of a ring, and the place that closes it. Its two neighbours are the ends, which are
+/// not neighbours of each other, so every held piece counts. White's grasshopper (6) and Black's
+/// ant (10) are free. Black's beetle (8) and White's spider (4) and ant (10) are held. The queens
+/// are in hand.
 #[test]
 fn a_bound_where_a_ring_closes(rt: HostRuntime) -> Result<(), Fail> {
     let hopper = Piece::new(Colour::Black, Kind::Grasshopper, 1).ok_or("bG1")?;
@@ -223,10 +224,10 @@ fn a_bound_where_a_ring_closes(rt: HostRuntime) -> Result<(), Fail> {
     Ok(())
 }
 
-/// A line of five with a bend: the place in the bend is beside Black's queen, Black's beetle and
-/// White's spider, which form one arc. So of the held pieces the beetle, 8, and the spider, 4, may
-/// come to be free, and Black's ant may not. Each queen is free, has one neighbour, and Black's
-/// gets one more.
+/// A line of five with a bend. The place in the bend is beside Black's queen, Black's beetle and
+/// White's spider, which form one arc. So of the held pieces the beetle (8) and the spider (4) may
+/// become free, and Black's ant may not. Each queen is free and has one neighbour, and Black's gets
+/// one more.
 #[test]
 fn a_bound_beside_one_arc(rt: HostRuntime) -> Result<(), Fail> {
     let hopper = Piece::new(Colour::Black, Kind::Grasshopper, 1).ok_or("bG1")?;
@@ -244,9 +245,9 @@ fn a_bound_beside_one_arc(rt: HostRuntime) -> Result<(), Fail> {
     Ok(())
 }
 
-/// White's queen, 4, has five neighbours of Black's, which weigh 30, and a gap; nothing is held.
-/// There is no bound on an occupied place, beside one neighbour alone, and in the gap. There is one
-/// beside two neighbours; Black's queen, where she is put there, has these two.
+/// White's queen (4) has five neighbours of Black's, which weigh 30, and a gap. Nothing is held.
+/// There is no bound for an occupied place, beside only one neighbour, and in the gap. There is one
+/// beside two neighbours. If Black's queen is put there, she has these two.
 #[test]
 fn no_bound(rt: HostRuntime) -> Result<(), Fail> {
     let ant = Piece::new(Colour::Black, Kind::Ant, 1).ok_or("bA1")?;

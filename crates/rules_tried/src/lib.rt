@@ -1,5 +1,5 @@
-//! The rules, the boards, the cut places, the symmetries and the bounds of a win, tried on small
-//! boards whose answers were found by hand.
+//! Tests of the rules, boards, cut places, symmetries and win bounds, on small boards whose answers
+//! were found by hand.
 #![tactic(auto)]
 
 #[cfg(test)]

@@ -1,11 +1,11 @@
-//! Of `arcs`: the arcs, the ends and the row of some masks.
+//! Tests of `arcs`: the arcs, the ends and the row of some masks.
 
 ghost use Rattle.std.specs.Prelude.{◌<◌};
 
 use arcs::{CaseRow, CaseTable, arc_ends, arcs};
 use std::process::Abort;
 
-/// Compares what is told of a mask.
+/// Compares the answers for a mask.
 fn has(rt: &impl Abort, mask: u8, arc_count: u8, ends: u8)
     requires { mask < 64 }
 {

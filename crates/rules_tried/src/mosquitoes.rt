@@ -1,4 +1,4 @@
-//! Of `bug_moves`: a mosquito on the ground, and one on a stack.
+//! Tests of `bug_moves`: a mosquito on the ground, and one on a stack.
 
 ghost use Rattle.hive_model.specs.Places.{IsOnTheMap};
 

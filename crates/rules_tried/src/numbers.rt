@@ -1,11 +1,12 @@
-//! Of `euler`: the numbers of a row, of rings and of two hives, and what arcs tell beside a hole.
+//! Tests of `euler`: the numbers of a row, of rings and of two hives, and what arcs show beside a
+//! hole.
 
 use crate::boards::board_on;
 use euler::{euler_number, told_by_arcs};
 use std::test::Fail;
 
-/// Parts less holes: a row is one part, a ring of six has a hole, a filled ring has none, and two
-/// pieces apart are two parts. A piece on top counts nothing.
+/// Parts minus holes. A row is one part, a ring of six has a hole, a filled ring has none, and two
+/// separate pieces are two parts. A piece on top does not count.
 #[test]
 fn parts_less_holes(rt: HostRuntime) -> Result<(), Fail> {
     let row = board_on(rt.alloc(), &[(0, 0), (1, 0), (2, 0), (1, 0)])?;
@@ -21,8 +22,8 @@ fn parts_less_holes(rt: HostRuntime) -> Result<(), Fail> {
     Ok(())
 }
 
-/// Two arcs, E and W, are a cut on a board without holes, and say nothing beside one hole; three
-/// arcs are a cut beside one hole too, and one arc is none anywhere.
+/// Two arcs, E and W, show a cut place on a board without holes, and decide nothing with one hole.
+/// Three arcs show a cut place with one hole too. One arc never does.
 #[test]
 fn arcs_beside_holes(rt: HostRuntime) -> Result<(), Fail> {
     assert_eq!(rt; told_by_arcs(0b001001, 1), Some(true));

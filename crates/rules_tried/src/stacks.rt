@@ -1,4 +1,4 @@
-//! Of `stack_board`: a stack of two, put and lifted.
+//! Tests of `stack_board`: a stack of two, put and lifted.
 
 use hive_model::{Board, Piece, Place, Spot};
 use stack_board::PlainBoard;

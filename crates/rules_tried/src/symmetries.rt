@@ -1,4 +1,4 @@
-//! Of `symmetry`: where symmetries take places, and boards that are alike.
+//! Tests of `symmetry`: where symmetries map places, and boards that are alike.
 
 use crate::boards::board_on;
 use hive_model::{Colour, GameType, Key, Move, Piece, Place};
@@ -7,7 +7,7 @@ use std::alloc::{AllocError, Global};
 use std::test::Fail;
 use symmetry::{Symmetry, alike, own_symmetries};
 
-/// The place of these coordinates after the symmetry of this number.
+/// The place to which the symmetry of this number maps these coordinates.
 fn taken(index: u8, q: i32, r: i32) -> (i32, i32) {
     if index < 12 && -9 <= q && q <= 9 && -9 <= r && r <= 9 {
         let place = Symmetry::at(index).place(Place { q, r });
@@ -29,7 +29,7 @@ fn places(rt: HostRuntime) -> Result<(), Fail> {
     Ok(())
 }
 
-/// A key of a board on which the first pieces stand on these places, in turn.
+/// The key of a board with the first pieces on these places, in turn.
 fn key_on(alloc: Global, places: &[(i32, i32)]) -> Result<Key, AllocError> {
     let board = board_on(alloc, places)?;
     Ok(key_of(&board))
@@ -71,8 +71,7 @@ fn shifts(rt: HostRuntime) -> Result<(), Fail> {
     Ok(())
 }
 
-/// How many symmetries but the identity a board has, on which the first pieces stand on these
-/// places.
+/// How many symmetries other than the identity a board has, with the first pieces on these places.
 fn own_count(alloc: Global, places: &[(i32, i32)]) -> Result<usize, AllocError> {
     let key = key_on(alloc, places)?;
     Ok(own_symmetries(&key).len())
@@ -89,7 +88,7 @@ fn own(rt: HostRuntime) -> Result<(), Fail> {
     Ok(())
 }
 
-/// Beside a row of two the places on its two sides are one another's images.
+/// For a row of two, the places on its two sides are each other's images.
 #[test]
 fn images(rt: HostRuntime) -> Result<(), Fail> {
     let key = key_on(rt.alloc(), &[(3, 0), (4, 0)])?;

@@ -1,4 +1,4 @@
-//! Of `pillbug_throws`: throws over a board by spots, whose cut places are found by one walk.
+//! Tests of `pillbug_throws`: throws over a board of spots, whose cut places one walk finds.
 
 use crate::boards::{again, board_of};
 use hive_model::{Colour, Kind, Piece, Place, PlaceList};
@@ -7,7 +7,7 @@ use pillbug_throws::{may_throw, throws};
 use stack_board::PlainBoard;
 use std::test::Fail;
 
-/// Where one piece throws the other, if it may throw.
+/// The places to which one piece throws the other, if it may throw.
 fn thrown(board: &PlainBoard, thrower: Piece, piece: Piece, rest: Option<Piece>) -> PlaceList {
     let mut places = PlaceList::new();
     let separating = Separating::found(board);

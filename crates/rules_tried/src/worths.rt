@@ -1,4 +1,4 @@
-//! Of `hive_eval`: small boards whose worth was computed by hand.
+//! Tests of `hive_eval`: small boards whose worth was computed by hand.
 
 use crate::boards::{again, board_of};
 use hive_eval::evaluate;
@@ -25,8 +25,8 @@ fn nothing_and_one_piece(rt: HostRuntime) -> Result<(), Fail> {
     Ok(())
 }
 
-/// White's queen has three neighbours and stands on a cut place, black's has two. Free are the ant,
-/// black's queen and, unless it rests, the beetle.
+/// White's queen has three neighbours and is on a cut place; black's has two neighbours. The ant,
+/// black's queen and, unless it rests, the beetle are free.
 #[test]
 fn queens_with_neighbours(rt: HostRuntime) -> Result<(), Fail> {
     let beetle = Piece::new(Colour::Black, Kind::Beetle, 1).ok_or("bB1")?;
@@ -44,9 +44,9 @@ fn queens_with_neighbours(rt: HostRuntime) -> Result<(), Fail> {
     Ok(())
 }
 
-/// Four places in a line, with two pieces on one of them: a covered piece is not free, a beetle
-/// above it is, also where its place holds the hive together. Both queens have two neighbours; they
-/// are free on no such place.
+/// Four places in a line, with two pieces on one of them. A covered piece is not free. A beetle
+/// above it is, even if its place holds the hive together. Both queens have two neighbours, and are
+/// not free on a place that does so.
 #[test]
 fn covered_pieces(rt: HostRuntime) -> Result<(), Fail> {
     let at_the_end = board_of(
@@ -74,7 +74,7 @@ fn covered_pieces(rt: HostRuntime) -> Result<(), Fail> {
     Ok(())
 }
 
-/// One piece of each kind, all free: 58 in all, and 40 less for each of the queen's two neighbours.
+/// One piece of each kind, all free: 58 in all, minus 40 for each of the queen's two neighbours.
 /// Black's queen is in hand.
 #[test]
 fn every_kind(rt: HostRuntime) -> Result<(), Fail> {

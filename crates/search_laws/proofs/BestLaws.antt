@@ -1,4 +1,4 @@
--- The best move is the first of those that are worth most.
+-- The best move is the first of those with the greatest value.
 use Rattle.std.proofs.Common.{◌≡◌, ℕ, zero, suc, ◌-◌, ◌<◌, Bool, true, false, cond, List, [], ◌∷◌, length, map, option_map, refl, sym, ap, arith, ◌∙◌, ℤ, ◌≤ℤ◌, ◌<ℤ◌, int_le, Some, inl, inr, ◌⊎◌}
 use Rattle.std.proofs.lemmas.Int.{ints, clamps, by_lt_z}
 use Rattle.std.proofs.lemmas.Option.{slice_get-map}
@@ -11,11 +11,11 @@ use Rattle.hive_model.specs.Minimax.{IsInner, IsBest, IsFirstGreatest, value, re
 use Rattle.search_laws.proofs.Greatest.{greatest-each}
 use Rattle.search_laws.proofs.MinimaxLaws.{value-greatest, moves-not_over}
 
--- whether a move is worth what the position is worth
+-- whether a move has the value of the position
 abbrev pub reaches : Position → ℕ → Move → Bool
 reaches p d m = int_le (value p d) (reply_value p (d - 1) m)
 
--- the best move is the first that is worth what the position is worth
+-- the best move is the first that has the value of the position
 pub best-reaches : (p : Position) (d : ℕ) → IsInner p d → best p d ≡ find (reaches p d) (moves p)
 unfolding best
 best-reaches p d inner = ap (λ g. find (λ m. int_le g (reply_value p (d - 1) m)) (moves p)) (sym (value-greatest p d inner))

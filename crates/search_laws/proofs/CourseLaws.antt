@@ -19,7 +19,7 @@ replay-append p (x ∷ xs) m = replay-append (after p x) xs m
 pub position-with_move : (g : Course) (m : Move) → position (with_move g m) ≡ after (position g) m
 position-with_move g m = replay-append (opening g.game_type) g.made m
 
--- a level that was put on and taken away leaves the stack as before
+-- a level that was added and dropped leaves the stack unchanged
 pub level-dropped : (old listed tried later : Levels) (ms : List Move) → 1 ≤ old.free → listed ≡ with_level old ms → tried ≡ listed → later ≡ without_level tried → later ≡ old
 level-dropped old listed tried later ms room put same dropped =
     let lists : take (length (old.lists ++ ms ∷ []) - 1) (old.lists ++ ms ∷ []) ≡ old.lists = take-all_but_last old.lists ms in
@@ -27,7 +27,7 @@ level-dropped old listed tried later ms room put same dropped =
     let there : without_level (with_level old ms) ≡ old = λ i. record { lists = lists i; free = free i } in
     dropped ∙ ap (λ (s : Levels). without_level s) (same ∙ put) ∙ there
 
--- a move that was played and taken back leaves the game as before
+-- a move that was played and undone leaves the game unchanged
 pub move-undone : (start played tried later : Course) (m : Move) → 1 ≤ start.spare → played ≡ with_move start m → tried ≡ played → later ≡ without_last tried → later ≡ start
 move-undone start played tried later m room moved same back =
     let made : take (length (start.made ++ m ∷ []) - 1) (start.made ++ m ∷ []) ≡ start.made = take-all_but_last start.made m in
@@ -35,7 +35,7 @@ move-undone start played tried later m room moved same back =
     let there : without_last (with_move start m) ≡ start = λ i. record { game_type = start.game_type; made = made i; spare = spare i } in
     back ∙ ap (λ (c : Course). without_last c) (same ∙ moved) ∙ there
 
--- behind a move there is a move to take back
+-- after a move there is a move to undo
 pub move-made : (start played tried : Course) (m : Move) → played ≡ with_move start m → tried ≡ played → 1 ≤ length tried.made
 move-made start played tried m moved same =
     let e : length tried.made ≡ length (start.made ++ m ∷ []) = ap (λ (c : Course). length c.made) (same ∙ moved) in

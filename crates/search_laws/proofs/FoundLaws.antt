@@ -9,7 +9,7 @@ use Rattle.search_laws.specs.Found.{IsFound}
 pub IsFound-exact : (v : ℤ) (w : Window) (r : ℤ) → r ≡ v → IsFound v w r
 IsFound-exact v w r e = record { exact = λ a b. e; upper = λ a. omega (arith, ints); lower = λ b. omega (arith, ints) }
 
--- the other side's answer, with its sign turned
+-- the other side's answer, negated
 pub IsFound-neg : (v : ℤ) (w behind : Window) (r s : ℤ) → behind.alpha ≡ neg_ℤ w.beta → behind.beta ≡ neg_ℤ w.alpha → s ≡ neg_ℤ r →
     IsFound v behind r → IsFound (neg_ℤ v) w s
 IsFound-neg v w behind r s ea eb es f = record {
@@ -18,7 +18,7 @@ IsFound-neg v w behind r s ea eb es f = record {
   lower = λ b. let k : v ≤ℤ r = f.upper (omega (arith, ints)) in omega (arith, ints);
 }
 
--- an answer is as small as the value and the window are
+-- an answer is no larger than the value and the window allow
 pub found-within : (n : ℕ) (v : ℤ) (w : Window) (r : ℤ) → IsSmall n v → n ≤ 1000100 → negsuc 1000099 ≤ℤ w.alpha → w.beta ≤ℤ pos 1000100 →
     w.alpha <ℤ w.beta → IsFound v w r → IsSmall 1000100 r
 found-within n v w r small few low high wide f = record {
@@ -26,7 +26,7 @@ found-within n v w r small few low high wide f = record {
   high = by_lt_z r w.beta (λ below. omega (arith, ints)) (λ not. let k : r ≤ℤ v = f.lower not in omega (arith, ints));
 }
 
--- where the answer does not reach beta, the value does not either
+-- if the answer does not reach beta, the value does not either
 pub found-below : (v : ℤ) (w : Window) (r : ℤ) → w.alpha <ℤ w.beta → r <ℤ w.beta → IsFound v w r → v <ℤ w.beta
 found-below v w r wide below f =
     by_lt_z w.alpha r

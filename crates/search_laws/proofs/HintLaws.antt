@@ -48,7 +48,7 @@ here-in s s0 level i ms m es el e = rw (es, el) at e
 
 -- ---- a move that is tried first
 
--- the rest was searched with alpha raised to what a move of the list is worth
+-- the rest was searched with alpha raised to the value of a move of the list
 pub first-found : (v x : ℤ) (w rest : Window) (r : ℤ) → rest.alpha ≡ int_max w.alpha x → rest.beta ≡ w.beta → x ≤ℤ v → w.alpha <ℤ w.beta → IsFound v rest r → IsFound v w r
 first-found v x w rest r ea eb low wide f = record {
   exact = λ a b. by_lt_z rest.alpha r
@@ -95,7 +95,7 @@ reply-low p d i m inner here =
     let each = greatest-each (reply_value p (d - 1)) (moves p) i m here in
     omega (arith, ints, each, value-greatest p d inner)
 
--- what the search of the rest asks, where the first move raised alpha
+-- what the search of the rest requires, if the first move raised alpha
 pub hint-worth : (start now : Course) (d i : ℕ) (n : Move) (alpha : ℤ) → now ≡ start → slice_get (moves (position start)) i ≡ Some n → reply_value (position start) (d - 1) n ≤ℤ alpha →
     (m : Move) → slice_get (moves (position now)) i ≡ Some m → reply_value (position now) (d - 1) m ≤ℤ alpha
 hint-worth start now d i n alpha same here less = subst
@@ -144,7 +144,7 @@ pub raised-is : (alpha found worth r : ℤ) → SFits w32 alpha → SFits w32 fo
 raised-is alpha found worth r fa ff fr e up =
     to_z-of_z w32 r fr ∙ e ∙ ap (λ z. int_max z (to_z w32 (of_z w32 found))) (to_z-of_z w32 alpha fa) ∙ ap (int_max alpha) (to_z-of_z w32 found ff) ∙ up
 
--- the move that was tried first did not reach beta: alpha is raised to what it is worth
+-- the move that was tried first did not reach beta: alpha is raised to its value
 pub record Raised (worth : ℤ) (w : Window) (alpha : ℤ) : Type 0 where
   pub is : alpha ≡ int_max w.alpha worth
   pub less : worth <ℤ w.beta

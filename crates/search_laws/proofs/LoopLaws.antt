@@ -44,14 +44,14 @@ pub greatest-start : (r : Move → ℤ) (ms : List Move) (a : ℤ) → ((m : Mov
 greatest-start r [] a below some = absurd (omega arith)
 greatest-start r (m ∷ ms) a below some = ap (λ z. greatest_from z (map r ms)) (int_max-below a (r m) (below m))
 
--- ---- what stands at one turn of a loop that plays each move of a level
+-- ---- what holds at one turn of a loop that plays each move of a level
 
 -- the move that was read from the level is at its place in the list
 pub listed-at : (s old : Levels) (ms : List Move) (level i : ℕ) (m : Move) → s ≡ with_level old ms → level ≡ length old.lists →
     slice_get (level_of s level) i ≡ Some m → slice_get ms i ≡ Some m
 listed-at s old ms level i m es el e = rw (level_of-with_level s old ms level es el) at e
 
--- what was searched behind a move
+-- what was searched after a move
 pub position-behind : (g0 g1 start : Course) (m : Move) → g1 ≡ with_move g0 m → g0 ≡ start → position g1 ≡ after (position start) m
 position-behind g0 g1 start m played same = ap position (played ∙ ap (λ g. with_move g m) same) ∙ position-with_move start m
 

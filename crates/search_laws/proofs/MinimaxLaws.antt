@@ -22,7 +22,7 @@ or_pass-some : (ms : List Move) → 0 < length (or_pass ms)
 or_pass-some [] = omega arith
 or_pass-some (m ∷ ms) = omega arith
 
--- where the game is not over there is a move
+-- if the game is not over there is a move
 pub moves-not_over : (p : Position) → is_over p ≡ false → 0 < length (moves p)
 unfolding moves
 moves-not_over p h = rw h (or_pass-some (pairs p))

@@ -1,4 +1,5 @@
--- From the room for a search to the node that it lists, to each move of the node, and to the search behind the move.
+-- From the room for a search to the node that it lists, to each move of the node, and to the search
+-- after the move.
 use Rattle.std.proofs.Common.{◌≡◌, ℕ, ◌-◌, ◌≤◌, length, refl, sym, ap, subst, arith, ◌∙◌, Some}
 use Rattle.std.specs.List.{slice_get}
 use Rattle.hive_model.specs.declared.places.Move.{Move}
@@ -25,7 +26,7 @@ node-listed start entered now old s d level room inner same kept listed on =
       listed = moves-listed start now s old s level all refl whole on;
     }
 
--- it is a node still where game and stack are as before
+-- it is still a node if game and stack have not changed
 pub node-again : (start now : Course) (old s : Levels) (d level : ℕ) → IsNode d level start old → AreAsBefore start now old s → IsNode d level now s
 node-again start now old s d level node same =
     subst (λ (h : Course). IsNode d level h s) (sym same.game) (subst (λ (l : Levels). IsNode d level start l) (sym same.stack) node)
@@ -47,7 +48,7 @@ node-reply start now old s d level i m node same here =
       free = node'.free;
     }
 
--- the search behind it has room
+-- the search after it has room
 pub reply-room : (start played : Course) (s : Levels) (m : Move) (d : ℕ) → CanReply m d start s → played ≡ with_move start m → HasRoom d played s
 reply-room start played s m d can moved = record {
   deep = omega (arith, can.deep);
@@ -59,7 +60,7 @@ reply-room start played s m d can moved = record {
 pub before-then : (a b c : Course) (r s t : Levels) → AreAsBefore a b r s → AreAsBefore b c s t → AreAsBefore a c r t
 before-then a b c r s t one two = record { game = two.game ∙ one.game; stack = two.stack ∙ one.stack }
 
--- there is room for fewer plies, where game and stack are as before
+-- there is room for fewer plies, if game and stack have not changed
 pub room-within : (start now : Course) (old s : Levels) (d n : ℕ) → n ≤ d → HasRoom d start old → AreAsBefore start now old s → HasRoom n now s
 room-within start now old s d n fewer room same = record {
   deep = omega (arith, fewer, room.deep);

@@ -1,4 +1,4 @@
--- The nodes behind a position are its moves and the nodes behind them.
+-- The nodes after a position are its moves and the nodes after them.
 use Rattle.std.proofs.Common.{◌≡◌, ℕ, zero, suc, ◌+◌, List, [], ◌∷◌, refl, arith}
 use Rattle.std.specs.List.{sum_by}
 use Rattle.std.proofs.lemmas.List.Sums.{sum_by-cons}

@@ -1,4 +1,4 @@
--- What the moves of a position are worth, as a list, and the plays that are left at a root.
+-- The values of the moves of a position as a list, and the plays that are left at a root.
 use Rattle.std.proofs.Common.{◌≡◌, ℕ, zero, suc, ◌+◌, ◌-◌, ◌<◌, ◌≤◌, List, [], ◌∷◌, length, map, sym, ap, arith, ◌∙◌, ℤ, pos, negsuc, ◌-ℤ◌, ◌≤ℤ◌, Some, inl, inr, ◌⊎◌, ⊎_elim, refl}
 use Rattle.std.proofs.lemmas.Int.{ints, clamps, by_lt_z}
 use Rattle.std.proofs.lemmas.List.{length-map}
@@ -52,13 +52,13 @@ greatest-there (x ∷ xs) some = ⊎_elim
 
 -- ---- the moves of a position
 
--- no move is worth more than the position
+-- no move has a greater value than the position
 pub reply-most : (p : Position) (d i : ℕ) (n : ℤ) → IsInner p d → slice_get (replies p (d - 1)) i ≡ Some n → n ≤ℤ value p d
 reply-most p d i n inner e =
     let k : n ≤ℤ greatest (replies p (d - 1)) = greatest-list (replies p (d - 1)) i n e in
     omega (arith, ints, k, value-greatest p d inner)
 
--- some move is worth what the position is worth
+-- some move has the value of the position
 pub top-there : (p : Position) (d : ℕ) → IsInner p d → (i : ℕ) × (slice_get (replies p (d - 1)) i ≡ Some (value p d))
 top-there p d inner =
     let long = length-map (moves p) (reply_value p (d - 1)) in
@@ -79,11 +79,11 @@ within-at p d deep (m ∷ ms) zero n e =
     rw same at w
 within-at p d deep (m ∷ ms) (suc i) n e = within-at p d deep ms i n e
 
--- how large the worth of a move is
+-- how large the value of a move is
 pub reply-small : (p : Position) (d i : ℕ) (n : ℤ) → d ≤ 64 → slice_get (replies p (d - 1)) i ≡ Some n → IsSmall 1000063 n
 reply-small p d i n deep e = within-at p d deep (moves p) i n e
 
--- ---- the plays at a root, where the best worth so far is at least g
+-- ---- the plays at a root, if the best value so far is at least g
 
 tried-falls : (p : Position) (d : ℕ) (m : Move) (g h : ℤ) → g ≤ℤ h → root_tried p d m h ≤ root_tried p d m g
 tried-falls p d m g h more =

@@ -38,7 +38,7 @@ small-value p d deep = wider (1000000 + d) 1000064 (value p d) (omega arith) (va
 small-reply : (p : Position) (d : ℕ) (m : Move) → d ≤ 64 → IsSmall 1000064 (reply_value p (d - 1) m)
 small-reply p d m deep = IsSmall-neg 1000064 (value (after p m) (d - 1)) (small-value (after p m) (d - 1) (omega arith))
 
--- what the search of one move tells
+-- what the search of one move shows
 pub found-more : (p : Position) (d : ℕ) (m : Move) (w : Window) (g r : ℤ) → d ≤ 64 → w.alpha ≡ g -ℤ pos 1 → w.beta ≡ pos 1000100 →
     IsFound (reply_value p (d - 1) m) w r → g <ℤ r → r ≡ reply_value p (d - 1) m
 found-more p d m w g r deep ea eb f more =
@@ -56,7 +56,7 @@ found-no_more p d m w g r deep ea eb f less high =
 find-at : (test : Move → Bool) (ms : List Move) (i : ℕ) (m : Move) → slice_get ms i ≡ Some m → find test (drop i ms) ≡ cond (test m) (Some m) (find test (drop (i + 1) ms))
 find-at test ms i m e = rw (drop-at ms i m e) refl
 
--- the move at i is worth more than those before it
+-- the move at i has a greater value than those before it
 pub root-more : (p : Position) (d i : ℕ) (g : ℤ) (m n : Move) → Root p d i g m → slice_get (moves p) i ≡ Some n → g <ℤ reply_value p (d - 1) n →
     Root p d (i + 1) (reply_value p (d - 1) n) n
 root-more p d i g m n root here more =
@@ -74,7 +74,7 @@ root-more p d i g m n root here more =
       reached = λ same. sought ∙ ap (λ t. cond t (Some n) (find (reaches p d) (drop (i + 1) (moves p)))) (int_le-true (value p d) (worth n) (omega (arith, ints)));
     }
 
--- the move at i is worth no more
+-- the move at i has no greater value
 pub root-no_more : (p : Position) (d i : ℕ) (g : ℤ) (m n : Move) → Root p d i g m → slice_get (moves p) i ≡ Some n → reply_value p (d - 1) n ≤ℤ g →
     Root p d (i + 1) g m
 root-no_more p d i g m n root here less =

@@ -22,7 +22,7 @@ use Rattle.search_laws.specs.declared.window.Window.{Window}
 use Rattle.search_laws.specs.Found.{IsFound}
 use Rattle.search_laws.proofs.FoundLaws.{IsFound-neg, found-below, found-raises, found-cut, found-raised}
 
--- ---- one move played, searched behind and taken back
+-- ---- one move played, searched and undone
 
 pub reply-found : (start played : Course) (m : Move) (d : ℕ) (w behind : Window) (r s : ℤ) → played ≡ with_move start m →
     behind.alpha ≡ neg_ℤ w.beta → behind.beta ≡ neg_ℤ w.alpha → s ≡ neg_ℤ r →
@@ -63,7 +63,7 @@ PlaysWithin p d w alpha i before now =
     now + tries_cost (tried_cost p (d - 1) w.beta) (reply_value p (d - 1)) alpha w.beta (drop i (moves p))
     ≤ before + tries_cost (tried_cost p (d - 1) w.beta) (reply_value p (d - 1)) w.alpha w.beta (moves p)
 
--- the answer did not reach beta: alpha is raised to what the move is worth
+-- the answer did not reach beta: alpha is raised to the value of the move
 pub turn-rest : (p : Position) (d : ℕ) (w inner : Window) (i : ℕ) (m : Move) (r alpha top : ℤ) → LoopTurn p d w inner i m r → r <ℤ w.beta →
     alpha ≡ int_max inner.alpha r → greatest_from inner.alpha (map (reply_value p (d - 1)) (drop i (moves p))) ≡ top →
     greatest_from alpha (map (reply_value p (d - 1)) (drop (i + 1) (moves p))) ≡ top

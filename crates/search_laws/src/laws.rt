@@ -10,28 +10,27 @@ ghost use Rattle.search_laws.specs.Laws.{
   BestIsFirstGreatest,
 };
 
-/// What positions are worth: how large values are, what the end of a game is worth, and how values
-/// of one ply more are made from those of one ply less.
+/// Laws of values: how large they are, what the end of a game is worth, and how values at one depth
+/// follow from those at the depth below.
 pub fn values_go_deeper()
     ensures small { ValuesAreSmall }
     ensures ends { EndsAreWorth }
     ensures deeper { ValuesGoDeeper }
 {}
 
-/// The best move: there is one where the game is not over, and it is the first of those that are
-/// worth most.
+/// At a position that is not over, and at depth 1 or more, there is a best move. It is the first of
+/// those with the greatest value.
 pub fn best_is_first_greatest()
     ensures { BestIsFirstGreatest }
 {}
 
-/// How many lists of legal moves there are, one ply deeper.
+/// The number of lists of legal moves of one ply more.
 pub fn counts_go_deeper()
     ensures lines { LinesGoDeeper }
     ensures nodes { NodesGoDeeper }
 {}
 
-/// The plays of a search do not rise with the lower end of its window and do not fall with the
-/// upper end.
+/// The plays of a search do not rise if the lower end of its window rises or the upper end falls.
 pub fn cost_falls()
     ensures { CostFalls }
 {}

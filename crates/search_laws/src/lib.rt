@@ -1,5 +1,5 @@
-//! What every search stands on: laws of minimax and of the plays of a search, the window of a
-//! search, and the value of a position at which no move is tried.
+//! What every search rests on: laws of minimax and of the number of plays, the alpha-beta window,
+//! and the value of a leaf.
 #![tactic(auto)]
 
 mod laws;

@@ -1,6 +1,6 @@
-//! The window in which a search tells values apart.
+//! The alpha-beta window of a search.
 
-/// The values that a search is to tell apart: those strictly between the two ends. Both lie between
+/// A search finds a value exactly if it is strictly between alpha and beta. Both lie between
 /// -1,000,100 and 1,000,100.
 #[derive(Clone, Copy, Debug, PartialEq, Eq)]
 pub struct Window {

@@ -7,7 +7,7 @@ use hive_model::{Game, Move, MoveStack, Piece, Place, ReplyText};
 use plain_game::PlainGame;
 use std::test::Fail;
 
-/// White brings a grasshopper to the first place, and black's best answer is `bS1 -wG1`.
+/// White places a grasshopper first, and black's best answer is `bS1 -wG1`.
 #[test]
 fn one_ply_of_seed_zero(rt: HostRuntime) -> Result<(), Fail> {
     let mut searcher = Searcher::prepare(rt.alloc(), 16, 1)?;

@@ -1,5 +1,5 @@
-//! Searches, tried: pruned and shared searches beside minimax as it is defined, the steps by which
-//! workers close the children of a root, and sessions whose workers meet.
+//! Tests of searches: pruned and shared ones against minimax by its definition, the steps by which
+//! workers close a root's children, and sessions whose workers meet.
 #![tactic(auto)]
 
 #[cfg(test)]

@@ -26,8 +26,8 @@ const ALL: GameType = GameType {
     pillbug: true,
 };
 
-/// A game of twelve plies, each by the index of its piece and the place that the piece goes to.
-/// White then surrounds the black queen by one move.
+/// A game of twelve plies, each by the index of its piece and the place to which the piece goes.
+/// White can then surround the black queen with one move.
 const BEFORE_A_WIN: [(u8, i32, i32); 12] = [
     (1, 0, 0),
     (15, 1, 0),
@@ -43,14 +43,14 @@ const BEFORE_A_WIN: [(u8, i32, i32); 12] = [
     (22, 1, 2),
 ];
 
-/// How many lists of so many moves the opening has.
+/// How many lists of `plies` moves the opening has.
 fn counted(alloc: Global, game_type: GameType, plies: u32) -> Result<u128, AllocError>
     requires { plies ≤ 8 }
 {
     let mut game = PlainGame::opening(alloc, game_type)?;
     game.reserve(plies)?;
     let mut stack = MoveStack::new(alloc, 8)?;
-    // so little room that keys take each other's place
+    // so little room that keys replace each other
     let mut counts = MoveCounts::new(alloc, 64)?;
     Ok(count_lines(&mut game, plies, &mut stack, &mut counts))
 }
@@ -72,7 +72,7 @@ fn plays(game: &mut PlainGame, index: u8, place: Place) -> Result<bool, AllocErr
     Ok(true)
 }
 
-/// What the position is worth after so many plies; none where the game is too long to go on.
+/// The value of the position `depth` plies deep; `None` if the game is too long to go on.
 fn worth(alloc: Global, game: &mut PlainGame, depth: u32) -> Result<Option<i32>, AllocError>
     requires { depth ≤ 64 }
 {

@@ -3,7 +3,7 @@
 use root_share::{RootCore, RootStep, RootVerdict};
 use std::test::Fail;
 
-/// Four children, of which two are worth 7, one is below the bound, and one is never taken.
+/// Four children: two are worth 7, one is below the bound, and one is never taken.
 #[test]
 fn first_of_two_equal_children(rt: HostRuntime) -> Result<(), Fail> {
     let mut core = RootCore::new(rt.alloc(), 4)?;

@@ -10,10 +10,10 @@ use std::test::Fail;
 use std::thread::Threads;
 use uhp_session::{LineIn, Reply, Session};
 
-/// A session has two workers from here on.
+/// From this line on a session has two workers.
 const WORKERS: &str = "options set Workers 2";
 
-/// A game begins in which one move wins.
+/// Begins a game in which one move wins.
 const GAME: &str = concat!(
     "newgame Base;InProgress;White[7];wS1;bS1 wS1-;wQ /wS1;bQ bS1-;wQ /bS1;bQ wQ-;",
     "wG1 -wS1;bG1 bS1-;wB1 /wQ;bB1 bQ-;wA1 -wB1;bA1 /bB1",
@@ -25,7 +25,7 @@ const BEST: &[u8] = b"wA1 wB1-\nok\n";
 /// How often a worker looks for the other.
 const LOOKS: u32 = 1_000_000_000;
 
-/// Before its first move of the root each of two workers tells that it is here, and then looks
+/// Before its first move of the root each of two workers says that it is here, and then looks
 /// whether the other is.
 #[derive(Drop)]
 struct Meeting {
@@ -111,7 +111,7 @@ fn is_text(reply: &Reply, text: &[u8]) -> bool {
     }
 }
 
-/// Whether the best move is told last by a session of these lines, with this gate.
+/// Whether a session of these lines, with this gate, answers the best move to the last of them.
 fn tells_best<R: Threads + Sync, T: Gate + Sync>(
     rt: &R,
     alloc: Global,

@@ -18,7 +18,7 @@ module _ (s : Spots) (p : Place) where
   pub highest_of_none : IsHighest s p 0 None
   highest_of_none = λ y level low h. absurd (omega (arith, low))
 
-  -- a piece that stands elsewhere, or nowhere
+  -- a piece that is elsewhere, or nowhere
   pub higher_same : (n : ℕ) (o : Option ℕ) → ((level : ℕ) → HasSpot s n p level → ⊥) → IsHighest s p n o → IsHighest s p (n + 1) o
   higher_same n None away h = λ y level low there. elim (cases_eq y n) [
     | inl same ↦ away level (subst (λ z. HasSpot s z p level) same there)
@@ -36,7 +36,7 @@ module _ (s : Spots) (p : Place) where
   one_level : (x i j : ℕ) → HasSpot s x p i → HasSpot s x p j → i ≡ j
   one_level x i j h k = (same_spot p p i j (sym h ∙ k)).1
 
-  -- a piece on the place, where none stood there before
+  -- a piece on the place, if none was there before
   pub higher_first : (n level : ℕ) → HasSpot s n p level → IsHighest s p n None → IsHighest s p (n + 1) (Some n)
   higher_first n level here h = (
     level,
@@ -100,7 +100,7 @@ module _ (s : Spots) (p : Place) where
       let top : height_at (board_of s) p - 1 ≡ h.0 = omega (arith, tall, height_is s is p) in
       sym (ap (slice_get (stack_at (board_of s) p)) top ∙ stands)
 
--- what was read is the spot of the piece, and stands on the place that the test named
+-- what was read is the spot of the piece, and is on the place that the test named
 pub read_spot : (s : Spots) (y x : ℕ) → y ≡ x → y < length s → (t : Spot) (p : Place) → get_or s y None ≡ Some t → is_place p t.place ≡ true → HasSpot s x p t.level
 read_spot s y x same low t p read here =
     let e : t.place ≡ p = sym (same_place p t.place here) in

@@ -1,4 +1,4 @@
--- What is told of indices at one moment of a walk.
+-- What contracts know of indices at one moment of a walk.
 use Rattle.std.proofs.Common.{◌≡◌, ◌<◌, ◌≤◌, ◌+◌, ℕ, List, [], ◌∷◌, Option, None, Some, ap, arith, subst}
 use Rattle.strategy_walks.specs.Items.{Supply}
 use Rattle.strategy_walks.specs.Taking.{Moment, moment_of}
@@ -11,7 +11,7 @@ use Rattle.strategy_check.specs.declared.walk.IndexWalk.{IndexWalk}
 use Rattle.strategy_check.specs.Trace.{Steps, steps, take_index, index_rules}
 use Rattle.strategy_check.specs.Checks.{index_faults, index_sight}
 
--- the moment of a walk over indices, of which this tells what is told of them
+-- the moment of a walk over indices, given what is known of them
 abbrev pub moment : {I : Type 0} → (I → Supply ℕ) → IndexWalk I → Moment ℕ
 moment supply walk =
     moment_of (walk.indices.ghost_name ∷ []) walk.taken (supply walk.indices.now)

@@ -9,11 +9,11 @@ use strategy_walks::WalkFault;
 /// The first fault of a certificate.
 #[derive(Clone, Copy, Debug, PartialEq, Eq)]
 pub enum Why {
-    /// The move that is claimed is not legal.
+    /// The claimed move is not legal.
     NoSuchMove,
     /// An index is not below the number of moves.
     BadIndex,
-    /// What is claimed of a leaf is not so.
+    /// A leaf does not meet its claim.
     LeafFails,
     /// An index is missing.
     TooShort,

@@ -55,7 +55,7 @@ module _ (p : Position) (d : ℕ) (m : Move) (v : ℤ) (items : List (Option ℕ
   halted-told head a b Failed draft h = tt
   halted-told head a b Full draft h = tt
 
--- a head and these lines were written one behind the other, or a part of them
+-- a head and these lines were written one after the other, or an initial part of them
 pub wrote-both : (r flag : Bool) (head lines text : List ℕ) (a b : Told) → r ≡ flag → lines ≡ text → Wrote r (head ++ lines) a b → Wrote flag (head ++ text) a b
 wrote-both r flag head lines text a b is same h = wrote-as flag _ _ a b (ap (λ (l : List ℕ). head ++ l) same) (wrote-is r flag _ a b is h)
 
@@ -68,7 +68,7 @@ module _ (p : Position) (d : ℕ) (m : Move) (v : ℤ) where
   bad-is items (Some (CheckHalted Failed)) count h = tt
   bad-is items (Some (CheckHalted Full)) count h = tt
 
-  -- what became of the indices is told by the walk of them alone
+  -- the walk of the indices alone determines what happened to them
   pub items-are : (answer other : Option (Checked Why)) (a b : Supply ℕ) → other ≡ answer → ChecksItems index_faults (shortened p d m v) answer a b → ChecksItems index_faults (checked p d m v) other a b
   items-are answer other a b is h =
       subst (λ (x : Option (Checked Why)). ChecksItems index_faults (checked p d m v) x a b) (sym is)
@@ -100,6 +100,6 @@ module _ (p : Position) (d : ℕ) (m : Move) (v : ℤ) where
   unread-told None a b h = h
   unread-told (Some answer) a b h = λ items e none. unread-is items answer b.count (h items e none)
 
-  -- where they could not be read on, what was taken away does not end the check
+  -- if they could not be read on, those taken do not end the check
   pub unread-are : (answer other : Option (Checked Why)) (a b : Supply ℕ) → other ≡ answer → IfSome answer (λ c. EndsUnread index_faults (shortened p d m v) c a b) → IfSome other (λ c. EndsUnread index_faults (checked p d m v) c a b)
   unread-are answer other a b is h = subst (λ (x : Option (Checked Why)). IfSome x (λ c. EndsUnread index_faults (checked p d m v) c a b)) (sym is) (unread-told answer a b h)

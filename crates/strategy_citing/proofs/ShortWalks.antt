@@ -97,7 +97,7 @@ told-is a d s e = record {
 items-is : (a : ToldItems ℕ) (d : Draft) (s : ShortSteps) → Is a d s → seen a d.taken ≡ index_sight.view s.items
 items-is a d s is = items.seen-is a (Some s.items.left) d.taken (held s.items.taken) is.left is.taken
 
--- ---- a node where no lemma serves
+-- ---- a node at which no lemma serves
 
 none-here : (k : KeyParts) (e : ℕ) (x : ℤ) (d : Draft) (s : ShortSteps) → d.lemmas ≡ s.lemmas → server k e x d.lemmas ≡ None → server k e x s.lemmas ≡ None
 none-here k e x d s is none = ap (server k e x) (sym is) ∙ none
@@ -133,7 +133,7 @@ lemma-kept p d x a draft s e =
     let is = told-is a draft s e in
     λ i. short_seen (is.left i) (record { taken = is.taken i; lemmas = with_lemma (key p) d x (is.lemmas i); text = is.text i })
 
--- ---- a node where a lemma serves
+-- ---- a node at which a lemma serves
 
 passed-meets : (o : WalkEnd Steps Why) (w : WalkAnswer Why) (b : ToldItems ℕ) (k : ℕ) (ls ks : List Lemma) (ws : List Token) (u : List ℕ) → u ≡ token_lines ws → ks ≡ ls → Meets index_sight o (ending w) (seen b k) →
     Meets short_sight (passes_over o ls ws) (ending w) (short_seen b (record { taken = k; lemmas = ks; text = u }))
@@ -147,7 +147,7 @@ passed-meets o (Halts Bad) b k ls ks ws u text lemmas m = (m.0, ap (λ (o : Walk
 passed-meets o (Halts Failed) b k ls ks ws u text lemmas m = passed-past k o ls ws m
 passed-meets o (Halts Full) b k ls ks ws u text lemmas m = passed-past k o ls ws m
 
--- a node where no lemma serves ends as the walk over the indices alone ends there
+-- a node at which no lemma serves ends as the walk over the indices alone ends there
 none-ends : (p : Position) (d : ℕ) (x : ℤ) (a b : ToldItems ℕ) (draft : Draft) (w : WalkAnswer Why) →
     ((s : Steps) → seen a draft.taken ≡ index_sight.view s → (o : WalkEnd Steps Why) × (take_index s.left s.taken ≡ Ends o) × Meets index_sight o (ending w) (seen b draft.taken)) →
     server (key p) d x draft.lemmas ≡ None → (s : ShortSteps) → short_seen a draft ≡ short_sight.view s → (o : WalkEnd ShortSteps Why) × (short_rules.take p d x s ≡ Ends o) × Meets short_sight o (ending w) (short_seen b draft)
@@ -189,7 +189,7 @@ pass-ends p d x y n a b draft cited k w served e ey told =
     let base : EndsHere short_rules short_sight p d x (short_seen a draft) (ending w) (short_seen b (record { taken = k; lemmas = draft.lemmas; text = draft.text ++ cite_line n })) = pass-told p d x n a b draft k w served first in
     subst (λ (z : Draft). EndsHere short_rules short_sight p d x (short_seen a draft) (ending w) (short_seen b (record { taken = k; lemmas = z.lemmas; text = z.text }))) (sym e) base
 
--- what the node makes of it
+-- the node's answer to it
 found : (p : Position) (d : ℕ) (x : ℤ) (w : Option (WalkAnswer Why)) (a b : ShortSeen) → EndsHere short_rules short_sight p d x a (short_ending w) b → Finds short_rules short_sight short_stop_ending p d x (of_passed w) a b
 found p d x None a b h = h
 found p d x (Some Done) a b h = h
@@ -220,7 +220,7 @@ on-true false h e = cc
 pub server-is : (p : Position) (q : KeyParts) (d : ℕ) (x y : ℤ) (ls : List Lemma) (o : Option ℕ) → o ≡ server q d y ls → q ≡ key p → y ≡ x → o ≡ server (key p) d x ls
 server-is p q d x y ls o e eq ey = e ∙ (λ i. server (eq i) d (ey i) ls)
 
--- ---- where no more could be read, or there was no memory for a token
+-- ---- if no more could be read, or there was no memory for a token
 
 place-looks : (f : Move → ShortSteps → WalkEnd ShortSteps Why) → ((m : Move) → Carries short_sight (f m)) → (m : Option Move) (s : ShortSteps) (n : ShortSeen) → n.draft.taken < s.items.taken → short_sight.unread (walk_at BadIndex s.items.taken f m s) n
 place-looks f carries None s n more = omega (arith, more)
@@ -232,7 +232,7 @@ step-looks [] k ls ws f ms carries n more = more
 step-looks (None ∷ xs) k ls ws f ms carries n more = more
 step-looks (Some i ∷ xs) k ls ws f ms carries n more = place-looks f carries (slice_get ms i) (short_steps (steps xs (k + 1)) ls (ws ++ Index i ∷ [])) n more
 
--- a node where no lemma serves looks for one index more
+-- a node at which no lemma serves looks for one index more
 pub not-taken : (p : Position) (d : ℕ) (x : ℤ) (a b : ToldItems ℕ) (draft after : Draft) → after.taken ≡ draft.taken → server (key p) d x draft.lemmas ≡ None → EndsHere short_rules short_sight p d x (short_seen a draft) Unread (short_seen b after)
 not-taken p d x a b draft after same none = λ f ms carries s e.
     let is = told-is a draft s e in

@@ -10,6 +10,6 @@ abbrev pub with_index : ℕ → Draft → Draft
 with_index i d =
     record { taken = held (d.taken + 1); lemmas = d.lemmas; text = d.text ++ index_line i }
 
--- what is cited is written
+-- a citation is written
 abbrev pub with_cite : ℕ → Draft → Draft
 with_cite n d = record { taken = d.taken; lemmas = d.lemmas; text = d.text ++ cite_line n }

@@ -1,4 +1,4 @@
--- What is answered of a whole certificate whose tokens are written.
+-- What is answered for a whole certificate whose tokens are written.
 use Rattle.std.specs.Prelude.{◌≡◌, ℕ, ◌<◌, ⊤, ℤ, List, map, ◌++◌, length, take, Option, Some, None}
 use Rattle.io_edge.specs.Outside.{Told, behind}
 use Rattle.hive_model.specs.declared.places.Move.{Move}
@@ -16,8 +16,8 @@ use Rattle.strategy_citing.specs.declared.migrating.Migrated.{Migrated}
 use Rattle.strategy_citing.specs.declared.migrating.Migrated.TheVariants.{Done, Refused, Halted, WriteFault, Memory}
 use Rattle.strategy_citing.specs.TokenText.{token_lines}
 
--- What the walk of a whole certificate answers, by its outcome, and the lines that it wrote; none
--- where memory was wanting.
+-- What the walk of a whole certificate answers, by its outcome, and the lines that it wrote; `None`
+-- if memory ran out.
 abbrev pub ShortAnswers : WalkEnd ShortSteps Why → Option (Checked Why) → Draft → Type 0
 ShortAnswers o None d = ⊤
 ShortAnswers o (Some Accepted) d =
@@ -27,7 +27,7 @@ ShortAnswers o (Some (CheckHalted Bad)) d = (n : ℕ) × (o ≡ Halt n)
 ShortAnswers o (Some (CheckHalted Failed)) d = ⊤
 ShortAnswers o (Some (CheckHalted Full)) d = ⊤
 
--- the items are indices that hold, and the lines are those of the tokens that are written of them
+-- the items are indices that hold, and the lines are those of the tokens written from them
 pub record Shortens (p : Position) (d : ℕ) (m : Move) (v : ℤ) (items : List (Option ℕ))
     (lines : List ℕ) : Type 0 where
   pub indices : List ℕ
@@ -35,8 +35,9 @@ pub record Shortens (p : Position) (d : ℕ) (m : Move) (v : ℤ) (items : List 
   pub hold : Holds p d m v indices
   pub lines_are : lines ≡ token_lines (short p d m v indices)
 
--- What is answered and written where just these items were to come: a head and the lines of the
--- tokens, or a part of them where a write failed; or what a check answers of the indices.
+-- What is answered and written if exactly these items were to come: a head and the lines of the
+-- tokens, or an initial part of them if a write failed; otherwise what a check answers for the
+-- indices.
 abbrev pub MigrateAnswers : Position → ℕ → Move → ℤ → List (Option ℕ) → List ℕ → Migrated → Told
     → Told → Type 0
 MigrateAnswers p d m v items head Done before after =
@@ -52,7 +53,7 @@ MigrateAnswers p d m v items head (Halted Failed) before after = ⊤
 MigrateAnswers p d m v items head (Halted Full) before after = ⊤
 MigrateAnswers p d m v items head Memory before after = ⊤
 
--- nothing was written where it is neither done nor ended by a failed write
+-- nothing was written unless it is done or a write failed
 abbrev pub WritesLate : Migrated → Told → Told → Type 0
 WritesLate Done before after = ⊤
 WritesLate WriteFault before after = ⊤
@@ -60,7 +61,7 @@ WritesLate (Refused place why) before after = after ≡ before
 WritesLate (Halted why) before after = after ≡ before
 WritesLate Memory before after = after ≡ before
 
--- what a check answered of the indices; none where there was not so much memory
+-- what a check answered for the indices; `None` if memory ran out
 abbrev pub answered : Migrated → Option (Checked Why)
 answered Done = Some Accepted
 answered WriteFault = Some Accepted

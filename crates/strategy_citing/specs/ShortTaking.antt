@@ -1,4 +1,4 @@
--- What is told of indices at one moment of a walk that writes tokens, and how its parts end.
+-- What contracts know of indices at one moment of a walk that writes tokens, and how its parts end.
 use Rattle.std.specs.Prelude.{◌≡◌, ℕ, [], ◌∷◌, Option, None, Some}
 use Rattle.strategy_walks.specs.Follows.{Ending, Shown}
 use Rattle.strategy_walks.specs.Items.{Supply}
@@ -17,13 +17,13 @@ use Rattle.strategy_check.specs.declared.why.Why.TheVariants.{BadIndex, LeafFail
 use Rattle.strategy_citing.specs.declared.shortening.ShortWalk.{ShortWalk}
 use Rattle.strategy_citing.specs.Shortening.{short_ending}
 
--- the moment of a walk over indices, of which this tells what is told of them
+-- the moment of a walk over indices, given what is known of them
 abbrev pub short_moment : {I : Type 0} → (I → Supply ℕ) → ShortWalk I → Moment ℕ
 short_moment supply walk =
     moment_of (walk.indices.ghost_name ∷ walk.draft.ghost_name ∷ []) walk.draft.now.taken
     (supply walk.indices.now)
 
--- why it was ended, or none where there was no memory for a token
+-- why it was ended, or `None` if there was no memory for a token
 abbrev pub of_short_stop : Option (Stop Why) → Option (WalkAnswer Why)
 of_short_stop None = None
 of_short_stop (Some stop) = Some (of_stop stop)
@@ -38,7 +38,7 @@ of_short_walk ALeafFails = Some (Refuses LeafFails)
 of_short_walk ABadIndex = Some (Refuses BadIndex)
 of_short_walk (Stops stop) = of_short_stop stop
 
--- what a walk that passes over a node makes of it
+-- what a node answers after its indices were passed over
 abbrev pub of_passed : Option (WalkAnswer Why) → Took (Option (Stop Why))
 of_passed None = TookStops None
 of_passed (Some Done) = TookShown

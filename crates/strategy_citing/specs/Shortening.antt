@@ -1,4 +1,4 @@
--- What the code sees of a walk that writes tokens, where its indices are told.
+-- What the code sees of a walk that writes tokens, if its indices are observable.
 use Rattle.std.proofs.Common.{◌≡◌, ◌<◌, ℕ, List, [], ◌∷◌, ◌++◌, ℤ, Option, None, Some, refl, subst, arith}
 use Rattle.hive_model.specs.Positions.{Position}
 use Rattle.hive_model.specs.Keys.{key}
@@ -21,7 +21,7 @@ use Rattle.strategy_lemmas.specs.Short.{ShortSteps, passes_over, short_rules, sh
 use Rattle.strategy_citing.specs.declared.draft.Draft.{Draft}
 use Rattle.strategy_citing.specs.TokenText.{token_lines}
 
--- the items that are told, and the draft
+-- the observable items, and the draft
 pub record ShortSeen : Type 0 where
   pub told : ToldItems ℕ
   pub draft : Draft
@@ -29,12 +29,12 @@ pub record ShortSeen : Type 0 where
 abbrev pub short_seen : ToldItems ℕ → Draft → ShortSeen
 short_seen told draft = record { told = told; draft = draft }
 
--- the draft of a walk: what it wrote, each token on a line of its own
+-- the draft of a walk: what it wrote, one token a line
 abbrev pub draft_of : ShortSteps → Draft
 draft_of s =
     record { taken = held s.items.taken; lemmas = s.lemmas; text = token_lines s.written }
 
--- more than so many indices are looked for
+-- the walk looks for more than n indices
 abbrev pub LooksPast : ℕ → WalkEnd ShortSteps Why → Type 0
 LooksPast n o = n < looked index_faults (λ s. s.items.taken) o
 
@@ -48,7 +48,7 @@ short_sight = record {
 
 -- ---- its laws
 
--- what the walk over the indices alone looks for, a walk that writes tokens looks for
+-- a walk that writes tokens looks for what the walk over the indices alone looks for
 pub passed-past : (n : ℕ) (o : WalkEnd Steps Why) (ls : List Lemma) (ws : List Token)
     → n < looked index_faults (λ s. s.taken) o → LooksPast n (passes_over o ls ws)
 passed-past n (Left s) ls ws h = h
@@ -104,7 +104,7 @@ short-carries_on = record {
   keep = λ p e x s n h. h;
 }
 
--- how a part of a walk ended, or none where there was no memory for a token
+-- how a part of a walk ended, or `None` if there was no memory for a token
 abbrev pub short_ending : Option (WalkAnswer Why) → Ending Why
 short_ending None = Unread
 short_ending (Some walked) = ending walked

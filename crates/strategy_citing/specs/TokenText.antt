@@ -1,5 +1,4 @@
--- Tokens as texts, each on a line of its own: an index is a number, and what is cited is `@` and a
--- number.
+-- Tokens as texts, one a line. An index is a number, and a citation is `@` and a number.
 use Rattle.std.specs.Prelude.{ℕ, List, ◌++◌, codes, decimal, Option, Some, None, option_map}
 use Rattle.std.specs.List.{flat_map}
 use Rattle.io_edge.specs.Lines.{Line, Text, TooLong}
@@ -11,7 +10,7 @@ use Rattle.strategy_lemmas.specs.declared.tokens.Token.TheVariants.{Index, Cite}
 
 -- Reading
 
--- behind the sign a number of what was shown before, and else an index
+-- after the sign the place of a lemma; without the sign an index
 abbrev pub signed_token : Option (List ℕ) → List ℕ → Option Token
 signed_token (Some digits) line = option_map (λ n. Cite n) (number_at digits 0 65535)
 signed_token None line = option_map (λ i. Index i) (index_at line)

@@ -17,7 +17,7 @@ use strategy_check::Why;
 use strategy_walks::{Checked, Claim, Items, answer_of, walk_certificate};
 
 /// Checks a certificate as its indices come, and writes its tokens into the draft, which is empty.
-/// None where there was no memory. Game and stack are as before.
+/// It answers `None` if memory ran out. Game and stack are as before.
 pub fn shorten_certificate<G: Game, I: Items<Item = u32>>(
     game: &mut G,
     claim: &Claim,

@@ -12,8 +12,8 @@ use std::alloc::{AllocError, Global};
 use strategy_lemmas::Lemmas;
 use strategy_text::index_line;
 
-/// How many indices were taken, held at the greatest u64, what was shown, and the lines of the
-/// tokens that were written.
+/// How many indices were taken, capped at the greatest `u64`, the lemmas shown, and the lines of
+/// the tokens written.
 #[derive(Drop)]
 pub struct Draft {
     pub taken: u64,
@@ -21,7 +21,7 @@ pub struct Draft {
     pub text: ReplyText,
 }
 
-/// What is cited on a line of its own.
+/// A citation on a line of its own.
 fn cite_line(place: u32) -> ArrayString<16>
     ensures { result.bytes ≡ cite_line place }
 {
@@ -34,7 +34,7 @@ fn cite_line(place: u32) -> ArrayString<16>
 }
 
 impl Draft {
-    /// Nothing was taken, shown or written. The room for what is shown is taken here.
+    /// An empty draft: nothing is taken, shown or written. The room for lemmas is taken here.
     pub fn new(alloc: Global) -> Result<Draft, AllocError>
         ensures { IfOk result (λ d. d ≡ record { taken = 0; lemmas = []; text = [] }) }
     {
@@ -46,8 +46,8 @@ impl Draft {
         })
     }
 
-    /// Writes an index and counts it. The answer is whether there was memory for it; where there
-    /// was not it is not counted.
+    /// Writes an index and counts it. The answer is whether there was memory for it. If there was
+    /// not, it is not counted.
     pub fn add(&mut self, index: u32) -> bool
         ensures added { OnTrue result (self.new ≡ with_index index self.old) }
         ensures uncounted { OnFalse result (self.new.taken ≡ self.old.taken) }
@@ -60,7 +60,7 @@ impl Draft {
         true
     }
 
-    /// Writes what is cited. The answer is whether there was memory for it.
+    /// Writes a citation. The answer is whether there was memory for it.
     pub fn cite(&mut self, place: u32) -> bool
         ensures cited { OnTrue result (self.new ≡ with_cite place self.old) }
         ensures uncounted { self.new.taken ≡ self.old.taken }

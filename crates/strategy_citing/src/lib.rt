@@ -1,5 +1,5 @@
-//! Citing certificates as texts: tokens of which each stands on a line of its own, and how the
-//! indices of a certificate become such tokens.
+//! Citing certificates as texts, one token a line, and how the indices of a certificate become such
+//! tokens.
 #![tactic(auto)]
 
 mod certificate;

@@ -1,4 +1,4 @@
-//! Tokens of which each stands on a line of its own.
+//! Tokens, one on a line.
 
 ghost use Rattle.std.specs.Prelude.{◌≡◌, refl};
 ghost use Rattle.strategy_citing.specs.TokenText.{token_at, token_in};

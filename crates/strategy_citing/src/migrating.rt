@@ -1,4 +1,4 @@
-//! A certificate becomes one that cites.
+//! Makes a certificate into one that cites.
 
 ghost use Rattle.std.specs.Prelude.{
   ◌≡◌,
@@ -32,23 +32,23 @@ use std::alloc::Global;
 use strategy_check::Why;
 use strategy_walks::{Checked, Claim, Halt, Items};
 
-/// What a call answers that makes a certificate into one that cites.
+/// The answer of a call that makes a certificate into one that cites.
 #[derive(Clone, Copy, Debug, PartialEq, Eq)]
 pub enum Migrated {
-    /// The claim is true, nothing is left over, and all was written.
+    /// The claim is true, nothing is left over, and everything was written.
     Done,
-    /// The first fault, and how many indices were taken before it, at most the greatest u64; a bad
-    /// index counts as taken. Nothing was written.
+    /// The first fault, and how many indices were taken before it, capped at the greatest `u64`. A
+    /// bad index counts as taken. Nothing was written.
     Refused { place: u64, why: Why },
-    /// The last answer of the indices. Nothing was written.
+    /// What the indices answered last. Nothing was written.
     Halted { answer: Halt },
     /// A write failed: the sink's count of failed writes rose.
     WriteFault,
-    /// There was not so much memory. Nothing was written.
+    /// Memory ran out. Nothing was written.
     Memory,
 }
 
-/// Writes a head and lines.
+/// Writes a head and then lines.
 fn write_both<K: Sink>(head: &[u8], lines: &[u8], sink: &mut K) -> bool
     ensures wrote { Wrote result (head.now ++ lines.now) (K.written sink.old) (K.written sink.new) }
     ensures cause { HasCause (result ≡ false)
@@ -60,12 +60,12 @@ fn write_both<K: Sink>(head: &[u8], lines: &[u8], sink: &mut K) -> bool
     write_all(sink, lines)
 }
 
-/// Makes a certificate into one that cites. All indices are read first, and nothing is written
-/// unless they show the claimed move to be the best one at the claimed depth, 1 to 64, and to be
-/// worth what is claimed, and none is left over. Then the head is written, and behind it the tokens
-/// that cite wherever something that was shown serves, each on a line of its own. All memory is
-/// taken before the first write. The game is not over, and has room for `depth` more plies, as the
-/// stack for levels. Game and stack are as before, whatever the answer.
+/// Makes a certificate into one that cites. It first reads all indices. They have to show that the
+/// claimed move is best at the claimed depth, 1 to 64, and has the claimed value. If they do not,
+/// or one is left over, it writes nothing. Otherwise it writes the head, and after it the tokens,
+/// one a line. They cite whenever a lemma that was shown serves. All memory is taken before the
+/// first write. The game is not over. The game has room for `depth` more plies, and the stack for
+/// `depth` more levels. Game and stack are as before, whatever the answer.
 pub fn migrate<G: Game, I: Items<Item = u32>, K: Sink>(
     alloc: Global,
     game: &mut G,

@@ -1,4 +1,4 @@
-//! How a walk takes indices and writes tokens: it cites wherever something that was shown serves.
+//! A walk that takes indices and writes tokens: it cites whenever a lemma that was shown serves.
 
 ghost use Rattle.std.specs.Prelude.{◌≡◌, [], Some, refl};
 ghost use Rattle.hive_model.specs.Keys.{key};
@@ -35,8 +35,8 @@ use hive_model::{Game, MoveStack};
 use strategy_check::{Why, walk_limit};
 use strategy_walks::{Halt, ItemAnswer, Items, Limit, Stop, Took, WalkAnswer, Walked, Walker};
 
-/// Cites the lemma at this place, and passes over the indices that show the limit. None where there
-/// was no memory for the token.
+/// Cites the lemma at this place, and passes over the indices that show the limit. It answers
+/// `None` if there was no memory for the token.
 fn pass_over<G: Game, I: Items<Item = u32>>(
     game: &mut G,
     depth: u32,
@@ -70,7 +70,7 @@ fn pass_over<G: Game, I: Items<Item = u32>>(
     Some(walked)
 }
 
-/// What a node makes of it that was passed over.
+/// What a node answers after its indices were passed over.
 fn took_of(passed: Option<WalkAnswer<Why>>) -> Took<Option<Stop<Why>>>
     ensures { result ≡ of_passed passed }
 {
@@ -102,7 +102,7 @@ impl<'a, 'b, I: Items<Item = u32>> ShortWalk<'a, 'b, I> {
 }
 
 impl<I: Items<Item = u32>> Walker for ShortWalk<'_, '_, I> {
-    /// None where there was no memory for a token.
+    /// `None` if there was no memory for a token.
     type Stop = Option<Stop<Why>>;
 
     ghost Steps = { ShortSteps };
@@ -157,7 +157,7 @@ impl<I: Items<Item = u32>> Walker for ShortWalk<'_, '_, I> {
     }
 }
 
-/// How a part of a walk ended, or none where there was no memory for a token.
+/// How a part of a walk ended, or `None` if there was no memory for a token.
 pub fn short_of(walked: Walked<Option<Stop<Why>>>) -> Option<WalkAnswer<Why>>
     ensures { result ≡ of_short_walk walked }
 {

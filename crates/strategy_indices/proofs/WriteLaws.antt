@@ -62,7 +62,7 @@ pub wrote-nothing : (a : Told) → Wrote true [] a a
 wrote-nothing None = refl
 wrote-nothing (Some w) = ap (λ l. Some l) (sym (append-nil w))
 
--- of what was written whole or in part, by the answer
+-- what was written, whole or in part, by the answer
 pub wrote-is : (r : Bool) (w : Bool) (s : List ℕ) (a b : Told) → r ≡ w → Wrote r s a b → Wrote w s a b
 wrote-is r w s a b e h = subst (λ (x : Bool). Wrote x s a b) e h
 
@@ -121,7 +121,7 @@ module _ (passes : Move → Bool) (below : Move → List ℕ) where
   position-none : (ms : List Move) (i : ℕ) → position_from passes 0 ms ≡ position_from passes i (drop i ms) → length ms ≤ i → None ≡ position_from passes 0 ms
   position-none ms i so past = sym (so ∙ ap (position_from passes i) (drop-all ms i past))
 
--- the least indices of a node that names a move: its place, and those behind it
+-- the least indices of a node that names a move: its place, and the indices after it
 pub named-is : (p : Position) (d : ℕ) (x y : ℤ) (k : ℕ) (m : Move) → IsInner p d → y ≡ neg_ℤ x → Some k ≡ first_kept p (d - 1) (AtMost y) (moves p) → slice_get (moves p) k ≡ Some m →
     index_lines (least p d (AtLeast x)) ≡ index_line k ++ index_lines (least (after p m) (d - 1) (AtMost y))
 named-is p d x y k m inner turned found here =
@@ -138,7 +138,7 @@ none-named p d x y inner turned found =
     ap index_lines (least-node p d (AtLeast x) inner ∙ ap (λ z. least_from (keeps_below p (d - 1) (AtMost z)) (λ n. least (after p n) (d - 1) (AtMost z)) 0 (moves p)) (sym turned)
     ∙ least_from-none (keeps_below p (d - 1) (AtMost y)) (λ n. least (after p n) (d - 1) (AtMost y)) 0 (moves p) (sym found))
 
--- and of one that walks every move
+-- the same for one that walks every move
 pub every-is : (p : Position) (d : ℕ) (x y : ℤ) (count : ℕ) → IsInner p d → y ≡ neg_ℤ x → count ≡ length (moves p) →
     lines_below p (d - 1) (AtLeast y) (range_of (moves p) 0 count) ≡ index_lines (least p d (AtMost x))
 every-is p d x y count inner turned all =
@@ -151,7 +151,7 @@ every-is p d x y count inner turned all =
 pub small-of : (c k : Limit) (x : ℤ) → c ≡ k → number k ≡ x → IsSmall 1000090 (number c) → IsSmall 1000090 x
 small-of c k x e is h = subst (IsSmall 1000090) (ap number e ∙ is) h
 
--- ---- what a search in a window tells of a limit
+-- ---- what a search in a window shows of a limit
 
 kept-same : (c : Limit) (v w : ℤ) → (Keeps c w → Keeps c v) → (Keeps c v → Keeps c w) → is_kept c w ≡ is_kept c v
 kept-same c v w forth back =

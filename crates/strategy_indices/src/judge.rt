@@ -1,4 +1,4 @@
-//! Who can tell whether a claim is true.
+//! Decides whether a claim is true.
 
 ghost use Rattle.std.specs.Prelude.{◌≡◌, ◌≤◌, ◌<ℤ◌, ◌≤ℤ◌, ℕ, ℤ};
 ghost use Rattle.hive_model.specs.Minimax.{value, lowest, highest};
@@ -13,12 +13,12 @@ use hive_model::Game;
 use search_core::Window;
 use strategy_walks::Limit;
 
-/// Who can tell whether a claim of what a position is worth is true.
+/// Decides whether a claim of what a position is worth is true.
 pub trait Judge {
     /// The number of plies that it is prepared to search.
     ghost prepared: { Self → ℕ };
 
-    /// Whether the position keeps to the limit with so many plies left to search. The game is as
+    /// Whether the position keeps to the limit, with `depth` plies left to search. The game is as
     /// before.
     fn is_kept<G: Game>(&mut self, game: &mut G, depth: u32, limit: Limit) -> bool
         requires deep { depth ≤ 64 }
@@ -29,7 +29,7 @@ pub trait Judge {
         ensures same { prepared self.new ≡ prepared self.old };
 }
 
-/// The window in which what a search answers keeps to the limit exactly where the value does.
+/// The window for which the answer of a search keeps to the limit if and only if the value does.
 fn window_of(limit: Limit) -> Window
     requires { IsSmall 1000090 (number limit) }
     ensures open_ { result.alpha <ℤ result.beta }

@@ -1,5 +1,6 @@
-//! Writing the least indices that show a claim of what a position is worth, one a line. No tree is
-//! kept: what is worth what is asked anew wherever an index is needed.
+//! Writes the least indices, one a line, that show a claim of what a position is worth.
+//!
+//! It keeps no tree: it asks again for values whenever it needs an index.
 #![tactic(auto)]
 
 mod judge;

@@ -1,4 +1,4 @@
-//! Writing the least indices that show a limit.
+//! Writes the least indices that show a limit.
 
 ghost use Rattle.std.specs.Prelude.{◌≡◌, ◌<◌, ◌≤◌, length, false, IsTrue};
 ghost use Rattle.io_edge.specs.Outside.{HasCause};
@@ -38,7 +38,7 @@ fn write_index<K: Sink>(index: u32, sink: &mut K) -> bool
     write_all(sink, line.as_str().as_bytes())
 }
 
-/// Whether the limit is kept behind a legal move.
+/// Whether the limit is kept after a legal move.
 fn is_kept_below<G: Game, J: Judge>(
     judge: &mut J,
     game: &mut G,
@@ -60,8 +60,8 @@ fn is_kept_below<G: Game, J: Judge>(
     kept
 }
 
-/// The place of the first of the legal moves, which stand on the level, behind which the limit is
-/// kept.
+/// The place of the first of the legal moves after which the limit is kept. The moves are on the
+/// level.
 fn find_kept<G: Game, J: Judge>(
     judge: &mut J,
     game: &mut G,
@@ -90,7 +90,7 @@ fn find_kept<G: Game, J: Judge>(
     None
 }
 
-/// Whether no move is tried: no ply is left to search, or the game is over.
+/// Whether no move is tried, because no ply is left to search or the game is over.
 fn is_leaf<G: Game>(game: &G, depth: u32) -> bool
     ensures leaf { IsTrue result → IsLeaf (position (G.course game.now)) depth }
     ensures inner { result ≡ false → IsInner (position (G.course game.now)) depth }
@@ -99,8 +99,8 @@ fn is_leaf<G: Game>(game: &G, depth: u32) -> bool
 }
 
 /// Writes the least indices that show the limit of what the position is worth, with `depth` plies
-/// left to search, from 0 to 64. Where the limit is not kept, the indices show nothing. Game and
-/// stack are as before. The answer is whether all was written.
+/// left to search, from 0 to 64. If the limit is not kept, the indices show nothing. Game and stack
+/// are as before. The answer is whether everything was written.
 #[cycle(write)]
 pub fn write_indices<G: Game, J: Judge, K: Sink>(
     judge: &mut J,
@@ -128,7 +128,7 @@ pub fn write_indices<G: Game, J: Judge, K: Sink>(
     written
 }
 
-/// The same where the game goes on and a ply is left, and the legal moves stand on the level.
+/// The same if the game goes on and a ply is left. The legal moves are on the level.
 #[cycle(write)]
 fn write_node<G: Game, J: Judge, K: Sink>(
     judge: &mut J,
@@ -167,8 +167,8 @@ fn write_node<G: Game, J: Judge, K: Sink>(
     }
 }
 
-/// Writes the indices of one limit behind each of the legal moves of a level from place `from` on
-/// and before place `to`, with `depth` plies left behind each.
+/// Writes the indices of one limit after each move of a level at places from `from` to `to - 1`,
+/// with `depth` plies left after each.
 #[cycle(write)]
 pub fn write_moves<G: Game, J: Judge, K: Sink>(
     judge: &mut J,
@@ -200,7 +200,7 @@ pub fn write_moves<G: Game, J: Judge, K: Sink>(
     true
 }
 
-/// Writes the indices of a limit behind a legal move, with `depth` plies left behind it.
+/// Writes the indices of a limit after a legal move, with `depth` plies left after it.
 #[cycle(write)]
 pub fn write_child<G: Game, J: Judge, K: Sink>(
     judge: &mut J,

@@ -9,7 +9,7 @@ use Rattle.strategy_lemmas.specs.Lemmas.{serves, serves_at, server}
 use Rattle.strategy_lemmas.specs.Index.{has_key, last_before}
 use Rattle.strategy_lemmas.proofs.IndexLaws.{reach, IsOfKey, of-key}
 
--- the place that was found first, and else the other one
+-- the place that was found first, or the other one if there is none
 abbrev pub earlier : Option ℕ → Option ℕ → Option ℕ
 earlier None b = b
 earlier (Some a) b = Some a
@@ -30,7 +30,7 @@ last-false true false = refl
 last-false false b = refl
 
 module _ (k : KeyParts) (e : ℕ) (x : ℤ) where
-  -- the first place before place n whose lemma serves
+  -- the first place below n whose lemma serves
   abbrev pub first_before : List Lemma → ℕ → Option ℕ
   first_before ls zero = None
   first_before ls (suc n) = earlier (first_before ls n) (cond (serves_at k e x (slice_get ls n)) (Some n) None)
@@ -70,7 +70,7 @@ module _ (k : KeyParts) (e : ℕ) (x : ℤ) where
   other-key None h = refl
   other-key (Some l) h = ap (λ s. nat_eq l.depth e && (int_le x l.least && s)) h ∙ last-false (nat_eq l.depth e) (int_le x l.least)
 
-  -- no lemma serves behind the last one of the key
+  -- no lemma serves after the last one of the key
   none-behind : (ls : List Lemma) (n : ℕ) → first_before ls n ≡ first_before ls (reach (last_before k ls n))
   none-behind ls zero = refl
   none-behind ls (suc n) =
@@ -79,7 +79,7 @@ module _ (k : KeyParts) (e : ℕ) (x : ℤ) where
         | false ↦ λ h. ap (λ s. earlier (first_before ls n) (cond s (Some n) None)) (other-key (slice_get ls n) h) ∙ earlier-none (first_before ls n) ∙ none-behind ls n
       ] refl
 
-  -- what the search has found so far, where it goes on at this lemma of the key
+  -- what the search has found so far, if it goes on at this lemma of the key
   pub record IsSoFar (ls : List Lemma) (found at : Option ℕ) : Type 0 where
     pub here : IsOfKey k ls at
     pub so_far : server k e x ls ≡ earlier (first_before ls (reach at)) found

@@ -1,4 +1,4 @@
--- What the index says of a list, and that it goes on saying so when a lemma is kept.
+-- What the index says of a list, and that this stays true when a lemma is kept.
 use Rattle.std.proofs.Common.{◌≡◌, ℕ, zero, suc, ◌+◌, ◌<◌, ◌≤◌, true, false, cond, List, [], ◌∷◌, ◌++◌, length, refl, sym, ap, subst, arith, ◌∙◌, Option, Some, None, ◌⊎◌, inl, inr}
 use Rattle.std.specs.List.{slice_get}
 use Rattle.std.specs.Prelude.{slice_index_or}
@@ -11,7 +11,7 @@ use Rattle.indexmap.specs.IndexMap.{IndexMap, get, index_map_len, spare}
 use Rattle.strategy_lemmas.specs.declared.lemmas.Lemma.{Lemma}
 use Rattle.strategy_lemmas.specs.Index.{has_key, last_before, IsIndexed}
 
--- how many lemmas stand up to this place
+-- how many lemmas there are up to this place
 abbrev pub reach : Option ℕ → ℕ
 reach None = 0
 reach (Some p) = suc p
@@ -37,7 +37,7 @@ reach-below k ls (suc n) =
       | false ↦ (let before = reach-below k ls n in omega (arith, before))
     ]
 
--- beside a lemma of the key stands the place of the one before it
+-- beside a lemma of the key is the place of the one before it
 link-back : {S : Type 0} (k : KeyParts) (ls : List Lemma) (previous : List (Option ℕ)) (last : IndexMap KeyParts ℕ S) → IsIndexed ls previous last → (p : ℕ) →
     has_key k (slice_get ls p) ≡ true → slice_get previous p ≡ Some (last_before k ls p)
 link-back k ls previous last indexed p has = go (slice_get ls p) refl has
@@ -46,13 +46,13 @@ link-back k ls previous last indexed p has = go (slice_get ls p) refl has
     go None is h = cc
     go (Some l) is h = indexed.linked p l is ∙ ap (λ q. Some (last_before q ls p)) ((keys l.key k).0 h)
 
--- what stands beside the lemma that a search has come to
+-- what is beside the lemma that a search has reached
 pub goes-back : {S : Type 0} (k : KeyParts) (ls : List Lemma) (previous : List (Option ℕ)) (last : IndexMap KeyParts ℕ S) → IsIndexed ls previous last → (at : Option ℕ) (p : ℕ) →
     at ≡ Some p → IsOfKey k ls at → (now : Option ℕ) → now ≡ slice_index_or previous p now → now ≡ last_before k ls p
 goes-back k ls previous last indexed at p is here now read =
     read ∙ get_or_from_slice_get previous p (last_before k ls p) now (link-back k ls previous last indexed p (subst (IsOfKey k ls) is here))
 
--- it stands there
+-- it is there
 pub is-beside : {S : Type 0} (k : KeyParts) (ls : List Lemma) (previous : List (Option ℕ)) (last : IndexMap KeyParts ℕ S) → IsIndexed ls previous last → (at : Option ℕ) (p : ℕ) →
     at ≡ Some p → IsOfKey k ls at → p < length previous
 is-beside k ls previous last indexed at p is here =

@@ -1,4 +1,4 @@
--- Keys that the test finds to be one are equal.
+-- Keys that the test finds to be the same are equal.
 use Rattle.std.proofs.Common.{◌≡◌, true}
 use Rattle.hive_model.specs.Keys.{KeyParts}
 use Rattle.hive_model.proofs.SameKeys.{keys}

@@ -1,4 +1,4 @@
--- What is told of tokens at one moment of a walk.
+-- What contracts know of tokens at one moment of a walk.
 use Rattle.std.proofs.Common.{◌≡◌, ◌<◌, ◌≤◌, ◌+◌, ℕ, ℤ, Bool, true, false, cond, List, [], ◌∷◌, Option, None, Some, ap, arith, subst}
 use Rattle.std.specs.List.{slice_get}
 use Rattle.hive_model.specs.Keys.{KeyParts, key}
@@ -17,7 +17,7 @@ use Rattle.strategy_lemmas.specs.Cited.{CitedSteps, cited_steps, cites, take_tok
 use Rattle.strategy_lemmas.specs.CitedChecks.{cited_faults, cited_sight}
 use Rattle.strategy_lemmas.specs.declared.cited_walk.CiteWalk.{CiteWalk}
 
--- the moment of a walk over tokens, of which this tells what is told of them
+-- the moment of a walk over tokens, given what is known of them
 abbrev pub cited_moment : {T : Type 0} → (T → Supply Token) → CiteWalk T → Moment Token
 cited_moment supply walk =
     moment_of (walk.tokens.ghost_name ∷ walk.lemmas.ghost_name ∷ []) walk.taken
@@ -25,7 +25,7 @@ cited_moment supply walk =
 
 -- ---- its laws
 
--- what is cited ends the walk of the node
+-- a citation ends the walk of its node
 never-below : (k : KeyParts) (e : ℕ) (x : ℤ) (o : Option Lemma) (xs : List (Option Token)) (n i : ℕ)
     (ls : List Lemma) (t : CitedSteps) → cites k e x o xs n ls ≡ Below i t → ⊥
 never-below k e x None xs n i ls t h = cc
@@ -42,7 +42,7 @@ below-on k e x (Some (Index j) ∷ xs) n i ls t h =
 below-on k e x (Some (Cite j) ∷ xs) n i ls t h =
     absurd (never-below k e x (slice_get ls j) xs (n + 1) i ls t h)
 
--- more than so many are looked for
+-- the walk looks for more than n tokens
 abbrev LooksPast : ℕ → WalkEnd CitedSteps WhyCited → Type 0
 LooksPast n o = n < looked cited_faults (λ s. s.taken) o
 

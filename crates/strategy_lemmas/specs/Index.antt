@@ -1,4 +1,4 @@
--- How lemmas are found again by their keys.
+-- How lemmas are found by their keys.
 use Rattle.std.specs.Prelude.{◌≡◌, ℕ, zero, suc, ◌+◌, ◌≤◌, Bool, false, cond, List, length, slice_get, Option, Some, None}
 use Rattle.hive_model.specs.Keys.{KeyParts}
 use Rattle.hive_model.specs.SameKeys.{same_key}
@@ -10,14 +10,13 @@ abbrev pub has_key : KeyParts → Option Lemma → Bool
 has_key k None = false
 has_key k (Some l) = same_key l.key k
 
--- the last place before place n whose lemma has this key
+-- the last place below n whose lemma has this key
 abbrev pub last_before : KeyParts → List Lemma → ℕ → Option ℕ
 last_before k ls zero = None
 last_before k ls (suc n) = cond (has_key k (slice_get ls n)) (Some n) (last_before k ls n)
 
--- The map has for each key the place of its last lemma, and beside each lemma stands the place of
--- the one before it with its key. The map has no more keys than there are lemmas, and room for
--- 65,536.
+-- The map has the place of the last lemma for each key. Beside each lemma is the place of the one
+-- before it with its key. The map has no more keys than there are lemmas, and room for 65,536.
 pub record IsIndexed {S : Type 0} (ls : List Lemma) (previous : List (Option ℕ))
     (last : IndexMap KeyParts ℕ S) : Type 0 where
   pub lasts : (k : KeyParts) → get same_key last k ≡ last_before k ls (length ls)

@@ -1,4 +1,4 @@
-//! Where the last lemma of each key is.
+//! The place of the last lemma of each key.
 
 ghost use Rattle.std.specs.Prelude.{◌≡◌, ◌+◌, ◌≤◌, ◌<◌, cond, Some};
 ghost use Rattle.hive_model.specs.SameKeys.{same_key};
@@ -8,8 +8,8 @@ ghost use Rattle.indexmap.specs.IndexMap.{get, index_map_len, spare};
 use hive_model::Key;
 use indexmap::IndexMap;
 
-/// Notes that the last lemma of this key is at this place, and answers where the one before it is.
-/// The room for further keys stays.
+/// Records `place` as that of the key's last lemma, and returns the place recorded before. The room
+/// for further keys shrinks by no more than the keys added.
 pub fn note_last(last: &mut IndexMap<Key, u32>, key: &Key, place: u32) -> Option<u32>
     requires room { 0 < spare last.old }
     ensures before { result ≡ get same_key last.old key.now }

@@ -22,7 +22,7 @@ line-is xs h =
     line_of_short xs h.short
     ∙ ap (λ t. Text (if t then take (length xs - 1) xs else xs)) (ne_eqb (get_or xs (length xs - 1) 0) 13 (no-cr xs (length xs - 1) h.plain))
 
--- the first line of a text that begins with a written line, and those behind it
+-- the first line of a text that begins with a written line, and the lines after it
 pub lines-begin : (xs rest : List ℕ) → IsPlain 65536 xs → lines (written_line xs ++ rest) ≡ Text xs ∷ lines rest
 lines-begin xs rest h =
     ap lines (append_assoc xs (10 ∷ []) rest) ∙ lines-lf xs rest (no-lf xs h.plain) ∙ ap (λ l. l ∷ lines rest) (line-is xs h)

@@ -150,18 +150,18 @@ whole-written start now d m v r s a b e same all first later =
     wrote-as s _ _ a e (whole-is start d m v) (wrote-then s (head start d m v) (index_lines (least_indices (position start) d m v)) a b e (wrote-is r true _ a b all first)
     (wrote-as s _ _ b e (ap (λ (c : Course). index_lines (least_indices (position c) d m v)) same) later))
 
--- a front of the certificate of the best move, and of what the position is worth
+-- an initial part of the certificate of the best move and the value of the position
 pub part-of : (c : Course) (d : ℕ) (m : Move) (v : ℤ) (a b : Told) → best (position c) d ≡ Some m → v ≡ value (position c) d → Wrote false (whole c d m v) a b →
     Wrote false (certificate_of c d (best (position c) d)) a b
 part-of c d m v a b is worth h = wrote-as false _ _ a b (ap (whole c d m) worth ∙ ap (certificate_of c d) (sym is)) h
 
--- where the head was cut off
+-- if the head was cut off
 pub head-part : (start now : Course) (d : ℕ) (m : Move) (v : ℤ) (r : Bool) (bytes : List ℕ) (a b : Told) → now ≡ start → bytes ≡ head now d m v → OnTrue r (b ≡ written_behind a bytes) →
     OnFalse r ((n : ℕ) × (n < length bytes) × (b ≡ written_behind a (take n bytes))) → best (position start) d ≡ Some m → v ≡ value (position start) d → r ≡ false → Wrote false (certificate_of start d (best (position start) d)) a b
 head-part start now d m v r bytes a b same is all part first worth cut =
     part-of start d m v a b first worth (head-cut start d m v r a b cut (head-written start now d m v r bytes a b same is all part))
 
--- where the head was written, and then so much of the indices
+-- if the head was written, and then this part of the indices
 pub both-written : (start now : Course) (d : ℕ) (m : Move) (v : ℤ) (r s : Bool) (bytes : List ℕ) (a b e : Told) → now ≡ start → bytes ≡ head now d m v → OnTrue r (b ≡ written_behind a bytes) →
     OnFalse r ((n : ℕ) × (n < length bytes) × (b ≡ written_behind a (take n bytes))) → r ≡ true → Wrote s (index_lines (least_indices (position now) d m v)) b e → Wrote s (whole start d m v) a e
 both-written start now d m v r s bytes a b e same is all part done later =

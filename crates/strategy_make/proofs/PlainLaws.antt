@@ -37,7 +37,7 @@ abbrev pub is_plain : List ℕ → Bool
 is_plain [] = true
 is_plain (b ∷ bs) = nat_le 32 b && is_plain bs
 
--- and there are at most so many bytes
+-- and there are at most this number of bytes
 pub record IsPlain (most : ℕ) (bs : List ℕ) : Type 0 where
   pub plain : is_plain bs ≡ true
   pub short : length bs ≤ most

@@ -60,7 +60,7 @@ depth-is d some deep =
     let fits : 64 < 2 ^ 64 = lit< tt in
     ap (λ o. then_at o (λ t. number_at t 1 64)) (some-behind (codes "depth ") _ (decimal d) refl) ∙ number-is d 1 64 fits some deep
 
--- no number begins with a byte that is no digit
+-- no number begins with a byte that is not a digit
 pub no-mark : (mark : ℕ) → ((n : ℕ) → n < 10 → 48 + n ≢ mark) → (n : ℕ) → n < 2 ^ 64 → behind_word (mark ∷ []) (decimal n) ≡ None
 no-mark mark other n h = decimal_by_steps (λ _ ds. behind_word (mark ∷ []) ds ≡ None) (λ n low. digit n low) (λ n ds low front. more ds (n % 10) (omega arith) front) n h
   where
@@ -149,7 +149,7 @@ abbrev pub HeadLines : ℕ → GameType → List Move → ℕ → Move → ℤ �
 HeadLines n t ms d m v rest =
     Text (codes "hive-certificate " ++ decimal n) ∷ (Text (string t ms) ∷ (Text (codes "depth " ++ decimal d) ∷ (Text (codes "move " ++ move-text t ms m) ∷ (Text (codes "value " ++ signed_decimal v) ∷ rest))))
 
--- the lines of the head of a version, and those behind it
+-- the lines of the head of a version, and the lines after it
 pub head-lines : (n : ℕ) (t : GameType) (ms : List Move) (d : ℕ) (m : Move) (v : ℤ) (rest : List ℕ) → n ≤ 2 → MayClaim t ms d m v → lines (head_text n t ms d m v ++ rest) ≡ HeadLines n t ms d m v (lines rest)
 unfolding head_text
 head-lines n t ms d m v rest known may =

@@ -17,13 +17,13 @@ use Rattle.strategy_text.specs.declared.head.Head.{Head}
 use Rattle.strategy_text.specs.Text.{head_of, index_in}
 use Rattle.strategy_make.specs.Making.{least_indices, certificate}
 
--- the least indices show that the best move is the best one, and what it is worth
+-- the least indices show that the best move is best, and its value
 abbrev pub LeastIndicesHold : Type 0
 LeastIndicesHold =
     (p : Position) (d : ℕ) (m : Move) → IsInner p d → best p d ≡ Some m
     → Holds p d m (value p d) (least_indices p d m (value p d))
 
--- what the certificate of a game claims: a move in its written text, at a depth, with a value
+-- the claim of a game's certificate: a move in its written text, at a depth, with a value
 abbrev pub claimed : GameType → List Move → ℕ → Move → ℤ → Head
 claimed t ms d m v = record {
   version = 1;
@@ -34,8 +34,8 @@ claimed t ms d m v = record {
   value = v;
 }
 
--- what a certificate may be of: a game of at most 5,000 moves, a legal move in the position that it
--- leads to, a depth from 1 to 64, and a value that may be claimed
+-- What a certificate may claim. The game has at most 5,000 moves, and the move is legal in the
+-- position after them. The depth is from 1 to 64, and the value is in range.
 pub record MayClaim (t : GameType) (ms : List Move) (d : ℕ) (m : Move) (v : ℤ) : Type 0 where
   pub game : IsGame t ms
   pub few : length ms ≤ 5000
@@ -44,19 +44,19 @@ pub record MayClaim (t : GameType) (ms : List Move) (d : ℕ) (m : Move) (v : �
   pub deep : d ≤ 64
   pub small : IsSmall 1000064 v
 
--- the best move of a game at a depth, and what it is worth; a certificate may be of both
+-- the best move of a game at a depth, and its value; a certificate may claim both
 pub record IsBestAnswer (c : Course) (depth : ℕ) (b : Best) : Type 0 where
   pub first : best (position c) depth ≡ Some b.best
   pub worth : b.value ≡ value (position c) depth
   pub claim : MayClaim c.game_type c.made depth b.best b.value
 
--- the lines of a certificate have just the head that was written
+-- the lines of a certificate have exactly the head that was written
 abbrev pub HeadsAreRead : Type 0
 HeadsAreRead =
     (t : GameType) (ms : List Move) (d : ℕ) (m : Move) (v : ℤ) → MayClaim t ms d m v
     → head_of 1 (lines (certificate t ms d m v)) ≡ Ok (claimed t ms d m v)
 
--- and each of the lines behind it is the index that was written there
+-- each of the lines after the head is the index that was written there
 abbrev pub IndicesAreRead : Type 0
 IndicesAreRead =
     (t : GameType) (ms : List Move) (d : ℕ) (m : Move) (v : ℤ) → MayClaim t ms d m v

@@ -16,8 +16,8 @@ use Rattle.strategy_indices.specs.Writing.{index_lines}
 use Rattle.strategy_make.specs.declared.fault.MakeFault.{MakeFault}
 use Rattle.strategy_make.specs.declared.fault.MakeFault.TheVariants.{WriteFault, Memory}
 
--- a game of whose best move at a depth a certificate may be made: it is not over, and has at most
--- 5,000 moves; the depth is from 1 to 64, and there is room for as many plies
+-- A game for whose best move at a depth a certificate may be made. It is not over, and has at most
+-- 5,000 moves. The depth is from 1 to 64, and there is room for that number of plies.
 pub record MayMake (c : Course) (depth : ℕ) : Type 0 where
   pub goes_on : is_over (position c) ≡ false
   pub few : length c.made ≤ 5000
@@ -25,30 +25,30 @@ pub record MayMake (c : Course) (depth : ℕ) : Type 0 where
   pub deep : depth ≤ 64
   pub spare : depth ≤ c.spare
 
--- with the place of the move among the legal moves, if it is there
+-- the indices, given the place of the move among the legal moves; none if it is not there
 abbrev pub least_at : Position → ℕ → Move → ℤ → Option ℕ → List ℕ
 least_at p d m v None = []
 least_at p d m v (Some k) = least_moves p (d - 1) k m v
 
--- the least indices that show a legal move to be the best one of a position, with so many plies
--- searched, and to be worth so much
+-- the least indices that show that a legal move is best with d plies searched, and that the
+-- position is worth v
 abbrev pub least_indices : Position → ℕ → Move → ℤ → List ℕ
 least_indices p d m v = least_at p d m v (place_of m (moves p))
 
--- the certificate that a game's best move at a depth is this one, and that it is worth so much: the
--- head, and the least indices
+-- The certificate that m is a game's best move at a depth, and that the game is worth v: the head,
+-- then the least indices.
 unfoldable pub certificate : GameType → List Move → ℕ → Move → ℤ → List ℕ
 certificate t ms d m v =
     head_text 1 t ms d m v ++ index_lines (least_indices (replay (opening t) ms) d m v)
 
--- the certificate of this move, if there is one, and of what the game's position is worth
+-- the certificate of this move and of the value of the game's position; nothing if there is no move
 abbrev pub certificate_of : Course → ℕ → Option Move → List ℕ
 certificate_of c d None = []
 certificate_of c d (Some m) = certificate c.game_type c.made d m (value (position c) d)
 
--- What was written, by the answer: the certificate of the move and the worth that are answered;
--- where a write failed the first n bytes of that of the best move, and not all; where memory was
--- wanting nothing.
+-- What was written, by the answer: the certificate of the answered move and value; if a write
+-- failed, the first n bytes of the certificate of the best move, and not all; if memory ran out,
+-- nothing.
 abbrev pub Makes : Result Best MakeFault → Course → ℕ → Told → Told → Type 0
 Makes (Ok b) c d old new = new ≡ behind old (certificate c.game_type c.made d b.best b.value)
 Makes (Err WriteFault) c d old new =

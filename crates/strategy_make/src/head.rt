@@ -15,8 +15,8 @@ use strategy_walks::Claim;
 /// The version of the certificates that are made.
 const VERSION: u32 = 1;
 
-/// The head of the certificate that a legal move is the best one of a game at a depth, and what it
-/// is worth.
+/// The head of a certificate. It claims that a legal move is the best one of a game at a depth, and
+/// states its value.
 pub(crate) fn head_of<G: Game + Drop>(
     alloc: Global,
     game: &G,

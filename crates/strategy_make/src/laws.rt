@@ -2,12 +2,12 @@
 
 ghost use Rattle.strategy_make.specs.Laws.{LeastIndicesHold, HeadsAreRead, IndicesAreRead};
 
-/// The least indices show that the best move is the best one, and what it is worth.
+/// The least indices show that the best move is best, and its value.
 pub fn least_indices_hold()
     ensures { LeastIndicesHold }
 {}
 
-/// A certificate is read from its lines as it was written: its head, and the indices behind it.
+/// A certificate is read back from its lines as it was written: its head, and the indices after it.
 pub fn certificates_are_read()
     ensures heads { HeadsAreRead }
     ensures indices { IndicesAreRead }

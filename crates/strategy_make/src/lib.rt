@@ -1,5 +1,6 @@
-//! Writing the certificate of a game's best move. No tree is kept: what positions are worth is
-//! asked anew wherever an index is needed.
+//! Writes the certificate of a game's best move.
+//!
+//! It keeps no tree: it asks again for values whenever it needs an index.
 #![tactic(auto)]
 
 mod fault;

@@ -14,13 +14,14 @@ use io_edge::{Sink, write_all};
 use std::alloc::Global;
 
 /// Writes the certificate of the game's best move at a depth, from 1 to the depth that the searcher
-/// is prepared for: the five lines of the head, and the least indices, each on a line of its own.
-/// The answer is that move, and what it is worth. The game is not over, has room for as many plies,
-/// and has at most 5,000; it is as before, and so is the searcher.
+/// is prepared for. It has the five lines of the head, then the least indices, one a line. The
+/// answer is that move and its value. The game is not over, has at most 5,000 plies, and has room
+/// for `depth` more. Game and searcher are as before.
 ///
 /// # Errors
 ///
-/// A failed write: a front of that certificate was written. Want of memory: nothing was written.
+/// A failed write: an initial part of that certificate was written. Out of memory: nothing was
+/// written.
 pub fn make<G: Game + Drop, K: Sink>(
     alloc: Global,
     searcher: &mut Searcher,

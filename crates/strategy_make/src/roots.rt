@@ -19,8 +19,8 @@ use strategy_check::find_move;
 use strategy_indices::{Judge, write_child, write_moves};
 use strategy_walks::Limit;
 
-/// Writes the least indices that show that the move at a place of the level is the best one, with
-/// `depth` plies left behind it, and what it is worth.
+/// Writes the least indices that show that the move at `place` is best, and its value, with `depth`
+/// plies left after it.
 fn write_root<G: Game, J: Judge, K: Sink>(
     judge: &mut J,
     game: &mut G,
@@ -60,9 +60,9 @@ fn write_root<G: Game, J: Judge, K: Sink>(
     write_moves(judge, game, level, from, count, depth, least, stack, sink)
 }
 
-/// Writes the least indices that show that a legal move is the best one, with `depth` plies
-/// searched, and what it is worth. The game is not over. Game and stack are as before. The answer
-/// is whether all was written.
+/// Writes the least indices that show that a legal move is best, and its value, with `depth` plies
+/// searched. The game is not over. Game and stack are as before. The answer is whether everything
+/// was written.
 pub(crate) fn write_least<G: Game, J: Judge, K: Sink>(
     judge: &mut J,
     game: &mut G,

@@ -1,4 +1,4 @@
--- What a reader that reads on has read of its input.
+-- What a reader that goes on reading has read of its input.
 use Rattle.std.proofs.Common.{◌≡◌, ◌≢◌, ◌<◌, ◌≤◌, ℕ, suc, ◌+◌, ◌-◌, ◌^◌, min, Bool, true, false, List, [], ◌∷◌, ◌++◌, length, length-append, refl, ap, sym, subst, arith, ◌∙◌, inl, inr, add-zero, if◌then◌else◌}
 use Rattle.std.specs.Prelude.{◌==◌, ⊤, ◌⊎◌, map, Option, Some, None, Result, Ok, Err}
 use Rattle.std.specs.Option.{option_map}
@@ -27,7 +27,7 @@ no-bytes : (xs ys : List ℕ) → xs ++ ys ≡ [] → (xs ≡ []) × (ys ≡ [])
 no-bytes [] ys e = (refl, e)
 no-bytes (x ∷ xs) ys e = cc
 
--- where nothing is held, the lines given are all those of the bytes
+-- if nothing is held, the lines given are all those of the bytes
 lines-of : (finished : Bool) (bytes held : List ℕ) (given : List OneLine) (rest : Told) → Covers finished bytes held given rest → held ≡ [] → lines bytes ≡ given
 lines-of true bytes held given rest (all, none, at_end) e = all
 lines-of false bytes held given rest s e =
@@ -79,7 +79,7 @@ given-few false bytes held given rest s =
 pub within-limit : (input : List ℕ) (rest : Told) (reader : Reading) (most : ℕ) → (r : HasRead input rest reader most) → length r.given ≤ input_limit
 within-limit input rest reader most r = omega (arith, given-few reader.finished r.bytes (pending reader) r.given rest r.fed.covers, r.fed.counted, r.within)
 
--- what holds of at most so many lines holds of at most more
+-- what holds for at most n lines also holds for a larger bound
 pub read-more : (input : List ℕ) (rest : Told) (reader : Reading) (m n : ℕ) → m ≤ n → HasRead input rest reader m → HasRead input rest reader n
 read-more input rest reader m n more r = record { bytes = r.bytes; given = r.given; few = omega (arith, r.few, more); fed = r.fed; within = r.within; little = r.little }
 
@@ -97,7 +97,7 @@ one-more given line most few = omega (arith, length-append given (line ∷ []), 
 none-more : (given : List OneLine) (most : ℕ) → length given ≤ most → length given ≤ most + 0
 none-more given most few = omega (arith, few)
 
--- whatever is answered, what was read is a front of the input
+-- whatever is answered, what was read is an initial part of the input
 read_on : (a : LineAnswer) (old new : Reading) (r0 r1 : Told) → (bytes : List ℕ) × Takes r0 r1 old.taken new.taken bytes × Feeds a old bytes new r1 → new.taken ≤ input_limit → HoldsLittle new
     → (input : List ℕ) (most : ℕ) → HasRead input r0 old most → HasRead input r1 new (most + lines_given a)
 read_on Line old new r0 r1 (b1, t, g) within little input most r =
@@ -136,20 +136,20 @@ line-taken a old new r0 r1 fed within little line result faults faults' last ful
   read = λ input before next r. subst (HasRead input r1 new) (sym last) (read_line a old new r0 r1 fed within little line input before next r);
 }
 
--- and no line where none was given
+-- and no line if none was given
 pub read-none-given : (a : LineAnswer) (old new : Reading) (r0 r1 : Told) → (bytes : List ℕ) × Takes r0 r1 old.taken new.taken bytes × Feeds a old bytes new r1 → new.taken ≤ input_limit → HoldsLittle new
     → lines_given a ≡ 0 → (input : List ℕ) (most : ℕ) → HasRead input r0 old most → HasRead input r1 new most
 read-none-given a old new r0 r1 fed within little none input most r =
     read-more input r1 new (most + lines_given a) most (omega (arith, none)) (read_on a old new r0 r1 fed within little input most r)
 
--- a count that stands still at its greatest value keeps up with the lines, which are within the limit
+-- a count that stops at its greatest value keeps up with the lines, which are within the limit
 pub read-item : (a : LineAnswer) (old new : Reading) (r0 r1 : Told) → (bytes : List ℕ) × Takes r0 r1 old.taken new.taken bytes × Feeds a old bytes new r1 → new.taken ≤ input_limit → HoldsLittle new
     → (count now : ℕ) → now ≡ min (count + 1) (2 ^ 64 - 1) → (input : List ℕ) (before : ℕ) → HasRead input r0 old (before + count) → HasRead input r1 new (before + now)
 read-item a old new r0 r1 fed within little count now next input before r =
     let s : HasRead input r1 new (before + count + 1) = read_line a old new r0 r1 fed within little (before + count + 1) input (before + count) refl r in
     record { bytes = s.bytes; given = s.given; few = omega (arith, s.few, within-limit input r1 new (before + count + 1) s, next); fed = s.fed; within = s.within; little = s.little }
 
--- where no line was given the last that was taken is the one before
+-- if no line was given, the last one taken is the one before
 pub none-taken : (a : LineAnswer) (old new : Reading) (r0 r1 : Told) → (bytes : List ℕ) × Takes r0 r1 old.taken new.taken bytes × Feeds a old bytes new r1 → new.taken ≤ input_limit → HoldsLittle new → lines_given a ≡ 0
     → (line : ℕ) (result : Result ⊤ HeadFault) (faults faults' : ℕ) → last_line line result ≡ line - 1 → (result ≡ Err InputFull → new.taken ≡ input_limit) → HasCause (result ≡ Err ReadFault) faults faults' → (result ≡ Err ReadFault → new.taken < input_limit)
     → TakesLines 1 line result old new r0 r1 faults faults'
@@ -199,7 +199,7 @@ pub taken-fault : {A B : Type 0} (k n : ℕ) (fault : HeadFault) (result : Resul
     (let r : Result A HeadFault = Err fault in TakesLines k n r old new r0 r1 faults faults') → TakesLines k n result old new r0 r1 faults faults'
 taken-fault k n fault result old new r0 r1 faults faults' is t = taken-short k n k n 0 fault result old new r0 r1 faults faults' (omega arith) refl is t
 
--- the lines of one part behind those of another
+-- the lines of one part after those of another
 pub taken-then : {A B : Type 0} (j m k n : ℕ) (a : A) (result : Result B HeadFault) (old mid new : Reading) (r0 r1 r2 : Told) (faults faults' last : ℕ) → n ≡ m + k →
     (let r : Result A HeadFault = Ok a in TakesLines j m r old mid r0 r1 faults faults') → TakesLines k n result mid new r1 r2 faults' last → TakesLines (j + k) n result old new r0 r2 faults last
 taken-then j m k n a result old mid new r0 r1 r2 faults faults' last next first later = record {
@@ -210,7 +210,7 @@ taken-then j m k n a result old mid new r0 r1 r2 faults faults' last next first 
   read = λ input before e r. later.read input m next (first.read input before (omega (arith, e, next)) r);
 }
 
--- what is made of lines that were taken, neither of a read that has failed nor of a full reader
+-- the result for lines that were taken: neither a failed read nor a full reader
 pub taken-as : {A B : Type 0} (k n : ℕ) (a : A) (result : Result B HeadFault) (old new : Reading) (r0 r1 : Told) (faults faults' : ℕ) → last_line n result ≡ n → result ≢ Err ReadFault → result ≢ Err InputFull →
     (let r : Result A HeadFault = Ok a in TakesLines k n r old new r0 r1 faults faults') → TakesLines k n result old new r0 r1 faults faults'
 taken-as k n a result old new r0 r1 faults faults' last read full t = record {
@@ -221,7 +221,7 @@ taken-as k n a result old new r0 r1 faults faults' last read full t = record {
   read = λ input before e r. subst (HasRead input r1 new) (sym last) (t.read input before e r);
 }
 
--- what is made of lines that were taken: a value, the fault of the last of them, or want of memory
+-- the result for lines that were taken: a value, the fault of the last of them, or out of memory
 
 pub taken-ok : {A B : Type 0} (k n : ℕ) (a : A) (b : B) (old new : Reading) (r0 r1 : Told) (faults faults' : ℕ) → (let r : Result A HeadFault = Ok a in TakesLines k n r old new r0 r1 faults faults') →
     (let r : Result B HeadFault = Ok b in TakesLines k n r old new r0 r1 faults faults')
@@ -237,7 +237,7 @@ taken-without k n a old new r0 r1 faults faults' t = taken-as k n a (Err Memory)
 
 -- ---- items
 
--- a read has failed just where that is the answer
+-- a read failed if and only if that is the answer
 pub item-cause : {T : Type 0} (a : LineAnswer) (r : ItemAnswer T) (faults faults' : ℕ) → (r ≡ NoRead → a ≡ Failed) → (a ≡ Failed → r ≡ NoRead) → HasCause (a ≡ Failed) faults faults' → HasCause (r ≡ NoRead) faults faults'
 item-cause a r faults faults' there back cause = record {
   later = cause.later;
@@ -245,7 +245,7 @@ item-cause a r faults faults' there back cause = record {
   same = λ not. cause.same (λ e. not (back e));
 }
 
--- the first item, which stands on the first line
+-- the first item, which is on the first line
 pub item-front : {T : Type 0} (item : OneLine → Option T) (line : OneLine) (i : Option T) (old new : ToldLines) → i ≡ item line → old ≡ option_map (λ left. line ∷ left) new →
     option_map (map item) old ≡ in_front_of i (option_map (map item) new)
 item-front item line i old None is e = ap (option_map (map item)) e

@@ -1,4 +1,4 @@
--- What stands behind a word, and what the reading of one line answers.
+-- The text after a word, and what the reading of one line answers.
 use Rattle.std.proofs.Common.{◌≡◌, ◌≢◌, ◌<◌, ℕ, ◌+◌, ◌-◌, List, [], ◌∷◌, ◌++◌, drop, length, refl, sym, ap, subst, arith, ◌∙◌, Option, Some, None, Bor}
 use Rattle.std.specs.Prelude.{codes, decimal, map, MatchOption, Result, Ok, Err, ℤ}
 use Rattle.std.specs.Option.{option_map}
@@ -47,7 +47,7 @@ behind-found p s (Some x) m = some-behind p s x.now m
 
 -- ---- a head of any form, line by line
 
--- so far the first k lines were read, and the head is what is to be made of those behind them
+-- so far the first k lines were read, and the head is made from the lines after them
 pub record GoesOn {H : Type 0} (head : Result H HeadFault) (lines : List Line) (k : ℕ) (rest : Result H HeadFault) (after : ToldLines) : Type 0 where
   pub told : after ≡ Some (drop k lines)
   pub so : head ≡ rest
@@ -72,7 +72,7 @@ ends-here f next head lines k n ReadFault before after last so part = tt
 ends-here f next head lines k n InputFull before after last so part = tt
 ends-here f next head lines k n Memory before after last so part = tt
 
--- ---- where a read has failed
+-- ---- if a read failed
 
 behind-part : {A H : Type 0} (m i : ℕ) (o : Option A) (next : A → Result H HeadFault) → m < i → ((a : A) → IsBehind m (next a)) → IsBehind m (and_then (or_bad i o) next)
 behind-part m i None next less rest = less
@@ -93,11 +93,11 @@ behind-game m [] next less rest = less
 behind-game m (TooLong ∷ ls) next less rest = less
 behind-game m (Text line ∷ ls) next less rest = behind-read m (game_of line) next less rest
 
--- a number is below those behind it
+-- a number is below those after it
 pub less : (m more : ℕ) → m < m + 1 + more
 less m more = omega arith
 
--- the reading of the line behind the first k has failed
+-- the reading of the line after the first k failed
 pub breaks-off : {H : Type 0} (k n last : ℕ) (head read : Result H HeadFault) (lines : List Line) (fault : HeadFault) (input : List ℕ) (rest : Told) (reader : Reading) (before : ToldLines) → last ≡ k + 1 → k < n →
     GoesOn head lines k read before → HasRead input rest reader (fault_line last fault) → fault ≡ ReadFault → IsBehind k read → BreaksOff n head input rest reader
 breaks-off {H = H} k n last head read lines fault input rest reader before next less so r failed sound =
@@ -114,7 +114,7 @@ breaks-off {H = H} k n last head read lines fault input rest reader before next 
 abbrev pub head_is : ℕ → Parsed → ℕ → List ℕ → ℤ → Head
 head_is v g d t x = record { version = v; game_type = g.game_type; moves = g.moves; claim_text = t; depth = d; value = x }
 
--- what is to be made of these lines and of the first parts of the head that they have
+-- what follows from these lines and the first parts of the head that they have
 abbrev pub after_text : List Line → ℕ → Parsed → ℕ → List ℕ → HeadRead
 after_text lines v g d t = and_then (field_in 5 value_at (drop 4 lines)) (λ x. Ok (head_is v g d t x))
 
@@ -135,7 +135,7 @@ pub begins : (newest : ℕ) (lines : List Line) (before : ToldLines) → before 
     GoesOn (head_of newest lines) lines 0 (and_then (field_in 1 (version_at newest) (drop 0 lines)) (λ v. after_version lines v)) before
 begins newest lines before told = record { told = told; so = head-begins newest lines }
 
--- so many parts were read, each of which the lines have
+-- this number of parts was read, and the lines have each of them
 
 pub after-1 : (newest : ℕ) (lines : List Line) (v : ℕ) (t0 t1 : ToldLines) → t0 ≡ Some lines → (let r : Result ℕ HeadFault = Ok v in Part (field_in 1 (version_at newest)) r t0 t1) →
     GoesOn (head_of newest lines) lines 1 (after_version lines v) t1
@@ -158,7 +158,7 @@ pub after-4 : (newest : ℕ) (lines : List Line) (v : ℕ) (g : Parsed) (d : ℕ
 after-4 newest lines v g d t t0 t1 t2 t3 t4 told version game depth claim_text =
     goes-on (field_in 4 move_at) (λ u. after_text lines v g d u) (head_of newest lines) lines 3 t t3 t4 (after-3 newest lines v g d t0 t1 t2 t3 told version game depth) claim_text
 
--- what is to be made of the lines behind the first so many is the fault of none of these
+-- what the lines after the first n give is the fault of none of the first n
 
 pub behind-value : (m : ℕ) (lines : List Line) (v : ℕ) (g : Parsed) (d : ℕ) (t : List ℕ) → m < 5 → IsBehind m (after_text lines v g d t)
 behind-value m lines v g d t less = behind-field m 5 value_at (drop 4 lines) (λ x. Ok (head_is v g d t x)) less (λ x. tt)
@@ -175,7 +175,7 @@ behind-version m lines v less = behind-game m (drop 1 lines) (λ g. after_game l
 pub behind-none : (newest : ℕ) (lines : List Line) → IsBehind 0 (and_then (field_in 1 (version_at newest) (drop 0 lines)) (λ v. after_version lines v))
 behind-none newest lines = behind-field 0 1 (version_at newest) (drop 0 lines) (λ v. after_version lines v) (omega arith) (λ v. behind-version 0 lines v (omega arith))
 
--- the head, as the code puts it together
+-- the head, as the code makes it
 pub head-pushed : (t : GameType) (ms : List Move) (n d : ℕ) (m : Move) (v : ℤ) (start a b c e f h : List ℕ) → start ≡ [] → a ≡ start ++ written_line (codes "hive-certificate " ++ decimal n) → b ≡ a ++ string t ms →
     c ≡ b ++ 10 ∷ [] → e ≡ c ++ written_line (codes "depth " ++ decimal d) → f ≡ e ++ written_line (codes "move " ++ text (replay (opening t) ms).board m) →
     h ≡ f ++ written_line (codes "value " ++ signed_decimal v) → h ≡ head_text n t ms d m v
@@ -201,7 +201,7 @@ all-same old new r0 (Some left) bytes t =
 
 -- ---- lines of items
 
--- at the end nothing is told that was not told before
+-- at the end nothing is known that was not known before
 pub end-told : (old new : Reading) (r0 r1 : Told) (bytes : List ℕ) → r0 ≡ in_front bytes r1 → NoneAhead (ahead_of old r0) → NoneAhead (ahead_of new r1) → ahead_of new r1 ≡ ahead_of old r0
 unfolding ahead_of
 end-told old new r0 None bytes e none0 none1 = ap (ahead_of old) (sym e)

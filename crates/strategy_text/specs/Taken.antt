@@ -7,8 +7,8 @@ use Rattle.line_feed.specs.SoFar.{Fed}
 use Rattle.strategy_walks.specs.declared.items.ItemAnswer.{ItemAnswer}
 use Rattle.strategy_walks.specs.declared.items.ItemAnswer.TheVariants.{Item, End, Bad, Failed, Full}
 
--- Of the input these first bytes were read, by a reader that was new, and it gave these lines of
--- them, at most so many. The bytes are within the limit, and the reader holds the front of one line
+-- These first bytes of the input were read by a reader that was new. It gave these lines of them,
+-- which are at most `most`. The bytes are within the limit. The reader holds the front of one line,
 -- and at most one piece beyond it.
 pub record HasRead (input : List ℕ) (rest : Told) (reader : Reading) (most : ℕ) : Type 0 where
   pub bytes : List ℕ
@@ -18,13 +18,13 @@ pub record HasRead (input : List ℕ) (rest : Told) (reader : Reading) (most : �
   pub within : reader.taken ≤ input_limit
   pub little : HoldsLittle reader
 
--- The line that a reader gave last is no such item: it is none by its text, or it was too long, and
+-- The line that the reader gave last is no such item. Its text is none, or it was too long, and
 -- then more than 65,536 bytes have passed.
 abbrev pub GaveNone : {T : Type 0} → (Line → Option T) → Reading → Type 0
 GaveNone item reader = (item (Text reader.last) ≡ None) ⊎ (65536 < reader.passed)
 
--- How far a reader has come that was asked for such an item, by the answer: it has met the end; it
--- gave a line that is none; a read has failed below the limit; or the limit is reached.
+-- How far a reader has come that was asked for such an item, by the answer. It has met the end; it
+-- gave a line that is no item; a read has failed below the limit; or the limit is reached.
 abbrev pub StopsAt : {T : Type 0} → (Line → Option T) → ItemAnswer T → Reading → Type 0
 StopsAt item (Item i) reader = ⊤
 StopsAt item End reader = reader.finished ≡ true

@@ -1,6 +1,6 @@
--- Certificates as texts. Five lines are the head: `hive-certificate ` and the version; a game;
--- `depth ` and a number from 1 to 64; `move ` and a move text; `value ` and a whole number. On each
--- line behind them stands an index.
+-- Certificates as texts. The head is five lines: `hive-certificate ` and the version; a game;
+-- `depth ` and a number from 1 to 64; `move ` and a move text; `value ` and a whole number. Each
+-- line after them is an index.
 use Rattle.std.specs.Prelude.{ℕ, List, [], ◌∷◌, ◌++◌, codes, decimal, drop, ℤ, pos, neg_ℤ, Option, Some, None, Result, Ok, Err, option_map}
 use Rattle.std.specs.Fmt.{signed_decimal}
 use Rattle.hive_model.specs.declared.pieces.GameType.{GameType}
@@ -25,7 +25,7 @@ abbrev pub then_at : {A B : Type 0} → Option A → (A → Option B) → Option
 then_at None next = None
 then_at (Some a) next = next a
 
--- a number in this range, behind a word
+-- a number in this range, after a word
 abbrev pub number_behind : List ℕ → ℕ → ℕ → List ℕ → Option ℕ
 number_behind word least most line =
     then_at (behind_word word line) (λ t. number_at t least most)
@@ -36,7 +36,7 @@ version_at newest line = number_behind (codes "hive-certificate ") 1 newest line
 abbrev pub depth_at : List ℕ → Option ℕ
 depth_at line = number_behind (codes "depth ") 1 64 line
 
--- something follows
+-- the text, if it is not empty
 abbrev pub not_empty : List ℕ → Option (List ℕ)
 not_empty [] = None
 not_empty (b ∷ bs) = Some (b ∷ bs)
@@ -44,7 +44,7 @@ not_empty (b ∷ bs) = Some (b ∷ bs)
 abbrev pub move_at : List ℕ → Option (List ℕ)
 move_at line = then_at (behind_word (codes "move ") line) not_empty
 
--- behind a minus sign a number that is not 0, and else a number
+-- after a minus sign a number that is not 0; without one, any number
 abbrev pub signed : Option (List ℕ) → List ℕ → Option ℤ
 signed (Some digits) text = option_map (λ n. neg_ℤ (pos n)) (number_at digits 1 1000064)
 signed None text = option_map (λ n. pos n) (number_at text 0 1000064)
@@ -63,14 +63,14 @@ abbrev pub index_in : Line → Option ℕ
 index_in (Text line) = index_at line
 index_in TooLong = None
 
--- The head, line by line. The first line that is missing, too long or not of its form is its fault;
--- or what is wrong with the game.
+-- The head, line by line. Its fault is the first line that is missing, too long or malformed, or
+-- what is wrong with the game.
 
 abbrev pub or_bad : {A : Type 0} → ℕ → Option A → Result A HeadFault
 or_bad n None = Err (BadLine n)
 or_bad n (Some a) = Ok a
 
--- the field of the first of the lines, which has this number in the text
+-- the field of the first of the lines, which has the number n in the text
 abbrev pub field_in : {A : Type 0} → ℕ → (List ℕ → Option A) → List Line → Result A HeadFault
 field_in n at [] = Err (BadLine n)
 field_in n at (TooLong ∷ rest) = Err (BadLine n)
@@ -80,13 +80,13 @@ abbrev pub or_bad_game : Result Parsed GameFault → Result Parsed HeadFault
 or_bad_game (Ok game) = Ok game
 or_bad_game (Err fault) = Err (BadGame fault)
 
--- the game of the first of the lines, which is the second of the text
+-- the game of the first of the lines, which is the second line of the text
 abbrev pub game_in : List Line → Result Parsed HeadFault
 game_in [] = Err (BadLine 2)
 game_in (TooLong ∷ rest) = Err (BadLine 2)
 game_in (Text line ∷ rest) = or_bad_game (game_of line)
 
--- what is made of a part of a head, or its fault
+-- goes on with a part of a head, or keeps its fault
 abbrev pub and_then : {A B : Type 0} → Result A HeadFault → (A → Result B HeadFault)
     → Result B HeadFault
 and_then (Ok a) next = next a
@@ -95,7 +95,8 @@ and_then (Err fault) next = Err fault
 abbrev pub HeadRead : Type 0
 HeadRead = Result Head HeadFault
 
--- the head of these lines, with a version up to the newest: their first five; or their first fault
+-- the head that the first five of these lines are, with a version up to the newest, or their first
+-- fault
 unfoldable pub head_of : ℕ → List Line → HeadRead
 head_of newest lines =
     and_then (field_in 1 (version_at newest) lines) (λ version.

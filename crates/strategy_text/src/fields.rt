@@ -29,29 +29,29 @@ use hive_model::LineText;
 use move_text::read_number;
 use std::alloc::{AllocError, Global};
 
-/// What one line of a head has.
+/// What one line of a head holds.
 pub trait Field {
-    /// What it is, once it is read.
+    /// Its type, once it is read.
     type Value;
 
-    /// What a line has of it.
+    /// What a line has of it, if anything.
     ghost at: { Self → List ℕ → Option Self.Value };
 
-    /// What holds of each that a line has.
+    /// What holds of each value that a line has.
     ghost holds: { Self → Self.Value → Type 0 };
 
-    /// Reads it off a line of at most 65,536 bytes.
+    /// Reads it from a line of at most 65,536 bytes.
     ///
     /// # Errors
     ///
-    /// Want of memory.
+    /// Out of memory.
     fn read(&self, line: &[u8]) -> Result<Option<Self::Value>, AllocError>
         requires { length line.now ≤ greatest_line }
         ensures found { IfOk result (λ found. found ≡ at self.now line.now) }
         ensures holds { IfOk result (λ found. IfSome found (holds self.now)) };
 }
 
-/// What stands behind a word with which the text begins.
+/// The rest of the text after a word, if the text begins with that word.
 pub fn behind<'a>(text: &'a [u8], word: &[u8]) -> Option<&'a [u8]>
     ensures found { MatchOption result
         (behind_word word.now text.now ≡ None)
@@ -61,7 +61,7 @@ pub fn behind<'a>(text: &'a [u8], word: &[u8]) -> Option<&'a [u8]>
     text.strip_prefix(word)
 }
 
-/// The number in this range that the text is, without a leading zero.
+/// The number that the text is, if it is in this range and has no leading zero.
 pub fn number_at(text: &[u8], least: u64, most: u64) -> Option<u64>
     ensures value { result ≡ number_at text.now least most }
     ensures range { IfSome result (λ n. (least ≤ n) × (n ≤ most)) }
@@ -69,7 +69,7 @@ pub fn number_at(text: &[u8], least: u64, most: u64) -> Option<u64>
     read_number(text, least, most)
 }
 
-/// The number in this range that stands behind a word with which the text begins.
+/// The number in this range after a word, if the text begins with that word.
 fn number_behind(text: &[u8], word: &[u8], least: u32, most: u32) -> Option<u32>
     ensures number { result ≡ number_behind word.now least most text.now }
     ensures range { IfSome result (λ n. (least ≤ n) × (n ≤ most)) }
@@ -79,7 +79,7 @@ fn number_behind(text: &[u8], word: &[u8], least: u32, most: u32) -> Option<u32>
     Some(number as u32)
 }
 
-/// A number in a range, behind a word.
+/// A number in a range, after a word.
 #[derive(Clone, Copy)]
 pub struct NumberField<'a> {
     pub word: &'a [u8],
@@ -99,7 +99,7 @@ impl Field for NumberField<'_> {
     }
 }
 
-/// The text of the move that the fourth line claims, which is not empty.
+/// The text of the move that the fourth line claims, if it is not empty.
 fn move_at(text: &[u8]) -> Option<&[u8]>
     ensures found { MatchOption result (move_at text.now ≡ None)
         (λ t. move_at text.now ≡ Some t.now) }
@@ -109,7 +109,7 @@ fn move_at(text: &[u8]) -> Option<&[u8]>
     if rest.is_empty() { None } else { Some(rest) }
 }
 
-/// A text of these bytes.
+/// A text that has these bytes.
 fn text_of(alloc: Global, bytes: &[u8]) -> Result<LineText, AllocError>
     ensures { IfOk result (λ t. t ≡ bytes.now) }
 {
@@ -118,7 +118,7 @@ fn text_of(alloc: Global, bytes: &[u8]) -> Result<LineText, AllocError>
     Ok(text)
 }
 
-/// The text of the move of a claim.
+/// The text of the claimed move.
 #[derive(Clone, Copy)]
 pub(crate) struct ClaimText {
     pub alloc: Global,
@@ -168,7 +168,7 @@ fn value_at(text: &[u8]) -> Option<i32>
     int_at(rest)
 }
 
-/// The value of a claim, from -1,000,064 to 1,000,064.
+/// The claimed value, from -1,000,064 to 1,000,064.
 #[derive(Clone, Copy)]
 pub(crate) struct ClaimValue;
 

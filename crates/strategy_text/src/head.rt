@@ -25,8 +25,8 @@ use io_edge::Source;
 use line_feed::{LineAnswer, LineReader};
 use std::alloc::Global;
 
-/// What the head of a certificate says: its version, the game, and the claim, whose move is not
-/// read yet.
+/// The content of a certificate's head: its version, the game, and the claim. The text of the
+/// claimed move is not parsed yet.
 #[derive(Drop)]
 pub struct Head {
     pub version: u32,
@@ -40,15 +40,15 @@ pub struct Head {
 /// Why there is no head.
 #[derive(Clone, Copy, Debug, PartialEq, Eq)]
 pub enum HeadFault {
-    /// The first line that is missing, too long or not of its form, counted from 1.
+    /// The first line that is missing, too long or malformed, counted from 1.
     BadLine { line: u32 },
-    /// What is wrong with the second line as a game. It is never want of memory.
+    /// What is wrong with the second line as a game. It is never that memory ran out.
     BadGame { fault: GameFault },
     /// The source could not be read: its count of failed reads rose.
     ReadFault,
     /// The reader has taken as many bytes as it ever takes.
     InputFull,
-    /// There was not so much memory.
+    /// Memory ran out.
     Memory,
 }
 
@@ -56,7 +56,7 @@ pub enum HeadFault {
 ///
 /// # Errors
 ///
-/// A line that is missing or too long, a failed read, and a reader that takes no more.
+/// The line is missing or too long, a read failed, or the reader takes no more.
 #[tactic(auto)]
 fn next_text<S: Source>(reader: &mut LineReader, source: &mut S, line: u32) -> Result<(), HeadFault>
     ensures told { TakesLine result line reader.new.last (ahead_of reader.old (S.rest source.old))
@@ -74,12 +74,12 @@ fn next_text<S: Source>(reader: &mut LineReader, source: &mut S, line: u32) -> R
     }
 }
 
-/// Takes the next line, which has this number in the text, and reads a field off it.
+/// Takes the next line, which has this number in the text, and reads a field from it.
 ///
 /// # Errors
 ///
-/// A line that is missing, too long or not of its form, a failed read, a reader that takes no more,
-/// and want of memory.
+/// The line is missing, too long or malformed, a read failed, the reader takes no more, or memory
+/// ran out.
 pub fn read_field<F: Field, S: Source>(
     reader: &mut LineReader,
     source: &mut S,
@@ -102,11 +102,11 @@ pub fn read_field<F: Field, S: Source>(
     }
 }
 
-/// The game that a line is, played on a game of the kind G that is made for it.
+/// The game that a line is, played on a new game of the kind G.
 ///
 /// # Errors
 ///
-/// What is wrong with the line as a game, and want of memory.
+/// What is wrong with the line as a game, or that memory ran out.
 fn line_game<G: Game + Drop>(alloc: Global, line: &[u8]) -> Result<Parsed, HeadFault>
     requires { length line.now ≤ greatest_line }
     ensures read { ReadsGame result (game_of line.now) }
@@ -123,13 +123,13 @@ fn line_game<G: Game + Drop>(alloc: Global, line: &[u8]) -> Result<Parsed, HeadF
     }
 }
 
-/// Takes the next line, which is the second of the text, and reads the game that it is, played on a
-/// game of the kind G that is made for it.
+/// Takes the next line, which is the second of the text, and reads it as a game. The game is played
+/// on a new one of the kind G.
 ///
 /// # Errors
 ///
-/// A line that is missing or too long, what is wrong with the line as a game, a failed read, a
-/// reader that takes no more, and want of memory.
+/// The line is missing or too long, it is wrong as a game, a read failed, the reader takes no more,
+/// or memory ran out.
 pub fn read_game_line<G: Game + Drop, S: Source>(
     alloc: Global,
     reader: &mut LineReader,
@@ -147,15 +147,15 @@ pub fn read_game_line<G: Game + Drop, S: Source>(
     line_game::<G>(alloc, reader.line())
 }
 
-/// Reads the five lines of the head of a certificate, whose version is at most the newest one:
-/// `hive-certificate ` and the version, a game, `depth ` and a number from 1 to 64, `move ` and
-/// some text, and `value ` and a whole number from -1,000,064 to 1,000,064. The game is played on a
-/// game of the kind G that is made for it. No line behind the first fault is read.
+/// Reads the five lines of a certificate's head, whose version is at most `newest`. The lines are
+/// `hive-certificate ` and the version; a game; `depth ` and a number from 1 to 64; `move ` and
+/// some text; `value ` and a whole number from -1,000,064 to 1,000,064. The game is played on a new
+/// one of the kind G. No line after the first fault is read.
 ///
 /// # Errors
 ///
-/// The first line that is missing, too long or not of its form, or what is wrong with the second
-/// line as a game; a failed read; a reader that takes no more; and want of memory.
+/// The first line that is missing, too long or malformed; what is wrong with the second line as a
+/// game; a failed read; a reader that takes no more; out of memory.
 pub fn read_head<G: Game + Drop, S: Source>(
     alloc: Global,
     reader: &mut LineReader,

@@ -1,5 +1,4 @@
-//! Certificates as texts: the head of a text, and items of which each stands on a line of its own,
-//! as indices do.
+//! Certificates as texts: the head, and items such as indices, one a line.
 #![tactic(auto)]
 
 mod fields;

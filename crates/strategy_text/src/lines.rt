@@ -1,4 +1,4 @@
-//! Items of which each stands on a line of its own.
+//! Items, one on a line.
 
 ghost use Rattle.std.specs.Prelude.{◌≡◌, ◌+◌, [], ◌∷◌, Option, None, nat_eq, map, refl};
 ghost use Rattle.std.specs.Option.{option_map};
@@ -15,9 +15,9 @@ use line_feed::{LineAnswer, LineReader};
 use std::marker::PhantomData;
 use strategy_walks::{ItemAnswer, Items};
 
-/// The form of the lines on which items stand.
+/// The form of the lines that hold items.
 pub trait LineForm {
-    /// What stands on a line.
+    /// The type of the item on a line.
     type Item: Copy;
 
     /// The item that a line is, if it is one.
@@ -27,7 +27,7 @@ pub trait LineForm {
     fn read(line: &[u8]) -> Option<Self::Item>
         ensures { result ≡ item (Text line.now) };
 
-    /// A line that is too long is none.
+    /// A line that is too long is no item.
     ghost too_long: { item TooLong ≡ None };
 }
 
@@ -46,8 +46,8 @@ impl LineForm for IndexLine {
     ghost too_long = { refl };
 }
 
-/// The items on the lines to come of a reader and its source, which it borrows. A line that is too
-/// long or is not of the form is a bad item.
+/// The items on the lines to come from a reader and its source, which it borrows. A line that is
+/// too long or malformed is a bad item.
 #[derive(Drop)]
 pub struct LineItems<'a, 'b, S: Source, F: LineForm> {
     reader: &'a mut LineReader,
@@ -76,7 +76,7 @@ impl<'a, 'b, S: Source, F: LineForm> LineItems<'a, 'b, S, F> {
         }
     }
 
-    /// How many lines were taken, held at the greatest u64.
+    /// How many lines were taken, capped at the greatest `u64`.
     pub fn lines(&self) -> u64
         ensures { result ≡ self.now.lines }
     {

@@ -1,4 +1,4 @@
-//! The head of a certificate and the lines behind it, as they are written.
+//! Writes the head of a certificate and the lines after it.
 
 ghost use Rattle.std.specs.Prelude.{◌≡◌, ◌++◌, codes, decimal, OnOk, IfOk};
 ghost use Rattle.std.specs.Fmt.{signed_decimal};
@@ -17,11 +17,11 @@ use move_text::write_move;
 use std::alloc::{AllocError, Global};
 use strategy_walks::Claim;
 
-/// Appends a line: a word and what follows it.
+/// Appends a line: a word and a field.
 ///
 /// # Errors
 ///
-/// Want of memory.
+/// Out of memory.
 pub fn push_line(text: &mut ReplyText, word: &[u8], field: &[u8]) -> Result<(), AllocError>
     ensures { OnOk result (text.new ≡ text.old ++ written_line (word.now ++ field.now)) }
 {
@@ -34,7 +34,7 @@ pub fn push_line(text: &mut ReplyText, word: &[u8], field: &[u8]) -> Result<(), 
 ///
 /// # Errors
 ///
-/// Want of memory.
+/// Out of memory.
 pub fn push_number(text: &mut ReplyText, word: &[u8], number: u64) -> Result<(), AllocError>
     ensures { OnOk result (text.new ≡ text.old ++ written_line (word.now ++ decimal number)) }
 {
@@ -46,7 +46,7 @@ pub fn push_number(text: &mut ReplyText, word: &[u8], number: u64) -> Result<(),
 ///
 /// # Errors
 ///
-/// Want of memory.
+/// Out of memory.
 pub fn push_move<G: Game>(
     text: &mut ReplyText,
     word: &[u8],
@@ -72,12 +72,12 @@ fn push_value(text: &mut ReplyText, value: i32) -> Result<(), AllocError>
     push_line(text, b"value ", buffer.format(value).as_bytes())
 }
 
-/// The five lines of the head of the certificate of this version that claims a legal move of the
-/// game to be the best one.
+/// The five lines of a certificate's head, with this version. They claim that a legal move of the
+/// game is the best one.
 ///
 /// # Errors
 ///
-/// Want of memory.
+/// Out of memory.
 pub fn write_head<G: Game + Drop>(
     alloc: Global,
     game: &G,

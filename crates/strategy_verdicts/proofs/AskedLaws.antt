@@ -1,4 +1,4 @@
--- What a game keeps that an input asks about.
+-- What holds of a game about which an input asks.
 use Rattle.std.proofs.Common.{◌≡◌, ◌≤◌, ℕ, Bool, true, false, List, [], ◌∷◌, length, refl, sym, subst, arith, inl, inr}
 use Rattle.std.specs.Prelude.{codes, Result, Ok, Err}
 use Rattle.hive_model.specs.declared.pieces.GameType.{GameType}
@@ -44,7 +44,7 @@ no-more (Ok g) [] game h = h
 no-more (Ok g) (line ∷ others) game h = cc
 no-more (Err why) others game h = cc
 
--- what lines ask about is a game of at most 5,000 moves that is not over
+-- the game about which lines ask has at most 5,000 moves and is not over
 pub asked-open : (ls : List Line) (game : Parsed) → asked ls ≡ Ok game → IsOpenGame game
 asked-open [] game h = cc
 asked-open (line ∷ others) game h = line-read line game (no-more (game_in line) others game h)

@@ -51,7 +51,7 @@ read-none input rest reader told begun =
       little = subst HoldsLittle (sym begun) fresh_holds_little;
     }
 
--- what a reader has read is at most so many lines
+-- a reader has read at most this number of lines
 pub most-read : (most : ℕ) (input : List ℕ) (rest : Told) (reader : Reading) → HasRead input rest reader most → AtMostWereRead most input rest
 most-read most input rest reader r = (r.given, given_were_read input r.fed refl r.within r.little, r.few)
 
@@ -78,7 +78,7 @@ all-read input rest reader most r over =
     let (left, w) = split input rest r.bytes r.fed.left in
     all-covered input r.bytes left rest reader.taken w r.fed.counted (r.fed.below over) at_end
 
--- what was read where this is the first fault
+-- what was read if this is the first fault
 pub refused-read : (head place lines : ℕ) (why : Why) (input : List ℕ) (rest : Told) (reader : Reading) → lines ≤ place + looked_at why → HasRead input rest reader (head + lines) → OnShort why (reader.finished ≡ true)
     → WasReadToRefuse (head + place) why input rest
 refused-read head place lines NoSuchMove input rest reader few r stops = within-most (head + lines) (head + place) input rest reader (omega (arith, few)) r
@@ -87,7 +87,7 @@ refused-read head place lines LeafFails input rest reader few r stops = within-m
 refused-read head place lines TooShort input rest reader few r stops = all-read input rest reader (head + lines) r stops
 refused-read head place lines Rest input rest reader few r stops = within-most (head + lines) (head + place + 1) input rest reader (omega (arith, few)) r
 
--- what was read where the last line is bad, whose number stands still at the greatest u64
+-- what was read if the last line is bad, whose number stops at the greatest u64
 pub bad-read : (head lines line : ℕ) (input : List ℕ) (rest : Told) (reader : Reading) → line ≡ min (lines + head) (2 ^ 64 - 1) → HasRead input rest reader (head + lines) → AtMostWereRead line input rest
 bad-read head lines line input rest reader is r =
     (r.given, given_were_read input r.fed refl r.within r.little, omega (arith, is, r.few, within-limit input rest reader (head + lines) r))
@@ -114,7 +114,7 @@ wrote-whole head verdict (BadLine n) before after judges read wrote = wrote-as h
 wrote-whole head verdict (BadGame fault) before after judges read wrote = wrote-as head verdict (BadGame fault) BadInput before after refl judges read wrote
 wrote-whole head verdict GameOver before after judges read wrote = wrote-as head verdict GameOver BadInput before after refl judges read wrote
 
--- of the line of the verdict a part was written
+-- an initial part of the line of the verdict was written
 wrote-cut : (head : ℕ) (verdict : Judgement) (v : TextVerdict) (before after : Sides) (n : ℕ) → WhereTold before.rest (λ input. Judges (Ok v) (verdict (lines input))) → WhereTold before.rest (λ input. WasReadToJudge head v input after.rest)
     → n < length (verdict_line v) → after.written ≡ behind before.written (take n (verdict_line v)) → VerdictRun head verdict WriteFailed before after
 wrote-cut head verdict v before after n judges read less wrote = λ input told.
@@ -127,7 +127,7 @@ wrote-cut head verdict v before after n judges read less wrote = λ input told.
       },
     )
 
--- what was judged of the input was told
+-- the verdict on the input was written
 pub verdict-run : (head : ℕ) (verdict : Judgement) (judged : Result TextVerdict Unread) (status : Status) (before after : Sides) → WhereTold before.rest (λ input. Judges judged (verdict (lines input))) → WhereTold before.rest (λ input. WasReadAs head judged input after.rest)
     → WhereTold before.rest (λ input. judged ≡ Err ReadFault → IsUndecided head (verdict (lines input)) input after.rest) → TellsJudged judged status before.written after.written → VerdictRun head verdict status before after
 verdict-run head verdict (Ok v) status before after judges read unread (inl (e, same)) = subst (λ (s : Status). VerdictRun head verdict s before after) (sym e) same

@@ -1,4 +1,4 @@
--- What is judged of a text by its head, and what a reader has read that is lent to a walk.
+-- The verdict on a text by its head, and what a reader lent to a walk has read.
 use Rattle.std.proofs.Common.{◌≡◌, ◌<◌, ◌≤◌, ℕ, ◌+◌, ◌-◌, ◌^◌, min, Bool, true, false, List, drop, length, refl, sym, ap, subst, arith}
 use Rattle.std.specs.Prelude.{Result, Ok, Err, if◌then◌else◌}
 use Rattle.io_edge.specs.Outside.{Told}
@@ -26,11 +26,11 @@ module _ {H : Type 0} (n : ℕ) (head_of : List Line → Result H HeadFault) (wo
   unfolding text_verdict
   verdict-is ls r e = ap (λ h. of_head worth h (drop n ls)) e
 
-  -- what does not decide the lines behind a head does not decide the text
+  -- what does not decide the lines after a head does not decide the text
   pub head-undecided : (ls : List Line) (head : H) (text : List ℕ) (rest : Told) → head_of ls ≡ Ok head → IsUndecided n (worth head (drop n ls)) text rest → IsUndecided n (text_verdict n head_of worth ls) text rest
   head-undecided ls head text rest e h = subst (λ (v : TextVerdict). IsUndecided n v text rest) (sym (verdict-is ls (Ok head) e)) h
 
-  -- where there is no head
+  -- if there is no head
   of-fault : (ls : List Line) (fault : HeadFault) (later : ToldLines) → (let r : Result H HeadFault = Err fault in Reads n r (head_of ls) ls later) → Judges (of_fault fault) (text_verdict n head_of worth ls)
   of-fault ls (LineFault k) later h = verdict-is ls (Err (LineFault k)) h
   of-fault ls (NoGame fault) later h = verdict-is ls (Err (NoGame fault)) h
@@ -42,7 +42,7 @@ module _ {H : Type 0} (n : ℕ) (head_of : List Line → Result H HeadFault) (wo
       (let r : Result H HeadFault = Err fault in Reads n r (head_of ls) ls later) → Judges result (text_verdict n head_of worth ls)
   fault-judges ls fault result later e h = subst (λ (r : Result TextVerdict Unread). Judges r (text_verdict n head_of worth ls)) (sym e) (of-fault ls fault later h)
 
-  -- where a read has failed within a head
+  -- if a read failed within a head
   broken-at : ((head : H) (rest : List Line) (m : ℕ) → m < n → IsDecidedBehind n (worth head rest) m) → (r : Result H HeadFault) (rest : List Line) (lines m : ℕ) → lines < n → m ≤ lines → IsBehind lines r → IsDecidedBehind n (of_head worth r rest) m
   broken-at not_yet (Ok head) rest lines m less few sound = not_yet head rest m (omega (arith, less, few))
   broken-at not_yet (Err (LineFault k)) rest lines m less few sound = omega (arith, few, sound)
@@ -68,18 +68,18 @@ module _ {H : Type 0} (n : ℕ) (head_of : List Line → Result H HeadFault) (wo
   never-fault IsFull rest e = cc
   never-fault NoMemory rest e = cc
 
--- before the first item behind a head, no line was read but those of the head
+-- before the first item after a head, only the lines of the head were read
 pub read-begins : (head : ℕ) (text : List ℕ) (rest0 rest1 : Told) (reader0 reader1 : Reading) (lines : ℕ) → reader1 ≡ reader0 → rest1 ≡ rest0 → lines ≡ 0 → HasRead text rest0 reader0 head → HasRead text rest1 reader1 (head + lines)
 read-begins head text rest0 rest1 reader0 reader1 lines same_reader same_rest none r =
     let same : head ≡ head + lines = omega (arith, none) in
     subst (λ (n : ℕ). HasRead text rest1 reader1 n) same (subst (λ (x : Reading). HasRead text rest1 x head) (sym same_reader) (subst (λ (x : Told). HasRead text x reader0 head) (sym same_rest) r))
 
--- of a game that goes on its own verdict is told
+-- a game that goes on gets its own verdict
 pub if-open : (over : Bool) (v : TextVerdict) → over ≡ false → (if over then GameOver else v) ≡ v
 if-open true v e = cc
 if-open false v e = refl
 
--- ---- where a walk was unread
+-- ---- if a walk was unread
 
 module _ {S W : Type 0} (faults : Faults W) (refusal : ℕ → W → TextVerdict) (decides : (head lines place : ℕ) (why : W) → lines < head + place + faults.looked_for why → IsDecidedBehind head (refusal place why) lines) where
   walk-behind : (head lines n : ℕ) (o : WalkEnd S W) → CountsUnread faults o lines → n ≤ head + lines → n ≤ input_limit → IsDecidedBehind head (walk_verdict refusal head o) n

@@ -1,4 +1,4 @@
--- What a check judges of a text: its head, and the lines behind it.
+-- What a check judges of a text: its head, and the lines after it.
 use Rattle.std.specs.Prelude.{◌≡◌, ℕ, List, drop, Result, Ok, Err, Some}
 use Rattle.io_edge.specs.Outside.{Aside, HasCause}
 use Rattle.io_edge.specs.Lines.{Line, lines}
@@ -16,8 +16,8 @@ use Rattle.strategy_verdicts.specs.declared.verdict.Unread.TheVariants.{ReadFaul
 use Rattle.strategy_verdicts.specs.Reading.{Judges, WasReadAs}
 use Rattle.strategy_verdicts.specs.Runs.{IsUndecided, Judgement}
 
--- the verdict on a head and the lines behind it, or on the fault of a head; the last three are no
--- faults of lines
+-- The verdict on a head and the lines after it, or on the fault of a head. The last three faults
+-- are not faults of lines.
 abbrev pub of_head : {H : Type 0} → (H → Judgement) → Result H HeadFault → Judgement
 of_head worth (Ok head) rest = worth head rest
 of_head worth (Err (LineFault n)) rest = BadLine n
@@ -26,14 +26,14 @@ of_head worth (Err NoRead) rest = BadLine 0
 of_head worth (Err IsFull) rest = BadLine 0
 of_head worth (Err NoMemory) rest = BadLine 0
 
--- the verdict on the lines of a text whose head has so many
+-- the verdict on the lines of a text whose head has n lines
 unfoldable pub text_verdict : {H : Type 0} → ℕ → (List Line → Result H HeadFault) → (H → Judgement)
     → Judgement
 text_verdict n head_of worth ls = of_head worth (head_of ls) (drop n ls)
 
--- What the reading of a head of so many lines answers: the head of the lines to come, where they
--- are told, or the first fault; and what it leaves behind. Where a read has failed, the lines that
--- were read have no fault.
+-- What the reading of a head of n lines answers, and what it leaves behind. If the lines to come
+-- are observable, it answers their head or first fault. If a read failed, the lines that were read
+-- have no fault.
 pub record TakesHead {H : Type 0} (n : ℕ) (head_of : List Line → Result H HeadFault)
     (result : Result H HeadFault) (reader reader' : Reading) (source source' : Aside) : Type 0 where
   pub told : (ls : List Line) → ahead_of reader source.bytes ≡ Some ls
@@ -44,10 +44,10 @@ pub record TakesHead {H : Type 0} (n : ℕ) (head_of : List Line → Result H He
       → HasRead text source.bytes reader 0 → result ≡ Err NoRead
       → BreaksOff n (head_of ls) text source'.bytes reader'
 
--- What is judged of the lines to come, where the head of a text has so many lines and so many lines
--- were read at most: what the lines are worth, where they are told, unless the input could not be
--- read. Why it could not, and what was then read of it; where a read has failed the lines that were
--- read do not decide.
+-- What is judged of the lines to come, if a head has this number of lines and at most `most` lines
+-- were read. If the lines are observable, the answer is their verdict, unless the input could not
+-- be read. The record also says why it could not be read and how far it was read. If a read failed,
+-- the lines that were read do not decide the verdict.
 pub record JudgesAhead
     (head : ℕ) (worth : Judgement) (most : ℕ) (result : Result TextVerdict Unread)
     (reader : Reading) (source source' : Aside) : Type 0 where
@@ -60,7 +60,7 @@ pub record JudgesAhead
       → HasRead text source.bytes reader most → result ≡ Err ReadFault
       → IsUndecided head (worth left) text source'.bytes
 
--- The same of a whole input.
+-- The same for a whole input.
 pub record JudgesInput (head : ℕ) (worth : Judgement) (result : Result TextVerdict Unread)
     (source source' : Aside) : Type 0 where
   pub judged : WhereTold source.bytes (λ text. Judges result (worth (lines text)))

@@ -6,14 +6,14 @@ use Rattle.command_runs.specs.Served.{RunsAreDone}
 use Rattle.strategy_verdicts.specs.declared.verdict.TextVerdict.TheVariants.{Accepted}
 use Rattle.strategy_verdicts.specs.Runs.{Judgement, VerdictRun}
 
--- Where the streams served the run, a check of an input that is accepted is done, unless memory is
--- wanting.
+-- If no read or write failed, a check of an input that is accepted ends with `Done`, unless memory
+-- ran out.
 abbrev pub AcceptedAreDone : Type 0
 AcceptedAreDone =
     (head : ℕ) → (verdict : Judgement)
     → RunsAreDone (VerdictRun head verdict) (λ input. verdict (lines input) ≡ Accepted)
 
--- what a run has written, where nothing was written before, is accepted
+-- if nothing was written before, what a run has written is accepted
 abbrev pub WritesAccepted : Judgement → Sides → Sides → Type 0
 WritesAccepted verdict before after =
     (input : List ℕ) → before.rest ≡ Some input → before.written ≡ Some []

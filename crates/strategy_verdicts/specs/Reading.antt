@@ -13,7 +13,7 @@ use Rattle.strategy_verdicts.specs.declared.verdict.Unread.TheVariants.{ReadFaul
 use Rattle.strategy_verdicts.specs.Verdicts.{verdict_line, status_of}
 use Rattle.strategy_verdicts.specs.Runs.{TookLess, TookLimit, WasReadToJudge}
 
--- the verdict where there is no head, unless the text could not be read
+-- the verdict if there is no head, unless the text could not be read
 abbrev pub of_fault : HeadFault → Result TextVerdict Unread
 of_fault (LineFault n) = Ok (BadLine n)
 of_fault (NoGame fault) = Ok (BadGame fault)
@@ -28,21 +28,22 @@ Judges (Err ReadFault) verdict = ⊤
 Judges (Err InputFull) verdict = ⊤
 Judges (Err WantsMemory) verdict = ⊤
 
--- the line of a verdict was written, or a part of it; or memory was wanting and nothing was written
+-- the line of a verdict was written, or an initial part of it; or memory ran out and nothing was
+-- written
 abbrev pub TellsVerdict : TextVerdict → Status → Told → Told → Type 0
 TellsVerdict v status before after =
     ((status ≡ Memory) × (after ≡ before))
     ⊎ WritesAs (verdict_line v) (status_of v) status before after
 
--- the same of an answer; where the text could not be read nothing was written
+-- the same for an answer; if the text could not be read, nothing was written
 abbrev pub TellsJudged : Result TextVerdict Unread → Status → Told → Told → Type 0
 TellsJudged (Ok v) status before after = TellsVerdict v status before after
 TellsJudged (Err ReadFault) status before after = (status ≡ ReadFailed) × (after ≡ before)
 TellsJudged (Err InputFull) status before after = (status ≡ InputIsFull) × (after ≡ before)
 TellsJudged (Err WantsMemory) status before after = (status ≡ Memory) × (after ≡ before)
 
--- What was read of an input, by what was judged of it, where a head has so many lines: what its
--- verdict took; a read has failed below the limit; or the limit is reached.
+-- What was read of an input, by the answer, if a head has this number of lines: what the verdict
+-- needed; or a read failed below the limit; or the limit is reached.
 abbrev pub WasReadAs : ℕ → Result TextVerdict Unread → List ℕ → Told → Type 0
 WasReadAs head (Ok v) input rest = WasReadToJudge head v input rest
 WasReadAs head (Err ReadFault) input rest = TookLess input rest

@@ -17,20 +17,21 @@ use Rattle.strategy_verdicts.specs.declared.verdict.TextVerdict.{TextVerdict}
 use Rattle.strategy_verdicts.specs.declared.verdict.TextVerdict.TheVariants.{Accepted, Refused, BadCite, BadLine, BadGame, GameOver}
 use Rattle.strategy_verdicts.specs.Verdicts.{verdict_line, status_of, walk_verdict}
 
--- what the lines of a text are worth
+-- the verdict on the lines of a text
 abbrev pub Judgement : Type 0
 Judgement = List Line → TextVerdict
 
 -- Reading
 
--- at most so many first lines of the input were read, and at most a piece beyond them, within the
--- limit
+-- at most this number of first lines of the input were read, and at most a piece beyond them,
+-- within the limit
 abbrev pub AtMostWereRead : ℕ → List ℕ → Told → Type 0
 AtMostWereRead most input rest =
     (read : List Line) × WereRead input rest read × (length read ≤ most)
 
--- What was read where this is the first fault, behind so many lines of the head and of what was
--- taken: these lines, and the one that is left over; where an index is missing, all of the input.
+-- What was read if this is the first fault and `most` lines of the head and of items came before
+-- it. It is these lines, and the one that is left over. If an index is missing, it is the whole
+-- input.
 abbrev pub WasReadToRefuse : ℕ → Why → List ℕ → Told → Type 0
 WasReadToRefuse most NoSuchMove input rest = AtMostWereRead most input rest
 WasReadToRefuse most BadIndex input rest = AtMostWereRead most input rest
@@ -38,10 +39,10 @@ WasReadToRefuse most LeafFails input rest = AtMostWereRead most input rest
 WasReadToRefuse most TooShort input rest = IsAllRead input rest
 WasReadToRefuse most Rest input rest = AtMostWereRead (most + 1) input rest
 
--- What was read where the lines of the input are worth this, and a head has so many lines. What is
--- accepted was read to its end, since nothing may be left over. Else no line was read behind the
--- one that decides: the last that was taken before a fault, the bad line, the line of the game, or
--- the head where its game is over.
+-- What was read if this is the verdict and a head has this number of lines. An accepted input was
+-- read to its end, since nothing may be left over. Otherwise no line was read after the one that
+-- decides. That is the last one taken before a fault, the bad line, or the line of the game. If its
+-- game is over, it is the last line of the head.
 abbrev pub WasReadToJudge : ℕ → TextVerdict → List ℕ → Told → Type 0
 WasReadToJudge head Accepted input rest = IsAllRead input rest
 WasReadToJudge head (Refused place why) input rest = WasReadToRefuse (head + place) why input rest
@@ -50,22 +51,22 @@ WasReadToJudge head (BadLine n) input rest = AtMostWereRead n input rest
 WasReadToJudge head (BadGame fault) input rest = AtMostWereRead 2 input rest
 WasReadToJudge head GameOver input rest = AtMostWereRead head input rest
 
--- fewer bytes than a run may read have left the input
+-- the run took fewer bytes from the input than it may read
 abbrev pub TookLess : List ℕ → Told → Type 0
 TookLess input rest =
     (bytes : List ℕ) × (left : List ℕ) × WasRead input rest bytes left
     × (length bytes < input_limit)
 
--- as many bytes as a run may read have left the input
+-- the run took as many bytes from the input as it may read
 abbrev pub TookLimit : List ℕ → Told → Type 0
 TookLimit input rest =
     (bytes : List ℕ) × (left : List ℕ) × WasRead input rest bytes left
     × (length bytes ≡ input_limit)
 
--- The lines that decide this verdict are more than so many, where a head has so many: the one
--- behind those that were taken is one of them where an index is missing or left over. What is
--- accepted is decided by the end of the input alone. A bad line is itself one of them, and a bad
--- game stands on the second.
+-- More than n lines decide this verdict, if a head has this number of lines. If an index is
+-- missing, the line after those taken is one of them, and so it is if something is left over. Only
+-- the end of the input decides that a text is accepted. A bad line is itself one of the deciding
+-- lines, and a bad game is on the second line.
 abbrev pub IsDecidedBehind : ℕ → TextVerdict → ℕ → Type 0
 IsDecidedBehind head Accepted n = ⊤
 IsDecidedBehind head (Refused place why) n = n < head + place + looked_for why
@@ -74,8 +75,8 @@ IsDecidedBehind head (BadLine k) n = n < k
 IsDecidedBehind head (BadGame fault) n = n < 2
 IsDecidedBehind head GameOver n = n < head
 
--- Of what the walk of the items behind a head is worth, fewer lines than the head has decide
--- nothing, if they do not decide the refusals of the walk.
+-- If the verdicts for refusals of a walk are not decided by n lines, fewer than the head has,
+-- neither is any verdict on the walk of the items after the head.
 pub not-yet : {S W : Type 0} (refusal : ℕ → W → TextVerdict) (head n : ℕ) (o : WalkEnd S W)
     → ((place : ℕ) (why : W) → IsDecidedBehind head (refusal place why) n) → n < head
     → head < 2 ^ 64 → IsDecidedBehind head (walk_verdict refusal head o) n
@@ -89,8 +90,8 @@ abbrev pub IsUndecided : ℕ → TextVerdict → List ℕ → Told → Type 0
 IsUndecided head worth input rest =
     (read : List Line) × WereRead input rest read × IsDecidedBehind head worth (length read)
 
--- where a read has failed: fewer bytes left the input than a run may read, and the lines that were
--- read do not decide the verdict
+-- After a failed read: the run took fewer bytes from the input than it may read, and the lines that
+-- were read do not decide the verdict.
 pub record WasUnread (head : ℕ) (worth : TextVerdict) (input : List ℕ) (rest : Told) : Type 0 where
   pub took : TookLess input rest
   pub undecided : IsUndecided head worth input rest
@@ -104,16 +105,16 @@ pub record WroteVerdict (head : ℕ) (worth : TextVerdict) (status : Status) (in
   pub wrote : after.written ≡ behind before.written (verdict_line worth)
   pub was_read : WasReadToJudge head worth input after.rest
 
--- of the line of this verdict on the input the first n bytes were written, and not all
+-- the first n bytes of the line of this verdict were written, and not all
 pub record CutVerdict (head : ℕ) (worth : TextVerdict) (input : List ℕ) (before after : Sides)
     (n : ℕ) : Type 0 where
   pub cut : n < length (verdict_line worth)
   pub wrote : after.written ≡ behind before.written (take n (verdict_line worth))
   pub was_read : WasReadToJudge head worth input after.rest
 
--- A check of texts whose head has so many lines writes the line of the verdict on the lines of the
--- input. Where a read has failed, the limit is reached or memory is wanting, nothing was written; a
--- read has failed only before the lines that decide the verdict were read.
+-- A check of texts whose head has this number of lines writes the line of the verdict on the lines
+-- of the input. If a read failed, the limit was reached or memory ran out, nothing was written. A
+-- read failed only before the lines that decide the verdict were read.
 abbrev pub VerdictRun : ℕ → Judgement → Status → Sides → Sides → Type 0
 VerdictRun head verdict Done before after =
     WhereTold before.rest

@@ -1,4 +1,4 @@
--- What is made of the walk of a text's items, and how a verdict is told.
+-- The verdict on the walk of a text's items, and how it is written.
 use Rattle.std.specs.Prelude.{ℕ, ◌+◌, List, [], ◌∷◌, ◌++◌, codes, decimal}
 use Rattle.strategy_walks.specs.Walks.{WalkEnd, Left, Fault, Halt}
 use Rattle.strategy_walks.specs.Follows.{held}
@@ -12,19 +12,19 @@ use Rattle.command_runs.specs.declared.status.Status.TheVariants.{Done, Refused 
 use Rattle.strategy_verdicts.specs.declared.verdict.TextVerdict.{TextVerdict}
 use Rattle.strategy_verdicts.specs.declared.verdict.TextVerdict.TheVariants.{Accepted, Refused, BadCite, BadLine, BadGame, GameOver}
 
--- The walk of the items behind a head of so many lines, where a fault before which so many items
--- were taken is such a verdict. The item before which n were taken stands on the line n + 1 behind
--- the head, and no count goes beyond the greatest u64.
+-- The verdict on the walk of the items after a head of `head` lines. `refusal` gives the verdict
+-- for a fault, from the number of items taken before it. If n items were taken before an item, it
+-- is on line n + 1 after the head. No count goes beyond the greatest u64.
 abbrev pub walk_verdict : {S W : Type 0} → (ℕ → W → TextVerdict) → ℕ → WalkEnd S W → TextVerdict
 walk_verdict refusal head (Left s) = Accepted
 walk_verdict refusal head (Fault why n) = refusal (held n) why
 walk_verdict refusal head (Halt n) = BadLine (held (n + 1 + head))
 
--- the verdict that a fault of indices is
+-- the verdict for a fault of indices
 abbrev pub index_refusal : ℕ → Why → TextVerdict
 index_refusal place why = Refused place why
 
--- the walk of indices
+-- the verdict on a walk of indices
 abbrev pub of_walk : ℕ → WalkEnd Steps Why → TextVerdict
 of_walk = walk_verdict index_refusal
 

@@ -16,35 +16,34 @@ use line_feed::LineReader;
 use std::alloc::Global;
 use strategy_text::HeadFault;
 
-/// A form of texts: a head, which makes a claim, and behind it the lines that are to show that the
+/// A form of texts: a head, which makes a claim, and after it lines that have to show that the
 /// claim is true.
 pub trait TextForm {
-    /// What a head says.
+    /// The content of a head.
     type Head;
 
-    /// How many lines a head has.
+    /// The number of lines of a head.
     ghost head_lines: { ℕ };
 
-    /// The head of the lines of a text, or the first fault of these lines.
+    /// The head that the lines of a text give, or their first fault.
     ghost head_of: { List AnyLine → Result Self.Head AnyFault };
 
-    /// What every head that was read keeps.
+    /// What holds of every head that was read.
     ghost keeps: { Self.Head → Type 0 };
 
-    /// What the lines behind a head are worth.
+    /// The verdict on the lines after a head.
     ghost worth: { Self.Head → Judgement };
 
-    /// It is never decided by lines of the head alone.
+    /// The lines of the head alone never decide this verdict.
     ghost not_yet: { (head : Self.Head) (ls : List AnyLine) (n : ℕ) → n < head_lines
         → IsDecidedBehind head_lines (worth head ls) n };
 
-    /// Reads the head, whose game is played on one of the kind G. No line behind the first fault is
+    /// Reads the head, and plays its game on one of the kind G. No line after the first fault is
     /// read.
     ///
     /// # Errors
     ///
-    /// The first fault of the lines, a failed read, a reader that takes no more, and want of
-    /// memory.
+    /// The first fault of the lines, a failed read, a reader that takes no more, or out of memory.
     fn read_head<S: Source, G: Game + Drop>(
         &self,
         alloc: Global,
@@ -55,11 +54,11 @@ pub trait TextForm {
             (side_of S.rest S.read_faults input.old) (side_of S.rest S.read_faults input.new) }
         ensures keeps { IfOk result keeps };
 
-    /// The verdict on the lines to come behind a head.
+    /// The verdict on the lines to come after a head.
     ///
     /// # Errors
     ///
-    /// A failed read, a reader that takes no more, and want of memory.
+    /// A failed read, a reader that takes no more, or out of memory.
     fn judge_claim<S: Source, G: Game + Drop>(
         &self,
         alloc: Global,
@@ -104,7 +103,7 @@ fn judge<F: TextForm, S: Source, G: Game + Drop>(
     judge_lines::<F, S, G>(alloc, form, &mut reader, input)
 }
 
-/// Checks the input, which is to be a text of this form, and writes the line of the verdict, as
+/// Checks the input, which has to be a text of this form, and writes the line of the verdict, as
 /// `tell_judged` does.
 pub fn check_text<F: TextForm, S: Source, K: Sink, G: Game + Drop>(
     alloc: Global,

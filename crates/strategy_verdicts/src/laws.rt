@@ -2,8 +2,8 @@
 
 ghost use Rattle.strategy_verdicts.specs.Laws.{AcceptedAreDone};
 
-/// A check of a text of fewer than 1,099,511,627,776 bytes that is accepted ends with `Done`, or
-/// for want of memory, where neither the source nor the sink counted a fault.
+/// The law covers texts of fewer than 1,099,511,627,776 bytes that are accepted. If neither the
+/// source nor the sink counted a fault, the check ends with `Done`, or because memory ran out.
 pub fn accepted_texts_are_done()
     ensures { AcceptedAreDone }
 {}

@@ -1,5 +1,5 @@
-//! What a text that is checked is worth, the line that says so, and the run of a command that
-//! checks one.
+//! The verdict on a text that is checked, the line that reports it, and the run of a command that
+//! checks a text.
 #![tactic(auto)]
 
 mod checks;

@@ -1,4 +1,4 @@
-//! The reasons for which texts are refused.
+//! The reasons to refuse texts.
 
 ghost use Rattle.std.specs.Prelude.{◌≡◌, ◌+◌, ◌<◌, ◌≤◌, ℕ, List, true, Ok};
 ghost use Rattle.io_edge.specs.Outside.{Told as AnyTold};
@@ -15,30 +15,31 @@ ghost use Rattle.strategy_verdicts.specs.Verdicts.{index_refusal};
 use crate::verdict::TextVerdict;
 use strategy_check::Why;
 
-/// The reasons for which texts are refused whose items are checked in one way.
+/// The reasons to refuse texts whose items are checked in one way.
 pub trait Reasons {
-    /// Such a reason.
+    /// One of the reasons.
     type Why: Copy;
 
-    /// What is left where a walk of the items ends well.
+    /// What is left after a walk of the items that ends well.
     ghost Steps: { Type 0 };
 
-    /// What stands on a line.
+    /// What a line holds.
     ghost Item: { Type 0 };
 
-    /// What is asked of the reasons as faults of walks.
+    /// The properties of the reasons, as faults of walks.
     ghost faults: { Faults Self.Why };
 
-    /// The verdict that a reason is, where so many items were taken before it.
+    /// The verdict for a reason, given how many items were taken before it.
     ghost refusal: { ℕ → Self.Why → AnyVerdict };
 
-    /// Where fewer lines were read than were looked for before the reason, they do not decide.
+    /// If fewer lines were read than the walk looked for before this reason, they do not decide the
+    /// verdict.
     ghost decides: { (head lines place : ℕ) (why : Self.Why)
         → lines < head + place + faults.looked_for why
         → IsDecidedBehind head (refusal place why) lines };
 
-    /// The verdict that the reason is, where so many items were taken before it. Where no more
-    /// lines were taken than the walk looked at, it tells what was read of the text.
+    /// The verdict for the reason, given how many items were taken before it. If no more lines were
+    /// taken than the walk looked at, the contract says what was read of the text.
     fn refused(why: Self::Why, place: u64) -> TextVerdict
         ensures is { result ≡ refusal place why }
         ensures read { (head lines : ℕ) (text : List ℕ) (rest : AnyTold) (reader : Reading)
@@ -46,7 +47,7 @@ pub trait Reasons {
             → faults.on_short why (reader.finished ≡ true) → WasReadAs head (Ok result) text rest };
 }
 
-/// The reasons for which texts of indices are refused.
+/// The reasons to refuse texts of indices.
 pub struct IndexReasons;
 
 impl Reasons for IndexReasons {

@@ -1,4 +1,4 @@
-//! The line that tells a verdict.
+//! The line that reports a verdict.
 
 ghost use Rattle.std.specs.Prelude.{◌≡◌, Err, IfOk};
 ghost use Rattle.io_edge.specs.Outside.{HasCause};
@@ -12,7 +12,7 @@ use io_edge::{Sink, write_all};
 use std::alloc::{AllocError, Global};
 use strategy_check::Why;
 
-/// Why a text is refused, in a word.
+/// The word for the reason to refuse a text.
 fn why_word(why: Why) -> &'static str
     ensures { result.now ≡ why_word why }
 {
@@ -25,7 +25,7 @@ fn why_word(why: Why) -> &'static str
     }
 }
 
-/// The line that tells a verdict, its LF included.
+/// The line that reports a verdict, with its LF.
 fn verdict_line(alloc: Global, verdict: &TextVerdict) -> Result<ReplyText, AllocError>
     ensures { IfOk result (λ t. t ≡ verdict_line verdict.now) }
 {
@@ -79,9 +79,9 @@ fn tell_verdict<K: Sink>(alloc: Global, verdict: &TextVerdict, output: &mut K) -
     }
 }
 
-/// Writes the line of a verdict, its LF included: `accepted`; `refused`, a word and a number; or
-/// `bad` and the reason. Where the text could not be read nothing is written. The status says which
-/// it was, or that a write failed.
+/// Writes the line of a verdict, with its LF: `accepted`; `refused`, a word and a number; or `bad`
+/// and the reason. If the text could not be read, it writes nothing. The status says which case it
+/// was, or that a write failed.
 pub fn tell_judged<K: Sink>(
     alloc: Global,
     judged: Result<TextVerdict, Unread>,

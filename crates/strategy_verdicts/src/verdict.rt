@@ -1,4 +1,4 @@
-//! What a text that is checked is worth.
+//! The verdict on a text that is checked.
 
 ghost use Rattle.std.specs.Prelude.{◌≡◌, ◌↔◌, ◌+◌, ◌<◌, ℕ, List, Option, Err};
 ghost use Rattle.io_edge.specs.Outside.{Told as AnyTold};
@@ -23,21 +23,21 @@ use game_text::GameFault;
 use strategy_check::{Checked, Halt, Why};
 use strategy_text::HeadFault;
 
-/// What a text is worth: a head of so many lines, which makes a claim, and behind it indices that
-/// are to show it.
+/// The verdict on a text, which has a head that makes a claim and after it indices that have to
+/// show it.
 #[derive(Clone, Copy, Debug, PartialEq, Eq)]
 pub enum TextVerdict {
     /// It shows that its claim is true.
     Accepted,
-    /// The first fault of its claim or its indices, and how many indices were taken before it, at
-    /// most the greatest u64; a bad index counts as taken.
+    /// The first fault of its claim or its indices, and how many indices were taken before it,
+    /// capped at the greatest `u64`. A bad index counts as taken.
     Refused { place: u64, why: Why },
-    /// What is cited was not shown, or does not serve; and how many tokens were taken before, at
-    /// most the greatest u64, itself among them.
+    /// A cited lemma does not exist, or does not serve. The number says how many tokens were taken,
+    /// the citation included, capped at the greatest `u64`.
     BadCite { place: u64 },
-    /// The first line that is missing, too long or not of its form, counted from 1.
+    /// The first line that is missing, too long or malformed, counted from 1.
     BadLine { line: u64 },
-    /// What is wrong with the second line as a game. It is never want of memory.
+    /// What is wrong with the second line as a game. It is never that memory ran out.
     BadGame { fault: GameFault },
     /// The game is over.
     GameOver,
@@ -46,15 +46,15 @@ pub enum TextVerdict {
 /// Why a text could not be read.
 #[derive(Clone, Copy, Debug, PartialEq, Eq)]
 pub enum Unread {
-    /// A read of the input has failed.
+    /// A read of the input failed.
     ReadFault,
     /// The input has 1,099,511,627,776 bytes or more before its end.
     InputFull,
-    /// There was not enough memory.
+    /// Memory ran out.
     Memory,
 }
 
-/// The verdict where there is no head.
+/// The verdict if there is no head.
 pub fn fault_verdict(fault: HeadFault) -> Result<TextVerdict, Unread>
     ensures is { result ≡ of_fault fault }
     ensures failed { (result ≡ Err Unread.ReadFault) ↔ (fault ≡ HeadFault.ReadFault) }
@@ -74,7 +74,8 @@ pub fn fault_verdict(fault: HeadFault) -> Result<TextVerdict, Unread>
     }
 }
 
-/// What the answer of a check means, where so many lines were taken behind a head of so many.
+/// What the answer of a check means after a head of `head` lines, when `lines` lines were taken
+/// after it.
 pub fn verdict_of<R: Reasons>(
     checked: Checked<R::Why>,
     head: u32,

@@ -1,4 +1,4 @@
--- What is so of an unread walk stays so, however the walk goes on.
+-- What holds of an unread walk still holds however the walk goes on.
 use Rattle.std.proofs.Common.{◌≡◌, ℕ, zero, suc, Bool, true, false, List, [], ◌∷◌, refl, sym, subst, ℤ, neg_ℤ, Option, Some, None, inl, inr}
 use Rattle.std.specs.List.{slice_get}
 use Rattle.hive_model.specs.declared.places.Move.{Move}
@@ -13,7 +13,7 @@ use Rattle.strategy_walks.specs.Walks.{WalkEnd, Left, Fault, Halt, Step, Below, 
 use Rattle.strategy_walks.specs.Follows.{Sight, Carries, CarriesOn}
 use Rattle.strategy_walks.proofs.WalkLaws.{walk-leaf, walk-suc}
 
--- ---- parts, one behind another
+-- ---- parts, one after another
 
 module _ {S W N : Type 0} (V : Sight S W N) where
   pub go-carries : (o : WalkEnd S W) (g : S → WalkEnd S W) (n : N) → Carries V g → V.unread o n → V.unread (go_on o g) n

@@ -28,7 +28,7 @@ some-is told (x ∷ items) e more = refl
 
 -- ---- what is answered
 
--- what is seen tells of the items that are left, and of so many that were taken
+-- the view determines the items that are left, and how many were taken
 pub record Tells {S W N T : Type 0} (R : Rules S W) (V : Sight S W N) (told : ToldItems T) (taken : ℕ) (n : N) : Type 0 where
   pub items : S → List (Option T)
   pub left : (s : S) → n ≡ V.view s → told ≡ Some (items s)
@@ -81,7 +81,7 @@ module _ {S W N T : Type 0} (R : Rules S W) (V : Sight S W N) (told : ToldItems 
   whole-counts rest (Halts Failed) answer o before after m whole count same = subst (λ (x : Checked W). CountsBad (go_on o (finish R)) x after) (sym whole) tt
   whole-counts rest (Halts Full) answer o before after m whole count same = subst (λ (x : Checked W). CountsBad (go_on o (finish R)) x after) (sym whole) tt
 
-  -- ---- where the items could not be read on
+  -- ---- if the items could not be read on
 
   module _ (kinds : Faults W) (looks : (o : WalkEnd S W) → V.unread o n → taken < looked kinds R.taken o) (one : kinds.looked_for R.reasons.rest ≡ 1) where
     finish-by : (s : S) (count : ℕ) (b : Bool) → R.at_end s ≡ b → count ≤ R.taken s → CountsUnread kinds (finish R s) count
@@ -119,7 +119,7 @@ module _ {S W N T : Type 0} (R : Rules S W) (V : Sight S W N) (told : ToldItems 
         unread-as kinds whole_walk (go_on o (finish R)) answer after e
         (whole-unread rest walked answer o before after (subst (λ (x : N). Meets V o (ending walked) x) same (meets-is R V o w walked seen ends m)) whole count stands)
 
-  -- the same of the walk of a whole certificate, as the code ends it
+  -- the same for the walk of a whole certificate, as the code ends it
   pub certificate-answers : (rest : W) (whole_walk o : WalkEnd S W) (w : Walked (Stop W)) (walked : WalkAnswer W) (seen : N) (answer : Checked W) → R.reasons.rest ≡ rest → whole_walk ≡ go_on o (finish R) → Meets V o (ending_of R stop_ending w) seen → seen ≡ n →
       walked ≡ of_walk R.reasons.leaf_fails R.reasons.bad_index w → IsWhole rest walked taken told answer → Answers whole_walk answer
   certificate-answers rest whole_walk o w walked seen answer is e m same ends whole =
@@ -132,9 +132,9 @@ module _ {S W N T : Type 0} (R : Rules S W) (V : Sight S W N) (told : ToldItems 
       bad-as whole_walk (go_on o (finish R)) answer after e
       (whole-counts rest walked answer o before after (subst (λ (x : N). Meets V o (ending walked) x) same (meets-is R V o w walked seen ends m)) whole count stands)
 
--- ---- what became of the items
+-- ---- what happened to the items
 
--- the walk takes from items of which none was taken before, and its end is that of the whole
+-- the walk takes items, none of which was taken before, and its end is that of the whole check
 pub checks-items : {I S T W : Type 0} (supply : I → Supply T) (kinds : Faults W) (outcome : List (Option T) → WalkEnd S W) (walked : WalkAnswer W) (answer : Checked W) (first begun middle last : I) (names later : List ℕ) (none taken : ℕ) → begun ≡ first → none ≡ 0 →
     Taking kinds (Some walked) (moment_of names none (supply begun)) (moment_of later taken (supply middle)) → EndsItems kinds walked taken answer (supply middle) (supply last) →
     ((items : List (Option T)) → (supply first).left ≡ Some items → (supply middle).count ≡ ended walked taken → CountsBad (outcome items) answer (supply last).count) → ChecksItems kinds outcome (Some answer) (supply first) (supply last)
@@ -150,7 +150,7 @@ checks-items {I} supply kinds outcome walked answer first begun middle last name
       met = ends.met part.met;
     })
 
--- those that were taken away did not end it
+-- the items taken did not decide it
 pub ends-unread : {I S W T : Type 0} (supply : I → Supply T) (kinds : Faults W) (outcome : List (Option T) → WalkEnd S W) (walked : WalkAnswer W) (answer : Checked W) (first begun middle last : I) (names later : List ℕ) (none taken : ℕ) → begun ≡ first → none ≡ 0 →
     Taking kinds (Some walked) (moment_of names none (supply begun)) (moment_of later taken (supply middle)) →
     ((items : List (Option T)) → (supply first).left ≡ Some items → (supply middle).count ≡ ended walked taken → StopsUnread kinds (outcome items) answer (supply last).count) → EndsUnread kinds outcome answer (supply first) (supply last)

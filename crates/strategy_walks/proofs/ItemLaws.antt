@@ -1,4 +1,4 @@
--- What taking an item makes of what is told, and what the code's answers say of a walk.
+-- How taking an item changes what is known of the items, and what the code's answers say of a walk.
 use Rattle.std.proofs.Common.{◌≡◌, ℕ, List, ◌∷◌, refl, sym, ap, subst, ◌∙◌, Option, Some, None}
 use Rattle.strategy_walks.specs.Walks.{WalkEnd, Rules}
 use Rattle.strategy_walks.specs.Follows.{Sight, Ending, Meets}
@@ -27,7 +27,7 @@ module _ {S W : Type 0} (R : Rules S W) where
       Meets V o (ending_of R stop_ending w) n → Meets V o (ending walked) n
   meets-is V o w walked n is h = subst (λ (e : Ending W). Meets V o e n) (ending-is w ∙ ap ending (sym is)) h
 
--- what is so of a walk that came to its end is so where it was refused and no item is missing
+-- what holds of a walk that came to its end also holds if it was refused and no item is missing
 pub refuses : {T W : Type 0} (kinds : Faults W) (why : W) (a b : Moment T) → kinds.on_short why (b.items.met End) → kinds.is_below_root why → GoesOn kinds a b → Taking kinds (Some (Refuses why)) a b
 refuses kinds why a b met legal h = record {
   names = h.names;
@@ -39,7 +39,7 @@ refuses kinds why a b met legal h = record {
   legal = legal;
 }
 
--- a fault that a walk below the root may end with, where no item is missing
+-- a fault with which a walk below the root may end if no item is missing
 pub record IsInner {W : Type 0} (kinds : Faults W) (why : W) : Type 1 where
   pub met : (claim : Type 0) → kinds.on_short why claim
   pub legal : kinds.is_below_root why

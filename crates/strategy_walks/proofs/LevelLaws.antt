@@ -20,7 +20,7 @@ node-replies start s d level node = record {
   listed = node.listed;
 }
 
--- still where game and stack are as before
+-- this still holds if game and stack are as before
 pub replies-again : (start now : Course) (old s : Levels) (d level : ℕ) → HasReplies d level start old → AreAsBefore start now old s → HasReplies d level now s
 replies-again start now old s d level replies same =
     subst (λ (h : Course). HasReplies d level h s) (sym same.game) (subst (λ (l : Levels). HasReplies d level start l) (sym same.stack) replies)
@@ -34,12 +34,12 @@ place-reply start s d level i m replies here = record {
   free = replies.free;
 }
 
--- and still where game and stack are as before
+-- this still holds if game and stack are as before
 pub can-again : (start now : Course) (old s : Levels) (m : Move) (d : ℕ) → CanReply m d start old → AreAsBefore start now old s → CanReply m d now s
 can-again start now old s m d can same =
     subst (λ (h : Course). CanReply m d h s) (sym same.game) (subst (λ (l : Levels). CanReply m d start l) (sym same.stack) can)
 
--- as a move can that is read from the level
+-- the same for a move that is read from the level
 pub level-reply : (start now : Course) (old s : Levels) (d level i : ℕ) (m : Move) → HasReplies d level start old → AreAsBefore start now old s →
     slice_get (level_of s level) i ≡ Some m → CanReply m d now s
 level-reply start now old s d level i m replies same here =

@@ -1,4 +1,4 @@
--- What the last look at the items makes of a whole check.
+-- How the last look at the items decides a whole check.
 use Rattle.std.proofs.Common.{◌≡◌, ℕ, List, [], Option, Some, None, refl, sym, ap, subst, arith, ◌∙◌}
 use Rattle.std.specs.Prelude.{IsTrue}
 use Rattle.io_edge.specs.Outside.{HasCause, Rose}
@@ -14,7 +14,7 @@ use Rattle.strategy_walks.specs.declared.walk_answers.WalkAnswer.TheVariants.{Do
 use Rattle.strategy_walks.specs.declared.walk_answers.Checked.{Checked}
 use Rattle.strategy_walks.specs.declared.walk_answers.Checked.TheVariants.{Accepted, Refused, Halted}
 
--- what the item that is left, if one is, makes of a whole walk
+-- how the item that is left, if there is one, decides a whole walk
 abbrev pub looked_as : {T W : Type 0} → W → ℕ → ItemAnswer T → Checked W
 looked_as rest taken End = Accepted
 looked_as rest taken (Item i) = Refused taken rest
@@ -75,7 +75,7 @@ module _ {T W : Type 0} (kinds : Faults W) (rest : W) (taken : ℕ) (s t : Suppl
     closed = λ e. takes.full (look-full a e);
   }
 
-  -- where all is shown, it makes this of the items
+  -- if everything is shown, this happens to the items
   pub last-taken : (a : ItemAnswer T) (walked : WalkAnswer W) (answer : Checked W) → walked ≡ Done → answer ≡ looked_as rest taken a → TakesOne a s t → EndsItems kinds walked taken answer s t
   last-taken a walked answer shown is takes =
       subst (λ (w : WalkAnswer W). EndsItems kinds w taken answer s t) (sym shown)
@@ -92,7 +92,7 @@ left-over : {T : Type 0} (i : Option T) (old new : ToldItems T) → old ≡ in_f
 left-over i old None e none = cc
 left-over i old (Some items) e none = cc
 
--- and this of the whole
+-- and this is the whole check
 pub last-whole : {T W : Type 0} (rest : W) (taken : ℕ) (a : ItemAnswer T) (old new : ToldItems T) (walked : WalkAnswer W) (answer : Checked W) → walked ≡ Done → answer ≡ looked_as rest taken a →
     Takes a old new → IsWhole rest walked taken old answer
 last-whole {T} {W} rest taken a old new walked answer shown is takes =

@@ -1,4 +1,4 @@
--- What code answers at each node, where a game is under way and a walker takes the tokens.
+-- What code answers at each node, with a game under way and a walker that takes the tokens.
 use Rattle.std.proofs.Common.{◌≡◌, ℕ, ◌-◌, ◌≤◌, Bool, true, false, cond, length, refl, sym, ap, subst, ◌∙◌, ℤ, neg_ℤ, Some, None}
 use Rattle.std.specs.Prelude.{IsTrue, ◌↔◌}
 use Rattle.std.specs.List.{slice_get}
@@ -42,7 +42,7 @@ module _ {S W T : Type 0} (R : Rules S W) (ends : T → Ending W) where
 pub is-done : {T : Type 0} (b : Bool) (w : Walked T) → (IsTrue b ↔ (w ≡ Done)) → b ≡ true → w ≡ Done
 is-done b w iff yes_ = iff.0 yes_
 
--- ---- what else is so
+-- ---- what else holds
 
 pub part-behind : {A T : Type 0} (parts : Parts A T) (w : Walked T) (a b c : A) → parts.goes a b → IsPart parts w b c → IsPart parts w a c
 part-behind parts Done a b c first later = parts.both a b c first later
@@ -50,7 +50,7 @@ part-behind parts LeafFails a b c first later = parts.both a b c first later
 part-behind parts BadIndex a b c first later = parts.both a b c first later
 part-behind parts (Stops stop) a b c first later = parts.behind stop a b c first later
 
--- a part behind one that came to its end, by the test of the code
+-- a part after one that came to its end, by the test of the code
 pub part-goes-on : {A T : Type 0} (parts : Parts A T) (test : Bool) (w x : Walked T) (a b c : A) → (IsTrue test ↔ (w ≡ Done)) → test ≡ true → IsPart parts w a b → IsPart parts x b c → IsPart parts x a c
 part-goes-on {A} {T} parts test w x a b c iff yes_ first later = part-behind parts x a b c (subst (λ (u : Walked T). IsPart parts u a b) (iff.0 yes_) first) later
 
@@ -59,11 +59,11 @@ pub part-leaf : {A T : Type 0} (parts : Parts A T) (kept : Bool) (w : Walked T) 
 part-leaf {A} {T} parts true w a e = subst (λ (u : Walked T). IsPart parts u a a) (sym e) (parts.none a)
 part-leaf {A} {T} parts false w a e = subst (λ (u : Walked T). IsPart parts u a a) (sym e) (parts.none a)
 
--- what is kept behind a part that came to its end, by the test of the code
+-- what is kept after a part that came to its end, by the test of the code
 pub part-keeps : {A T : Type 0} (parts : Parts A T) (test : Bool) (w : Walked T) (a b c : A) → (IsTrue test ↔ (w ≡ Done)) → test ≡ true → IsPart parts w a b → parts.goes b c → parts.goes a c
 part-keeps {A} {T} parts test w a b c iff yes_ first later = parts.both a b c (subst (λ (u : Walked T). IsPart parts u a b) (iff.0 yes_) first) later
 
--- by the test of the code it did not come to its end
+-- by the test of the code, it did not come to its end
 pub not-done : {T : Type 0} (test : Bool) (w : Walked T) → (IsTrue test ↔ (w ≡ Done)) → test ≡ false → w ≡ Done → ⊥
 not-done test w iff no_ e = let yes_ : test ≡ true = iff.1 e in cc
 
@@ -83,17 +83,17 @@ game-index start now d x y i m same inner here ey h =
 pub keeps-still : (start now : Course) (d : ℕ) (x y : ℤ) → now ≡ start → y ≡ x → Keeps (AtLeast x) (value (position start) d) → Keeps (AtLeast y) (value (position now) d)
 keeps-still start now d x y same ey h = subst (λ (g : Course). Keeps (AtLeast y) (value (position g) d)) (sym same) (subst (λ (z : ℤ). Keeps (AtLeast z) (value (position start) d)) (sym ey) h)
 
--- a claim that is walked as it was found, where the game is as before
+-- a claim that is walked as it was found, if the game is as before
 pub claim-keeps : (start now : Course) (d : ℕ) (limit : ℤ → Limit) (c : Limit) (x y : ℤ) → c ≡ limit x → now ≡ start → y ≡ x → Keeps (limit y) (value (position now) d) → Keeps c (value (position start) d)
 claim-keeps start now d limit c x y ec same ey h =
     subst (λ (l : Limit). Keeps l (value (position start) d)) (sym ec)
     (subst (λ (z : ℤ). Keeps (limit z) (value (position start) d)) ey (subst (λ (g : Course). Keeps (limit y) (value (position g) d)) same h))
 
--- each of no moves keeps to the limit
+-- an empty list of moves keeps to the limit
 pub shown-past : (p : Position) (d : ℕ) (c : Limit) (i to : ℕ) → to ≤ i → EachKeeps p d c (range_of (moves p) i to)
 shown-past p d c i to past = subst (EachKeeps p d c) (sym (range-end (moves p) i to past)) tt
 
--- ---- what is told
+-- ---- what is known
 
 module _ {S W N : Type 0} (R : Rules S W) (V : Sight S W N) where
   pub game-walks : (start now : Course) (d : ℕ) (x y : ℤ) (count : ℕ) (a b : N) (w : Ending W) → now ≡ start → IsInner (position start) d → count ≡ length (moves (position start)) → y ≡ neg_ℤ x →
@@ -107,7 +107,7 @@ module _ {S W N : Type 0} (R : Rules S W) (V : Sight S W N) where
       subst (λ (l : Limit). Walks R V (position start) d l a w b) (sym ec)
       (subst (λ (z : ℤ). Walks R V (position start) d (limit z) a w b) ey (subst (λ (g : Course). Walks R V (position g) d (limit y) a w b) same h))
 
-  -- where what is taken is known to end the walk
+  -- if what is taken is known to end the walk
   pub ends-here : (p : Position) (d : ℕ) (x : ℤ) (a b : N) (w : Ending W) → ((s : S) → a ≡ V.view s → (o : WalkEnd S W) × (R.take p d x s ≡ Ends o) × Meets V o w b) → EndsHere R V p d x a w b
   ends-here p d x a b w took walk ms carries s e = let t = took s e in subst (λ (o : WalkEnd S W). Meets V o w b) (sym (ap (walk_step R walk ms) t.1)) t.2
 

@@ -1,4 +1,4 @@
--- The place of a move in a list, and the moves before and behind it.
+-- The place of a move in a list, and the moves before and after it.
 use Rattle.std.proofs.Common.{◌≡◌, ℕ, zero, suc, ◌+◌, ◌<◌, ◌≤◌, Bool, true, false, cond, List, [], ◌∷◌, ◌++◌, length, take, drop, refl, sym, ap, arith, ◌∙◌, Some, None, inl, inr}
 use Rattle.std.specs.List.{slice_get, position_from}
 use Rattle.std.proofs.lemmas.Bool.{and_parts, and_from, eqb-true, eq-eqb}
@@ -57,7 +57,7 @@ module _ {X : Type 0} (t : X → Bool) where
         | false ↦ (suc later.0, later.1 ∙ ap (λ n. Some n) next, omega (arith, later.2))
       ]
 
--- the place found is one where the move stands
+-- the move is at the place that was found
 pub place-here : (m : Move) (ms : List Move) (k : ℕ) → place_of m ms ≡ Some k → slice_get ms k ≡ Some m
 place-here m ms k e =
     let f = position-at (is_move m) 0 ms k e in
@@ -71,7 +71,7 @@ place-first m ms i e =
     let at : 0 + f.0 ≡ f.0 = omega arith in
     (f.0, f.1 ∙ ap (λ n. Some n) at, f.2)
 
--- the moves before a place, the move there, and the moves behind it
+-- the moves before a place, the move there, and the moves after it
 pub split-at : {A : Type 0} (xs : List A) (k : ℕ) (x : A) → slice_get xs k ≡ Some x → xs ≡ take k xs ++ x ∷ drop (k + 1) xs
 split-at [] k x e = cc
 split-at (y ∷ xs) zero x e = let same : y ≡ x = cc in ap (λ z. z ∷ xs) same

@@ -29,7 +29,7 @@ pub true-keeps : (c : Limit) (v : ℤ) → Keeps c v → is_kept c v ≡ true
 true-keeps (AtMost x) v e = grind (arith, ints)
 true-keeps (AtLeast x) v e = grind (arith, ints)
 
--- ---- what values make of those one ply deeper
+-- ---- how a value follows from those one ply deeper
 
 greatest_from-below : (r : Move → ℤ) (x a : ℤ) (ms : List Move) → a ≤ℤ x → Each (λ m. r m ≤ℤ x) ms → greatest_from a (map r ms) ≤ℤ x
 greatest_from-below r x a [] h all = h
@@ -49,8 +49,8 @@ value-at_least p e x i m goes here low =
 
 -- ---- a walk
 
--- What its tokens keep true, where each position below a good one is good: what a node finds that ends there is true, and what is kept
--- of what was shown.
+-- What its tokens keep true, if each position after a good one is good. What a node finds that ends
+-- there is true, and so is what is kept of what was shown.
 pub record IsTrusted {S W : Type 0} (R : Rules S W) (Good : Position → ℕ → Type 0) (Inv : S → Type 0) : Type 0 where
   pub child : (p : Position) (e : ℕ) (m : Move) → Good p (suc e) → IsOn (moves p) m → Good (after p m) e
   pub ends : (p : Position) (e : ℕ) (x : ℤ) (s t : S) → Good p (suc e) → Inv s → R.take p (suc e) x s ≡ Ends (Left t) → Inv t × (x ≤ℤ value p (suc e))
@@ -58,7 +58,7 @@ pub record IsTrusted {S W : Type 0} (R : Rules S W) (Good : Position → ℕ →
   pub keep : (p : Position) (e : ℕ) (x : ℤ) (s : S) → Good p (suc e) → Inv s → x ≤ℤ value p (suc e) → Inv (R.keep p (suc e) x s)
 
 module _ {S W : Type 0} (R : Rules S W) (Good : Position → ℕ → Type 0) (Inv : S → Type 0) (trusted : IsTrusted R Good Inv) where
-  -- a walk from what is true shows its claim, and leaves what is true
+  -- a walk from true lemmas shows its claim, and leaves true lemmas
   abbrev pub Tells : Position → ℕ → Limit → S → S → Type 0
   Tells p e c s t = Good p e → Inv s → Inv t × Keeps c (value p e)
 
@@ -101,7 +101,7 @@ some-at : (ms : List Move) (k : ℕ) (m : Move) → slice_get ms k ≡ Some m �
 some-at [] k m e = cc
 some-at (n ∷ ms) k m e = omega arith
 
--- the first move of the greatest worth, by what the others are worth
+-- the first move of the greatest value, from the values of the others
 pub best-at : (p : Position) (d : ℕ) (k : ℕ) (m : Move) (v : ℤ) → IsInner p d → slice_get (moves p) k ≡ Some m →
     Each (λ n. reply_value p (d - 1) n <ℤ v) (take k (moves p)) → reply_value p (d - 1) m ≡ v → Each (λ n. reply_value p (d - 1) n ≤ℤ v) (drop (k + 1) (moves p)) →
     (best p d ≡ Some m) × (value p d ≡ v)

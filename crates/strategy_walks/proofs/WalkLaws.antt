@@ -47,7 +47,7 @@ leaf-left R false s t e = cc
 
 -- ---- a walk that comes to its end
 
--- what each move's walk makes of what the one before it left
+-- how each move's walk follows from what the one before it left
 abbrev pub Chain : {S : Type 0} → (Move → S → S → Type 0) → List Move → S → S → Type 0
 Chain {S} Q [] s t = s ≡ t
 Chain {S} Q (m ∷ ms) s t = (u : S) × Q m s u × Chain Q ms u t
@@ -59,7 +59,8 @@ walk_all-chain f Q shows (m ∷ ms) s t e =
     let first = go_on-left (f m s) (walk_all f ms) t e in
     (first.0, shows m s first.0 first.1, walk_all-chain f Q shows ms first.0 t first.2)
 
--- a property of a claim, of what is left before its walk and of what is left after it, that holds at each kind of node
+-- A property of a claim, and of what is left before and after its walk, that holds at each kind of
+-- node.
 pub record Shows {S W : Type 0} (R : Rules S W) (Q : Position → ℕ → Limit → S → S → Type 0) : Type 0 where
   pub leaf : (p : Position) (e : ℕ) (c : Limit) (s : S) → IsLeaf p e → is_kept c (value p e) ≡ true → Q p e c s s
   pub every : (p : Position) (e : ℕ) (x : ℤ) (s t : S) → is_over p ≡ false → Chain (λ m. Q (after p m) e (AtLeast (neg_ℤ x))) (moves p) s t → Q p (suc e) (AtMost x) s t

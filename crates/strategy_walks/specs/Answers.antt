@@ -1,4 +1,4 @@
--- What the code answers of a walk over items that are told.
+-- What the code answers for a walk over observable items.
 use Rattle.std.specs.Prelude.{◌≡◌, ℕ, ◌+◌, ◌<◌, ◌≤◌, Bool, IsTrue, ⊤}
 use Rattle.io_edge.specs.Outside.{Rose}
 use Rattle.strategy_walks.specs.Walks.{WalkEnd, Left, Fault, Halt}
@@ -11,18 +11,18 @@ use Rattle.strategy_walks.specs.declared.walk_answers.WalkAnswer.TheVariants.{Do
 use Rattle.strategy_walks.specs.declared.walk_answers.Checked.{Checked}
 use Rattle.strategy_walks.specs.declared.walk_answers.Checked.TheVariants.{Accepted, Refused, Halted}
 
--- What is asked of the faults of a walk.
+-- The properties of a walk's faults that contracts use.
 pub record Faults (W : Type 0) : Type 1 where
-  -- a walk below a root can end so
+  -- a walk below a root can end with this fault
   pub is_below_root : W → Type 0
-  -- this is so where an item is missing
+  -- the claim holds if this fault is that of a missing item
   pub on_short : W → Type 0 → Type 0
-  -- how many items beyond those before the fault were looked at
+  -- how many items the check looked at beyond those before the fault
   pub looked_at : W → ℕ
-  -- how many were looked for, the one that is missing among them
+  -- how many items it looked for beyond those before the fault, a missing one included
   pub looked_for : W → ℕ
 
--- how many items a walk has looked for that ends so, by how many were taken
+-- how many items a walk that ends like this has looked for; `taken` counts those taken
 abbrev pub looked : {S W : Type 0} → Faults W → (S → ℕ) → WalkEnd S W → ℕ
 looked faults taken (Left s) = taken s
 looked faults taken (Fault why n) = n + faults.looked_for why
@@ -36,7 +36,7 @@ ending (Halts Bad) = BadItem
 ending (Halts Failed) = Unread
 ending (Halts Full) = Unread
 
--- not the fault of a root
+-- the part does not end with the fault of a root
 abbrev pub IsOfWalk : {W : Type 0} → Faults W → WalkAnswer W → Type 0
 IsOfWalk faults Done = ⊤
 IsOfWalk faults (Refuses why) = faults.is_below_root why
@@ -50,8 +50,8 @@ Answers o (Halted Bad) = (n : ℕ) × (o ≡ Halt n)
 Answers o (Halted Failed) = ⊤
 Answers o (Halted Full) = ⊤
 
--- how many items were taken away where a part of a walk ends: those that it took, and a bad item
--- that ends it
+-- How many items were taken when a part of a walk ends: those that it took, and the bad item if one
+-- ends it.
 abbrev pub ended : {W : Type 0} → WalkAnswer W → ℕ → ℕ
 ended Done n = n
 ended (Refuses why) n = n
@@ -59,11 +59,11 @@ ended (Halts Bad) n = held (n + 1)
 ended (Halts Failed) n = n
 ended (Halts Full) n = n
 
--- the count of the items goes on as that of those taken does
+-- the items' own count moves as the walk's count of taken items does
 abbrev pub CountsOn : {W : Type 0} → WalkAnswer W → ℕ → ℕ → ℕ → ℕ → Type 0
 CountsOn walked count now taken then_ = count ≡ taken → now ≡ ended walked then_
 
--- Where a bad item ends a whole check, so many items were taken away: those before it, and itself.
+-- If a bad item ends a whole check, the items taken are those before it and itself.
 abbrev pub CountsBad : {S W : Type 0} → WalkEnd S W → Checked W → ℕ → Type 0
 CountsBad o Accepted count = ⊤
 CountsBad o (Refused place why) count = ⊤
@@ -71,14 +71,15 @@ CountsBad o (Halted Bad) count = (n : ℕ) × (o ≡ Halt n) × (count ≡ held 
 CountsBad o (Halted Failed) count = ⊤
 CountsBad o (Halted Full) count = ⊤
 
--- Where the items could not be read on, those that were taken away did not end the whole check: it
--- looks for more, and for the end where all is shown.
+-- If the items could not be read on, those taken did not decide the whole check. A walk that would
+-- meet a fault or a bad item looks for more of them; one that would show everything looks for their
+-- end.
 abbrev pub CountsUnread : {S W : Type 0} → Faults W → WalkEnd S W → ℕ → Type 0
 CountsUnread faults (Left s) count = ⊤
 CountsUnread faults (Fault why n) count = count < n + faults.looked_for why
 CountsUnread faults (Halt n) count = count < n + 1
 
--- the same by the answer of the check
+-- the same, by the answer of the check
 abbrev pub StopsUnread : {S W : Type 0} → Faults W → WalkEnd S W → Checked W → ℕ → Type 0
 StopsUnread faults o Accepted count = ⊤
 StopsUnread faults o (Refused place why) count = ⊤
@@ -86,15 +87,15 @@ StopsUnread faults o (Halted Bad) count = ⊤
 StopsUnread faults o (Halted Failed) count = CountsUnread faults o count
 StopsUnread faults o (Halted Full) count = CountsUnread faults o count
 
--- Where a fault ends a whole check, at most so many items were taken away: those before it, and
--- what was looked at.
+-- If a fault ends a whole check, the items taken are at most those before it and those that the
+-- check looked at.
 abbrev pub CountsRefused : {W : Type 0} → Faults W → Checked W → ℕ → Type 0
 CountsRefused faults Accepted count = ⊤
 CountsRefused faults (Refused place why) count = count ≤ place + faults.looked_at why
 CountsRefused faults (Halted answer) count = ⊤
 
--- The count of faults rose where a read failed, and else stands; no more may be read where that was
--- the answer.
+-- The count of faults rose if a read failed, and is otherwise unchanged. If the answer was that no
+-- more may be read, no more may be read.
 pub record ReadCauses (failed stopped : Type 0) (before now : ℕ) (full : Bool) : Type 0 where
   pub later : before ≤ now
   pub rose : failed → Rose before now
@@ -105,12 +106,12 @@ pub record ReadCauses (failed stopped : Type 0) (before now : ℕ) (full : Bool)
 abbrev pub Causes : {W : Type 0} → WalkAnswer W → ℕ → ℕ → Bool → Type 0
 Causes answer = ReadCauses (answer ≡ Halts Failed) (answer ≡ Halts Full)
 
--- and a whole check
+-- why they ended a whole check
 abbrev pub EndCauses : {W : Type 0} → Checked W → ℕ → ℕ → Bool → Type 0
 EndCauses answer = ReadCauses (answer ≡ Halted Failed) (answer ≡ Halted Full)
 
--- Where the walk ended at an answer of the items that gave none, a bad item among them, what is so
--- after such an answer is so.
+-- If an answer of the items without an item ended the walk (a bad item is such an answer), what
+-- holds after that answer holds.
 abbrev pub EndsAs : {T W : Type 0} → Faults W → (ItemAnswer T → Type 0) → WalkAnswer W → Type 0
 EndsAs faults met Done = ⊤
 EndsAs faults met (Refuses why) = faults.on_short why (met End)
@@ -118,7 +119,7 @@ EndsAs faults met (Halts Bad) = met BadOne
 EndsAs faults met (Halts Failed) = met NoRead
 EndsAs faults met (Halts Full) = met NoMore
 
--- the same of the answer of a whole check, which accepts only at the end of the items
+-- The same for the answer of a whole check, which accepts only at the end of the items.
 abbrev pub Ended : {T W : Type 0} → Faults W → (ItemAnswer T → Type 0) → Checked W → Type 0
 Ended faults met Accepted = met End
 Ended faults met (Refused place why) = faults.on_short why (met End)

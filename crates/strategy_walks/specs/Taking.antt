@@ -1,4 +1,4 @@
--- What is so of the items from before a part of a walk until after it.
+-- What holds of the items between the start and the end of a part of a walk.
 use Rattle.std.proofs.Common.{◌≡◌, ℕ, Bool, List, Option, None, Some, refl, subst, arith, ◌∙◌}
 use Rattle.std.specs.Prelude.{IfSome}
 use Rattle.strategy_walks.specs.Follows.{Ending, Shown}
@@ -13,8 +13,8 @@ use Rattle.strategy_walks.specs.declared.walk_answers.WalkAnswer.TheVariants.{Do
 use Rattle.strategy_walks.specs.declared.walker.Walked.{Walked}
 use Rattle.strategy_walks.specs.declared.walker.Walked.TheVariants.{Done as AllDone, LeafFails, BadIndex, Stops}
 
--- what is told at one moment of a walk: the names of the references that it goes through, how many
--- items it took, and what is told of the items
+-- What contracts know at one moment of a walk: the names of the references that it uses, how many
+-- items it took, and what is known of the items.
 pub record Moment (T : Type 0) : Type 1 where
   pub names : List ℕ
   pub taken : ℕ
@@ -23,13 +23,12 @@ pub record Moment (T : Type 0) : Type 1 where
 abbrev pub moment_of : {T : Type 0} → List ℕ → ℕ → Supply T → Moment T
 moment_of names taken items = record { names = names; taken = taken; items = items }
 
--- why a part of a walk ended, or none where neither a fault nor the items ended it
+-- why a part of a walk ended; `None` if neither a fault nor the items ended it
 abbrev pub PartCauses : {W : Type 0} → Option (WalkAnswer W) → ℕ → ℕ → Bool → Type 0
 PartCauses None = ReadCauses ⊥ ⊥
 PartCauses (Some walked) = Causes walked
 
--- what is so of a part of a walk; of its answer there is none where neither a fault nor the items
--- ended it
+-- What holds of a part of a walk. Its answer is `None` if neither a fault nor the items ended it.
 pub record Taking {T W : Type 0} (kinds : Faults W) (answer : Option (WalkAnswer W))
     (a b : Moment T) : Type 0 where
   pub names : b.names ≡ a.names
@@ -50,14 +49,14 @@ of_stop (StopHalts halt) = Halts halt
 abbrev pub stop_ending : {W : Type 0} → Stop W → Ending W
 stop_ending stop = ending (of_stop stop)
 
--- how a part of a walk ended, of which these are the faults of a leaf and of a place
+-- how a part of a walk ended, given the faults of a leaf and of a place
 abbrev pub of_walk : {W : Type 0} → W → W → Walked (Stop W) → WalkAnswer W
 of_walk leaf_fails bad_index AllDone = Done
 of_walk leaf_fails bad_index LeafFails = Refuses leaf_fails
 of_walk leaf_fails bad_index BadIndex = Refuses bad_index
 of_walk leaf_fails bad_index (Stops stop) = of_stop stop
 
--- what is so where it is not ended
+-- what holds if it is not ended
 abbrev pub GoesOn : {T W : Type 0} → Faults W → Moment T → Moment T → Type 0
 GoesOn kinds = Taking kinds (Some Done)
 
@@ -102,8 +101,8 @@ goes-then kinds answer a b c first later = record {
   legal = later.legal;
 }
 
--- what is so of the parts of a walk, of which the functions behind the faults tell why it was
--- ended, and the moment at which it stands
+-- What holds of the parts of a walk. The first function gives the reason why a part was ended, and
+-- the second the moment of a walker.
 abbrev pub taking_parts : {A T W K : Type 0} → Faults W → (K → Option (WalkAnswer W))
     → (A → Moment T) → Parts A K
 taking_parts kinds answer at = record {
@@ -114,6 +113,6 @@ taking_parts kinds answer at = record {
   behind = λ stop a b c. goes-then kinds (answer stop) (at a) (at b) (at c);
 }
 
--- the same of a walk that the items or a fault ends
+-- the same for a walk that the items or a fault ends
 abbrev pub stop_parts : {A T W : Type 0} → Faults W → (A → Moment T) → Parts A (Stop W)
 stop_parts kinds = taking_parts kinds (λ stop. Some (of_stop stop))

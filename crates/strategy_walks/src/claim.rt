@@ -1,8 +1,8 @@
-//! What is claimed of a best move.
+//! The claim of a certificate.
 
 use hive_model::Move;
 
-/// The best move of a position at a depth, and what it is worth.
+/// The claimed best move of a position at a depth, and the claimed value.
 #[derive(Clone, Copy, Debug, PartialEq, Eq)]
 pub struct Claim {
     pub depth: u32,

@@ -1,4 +1,4 @@
-//! What the end of a walk over items makes of a whole check.
+//! The answer of a whole check, made from the end of its walk.
 
 ghost use Rattle.std.specs.Prelude.{◌≡◌, ℕ};
 ghost use Rattle.strategy_walks.specs.Ends.{EndsItems, IsWhole};
@@ -9,27 +9,27 @@ use crate::walk_answers::{Checked, Halt, WalkAnswer};
 
 /// The faults of a walk over items.
 pub trait WalkFault: Copy {
-    /// What is asked of each.
+    /// The properties of each fault that contracts use.
     ghost kinds: { Faults Self };
 
-    /// That something is left over.
+    /// The fault that items are left over.
     ghost rest: { Self };
 
-    /// This asks nothing of a missing item.
+    /// This fault says nothing of a missing item.
     ghost rest_is_met: { (claim : Type 0) → kinds.on_short rest claim };
 
-    /// That something is left over.
+    /// The fault that items are left over.
     fn left_over() -> Self
         ensures { result ≡ rest };
 
-    /// A walk below a root can end so.
+    /// A walk below a root can end with this fault.
     ghost rest_is_below: { kinds.is_below_root rest };
 
-    /// Of what is left over one item was looked at.
+    /// The check looked at one of the items that are left over.
     ghost rest_is_seen: { kinds.looked_at rest ≡ 1 };
 }
 
-/// That something is left over, after so many items.
+/// Refuses because items are left over after `taken` items.
 fn refused_rest<W: WalkFault>(taken: u64) -> Checked<W>
     ensures { result ≡ Checked.Refused taken W.rest }
 {
@@ -39,7 +39,8 @@ fn refused_rest<W: WalkFault>(taken: u64) -> Checked<W>
     }
 }
 
-/// What the end of a walk that took so many items makes of the whole: nothing may be left.
+/// The answer of a whole check whose walk ended like this after `taken` items. It accepts only if
+/// the walk showed everything and no item is left.
 pub fn answer_of<W: WalkFault, I: Items>(
     walked: WalkAnswer<W>,
     taken: u64,

@@ -1,33 +1,33 @@
-//! What the items of a walk are taken from.
+//! The source from which a walk takes its items.
 
 ghost use Rattle.std.specs.Prelude.{◌≡◌, ℕ, List, IsTrue};
 ghost use Rattle.io_edge.specs.Outside.{HasCause};
 ghost use Rattle.strategy_walks.specs.Items.{Supply, Takes, counted};
 
-/// What a call that takes an item answers.
+/// The answer of a call that takes an item.
 #[derive(Clone, Copy, Debug, PartialEq, Eq)]
 pub enum ItemAnswer<T> {
-    /// The first item, which was taken away.
+    /// The first item. It was taken.
     Item(T),
     /// No item is left.
     End,
-    /// The first item, which is bad, and was taken away.
+    /// The first item is bad. It was taken.
     Bad,
-    /// The items could not be read: their count of faults rose, and nothing was taken away.
+    /// The items could not be read. Their count of faults rose, and nothing was taken.
     Failed,
-    /// No more may be read, and nothing was taken away.
+    /// No more may be read. Nothing was taken.
     Full,
 }
 
-/// What items are taken from.
+/// A source of items.
 pub trait Items {
-    /// What an item is that is not bad.
+    /// The type of an item that is not bad.
     type Item: Copy;
 
-    /// What is told of the items at this moment.
+    /// What contracts know of the items at this moment.
     ghost supply: { Self → Supply Self.Item };
 
-    /// Takes the first item. Where items are told before, they are told after.
+    /// Takes the first item. If the items were observable before, they are observable after.
     fn take(&mut self) -> ItemAnswer<Self::Item>
         ensures item { Takes result (supply self.old).left (supply self.new).left }
         ensures cause { HasCause (result ≡ ItemAnswer.Failed)

@@ -1,4 +1,4 @@
-//! Walks over the legal moves that test what positions are worth, whatever tokens they take.
+//! Walks over the legal moves that test what positions are worth, for any kind of tokens.
 #![tactic(auto)]
 
 mod claim;

@@ -17,7 +17,7 @@ use crate::walker::{Walked, Walker};
 use crate::walking::{walk_child, walk_moves};
 use hive_model::{Game, Move, MoveStack};
 
-/// The place of a move in a level, counted from 0, if it is there.
+/// The place of a move in a level, counted from 0, or `None` if it is not there.
 pub fn find_move(level: u32, m: Move, stack: &MoveStack) -> Option<u32>
     requires { level < length stack.now.lists }
     ensures { result ≡ place_of m (level_of stack.now level) }
@@ -31,8 +31,7 @@ pub fn find_move(level: u32, m: Move, stack: &MoveStack) -> Option<u32>
     None
 }
 
-/// Walks what is claimed of each move of the level, of which the one at `place` is claimed to be
-/// the best.
+/// Walks the claim of each move of the level. The move at `place` is claimed to be the best.
 fn walk_root<G: Game, W: Walker>(
     game: &mut G,
     level: u32,
@@ -75,10 +74,10 @@ fn walk_root<G: Game, W: Walker>(
     walk_moves(game, level, place + 1, count, depth, least, walker, stack)
 }
 
-/// Walks a certificate, all but the test that nothing is left over: it shows the claimed move to be
-/// the best one at the claimed depth, 1 to 64, and to be worth what is claimed. None where that
-/// move is not legal. The game is not over, and has room for `depth` more plies, as the stack for
-/// levels. Game and stack are as before.
+/// Walks a certificate, but does not test whether anything is left over. It shows that the claimed
+/// move is best at the claimed depth, 1 to 64, and has the claimed value. It answers `None` if that
+/// move is not legal. The game is not over. The game has room for `depth` more plies, and the stack
+/// for `depth` more levels. Game and stack are as before.
 pub fn walk_certificate<G: Game, W: Walker>(
     game: &mut G,
     claim: &Claim,

@@ -1,14 +1,14 @@
-//! What walks over items answer.
+//! The answers of walks over items.
 
 ghost use Rattle.std.specs.Prelude.{◌≡◌};
 ghost use Rattle.strategy_walks.specs.Taking.{of_walk};
 
 use crate::walker::Walked;
 
-/// Why a walk ended before it knew.
+/// Why a walk ended without a result.
 #[derive(Clone, Copy, Debug, PartialEq, Eq)]
 pub enum Halt {
-    /// A bad item stands in the place of one that is taken.
+    /// A bad item is in the place of one that the walk takes.
     Bad,
     /// The items could not be read.
     Failed,
@@ -19,37 +19,37 @@ pub enum Halt {
 /// How a part of a walk over items ended.
 #[derive(Clone, Copy, Debug, PartialEq, Eq)]
 pub enum WalkAnswer<W> {
-    /// All that it was to show is so.
+    /// It showed everything that it had to show.
     Done,
-    /// Here is the first fault.
+    /// It met this fault, which is the first.
     Refuses(W),
     /// The items ended it.
     Halts(Halt),
 }
 
-/// Why a walk over items is ended.
+/// Why a walk over items was ended.
 #[derive(Clone, Copy, Debug, PartialEq, Eq)]
 pub enum Stop<W> {
-    /// Here is the first fault.
+    /// This fault, which is the first.
     Refuses(W),
     /// The items ended it.
     Halts(Halt),
 }
 
-/// What a check answers.
+/// The answer of a check.
 #[derive(Clone, Copy, Debug, PartialEq, Eq)]
 pub enum Checked<W> {
     /// The claim is true, and nothing is left over.
     Accepted,
-    /// The first fault, and how many items were taken before it, at most the greatest u64; a bad
-    /// place counts as taken.
+    /// The first fault, and how many items were taken before it, capped at the greatest `u64`. An
+    /// index or citation that is at fault counts as taken.
     Refused { place: u64, why: W },
-    /// The last answer of the items.
+    /// What the items answered last.
     Halted { answer: Halt },
 }
 
-/// How a part of a walk ended, of which these are the faults where what is claimed of a leaf is not
-/// so and where a place is not below the number of moves.
+/// How a part of a walk ended. `leaf_fails` is the fault of a leaf that does not meet its claim.
+/// `bad_index` is that of a place not below the number of moves.
 pub fn walk_answer<W: Copy>(walked: Walked<Stop<W>>, leaf_fails: W, bad_index: W) -> WalkAnswer<W>
     ensures { result ≡ of_walk leaf_fails bad_index walked }
 {

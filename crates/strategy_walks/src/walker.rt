@@ -1,4 +1,4 @@
-//! Who takes the tokens of a walk.
+//! The part of a walk that takes tokens.
 
 ghost use Rattle.std.specs.Prelude.{◌≡◌, ◌↔◌, IsTrue, ⊤};
 ghost use Rattle.hive_model.specs.Courses.{position};
@@ -16,9 +16,9 @@ use hive_model::{Game, MoveStack};
 /// How a part of a walk ended.
 #[derive(Clone, Copy, Debug, PartialEq, Eq)]
 pub enum Walked<S> {
-    /// All that it was to show is so.
+    /// It showed everything that it had to show.
     Done,
-    /// What is claimed of a leaf is not so.
+    /// A leaf does not meet its claim.
     LeafFails,
     /// A place is not below the number of moves.
     BadIndex,
@@ -39,18 +39,18 @@ impl<S> Walked<S> {
     }
 }
 
-/// What a walker finds at a node whose value is to be at least something.
+/// What a walker finds at a node that claims a lower bound.
 #[derive(Clone, Copy, Debug, PartialEq, Eq)]
 pub enum Took<S> {
-    /// The place of a move, below which the walk goes on.
+    /// The place of a move. The walk goes on below it.
     Below(u32),
-    /// What is claimed is so.
+    /// The claim is true.
     Shown,
     /// The walker ends the walk.
     Stops(S),
 }
 
-/// Who takes the tokens of a walk, and keeps what it shows.
+/// Takes the tokens of a walk, and keeps what the walk shows.
 pub trait Walker {
     /// Why it ends a walk.
     type Stop: Copy;
@@ -61,29 +61,29 @@ pub trait Walker {
     /// The faults of a walk.
     ghost Why: { Type 0 };
 
-    /// What is seen of what is left.
+    /// What the code sees of what is left.
     ghost Seen: { Type 0 };
 
     /// How it takes tokens.
     ghost rules: { Rules Steps Why };
 
-    /// What is seen of what is left to a walk.
+    /// How the code's view follows from what is left to a walk.
     ghost sight: { Sight Steps Why Seen };
 
-    /// What is seen of what is left to it.
+    /// What the code sees of what is left to this walker.
     ghost seen: { Self → Seen };
 
-    /// How a walk ends that it ends.
+    /// How a walk ends if the walker ends it for this reason.
     ghost ending: { Self.Stop → Ending Why };
 
-    /// What it holds for shown is so.
+    /// Everything that it keeps as shown is true.
     ghost is_true: { Self → Type 0 } = { λ _. ⊤ };
 
-    /// What else is so from before a part of a walk until after it.
+    /// What else holds between the start and the end of a part of a walk.
     ghost parts: { Parts Self Self.Stop };
 
-    /// Takes a token at a node whose value is to be at least `least`, with `depth` plies left. Game
-    /// and stack are as before.
+    /// Takes a token at a node whose claim is a value of at least `least`, with `depth` plies left.
+    /// Game and stack are as before.
     fn take<G: Game>(
         &mut self,
         game: &mut G,
@@ -113,12 +113,12 @@ pub trait Walker {
             → seen self.new ≡ sight.view (rules.keep (position (G.course game.now)) depth least s) }
         ensures part { parts.goes self.old self.new };
 
-    /// What is seen of a walk has the count of what was taken.
+    /// The view of a walk has the count of tokens taken.
     ghost counts: { (s : Steps) → sight.place (sight.view s) ≡ held (rules.taken s) };
 
-    /// What is so of an unread walk stays so, however the walk goes on.
+    /// What holds of a walk whose items could not be read still holds however the walk goes on.
     ghost carries_on: { CarriesOn rules sight };
 
-    /// A walk that it ends is not shown.
+    /// A walk that the walker ends is not shown.
     ghost ends_short: { (stop : Self.Stop) → ending stop ≡ Shown → ⊥ };
 }

@@ -35,7 +35,8 @@ fn leaf_answer<S>(limit: Limit, worth: i32) -> Walked<S>
     }
 }
 
-/// The legal move at this place, counted from 0. Game and stack are as before.
+/// The legal move at this place, counted from 0, or `None` if there is no such place. Game and
+/// stack are as before.
 fn move_at<G: Game>(game: &mut G, place: u32, stack: &mut MoveStack) -> Option<Move>
     requires { 1 ≤ stack.old.free }
     ensures move_ { result ≡ slice_get (moves (position (G.course game.old))) place }
@@ -53,8 +54,8 @@ fn move_at<G: Game>(game: &mut G, place: u32, stack: &mut MoveStack) -> Option<M
     found
 }
 
-/// Walks a claim of the value of the position, with `depth` plies left, from 0 to 64. Game and
-/// stack are as before.
+/// Walks a claim of the value of the position with `depth` plies left, from 0 to 64. Game and stack
+/// are as before.
 #[cycle(walk)]
 pub fn walk_claim<G: Game, W: Walker>(
     game: &mut G,
@@ -87,8 +88,7 @@ pub fn walk_claim<G: Game, W: Walker>(
     }
 }
 
-/// The same of a claim of at most `most`, where the game goes on and a ply is left: walks a claim
-/// of each move.
+/// Walks a claim of at most `most`, if the game goes on and a ply is left: a claim for each move.
 #[cycle(walk)]
 fn walk_every<G: Game, W: Walker>(
     game: &mut G,
@@ -119,8 +119,7 @@ fn walk_every<G: Game, W: Walker>(
     walked
 }
 
-/// The same of a claim of at least `least`, behind the taking of the place of a move: walks a claim
-/// of that move.
+/// Walks a claim of at least `least`, once the place of a move was taken: a claim for that move.
 #[cycle(walk)]
 fn walk_below<G: Game, W: Walker>(
     game: &mut G,
@@ -154,8 +153,8 @@ fn walk_below<G: Game, W: Walker>(
     Walked::Done
 }
 
-/// Walks one claim of each of the moves of a level from place `from` on and before place `to`, with
-/// `depth` plies left behind each.
+/// Walks the same claim for each move of a level at places from `from` to `to - 1`, with `depth`
+/// plies left after each.
 #[cycle(walk)]
 pub(crate) fn walk_moves<G: Game, W: Walker>(
     game: &mut G,
@@ -192,7 +191,7 @@ pub(crate) fn walk_moves<G: Game, W: Walker>(
     Walked::Done
 }
 
-/// Walks a claim of the value behind a legal move, with `depth` plies left behind it.
+/// Walks a claim of the value after a legal move, with `depth` plies left after it.
 #[cycle(walk)]
 pub(crate) fn walk_child<G: Game, W: Walker>(
     game: &mut G,

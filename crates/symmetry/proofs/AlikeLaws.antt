@@ -135,7 +135,7 @@ same_shift p t u e =
     let two = same_right p.r t.r u.r (ap (λ (z : Place). z.r) e) in
     (λ i. record { q = one i; r = two i })
 
--- the place of a piece, where there is one
+-- the place of a piece, if it has one
 pub someone : (b : Stacks) → IsBoard b → (b ≡ []) ⊎ ((x : ℕ) × (q : Place) × StandsAt b x q 0)
 someone [] is = inl refl
 someone (e ∷ b) is = inr (first e.1 (ap (λ t. cond t (Some e.1) (stack_found b e.0)) (is_place_itself e.0)))

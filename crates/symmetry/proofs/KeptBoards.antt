@@ -1,4 +1,4 @@
--- A legal move leaves a board, and no piece of it stands more than one place further out.
+-- A legal move keeps a board a board, and no piece of it is more than one place further out.
 use Rattle.std.proofs.Common.{◌≡◌, ℕ, ◌+◌, ◌≤◌, ◌<◌, inl, inr, refl, sym, ◌∙◌, ap, subst, arith}
 use Rattle.std.specs.Prelude.{Some, None}
 use Rattle.std.proofs.lemmas.Int.{ints}

@@ -129,7 +129,7 @@ module _ (p r : Position) (s : ℕ) (is : IsBoard p.board) (js : IsBoard r.board
   unfolding key_of
   same_turn t h = record { game_type = h.game_type; side = h.side; rest = h.rest; turn = h.turn }
 
--- What `alike` answers
+-- What `alike` returns
 
 module _ (a b : KeyParts) (s : ℕ) where
   absent : (t : Place) → None ≡ Some t → {P : Type 0} → P

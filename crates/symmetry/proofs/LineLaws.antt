@@ -56,7 +56,7 @@ sum_short {X} f g h apart (x ∷ xs) ys d there =
 -- Lists of legal moves
 
 module _ (p r : Position) (s : ℕ) (t : Place) (is : IsBoard p.board) (js : IsBoard r.board) (a : Alike p r s t) where
-  -- moves that count as much as their images have the sum of all images
+  -- moves that count as much as their images have the same sum as all images
   pub sums_alike : (f g : Move → ℕ) → ((m : Move) → IsOn (moves p) m → f m ≡ g (move_by s t m)) → sum_by f (moves p) ≡ sum_by g (moves r)
   sums_alike f g same =
       let back : Move → Move = λ n. (moves_images s t n).0 in

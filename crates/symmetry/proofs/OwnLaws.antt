@@ -60,7 +60,7 @@ one_more n k own x high are shift number p is e s t = (listed, found)
           record { item = l.item; listed = append_left own (x ∷ []) l.item l.listed; symmetry = l.symmetry; shift = l.shift }
     ]
 
--- as many lists of moves go on behind a move as behind its image
+-- a move and its image are followed by as many lists of moves
 pub lines_own : (p : Position) (own : List OwnSymmetry) (o : OwnSymmetry) (m : Move) → IsBoard p.board → AreOwn (key p) own → IsOn own o → IsOn (moves p) m
     → (k n : ℕ) → StandsWithin k p.board → k + n < 9000 → lines (after p m) n ≡ lines (after p (move_by o.symmetry o.shift m)) n
 lines_own p own o m is are on legal k n w low =

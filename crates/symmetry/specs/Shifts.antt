@@ -12,13 +12,13 @@ use Rattle.hive_model.specs.Keys.{KeyParts, key, spot_in}
 use Rattle.symmetry.specs.Images.{image, moved_by}
 use Rattle.symmetry.specs.Alike.{Alike}
 
--- each piece stands in the plane, no coordinate larger in size than 9,000; in the key of a position
--- each does
+-- Each piece is in the plane: no coordinate exceeds 9,000 in absolute value. This holds in the key
+-- of every position.
 abbrev pub AreInPlane : KeyParts → Type 0
 AreInPlane k = (x : ℕ) (s : Spot) → x < 28 → spot_in k x ≡ Some s → IsWithin 9000 s.place
 
--- this is the shift by which the positions of two keys are alike, and there is none exactly where
--- they are not alike
+-- This is the shift by which the positions of two keys are alike. There is none exactly if they are
+-- not alike.
 abbrev pub IsShift : Option Place → KeyParts → KeyParts → ℕ → Type 0
 IsShift o a b s =
     (p r : Position) → IsBoard p.board → IsBoard r.board → a ≡ key p → b ≡ key r → (t : Place)
@@ -33,7 +33,7 @@ pub record HasSameTurn (a b : KeyParts) : Type 0 where
   pub rest : b.rest ≡ a.rest
   pub turn : b.turn ≡ a.turn
 
--- what is to be added to the first place
+-- the second place minus the first
 abbrev pub between : Place → Place → Place
 between a b = record { q = b.q -ℤ a.q; r = b.r -ℤ a.r }
 
@@ -42,7 +42,7 @@ abbrev pub shift_to : ℕ → Place → Option Spot → Option Place
 shift_to s q None = None
 shift_to s q (Some b) = Some (between (image s q) b.place)
 
--- a piece in play asks for this shift
+-- A piece in play determines this shift.
 pub record AsksFor (a b : KeyParts) (s : ℕ) (o : Option Place) : Type 0 where
   pub piece : ℕ
   pub is_piece : piece < 28
@@ -50,18 +50,18 @@ pub record AsksFor (a b : KeyParts) (s : ℕ) (o : Option Place) : Type 0 where
   pub stands : spot_in a piece ≡ Some spot
   pub shift : o ≡ shift_to s spot.place (spot_in b piece)
 
--- some piece in play asks for this shift, or no piece is in play, and then the shift is none
+-- Some piece in play determines this shift, or no piece is in play and the shift is zero.
 abbrev pub IsAsked : KeyParts → KeyParts → ℕ → Option Place → Type 0
 IsAsked a b s o = AsksFor a b s o ⊎ (((x : ℕ) → x < 28 → spot_in a x ≡ None) × (o ≡ Some origin))
 
--- the spot is taken by the symmetry and the shift to the other one
+-- the symmetry and the shift take the spot to the other one
 abbrev pub is_taken : ℕ → Place → Option Spot → Option Spot → Bool
 is_taken s t None None = true
 is_taken s t None (Some b) = false
 is_taken s t (Some a) None = false
 is_taken s t (Some a) (Some b) = nat_eq a.level b.level && is_place (moved_by s t a.place) b.place
 
--- the spot of each piece is
+-- they do so for the spot of each piece
 abbrev pub AreTaken : ℕ → Place → KeyParts → KeyParts → Type 0
 AreTaken s t a b = (x : ℕ) → x < 28 → IsTrue (is_taken s t (spot_in a x) (spot_in b x))
 
@@ -91,7 +91,7 @@ abbrev pub asked_by : ℕ → Option Spot → Option Spot → Option Place → O
 asked_by s None o later = later
 asked_by s (Some u) o later = shift_to s u.place o
 
--- the shift that the first of these pieces that is in play asks for
+-- The shift that the first of these pieces in play determines.
 abbrev pub asked_among : ℕ → KeyParts → KeyParts → List ℕ → Option Place
 asked_among s a b [] = Some origin
 asked_among s a b (x ∷ xs) = asked_by s (spot_in a x) (spot_in b x) (asked_among s a b xs)

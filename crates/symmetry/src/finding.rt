@@ -9,11 +9,11 @@ use crate::symmetry::Symmetry;
 use arrayvec::ArrayVec;
 use hive_model::Key;
 
-/// The symmetries of one position but the identity. Most positions have none.
+/// The symmetries of one position, without the identity. Most positions have none.
 pub type OwnSymmetries = ArrayVec<OwnSymmetry, 11>;
 
-/// The symmetries but the identity by which the position of the key is alike to itself. The image
-/// of a legal move by one of them is legal, and as many lists of moves go on behind it.
+/// The symmetries, except the identity, by which the position of the key is alike to itself. The
+/// image of a legal move by one of them is legal and is followed by as many lists of moves.
 pub fn own_symmetries(key: &Key) -> OwnSymmetries
     ensures { AreOwn key.now result.items }
 {
@@ -24,7 +24,7 @@ pub fn own_symmetries(key: &Key) -> OwnSymmetries
     own
 }
 
-/// Adds the symmetry of this number, if the position of the key is alike to itself by it.
+/// Adds the symmetry with this number, if the position of the key is alike to itself by it.
 fn add_own(own: &mut OwnSymmetries, key: &Key, index: u8)
     requires number { 0 < index }
     requires symmetry { index < 12 }

@@ -9,8 +9,8 @@ ghost use Rattle.symmetry.specs.Shifts.{is_taken, AreTaken};
 use crate::symmetry::Symmetry;
 use hive_model::{Key, Piece, Place, Spot};
 
-/// The shift by which the position of one key is alike to that of another by this symmetry, if they
-/// are alike. It is the only one. No coordinate of it is larger in size than 40,000.
+/// The shift by which the position of one key is alike to that of the other by this symmetry, if
+/// they are alike. It is the only one. No coordinate of it exceeds 40,000 in absolute value.
 pub fn alike(from: &Key, to: &Key, symmetry: Symmetry) -> Option<Place>
     ensures shift { IsShift result from.now to.now symmetry }
     ensures within { IfSome result (λ t. IsWithin 40000 t) }
@@ -34,7 +34,7 @@ pub fn alike(from: &Key, to: &Key, symmetry: Symmetry) -> Option<Place>
     }
 }
 
-/// Whether all pieces stand in the plane. In the key of a position they do; the sums of coordinates
+/// Whether all pieces are in the plane. In the key of a position they are. The sums of coordinates
 /// below rest on it.
 fn are_in_plane(key: &Key) -> bool
     ensures inside { IsTrue result → AreInPlane key.now }
@@ -50,7 +50,7 @@ fn are_in_plane(key: &Key) -> bool
     true
 }
 
-/// Whether no coordinate is larger in size than 9,000.
+/// Whether no coordinate exceeds 9,000 in absolute value.
 fn is_in_plane(place: Place) -> bool
     ensures inside { IsTrue result → IsWithin 9000 place }
     ensures outside { IsWithin 9000 place → IsTrue result }
@@ -69,8 +69,8 @@ fn has_same_turn(from: &Key, to: &Key) -> bool
         && to.turn() == from.turn()
 }
 
-/// The shift that the first piece in play asks for, if the other key has it in play. Where no piece
-/// is in play the shift is none.
+/// The shift that the first piece in play determines, if the other key has it in play. If no piece
+/// is in play, the shift is zero.
 fn shift_asked(from: &Key, to: &Key, symmetry: Symmetry) -> Option<Place>
     requires from { AreInPlane from.now }
     requires to { AreInPlane to.now }
@@ -89,7 +89,7 @@ fn shift_asked(from: &Key, to: &Key, symmetry: Symmetry) -> Option<Place>
     Some(Place { q: 0, r: 0 })
 }
 
-/// What is to be added to the first place.
+/// The second place minus the first.
 fn between(from: Place, to: Place) -> Place
     requires from { IsWithin 20000 from }
     requires to { IsWithin 9000 to }
@@ -118,7 +118,7 @@ fn are_taken(from: &Key, to: &Key, symmetry: Symmetry, shift: Place) -> bool
     true
 }
 
-/// Whether symmetry and shift take the spot to the other.
+/// Whether symmetry and shift take the first spot to the second.
 fn is_taken(from: Option<Spot>, to: Option<Spot>, symmetry: Symmetry, shift: Place) -> bool
     requires from { (s : Spot) → from ≡ Some s → IsWithin 9000 s.place }
     requires shift { IsWithin 40000 shift }
@@ -133,7 +133,7 @@ fn is_taken(from: Option<Spot>, to: Option<Spot>, symmetry: Symmetry, shift: Pla
     }
 }
 
-/// The place with the shift added.
+/// The place plus the shift.
 pub fn moved(place: Place, shift: Place) -> Place
     requires place { IsWithin 20000 place }
     requires shift { IsWithin 40000 shift }

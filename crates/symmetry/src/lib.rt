@@ -1,5 +1,5 @@
-//! Symmetry: positions that are one another turned, mirrored and shifted have the same moves,
-//! turned, mirrored and shifted.
+//! Symmetry: positions that are rotations, reflections and shifts of one another have the same
+//! moves, rotated, reflected and shifted.
 #![tactic(auto)]
 
 mod finding;

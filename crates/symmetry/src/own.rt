@@ -27,7 +27,8 @@ impl Default for OwnSymmetry {
 }
 
 impl OwnSymmetry {
-    /// Where it takes a move: the same piece goes to the image of the place, and a pass stays one.
+    /// The image of a move: the same piece goes to the image of the place. The image of a pass is
+    /// the pass.
     pub fn image_of(&self, m: Move) -> Move
         requires { IsPlaced m }
         ensures { result ≡ move_by self.now.symmetry self.now.shift m }

@@ -20,14 +20,14 @@ const BASE: GameType = GameType {
     pillbug: false,
 };
 
-/// The game with all three further bugs.
+/// The game with all three expansions.
 const ALL: GameType = GameType {
     mosquito: true,
     ladybug: true,
     pillbug: true,
 };
 
-/// How a match, a cup or a tournament is played where its words do not say how.
+/// The setup of a match, a cup or a tournament if its words give none.
 const USUAL: Setup = Setup {
     game_type: BASE,
     level: Level::Depth { depth: 2 },
@@ -35,14 +35,14 @@ const USUAL: Setup = Setup {
     repetition: false,
 };
 
-/// Words, separated by `|`, and how the match, or each game of the cup, is played that they ask
-/// for.
+/// Words, separated by `|`, and the setup of the match, or of each game of the cup, for which they
+/// ask.
 struct Played {
     words: &'static str,
     setup: Setup,
 }
 
-/// What stands between the separators of a text, or no word where it is empty.
+/// The parts between the separators of a text, or no word if it is empty.
 fn words_of(alloc: Global, text: &str, separator: char) -> Result<Vec<String>, AllocError> {
     let mut words = Vec::new(alloc);
     if text.is_empty() {
@@ -65,13 +65,13 @@ fn are_words_of(
     Ok(words == wanted.as_slice())
 }
 
-/// Whether words, separated by `|`, ask for just this, or for nothing where this is none.
+/// Whether words, separated by `|`, ask for exactly this, or for nothing if this is `None`.
 fn ask_for(alloc: Global, text: &str, asked: Option<Asked>) -> Result<bool, AllocError> {
     let words = words_of(alloc, text, '|')?;
     Ok(asked_of(alloc, words.as_slice())? == asked)
 }
 
-/// That each of these words, separated by `|`, ask for nothing.
+/// Asserts that each of these words, separated by `|`, ask for nothing.
 fn expect_nothing<R: Abort>(rt: &R, alloc: Global, texts: &[&str]) -> Result<(), AllocError> {
     for text in texts {
         let holds = ask_for(alloc, text, None)?;
@@ -80,13 +80,13 @@ fn expect_nothing<R: Abort>(rt: &R, alloc: Global, texts: &[&str]) -> Result<(),
     Ok(())
 }
 
-/// Whether a program has this text, and the words between the spaces of it.
+/// Whether a program has this text, and the words between its spaces.
 fn is_program(alloc: Global, program: &Program, text: &str) -> Result<bool, AllocError> {
     let same = are_words_of(alloc, program.words(), text, ' ')?;
     Ok(same && program.text() == text.as_bytes())
 }
 
-/// Whether these are just the programs of the texts between the semicolons of a text.
+/// Whether these are exactly the programs of the texts between the semicolons of a text.
 fn are_programs(alloc: Global, programs: &[Program], text: &str) -> Result<bool, AllocError> {
     let texts = words_of(alloc, text, ';')?;
     for (program, text) in programs.iter().zip(texts.iter()) {

@@ -1,4 +1,4 @@
-//! The texts of moves, the words of the command line and those of the protocol, tried on rows
+//! Tests of the texts of moves, the words of the command line and those of the protocol, on rows
 //! written by hand.
 #![tactic(auto)]
 

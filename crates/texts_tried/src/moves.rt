@@ -1,4 +1,4 @@
-//! Of `move_text`: each form of a move text, each fault, and each field once.
+//! Tests of `move_text`: each form of a move text, each fault, and each field once.
 
 ghost use Rattle.std.specs.Prelude.{◌≡◌};
 

@@ -1,4 +1,5 @@
-//! Of `option_words`: words and the answers that the form of the command line gives them.
+//! Tests of `option_words`: words, and the answers that the form of the command line gives for
+//! them.
 
 use option_words::{one_option, options_of};
 use std::alloc::Global;

@@ -1,4 +1,4 @@
-//! Of `uhp_words`: lines with odd spaces, lines that are refused, and the lines of a reply.
+//! Tests of `uhp_words`: lines with odd spaces, lines that are refused, and the lines of a reply.
 
 use hive_model::ReplyText;
 use std::alloc::AllocError;

@@ -1,4 +1,4 @@
--- The function that computes the command of a line answers exactly what the grammar says.
+-- The function that computes the command of a line returns exactly what the grammar says.
 use Rattle.std.proofs.Common.{◌≡◌, ◌≢◌, ℕ, ◌+◌, List, length, refl, sym, ◌∙◌, ap, subst, arith, inl, inr}
 use Rattle.std.specs.Prelude.{Option, Some, None, Result, Ok, Err, IfOk, IfErr}
 use Rattle.uhp_words.specs.declared.span.Span.{Span}
@@ -147,7 +147,7 @@ within line (OptionGet name) h = h.means.1.name_is.within
 within line (OptionSet name value) h = (h.means.1.name_is.within, h.means.1.value_is.within)
 within line Exit h = tt
 
--- The clauses of a reader that answers what the function computes
+-- The clauses of a reader that returns what the function computes
 
 pub reads_command : (line : List ℕ) (r : Result Command CommandFault) → r ≡ command_of line → IfOk r (λ c. IsCommand line c)
 reads_command line (Ok c) e = command_found line c (sym e)

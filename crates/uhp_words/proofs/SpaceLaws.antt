@@ -6,7 +6,7 @@ use Rattle.std.proofs.lemmas.List.{append-nil, length-append, take_more}
 use Rattle.std.proofs.Math.Seq.{take-length}
 use Rattle.uhp_words.specs.Spaces.{spaces, HasNoSpace, after_spaces, before_spaces, closed, first_word, after_word, is_empty, is_word}
 
--- Spaces in front
+-- Leading spaces
 
 pub after_spaces-spaces : (n : ℕ) (xs : List ℕ) → after_spaces (spaces n ++ xs) ≡ after_spaces xs
 after_spaces-spaces zero xs = refl
@@ -56,7 +56,7 @@ closed_front : (b : ℕ) (bs : List ℕ) (c : ℕ) (cs : List ℕ) → closed b 
 closed_front b [] c cs = refl
 closed_front b (x ∷ xs) c cs = refl
 
--- what stands in front of a text that is not empty is kept
+-- what precedes a text that is not empty is kept
 pub before_spaces-front : (xs ys : List ℕ) (c : ℕ) (cs : List ℕ) → before_spaces ys ≡ c ∷ cs → before_spaces (xs ++ ys) ≡ xs ++ c ∷ cs
 before_spaces-front [] ys c cs e = e
 before_spaces-front (b ∷ bs) ys c cs e = ap (closed b) (before_spaces-front bs ys c cs e) ∙ closed_front b bs c cs

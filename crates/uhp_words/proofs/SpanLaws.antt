@@ -1,4 +1,4 @@
--- Where the words of a line stand.
+-- The spans of the words of a line.
 use Rattle.std.proofs.Common.{◌≡◌, ℕ, ◌+◌, List, ◌++◌, length, take, drop, sym, ◌∙◌, ap, arith, append_assoc, length-append}
 use Rattle.std.proofs.Math.Seq.{take-append_seam, drop-append_seam}
 use Rattle.uhp_words.specs.declared.span.Span.{Span}
@@ -6,7 +6,7 @@ use Rattle.uhp_words.specs.Spaces.{spaces, Split, rest_at}
 use Rattle.uhp_words.specs.Spans.{IsPart}
 use Rattle.uhp_words.proofs.SplitLaws.{length-spaces}
 
--- the text stands behind so many bytes
+-- the text comes after this many bytes
 pub record Lies (line : List ℕ) (at : ℕ) (text : List ℕ) : Type 0 where
   pub front : List ℕ
   pub back : List ℕ

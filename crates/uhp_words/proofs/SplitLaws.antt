@@ -139,7 +139,7 @@ reads_bare text s bare =
       place = λ some. ap length (sym kept) ∙ read.place some;
     }
 
--- nothing stands in front of the first word of such a text
+-- nothing precedes the first word of such a text
 pub first_at : (text : List ℕ) (s : Split text) → IsBare text → s.before ≡ 0
 first_at text s bare = go s.before s.text_is
   where

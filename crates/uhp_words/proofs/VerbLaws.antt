@@ -1,4 +1,4 @@
--- A first word names a command exactly where it is the word of the command.
+-- A first word names a command exactly if it is the word of the command.
 use Rattle.std.proofs.Common.{◌≡◌, ◌≢◌, ℕ, List, [], refl}
 use Rattle.std.specs.Prelude.{Some}
 use Rattle.uhp_words.specs.declared.verb.Verb.{Verb}

@@ -1,4 +1,4 @@
--- Which command a line is, by the words and the spaces of the line.
+-- Which command a line is, by its words and spaces.
 use Rattle.std.specs.Prelude.{◌≡◌, ◌≢◌, ℕ, ◌+◌, ◌⊎◌, List, [], codes}
 use Rattle.hive_model.specs.Fields.{IsNumberText, IsTimeText}
 use Rattle.uhp_words.specs.declared.span.Span.{Span}
@@ -11,28 +11,28 @@ use Rattle.uhp_words.specs.Spaces.{HasNoSpace, Split, rest_at}
 use Rattle.uhp_words.specs.Spans.{IsPart, IsWithin}
 use Rattle.uhp_words.specs.Verbs.{verb_text}
 
--- the first word, and nothing behind it
+-- the first word, and nothing after it
 abbrev pub IsAlone : {line : List ℕ} → Split line → List ℕ → Type 0
 IsAlone s word = (s.word ≡ word) × (s.rest ≡ [])
 
--- `depth`, spaces, and the number of plies
+-- `depth`, spaces, and a number of plies
 pub record IsDepth (rest : List ℕ) (depth : ℕ) : Type 0 where
   pub split : Split rest
   pub word : split.word ≡ codes "depth"
   pub number : IsNumberText split.rest 1 64 depth
 
--- `time`, spaces, and the time as `hh:mm:ss`
+-- `time`, spaces, and a time as `hh:mm:ss`
 pub record IsTime (rest : List ℕ) (budget : ℕ) : Type 0 where
   pub split : Split rest
   pub word : split.word ≡ codes "time"
   pub time : IsTimeText split.rest budget
 
--- nothing, which means one ply, or the number of plies
+-- nothing, which means one ply, or a number of plies
 abbrev pub IsPlies : List ℕ → ℕ → Type 0
 IsPlies rest plies = ((rest ≡ []) × (plies ≡ 1)) ⊎ IsNumberText rest 1 999999999 plies
 
--- `get`, spaces, and a name: one word, of which `name` is the part of the line; the rest stands
--- behind so many bytes of the line
+-- `get`, spaces, and a name of one word. `name` is the span of that word in the line. The rest
+-- begins after the first `at` bytes of the line.
 pub record IsGet (line : List ℕ) (at : ℕ) (rest : List ℕ) (name : Span) : Type 0 where
   pub split : Split rest
   pub word : split.word ≡ codes "get"
@@ -40,7 +40,7 @@ pub record IsGet (line : List ℕ) (at : ℕ) (rest : List ℕ) (name : Span) : 
   pub one_word : HasNoSpace split.rest
   pub name_is : IsPart line name (at + rest_at split) split.rest
 
--- `set`, spaces, a name, spaces, and a value, each one word
+-- `set`, spaces, a name, spaces, and a value; name and value are one word each
 pub record IsSet (line : List ℕ) (at : ℕ) (rest : List ℕ) (name value : Span) : Type 0 where
   pub split : Split rest
   pub word : split.word ≡ codes "set"
@@ -67,17 +67,17 @@ Means line s (OptionSet name value) =
     (s.word ≡ codes "options") × IsSet line (rest_at s) s.rest name value
 Means line s Exit = IsAlone s (codes "exit")
 
--- the line is this command
+-- The line is this command.
 pub record IsCommand (line : List ℕ) (command : Command) : Type 0 where
   pub split : Split line
   pub means : Means line split command
 
--- the first word is no command, as in an empty line
+-- The first word is not a command, as in an empty line.
 pub record IsUnknown (line : List ℕ) : Type 0 where
   pub split : Split line
   pub no_verb : (verb : Verb) → split.word ≢ verb_text verb
 
--- the first word is a command, and the line is none
+-- The first word is a command, but the line is not.
 pub record HasWrongArguments (line : List ℕ) : Type 0 where
   pub split : Split line
   pub verb : Verb
@@ -88,7 +88,7 @@ abbrev pub IsFault : List ℕ → CommandFault → Type 0
 IsFault line Unknown = IsUnknown line
 IsFault line Arguments = HasWrongArguments line
 
--- the parts that a command names lie in the line
+-- The spans of a command lie in the line.
 abbrev pub AreWithin : List ℕ → Command → Type 0
 AreWithin line (NewGame text) = IsWithin line text
 AreWithin line (Play text) = IsWithin line text

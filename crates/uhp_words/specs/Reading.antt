@@ -12,12 +12,12 @@ use Rattle.uhp_words.specs.Spaces.{after_spaces, before_spaces, first_word, rest
 use Rattle.uhp_words.specs.Spans.{span_of}
 use Rattle.uhp_words.specs.Verbs.{verb_at}
 
--- a command that takes nothing more
+-- a command that takes no arguments
 abbrev pub alone : Command → List ℕ → Option Command
 alone command [] = Some command
 alone command (b ∷ bs) = None
 
--- The text is the line without the spaces at its end, here and below: a rest is its last bytes.
+-- The text is the line without its final spaces, here and below. A rest is a suffix of it.
 abbrev pub play_of : List ℕ → List ℕ → Option Command
 play_of text [] = None
 play_of text (b ∷ bs) = Some (Play (span_of text (b ∷ bs) (b ∷ bs)))
@@ -40,7 +40,7 @@ limit_of word text =
     if bytes_eq word (codes "depth") then depth_of (number_at text 1 64) else
     if bytes_eq word (codes "time") then time_of (time_at text) else None
 
--- how many plies to take back: one, where nothing is said
+-- how many plies to undo; one if no number is given
 abbrev pub undo_of : List ℕ → Option Command
 undo_of [] = Some (Undo 1)
 undo_of (b ∷ bs) = plies_of (number_at (b ∷ bs) 1 999999999)
@@ -59,12 +59,12 @@ option_of text word more =
     if bytes_eq word (codes "get") then get_of text more else
     if bytes_eq word (codes "set") then set_of text more else None
 
--- what to do with the options: list them, where nothing is said
+-- what to do with the options; list them if nothing else is asked
 abbrev pub options_of : List ℕ → List ℕ → Option Command
 options_of text [] = Some Options
 options_of text (b ∷ bs) = option_of text (first_word (b ∷ bs)) (rest_of (b ∷ bs))
 
--- the command that a first word and the rest of the line make
+-- the command of a first word and the rest of the line
 abbrev pub arguments_of : List ℕ → Verb → List ℕ → Option Command
 arguments_of text InfoWord rest = alone Info rest
 arguments_of text NewGameWord rest = Some (NewGame (span_of text rest rest))

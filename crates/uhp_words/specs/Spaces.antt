@@ -1,12 +1,12 @@
--- Words and the spaces between them, and the one way to split a text into a first word and a rest.
+-- Words, the spaces between them, and the one way to split a text into a first word and a rest.
 use Rattle.std.specs.Prelude.{◌≡◌, ◌≢◌, ℕ, zero, suc, ◌+◌, ◌<◌, Bool, true, false, List, [], ◌∷◌, ◌++◌, length, nat_eq, if◌then◌else◌}
 
--- so many spaces
+-- n spaces
 abbrev pub spaces : ℕ → List ℕ
 spaces zero = []
 spaces (suc n) = 32 ∷ spaces n
 
--- no byte of the text is a space
+-- No byte of the text is a space.
 abbrev pub HasNoSpace : List ℕ → Type 0
 HasNoSpace [] = Unit {0}
 HasNoSpace (b ∷ bs) = (b ≢ 32) × HasNoSpace bs
@@ -16,8 +16,8 @@ pub record IsBare (text : List ℕ) : Type 0 where
   pub begins : (back : List ℕ) → text ≢ 32 ∷ back
   pub ends : (front : List ℕ) → text ≢ front ++ 32 ∷ []
 
--- A rest stands behind a word and at least one space. Where there is no rest, the spaces behind the
--- word are those at the end.
+-- A rest comes after a word and at least one space. If there is no rest, the spaces after the word
+-- count as final ones.
 abbrev pub IsApart : List ℕ → ℕ → List ℕ → Type 0
 IsApart word between [] = between ≡ 0
 IsApart word between (b ∷ bs) = (word ≢ []) × (0 < between)
@@ -34,21 +34,21 @@ pub record Split (text : List ℕ) : Type 0 where
   pub rest_is : IsBare rest
   pub apart : IsApart word between rest
 
--- how many bytes stand in front of the rest
+-- the number of bytes before the rest
 abbrev pub rest_at : {text : List ℕ} → Split text → ℕ
 rest_at s = s.before + length s.word + s.between
 
--- the text without the spaces in front
+-- the text without its leading spaces
 abbrev pub after_spaces : List ℕ → List ℕ
 after_spaces [] = []
 after_spaces (b ∷ bs) = if nat_eq b 32 then after_spaces bs else b ∷ bs
 
--- a byte in front of a text without spaces at its end
+-- a byte before a text without final spaces
 abbrev pub closed : ℕ → List ℕ → List ℕ
 closed b [] = if nat_eq b 32 then [] else b ∷ []
 closed b (c ∷ cs) = b ∷ (c ∷ cs)
 
--- the text without the spaces at its end
+-- the text without its final spaces
 abbrev pub before_spaces : List ℕ → List ℕ
 before_spaces [] = []
 before_spaces (b ∷ bs) = closed b (before_spaces bs)
@@ -63,7 +63,7 @@ abbrev pub after_word : List ℕ → List ℕ
 after_word [] = []
 after_word (b ∷ bs) = if nat_eq b 32 then b ∷ bs else after_word bs
 
--- what stands behind the first word and the spaces that follow it
+-- what follows the first word and the spaces after it
 abbrev pub rest_of : List ℕ → List ℕ
 rest_of text = after_spaces (after_word text)
 
@@ -71,7 +71,7 @@ abbrev pub is_empty : List ℕ → Bool
 is_empty [] = true
 is_empty (b ∷ bs) = false
 
--- the text is one word: not empty, and without a space
+-- The text is one word: not empty, and without spaces.
 abbrev pub is_word : List ℕ → Bool
 is_word [] = false
 is_word (b ∷ bs) = is_empty (after_word (b ∷ bs))

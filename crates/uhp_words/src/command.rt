@@ -1,44 +1,44 @@
-//! What a line can be.
+//! The commands of the protocol.
 
 use crate::span::Span;
 use thiserror::Error;
 
-/// A command, with what the words behind the first one say.
+/// A command with its arguments.
 #[derive(Clone, Copy, Debug, PartialEq, Eq)]
 pub enum Command {
-    /// Who the engine is.
+    /// Report who the engine is.
     Info,
-    /// Begin the game that the text tells. An empty text stands for the game without any expansion.
+    /// Begin the game that the text describes. An empty text is the game without expansions.
     NewGame { text: Span },
     /// Play the move that the text names.
     Play { text: Span },
-    /// Play no move.
+    /// Pass.
     Pass,
     /// List the legal moves.
     ValidMoves,
-    /// Search so many plies deep, 1 to 64.
+    /// Search to this depth, 1 to 64.
     BestDepth { depth: u32 },
-    /// Search for so many milliseconds, whole seconds below a hundred hours.
+    /// Search for this many milliseconds: whole seconds, less than a hundred hours.
     BestTime { budget: u64 },
-    /// Take back so many plies, 1 to 999,999,999.
+    /// Undo this many plies, 1 to 999,999,999.
     Undo { plies: u32 },
     /// List the options.
     Options,
-    /// Tell the option of this name.
+    /// Report the option of this name.
     OptionGet { name: Span },
-    /// Give the option of this name this value.
+    /// Set the option of this name to this value.
     OptionSet { name: Span, value: Span },
     /// End the session.
     Exit,
 }
 
-/// Why a line is no command.
+/// Why a line is not a command.
 #[derive(Clone, Copy, Debug, PartialEq, Eq, Error)]
 pub enum CommandFault {
-    /// The first word is no command, or the line is empty.
+    /// The first word is not a command, or the line is empty.
     #[error("the first word is no command")]
     Unknown,
-    /// The first word is a command, and the rest is not of its form.
+    /// The first word is a command, but the rest does not have its form.
     #[error("the rest of the line is not of the form that the command takes")]
     Arguments,
 }

@@ -1,4 +1,4 @@
-//! The words of the protocol: which command a line is, and the lines of a reply.
+//! Words of the Universal Hive Protocol (UHP): which command a line is, and the lines of a reply.
 #![tactic(auto)]
 
 mod command;

@@ -24,7 +24,7 @@ use crate::verb::{Verb, verb_at};
 use crate::words::{after_spaces, before_spaces, first_word, is_word, rest_of};
 use move_text::{read_number, read_time};
 
-/// A command that takes nothing more.
+/// A command that takes no arguments.
 fn alone(command: Command, rest: &[u8]) -> Option<Command>
     ensures { result ≡ alone command rest.now }
 {
@@ -63,7 +63,7 @@ fn limit_of(rest: &[u8]) -> Option<Command>
     None
 }
 
-/// How many plies to take back: one, where nothing is said.
+/// How many plies to undo: one if no number is given.
 fn undo_of(rest: &[u8]) -> Option<Command>
     ensures { result ≡ undo_of rest.now }
 {
@@ -76,7 +76,7 @@ fn undo_of(rest: &[u8]) -> Option<Command>
     })
 }
 
-/// The option to tell.
+/// The option to report.
 fn get_of(text: &[u8], name: &[u8]) -> Option<Command>
     requires short { length text.now ≤ greatest_line }
     requires within { length name.now ≤ length text.now }
@@ -106,7 +106,7 @@ fn set_of(text: &[u8], both: &[u8]) -> Option<Command>
     })
 }
 
-/// What to do with the options: list them, where nothing is said.
+/// What to do with the options: list them if nothing else is asked.
 fn options_of(text: &[u8], rest: &[u8]) -> Option<Command>
     requires short { length text.now ≤ greatest_line }
     requires within { length rest.now ≤ length text.now }
@@ -125,7 +125,7 @@ fn options_of(text: &[u8], rest: &[u8]) -> Option<Command>
     None
 }
 
-/// The command that a first word and the rest of the line make.
+/// The command of a first word and the rest of the line.
 fn arguments_of(text: &[u8], verb: Verb, rest: &[u8]) -> Option<Command>
     requires short { length text.now ≤ greatest_line }
     requires within { length rest.now ≤ length text.now }
@@ -146,7 +146,7 @@ fn arguments_of(text: &[u8], verb: Verb, rest: &[u8]) -> Option<Command>
     }
 }
 
-/// The command of a line, as the definition computes it.
+/// The command of a line, as its definition computes it.
 #[tactic(auto, unfolding(crate::specs::Reading::command_of))]
 fn command_of(line: &[u8]) -> Result<Command, CommandFault>
     requires { length line.now ≤ greatest_line }
@@ -163,13 +163,13 @@ fn command_of(line: &[u8]) -> Result<Command, CommandFault>
     }
 }
 
-/// The command that a line is. The spaces at both ends do not count; the first word ends at the
-/// first space, and the rest begins behind the spaces that follow.
+/// The command that a line is. Spaces at both ends do not count. The first word ends at the first
+/// space, and the rest begins after the spaces that follow.
 ///
 /// # Errors
 ///
-/// `Unknown` where the first word is no command, as in an empty line; `Arguments` where it is one
-/// and the rest is not of its form.
+/// `Unknown` if the first word is not a command, as in an empty line. `Arguments` if it is one and
+/// the rest does not have its form.
 pub fn read_command(line: &[u8]) -> Result<Command, CommandFault>
     requires { length line.now ≤ greatest_line }
     ensures computes { result ≡ command_of line.now }

@@ -5,7 +5,7 @@ ghost use Rattle.std.specs.Prelude.{◌≡◌, ◌⊎◌, [], ◌∷◌, ◌++�
 use hive_model::ReplyText;
 use std::alloc::AllocError;
 
-/// Appends the line and LF to the reply. After want of memory the reply is as before, or it has
+/// Appends the line and an LF to the reply. If memory runs out, the reply is unchanged, or it has
 /// gained the line without its LF.
 pub fn write_reply(text: &mut ReplyText, line: &[u8]) -> Result<(), AllocError>
     ensures written { OnOk result (text.new ≡ text.old ++ (line.now ++ 10 ∷ [])) }

@@ -4,7 +4,7 @@ ghost use Rattle.std.specs.Prelude.{◌≡◌, ◌+◌, ◌≤◌, length};
 ghost use Rattle.uhp_words.specs.Spans.{bytes_at, span_of};
 ghost use Rattle.io_edge.specs.Lines.{greatest_line};
 
-/// A part of a line: it begins behind `at` bytes and has `len` bytes.
+/// A part of a line: it begins after `at` bytes and has `len` bytes.
 #[derive(Clone, Copy, Debug, PartialEq, Eq)]
 pub struct Span {
     pub at: u32,
@@ -20,7 +20,7 @@ pub fn part(line: &[u8], span: Span) -> &[u8]
     &line[start..start + span.len as usize]
 }
 
-/// Where the word stands with which `rest` begins, the last bytes of the text.
+/// The span of the word with which `rest` begins, if `rest` is a suffix of the text.
 pub(crate) fn span_of(text: &[u8], rest: &[u8], word: &[u8]) -> Span
     requires short { length text.now ≤ greatest_line }
     requires within { length rest.now ≤ length text.now }

@@ -3,7 +3,7 @@
 ghost use Rattle.std.specs.Prelude.{◌≡◌};
 ghost use Rattle.uhp_words.specs.Verbs.{verb_at};
 
-/// Which command the first word of a line names.
+/// The command that the first word of a line names.
 #[derive(Clone, Copy, Debug, PartialEq, Eq)]
 pub enum Verb {
     Info,

@@ -10,7 +10,7 @@ ghost use Rattle.uhp_words.specs.Spaces.{
   is_word,
 };
 
-/// The text without the spaces in front.
+/// The text without its leading spaces.
 pub(crate) fn after_spaces(text: &[u8]) -> &[u8]
     ensures value { result.now ≡ after_spaces text.now }
     ensures within { length result.now ≤ length text.now }
@@ -22,7 +22,7 @@ pub(crate) fn after_spaces(text: &[u8]) -> &[u8]
     rest
 }
 
-/// The text without the spaces at its end.
+/// The text without its final spaces.
 pub(crate) fn before_spaces(text: &[u8]) -> &[u8]
     ensures value { result.now ≡ before_spaces text.now }
     ensures within { length result.now ≤ length text.now }
@@ -60,7 +60,7 @@ pub(crate) fn first_word(text: &[u8]) -> &[u8]
     &text[..text.len() - after_word(text).len()]
 }
 
-/// What stands behind the first word and the spaces that follow it.
+/// What follows the first word and the spaces after it.
 pub(crate) fn rest_of(text: &[u8]) -> &[u8]
     ensures value { result.now ≡ rest_of text.now }
     ensures within { length result.now ≤ length text.now }
@@ -68,7 +68,7 @@ pub(crate) fn rest_of(text: &[u8]) -> &[u8]
     after_spaces(after_word(text))
 }
 
-/// Whether the text is one word: not empty, and without a space.
+/// Whether the text is one word: not empty, and without spaces.
 pub(crate) fn is_word(text: &[u8]) -> bool
     ensures { result ≡ is_word text.now }
 {

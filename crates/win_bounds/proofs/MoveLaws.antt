@@ -1,4 +1,5 @@
--- No legal move surrounds a queen that is out of reach: the other side's far from a win, and the own one far from a loss.
+-- No legal move surrounds a queen that is out of reach: the other side's if far from a win, the
+-- side's own if far from a loss.
 use Rattle.std.proofs.Common.{◌≡◌, ◌≢◌, ℕ, ◌-◌, ◌≤◌, true, false, length, inl, inr, refl, sym, ◌∙◌, ap, subst, arith}
 use Rattle.std.specs.Prelude.{Some, None, IsTrue, nat_eq, slice_get}
 use Rattle.std.specs.List.{filter}
@@ -56,7 +57,7 @@ alone_top b y t stands alone =
     let last : height_at b t.place - 1 ≡ t.level = omega (arith, low, alone) in
     ap (slice_get (stack_at b t.place)) last ∙ at
 
--- who is thrown into a hole stands beside such a thrower
+-- a piece that is thrown into a hole was beside such a thrower
 thrown_beside : (p : Position) (x : ℕ) (q : Place) (h : Throw p x q) → ((d : Dir) → IsTrue (is_occupied p.board (step q d))) → IsBesideThrower p.board p.side h.from.place
 thrown_beside p x q h round =
     let d = h.throws.beside.0 in
@@ -72,7 +73,7 @@ thrown_beside p x q h round =
       hole = subst (IsHole p.board) down (record { empty = h.throws.empty; round = round });
     }
 
--- a queen who is moved by herself is not surrounded then
+-- a queen that moves herself is not surrounded afterwards
 pub record IsSpared (p : Position) (c : Colour) : Type 0 where
   pub placed : (x : ℕ) (q : Place) → Placement p x q → x ≡ queen_of c → IsSurrounded (after_board p.board (To x q)) c → ⊥
   pub walked : (x : ℕ) (q : Place) → Walk p x q → x ≡ queen_of c → IsSurrounded (after_board p.board (To x q)) c → ⊥
@@ -123,7 +124,7 @@ module _ (p : Position) (is : IsBoard p.board) (c : Colour) (far : IsOutOfReach 
   unfolding after
   unreached_moves spared m on = false_from_ne_true _ (λ e. not_surrounded spared m on (surrounded_from (after_board p.board m) c e))
 
--- the other side's queen is neither placed nor walks
+-- the other side's queen is not placed, and does not walk
 other_spared : (p : Position) → IsSpared p (other_side p.side)
 other_spared p = record { placed = λ x q placed same h. own_spares p.side x placed.own same; walked = λ x q walk same h. own_spares p.side x walk.own same }
 
@@ -152,7 +153,7 @@ left_empty b is x s at alone q other occupied =
           apart (let one : first.0 ≡ x = cc in one)
     ] refl
 
--- where the own queen walks, she leaves an empty place beside her
+-- if the side's own queen walks, she leaves an empty place beside her
 queen_walks : (p : Position) → IsBoard p.board → IsFarFromLoss p → (x : ℕ) (q : Place) → Walk p x q → x ≡ queen_of p.side → IsSurrounded (after_board p.board (To x q)) p.side → ⊥
 queen_walks p is far x q walk same h =
     let b = p.board in

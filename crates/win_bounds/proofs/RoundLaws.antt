@@ -42,6 +42,6 @@ all_but_one f p q (d ∷ ds) apart h =
           omega (arith, all)
     ] refl
 
--- where each neighbour passes or is q, five pass
+-- if each neighbour passes or is q, five pass
 pub five_round : (f : Place → Bool) (p q : Place) → ((d : Dir) → (f (step p d) ≡ true) ⊎ (step p d ≡ q)) → 5 ≤ length (filter f (neighbours p))
 five_round f p q h = let most = all_but_one f p q dirs refl (λ d _. h d) in omega (arith, most)

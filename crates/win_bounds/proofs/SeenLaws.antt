@@ -1,4 +1,4 @@
--- What the directions seen so far tell of the whole ring round a place.
+-- What the directions seen so far show of the whole ring around a place.
 use Rattle.std.proofs.Common.{◌≡◌, ◌≢◌, ℕ, suc, zero, ◌+◌, ◌-◌, ◌≤◌, ◌<◌, Bool, true, false, cond, not, ◌&&◌, ◌||◌, List, [], ◌∷◌, length, map, drop, get_or, refl, sym, ◌∙◌, ap, arith}
 use Rattle.std.specs.Prelude.{Option, Some, None, nat_lt}
 use Rattle.std.specs.List.{list_any, filter}
@@ -13,7 +13,8 @@ use Rattle.hive_model.proofs.GetLemmas.{get_within, get_exists}
 use Rattle.search_laws.proofs.LoopLaws.{drop-all}
 use Rattle.win_bounds.specs.FarFromWin.{has_hole, is_own_thrower, throws_in, is_beside_thrower, is_far_place}
 
--- so many neighbours in the directions before n are occupied, at most four, and none by a thrower of the side
+-- This number of neighbours in the directions before n is occupied, at most four, and none by a
+-- thrower of the side.
 pub record IsSeen (b : Stacks) (c : Colour) (q : Place) (n occupied : ℕ) : Type 0 where
   pub count : occupied + length (filter (is_occupied b) (map (step q) (drop n dirs))) ≡ length (filter (is_occupied b) (neighbours q))
   pub quiet : list_any (λ d. throws_in b c (step q d)) (drop n dirs) ≡ is_beside_thrower b c q
@@ -26,7 +27,7 @@ drop_head (y ∷ xs) (suc n) x low =
     let one : suc (n + 1) ≡ suc n + 1 = omega arith in
     drop_head xs n x (omega (arith, low)) ∙ ap (λ k. get_or xs n x ∷ drop k (y ∷ xs)) one
 
--- a place is occupied where it has a top piece, and else it is not
+-- a place is occupied if and only if it has a top piece
 none_free : (xs : List ℕ) → top_of xs ≡ None → nat_lt 0 (length xs) ≡ false
 none_free xs e = false_from_ne_true _ (λ some.
     let high : 0 < length xs = ltb-true 0 (length xs) some in

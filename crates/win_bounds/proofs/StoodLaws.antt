@@ -1,4 +1,4 @@
--- What stands on the board after a move stood there before, but for the piece that moved.
+-- What is on the board after a move was there before, except the piece that moved.
 use Rattle.std.proofs.Common.{◌≡◌, ◌≢◌, ℕ, suc, zero, true, false, cond, List, [], ◌∷◌, ◌⊎◌, inl, inr, refl, sym, ◌∙◌, ap}
 use Rattle.std.specs.Prelude.{Some, None, slice_get, IsTrue}
 use Rattle.std.specs.List.{remove}
@@ -29,7 +29,7 @@ stood_without b x y q i h = elim (spot_of b x) as (λ o. StandsAt (without_at b 
 ] h
 
 module _ (b : Stacks) (x : ℕ) (q : Place) where
-  -- a piece that did not move is on the place where it was
+  -- a piece that did not move is on the same place as before
   pub stood_before : (y : ℕ) (r : Place) (i : ℕ) → y ≢ x → StandsAt (put (without b x) x q) y r i → (j : ℕ) × StandsAt b y r j
   stood_before y r i other h = elim (put_stands (without b x) x q y r i h) [ inl old ↦ stood_without b x y r i old | inr new ↦ absurd (other new.0) ]
 

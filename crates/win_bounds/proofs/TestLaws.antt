@@ -1,4 +1,4 @@
--- The tests of being far from a win, and from a loss, hold exactly where the relations do.
+-- The tests of being far from a win, and from a loss, hold if and only if the relations do.
 use Rattle.std.proofs.Common.{◌≡◌, ℕ, ◌<◌, true, false, not, ◌||◌, ◌⊎◌, inl, inr, length, refl, sym, ◌∙◌, ap, subst, arith}
 use Rattle.std.specs.Prelude.{Option, Some, None, nat_eq, nat_lt}
 use Rattle.std.specs.List.{filter}

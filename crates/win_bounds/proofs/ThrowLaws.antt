@@ -1,4 +1,4 @@
--- A piece that was thrown stands where it was thrown to.
+-- A piece that was thrown is at the place to which it was thrown.
 use Rattle.std.proofs.Common.{◌≡◌, ℕ, true, false, cond, inl, inr, refl, sym, ◌∙◌, ap, arith}
 use Rattle.std.specs.Prelude.{Some, slice_get}
 use Rattle.std.specs.List.{remove}

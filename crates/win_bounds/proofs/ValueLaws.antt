@@ -1,4 +1,5 @@
--- Far from a win a position is worth at most 1000 with one ply to search, and far from a loss at least -1000.
+-- Far from a win, a position is worth at most 1000 with one ply to search. Far from a loss, it is
+-- worth at least -1000.
 use Rattle.std.proofs.Common.{◌≡◌, ℕ, Bool, true, false, List, [], ◌∷◌, map, inl, inr, refl, sym, ◌∙◌, ap, subst, arith, ℤ, pos, neg_ℤ, ◌≤ℤ◌, unwrap_or}
 use Rattle.std.specs.Prelude.{IsTrue}
 use Rattle.std.proofs.lemmas.Int.{ints, clamps}
@@ -28,7 +29,7 @@ side_is : (p : Position) (c : Colour) → of_side c (is_surrounded p.board White
 side_is p White = refl
 side_is p Black = refl
 
--- where a side's queen is not surrounded the game has not ended with its loss
+-- if a side's queen is not surrounded, the game has not ended with its loss
 no_loss : (w k fresh : Bool) (c : Colour) (d : ℕ) (z : ℤ) → of_side c w k ≡ false → neg_ℤ (pos 1000) ≤ℤ z → neg_ℤ (pos 1000) ≤ℤ unwrap_or (end_value (state_from w k fresh) c d) z
 no_loss true true fresh c d z safe low = omega (arith, ints)
 no_loss true false fresh White d z safe low = cc
@@ -38,7 +39,7 @@ no_loss false true fresh Black d z safe low = cc
 no_loss false false true c d z safe low = low
 no_loss false false false c d z safe low = low
 
--- and where the other side's is not, not with its win
+-- if the other side's is not, it has not ended with its win
 no_win : (w k fresh : Bool) (c : Colour) (d : ℕ) (z : ℤ) → of_side (other_side c) w k ≡ false → z ≤ℤ pos 1000 → unwrap_or (end_value (state_from w k fresh) c d) z ≤ℤ pos 1000
 no_win true true fresh c d z safe high = omega (arith, ints)
 no_win true false fresh White d z safe high = omega (arith, ints)

@@ -1,4 +1,4 @@
--- The laws of positions that are far from a win.
+-- The laws of positions that are far from a win or a loss.
 use Rattle.std.specs.Prelude.{◌≡◌, false, pos, neg_ℤ, ◌≤ℤ◌, IsTrue, ◌↔◌}
 use Rattle.hive_model.specs.declared.places.Move.{Move}
 use Rattle.hive_model.specs.Lists.{IsOn}
@@ -10,23 +10,23 @@ use Rattle.hive_model.specs.Games.{after}
 use Rattle.hive_model.specs.Minimax.{value}
 use Rattle.win_bounds.specs.FarFromWin.{IsFarFromWin, IsFarFromLoss, is_far_from_win, is_far_from_loss}
 
--- a position is tested to be far from a win exactly where it is
+-- the test of being far from a win holds if and only if the position is
 abbrev pub FarIsTested : Type 0
 FarIsTested = (p : Position) → IsTrue (is_far_from_win p) ↔ IsFarFromWin p
 
--- far from a win no legal move surrounds the other side's queen
+-- far from a win, no legal move surrounds the other side's queen
 abbrev pub FarMovesDoNotSurround : Type 0
 FarMovesDoNotSurround =
     (p : Position) → IsBoard p.board → IsFarFromWin p → (m : Move) → IsOn (moves p) m
     → is_surrounded (after p m).board (other_side p.side) ≡ false
 
--- and so a position that is far from a win is worth at most 1000 with one ply to search: an
--- evaluation, a draw or a loss
+-- So a position that is far from a win is worth at most 1000 with one ply to search: an evaluation,
+-- a draw or a loss.
 abbrev pub FarIsNotWon : Type 0
 FarIsNotWon = (p : Position) → IsBoard p.board → IsFarFromWin p → value p 1 ≤ℤ pos 1000
 
--- The same of a loss: the test says it, no legal move surrounds the own queen, and the position is
--- worth at least -1000.
+-- The same for a loss. The test decides it, no legal move surrounds the side's own queen, and the
+-- position is worth at least -1000.
 abbrev pub SafetyIsTested : Type 0
 SafetyIsTested = (p : Position) → IsTrue (is_far_from_loss p) ↔ IsFarFromLoss p
 

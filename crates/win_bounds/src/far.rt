@@ -1,4 +1,4 @@
-//! The test of being far from a win, over any board.
+//! The tests of being far from a win or a loss, on any board.
 
 ghost use Rattle.std.specs.Prelude.{◌≡◌, ◌≤ℤ◌, pos, neg_ℤ, Some, IsTrue};
 ghost use Rattle.hive_model.specs.Pieces.{other_side, queen_of};
@@ -48,8 +48,8 @@ fn has_hole<B: Board>(board: &B, place: Place) -> bool
     )
 }
 
-/// Whether a pillbug or a mosquito of the side is on top of a place, and a hole is beside it. The
-/// top piece is at hand.
+/// Whether a pillbug or a mosquito of the side is on top of the place, and a hole is beside it. The
+/// caller gives the top piece.
 fn throws_in<B: Board>(board: &B, side: Colour, place: Place, top: Piece) -> bool
     requires within { IsWithin 9600 place }
     requires top { top_at (B.stacks board.now) place ≡ Some top }
@@ -58,8 +58,8 @@ fn throws_in<B: Board>(board: &B, side: Colour, place: Place, top: Piece) -> boo
     is_own_thrower(side, top) && has_hole(board, place)
 }
 
-/// Whether at most four neighbours of the place are occupied, and on none stands a pillbug or a
-/// mosquito of the side with a hole beside it.
+/// Whether at most four neighbours of the place are occupied, and none of them has a thrower on
+/// top. A thrower here is a pillbug or a mosquito of the side with a hole beside it.
 fn is_far_place<B: Board>(board: &B, side: Colour, queen: Place) -> bool
     requires { IsOnTheMap queen }
     ensures { result ≡ is_far_place (B.stacks board.now) side queen }
@@ -78,9 +78,9 @@ fn is_far_place<B: Board>(board: &B, side: Colour, queen: Place) -> bool
     true
 }
 
-/// Whether the other side's queen is far from being surrounded by a move of this side: she is in
-/// hand, or at most four places around her are occupied and no pillbug or mosquito of this side
-/// stands beside her that has a hole beside it.
+/// Whether no move of this side can surround the other side's queen, as far as the board shows. She
+/// is in hand, or two conditions hold. At most four places around her are occupied, and no pillbug
+/// or mosquito of this side beside her has a hole beside it.
 pub(crate) fn is_far_on<B: Board>(board: &B, side: Colour) -> bool
     ensures far { result ≡ is_far_spot (B.stacks board.now) side
         (spot_of (B.stacks board.now) (queen_of (other_side side))) }
@@ -92,9 +92,9 @@ pub(crate) fn is_far_on<B: Board>(board: &B, side: Colour) -> bool
     }
 }
 
-/// Whether the own queen is far from being surrounded by a move of this side: she is on the ground,
-/// at most four places around her are occupied, and no pillbug or mosquito of this side stands
-/// beside her that has a hole beside it.
+/// Whether no move of this side can surround its own queen, as far as the board shows. She is on
+/// the ground, and at most four places around her are occupied. No pillbug or mosquito of this side
+/// beside her has a hole beside it.
 pub(crate) fn is_home_on<B: Board>(board: &B, side: Colour) -> bool
     ensures far { result ≡ is_home_spot (B.stacks board.now) side
         (spot_of (B.stacks board.now) (queen_of side)) }
@@ -106,11 +106,11 @@ pub(crate) fn is_home_on<B: Board>(board: &B, side: Colour) -> bool
     }
 }
 
-/// Whether the side to move is far from a win: the other side's queen is in hand, or at most four
-/// places around her are occupied and no pillbug or mosquito of the side to move stands beside her
-/// that has a hole beside it, an empty place with all six places around it occupied. Then it cannot
-/// win with its next move. Where no such piece stands beside her, the queen's spot and at most six
-/// places are looked up.
+/// Whether the side to move is far from a win. The other side's queen is in hand, or two conditions
+/// hold. At most four places around her are occupied, and no pillbug or mosquito of the side to
+/// move beside her has a hole beside it. A hole is an empty place with all six places around it
+/// occupied. If the test holds, the side to move cannot win with its next move. If no such piece is
+/// beside her, the test looks up the queen's spot and at most six places.
 pub fn is_far_from_win<G: Game>(game: &G) -> bool
     ensures far { result ≡ is_far_from_win (position (G.course game.now)) }
     ensures worth { IsTrue result → value (position (G.course game.now)) 1 ≤ℤ pos 1000 }
@@ -118,10 +118,10 @@ pub fn is_far_from_win<G: Game>(game: &G) -> bool
     is_far_on(game, game.side())
 }
 
-/// Whether the side to move is far from a loss: its own queen is on the ground, at most four places
-/// around her are occupied, and no pillbug or mosquito of the side to move stands beside her that
-/// has a hole beside it. Then it cannot lose with its next move. As many places are looked up as
-/// for `is_far_from_win`.
+/// Whether the side to move is far from a loss. Its own queen is on the ground, and at most four
+/// places around her are occupied. No pillbug or mosquito of the side to move beside her has a hole
+/// beside it. If the test holds, the side to move cannot lose with its next move. The test looks up
+/// as many places as `is_far_from_win` does.
 pub fn is_far_from_loss<G: Game>(game: &G) -> bool
     ensures far { result ≡ is_far_from_loss (position (G.course game.now)) }
     ensures worth { IsTrue result → neg_ℤ (pos 1000) ≤ℤ value (position (G.course game.now)) 1 }

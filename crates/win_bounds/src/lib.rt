@@ -1,5 +1,5 @@
-//! Where the side to move cannot win, or lose, with its next move, told by what stands round the
-//! other side's queen, or round its own, without a list of moves.
+//! Tests that the side to move cannot win, or cannot lose, with its next move; they look around the
+//! queens and list no moves.
 #![tactic(auto)]
 
 mod far;

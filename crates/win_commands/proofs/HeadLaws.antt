@@ -20,7 +20,7 @@ use Rattle.win_commands.specs.Verdicts.{head_of}
 abbrev pub head_is : Parsed → ℕ → Bool → Head
 head_is game plies answer = record { game = game; plies = plies; answer = answer }
 
--- what is to be made of the parts of the head
+-- what is made from the parts of the head
 abbrev pub after_answer : Parsed → ℕ → Bool → Result Head HeadFault
 after_answer game plies answer = Ok (head_is game plies answer)
 
@@ -37,7 +37,7 @@ pub begins : (lines : List Line) (before : ToldLines) → before ≡ Some lines 
 unfolding head_of
 begins lines before told = record { told = told; so = refl }
 
--- what is to be made of the lines behind the first so many is the fault of none of these
+-- what the lines after the first n give is the fault of none of the first n
 
 pub behind-answer : (m : ℕ) (lines : List Line) (game : Parsed) (plies : ℕ) → m < 4 → IsBehind m (after_plies lines game plies)
 behind-answer m lines game plies less = behind-field m 4 answer_at (drop 3 lines) (after_answer game plies) less (λ answer. tt)

@@ -1,4 +1,4 @@
--- What is judged of lines that are worth the same.
+-- The verdict on lines with equal verdicts.
 use Rattle.std.proofs.Common.{◌≡◌, ℕ, false, List, map, refl, sym, ap, subst, ◌∙◌}
 use Rattle.std.specs.Prelude.{Result}
 use Rattle.io_edge.specs.Outside.{Aside}

@@ -1,4 +1,4 @@
--- What is written of a game is accepted.
+-- What is written for a game is accepted.
 use Rattle.std.proofs.Common.{◌≡◌, ℕ, ◌+◌, ◌^◌, ◌≤◌, ◌<◌, Bool, true, false, List, ◌∷◌, ◌++◌, length, map, refl, sym, ap, subst, ◌∙◌, arith, lit<, Some}
 use Rattle.std.specs.Prelude.{codes, decimal, Ok}
 use Rattle.std.proofs.lemmas.Fmt.{decimal_digit}

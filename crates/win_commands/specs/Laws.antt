@@ -1,4 +1,4 @@
--- Laws of forced wins that are told and checked.
+-- Laws of forced wins that are written and checked.
 use Rattle.std.specs.Prelude.{◌≡◌, ◌↔◌, ℕ, ◌≤◌, false, List, length, map, drop, Ok, Some}
 use Rattle.hive_model.specs.declared.pieces.GameType.{GameType}
 use Rattle.hive_model.specs.declared.places.Move.{Move}
@@ -19,22 +19,22 @@ use Rattle.win_commands.specs.Text.{is_forced, solution_text}
 use Rattle.win_commands.specs.Verdicts.{head_of, verdict}
 use Rattle.win_commands.specs.Runs.{SolveRun, VerifyRun}
 
--- the lines have a head, and its answer is the true one for its game
+-- the lines have a head, and its answer is true for its game
 pub record IsTrueText (ls : List Line) (head : Head) : Type 0 where
   pub has_head : head_of ls ≡ Ok head
   pub is_true : is_forced (last_position head.game) head.plies ≡ head.answer
 
--- the answer of a text that is accepted is the true one
+-- the answer of an accepted text is true
 abbrev pub AcceptedIsTrue : Type 0
 AcceptedIsTrue = (ls : List Line) → verdict ls ≡ Accepted → (head : Head) × IsTrueText ls head
 
--- so where a check is done, the answer is the true one
+-- so if a check is done, the answer is true
 abbrev pub VerifiedIsTrue : Type 0
 VerifiedIsTrue =
     (before : Sides) → (after : Sides) → VerifyRun Done before after
     → WhereTold before.rest (λ input. (head : Head) × IsTrueText (lines input) head)
 
--- The lines are a solution: they have a head, whose game is not over, and those behind it are
+-- The lines are a solution. They have a head, whose game is not over, and the lines after it are
 -- indices that show its answer.
 pub record HoldsSolution (ls : List Line) (head : Head) (indices : List ℕ) : Type 0 where
   pub has_head : head_of ls ≡ Ok head
@@ -49,17 +49,16 @@ SolutionsAlone =
     (ls : List Line)
     → (verdict ls ≡ Accepted) ↔ ((head : Head) × (indices : List ℕ) × HoldsSolution ls head indices)
 
--- Where the streams served the run, the answer to an input that is exactly one line, a game that is
--- not over, is done, unless memory is wanting.
+-- For an input that is exactly one line, a game that is not over: if no read or write failed, the
+-- run is done, unless memory ran out.
 abbrev pub SolvesAreDone : Type 0
 SolvesAreDone = (plies : ℕ) → RunsAreDone (SolveRun plies) AsksOne
 
--- The same of a check of an input that is accepted.
+-- The same for a check of an input that is accepted.
 abbrev pub VerifiesAreDone : Type 0
 VerifiesAreDone = RunsAreDone VerifyRun (λ input. verdict (lines input) ≡ Accepted)
 
--- what a solution may be asked about: a game of at most 5,000 moves that is not over, and 1 to 16
--- plies
+-- A question for a solution: a game of at most 5,000 moves that is not over, and 1 to 16 plies.
 pub record MayAsk (t : GameType) (ms : List Move) (plies : ℕ) : Type 0 where
   pub game : IsGame t ms
   pub few : length ms ≤ 5000
@@ -67,13 +66,13 @@ pub record MayAsk (t : GameType) (ms : List Move) (plies : ℕ) : Type 0 where
   pub some : 1 ≤ plies
   pub short : plies ≤ 16
 
--- the solution that is written of it is accepted
+-- the solution that is written for it is accepted
 abbrev pub SolutionsAreAccepted : Type 0
 SolutionsAreAccepted =
     (t : GameType) (ms : List Move) (plies : ℕ) → MayAsk t ms plies
     → verdict (lines (solution_text t ms plies)) ≡ Accepted
 
--- so what a run writes that ends as done is accepted
+-- so whatever a run writes that ends with `Done` is accepted
 abbrev pub SolvedIsAccepted : Type 0
 SolvedIsAccepted =
     (plies : ℕ) → 1 ≤ plies → plies ≤ 16 → (before : Sides) → (after : Sides)

@@ -7,7 +7,7 @@ use Rattle.strategy_verdicts.specs.Runs.{VerdictRun}
 use Rattle.win_commands.specs.Text.{solution_of}
 use Rattle.win_commands.specs.Verdicts.{verdict}
 
--- one game is answered by the least solution of the true answer
+-- the answer to one game: the least solution of the true answer
 abbrev pub SolveRun : ℕ → Status → Sides → Sides → Type 0
 SolveRun plies = GameRun (solution_of plies)
 

@@ -1,5 +1,5 @@
--- Solutions as texts. Four lines are the head: `hive-solution 1`; a game; `plies ` and a number
--- from 1 to 16; `answer yes` or `answer no`. On each line behind them stands an index.
+-- Solutions as texts. The head is four lines: `hive-solution 1`; a game; `plies ` and a number from
+-- 1 to 16; `answer yes` or `answer no`. Each line after them is an index.
 use Rattle.std.specs.Prelude.{◌≡◌, ℕ, Bool, true, false, List, ◌++◌, codes, decimal, Option, Some, None, if◌then◌else◌}
 use Rattle.std.specs.Str.{bytes_eq}
 use Rattle.hive_model.specs.declared.pieces.GameType.{GameType}
@@ -43,7 +43,7 @@ head_text t ms plies answer =
     ++ written_line (codes "plies " ++ decimal plies))
     ++ written_line (codes "answer " ++ answer_word answer)
 
--- whether the side to move can force a win within so many plies
+-- whether the side to move can force a win within this number of plies
 abbrev pub is_forced : Position → ℕ → Bool
 is_forced p plies = force p plies p.side
 
@@ -57,6 +57,6 @@ solution_text t ms plies =
     head_text t ms plies (is_forced (replay (opening t) ms) plies)
     ++ solution_lines (replay (opening t) ms) plies
 
--- a game is answered by the least solution of the true answer
+-- the answer to a game: the least solution of the true answer
 abbrev pub solution_of : ℕ → Answers
 solution_of plies game text = text ≡ solution_text game.game_type game.moves plies

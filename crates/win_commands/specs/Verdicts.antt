@@ -1,4 +1,4 @@
--- What the lines of a text are worth as a solution.
+-- The verdict on the lines of a text as a solution.
 use Rattle.std.proofs.Common.{arith}
 use Rattle.std.specs.Prelude.{ℕ, ◌<◌, ◌≤◌, Bool, true, false, List, length, map, drop, Option, Result, Ok, if◌then◌else◌}
 use Rattle.hive_model.specs.Positions.{Position}
@@ -22,8 +22,8 @@ use Rattle.win_commands.specs.Text.{version_at, plies_at, answer_at}
 
 -- The head
 
--- the head of the lines: their first four; or the first of these that is missing, too long or not
--- of its form, or what is wrong with the game
+-- The head that the first four lines are; or the first of them that is missing, too long or
+-- malformed, or what is wrong with the game.
 unfoldable pub head_of : List Line → Result Head HeadFault
 head_of lines =
     and_then (field_in 1 version_at lines) (λ version.
@@ -32,7 +32,7 @@ head_of lines =
     and_then (field_in 4 answer_at (drop 3 lines)) (λ answer.
     Ok (record { game = game; plies = plies; answer = answer })))))
 
--- what every head that was read keeps
+-- what holds of every head that was read
 pub record IsHead (head : Head) : Type 0 where
   pub legal : IsGame head.game.game_type head.game.moves
   pub few : length head.game.moves ≤ 5000
@@ -41,11 +41,11 @@ pub record IsHead (head : Head) : Type 0 where
 
 -- The verdict
 
--- what the items of the lines behind the head make of its answer about a position
+-- the verdict on the items of the lines after the head, for its answer about a position
 abbrev pub of_items : Position → ℕ → Bool → List (Option ℕ) → TextVerdict
 of_items p plies answer items = of_walk 4 (solved p plies p.side answer items)
 
--- the same of a head and the lines behind it; no answer is about a game that is over
+-- the same for a head and the lines after it; no answer is about a game that is over
 abbrev pub of_claim : Head → List Line → TextVerdict
 of_claim head rest =
     if is_over (last_position head.game) then GameOver
@@ -55,7 +55,7 @@ of_claim head rest =
 abbrev pub verdict : List Line → TextVerdict
 verdict = text_verdict 4 head_of of_claim
 
--- it is never decided by lines of the head alone
+-- the lines of the head alone never decide the verdict
 
 claim-later : (n : ℕ) (over : Bool) (o : WalkEnd Steps Why) → n < 4
     → IsDecidedBehind 4 (if over then GameOver else of_walk 4 o) n

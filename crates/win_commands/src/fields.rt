@@ -6,7 +6,7 @@ ghost use Rattle.win_commands.specs.Text.{answer_at, answer_of};
 use std::alloc::AllocError;
 use strategy_text::{Field, behind};
 
-/// Whether the word is `yes`, if it is that or `no`.
+/// Whether the word is `yes`, or `None` if it is neither `yes` nor `no`.
 fn answer_of(word: &[u8]) -> Option<bool>
     ensures { result ≡ answer_of word.now }
 {

@@ -15,7 +15,7 @@ use line_feed::LineReader;
 use std::alloc::Global;
 use strategy_text::{HeadFault, NumberField, read_field, read_game_line};
 
-/// What the head of a solution says: the game, the number of plies, from 1 to 16, and whether the
+/// The content of a solution's head: the game, the number of plies, from 1 to 16, and whether the
 /// side to move can force a win within them.
 #[derive(Drop)]
 pub struct Head {
@@ -24,7 +24,7 @@ pub struct Head {
     pub answer: bool,
 }
 
-/// Reads the four lines of the head. No line behind the first fault is read.
+/// Reads the four lines of the head. No line after the first fault is read.
 pub(crate) fn read_head<G: Game + Drop, S: Source>(
     alloc: Global,
     reader: &mut LineReader,

@@ -1,4 +1,4 @@
-//! Laws of forced wins that are told and checked, as contracts of functions that do nothing.
+//! Laws of forced wins that are written and checked, as contracts of functions that do nothing.
 
 ghost use Rattle.win_commands.specs.Laws.{
   AcceptedIsTrue,
@@ -10,40 +10,41 @@ ghost use Rattle.win_commands.specs.Laws.{
   VerifiesAreDone,
 };
 
-/// The answer of a text that is accepted is the true one.
+/// The answer of an accepted text is true.
 pub fn accepted_answers_are_true()
     ensures { AcceptedIsTrue }
 {}
 
-/// A text is accepted exactly where it has a head, whose game is not over, and behind it just
-/// indices that show its answer.
+/// A text is accepted if and only if it has a head whose game is not over, followed by indices that
+/// show its answer and by nothing else.
 pub fn solutions_alone_are_accepted()
     ensures { SolutionsAlone }
 {}
 
-/// Where a check of a text is done, the answer of the text is the true one.
+/// If the check of a text is done, the answer of the text is true.
 pub fn verified_answers_are_true()
     ensures { VerifiedIsTrue }
 {}
 
-/// What is written of a game that is not over is accepted.
+/// The solution written for a game that is not over is accepted.
 pub fn solutions_are_accepted()
     ensures { SolutionsAreAccepted }
 {}
 
-/// What is written by a run that ends with `Done` is accepted.
+/// Whatever a run writes that ends with `Done` is accepted.
 pub fn solved_answers_are_accepted()
     ensures { SolvedIsAccepted }
 {}
 
-/// The answer to an input that is exactly one line, a game string of a game that is not over, ends
-/// with `Done`, or for want of memory, where neither the source nor the sink counted a fault.
+/// The law covers an input that is exactly one line, a game string of a game that is not over. If
+/// neither the source nor the sink counted a fault, the run of `solve` ends with `Done`, or because
+/// memory ran out.
 pub fn solves_are_done()
     ensures { SolvesAreDone }
 {}
 
-/// A check of a text of fewer than 1,099,511,627,776 bytes that is accepted ends with `Done`, or
-/// for want of memory, where neither the source nor the sink counted a fault.
+/// The law covers texts of fewer than 1,099,511,627,776 bytes that are accepted. If neither the
+/// source nor the sink counted a fault, the check ends with `Done`, or because memory ran out.
 pub fn verifies_are_done()
     ensures { VerifiesAreDone }
 {}

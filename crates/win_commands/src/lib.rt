@@ -1,4 +1,5 @@
-//! The commands that tell forced wins with a proof, and check such proofs.
+//! The commands `solve` and `verify`: they write a proof that a win can or cannot be forced, and
+//! check such proofs.
 #![tactic(auto)]
 
 mod fields;

@@ -19,8 +19,8 @@ use win_solver::Solver;
 /// How many positions the table of a search keeps.
 const TABLE_ENTRIES: u32 = 65_536;
 
-/// Writes the head, and then the indices of the least solution. The answer is whether all was
-/// written.
+/// Writes the head, and then the indices of the least solution. The answer is whether everything
+/// was written.
 fn write_solution<K: Sink, G: Game>(
     head: &[u8],
     solver: &mut Solver,
@@ -71,12 +71,12 @@ fn tell_solution<K: Sink, G: Game + Drop>(
     }
 }
 
-/// Reads the one game of the input, and writes whether the side to move can force a win within so
-/// many plies, from 1 to 16, and the least indices that show it: the lines `hive-solution 1`, the
-/// game in its written form, `plies N`, `answer yes` or `answer no`, and each index on a line of
-/// its own. It is `Done` then. Where the input is not one game that is not over, one line that
-/// begins with `bad` says why, and it is `BadInput`. A read that fails, a full input and want of
-/// memory end the run with nothing written.
+/// Reads the one game of the input. It writes whether the side to move can force a win within
+/// `plies` plies, from 1 to 16, and the least indices that show it. The lines are
+/// `hive-solution 1`, the game in its written form, `plies N`, `answer yes` or `answer no`, and the
+/// indices, one a line. The status is then `Done`. If the input is not exactly one game that is not
+/// over, one line that begins with `bad` says why, and the status is `BadInput`. If a read fails,
+/// the input is full or memory runs out, the run ends with nothing written.
 pub fn solve<S: Source, K: Sink, G: Game + Drop>(
     alloc: Global,
     plies: u32,

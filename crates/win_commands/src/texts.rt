@@ -1,4 +1,4 @@
-//! The head of a solution, as it is written.
+//! Writes the head of a solution.
 
 ghost use Rattle.std.specs.Prelude.{◌≡◌, ◌++◌, codes, OnOk, IfOk};
 ghost use Rattle.strategy_text.specs.Text.{written_line};

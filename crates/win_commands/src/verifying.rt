@@ -23,7 +23,7 @@ use win_solver::check_solution;
 /// How many lines a head has.
 const HEAD_LINES: u32 = 4;
 
-/// The verdict on the lines to come as the indices of an answer about the game's position.
+/// The verdict on the lines to come, taken as the indices of an answer about the game's position.
 fn judge_indices<S: Source, G: Game>(
     reader: &mut LineReader,
     input: &mut S,
@@ -46,7 +46,7 @@ fn judge_indices<S: Source, G: Game>(
     verdict_of::<IndexReasons>(checked, HEAD_LINES, indices.lines())
 }
 
-/// The verdict on the lines to come behind a head.
+/// The verdict on the lines to come after a head.
 fn judge_claim<S: Source, G: Game + Drop>(
     alloc: Global,
     head: Head,
@@ -117,17 +117,17 @@ impl TextForm for Solutions {
     }
 }
 
-/// Checks the input, which is to be a solution: the lines `hive-solution 1`, a game string, `plies
-/// N` with N from 1 to 16, `answer yes` or `answer no`, and indices from 0 to 5487, each on a line
-/// of its own.
+/// Checks the input, which has to be a solution: the lines `hive-solution 1`, a game string,
+/// `plies N` with N from 1 to 16, `answer yes` or `answer no`, and indices from 0 to 5487, one a
+/// line.
 ///
-/// It writes `accepted` and is `Done` where the indices show that the answer is true, and none is
-/// left over. Else it writes `refused`, `index`, `leaf`, `short` or `rest`, and how many indices
-/// were taken, and is `Refused`. Where the text is none of this form, a line that begins with `bad`
-/// says so, and it is `BadInput`: the first of the first four lines that is missing, too long or
-/// not of its form, what is wrong with the game, that the game is over, or the first line that is
-/// no index where one is taken. A read that fails, a full input and want of memory end the run with
-/// nothing written.
+/// If the indices show that the answer is true, and none is left over, it writes `accepted`, and
+/// the status is `Done`. Otherwise it writes `refused`, then `index`, `leaf`, `short` or `rest`,
+/// and how many indices were taken, and the status is `Refused`. If the text does not have this
+/// form, a line that begins with `bad` says so, and the status is `BadInput`. The reason is the
+/// first of the first four lines that is missing, too long or malformed; what is wrong with the
+/// game; that the game is over; or the first line that is no index when one is taken. If a read
+/// fails, the input is full or memory runs out, the run ends with nothing written.
 pub fn verify<S: Source, K: Sink, G: Game + Drop>(
     alloc: Global,
     input: &mut S,

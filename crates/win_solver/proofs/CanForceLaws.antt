@@ -1,4 +1,4 @@
--- The test of forced wins says where a side can force one.
+-- The test of forced wins says when a side can force one.
 use Rattle.std.proofs.Common.{◌≡◌, ◌≢◌, ◌⊎◌, inl, inr, ℕ, zero, suc, Bool, true, false, cond, refl}
 use Rattle.hive_model.specs.declared.pieces.Colour.{Colour}
 use Rattle.hive_model.specs.declared.pieces.Colour.TheVariants.{White, Black}
@@ -62,7 +62,7 @@ module _ (p : Position) (c : Colour) (f : Move → Bool) (Holds : Move → Type 
   ply-tested deeper (inr (inl (goes, turn, (m, on, holds)))) = rw goes (rw (from_same_colour p.side c turn) (has_any f (moves p) m on (deeper m holds)))
   ply-tested deeper (inr (inr (goes, turn, all))) = rw goes (rw (turn-other p.side c turn) (at_all f (moves p) (λ m on. deeper m (all m on))))
 
--- ---- so many plies
+-- ---- a number of plies
 
 pub forced : (n : ℕ) (p : Position) (c : Colour) → force p n c ≡ true → CanForce p n c
 unfolding force CanForce

@@ -1,4 +1,4 @@
--- A position is worth so much exactly where a legal move is.
+-- A position is worth at least a number if and only if a legal move is.
 use Rattle.std.proofs.Common.{◌≡◌, ℕ, ◌+◌, ◌-◌, ◌≤◌, Bool, true, false, List, drop, sym, ap, arith, ◌∙◌, ℤ, pos, neg_ℤ, ◌≤ℤ◌, ◌<ℤ◌, Option, Some, None}
 use Rattle.std.specs.Prelude.{IsTrue, IfSome, IsSomeAnd, not, int_le, ◌-ℤ◌, ◌||◌}
 use Rattle.std.proofs.lemmas.Int.{ints}
@@ -23,7 +23,7 @@ use Rattle.value_table.specs.Truth.{stands, IsTrueOf}
 use Rattle.search_core.proofs.EntryLaws.{known-stands}
 use Rattle.win_solver.proofs.ForceLaws.{bool-is, at-place}
 
--- a move is worth so much to the side that makes it
+-- a move is worth at least this to the side that makes it
 abbrev pub reply_reaches : Position → ℕ → ℤ → Move → Bool
 reply_reaches p d n m = int_le n (reply_value p d m)
 
@@ -44,7 +44,7 @@ some-reaches p d n inner = bool-is (list_any (reply_reaches p (d - 1) n) (moves 
       has_any (reply_reaches p (d - 1) n) (moves p) met.1 (on-at (moves p) met.0 met.1 met.2)
       (true-keeps (AtLeast n) (reply_value p (d - 1) met.1) (omega (arith, ints, high, met.3, value-greatest p d inner)))
 
--- one move that is worth so much is enough
+-- one move that is worth at least this is enough
 pub one-reaches : (p : Position) (d i : ℕ) (n : ℤ) (m : Move) → IsInner p d → slice_get (moves p) i ≡ Some m → reply_reaches p (d - 1) n m ≡ true → int_le n (value p d) ≡ true
 one-reaches p d i n m inner here is =
     sym (some-reaches p d n inner) ∙ has_any (reply_reaches p (d - 1) n) (moves p) m (on-at (moves p) i m here) is
@@ -54,7 +54,7 @@ one-reaches p d i n m inner here is =
 pub any-step : (f : Move → Bool) (ms : List Move) (i : ℕ) (m : Move) (b : Bool) → slice_get ms i ≡ Some m → f m ≡ false → list_any f (drop i ms) ≡ b → list_any f (drop (i + 1) ms) ≡ b
 any-step f ms i m b here fails so = sym (ap (list_any f) (drop-at ms i m here) ∙ ap (λ t. t || list_any f (drop (i + 1) ms)) fails) ∙ so
 
--- what is worth so much to one side is not worth more than the opposite to the other
+-- a value is at least n to one side if and only if it is not at least 1 - n to the other
 pub turned-reaches : (n v : ℤ) → not (int_le (pos 1 -ℤ n) v) ≡ int_le n (neg_ℤ v)
 turned-reaches n v = bool-is (not (int_le (pos 1 -ℤ n) v)) (int_le n (neg_ℤ v)) (λ e. grind (arith, ints)) (λ e. grind (arith, ints))
 
@@ -83,7 +83,7 @@ child-reaches start played m d n k r moved one is =
 
 -- ---- the table
 
--- what an entry tells is true of the position
+-- what an entry says is true of the position
 pub told-is : (p : Position) (d : ℕ) (n : ℤ) (b : Bool) (o : Option KnownParts) → IsSound p → IfSome o (λ e. (e.depth ≡ d) × IsTrueOf (key p) e.depth e.bound e.value) →
     IsSomeAnd o (λ e. (v : ℤ) → IsTrue (stands e.bound v e.value) → b ≡ int_le n v) → b ≡ int_le n (value p d)
 told-is p d n b None sound own told = absurd told

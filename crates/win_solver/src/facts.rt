@@ -1,4 +1,4 @@
-//! What is known of a position without its moves, and what a table is told of it.
+//! What is known of a position without its moves, and what the table keeps of it.
 
 ghost use Rattle.std.specs.Prelude.{
   ◌≡◌,
@@ -24,12 +24,12 @@ use hive_model::{Game, Key, Move};
 use search_laws::end_value;
 use value_table::{Bound, Entry, Known, ValueTable};
 
-/// The size that no evaluation exceeds.
+/// No evaluation is larger than this in size.
 pub(crate) const GREATEST_EVALUATION: i32 = 1_000;
 
-/// Whether a position at which no move is tried is worth so much: the game is over, or no ply is
-/// left to search. None where the game goes on and a ply is left. Only where the state alone does
-/// not tell is the position evaluated. The game is as before.
+/// Whether a position at which no move is tried is worth at least `least`: the game is over, or no
+/// ply is left to search. It answers `None` if the game goes on and a ply is left. The position is
+/// evaluated only if its state alone does not decide. The game is as before.
 pub(crate) fn leaf_reaches<G: Game>(game: &mut G, depth: u32, least: i32) -> Option<bool>
     requires deep { depth ≤ 64 }
     ensures leaf { MatchOption result (IsInner (position (G.course game.old)) depth)
@@ -46,7 +46,7 @@ pub(crate) fn leaf_reaches<G: Game>(game: &mut G, depth: u32, least: i32) -> Opt
     None
 }
 
-/// Whether the evaluation of a position is so much.
+/// Whether the evaluation of a position is at least `least`.
 fn evaluation_reaches<G: Game>(game: &mut G, least: i32) -> bool
     ensures reached { result ≡ int_le least (eval (position (G.course game.old))) }
     ensures game { G.course game.new ≡ G.course game.old }
@@ -60,7 +60,7 @@ fn evaluation_reaches<G: Game>(game: &mut G, least: i32) -> bool
     least <= game.evaluate()
 }
 
-/// What an entry tells of whether a position of its key is worth so much, if it tells it.
+/// What an entry says, if anything, on whether a position of its key is worth at least `least`.
 pub(crate) fn told_by(entry: &Option<Known>, least: i32) -> Option<bool>
     ensures { IfSome result (λ b. IsSomeAnd entry.now
         (λ e. (v : ℤ) → IsTrue (stands e.bound v e.value) → b ≡ int_le least v)) }
@@ -76,8 +76,8 @@ pub(crate) fn told_by(entry: &Option<Known>, least: i32) -> Option<bool>
     }
 }
 
-/// Keeps what was found of a sound position with this key: whether it is worth so much, and the
-/// move that decided it.
+/// Keeps what was found of a sound position with this key: whether it is worth at least `least`,
+/// and the move that decided it.
 pub(crate) fn keep_answer(
     table: &mut ValueTable,
     key: &Key,

@@ -1,4 +1,4 @@
-//! Whether a position is worth so much to its side to move.
+//! Whether a position is worth at least a number to its side to move.
 
 ghost use Rattle.std.specs.Prelude.{◌≡◌, int_le, is_some, IsSome, IsTrue};
 ghost use Rattle.hive_model.specs.Minimax.{IsInner, value, reply_value};
@@ -12,7 +12,7 @@ use search_core::{first_choice, kept_hint};
 use value_table::ValueTable;
 use win_bounds::{is_far_from_loss, is_far_from_win};
 
-/// What a search for wins needs beside the game: room for the lists of moves by level, and a table
+/// What a search for wins needs besides the game: room for the lists of moves by level, and a table
 /// of what was found.
 #[derive(Drop)]
 pub(crate) struct Workspace {
@@ -20,9 +20,10 @@ pub(crate) struct Workspace {
     pub(crate) table: ValueTable,
 }
 
-/// Whether a position is worth so much to its side to move, with `depth` plies left to search,
-/// from 0 to 64. A node is left at the first move that decides it, and what was found of a
-/// position with two plies or more to search is kept in the table. Game and stack are as before.
+/// Whether a position is worth at least `least` to its side to move, with `depth` plies left to
+/// search, from 0 to 64. The search leaves a node at the first move that decides it. The table
+/// keeps what was found of positions with two or more plies to search. Game and stack are as
+/// before.
 #[cycle(reaches)]
 pub(crate) fn reaches<G: Game>(game: &mut G, depth: u32, least: i32, space: &mut Workspace) -> bool
     requires asked { CanBeAsked least }
@@ -48,8 +49,8 @@ pub(crate) fn reaches<G: Game>(game: &mut G, depth: u32, least: i32, space: &mut
     reply.is_some()
 }
 
-/// The same where the game goes on and one ply is left. No move is listed where the board tells
-/// that none wins, or that none loses, and that decides it.
+/// The same if the game goes on and one ply is left. No move is listed if the board shows that no
+/// move wins, or that none loses, and that decides the question.
 #[cycle(reaches)]
 fn reaches_at_once<G: Game>(game: &mut G, least: i32, space: &mut Workspace) -> bool
     requires asked { CanBeAsked least }
@@ -68,8 +69,8 @@ fn reaches_at_once<G: Game>(game: &mut G, least: i32, space: &mut Workspace) -> 
     find_reply(game, 1, least, None, space).is_some()
 }
 
-/// A legal move that is worth so much to the side that makes it, where the game goes on and a ply
-/// is left. The hint is tried first.
+/// A legal move that is worth at least `least` to the side that makes it, if there is one. The game
+/// goes on and a ply is left. The hint is tried first.
 #[cycle(reaches)]
 fn find_reply<G: Game>(
     game: &mut G,
@@ -92,7 +93,7 @@ fn find_reply<G: Game>(
     reply
 }
 
-/// The same where the legal moves stand on the level.
+/// The same if the legal moves are on the level.
 #[cycle(reaches)]
 fn first_reply<G: Game>(
     game: &mut G,
@@ -125,8 +126,8 @@ fn first_reply<G: Game>(
     None
 }
 
-/// The move to try first, where it is worth so much: the hint, else the one that decided last after
-/// as many plies of the game.
+/// The move to try first, if it is worth at least `least`. It is the hint, or otherwise the killer
+/// move: the one that last decided after this number of plies of the game.
 #[cycle(reaches)]
 fn hinted_reply<G: Game>(
     game: &mut G,
@@ -154,8 +155,8 @@ fn hinted_reply<G: Game>(
     None
 }
 
-/// Whether a legal move is worth so much to the side that makes it, with `depth` plies of best play
-/// behind it. The game is as before.
+/// Whether a legal move is worth at least `least` to the side that makes it, with `depth` plies of
+/// best play after it. The game is as before.
 #[cycle(reaches)]
 fn reply_reaches<G: Game>(
     game: &mut G,
@@ -177,8 +178,8 @@ fn reply_reaches<G: Game>(
     !answered
 }
 
-/// The same as `reaches`, for 1 ply or more; what is found with fewer plies tells which moves to
-/// try first with more.
+/// The same as `reaches`, for 1 ply or more. It first searches with fewer plies, so that what it
+/// finds says which moves to try first.
 pub(crate) fn deepen<G: Game>(game: &mut G, depth: u32, least: i32, space: &mut Workspace) -> bool
     requires asked { CanBeAsked least }
     requires room { HasRoom depth (G.course game.old) space.old.stack }

@@ -17,7 +17,7 @@ use strategy_indices::{Judge, write_indices};
 use strategy_walks::Limit;
 use value_table::ValueTable;
 
-/// Who tells whether a position keeps to a limit. It is seen as the number of plies that it is
+/// Decides whether a position keeps to a limit. Contracts see the number of plies that it is
 /// prepared to search.
 #[derive(Drop)]
 pub(crate) struct Teller {
@@ -45,9 +45,8 @@ impl Judge for Teller {
     }
 }
 
-/// What is needed to tell forced wins, made once: who tells whether a position is worth so much,
-/// and room for the lists of moves of as many plies as it is prepared for. It is seen as that
-/// number of plies, from 1 to 16.
+/// What a search for forced wins needs, made once: the judge of values, and room for the lists of
+/// moves of the plies that it is prepared for. Contracts see that number of plies, from 1 to 16.
 #[derive(Drop)]
 pub struct Solver {
     teller: Teller,
@@ -65,7 +64,7 @@ impl Model for Solver {
 }
 
 impl Solver {
-    /// A solver for up to so many plies, from 1 to 16, with a table of at most `entries` positions,
+    /// A solver for up to `plies` plies, from 1 to 16, with a table of at most `entries` positions,
     /// from 1 to 1,048,576.
     pub fn prepare(alloc: Global, entries: u32, plies: u32) -> Result<Solver, AllocError>
         requires entries { 1 ≤ entries }
@@ -85,8 +84,8 @@ impl Solver {
         })
     }
 
-    /// Whether the side to move can force a win within so many plies, up to the prepared number.
-    /// The game has room for as many. Game and solver are as before.
+    /// Whether the side to move can force a win within `plies` plies, up to the prepared number.
+    /// The game has room for that number of plies. Game and solver are as before.
     pub fn solve<G: Game>(&mut self, game: &mut G, plies: u32) -> bool
         requires prepared { plies ≤ self.old }
         requires spare { plies ≤ (G.course game.old).spare }
@@ -98,9 +97,9 @@ impl Solver {
         deepen(game, plies, 1_000_000, &mut self.teller.space)
     }
 
-    /// Writes the least indices that show whether the side to move can force a win within so many
-    /// plies, up to the prepared number, one a line. The game has room for as many plies. Game and
-    /// solver are as before. The answer is whether all was written.
+    /// Writes the least indices, one a line, that show whether the side to move can force a win
+    /// within `plies` plies. That number is at most the prepared one, and the game has room for it.
+    /// Game and solver are as before. The answer is whether everything was written.
     pub fn write_indices<G: Game, K: Sink>(
         &mut self,
         game: &mut G,

@@ -1,4 +1,4 @@
-//! Grown games on both boards: all that a game answers is the same, after each ply and after each
+//! Grown games on both boards: all answers of the games are the same, after each ply and after each
 //! undo.
 
 ghost use Rattle.std.specs.Prelude.{◌<◌};
@@ -10,7 +10,7 @@ use plain_game::PlainGame;
 use std::alloc::{AllocError, Global};
 use std::test::Fail;
 
-/// The next number of a sequence that a seed begins.
+/// The next number of a sequence that starts with a seed.
 pub fn next_number(number: u32) -> u32 {
     number.wrapping_mul(1_664_525).wrapping_add(1_013_904_223)
 }
@@ -43,7 +43,7 @@ fn are_same_lists(lists: &MoveStack) -> bool {
     true
 }
 
-/// Whether each piece stands at the same place and level on both boards, on the same piece.
+/// Whether each piece has the same place and level on both boards, and is on the same piece.
 fn have_same_pieces<A: Board, B: Board>(one: &A, other: &B) -> bool {
     for x in 0..28u8 {
         let piece = Piece::at(x);
@@ -96,7 +96,7 @@ fn are_alike<G: Game, H: Game>(
     )
 }
 
-/// Plays up to so many moves on both games, and answers whether they stay alike.
+/// Plays up to `plies` moves on both games, and answers whether they stay alike.
 fn grow_alike<G: Game, H: Game>(
     alloc: Global,
     one: &mut G,
@@ -120,7 +120,7 @@ fn grow_alike<G: Game, H: Game>(
     Ok(true)
 }
 
-/// Takes up to so many moves back on both games, and answers whether they stay alike.
+/// Undoes up to `plies` moves on both games, and answers whether they stay alike.
 fn shrink_alike<G: Game, H: Game>(
     alloc: Global,
     one: &mut G,
@@ -138,7 +138,7 @@ fn shrink_alike<G: Game, H: Game>(
     Ok(true)
 }
 
-/// Whether a game that grows from a seed is the same on both boards, forth and back.
+/// Whether a game that grows from a seed is the same on both boards, forward and back.
 fn is_alike(alloc: Global, game_type: GameType, seed: u32) -> Result<bool, AllocError> {
     let mut plain = PlainGame::opening(alloc, game_type)?;
     let mut fast = FastGame::opening(alloc, game_type)?;

@@ -1,4 +1,4 @@
-//! The moves that a game passes over at the last ply, beside plays and evaluations.
+//! The moves that a game skips at the last ply, compared with plays and evaluations.
 
 use crate::fast_game_tests::beside::{any_move, next_number};
 use crate::fast_game_tests::{plays_move, takes_back};
@@ -7,9 +7,9 @@ use hive_model::{Game, GameType, Move, MoveStack};
 use std::alloc::{AllocError, Global};
 use std::test::Fail;
 
-/// Of the legal moves of all positions: how many there were, and how many the game passed over
-/// where alpha is what the best of them is worth. In how many positions it passed over each move
-/// that is worth so much, where alpha is one less.
+/// Counts over the legal moves of all positions: how many there were, and how many the game skipped
+/// when alpha was the value of the best. The last count is of positions in which it skipped every
+/// move of that value when alpha was one less.
 #[derive(Clone, Copy, Debug, PartialEq, Eq)]
 struct Passed {
     moves: u32,
@@ -23,8 +23,8 @@ const NOTHING: Passed = Passed {
     lost: 0,
 };
 
-/// What the move is worth to the side that makes it with no ply left behind it, by a play, an
-/// evaluation and an undo. Nothing where it ends the game.
+/// What the move is worth to the side that makes it with no ply left after it, by a play, an
+/// evaluation and an undo. `None` if it ends the game.
 fn played_reply(game: &mut FastGame, m: Move) -> Result<Option<i32>, AllocError> {
     if !plays_move(game, m)? {
         return Ok(None);
@@ -37,7 +37,7 @@ fn played_reply(game: &mut FastGame, m: Move) -> Result<Option<i32>, AllocError>
     Ok(Some(0i32.saturating_sub(worth)))
 }
 
-/// What the best move is worth that does not end the game, if there is one.
+/// The value of the best move that does not end the game, if there is one.
 fn best_reply(alloc: Global, game: &mut FastGame) -> Result<Option<i32>, AllocError> {
     let mut lists = MoveStack::new(alloc, 1)?;
     game.list(&mut lists);
@@ -48,7 +48,7 @@ fn best_reply(alloc: Global, game: &mut FastGame) -> Result<Option<i32>, AllocEr
     Ok(best)
 }
 
-/// Where the next move stands that the game does not pass over.
+/// The place of the next move that the game does not skip.
 fn next_of(alloc: Global, game: &mut FastGame, from: u32, alpha: i32) -> Result<u32, AllocError> {
     let mut lists = MoveStack::new(alloc, 1)?;
     game.list(&mut lists);
@@ -58,7 +58,7 @@ fn next_of(alloc: Global, game: &mut FastGame, from: u32, alpha: i32) -> Result<
     Ok(game.next_candidate(&lists, 0, from, alpha))
 }
 
-/// Whether a move is worth so much that the game does not pass over where alpha is one less.
+/// Whether the game does not skip some move of value `best` when alpha is one less.
 fn is_found(alloc: Global, game: &mut FastGame, best: i32) -> Result<bool, AllocError> {
     let mut lists = MoveStack::new(alloc, 1)?;
     game.list(&mut lists);
@@ -73,7 +73,7 @@ fn is_found(alloc: Global, game: &mut FastGame, best: i32) -> Result<bool, Alloc
     Ok(false)
 }
 
-/// All legal moves of the position.
+/// Counts all legal moves of the position.
 fn ask_all(alloc: Global, game: &mut FastGame, passed: &mut Passed) -> Result<(), AllocError> {
     let Some(best) = best_reply(alloc, game)? else {
         return Ok(());
@@ -90,7 +90,7 @@ fn ask_all(alloc: Global, game: &mut FastGame, passed: &mut Passed) -> Result<()
     Ok(())
 }
 
-/// All legal moves of a game that grows from a seed, ply after ply.
+/// Counts all legal moves of a game that grows from a seed, ply after ply.
 fn ask_game(
     alloc: Global,
     game_type: GameType,
@@ -113,8 +113,8 @@ fn ask_game(
     Ok(())
 }
 
-/// A game of each of the eight types: where alpha is what the best move is worth, three of four
-/// moves or more are passed over; where it is one less, some move worth so much is not.
+/// A game of each of the eight types. If alpha is the value of the best move, at least three of
+/// four moves are skipped. If it is one less, some move of that value is not.
 #[test]
 fn eight_grown_games(rt: HostRuntime) -> Result<(), Fail> {
     let mut passed = NOTHING;

@@ -1,4 +1,4 @@
-//! The ways of the bugs, and steps past a gate, on the grid.
+//! Moves of the bugs, and steps past a gate, on the grid.
 
 ghost use Rattle.std.specs.Prelude.{◌≢◌, ◌<◌, IfOk};
 ghost use Rattle.hive_model.specs.declared.pieces.Kind.TheVariants.{Mosquito};
@@ -12,7 +12,7 @@ use std::alloc::{AllocError, Global};
 use std::test::Fail;
 use torus_board::Torus;
 
-/// Puts a piece on top of a place near the origin, unless it stands on the board already.
+/// Puts a piece on top of a place near the origin, unless it is on the board already.
 fn stand(board: &mut Torus<32>, index: u8, place: Place)
     requires piece { index < 28 }
     requires within { IsWithin 9 place }
@@ -49,7 +49,7 @@ fn are_listed(places: &PlaceList, wanted: &[(i32, i32)]) -> bool {
     rest.len() == 0
 }
 
-/// Whether a bug of this kind reaches just these places.
+/// Whether a bug of this kind reaches exactly these places.
 fn finds(board: &Torus<32>, kind: Kind, from: Place, wanted: &[(i32, i32)]) -> bool
     requires kind { kind ≢ Mosquito }
     requires within { IsOnTheMap from }
@@ -59,7 +59,7 @@ fn finds(board: &Torus<32>, kind: Kind, from: Place, wanted: &[(i32, i32)]) -> b
     are_listed(&out, wanted)
 }
 
-/// Whether a mosquito reaches just these places.
+/// Whether a mosquito reaches exactly these places.
 fn copies(board: &Torus<32>, from: Place, wanted: &[(i32, i32)]) -> bool
     requires { IsOnTheMap from }
 {
@@ -73,7 +73,7 @@ const ORIGIN: Place = Place { q: 0, r: 0 };
 /// The neighbours of the origin.
 const ROUND: [(i32, i32); 6] = [(-1, 0), (-1, 1), (0, -1), (0, 1), (1, -1), (1, 0)];
 
-/// The eleven places at distance 2 from the origin, but for (2,0).
+/// The eleven places at distance 2 from the origin, without (2,0).
 const OUTSIDE: [(i32, i32); 11] = [
     (-2, 0),
     (-2, 1),

@@ -13,7 +13,7 @@ const BASE: GameType = GameType {
     pillbug: false,
 };
 
-/// White brings its ant and its queen, black too; then both queens go to where the walk begins.
+/// Each side places its ant and its queen. Then both queens go to where the walk begins.
 const FIRST: [(u8, i32, i32); 6] = [
     (8, 0, 0),
     (22, 1, 0),
@@ -23,7 +23,8 @@ const FIRST: [(u8, i32, i32); 6] = [
     (14, 1, 1),
 ];
 
-/// What each four of the walk plays, two to the east and one to the north of the four before it.
+/// The moves of each round of the walk, two places to the east and one to the north of the round
+/// before it.
 const ROUND: [(u8, i32, i32); 6] = [
     (0, 1, -1),
     (14, 2, 0),
@@ -33,7 +34,8 @@ const ROUND: [(u8, i32, i32); 6] = [
     (14, 3, 0),
 ];
 
-/// Plays these moves, so many times two places to the east and one to the north, if each is legal.
+/// Plays these moves, shifted `times` times by two places to the east and one to the north, if each
+/// is legal.
 fn plays_all<G: Game>(
     game: &mut G,
     moves: &[(u8, i32, i32)],
@@ -51,7 +53,7 @@ fn plays_all<G: Game>(
     Ok(true)
 }
 
-/// Plays the first moves and so many rounds of the walk, if each is legal.
+/// Plays the first moves and `rounds` rounds of the walk, if each is legal.
 fn walks<G: Game>(game: &mut G, rounds: i32) -> Result<bool, AllocError> {
     if !plays_all(game, &FIRST, 0)? {
         return Ok(false);

@@ -1,4 +1,4 @@
-//! What each event does to a match.
+//! How each event changes a match.
 ghost use Rattle.std.specs.Prelude.{◌≡◌, ◌+◌, ◌<◌, ◌≤◌, ◌^◌, length, OnOk, OnErr, List, ℕ};
 ghost use Rattle.match_core.specs.MatchState.{
   happening,
@@ -26,7 +26,7 @@ use crate::verdict::Cause;
 use hive_model::{Colour, Game, Move};
 use std::alloc::AllocError;
 
-/// The last moment at which a question that was asked then is answered in time.
+/// The last moment at which the answer to a question asked at `asked` is in time.
 fn latest(level: Level, asked: u64) -> u64
     requires level { IsLevel level }
     requires early { asked < 2 ^ 62 }
@@ -39,7 +39,7 @@ fn latest(level: Level, asked: u64) -> u64
 }
 
 impl<G: Game + Drop> Referee<G> {
-    /// A side is told the game to begin.
+    /// Next a side is sent the line that begins the game.
     fn begin(&mut self, side: Colour)
         requires more { length self.old.moves ≤ length self.old.setup.begin + self.old.setup.limit }
         requires settled { IsSettled self.old.stage }
@@ -53,7 +53,7 @@ impl<G: Game + Drop> Referee<G> {
         };
     }
 
-    /// The greeting of a side is to be read.
+    /// Next the greeting of a side is read.
     fn greet(&mut self, side: Colour)
         requires { self.old.stage ≡ Stage.Read Task.Greet Colour.White }
         ensures { self.new ≡ go self.old (Stage.Read Task.Greet side) }
@@ -80,7 +80,7 @@ impl<G: Game + Drop> Referee<G> {
         }
     }
 
-    /// White knows the move, and black is told it.
+    /// White has confirmed the move. Next black is sent it.
     fn tell_black(&mut self, m: Move)
         requires { self.old.stage ≡ Stage.Read (Task.Tell m) Colour.White }
         ensures { self.new ≡ go self.old (Stage.Send (Task.Tell m) Colour.Black) }
@@ -93,7 +93,7 @@ impl<G: Game + Drop> Referee<G> {
         };
     }
 
-    /// A reply has ended. After want of memory the match is as before.
+    /// A reply has ended. If memory runs out, the match is as before.
     fn reply_ends(&mut self, task: Task, side: Colour) -> Result<(), AllocError>
         requires more { HasNext task (length self.old.setup.begin) (length self.old.moves)
             self.old.setup.limit }
@@ -130,7 +130,7 @@ impl<G: Game + Drop> Referee<G> {
         Ok(())
     }
 
-    /// A line of a reply: it ends the reply, tells a fault, is one line too many, or is counted.
+    /// A line of a reply: it ends the reply, reports an error, is one line too many, or is counted.
     fn hear(&mut self, task: Task, side: Colour, line: &[u8]) -> Result<(), AllocError>
         requires more { HasNext task (length self.old.setup.begin) (length self.old.moves)
             self.old.setup.limit }
@@ -154,7 +154,7 @@ impl<G: Game + Drop> Referee<G> {
         self.keep(line)
     }
 
-    /// What came of sending a line.
+    /// The result of sending a line.
     pub(super) fn on_send(&mut self, task: Task, side: Colour, event: Event)
         requires { self.old.stage ≡ Stage.Send task side }
         ensures { (line : List ℕ) → self.new ≡ at_send self.old task side (happening event line) }
@@ -170,7 +170,7 @@ impl<G: Game + Drop> Referee<G> {
         }
     }
 
-    /// What came of reading a line.
+    /// The result of reading a line.
     pub(super) fn on_read(
         &mut self,
         task: Task,
@@ -205,7 +205,7 @@ impl<G: Game + Drop> Referee<G> {
         }
     }
 
-    /// The clock is read before a question.
+    /// The reading of the clock before a question.
     pub(super) fn on_before(&mut self, event: Event)
         requires stage { self.old.stage ≡ Stage.Before }
         requires early { IsEarly event }
@@ -224,7 +224,7 @@ impl<G: Game + Drop> Referee<G> {
         }
     }
 
-    /// The clock is read after a reply.
+    /// The reading of the clock after a reply.
     pub(super) fn on_after(&mut self, event: Event)
         requires stage { self.old.stage ≡ Stage.After }
         requires early { IsEarly event }

@@ -1,4 +1,4 @@
-//! How a match goes on once a reply is whole.
+//! How a match goes on after a whole reply.
 ghost use Rattle.std.specs.Prelude.{◌≡◌, ◌<◌, ◌≤◌, length, None, unwrap_or, [], OnOk, OnErr};
 ghost use Rattle.hive_model.specs.Legal.{moves};
 ghost use Rattle.hive_model.specs.Lists.{IsOn};
@@ -21,7 +21,7 @@ use crate::verdict::{Cause, Verdict};
 use hive_model::{Colour, Game, LineText, Move};
 use std::alloc::{AllocError, Global};
 
-/// Takes the first line, empty where there is none.
+/// Takes the first line, which is empty if there is none.
 fn take_first(alloc: Global, first: &mut Option<LineText>) -> LineText
     ensures line { result ≡ unwrap_or first.old [] }
     ensures none { first.new ≡ None }
@@ -43,14 +43,14 @@ impl<G: Game + Drop> Referee<G> {
         self.verdict = Some(verdict);
     }
 
-    /// A side loses by this cause.
+    /// A side forfeits for this cause.
     pub(super) fn forfeit(&mut self, side: Colour, cause: Cause)
         ensures { self.new ≡ forfeit self.old side cause }
     {
         self.finish(Verdict::Forfeit { side, cause });
     }
 
-    /// The side to move is asked; where it has a time, the clock is read first.
+    /// Asks the side to move. If it has a time, the clock is read first.
     #[tactic(auto, unfolding(crate::specs::MatchState::ask))]
     pub(super) fn ask(&mut self)
         requires more { length self.old.moves < self.old.setup.limit }
@@ -73,7 +73,7 @@ impl<G: Game + Drop> Referee<G> {
         }
     }
 
-    /// Both sides know all moves, and the keys of their positions are kept: the rules end the game,
+    /// Both sides know all moves, and the keys of their positions are kept. The rules end the game,
     /// or the limit does, or it goes on.
     #[tactic(auto, unfolding(crate::specs::MatchState::decide))]
     pub(super) fn settle(&mut self)
@@ -90,8 +90,8 @@ impl<G: Game + Drop> Referee<G> {
         }
     }
 
-    /// Both sides know the last move, and the key of its position is kept. From then on no move is
-    /// being told, and the match goes on as one that has just begun. After want of memory the match
+    /// Both sides know the last move. The key of its position is kept, and no move is being sent
+    /// any longer. Then the match goes on as one that has just begun. If memory runs out, the match
     /// is as before.
     #[tactic(auto, unfolding(crate::specs::MatchState::decide, crate::specs::MatchState::ask))]
     pub(super) fn decide(&mut self) -> Result<(), AllocError>
@@ -109,7 +109,7 @@ impl<G: Game + Drop> Referee<G> {
         Ok(())
     }
 
-    /// A legal move is played, and is to be told to white first.
+    /// Plays a legal move. It has to be sent to white first.
     fn accept(&mut self, m: Move)
         requires more { length self.old.moves < self.old.setup.limit }
         requires settled { IsSettled self.old.stage }
@@ -126,7 +126,7 @@ impl<G: Game + Drop> Referee<G> {
         };
     }
 
-    /// The first line of the reply is to be a legal move.
+    /// Judges the first line of the reply, which has to be a legal move.
     #[tactic(auto, unfolding(crate::specs::MatchState::judge))]
     pub(super) fn judge(&mut self)
         requires more { length self.old.moves < self.old.setup.limit }

@@ -1,5 +1,5 @@
-//! Alpha-beta beside minimax: what `search` answers in several windows, and what the position is
-//! worth.
+//! Alpha-beta against minimax: the answers of `search` in several windows, and the value of the
+//! position.
 
 ghost use Rattle.std.specs.Prelude.{◌≡◌, ◌≤◌};
 ghost use Rattle.hive_model.specs.Courses.{position};
@@ -20,7 +20,7 @@ use value_table::ValueTable;
 const POSITIONS: [(&str, u32); 7] = [
     // the opening
     ("Base+MLP", 3),
-    // throws of own and other pieces
+    // throws of the side's own pieces and of the other side's
     (
         "Base+P;InProgress;White[5];wS1;bS1 wS1-;wQ -wS1;bQ bS1-;wP -wQ;bG1 bQ-;wA1 -wP;bA1 bG1-",
         2,
@@ -30,7 +30,7 @@ const POSITIONS: [(&str, u32); 7] = [
         "Base+P;InProgress;Black[4];wP;bA1 wP-;wQ -wP;bQ bA1/;wS1 -wQ;bQ wP/;bA1 wP\\",
         3,
     ),
-    // stacks; black can but pass
+    // stacks; black can only pass
     (
         concat!(
             "Base;InProgress;Black[6];wB1;bS1 wB1-;wQ \\wB1;bQ bS1-;wQ wB1/;bQ bS1\\;",
@@ -76,8 +76,9 @@ pub(super) fn game_of(alloc: Global, text: &str) -> Result<Option<PlainGame>, Al
     Ok(Some(game))
 }
 
-/// Whether the answer is the value strictly inside the window, an upper bound of it at or below the
-/// lower end, and a lower bound at or above the upper end.
+/// Whether the answer is right for the window. Strictly inside the window it is the value; at or
+/// below the lower end it is an upper bound of the value, and at or above the upper end a lower
+/// bound.
 fn is_found(value: i32, window: Window, answer: i32) -> bool {
     if answer <= window.alpha {
         return value <= answer;
@@ -88,8 +89,8 @@ fn is_found(value: i32, window: Window, answer: i32) -> bool {
     answer == value
 }
 
-/// Whether `search` answers as it should in the window with these ends, where the position is worth
-/// `value`.
+/// Whether `search` answers as it should in the window with these ends, for a position that is
+/// worth `value`.
 fn answers_right(
     game: &mut PlainGame,
     depth: u32,
@@ -156,8 +157,8 @@ pub(crate) fn is_over(game: &PlainGame) -> bool
     }
 }
 
-/// What a searcher finds the best move to be worth, and what it answers in the widest window; none
-/// where the game cannot go on.
+/// The value that a searcher finds for the best move, and its answer in the widest window; `None`
+/// if the game cannot go on.
 fn by_searcher(
     alloc: Global,
     game: &mut PlainGame,
@@ -179,8 +180,8 @@ fn by_searcher(
     Ok(Some((best.value, searcher.value_in(game, depth, widest))))
 }
 
-/// What the game of a text is worth at this depth, and what a searcher finds there; none where it
-/// is no game.
+/// The value of the game of a text at this depth, and what a searcher finds there; `None` if it is
+/// no game.
 fn worth_and_found(
     alloc: Global,
     text: &str,

@@ -1,4 +1,4 @@
-//! Moves that are tried before their turn spare others.
+//! Trying moves before their turn saves plays of others.
 
 use crate::plain_search_tests::beside::game_of;
 use deepening::Searcher;
@@ -16,7 +16,7 @@ const GROWN: &str = concat!(
     ";bL -bG2",
 );
 
-/// How many moves the search for the best move of the game plays, three plies deep; none where no
+/// How many moves the search for the best move of the game plays, three plies deep; `None` if no
 /// move is left.
 fn plays_of_three_plies(alloc: Global, game: &mut PlainGame) -> Result<Option<u64>, AllocError> {
     if game.plies() > 100 || game.state().is_over() {
@@ -33,7 +33,7 @@ fn plays_of_three_plies(alloc: Global, game: &mut PlainGame) -> Result<Option<u6
 fn moves_tried_early_spare_others(rt: HostRuntime) -> Result<(), Fail> {
     let mut game = game_of(rt.alloc(), GROWN)?.ok_or("a game")?;
     let plays = plays_of_three_plies(rt.alloc(), &mut game)?.ok_or("a move")?;
-    // 362 were played where no two moves were tried early, and 189 are where they are
+    // 362 were played when no two moves were tried early, and 189 are now
     assert!(rt; plays < 300, "{plays}");
     Ok(())
 }

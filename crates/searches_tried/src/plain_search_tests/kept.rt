@@ -1,4 +1,4 @@
-//! What a table keeps, and what it spares a search.
+//! What a table keeps, and what it saves a search.
 
 use crate::plain_search_tests::{BASE, BEFORE_A_WIN, plays};
 use hive_model::{Game, MoveStack, Place};
@@ -10,8 +10,8 @@ use std::alloc::{AllocError, Global};
 use std::test::Fail;
 use value_table::{Bound, Entry, ValueTable};
 
-/// What the position is worth with one ply searched, as an entry; none where the game is too long
-/// to go on.
+/// The value of the position with one ply searched, as an entry; `None` if the game is too long to
+/// go on.
 fn exact(alloc: Global, game: &mut PlainGame) -> Result<Option<Entry>, AllocError> {
     if game.plies() > 100 {
         return Ok(None);
@@ -64,7 +64,7 @@ const WIDEST: Window = Window {
     beta: 1_000_100,
 };
 
-/// A workspace of a search at most two plies deep, with a table that keeps nothing yet.
+/// A workspace for a search of at most two plies, with an empty table.
 fn workspace(alloc: Global) -> Result<Workspace, AllocError> {
     let stack = MoveStack::new(alloc, 2)?;
     let table = ValueTable::new(alloc, 65536)?;
@@ -87,8 +87,7 @@ fn plays_of_two_plies(game: &mut PlainGame, work: &mut Workspace) -> Result<u64,
     Ok(game.played().saturating_sub(before))
 }
 
-/// How many moves are played where each legal move is searched one ply deep behind it in this
-/// workspace.
+/// How many moves are played when each legal move is searched one ply deep in this workspace.
 fn plays_of_children(
     alloc: Global,
     game: &mut PlainGame,
@@ -115,9 +114,9 @@ fn plays_of_children(
     Ok(game.played().saturating_sub(before))
 }
 
-/// The game in which white has let a move that wins stand and placed an ant, so that it wins after
-/// nearly each answer. What surrounds a queen is told by no game, so it is played wherever no table
-/// knows better.
+/// The game in which white has passed by a winning move and placed an ant, so that it wins after
+/// nearly each answer. A game never values a move that surrounds a queen without a play, so the
+/// search plays it unless a table knows the value.
 fn before_a_loss(alloc: Global) -> Result<Option<PlainGame>, AllocError> {
     let mut game = PlainGame::opening(alloc, BASE)?;
     for (index, q, r) in BEFORE_A_WIN {

@@ -1,4 +1,4 @@
-//! A search as deep as the time allows.
+//! Searches as deep as the time allows.
 
 ghost use Rattle.std.specs.Prelude.{◌≤◌};
 
@@ -13,8 +13,8 @@ use std::alloc::{AllocError, Global};
 use std::test::Fail;
 use value_table::ValueTable;
 
-/// What a searcher answers in this time, by a clock that goes on by one millisecond at each
-/// reading; none where the game cannot go on.
+/// What a searcher answers in this time, by a clock that advances one millisecond at each reading;
+/// `None` if the game cannot go on.
 fn in_time(
     alloc: Global,
     game: &mut PlainGame,
@@ -59,8 +59,8 @@ fn more_time_is_for_more_plies(rt: HostRuntime) -> Result<(), Fail> {
     Ok(())
 }
 
-/// What the clock said when the search of the opening was left, which it is at the first reading at
-/// or past this time.
+/// The reading of the clock at which the search of the opening stopped: the first one at or past
+/// this time.
 fn left_at(alloc: Global, budget: u64) -> Result<Option<u64>, AllocError>
     requires { budget ≤ 1000 }
 {
@@ -78,9 +78,9 @@ fn the_first_reading_past_the_time_is_the_last(rt: HostRuntime) -> Result<(), Fa
     Ok(())
 }
 
-/// How a search of the opening six plies deep ends that has this deadline, by a clock that says 0
-/// first and goes on by one millisecond at each reading: whether it was stopped, how many moves
-/// were played, and what the clock said last.
+/// How a search of the opening, six plies deep and with this deadline, ends. The clock reads 0
+/// first and advances one millisecond at each reading. It answers whether the search was stopped,
+/// how many moves were played, and the last reading of the clock.
 fn searched_until(alloc: Global, deadline: u64) -> Result<(bool, u64, u64), AllocError> {
     let mut game = PlainGame::opening(alloc, BASE)?;
     game.reserve(6)?;

@@ -1,4 +1,4 @@
-//! Workers at a root where one move wins.
+//! Workers at a root at which one move wins.
 
 ghost use Rattle.std.specs.Prelude.{◌≡◌, ◌≤◌, length, IfOk};
 ghost use Rattle.std.specs.List.{All};
@@ -17,16 +17,16 @@ use std::sync::atomic::{AtomicBool, AtomicU32, Ordering};
 use std::test::Fail;
 use std::thread::Threads;
 
-/// A game that white wins by one move.
+/// A game that white wins with one move.
 const ONE_MOVE_WINS: &str = concat!(
     "Base;InProgress;White[7];wS1;bS1 wS1-;wQ /wS1;bQ bS1-;wQ /bS1;bQ wQ-;wG1 -wS1;",
     "bG1 bS1-;wB1 /wQ;bB1 bQ-;wA1 -wB1;bA1 /bB1",
 );
 
-/// How often a worker that waits for another looks at its flag.
+/// How often a waiting worker looks at the flag of the other.
 const LOOKS: u32 = 1_000_000_000;
 
-/// The move that wins: the first white ant goes to the right of the first white beetle.
+/// The winning move: the first white ant goes to the right of the first white beetle.
 fn wins() -> Move {
     Move::To {
         piece: Piece::at(8),
@@ -34,7 +34,7 @@ fn wins() -> Move {
     }
 }
 
-/// Before its first child each of two workers tells that it is here, and then looks whether the
+/// Before its first child each of two workers says that it is here, and then looks whether the
 /// other is.
 #[derive(Drop)]
 struct Meeting {
@@ -58,8 +58,8 @@ impl Gate for Meeting {
     }
 }
 
-/// Holds one of two workers before its first child until the other has come to its last one, after
-/// as many as `others`.
+/// Holds one of two workers before its first child until the other is before the last of its
+/// children, which `others` others precede.
 #[derive(Drop)]
 struct Holding {
     held: u32,
@@ -91,7 +91,7 @@ impl Gate for Holding {
     }
 }
 
-/// Notes the child that each of two workers begins with; 1,000 where it has not begun.
+/// Records the child with which each of two workers begins; 1,000 before it has begun.
 #[derive(Drop)]
 struct Beginning {
     first: [AtomicU32; 2],
@@ -105,7 +105,7 @@ impl Gate for Beginning {
     }
 }
 
-/// So many workers, each with a game of these moves and a searcher for this depth.
+/// `count` workers, each with a game of these moves and a searcher for this depth.
 fn workers_in(
     alloc: Global,
     parsed: &Parsed,
@@ -141,7 +141,7 @@ fn is_over(game: &PlainGame) -> bool
     }
 }
 
-/// What so many workers find where one move wins, and the workers afterwards.
+/// What `count` workers find if one move wins, and the workers afterwards.
 fn found_by<R: Threads + Sync, T: Gate + Sync>(
     rt: &R,
     alloc: Global,
@@ -163,7 +163,7 @@ fn found_by<R: Threads + Sync, T: Gate + Sync>(
     Ok(Some((best, workers)))
 }
 
-/// The plays of one of two workers where one of them is held; none where the hold did not end in
+/// The plays of one of two workers while one of them is held; `None` if the hold did not end in
 /// time.
 fn plays_beside<R: Threads + Sync>(
     rt: &R,
@@ -198,7 +198,7 @@ fn plays_beside<R: Threads + Sync>(
     Ok(Some(worker.game.played()))
 }
 
-/// The number of legal moves where one move wins, and the place of that move among them.
+/// The number of legal moves in the game that one move wins, and the place of that move among them.
 fn place_of_the_win(alloc: Global) -> Result<Option<(u32, u32)>, AllocError> {
     let Ok(parsed) = read_game::<PlainGame>(alloc, ONE_MOVE_WINS.as_bytes()) else {
         return Ok(None);
@@ -218,8 +218,9 @@ fn place_of_the_win(alloc: Global) -> Result<Option<(u32, u32)>, AllocError> {
     Ok(None)
 }
 
-/// Of the moves at the places that leave `part` when divided by 2 the least that one is worth to
-/// the other side, and what the move at `place` is worth to it, as far as the game tells of them.
+/// Of the moves at places that leave `part` when divided by 2, the least value to the other side;
+/// and the value of the move at `place` to it. Both count only moves that the game values without a
+/// play.
 fn looks_of(alloc: Global, part: u32, place: u32) -> Result<Option<(i32, i32)>, AllocError> {
     let Ok(parsed) = read_game::<PlainGame>(alloc, ONE_MOVE_WINS.as_bytes()) else {
         return Ok(None);

@@ -1,10 +1,10 @@
-//! Words that ask for an audit of a program, and those that ask for none.
+//! Words that ask for an audit of a program, and words that do not.
 use super::{ALL, BASE, are_words_of, ask_for, expect_nothing, words_of};
 use command_words::{Asked, AuditAsked, asked_of, audited_of};
 use std::alloc::{AllocError, Global};
 use std::test::Fail;
 
-/// Words, separated by `|`, and how the games of the audit are made that they ask for.
+/// Words, separated by `|`, and the games of the audit for which they ask.
 struct Row {
     words: &'static str,
     audit: AuditAsked,
@@ -161,7 +161,7 @@ const NO_AUDITS: [&str; 24] = [
     "audit|--engine|a|--games|1|--seed|1|--first|1000000001",
 ];
 
-/// Whether the words ask for just this audit.
+/// Whether the words ask for exactly this audit.
 fn ask_for_audit(alloc: Global, row: &Row) -> Result<bool, AllocError> {
     ask_for(alloc, row.words, Some(Asked::Audit(row.audit)))
 }
@@ -181,7 +181,7 @@ fn other_words_ask_for_no_audit(rt: HostRuntime) -> Result<(), Fail> {
     Ok(())
 }
 
-/// Words of an audit, separated by `|`, and those of its program.
+/// Words of an audit, separated by `|`, and the words of its program.
 struct Named {
     words: &'static str,
     program: &'static str,
@@ -202,7 +202,7 @@ const NAMED: [Named; 3] = [
     },
 ];
 
-/// Whether the words ask for an audit of just this program.
+/// Whether the words ask for an audit of exactly this program.
 fn name_program(alloc: Global, row: &Named) -> Result<bool, AllocError> {
     let words = words_of(alloc, row.words, '|')?;
     let Some(Asked::Audit(_)) = asked_of(alloc, words.as_slice())? else {

@@ -1,11 +1,12 @@
-//! Words and the care for engines that they ask for.
+//! Words and how they ask to treat engines: the longest wait for an answer, and whether standard
+//! error is thrown away.
 use super::words_of;
 use command_words::{Care, care_of};
 use std::alloc::{AllocError, Global};
 use std::test::Fail;
 
-/// Words, separated by `|`, the longest wait for an answer that they ask for, in milliseconds, and
-/// whether standard error is dropped.
+/// Words, separated by `|`, the longest wait for an answer for which they ask, in milliseconds, and
+/// whether standard error is thrown away.
 struct Row {
     words: &'static str,
     limit: Option<u64>,
@@ -80,7 +81,7 @@ const ROWS: [Row; 13] = [
     },
 ];
 
-/// Whether the words ask for just this care.
+/// Whether the words ask for exactly this treatment.
 fn ask_for_care(alloc: Global, row: &Row) -> Result<bool, AllocError> {
     let words = words_of(alloc, row.words, '|')?;
     let care = Care {

@@ -1,4 +1,4 @@
-//! Words that ask for a command without a program, and those that ask for nothing.
+//! Words that ask for a command without a program, and words that ask for nothing.
 use super::{ask_for, expect_nothing};
 use command_words::Asked;
 use std::test::Fail;

@@ -1,4 +1,4 @@
-//! Words that ask for a cup, those that ask for none, and the programs that are named.
+//! Words that ask for a cup, words that do not, and the programs that they name.
 use super::{ALL, Played, USUAL, are_programs, ask_for, expect_nothing, words_of};
 use command_words::{Asked, asked_of, engines_of};
 use match_core::{Level, Setup};
@@ -122,7 +122,7 @@ const NAMED: [Named; 2] = [
     },
 ];
 
-/// Whether the words ask for a cup of just these programs.
+/// Whether the words ask for a cup of exactly these programs.
 fn name_engines(alloc: Global, row: &Named) -> Result<bool, AllocError> {
     let words = words_of(alloc, row.words, '|')?;
     let Some(Asked::Cup(_)) = asked_of(alloc, words.as_slice())? else {

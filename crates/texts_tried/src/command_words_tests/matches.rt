@@ -1,4 +1,4 @@
-//! Words that ask for a match, those that ask for none, and the programs that are named.
+//! Words that ask for a match, words that do not, and the programs that they name.
 use super::{ALL, Played, USUAL, are_words_of, ask_for, expect_nothing, words_of};
 use command_words::{Asked, asked_of, programs_of};
 use match_core::{Level, Setup};
@@ -142,7 +142,7 @@ const PLAYED: [Played; 21] = [
     },
 ];
 
-/// Matches that begin with a game that is given.
+/// Matches that begin with a given game.
 const FROM_GAMES: [Played; 2] = [
     Played {
         words: "match|--white|a|--black|b|--from|1",
@@ -195,7 +195,7 @@ const NO_MATCHES: [&str; 33] = [
     "match|--type=Base+MLP|--white|a|--black|b|--from=1",
 ];
 
-/// Whether the words ask for a match by this setup.
+/// Whether the words ask for a match with this setup.
 fn ask_for_match(alloc: Global, row: &Played, from: bool) -> Result<bool, AllocError> {
     let setup = row.setup;
     ask_for(alloc, row.words, Some(Asked::Match { setup, from }))
@@ -225,7 +225,7 @@ fn other_words_ask_for_no_match(rt: HostRuntime) -> Result<(), Fail> {
     Ok(())
 }
 
-/// Words of a match, separated by `|`, and those of its two programs.
+/// Words of a match, separated by `|`, and the words of its two programs.
 struct Named {
     words: &'static str,
     white: &'static str,

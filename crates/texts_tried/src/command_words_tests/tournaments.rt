@@ -1,11 +1,11 @@
-//! Words that ask for a tournament, those that ask for none, and the programs that are named.
+//! Words that ask for a tournament, words that do not, and the programs that they name.
 use super::{ALL, USUAL, are_programs, ask_for, expect_nothing, words_of};
 use command_words::{Asked, asked_of, tournament_engines_of};
 use match_core::{Level, Setup};
 use std::alloc::{AllocError, Global};
 use std::test::Fail;
 
-/// Words, separated by `|`, and how the tournament is played that they ask for.
+/// Words, separated by `|`, and the tournament for which they ask.
 struct Row {
     words: &'static str,
     setup: Setup,
@@ -103,7 +103,7 @@ const NO_TOURNAMENTS: [&str; 18] = [
     "cup|--engines|a;b|--rounds|1",
 ];
 
-/// Whether the words ask for just this tournament.
+/// Whether the words ask for exactly this tournament.
 fn ask_for_tournament(alloc: Global, row: &Row) -> Result<bool, AllocError> {
     let tournament = Asked::Tournament {
         setup: row.setup,
@@ -130,7 +130,7 @@ fn other_words_ask_for_no_tournament(rt: HostRuntime) -> Result<(), Fail> {
     Ok(())
 }
 
-/// Whether the words ask for a tournament of just the programs of these texts, separated by `;`.
+/// Whether the words ask for a tournament of exactly the programs of these texts, separated by `;`.
 fn name_engines(alloc: Global, words: &str, engines: &str) -> Result<bool, AllocError> {
     let words = words_of(alloc, words, '|')?;
     let Some(Asked::Tournament { .. }) = asked_of(alloc, words.as_slice())? else {

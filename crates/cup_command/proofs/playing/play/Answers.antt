@@ -1,4 +1,4 @@
--- The text of a cup tells what was played, and wherever the cup ends all engines are closed.
+-- The text of a cup reports what was played, and all engines are closed wherever the cup ends.
 use Rattle.std.proofs.Common.{◌≡◌, ◌∙◌, List, length, drop, refl}
 use Rattle.cup.specs.Played.{Job}
 use Rattle.cup_command.proofs.Ends.{told-from}

@@ -1,4 +1,4 @@
--- What a check says that ends with 0: the text is accepted.
+-- What follows from a check that ends with 0: the text is accepted.
 use Rattle.std.proofs.Common.{rules, ◌≡◌}
 use Rattle.io_edge.specs.Lines.{lines}
 use Rattle.strategy_verdicts.specs.declared.verdict.TextVerdict.TheVariants.{Accepted}

@@ -3,7 +3,7 @@ use Rattle.hive_model.specs.Lists.{IsOn, IsPath, is_met, flood}
 use Rattle.hive_model.proofs.Floods.{on_filter, on_append, next_from, path_weaker, Within, path_flood}
 use Rattle.hive_model.proofs.laws.floods_find_ways.Goals as goal
 
--- what a flood has is the end of a way of one step or more from the front
+-- an item of a flood is the end of a way of one step or more from an item in front
 flood_way : {X : Type 0} (s : X → X → Bool) (n : ℕ) (front rest : List X) (x : X) → IsOn (flood s n front rest) x → (f : X) × IsOn front f × ((p : X) × (ps : List X) × IsPath (Within s rest) f (p ∷ ps) x)
 flood_way s zero front rest x h = absurd h
 flood_way s (suc n) front rest x h = elim (on_append _ _ x h) [

@@ -1,4 +1,4 @@
--- What is written tells the match that was played.
+-- What is written reports the match that was played.
 use Rattle.std.proofs.Common.{List, ℕ, ◌∙◌, subst}
 use Rattle.command_runs.specs.Answered.{WritesAs}
 use Rattle.command_runs.specs.declared.status.Status.TheVariants.{Done}

@@ -1,4 +1,4 @@
--- A match is played from the game that was read, and none where no game was read.
+-- A match is played from the game that was read, and none if no game was read.
 use Rattle.std.proofs.Common.{◌∙◌, List, [], ap, arith, inr, map, refl, string_bytes}
 use Rattle.hive_model.specs.declared.best.Timed.{Timed}
 use Rattle.command_runs.specs.World.{World, once_read, sides, times, world}

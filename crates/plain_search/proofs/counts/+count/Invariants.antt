@@ -17,7 +17,7 @@ decreases-lines_behind g l = 3 * l.plies + 1
 abbrev pub decreases-lines_from : goal.decreases-lines_from
 decreases-lines_from g l = 3 * l.plies
 
--- what is counted, with what the moves that are left count, is the whole
+-- the count so far and that of the moves left add up to the whole
 abbrev pub invariant-lines_from-loop-i : goal.invariant-lines_from-loop-i
 invariant-lines_from-loop-i g l =
     let p = position (g.G.Game.course l.fn.game) in

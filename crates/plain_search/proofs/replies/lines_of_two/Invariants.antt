@@ -4,7 +4,7 @@ use Rattle.plain_search.specs.Replies.{AreCounted}
 use Rattle.plain_search.proofs.CountSteps.{CountsTo}
 use Rattle.plain_search.proofs.replies.lines_of_two.Given as goal
 
--- what is counted, with what the moves that are left count, is the whole
+-- the count so far and that of the moves left add up to the whole
 abbrev pub invariant-loop-i : goal.invariant-loop-i
 invariant-loop-i g l =
     let start = g.G.Game.course l.fn.game in

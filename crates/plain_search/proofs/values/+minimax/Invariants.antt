@@ -11,7 +11,7 @@ decreases-reply g l = 2 * l.depth + 1
 abbrev pub decreases-minimax : goal.decreases-minimax
 decreases-minimax g l = 2 * l.depth
 
--- the greatest of the best so far and of what the moves that are left are worth is the worth of the position
+-- the greatest of the best so far and of the values of the moves left is the value of the position
 abbrev pub invariant-minimax-loop-i : goal.invariant-minimax-loop-i
 invariant-minimax-loop-i g l =
     let p = position (g.G.Game.course l.fn.game) in

@@ -1,7 +1,7 @@
 use Rattle.std.proofs.Common.{◌≡◌}
 use Rattle.root_share.proofs.hint.best_told.Given as goal
 
--- the game is as before
+-- the game has not changed
 abbrev pub invariant-loop-child : goal.invariant-loop-child
 invariant-loop-child g l = record {
   same : g.G.Game.course l.game ≡ g.G.Game.course l.fn.game;

@@ -19,7 +19,7 @@ decreases-write_indices g l = 4 * l.depth + 3
 abbrev pub decreases-write_node : goal.decreases-write_node
 decreases-write_node g l = 4 * l.depth + 2
 
--- what is written of the moves that are left goes on what was written of those before
+-- what is written for the moves that are left continues what was written for those before
 abbrev pub invariant-write_moves-loop-i : goal.invariant-write_moves-loop-i
 invariant-write_moves-loop-i g l =
     let p = position (g.G.Game.course l.fn.game) in

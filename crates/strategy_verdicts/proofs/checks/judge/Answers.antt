@@ -1,4 +1,4 @@
--- What is judged of a whole input, by a reader that is new.
+-- The verdict on a whole input, with a new reader.
 use Rattle.std.proofs.Common.{ap, ◌∙◌}
 use Rattle.std.specs.Option.{option_map}
 use Rattle.io_edge.specs.Lines.{lines}

@@ -1,4 +1,4 @@
--- What is judged of the lines to come, by whether they have a head.
+-- The verdict on the lines to come, by whether they have a head.
 use Rattle.std.proofs.Common.{◌≡◌, rules, ap, arith, drop, subst, sym}
 use Rattle.std.specs.Prelude.{Ok, Err}
 use Rattle.strategy_verdicts.specs.declared.verdict.TextVerdict.{TextVerdict}

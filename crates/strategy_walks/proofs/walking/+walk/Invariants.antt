@@ -23,7 +23,7 @@ decreases-walk_every g l = 4 * l.depth + 2
 abbrev pub decreases-walk_below : goal.decreases-walk_below
 decreases-walk_below g l = 4 * l.depth + 2
 
--- what the walk of the moves that are left answers, the walk of all of them answers
+-- the walk of the moves that are left answers as the walk of all of them does
 abbrev pub invariant-walk_moves-loop-i : goal.invariant-walk_moves-loop-i
 invariant-walk_moves-loop-i g l =
     let p = position (g.G.Game.course l.fn.game) in

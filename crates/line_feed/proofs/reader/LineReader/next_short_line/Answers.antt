@@ -1,4 +1,5 @@
--- What an answer says of the lines to come and of the counts follows from the bytes that were read.
+-- What an answer means for the lines to come and for the counts follows from the bytes that were
+-- read.
 use Rattle.std.proofs.Common.{ap, sym, ◌∙◌}
 use Rattle.line_feed.specs.Feed.{Reading}
 use Rattle.line_feed.proofs.AheadLemmas.{short_advances, short_fits, short_passes, short_full, none_after_end}
