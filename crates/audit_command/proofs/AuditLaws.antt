@@ -1,4 +1,4 @@
--- Where the streams and the starter of programs served an audit, it tells what it found.
+-- If the streams and the starter of programs served an audit, it reports what it found.
 use Rattle.std.proofs.Common.{◌≡◌, ℕ, ◌<◌, ◌≤◌, List, ◌∷◌, length, inl, inr, refl, sym, ◌∙◌, ap, arith}
 use Rattle.io_edge.specs.Outside.{Rose}
 use Rattle.io_edge.specs.Lines.{lines}
@@ -14,7 +14,7 @@ use Rattle.audit_core.proofs.Found.{audits_find_faults}
 use Rattle.audit_command.specs.Audit.{AuditOver}
 use Rattle.audit_command.specs.Laws.{AuditsAreDone, AuditsAreRight, IsServed}
 
--- a program that says fewer bytes than are read is not the first of those to come that says as many
+-- a program that stays below the limit of what is read is not one that reaches it
 too_long : (bytes other : List ℕ) (others later : List (List ℕ)) → (bytes ∷ others) ≡ (other ∷ later) → input_limit ≤ length other → length bytes < input_limit → ⊥
 too_long bytes other others later e long below =
     let same : bytes ≡ other = cc in

@@ -1,4 +1,4 @@
--- An audit that was run over a link, and what is told of it once the program is closed.
+-- An audit that was run over a link, and what is known of it once the program is closed.
 use Rattle.std.proofs.Common.{◌≡◌, ℕ, zero, suc, ◌+◌, ◌<◌, true, false, Bool, List, [], ◌∷◌, length, None, Some, Ok, Err, inl, inr, refl, ap, sym, ◌∙◌, subst, arith, length-append}
 use Rattle.std.specs.Prelude.{◌==◌, if◌then◌else◌}
 use Rattle.std.specs.declared.result.Result.{Result}
@@ -19,12 +19,12 @@ use Rattle.audit_command.specs.Wires.{HasFailed, Wire}
 use Rattle.audit_command.specs.Runs.{Ends, RanOver}
 use Rattle.audit_command.specs.Audit.{AuditRun, AuditStarts, AuditedOver, CountsFault, IsStarted, NoneIsOpen, AuditOver, verdict_of}
 
--- a link that has failed has counted it
+-- a link that failed has counted it
 failed : (w0 w : Wire) → w0.reads ≡ 0 → w0.writes ≡ 0 → HasFailed w0 w → 0 < w.reads + w.writes
 failed w0 w a b (inl r) = elim r.higher [ inl x ↦ omega (arith, x) | inr x ↦ omega (arith, x) ]
 failed w0 w a b (inr r) = elim r.higher [ inl x ↦ omega (arith, x) | inr x ↦ omega (arith, x) ]
 
--- what was written behind nothing
+-- what was written after nothing
 from_none : (old new : Told) (bytes : List ℕ) → old ≡ Some [] → new ≡ behind old bytes → new ≡ Some bytes
 from_none old new bytes e f = f ∙ ap (λ o. behind o bytes) e
 
@@ -58,7 +58,7 @@ pub audited_ok : {E : Type 0} (r : Result AuditState E) (plan : Plan) (w0 w : Wi
 audited_ok (Ok t) plan w0 w before after r0 s0 ran counts closes = audited_over plan t w0 w before after r0 s0 ran counts closes
 audited_ok (Err x) plan w0 w before after r0 s0 ran counts closes = tt
 
--- what a start tells of the link
+-- what a start says of the link
 told_start : (before now : ToldLists) (rest written : Told) (all : List (List ℕ)) → Starts before now rest written → before ≡ Some all
     → (bytes : List ℕ) × (others : List (List ℕ)) × (all ≡ bytes ∷ others) × (now ≡ Some others) × (rest ≡ Some bytes) × (written ≡ Some [])
 told_start None now rest written all starts e = absurd (cc)
@@ -130,7 +130,7 @@ pub started_as : (text : List ℕ) (n : ℕ) (status : Status) (w0 w : Told) (wo
 started_as text n status w0 w words before after (inl (e, wrote)) is = started_at (n == 0) status words before after e is
 started_as text n status w0 w words before after (inr (e, wrote)) is = subst (λ s. AuditStarts s words before after) (sym e) is
 
--- where a text is written no program has failed to start
+-- if a text is written, no program failed to start
 pub none_failed : (text : List ℕ) (n : ℕ) (status : Status) (w0 w : Told) (before after : ℕ) → WritesAs text (verdict_of n) status w0 w → after ≡ before → HasCause (status ≡ SpawnFault) before after
 none_failed text n status w0 w before after told same = record {
   later = omega (arith, same);
@@ -138,7 +138,7 @@ none_failed text n status w0 w before after told same = record {
   same = λ no. same;
 }
 
--- one start took one of those to come, and one close told of one more: none is left open
+-- one start took one of those to come, and one close added one: none is left open
 pub none_open : (before between after : Engines) (rest written w : Told) → Starts before.to_come between.to_come rest written → after.to_come ≡ between.to_come → between.sent ≡ before.sent → Collects between.sent after.sent w → NoneIsOpen before after
 none_open before between after rest written w starts stays sent closes = record {
   even = λ coming later opened closed e f g h.

@@ -1,4 +1,4 @@
--- An audit under way: which lines were read, and which bytes were written.
+-- An audit in progress: which lines were read, and which bytes were written.
 use Rattle.std.proofs.Common.{◌≡◌, ℕ, ◌<◌, true, false, cond, Bool, List, [], ◌∷◌, ◌++◌, length, take, None, Some, refl, sym, ◌∙◌, ap, subst, inl, inr, append_assoc}
 use Rattle.std.specs.Option.{option_map}
 use Rattle.std.proofs.lemmas.Option.{same_Some}
@@ -37,7 +37,7 @@ none_before (Some xs) = refl
 pub progress_begin : (plan : Plan) (s : AuditState) (a : ToldLines) (w : Told) → s ≡ start plan → Progress plan s a a w w
 progress_begin plan s a w e = record { marks = []; here = e; left = none_before a; wrote = behind_none w }
 
--- One line more
+-- One more line
 
 after_all-snoc : (s : AuditState) (marks : List Mark) (mark : Mark) → after_all s (marks ++ mark ∷ []) ≡ step (after_all s marks) mark
 after_all-snoc s [] mark = refl
@@ -151,7 +151,7 @@ ran_over plan t a w0 w p o = record {
       };
 }
 
--- the lines behind one that is too long
+-- the lines after one that is too long
 long_rest : (a : ToldLines) → LongAhead a → (b : ToldLines) × (a ≡ option_map (λ (left : List Mark). TooLong ∷ left) b)
 long_rest None h = (None, refl)
 long_rest (Some left) (more, e) = (Some more, ap (λ (r : List Mark). Some r) e)

@@ -23,7 +23,7 @@ within r adds = let b = adds.bound in omega (arith, b)
 pub falls_line : (old new : Reading) (r0 r1 : Told) → (bytes : List ℕ) × Takes r0 r1 old.taken new.taken bytes × FeedsShort Line old bytes new r1 → AddsUp new → input_limit - settled new < input_limit - settled old
 falls_line old new r0 r1 (bytes, takes, gives) adds = less (settled old) (settled new) input_limit gives.moves_on (within new adds)
 
--- What was sent, and what was read behind it
+-- What was sent, and what was read after it
 
 step_open : (s mid t : AuditState) (mark : Mark) → is_ended s.stage ≡ false → mid ≡ sent s → t ≡ at_mark mid mark → t ≡ step s mark
 step_open s mid t mark o e f = f ∙ (ap (λ (x : AuditState). at_mark x mark) e ∙ sym (ap (λ b. cond b s (at_mark (sent s) mark)) o))
@@ -54,7 +54,7 @@ writes_of r mid t old new n0 n1 n2 hears e f = record {
   same = λ no. f ∙ e;
 }
 
--- Which bytes have left the link, and were counted
+-- The bytes that have left the link and were counted
 
 abbrev pub HasTaken : Told → Told → ℕ → ℕ → Type 0
 HasTaken old new before now = (bytes : List ℕ) × Takes old new before now bytes

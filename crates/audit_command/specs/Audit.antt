@@ -14,14 +14,14 @@ use Rattle.audit_command.specs.Runs.{Ends, IsFront}
 
 -- What was played
 
--- the audit is that of the lines of this program, and it got what is sent for them
+-- The audit is that of the lines of this program, which got what is sent for them.
 pub record IsWhole (plan : Plan) (bytes : List ℕ) (t : AuditState) (before after : Engines)
     : Type 0 where
   pub audit : t ≡ audit_of plan (lines bytes)
   pub gains : Collects before.sent after.sent (Some (sent_in plan (lines bytes)))
 
--- Of the programs to come the first one was started, and no other. These lines are first ones of
--- what it says, and it got these bytes; where no failure of it was counted, its audit is whole.
+-- The first of the programs to come was started, and no other. These lines are the first ones that
+-- it says, and it got these bytes. If no failure of it was counted, its audit is whole.
 pub record StartsOneOf (all : List (List ℕ)) (plan : Plan) (marks : List Mark) (sent : List ℕ)
     (t : AuditState) (before after : Engines) : Type 0 where
   pub bytes : List ℕ
@@ -33,9 +33,9 @@ pub record StartsOneOf (all : List (List ℕ)) (plan : Plan) (marks : List Mark)
   pub whole : ¬ Rose before.engine_faults after.engine_faults
       → IsWhole plan bytes t before after
 
--- An audit came to its end, and stands so, by these lines, for which these bytes were sent: it is
--- theirs, or a call of the link failed behind them, and the failure was counted. What its program
--- says tells which.
+-- An audit came to its end, in this state. These lines were read, and these bytes were sent for
+-- them. Either the audit is that of the lines, or a call of the link failed after them and was
+-- counted. What its program says determines the lines.
 pub record AuditOver (plan : Plan) (t : AuditState) (before after : Engines) : Type 0 where
   pub over : is_ended t.stage ≡ true
   pub marks : List Mark
@@ -47,24 +47,24 @@ pub record AuditOver (plan : Plan) (t : AuditState) (before after : Engines) : T
 
 -- The run
 
--- the text of an audit that came to its end was written
+-- The text of an audit that came to its end was written.
 pub record Tells (plan : Plan) (t : AuditState) (before after : World) : Type 0 where
   pub played : AuditOver plan t before.engines after.engines
   pub wrote : after.sides.written ≡ behind before.sides.written t.text
 
--- of its text the first n bytes were written, and not all
+-- The first n bytes of its text were written, and not all.
 pub record TellsPart (plan : Plan) (t : AuditState) (n : ℕ) (before after : World) : Type 0 where
   pub played : AuditOver plan t before.engines after.engines
   pub cut : n < length t.text
   pub wrote : after.sides.written ≡ behind before.sides.written (take n t.text)
 
--- no program was started, and nothing was written
+-- No program was started, and nothing was written.
 pub record NotBegun (before after : World) : Type 0 where
   pub written : after.sides.written ≡ before.sides.written
   pub unsent : after.engines.sent ≡ before.engines.sent
 
--- of the programs to come the first one was started, and no other, and it says as many bytes as are
--- read, or more
+-- The first of the programs to come was started, and no other. It says at least as many bytes as
+-- the limit of what is read.
 pub record StartsLongOf (all : List (List ℕ)) (after : Engines) : Type 0 where
   pub bytes : List ℕ
   pub others : List (List ℕ)
@@ -72,15 +72,15 @@ pub record StartsLongOf (all : List (List ℕ)) (after : Engines) : Type 0 where
   pub left : after.to_come ≡ Some others
   pub full : input_limit ≤ length bytes
 
--- the program has written as many bytes as are read, and nothing was written
+-- The program has written as many bytes as the limit of what is read, and nothing was written.
 pub record IsFull (before after : World) : Type 0 where
   pub written : after.sides.written ≡ before.sides.written
   pub programs : (all : List (List ℕ)) → before.engines.to_come ≡ Some all
       → StartsLongOf all after.engines
 
--- What was written and played where an audit ends with this status: `Done` says that there is no
--- finding, and `Refused` that there are some. Where memory is wanting, or the program has written
--- as many bytes as are read, nothing was written. Three statuses are not its own.
+-- What was written and played if an audit ends with this status. `Done` says that there is no
+-- finding, and `Refused` that there are some. If memory ran out, or the program has written as many
+-- bytes as the limit, nothing was written. An audit never ends with the remaining three statuses.
 abbrev pub AuditRun : Plan → Status → World → World → Type 0
 AuditRun plan Done before after =
     (t : AuditState) × (t.findings ≡ 0) × Tells plan t before after
@@ -94,17 +94,17 @@ AuditRun plan Usage before after = ⊥
 AuditRun plan ReadFault before after = ⊥
 AuditRun plan BadInput before after = ⊥
 
--- the status of an audit with so many findings, whose text was written
+-- the status of an audit with this number of findings, once its text was written
 abbrev pub verdict_of : ℕ → Status
 verdict_of findings = if findings == 0 then Done else Refused
 
 -- What was started
 
--- the program was started by its words
+-- The program was started with its words.
 abbrev pub IsStarted : List (List ℕ) → Engines → Engines → Type 0
 IsStarted words before after = after.started ≡ with_last before.started words
 
--- the program that was started, by its words, where an audit ends with this status
+-- The program that was started, by its words, if an audit ends with this status.
 abbrev pub AuditStarts : Status → List (List ℕ) → Engines → Engines → Type 0
 AuditStarts Done words before after = IsStarted words before after
 AuditStarts Refused words before after = IsStarted words before after
@@ -117,8 +117,8 @@ AuditStarts Usage words before after = ⊥
 AuditStarts ReadFault words before after = ⊥
 AuditStarts BadInput words before after = ⊥
 
--- no program that was started is left open: where it is told, as many were closed as were taken
--- from those to come
+-- No program that was started is left open. If this is observable, as many were closed as were
+-- taken from those to come.
 pub record NoneIsOpen (before after : Engines) : Type 0 where
   pub even : (coming later opened closed : List (List ℕ))
       → before.to_come ≡ Some coming
@@ -127,8 +127,8 @@ pub record NoneIsOpen (before after : Engines) : Type 0 where
       → after.sent ≡ Some closed
       → length coming + length opened ≡ length later + length closed
 
--- No program is left open. It is `WriteFault` by a write that has failed and was counted, and
--- `SpawnFault` by such a start.
+-- No program is left open. If the status is `WriteFault`, a failed write was counted, and if it is
+-- `SpawnFault`, a failed start.
 pub record EndsAudit
     (status : Status) (writes_before writes_after : ℕ) (before after : Engines) : Type 0 where
   pub closed : NoneIsOpen before after
@@ -137,7 +137,7 @@ pub record EndsAudit
 
 -- On the way
 
--- an audit came to its end over the link of a program that was started, which was closed
+-- An audit came to its end over the link of a started program, which was then closed.
 pub record AuditedOver (plan : Plan) (t : AuditState) (rest written : Told) (before after : Engines)
     : Type 0 where
   pub over : is_ended t.stage ≡ true
@@ -151,12 +151,12 @@ pub record AuditedOver (plan : Plan) (t : AuditState) (rest written : Told) (bef
       → ¬ Rose before.engine_faults after.engine_faults
       → IsWhole plan bytes t before after
 
--- no program was started, and no start has failed
+-- No program was started, and no start failed.
 pub record StartsNone (before after : Engines) : Type 0 where
   pub starts : after.start_faults ≡ before.start_faults
   pub to_come : after.to_come ≡ before.to_come
   pub started : after.started ≡ before.started
 
--- the failure of a program that was closed was counted
+-- The failure of a closed program was counted.
 pub record CountsFault (faults before after : ℕ) : Type 0 where
   pub failed : 0 < faults → Rose before after

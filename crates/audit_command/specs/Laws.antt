@@ -12,8 +12,9 @@ use Rattle.audit_core.specs.Laws.{AreRight}
 use Rattle.audit_core.specs.AuditState.{start}
 use Rattle.audit_command.specs.Audit.{AuditRun}
 
--- The streams and the starter of programs served an audit that ends with this status: no write to
--- the output failed and no start did, and the program says these bytes, fewer than are read.
+-- The streams and the starter of programs served an audit that ends with this status. No write to
+-- the output failed and no start did. The program says these bytes, and they are below the limit of
+-- what is read.
 pub record IsServed (status : Status) (before after : World) (bytes : List ℕ) : Type 0 where
   pub others : List (List ℕ)
   pub writes : NoFault (status ≡ WriteFault)
@@ -23,8 +24,8 @@ pub record IsServed (status : Status) (before after : World) (bytes : List ℕ) 
   pub says : before.engines.to_come ≡ Some (bytes ∷ others)
   pub below : length bytes < input_limit
 
--- Where the streams and the starter of programs served it, an audit ends with no finding or with
--- some, unless memory is wanting.
+-- If the streams and the starter of programs served it, an audit ends with no finding or with some,
+-- or because memory ran out.
 abbrev pub AuditsAreDone : Type 0
 AuditsAreDone =
     (plan : Plan) (status : Status) (before after : World)
@@ -32,8 +33,8 @@ AuditsAreDone =
     → (bytes : List ℕ) → IsServed status before after bytes
     → (status ≡ Done) ⊎ ((status ≡ Refused) ⊎ (status ≡ Memory))
 
--- Where besides no failure of the program was counted, there is no finding exactly where each reply
--- is what it is to be.
+-- If also no failure of the program was counted, there is no finding exactly if each reply is
+-- right.
 abbrev pub AuditsAreRight : Type 0
 AuditsAreRight =
     (plan : Plan) (status : Status) (before after : World)

@@ -9,44 +9,45 @@ use Rattle.audit_core.specs.AuditState.{AuditState, start, is_ended, break_off, 
 use Rattle.audit_core.specs.Audits.{after_all, audit_of, sent_over, sent_in}
 use Rattle.audit_command.specs.Wires.{HasFailed, Wire}
 
--- a list goes on from its front
+-- The first list is an initial part of the second.
 abbrev pub IsFront : {X : Type 0} → List X → List X → Type 0
 IsFront {X} front all = (more : List X) × (all ≡ front ++ more)
 
--- the audit, and the bytes sent, are those of an engine that says just these lines
+-- The audit, and the bytes sent, are those of an engine that says exactly these lines.
 pub record IsAudit (plan : Plan) (marks : List Mark) (t : AuditState) (before after : Told)
     : Type 0 where
   pub audit : t ≡ audit_of plan marks
   pub sent : after ≡ behind before (sent_in plan marks)
 
--- what a failed read is told as: late where an answer is waited for no longer than some limit
+-- the fault that a failed read is reported as: late if there is a limit on the wait for an answer
 abbrev pub unread : Plan → Fault
 unread plan = if plan.patient then Late else Broke
 
--- the audit of these lines, which this finding breaks off
+-- the audit of these lines, ended by this finding
 abbrev pub broken_off : Plan → List Mark → Fault → AuditState
 broken_off plan marks fault = break_off (after_all (start plan) marks) fault
 
--- Of what is sent for these lines just so much was sent: all that goes before the line that waits
--- behind them, and of this line a front and not all.
+-- Exactly these bytes were sent for the lines. They are all that goes before the line waiting after
+-- them, and an initial part of this line, but not all of it.
 abbrev pub IsCutOff : Plan → List Mark → List ℕ → Type 0
 IsCutOff plan marks bytes =
     (n : ℕ) × (n < length (line_now (after_all (start plan) marks)))
     × (bytes ≡ sent_over (start plan) marks ++ take n (line_now (after_all (start plan) marks)))
 
--- How an audit ends of whose engine these lines were read, and which bytes were sent for them. It
--- is that of an engine that says just these lines, and all was sent; or behind them a read failed,
--- which is told as late or as broke, and all was sent; or a write failed, which is told as broke.
+-- How an audit ends if these lines of its engine were read, and these bytes were sent for them. It
+-- may be that of an engine that says exactly these lines, with everything sent. A read may have
+-- failed after them, which is reported as late or broke, with everything sent. Or a write failed,
+-- which is reported as broke.
 abbrev pub Ends : Plan → List Mark → List ℕ → AuditState → Type 0 → Type 0 → Type 0
 Ends plan marks bytes t read_failed write_failed =
     ((t ≡ audit_of plan marks) × (bytes ≡ sent_in plan marks))
     ⊎ (((t ≡ broken_off plan marks (unread plan)) × (bytes ≡ sent_in plan marks) × read_failed)
     ⊎ ((t ≡ broken_off plan marks Broke) × IsCutOff plan marks bytes × write_failed))
 
--- An audit over a link came to its end. Of the engine's lines the first ones, these, were read, and
--- these bytes were sent for them: the audit is that of an engine that says just these lines, or a
--- call of the link failed behind them. Where the link tells its bytes and no call failed, audit and
--- bytes are those of all its lines.
+-- An audit over a link came to its end. These are the first of the engine's lines, and they were
+-- read. These bytes were sent for them. The audit is that of an engine that says exactly these
+-- lines, or a call of the link failed after them. If the link's bytes are observable and no call
+-- failed, audit and bytes are those of all its lines.
 pub record RanOver (plan : Plan) (t : AuditState) (w0 w : Wire) : Type 0 where
   pub over : is_ended t.stage ≡ true
   pub marks : List Mark

@@ -1,4 +1,4 @@
--- One turn of an audit over a link: the line that waits is sent, and a line is read.
+-- One turn of an audit over a link: the line that is waiting is sent, and a line is read.
 use Rattle.std.specs.Prelude.{◌≡◌, ℕ, ◌∷◌, length, take, ◌<◌}
 use Rattle.std.specs.Option.{option_map}
 use Rattle.io_edge.specs.Outside.{Told, behind}
@@ -10,14 +10,14 @@ use Rattle.audit_command.specs.declared.turns.Sending.TheVariants.{Sent, Broke, 
 use Rattle.audit_command.specs.declared.turns.Turned.{Turned}
 use Rattle.audit_command.specs.declared.turns.Turned.TheVariants.{Heard, Long, Ended, ReadFault, WriteFault, Memory, Full}
 
--- the line that waits was sent, or of it a front
+-- The line that was waiting was sent, or an initial part of it.
 abbrev pub Sends : Sending → AuditState → AuditState → Told → Told → Type 0
 Sends Sent s t before after = (t ≡ sent s) × (after ≡ behind before (line_now s))
 Sends Broke s t before after =
     (t ≡ s) × ((n : ℕ) × (n < length (line_now s)) × (after ≡ behind before (take n (line_now s))))
 Sends NoMemory s t before after = Unit {0}
 
--- a line was read; one that is too long stays the first of those to come
+-- A line was read. One that is too long stays the first of those to come.
 abbrev pub Hears : Turned → AuditState → AuditState → ToldLines → ToldLines → Type 0
 Hears Heard s t old new =
     (mark : Mark) × (t ≡ at_mark s mark) × (old ≡ option_map (λ left. mark ∷ left) new)
@@ -28,8 +28,8 @@ Hears WriteFault s t old new = ⊥
 Hears Memory s t old new = Unit {0}
 Hears Full s t old new = Unit {0}
 
--- What a turn did to the audit, to the lines to come and to the bytes that were written. Where
--- memory is wanting, or the reader is full, nothing is said.
+-- What a turn did to the audit, to the lines to come and to the bytes written. If memory ran out,
+-- or the reader is full, nothing is said.
 abbrev pub Turns : Turned → AuditState → AuditState → ToldLines → ToldLines → Told → Told → Type 0
 Turns Heard s t old new before after =
     (mark : Mark) × (t ≡ step s mark) × (old ≡ option_map (λ left. mark ∷ left) new)

@@ -64,7 +64,7 @@ fn audit_and_close<P: Spawner, G: Game + Drop>(
     auditor
 }
 
-/// The status of an audit with so many findings.
+/// The status of an audit with this number of findings.
 fn verdict(findings: u64) -> Status
     ensures is { result ≡ verdict_of findings }
     ensures sound { result ≢ Status.WriteFault }
@@ -89,19 +89,21 @@ fn tell<K: Sink, G: Game + Drop>(auditor: &Auditor<G>, output: &mut K) -> Status
 
 /// Audits a program: the one that the first word names, with the other words as its arguments.
 ///
-/// Games are played with it, whose moves are drawn from the seed. Before each ply it is asked for
-/// the legal moves, and is to list just these, each once, in any order and spelling; a move that is
-/// not legal is tried once a game, which it is to refuse; each of its other replies is to be the
-/// game string of the game. Each reply that is wrong is a finding: its line tells the game, counted
-/// from 1, how many plies were played, the game string and what is wrong, and ends the game. The
-/// last line counts games, lists that were right, the moves on them and findings. The program is
-/// closed before the call returns, whatever happens.
+/// Games are played with it, with moves drawn from the seed. Before each ply it is asked for the
+/// legal moves. It must list exactly these, each once, in any order and spelling. Once a game, a
+/// move that is not legal is tried, and the program must refuse it. Each of its other replies must
+/// be the game string of the game.
 ///
-/// `Done` says that there is no finding, and `Refused` that there are some; the text was written.
-/// `WriteFault` says that a write has failed: of the text only a front, and not all, was written.
-/// `SpawnFault` says that the program did not start, `Memory` that memory was wanting, and
-/// `InputFull` that the program has written 1,099,511,627,776 bytes: nothing was written. No other
-/// status is answered.
+/// Each wrong reply is a finding, and ends the game. Its line has the number of the game, counted
+/// from 1, the number of plies played, the game string, and what is wrong. The last line counts
+/// games, right lists, the moves on them and findings. The program is closed before the call
+/// returns, whatever happens.
+///
+/// `Done` says that there is no finding, and `Refused` that there are some. In both cases the text
+/// was written. `WriteFault` says that a write failed: only an initial part of the text was
+/// written, and not all. `SpawnFault` says that the program did not start, and `Memory` that memory
+/// ran out. `InputFull` says that the program has written 1,099,511,627,776 bytes. In these three
+/// cases nothing was written. No other status is answered.
 #[tactic(auto, using(crate::proofs::Closing::none_taken, crate::proofs::Closing::none_open))]
 pub fn audit_engine<P: Spawner, K: Sink, G: Game + Drop>(
     alloc: Global,

@@ -1,15 +1,15 @@
 //! Laws of the definitions, as contracts of functions that do nothing.
 ghost use Rattle.audit_command.specs.Laws.{AuditsAreDone, AuditsAreRight};
 
-/// An audit ends with `Done` or `Refused`, or for want of memory, where neither the sink counted a
-/// failed write nor the starter of programs a failed start, and the program says fewer than
-/// 1,099,511,627,776 bytes.
+/// The law covers an audit of a program that says fewer than 1,099,511,627,776 bytes. The sink
+/// counted no failed write, and the starter of programs no failed start. The audit ends with `Done`
+/// or `Refused`, or because memory ran out.
 pub fn audits_are_done()
     ensures { AuditsAreDone }
 {}
 
-/// Where besides no failure of the program was counted, the audit ends with `Done` only if each
-/// reply is what it is to be, and with `Refused` only if some reply is not.
+/// Let also no failure of the program be counted. Then the audit ends with `Done` only if each
+/// reply is right, and with `Refused` only if some reply is not.
 pub fn audits_are_right()
     ensures { AuditsAreRight }
 {}

@@ -1,4 +1,4 @@
-//! The audit of a program, from its start to the text that tells it.
+//! The audit of a program, from its start to the text that reports it.
 #![tactic(auto)]
 
 mod auditing;

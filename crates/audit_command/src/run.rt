@@ -15,9 +15,9 @@ use std::alloc::{AllocError, Global};
 /// Why an audit did not come to its end.
 #[derive(Clone, Copy, Debug, PartialEq, Eq)]
 pub enum Halt {
-    /// Memory is wanting.
+    /// Memory ran out.
     Memory,
-    /// The engine has written 1,099,511,627,776 bytes, as many as are read.
+    /// The engine has written 1,099,511,627,776 bytes, the most that are read.
     Full,
 }
 
@@ -31,7 +31,7 @@ impl From<AllocError> for Halt {
     }
 }
 
-/// The auditor, where there is memory for what it writes last.
+/// The auditor after this fault ended the audit, if there is memory for what it writes last.
 fn broken<G: Game + Drop>(mut auditor: Auditor<G>, fault: Fault) -> Result<Auditor<G>, Halt>
     ensures over { IfOk result (λ a. a ≡ break_off auditor fault) }
     ensures memory { result ≢ Err Halt.Full }
@@ -42,7 +42,7 @@ fn broken<G: Game + Drop>(mut auditor: Auditor<G>, fault: Fault) -> Result<Audit
     }
 }
 
-/// What a read that has failed is told as.
+/// The fault that a failed read is reported as.
 fn unread(plan: Plan) -> Fault
     ensures { result ≡ unread plan }
 {
@@ -53,17 +53,17 @@ fn unread(plan: Plan) -> Fault
     }
 }
 
-/// Runs an audit of one engine to its end: sends the lines of the auditor, and gives it those of
-/// the engine. The auditor that is answered is over.
+/// Runs an audit of one engine to its end. It sends the lines of the auditor, and gives it those of
+/// the engine. The answer is an auditor that is over.
 ///
-/// What is to be written is that of the audit of the engine's lines; where a read or a write failed
-/// it is that of the lines that were read before, and a finding: `late` where a read failed and an
-/// answer is waited for no longer than some limit, and else `broke`. Where the link tells its bytes
-/// and no call failed, what was sent and what is to be written are those of the audit of its lines.
+/// The text to be written is that of the audit of the engine's lines. If a read or a write failed,
+/// it is that of the lines read before, and a finding. The finding is `late` if a read failed and
+/// there is a limit on the wait for an answer, and otherwise `broke`. If the link's bytes are
+/// observable and no call failed, the bytes sent and the text are those of the audit of its lines.
 ///
 /// # Errors
 ///
-/// Want of memory, and an engine that has written as many bytes as are read.
+/// Memory runs out, or the engine has written as many bytes as the limit of what is read.
 pub fn run_audit<L: Link, G: Game + Drop>(
     alloc: Global,
     link: &mut L,

@@ -11,18 +11,18 @@ use hive_model::Game;
 use io_edge::{Link, write_all};
 use line_feed::{LineReader, ShortAnswer};
 
-/// What the sending of a line came to.
+/// The result of sending a line.
 #[derive(Clone, Copy)]
 pub(crate) enum Sending {
     /// It was sent whole.
     Sent,
     /// A write failed.
     Broke,
-    /// There is no memory for it.
+    /// Memory ran out.
     Memory,
 }
 
-/// What a turn came to.
+/// The result of a turn.
 #[derive(Clone, Copy)]
 pub(crate) enum Turned {
     /// A line was read.
@@ -35,13 +35,13 @@ pub(crate) enum Turned {
     ReadFault,
     /// A write failed.
     WriteFault,
-    /// There is no memory for it.
+    /// Memory ran out.
     Memory,
-    /// The reader has taken as many bytes as it takes.
+    /// The reader has taken the most bytes that it takes.
     Full,
 }
 
-/// Sends the line that waits.
+/// Sends the line that is waiting.
 fn send<L: Link, G: Game + Drop>(auditor: &mut Auditor<G>, link: &mut L) -> Sending
     ensures sends { Sends result auditor.old auditor.new (L.written link.old)
         (L.written link.new) }
@@ -63,8 +63,8 @@ fn send<L: Link, G: Game + Drop>(auditor: &mut Auditor<G>, link: &mut L) -> Send
     }
 }
 
-/// Reads the next line. One that is too long is judged as soon as that is certain, at its 65,537th
-/// byte: whatever follows, it is too long.
+/// Reads the next line. A line that is too long is judged as soon as that is certain, at its
+/// 65,537th byte. Whatever follows, it is too long.
 fn listen<L: Link, G: Game + Drop>(
     auditor: &mut Auditor<G>,
     reader: &mut LineReader,
@@ -97,7 +97,7 @@ fn listen<L: Link, G: Game + Drop>(
     }
 }
 
-/// Sends the line that waits, and reads the next one.
+/// Sends the line that is waiting, and reads the next one.
 pub(crate) fn turn<L: Link, G: Game + Drop>(
     auditor: &mut Auditor<G>,
     reader: &mut LineReader,

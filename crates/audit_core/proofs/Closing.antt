@@ -1,4 +1,4 @@
--- Where white closes in, by what stands on top of a place.
+-- The places at which white closes in, by what is on top of a place.
 use Rattle.std.proofs.Common.{◌≡◌, ℕ, Bool, true, false, None, Some, sym, ◌∙◌, ap}
 use Rattle.std.specs.Prelude.{◌||◌}
 use Rattle.std.specs.declared.option.Option.{Option}

@@ -9,7 +9,7 @@ use Rattle.hive_model.specs.Games.{replay, IsGame}
 use Rattle.hive_model.specs.Courses.{Course, position, with_move}
 use Rattle.game_text.proofs.WriteLaws.{legal_next, taken_next}
 
--- so many of the plies of a game were played, and there is room for n in all
+-- this number of plies of a game was played, and there is room for n in all
 pub record IsPast (game now : Course) (n i : ℕ) : Type 0 where
   pub kind : now.game_type ≡ game.game_type
   pub made : now.made ≡ take i game.made

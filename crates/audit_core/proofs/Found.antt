@@ -1,4 +1,4 @@
--- An audit finds nothing exactly where each reply is what it is to be.
+-- An audit finds nothing exactly if each reply is right.
 use Rattle.std.proofs.Common.{◌≡◌, ◌⊎◌, ℕ, ◌+◌, ◌≤◌, Bool, true, false, cond, List, [], ◌∷◌, length, None, Some, refl, ◌∙◌, inl, inr, arith}
 use Rattle.std.specs.Prelude.{◌↔◌, ◌||◌, nat_eq, nat_le, nat_lt}
 use Rattle.std.specs.declared.option.Option.{Option}
@@ -165,7 +165,7 @@ close_tells : (s : AuditState) (b : Bool) → Tells (b ≡ true) s.findings (con
 close_tells s true = inl (refl, refl)
 close_tells s false = inr (λ e. absurd (cc), refl)
 
--- what is right in front, and what is found behind it
+-- what is right before, and what is found after it
 both : {P Q : Type 0} (a b c : ℕ) → Tells P a b → ((Q × (c ≡ b)) ⊎ ((Q → ⊥) × (b + 1 ≤ c))) → ((P × Q) × (c ≡ a)) ⊎ (((P × Q) → ⊥) × (a + 1 ≤ c))
 both a b c (inl (p, e)) (inl (q, f)) = inl ((p, q), f ∙ e)
 both a b c (inl (p, e)) (inr (wrong, f)) = inr (λ x. wrong x.1, omega (arith, e, f))

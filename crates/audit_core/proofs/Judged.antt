@@ -1,4 +1,4 @@
--- Nothing is wrong with a reply exactly where it is what it is to be.
+-- Nothing is wrong with a reply exactly if it is right.
 use Rattle.std.proofs.Common.{◌≡◌, ℕ, Bool, true, false, List, [], ◌∷◌, ◌++◌, None, Some, Ok, Err, refl, sym, ◌∙◌, ap, subst, inl, inr}
 use Rattle.std.specs.Prelude.{◌&&◌, not, if◌then◌else◌}
 use Rattle.std.specs.declared.option.Option.{Option}
@@ -34,7 +34,7 @@ has_on ms m h = let r = any_has (is_move m) ms h in subst (IsOn ms) (is_move_sam
 pub on_has : (ms : List Move) (m : Move) → IsOn ms m → has_move ms m ≡ true
 on_has ms m on = has_any (is_move m) ms m on (is_move_itself m)
 
--- The missing
+-- Missing moves
 
 missing_at : (b : Stacks) (listed xs : List Move) (x : Move) (h : Bool) → has_move listed x ≡ h → ((m : Move) → first_missing b listed xs ≡ None → IsOn xs m → IsOn listed m)
     → (if h then first_missing b listed xs else Some (finding Missing (text b x))) ≡ None → (m : Move) → IsOn (x ∷ xs) m → IsOn listed m

@@ -38,11 +38,11 @@ drawn_legal siege state p =
     (λ m on. picked_on siege (word state) (wanted_moves siege p) (moves p) m (λ k wanted. (on_filter (is_wanted siege p) (moves p) k wanted).0) on)
     (some_on pool (word (next_state state) % length pool) (drawn_of siege state p) refl)
 
--- what stands at an index stands on the list
+-- the element at an index is on the list
 pub item_on : (ms : List Move) (i : ℕ) (m : Move) → i < length ms → m ≡ get_or ms i m → IsOn ms m
 item_on ms i m less e = on-at ms i m (slice_get-get_or ms i m less ∙ ap (λ (k : Move). Some k) (sym e))
 
--- what is drawn from a list that was filtered stood on it
+-- what is drawn from a filtered list was on the list
 pub drawn_near : (keeps : Move → Bool) (w : ℕ) (ms : List Move) (P : Move → Type 0) → ((m : Move) → IsOn ms m → P m) → IfSome (drawn w (filter keeps ms)) P
 drawn_near keeps w ms P near =
     let pool : List Move = filter keeps ms in

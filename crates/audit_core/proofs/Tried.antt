@@ -1,4 +1,5 @@
--- What stands at every place of an audit: its games are games, and a move that is tried was legal two plies before and is not legal now.
+-- What holds at every stage of an audit: its games are games. A move that is tried was legal two
+-- plies before and is not legal now.
 use Rattle.std.proofs.Common.{◌≡◌, ℕ, ◌-◌, ◌<◌, ◌≤◌, Bool, true, false, cond, List, [], ◌∷◌, ◌++◌, length, None, Some, refl, subst, arith, length-append}
 use Rattle.std.specs.Prelude.{◌||◌, not, nat_eq, nat_le, nat_lt}
 use Rattle.std.specs.declared.option.Option.{Option}
@@ -35,7 +36,7 @@ use Rattle.audit_core.proofs.TriedTexts.{none_denoted, two_before}
 abbrev IsStale : Position → Position → Move → Type 0
 IsStale before now m = IsOn (moves before) m × (IsOn (moves now) m → ⊥)
 
--- what stands at each place
+-- what holds at each stage
 abbrev Fits : Stage → ℕ → GameType → List Move → Type 0
 Fits Greeting plies t ms = Unit {0}
 Fits Beginning plies t ms = Unit {0}
@@ -49,7 +50,7 @@ Fits Loading plies t ms = Unit {0}
 Fits Finishing plies t ms = Unit {0}
 Fits Over plies t ms = Unit {0}
 
--- both games are games of at most so many plies
+-- both games are games of at most this number of plies
 record AreGames (t : GameType) (ms whole : List Move) (plies : ℕ) : Type 0 where
   game : IsGame t ms
   game_whole : IsGame t whole
@@ -124,7 +125,7 @@ some_stale before now (Some m) h = (h.0, λ on. let there = on_has (moves now) m
 stale_so : (state : ℕ) (before now : Position) → IfSome (tried_of state before now) (IsStale before now)
 stale_so state before now = some_stale before now (tried_of state before now) (drawn_kept (λ m. not (has_move (moves now) m)) (word state) (moves before))
 
--- The game at hand
+-- The current game
 
 legal_more : (p : Position) (ms : List Move) (m : Move) → AreLegal p ms → IsOn (moves (replay p ms)) m → AreLegal p (ms ++ m ∷ [])
 legal_more p [] m legal on = (on, tt)

@@ -74,7 +74,7 @@ first_filled t Pass on e =
     cc
 first_filled t (To x q) on e = put_filled (without [] x) x q e
 
--- where the board is empty no move was made
+-- if the board is empty, no move was made
 none_made : (t : GameType) (ms : List Move) → IsGame t ms → (replay (opening t) ms).board ≡ [] → ms ≡ []
 none_made t [] game e = refl
 none_made t (m ∷ ms) game e = absurd (replay_filled (after (opening t) m) ms (first_filled t m game.0) e)
@@ -136,13 +136,13 @@ denoted t b x q n is small of_type d = elim (named (without b x) x (candidates q
   | inr none ↦ inr (alone_empty t b x (text b (To x q)) n small (ap form_text none) d)
 ]
 
--- the piece of a move that some text denotes
+-- the piece of a move that is denoted by some text
 piece_is : (t : GameType) (b : Stacks) (line : List ℕ) (x : ℕ) (q : Place) → Denotes t b line (To x q) → (x < 28) × OfType t x
 piece_is t b line x q (inl d) = let wrong = d.1 in absurd (cc)
 piece_is t b line x q (inr (inl d)) = let e = d.goes in let same : d.piece ≡ x = cc in (subst (λ k. k < 28) same d.is_piece, subst (OfType t) same d.of_type)
 piece_is t b line x q (inr (inr d)) = let e = d.goes in let same : d.piece ≡ x = cc in (subst (λ k. k < 28) same d.is_piece, subst (OfType t) same d.of_type)
 
--- where a game stood two plies before, or the opening
+-- the position of a game two plies before, or the opening
 abbrev pub two_before : GameType → List Move → Position
 two_before t ms = replay (opening t) (take (length ms - 2) ms)
 

@@ -1,4 +1,4 @@
--- How an audit stands, as a fold over the lines of the engine.
+-- The state of an audit, as a fold over the lines of the engine.
 use Rattle.std.specs.Prelude.{ℕ, ◌+◌, ◌-◌, Bool, true, false, cond, not, ◌&&◌, ◌||◌, nat_eq, nat_lt, nat_le, List, [], ◌∷◌, ◌++◌, length, take, Option, Some, None, codes}
 use Rattle.std.specs.List.{list_any}
 use Rattle.std.specs.Str.{bytes_eq}
@@ -20,10 +20,11 @@ use Rattle.audit_core.specs.Drawing.{drawn_of, is_siege, state_after, state_of, 
 use Rattle.audit_core.specs.Judging.{finding, wrong_list, wrong_refusal, wrong_string}
 use Rattle.audit_core.specs.Texts.{asked_text, begin_line, list_line, load_line, play_line, undo_line, is_ok, with_line, finding_line, last_line}
 
--- An audit: the place that it has reached; whether the line of that place is still to be sent; how
--- many games have ended; which expansions the engine plays; the game at hand, its moves before some
--- were taken back, and the generator of its moves; what was read of the reply at hand; what is to
--- be written; and the counts of findings, of lists that were right, and of the moves on them.
+-- An audit: the stage that it has reached, and whether the line of that stage is still to be sent.
+-- How many games have ended, and which expansions the engine plays. The current game, its moves
+-- before some were taken back, and the generator of its moves. What was read of the current reply.
+-- The text to be written. The counts of findings, of lists that were right, and of the moves on
+-- them.
 pub record AuditState : Type 0 where
   pub plan : Plan
   pub stage : Stage
@@ -41,7 +42,7 @@ pub record AuditState : Type 0 where
   pub positions : ℕ
   pub choices : ℕ
 
--- the audit that stands so
+-- the audit in this state
 abbrev pub audit_state : Plan → Stage → Bool → ℕ → GameType → GameType → List Move → List Move → ℕ
     → Bool → List ℕ → List ℕ → ℕ → ℕ → ℕ → AuditState
 audit_state plan stage sending ended plays game_type moves whole state begun reply text findings
@@ -67,16 +68,16 @@ audit_state plan stage sending ended plays game_type moves whole state begun rep
 abbrev pub position_now : AuditState → Position
 position_now s = replay (opening s.game_type) s.moves
 
--- the position two plies before, where the same side was to move
+-- the position two plies before, with the same side to move
 abbrev pub position_before : AuditState → Position
 position_before s = replay (opening s.game_type) (take (length s.moves - 2) s.moves)
 
--- how many games of the seed come before the game at hand: those before the first game of the
+-- how many games of the seed come before the current game: those before the first game of the
 -- audit, and those of the audit that have ended
 abbrev pub games_before : AuditState → ℕ
 games_before s = s.plan.first - 1 + s.ended
 
--- the move that is drawn in the game at hand, if there is one
+-- the move that is drawn in the current game, if there is one
 abbrev pub drawn_now : AuditState → Option Move
 drawn_now s = drawn_of (is_siege s.plan.seed (games_before s)) s.state (position_now s)
 
@@ -84,7 +85,7 @@ drawn_now s = drawn_of (is_siege s.plan.seed (games_before s)) s.state (position
 abbrev pub base_type : GameType
 base_type = record { mosquito = false; ladybug = false; pillbug = false }
 
--- the engine's greeting is read first
+-- The engine's greeting is read first.
 abbrev pub start : Plan → AuditState
 start plan = record {
   plan = plan;
@@ -104,7 +105,7 @@ start plan = record {
   choices = 0;
 }
 
--- the line of a place
+-- the line of a stage
 abbrev pub line_at : AuditState → Stage → List ℕ
 line_at s Greeting = []
 line_at s Beginning = begin_line s.game_type
@@ -122,11 +123,11 @@ line_at s Over = []
 abbrev pub line_now : AuditState → List ℕ
 line_now s = cond s.sending (line_at s s.stage) []
 
--- on to a place, whose line is to be sent
+-- The audit moves to a stage with a line that is to be sent.
 abbrev pub go : AuditState → Stage → AuditState
 go s stage = record s { stage = stage; sending = true }
 
--- the audit is over, and the last line is written
+-- The audit is over, and the last line is written.
 abbrev pub conclude : AuditState → AuditState
 conclude s = record s {
   stage = Over;
@@ -134,7 +135,7 @@ conclude s = record s {
   text = s.text ++ last_line s.ended s.positions s.choices s.findings;
 }
 
--- the next game begins
+-- The next game begins.
 abbrev pub begin : AuditState → AuditState
 begin s = record s {
   stage = Beginning;
@@ -145,83 +146,83 @@ begin s = record s {
   state = state_of s.plan.seed (games_before s);
 }
 
--- the next game begins where there is one, and else the audit is over
+-- The next game begins if there is one. Otherwise the audit is over.
 abbrev pub next_game : AuditState → AuditState
 next_game s = cond (nat_le s.plan.games s.ended) (conclude s) (begin s)
 
--- a game has ended
+-- A game has ended.
 abbrev pub end_game : AuditState → AuditState
 end_game s = record s { ended = s.ended + 1 }
 
--- a finding is counted, and its line is written
+-- A finding is counted, and its line is written.
 abbrev pub note : AuditState → Finding → AuditState
 note s f = record s {
   text = s.text ++ finding_line (games_before s + 1) s.game_type s.moves f;
   findings = s.findings + 1;
 }
 
--- a finding ends its game, and the audit too where that stops at one
+-- A finding ends its game, and also the audit if the audit stops at one.
 abbrev pub found : AuditState → Finding → AuditState
 found s f =
     cond s.plan.stop (conclude (end_game (note s f))) (next_game (end_game (note s f)))
 
--- A reply is missing, and that ends the audit. The finding names the line of the place, which was
--- sent last, or of which a write failed; none where the greeting is missing.
+-- A reply is missing, and that ends the audit. The finding names the line of the stage, which was
+-- sent last or which could not be written. It names none if the greeting is missing.
 abbrev pub break_off : AuditState → Fault → AuditState
 break_off s fault =
     conclude (end_game (note s (finding fault (asked_text (line_at s s.stage)))))
 
--- where something is wrong it is a finding
+-- Anything wrong is a finding.
 abbrev pub go_or_find : AuditState → Option Finding → AuditState → AuditState
 go_or_find s None t = t
 go_or_find s (Some f) t = found s f
 
--- some of the plies are to be taken back; one word draws how many
+-- Some of the plies are to be taken back. One word draws how many.
 abbrev pub go_back : AuditState → AuditState
 go_back s =
     go (record s { state = next_state s.state }) (Undoing (undone_of s.state (length s.moves)))
 
--- the game has come to its end; one with no ply has none to take back
+-- The game has come to its end. One without a ply has none to take back.
 abbrev pub close_game : AuditState → AuditState
 close_game s = cond (nat_eq (length s.moves) 0) (next_game (end_game s)) (go_back s)
 
--- the game is over, or it has as many plies as it may have; else the list is asked for
+-- The game is over, or it has as many plies as it may have. Otherwise the list is asked for.
 abbrev pub list_or_end : AuditState → AuditState
 list_or_end s =
     cond (is_over (position_now s) || nat_le s.plan.plies (length s.moves))
     (close_game s) (go s Listing)
 
--- the drawn move is to be played; a list that has none ends the game
+-- The drawn move is to be played. A list without one ends the game.
 abbrev pub play_drawn : AuditState → Option Move → AuditState
 play_drawn s None = next_game (end_game s)
 play_drawn s (Some m) = go s (Playing m)
 
--- a list was right
+-- A list was right.
 abbrev pub count : AuditState → AuditState
 count s = record s {
   positions = s.positions + 1;
   choices = s.choices + length (moves (position_now s));
 }
 
--- a move was drawn
+-- A move was drawn.
 abbrev pub advance : AuditState → AuditState
 advance s = record s { state = state_after s.state }
 
--- the drawn move was played, and what is read is its game string
+-- The drawn move was played, and its game string is read.
 abbrev pub with_move : AuditState → Move → AuditState
 with_move s m = record s { stage = Beginning; moves = s.moves ++ m ∷ [] }
 
--- the reply to a game's begin, or to a move, is to be the game string
+-- The reply to the start of a game, or to a move, must be the game string.
 abbrev pub check_string : AuditState → List ℕ → AuditState
 check_string s reply = go_or_find s (wrong_string s.game_type s.moves reply) (list_or_end s)
 
--- the reply to a question for moves is to be the list of the legal ones
+-- The reply to a question for moves must be the list of the legal ones.
 abbrev pub check_list : AuditState → List ℕ → AuditState
 check_list s reply =
     go_or_find s (wrong_list s.game_type (position_now s) reply)
     (play_drawn (advance (count s)) (drawn_now s))
 
--- so many plies were taken back, and what is read is the game string of what is left
+-- This number of plies was taken back, and the game string of what is left is read.
 abbrev pub without_plies : AuditState → ℕ → AuditState
 without_plies s back = record s {
   stage = Beginning;
@@ -229,56 +230,56 @@ without_plies s back = record s {
   whole = s.moves;
 }
 
--- the reply to an undo is to be the game string; then the list is asked for
+-- The reply to an undo must be the game string. Then the list is asked for.
 abbrev pub check_undone : AuditState → List ℕ → AuditState
 check_undone s reply = go_or_find s (wrong_string s.game_type s.moves reply) (go s Reviewing)
 
--- a move was drawn that is tried
+-- A move was drawn that is to be tried.
 abbrev pub next_word : AuditState → AuditState
 next_word s = record s { state = next_state s.state }
 
--- a move is tried that is not legal; where there is none, the whole game is loaded
+-- A move that is not legal is tried. If there is none, the whole game is loaded.
 abbrev pub try_drawn : AuditState → Option Move → AuditState
 try_drawn s None = go s Loading
 try_drawn s (Some m) = go s (Trying m)
 
--- the list there is to be that of the legal moves; then a move is tried that was legal two plies
--- before and is not now
+-- The list there must be that of the legal moves. Then a move is tried that was legal two plies
+-- before and is not now.
 abbrev pub check_review : AuditState → List ℕ → AuditState
 check_review s reply =
     go_or_find s (wrong_list s.game_type (position_now s) reply)
     (try_drawn (next_word (count s)) (tried_of s.state (position_before s) (position_now s)))
 
--- the reply to the move that is tried is to be a refusal; then the list is asked for
+-- The reply to the move that is tried must be a refusal. Then the list is asked for.
 abbrev pub check_tried : AuditState → Move → List ℕ → AuditState
 check_tried s m reply =
     go_or_find s (wrong_refusal (position_now s).board m reply) (go s Relisting)
 
--- the list is to be as before, and the whole game is loaded
+-- The list must be as before, and the whole game is loaded.
 abbrev pub check_relisted : AuditState → List ℕ → AuditState
 check_relisted s reply =
     go_or_find s (wrong_list s.game_type (position_now s) reply) (go (count s) Loading)
 
--- the whole game stands again, and what is read is its game string
+-- The whole game is restored, and its game string is read.
 abbrev pub loaded : AuditState → AuditState
 loaded s = record s { stage = Beginning; moves = s.whole; whole = s.moves }
 
--- the list is asked for where the game goes on, and else it has ended
+-- The list is asked for if the game goes on. Otherwise the game has ended.
 abbrev pub list_loaded : AuditState → AuditState
 list_loaded s = cond (is_over (position_now s)) (next_game (end_game s)) (go s Finishing)
 
--- the reply to the loading of the whole game is to be its game string
+-- The reply to the loading of the whole game must be its game string.
 abbrev pub check_loaded : AuditState → List ℕ → AuditState
 check_loaded s reply = go_or_find s (wrong_string s.game_type s.moves reply) (list_loaded s)
 
--- the list there is to be that of the legal moves, and the game has ended
+-- The list there must be that of the legal moves, and the game has ended.
 abbrev pub check_finish : AuditState → List ℕ → AuditState
 check_finish s reply =
     go_or_find s (wrong_list s.game_type (position_now s) reply) (next_game (end_game (count s)))
 
 -- The expansions that a greeting names
 
--- one of the parts is this word
+-- One of the parts is this word.
 abbrev pub has_part : List (List ℕ) → List ℕ → Bool
 has_part parts word = list_any (λ part. bytes_eq part word) parts
 
@@ -290,11 +291,11 @@ named_in parts = record {
   pillbug = has_part parts (codes "Pillbug");
 }
 
--- the greeting was read
+-- The greeting was read.
 abbrev pub greet : AuditState → List ℕ → AuditState
 greet s reply = next_game (record s { plays = named_in (parts reply) })
 
--- a reply has ended
+-- A reply has ended.
 abbrev pub reply_ends : AuditState → Stage → List ℕ → AuditState
 reply_ends s Greeting reply = greet s reply
 reply_ends s Beginning reply = check_string s reply
@@ -308,13 +309,13 @@ reply_ends s Loading reply = check_loaded (loaded s) reply
 reply_ends s Finishing reply = check_finish s reply
 reply_ends s Over reply = s
 
--- one line more of a reply: it has at most 65,536 bytes
+-- One more line of a reply is kept. A reply has at most 65,536 bytes.
 abbrev pub keep : AuditState → List ℕ → AuditState
 keep s reply =
     cond (nat_lt greatest_line (length reply)) (break_off s Unreadable)
     (record s { begun = true; reply = reply })
 
--- the greeting is read
+-- The greeting is being read.
 abbrev pub is_greeting : Stage → Bool
 is_greeting Greeting = true
 is_greeting Beginning = false
@@ -328,29 +329,29 @@ is_greeting Loading = false
 is_greeting Finishing = false
 is_greeting Over = false
 
--- of the greeting the last line is kept, and of another reply all lines
+-- Of the greeting the last line is kept, and of another reply all lines.
 abbrev pub reply_with : AuditState → Stage → List ℕ → List ℕ
 reply_with s stage line = with_line (s.begun && not (is_greeting stage)) s.reply line
 
--- nothing was read of the next reply
+-- Nothing was read of the next reply.
 abbrev pub fresh : AuditState → AuditState
 fresh s = record s { begun = false; reply = [] }
 
--- a line of a reply ends it or is kept
+-- A line of a reply ends it or is kept.
 abbrev pub hear : AuditState → Stage → List ℕ → AuditState
 hear s stage line =
     cond (is_ok line) (reply_ends (fresh s) stage s.reply) (keep s (reply_with s stage line))
 
--- the line of the place was sent
+-- The line of the stage was sent.
 abbrev pub sent : AuditState → AuditState
 sent s = record s { sending = false }
 
--- what comes of a line or a mark of one that is too long
+-- the audit after a line, or after the mark of one that is too long
 unfoldable pub at_mark : AuditState → Mark → AuditState
 at_mark s (Text line) = hear s s.stage line
 at_mark s TooLong = break_off s Unreadable
 
--- the audit is over
+-- The audit is over.
 abbrev pub is_ended : Stage → Bool
 is_ended Greeting = false
 is_ended Beginning = false

@@ -9,14 +9,14 @@ use Rattle.audit_core.specs.declared.plan.Plan.{Plan}
 use Rattle.audit_core.specs.declared.plan.Stage.{Stage}
 use Rattle.audit_core.specs.declared.plan.Stage.TheVariants.{Greeting, Beginning, Listing, Playing, Undoing, Reviewing, Trying, Relisting, Loading, Finishing, Over}
 
--- the games are numbered from 1, and a game has from 1 to 1,000 plies at most
+-- The games are numbered from 1, and the limit of plies of a game is from 1 to 1,000.
 pub record IsPlan (plan : Plan) : Type 0 where
   pub counted : 1 ≤ plan.first
   pub some : 1 ≤ plan.plies
   pub few : plan.plies ≤ 1000
 
--- while moves are asked for one more may be made, a move to be played is legal, as many plies as
--- are taken back were made, and a move that is tried has a text
+-- While moves are asked for, one more may be made. A move to be played is legal. As many plies as
+-- are taken back were made. A move that is tried has a text.
 abbrev pub FitsStage : Stage → Course → ℕ → Type 0
 FitsStage Greeting game plies = Unit {0}
 FitsStage Beginning game plies = Unit {0}
@@ -30,8 +30,8 @@ FitsStage Loading game plies = Unit {0}
 FitsStage Finishing game plies = Unit {0}
 FitsStage Over game plies = Unit {0}
 
--- the game and the whole game have room for all plies and are of one type, and the reply is no
--- longer than a line
+-- The game and the whole game have room for all plies and are of one type. The reply is no longer
+-- than a line.
 pub record IsAuditor (plan : Plan) (stage : Stage) (game whole : Course) (reply : List ℕ)
     : Type 0 where
   pub is_plan : IsPlan plan

@@ -1,4 +1,4 @@
--- Where an audit finds something.
+-- When an audit finds something.
 use Rattle.std.specs.Prelude.{◌≡◌, ◌↔◌, ℕ, ◌-◌, ◌≤◌, Bool, true, false, List, [], ◌∷◌, ◌++◌, length, take, None}
 use Rattle.hive_model.specs.declared.pieces.GameType.{GameType}
 use Rattle.hive_model.specs.declared.places.Move.{Move}
@@ -18,8 +18,9 @@ use Rattle.audit_core.specs.Keeps.{IsPlan}
 use Rattle.audit_core.specs.AuditState.{AuditState, begin, games_before, start, position_before, position_now, is_ended, reply_with}
 use Rattle.audit_core.specs.Audits.{after_all, step, audit_of}
 
--- nothing is wrong with a list exactly where it lists the legal moves, with a string exactly where
--- it is that of the game, and with the reply to a move that is not legal where it is a refusal
+-- Nothing is wrong with a list exactly if it lists the legal moves, and with a string exactly if it
+-- is that of the game. Nothing is wrong with the reply to a move that is not legal exactly if it is
+-- a refusal.
 pub record RepliesAreJudged : Type 0 where
   pub lists : (t : GameType) (p : Position) (line : List ℕ)
       → (wrong_list t p line ≡ None) ↔ ListsMoves t p line
@@ -28,9 +29,9 @@ pub record RepliesAreJudged : Type 0 where
   pub refusals : (b : Stacks) (m : Move) (line : List ℕ)
       → (wrong_refusal b m line ≡ None) ↔ (is_refusal line ≡ true)
 
--- a whole reply is what it is to be at its place: the game string of the game reached, the list of
--- the legal moves of its position, or a refusal of a move that is not legal; a greeting may be
--- anything
+-- A whole reply is right at its stage: it is the game string of the game reached, or the list of
+-- the legal moves of its position. For a move that is not legal it is a refusal. A greeting may be
+-- anything.
 abbrev pub IsReply : AuditState → Stage → List ℕ → Type 0
 IsReply s Greeting reply = Unit {0}
 IsReply s Beginning reply = TellsGame s.game_type s.moves reply
@@ -45,7 +46,7 @@ IsReply s Loading reply = TellsGame s.game_type s.whole reply
 IsReply s Finishing reply = ListsMoves s.game_type (position_now s) reply
 IsReply s Over reply = Unit {0}
 
--- a line ends a reply that is what it is to be, or leaves the reply no longer than a line may be
+-- A line ends a reply that is right, or leaves the reply no longer than a line may be.
 abbrev pub IsRightLine : Bool → AuditState → List ℕ → Type 0
 IsRightLine true s line = IsReply s s.stage s.reply
 IsRightLine false s line = length (reply_with s s.stage line) ≤ greatest_line
@@ -54,17 +55,17 @@ abbrev pub IsRight : AuditState → Mark → Type 0
 IsRight s (Text line) = IsRightLine (is_ok line) s line
 IsRight s TooLong = ⊥
 
--- whatever is read once the audit is over is left alone
+-- Whatever is read once the audit is over does not count.
 abbrev pub IsRightAt : Bool → AuditState → Mark → Type 0
 IsRightAt true s mark = Unit {0}
 IsRightAt false s mark = IsRight s mark
 
--- each reply is what it is to be, and the lines lead to the end of the audit
+-- Each reply is right, and the lines lead to the end of the audit.
 abbrev pub AreRight : AuditState → List Mark → Type 0
 AreRight s [] = is_ended s.stage ≡ true
 AreRight s (mark ∷ marks) = IsRightAt (is_ended s.stage) s mark × AreRight (step s mark) marks
 
--- an audit finds nothing exactly where each reply is what it is to be, up to its end
+-- An audit finds nothing exactly if each reply up to its end is right.
 abbrev pub AuditsFindFaults : Type 0
 AuditsFindFaults =
     (plan : Plan) (marks : List Mark) →
@@ -79,28 +80,28 @@ pub record TriesIllegal (s : AuditState) (m : Move) : Type 0 where
       → Denotes s.game_type (position_now s).board (text (position_now s).board m) n
       → ¬ IsOn (moves (position_now s)) n
 
--- so it is wherever an audit tries a move
+-- This holds wherever an audit tries a move.
 abbrev pub TriedAreIllegal : Type 0
 TriedAreIllegal =
     (plan : Plan) (marks : List Mark) (m : Move) → IsPlan plan
     → (after_all (start plan) marks).stage ≡ Trying m
     → TriesIllegal (after_all (start plan) marks) m
 
--- Two audits stand before the game of one number of one seed, whichever game was the first of
--- each: for both the same type is asked for, if any, and their engines play the same expansions.
+-- Two audits are before the game with one number of one seed, whichever game was the first of each.
+-- For both the same type is asked for, if any, and their engines play the same expansions.
 pub record AreBeforeOneGame (s t : AuditState) : Type 0 where
   pub seed : s.plan.seed ≡ t.plan.seed
   pub asked : s.plan.game_type ≡ t.plan.game_type
   pub plays : s.plays ≡ t.plays
   pub number : games_before s ≡ games_before t
 
--- the game at hand begins alike in two audits: it is of one type, its moves are drawn by one
--- generator, and it is a siege in both or in none
+-- The current game begins alike in two audits. It has one type, one generator draws its moves, and
+-- it is a siege in both or in none.
 pub record BeginAlike (s t : AuditState) : Type 0 where
   pub kind : (begin s).game_type ≡ (begin t).game_type
   pub state : (begin s).state ≡ (begin t).state
   pub siege : is_siege s.plan.seed (games_before s) ≡ is_siege t.plan.seed (games_before t)
 
--- so the game of some number of a seed is the same in each audit that comes to it
+-- So the game with some number of a seed is the same in each audit that reaches it.
 abbrev pub GamesStandAlone : Type 0
 GamesStandAlone = (s t : AuditState) → AreBeforeOneGame s t → BeginAlike s t

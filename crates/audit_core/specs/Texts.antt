@@ -1,4 +1,4 @@
--- What an engine is sent, and what is written of it.
+-- What is sent to an engine, and what is written about it.
 use Rattle.std.specs.Prelude.{ℕ, Bool, true, false, ◌||◌, nat_eq, List, [], ◌∷◌, ◌++◌, length, map, take, codes, decimal, nat_lt, if◌then◌else◌}
 use Rattle.std.specs.List.{starts_with}
 use Rattle.std.specs.Str.{bytes_eq}
@@ -19,61 +19,61 @@ use Rattle.audit_core.specs.declared.findings.Finding.{Finding}
 abbrev pub begin_line : GameType → List ℕ
 begin_line t = codes "newgame " ++ (type_bytes t ++ 10 ∷ [])
 
--- a game is loaded by its game string
+-- A game is loaded by its game string.
 abbrev pub load_line : GameType → List Move → List ℕ
 load_line t ms = codes "newgame " ++ (string t ms ++ 10 ∷ [])
 
--- the legal moves are asked for
+-- The legal moves are asked for.
 abbrev pub list_line : List ℕ
 list_line = codes "validmoves\n"
 
--- a move is played, which is made in this position
+-- A move, made in this position, is played.
 abbrev pub play_line : Position → Move → List ℕ
 play_line p Pass = codes "pass\n"
 play_line p (To x q) = codes "play " ++ (text p.board (To x q) ++ 10 ∷ [])
 
--- so many plies are taken back
+-- This number of plies is taken back.
 abbrev pub undo_line : ℕ → List ℕ
 undo_line plies = codes "undo " ++ (decimal plies ++ 10 ∷ [])
 
 -- What is read
 
--- the line ends a reply
+-- The line ends a reply.
 abbrev pub is_ok : List ℕ → Bool
 is_ok line = bytes_eq line (codes "ok")
 
--- a reply is this word, or begins by it and a space (32) or an LF (10)
+-- A reply is this word, or begins with it and a space (32) or an LF (10).
 abbrev pub begins_by : List ℕ → List ℕ → Bool
 begins_by word reply =
     bytes_eq reply word
     || (starts_with nat_eq reply (word ++ 32 ∷ []) || starts_with nat_eq reply (word ++ 10 ∷ []))
 
--- a reply refuses what was sent: its first word is `err` or `invalidmove`
+-- A reply refuses what was sent: its first word is `err` or `invalidmove`.
 abbrev pub is_refusal : List ℕ → Bool
 is_refusal reply = begins_by (codes "err") reply || begins_by (codes "invalidmove") reply
 
--- a reply with one line more; an LF (10) stands between two lines
+-- a reply with one more line; an LF (10) separates two lines
 abbrev pub with_line : Bool → List ℕ → List ℕ → List ℕ
 with_line false reply line = line
 with_line true reply line = reply ++ 10 ∷ line
 
 -- What is written
 
--- a byte of an engine as it is written: each one outside 32 to 126 as a question mark (63)
+-- a byte of an engine as it is written: one outside 32 to 126 becomes a question mark (63)
 abbrev pub shown : ℕ → ℕ
 shown byte = if nat_lt byte 32 then 63 else (if nat_lt 126 byte then 63 else byte)
 
--- a text of the engine, with a space (32) before it; nothing where it is empty
+-- a text of the engine, with a space (32) before it; nothing if it is empty
 abbrev pub text_behind : List ℕ → List ℕ
 text_behind [] = []
 text_behind (byte ∷ bytes) = 32 ∷ map shown (byte ∷ bytes)
 
--- The line to which no reply has come, as a finding names it. One of more than 68 bytes is cut to
--- these, with two dots behind them. Only a game string is so long: behind `newgame ` it keeps 60.
+-- The line that was not answered, as a finding names it. One of more than 68 bytes is cut to the
+-- first 68, with two dots after them. Only a game string is so long: after `newgame ` it keeps 60.
 abbrev pub shortened : List ℕ → List ℕ
 shortened line = if nat_lt 68 (length line) then take 68 line ++ codes ".." else line
 
--- what a finding says of the line that was sent, which ends by an LF; nothing where none was sent
+-- what a finding says of the line that was sent, which ends with an LF; nothing if none was sent
 abbrev pub asked_text : List ℕ → List ℕ
 asked_text [] = []
 asked_text (byte ∷ bytes) = codes "asked " ++ shortened (take (length bytes) (byte ∷ bytes))
@@ -89,15 +89,15 @@ fault_word Ended = codes "ended"
 fault_word Late = codes "late"
 fault_word Broke = codes "broke"
 
--- a number behind a word
+-- a word, and a number after it
 abbrev pub numbered : List ℕ → ℕ → List ℕ
 numbered word n = word ++ decimal n
 
--- what is wrong, ended by LF
+-- what is wrong, ended by an LF
 abbrev pub finding_end : Finding → List ℕ
 finding_end f = 32 ∷ (fault_word f.fault ++ (text_behind f.text ++ 10 ∷ []))
 
--- the line of a finding: the game's number, how many plies were played, its game string, and what
+-- the line of a finding: the game's number, the number of plies played, its game string, and what
 -- is wrong
 abbrev pub finding_line : ℕ → GameType → List Move → Finding → List ℕ
 finding_line number t ms f =

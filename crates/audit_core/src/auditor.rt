@@ -24,14 +24,14 @@ use rand_xoshiro::SplitMix64;
 use std::alloc::{AllocError, Global};
 use std::marker::Model;
 
-/// No expansion.
+/// The base game, with no expansion.
 const BASE: GameType = GameType {
     mosquito: false,
     ladybug: false,
     pillbug: false,
 };
 
-/// A game of this type that begins, with room for so many plies.
+/// A new game of this type, with room for this number of plies.
 fn new_game<G: Game + Drop>(alloc: Global, game_type: GameType, plies: u32) -> Result<G, AllocError>
     requires { plies ≤ 1000 }
     ensures kind { IfOk result (λ g. (G.course g).game_type ≡ game_type) }
@@ -43,18 +43,21 @@ fn new_game<G: Game + Drop>(alloc: Global, game_type: GameType, plies: u32) -> R
     Ok(game)
 }
 
-/// An audit that is under way, as it stands after the lines that its engine has said.
+/// An audit in progress: its state after the lines that its engine has said.
 ///
-/// The greeting is read, and then game after game is played: a new game is asked for; before each
-/// ply its legal moves; and then one of them, which is drawn, is played. Once the game has come to
-/// its end some of its plies, as many as are drawn, are taken back, and the legal moves there are
-/// asked for. Then a move is tried that was legal two plies before and is not now, one that is
-/// drawn, if there is one; and the list is asked for again. At last the whole game is loaded by its
-/// game string, and its legal moves are asked for unless it is over. Each reply ends by a line
-/// `ok`, and is judged. What is found wrong ends its game, and is told in a line.
+/// The greeting is read, and then game after game is played. A new game is asked for. Before each
+/// ply its legal moves are asked for, and then one of them, which is drawn, is played.
 ///
-/// After want of memory an auditor is of no further use. A count that would pass 2 to the power 64
-/// is told as want of memory.
+/// Once the game has come to its end, some of its plies are taken back. Their number is drawn. The
+/// legal moves there are asked for. Then a drawn move is tried that was legal two plies before and
+/// is not now, if there is one. The list is asked for again. At last the whole game is loaded by
+/// its game string, and its legal moves are asked for unless it is over.
+///
+/// Each reply ends with a line `ok`, and is judged. A fault ends its game, and is reported in a
+/// line.
+///
+/// After memory ran out an auditor is of no further use. A count that would reach 2^64 is reported
+/// as running out of memory.
 #[derive(Drop)]
 pub struct Auditor<G: Game> {
     alloc: Global,
@@ -93,7 +96,7 @@ impl<G: Game + Drop> Auditor<G> {
     ///
     /// # Errors
     ///
-    /// Want of memory.
+    /// Memory runs out.
     pub fn new(alloc: Global, plan: Plan) -> Result<Auditor<G>, AllocError>
         requires { IsPlan plan }
         ensures { IfOk result (λ a. a ≡ start plan) }
@@ -119,7 +122,7 @@ impl<G: Game + Drop> Auditor<G> {
         })
     }
 
-    /// Whether the audit is over: then no line is to be sent, and none to be read.
+    /// Whether the audit is over. Then there is no line to send, and none to read.
     pub fn is_over(&self) -> bool
         ensures { result ≡ is_ended self.now.stage }
     {
@@ -129,21 +132,21 @@ impl<G: Game + Drop> Auditor<G> {
         }
     }
 
-    /// What is to be written so far.
+    /// The text to be written so far.
     pub fn text(&self) -> &[u8]
         ensures { result.now ≡ self.now.text }
     {
         self.text.items()
     }
 
-    /// How many findings there are.
+    /// The number of findings.
     pub fn findings(&self) -> u64
         ensures { result ≡ self.now.findings }
     {
         self.findings
     }
 
-    /// The line of the place that the audit has reached.
+    /// The line to be sent at the stage that the audit has reached.
     fn place_line(&self) -> Result<ReplyText, AllocError>
         ensures { IfOk result (λ t. t ≡ line_at self.now self.now.stage) }
     {
@@ -162,12 +165,12 @@ impl<G: Game + Drop> Auditor<G> {
         }
     }
 
-    /// The line that is to be sent before the next one is read, its LF included; it is empty where
-    /// there is none.
+    /// The line to be sent before the next one is read, its LF included. It is empty if there is
+    /// none.
     ///
     /// # Errors
     ///
-    /// Want of memory.
+    /// Memory runs out.
     pub fn line(&self) -> Result<ReplyText, AllocError>
         ensures { IfOk result (λ t. t ≡ line_now self.now) }
     {
@@ -178,18 +181,18 @@ impl<G: Game + Drop> Auditor<G> {
         }
     }
 
-    /// The line was sent.
+    /// Notes that the line was sent.
     pub fn sent(&mut self)
         ensures { self.new ≡ sent self.old }
     {
         self.sending = false;
     }
 
-    /// Moves on by a line of the engine, of at most 65,536 bytes, while the audit is not over.
+    /// Advances by a line of the engine, of at most 65,536 bytes, while the audit is not over.
     ///
     /// # Errors
     ///
-    /// Want of memory.
+    /// Memory runs out.
     #[tactic(auto, unfolding(crate::specs::AuditState::at_mark))]
     pub fn hear(&mut self, line: &[u8]) -> Result<(), AllocError>
         requires { length line.now ≤ greatest_line }
@@ -202,11 +205,11 @@ impl<G: Game + Drop> Auditor<G> {
         self.keep(line)
     }
 
-    /// Moves on by a line of the engine that is too long.
+    /// Advances by a line of the engine that is too long.
     ///
     /// # Errors
     ///
-    /// Want of memory.
+    /// Memory runs out.
     #[tactic(auto, unfolding(crate::specs::AuditState::at_mark))]
     pub fn pass_over(&mut self) -> Result<(), AllocError>
         ensures { OnOk result (self.new ≡ at_mark self.old TooLong) }

@@ -1,4 +1,4 @@
-//! The moves of the games are drawn.
+//! How the moves of the games are drawn.
 ghost use Rattle.std.specs.Prelude.{◌≡◌, ◌≤◌, ◌-◌, length, not, take, IfOk, IfSome, OnOk};
 ghost use Rattle.std.specs.List.{filter};
 ghost use Rattle.hive_model.specs.declared.places.Move.{Move as AnyMove};
@@ -32,7 +32,7 @@ use rand_xoshiro::rand_core::SeedableRng;
 use rand_xoshiro::rand_core::utils::NextWord;
 use std::alloc::{AllocError, Global};
 
-/// The generator with which a game begins, by the seed and the number of games before it.
+/// The generator at the start of a game, by the seed and the number of games before it.
 pub(crate) fn generator_of(seed: u64, number: u64) -> SplitMix64
     ensures { result ≡ state_of seed number }
 {
@@ -68,7 +68,7 @@ fn is_rare<G: Game>(game: &G, m: Move) -> bool
     }
 }
 
-/// Whether a game leans to a move: in a siege it is one that is sought, and else one that is rare.
+/// Whether a game prefers a move: in a siege a sought move, and otherwise a rare one.
 fn is_wanted<G: Game>(game: &G, siege: bool, m: Move) -> bool
     ensures { result ≡ is_wanted siege (position (G.course game.now)) m }
 {
@@ -79,7 +79,7 @@ fn is_wanted<G: Game>(game: &G, siege: bool, m: Move) -> bool
     }
 }
 
-/// Those of these moves to which a game leans.
+/// The moves on the list that a game prefers.
 fn wanted_of<G: Game>(
     alloc: Global,
     game: &G,
@@ -120,7 +120,7 @@ fn picked_from<'a>(siege: bool, word: u64, wanted: &'a [Move], all: &'a [Move]) 
     }
 }
 
-/// Draws one of the legal moves of a game by two words, if there is one.
+/// Draws one of the legal moves of a game with two words, if there is one.
 pub(crate) fn draw<G: Game>(
     alloc: Global,
     game: &G,
@@ -139,7 +139,7 @@ pub(crate) fn draw<G: Game>(
     Ok(pick(picked_from(siege, first, wanted.items(), legal), second))
 }
 
-/// Those of the moves that are not on the other list.
+/// The moves that are not on the other list.
 fn stale_of(alloc: Global, before: &[Move], now: &[Move]) -> Result<MoveList, AllocError>
     ensures { IfOk result (λ l. l ≡ filter (λ m. not (has_move now.now m)) before.now) }
 {
@@ -152,7 +152,7 @@ fn stale_of(alloc: Global, before: &[Move], now: &[Move]) -> Result<MoveList, Al
     Ok(stale)
 }
 
-/// The legal moves of the position two plies before, whose destinations are near.
+/// The legal moves of the position two plies before. Their destinations are near.
 fn moves_before<G: Game + Drop>(alloc: Global, game: &G) -> Result<MoveList, AllocError>
     ensures listed { let now = G.course game.now in IfOk result (λ l. l ≡ moves
         (replay (opening now.game_type) (take (length now.made - 2) now.made))) }
@@ -163,8 +163,8 @@ fn moves_before<G: Game + Drop>(alloc: Global, game: &G) -> Result<MoveList, All
     legal_moves(alloc, &mut before)
 }
 
-/// Draws by a word one of the moves that were legal two plies before and are not now, if there is
-/// one.
+/// Draws with one word one of the moves that were legal two plies before and are not now, if there
+/// is one.
 pub(crate) fn draw_tried<G: Game + Drop>(
     alloc: Global,
     game: &G,
@@ -185,7 +185,7 @@ pub(crate) fn draw_tried<G: Game + Drop>(
     Ok(pick(stale.items(), word))
 }
 
-/// Draws how many plies of a game of so many are taken back.
+/// Draws how many plies are taken back, for a game with this number of plies.
 pub(crate) fn draw_undone(generator: &mut SplitMix64, plies: u32) -> u32
     requires { 1 ≤ plies }
     ensures drawn { result ≡ undone_of generator.old plies }

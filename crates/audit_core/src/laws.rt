@@ -1,4 +1,4 @@
-//! What holds of every audit, as the contract of a function that does nothing.
+//! Laws of every audit, as contracts of functions that do nothing.
 ghost use Rattle.audit_core.specs.Laws.{
   AuditsFindFaults,
   GamesStandAlone,
@@ -6,28 +6,29 @@ ghost use Rattle.audit_core.specs.Laws.{
   TriedAreIllegal,
 };
 
-/// Nothing is wrong with a list exactly where it lists the legal moves of its position, each once
-/// and no other; with a string exactly where it is read as the game; and with the reply to a move
-/// that is not legal exactly where it is a refusal.
+/// Nothing is wrong with a list exactly if it lists the legal moves of its position, each once and
+/// no other. Nothing is wrong with a string exactly if it is read as the game. Nothing is wrong
+/// with the reply to a move that is not legal exactly if it is a refusal.
 pub fn replies_are_judged()
     ensures { RepliesAreJudged }
 {}
 
-/// An audit finds nothing exactly where each reply up to its end is what it is to be: the list of
-/// the legal moves of the position reached, the game string of the game reached, or the refusal of
-/// a move that is not legal.
+/// An audit finds nothing exactly if each reply up to its end is right. Such a reply is the list of
+/// the legal moves of the position reached, or the game string of the game reached. For a move that
+/// is not legal it is a refusal.
 pub fn audits_find_faults()
     ensures { AuditsFindFaults }
 {}
 
-/// Each move that an audit tries was legal two plies before, where the same side was to move, and
-/// is not legal now; and the text that is sent for it denotes no legal move.
+/// Each move that an audit tries was legal two plies before, with the same side to move, and is not
+/// legal now. The text that is sent for it denotes no legal move.
 pub fn tried_moves_are_illegal()
     ensures { TriedAreIllegal }
 {}
 
-/// The game of some number of a seed begins alike in each audit that comes to it, whichever game is
-/// the first of the audit: with one type and one generator, and as a siege in all or in none.
+/// The game with some number of a seed begins alike in each audit that reaches it, whichever game
+/// is the first of the audit. It has one type and one generator, and it is a siege in all or in
+/// none.
 pub fn games_stand_alone()
     ensures { GamesStandAlone }
 {}

@@ -32,7 +32,7 @@ fn wrong_part(alloc: Global, fault: Fault, part: &[u8]) -> Result<Judged, AllocE
     Ok(Judged::Wrong(Finding { fault, text }))
 }
 
-/// What a part of a list is, where these moves stood before it.
+/// The judgement of a part of a list, if these moves came before it.
 fn judge_part<G: Game>(
     alloc: Global,
     game: &G,
@@ -60,7 +60,7 @@ fn judge_part<G: Game>(
     }
 }
 
-/// The first legal move that a list does not have.
+/// The first legal move that is not on a list.
 fn first_missing<G: Game>(
     alloc: Global,
     game: &G,
@@ -83,7 +83,7 @@ fn first_missing<G: Game>(
     Ok(None)
 }
 
-/// The same of a list that is kept.
+/// The same for a list that was kept.
 fn missing_in<G: Game>(
     alloc: Global,
     game: &G,

@@ -8,7 +8,7 @@ ghost use Rattle.audit_core.specs.Judging.{has_move, same_moves};
 use hive_model::{Game, Move, MoveList, MoveStack};
 use std::alloc::{AllocError, Global};
 
-/// Whether the two are one move.
+/// Whether the two moves are the same.
 fn is_move(m: Move, n: Move) -> bool
     ensures { result ≡ is_move m n }
 {
@@ -18,7 +18,7 @@ fn is_move(m: Move, n: Move) -> bool
     false
 }
 
-/// Whether a move stands on a list.
+/// Whether a move is on a list.
 pub(crate) fn has_move(list: &[Move], m: Move) -> bool
     ensures { result ≡ has_move list.now m }
 {
@@ -58,7 +58,7 @@ fn level_moves(alloc: Global, stack: &MoveStack) -> Result<MoveList, AllocError>
     Ok(listed)
 }
 
-/// The legal moves of a game, which is as before.
+/// The legal moves of a game. The game does not change.
 pub(crate) fn legal_moves<G: Game>(alloc: Global, game: &mut G) -> Result<MoveList, AllocError>
     ensures listed { IfOk result (λ l. l ≡ moves (position (G.course game.old))) }
     ensures same { G.course game.new ≡ G.course game.old }

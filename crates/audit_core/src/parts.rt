@@ -1,11 +1,11 @@
-//! The parts of a line, which stand between its semicolons.
+//! The parts of a line, which are separated by semicolons.
 ghost use Rattle.std.specs.Prelude.{◌≡◌, ◌<◌, ◌≤◌, ◌∷◌, [], length, MatchOption, IfSome};
 ghost use Rattle.hive_model.specs.Strings.{parts};
 ghost use Rattle.audit_core.specs.AuditState.{has_part, named_in};
 
 use hive_model::GameType;
 
-/// The first part, and what stands behind its semicolon, if it has one.
+/// The first part, and what comes after its semicolon, if it has one.
 pub(crate) fn cut(text: &[u8]) -> (&[u8], Option<&[u8]>)
     ensures parts { MatchOption result.1 (parts text.now ≡ result.0.now ∷ [])
         (λ r. parts text.now ≡ result.0.now ∷ parts r.now) }

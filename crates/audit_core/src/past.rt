@@ -5,7 +5,7 @@ ghost use Rattle.hive_model.specs.Courses.{most_plies};
 use hive_model::Game;
 use std::alloc::{AllocError, Global};
 
-/// The greater of the two.
+/// The greater of the two numbers.
 fn most(plies: u32, room: u32) -> u32
     ensures plies { plies ≤ result }
     ensures room { room ≤ result }
@@ -14,7 +14,7 @@ fn most(plies: u32, room: u32) -> u32
     if plies < room { room } else { plies }
 }
 
-/// A game of the same kind with the first plies of this one, so many, and with room for `room`
+/// A game of the same kind with this number of first plies of this one, and with room for `room`
 /// plies in all.
 pub(crate) fn first_plies<G: Game + Drop>(
     alloc: Global,

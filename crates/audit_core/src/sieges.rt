@@ -21,7 +21,7 @@ pub(crate) fn is_siege(seed: u64, number: u64) -> bool
     seed.wrapping_add(number) / 8 % 2 == 1
 }
 
-/// Whether a place is one of the six round another.
+/// Whether a place is one of the six neighbours of another.
 fn is_round(centre: Place, place: Place) -> bool
     requires { IsWithin 10000 centre }
     ensures { result ≡ is_round centre place }
@@ -33,7 +33,7 @@ fn is_round(centre: Place, place: Place) -> bool
     )
 }
 
-/// Whether a place is beside the queen of a side, where she is on the board.
+/// Whether a place is beside the queen of a side, if she is on the board.
 fn is_beside_queen<B: Board>(board: &B, side: Colour, place: Place) -> bool
     ensures { result ≡ is_beside (spot_of (B.stacks board.now) (queen_of side)) place }
 {
@@ -43,7 +43,7 @@ fn is_beside_queen<B: Board>(board: &B, side: Colour, place: Place) -> bool
     }
 }
 
-/// Whether white closes in at a place: a piece of black is on top there, or it is beside black's
+/// Whether white closes in at a place: a black piece is on top there, or it is beside black's
 /// queen.
 fn closes_in<G: Game>(game: &G, place: Place) -> bool
     ensures { result ≡ closes_in (position (G.course game.now)) place }
@@ -56,8 +56,8 @@ fn closes_in<G: Game>(game: &G, place: Place) -> bool
     }
 }
 
-/// Whether a move is sought in a siege: the pass; of white a move that closes in; of black a move
-/// of a piece that is on the board.
+/// Whether a move is sought in a siege. The pass is sought. A move of white is sought if it closes
+/// in, and a move of black if its piece is on the board.
 pub(crate) fn is_sought<G: Game>(game: &G, m: Move) -> bool
     ensures { result ≡ is_sought (position (G.course game.now)) m }
 {

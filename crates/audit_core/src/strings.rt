@@ -15,14 +15,14 @@ use hive_model::{Game, GameType, Move};
 use move_text::type_text;
 use std::alloc::{AllocError, Global};
 
-/// Whether two types have one name.
+/// Whether two types have the same name.
 fn same_type(game_type: GameType, other: GameType) -> bool
     ensures { result ≡ same_type game_type other }
 {
     type_text(game_type).as_bytes() == type_text(other).as_bytes()
 }
 
-/// Whether a line is a type alone, this one.
+/// Whether a line is this type alone.
 fn is_type(line: &[u8], game_type: GameType) -> bool
     ensures { result ≡ bytes_eq line.now (type_bytes game_type) }
 {

@@ -56,7 +56,7 @@ pub(crate) fn copy_text(alloc: Global, bytes: &[u8]) -> Result<LineText, AllocEr
     Ok(kept)
 }
 
-/// A text with one line more; an LF stands between two lines.
+/// A text with one more line. An LF separates two lines.
 pub(crate) fn text_with(
     alloc: Global,
     begun: bool,
@@ -74,7 +74,7 @@ pub(crate) fn text_with(
     Ok(kept)
 }
 
-/// The text of a move whose destination is near.
+/// The text of a move with a near destination.
 pub(crate) fn near_text<G: Game>(alloc: Global, game: &G, m: Move) -> Result<LineText, AllocError>
     requires { IsMoveWithin m }
     ensures { IfOk result (λ t. t ≡ text (position (G.course game.now)).board m) }
@@ -103,7 +103,7 @@ pub(crate) fn begin_line(alloc: Global, game_type: GameType) -> Result<ReplyText
     Ok(line)
 }
 
-/// Appends the line that plays a move of this text. After want of memory a prefix of it was
+/// Appends the line that plays a move with this text. If memory runs out, a prefix of it was
 /// appended.
 fn push_play(line: &mut ReplyText, text: &[u8]) -> Result<(), AllocError>
     ensures { OnOk result (line.new ≡ line.old ++ (codes "play " ++ (text.now ++ 10 ∷ []))) }
@@ -113,7 +113,7 @@ fn push_play(line: &mut ReplyText, text: &[u8]) -> Result<(), AllocError>
     line.push(b'\n')
 }
 
-/// The line that plays a move of this text.
+/// The line that plays a move with this text.
 fn line_of(alloc: Global, text: &[u8]) -> Result<ReplyText, AllocError>
     ensures { IfOk result (λ t. t ≡ codes "play " ++ (text.now ++ 10 ∷ [])) }
 {
@@ -136,7 +136,7 @@ pub(crate) fn play_line<G: Game>(alloc: Global, game: &G, m: Move) -> Result<Rep
     }
 }
 
-/// The line that plays a move whose destination is near.
+/// The line that plays a move with a near destination.
 pub(crate) fn try_line<G: Game>(alloc: Global, game: &G, m: Move) -> Result<ReplyText, AllocError>
     requires { IsMoveWithin m }
     ensures { IfOk result (λ t. t ≡ play_line (position (G.course game.now)) m) }
@@ -162,7 +162,7 @@ pub(crate) fn load_line<G: Game + Drop>(alloc: Global, game: &G) -> Result<Reply
     Ok(line)
 }
 
-/// The line that takes so many plies back.
+/// The line that takes this number of plies back.
 pub(crate) fn undo_line(alloc: Global, plies: u32) -> Result<ReplyText, AllocError>
     ensures { IfOk result (λ t. t ≡ undo_line plies) }
 {
@@ -180,7 +180,7 @@ pub(crate) fn is_ok(line: &[u8]) -> bool
     line == b"ok".as_slice()
 }
 
-/// Whether a reply begins by `err`.
+/// Whether a reply begins with `err`.
 fn is_error(reply: &[u8]) -> bool
     ensures { result ≡ begins_by (codes "err") reply.now }
 {
@@ -189,7 +189,7 @@ fn is_error(reply: &[u8]) -> bool
         || reply.starts_with(b"err\n".as_slice())
 }
 
-/// Whether a reply begins by `invalidmove`.
+/// Whether a reply begins with `invalidmove`.
 fn is_invalid(reply: &[u8]) -> bool
     ensures { result ≡ begins_by (codes "invalidmove") reply.now }
 {
@@ -222,7 +222,7 @@ fn write_shown(out: &mut ReplyText, bytes: &[u8]) -> Result<(), AllocError>
     Ok(())
 }
 
-/// Appends a text of the engine behind a space, where it is not empty.
+/// Appends a text of the engine after a space, if it is not empty.
 fn write_behind(out: &mut ReplyText, bytes: &[u8]) -> Result<(), AllocError>
     ensures { OnOk result (out.new ≡ out.old ++ text_behind bytes.now) }
 {
@@ -233,7 +233,7 @@ fn write_behind(out: &mut ReplyText, bytes: &[u8]) -> Result<(), AllocError>
     write_shown(out, bytes)
 }
 
-/// Appends a line as a finding names it: a long one is cut. After want of memory a prefix of that
+/// Appends a line as a finding names it, with a long one cut. If memory runs out, a prefix of that
 /// was appended.
 fn push_shortened(text: &mut LineText, line: &[u8]) -> Result<(), AllocError>
     ensures { OnOk result (text.new ≡ text.old ++ shortened line.now) }
@@ -246,7 +246,7 @@ fn push_shortened(text: &mut LineText, line: &[u8]) -> Result<(), AllocError>
     text.push_all(line)
 }
 
-/// What a finding says of the line that was sent, its LF included; nothing where none was sent.
+/// What a finding says of the line that was sent, its LF included. It is empty if none was sent.
 pub(crate) fn asked_text(alloc: Global, line: &[u8]) -> Result<LineText, AllocError>
     ensures { IfOk result (λ t. t ≡ asked_text line.now) }
 {
@@ -268,7 +268,7 @@ fn write_number(out: &mut ReplyText, number: u64) -> Result<(), AllocError>
     out.push_all(buffer.format(number).as_bytes())
 }
 
-/// Appends a word, and a number behind it.
+/// Appends a word, and a number after it.
 fn write_numbered(out: &mut ReplyText, word: &[u8], number: u64) -> Result<(), AllocError>
     ensures { OnOk result (out.new ≡ out.old ++ numbered word.now number) }
 {
@@ -303,7 +303,7 @@ fn write_end(out: &mut ReplyText, finding: &Finding) -> Result<(), AllocError>
     out.push(b'\n')
 }
 
-/// Appends the line of a finding in the game of this number, counted from 1.
+/// Appends the line of a finding in the game with this number, counted from 1.
 pub(crate) fn write_finding<G: Game + Drop>(
     alloc: Global,
     out: &mut ReplyText,
@@ -321,7 +321,7 @@ pub(crate) fn write_finding<G: Game + Drop>(
     write_end(out, finding)
 }
 
-/// Appends the last line: how many games, lists that were right, moves on them, and findings.
+/// Appends the last line: the numbers of games, of right lists, of moves on them, and of findings.
 pub(crate) fn write_last(
     out: &mut ReplyText,
     games: u64,

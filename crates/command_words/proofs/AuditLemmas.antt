@@ -1,4 +1,4 @@
--- The texts that are read are those that the words of an audit give.
+-- The texts that are read are the ones that the words of an audit give.
 use Rattle.std.proofs.Common.{◌≡◌, Option, Some, MatchOption, subst}
 use Rattle.command_words.specs.declared.audits.AuditTexts.{AuditTexts}
 use Rattle.command_words.specs.Audits.{AuditOptions, options_in}

@@ -23,7 +23,7 @@ lent texts = map (λ one. one.now) texts
 abbrev pub same : Bor (List ℕ) → Bor (List ℕ) → Bool
 same a b = bytes_eq a.now b.now
 
--- each of them is a program, so the one here is
+-- each of them is a program, so this one is
 pub each_at : (texts : List (Bor (List ℕ))) (i : ℕ) (d : Bor (List ℕ)) → i < length texts → All IsProgram (lent texts) → IsProgram (get_or texts i d).now
 each_at texts i d l h =
     let here : i < length (lent texts) = let e = length-map texts (λ (one : Bor (List ℕ)). one.now) in omega (arith, e, l) in
@@ -42,7 +42,7 @@ distinct (x ∷ xs) =
     let later = distinct xs in
     (λ h. (front.0 h.0, later.0 h.1), λ h. (front.1 h.0, later.1 h.1))
 
--- a set of texts has as many as were put into it exactly where no two of them are equal
+-- a set of texts has as many elements as were put into it exactly if no two of them are equal
 pub as_many : {S : Type 0} (texts : List (Bor (List ℕ))) (set : HashSet (Bor (List ℕ)) S) → IsFromIterResult same texts set → IsTrue (nat_eq (hash_set_len set) (length texts)) ↔ AreDistinct (lent texts)
 as_many texts set h =
     let laws : IsEquivalence same = on_equiv (λ r. r.now) nat_list_eq_equiv in

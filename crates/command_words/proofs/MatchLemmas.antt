@@ -10,7 +10,7 @@ pub weaker : {A : Type 0} (o : Option A) (P Q : A → Type 0) → ((a : A) → P
 weaker None P Q f h = tt
 weaker (Some a) P Q f h = f a h
 
--- the values of the options, where it is not known that the first two are given
+-- the values of the options, if it is not known that the first two are given
 abbrev match_values_of : Option (List ℕ) → Option (List ℕ) → Choices → Option (List ℕ) → List (Option (List ℕ))
 match_values_of white black c from =
     white ∷ (black ∷ (c.game_type ∷ (c.depth ∷ (c.time ∷ (c.margin ∷ (c.plies ∷ (c.repetition ∷ (c.patience ∷ (c.quiet ∷ (from ∷ []))))))))))
@@ -21,13 +21,13 @@ eleven : (given : List (Option (List ℕ))) (items : List Item) → given ≡ ma
 eleven given items e =
     subst (λ (g : List (Option (List ℕ))). g ≡ match_values_of (value_at g 0) (value_at g 1) (match_choices g) (value_at g 10)) (sym e) refl
 
--- so they are these, where the first two were read
+-- so they are these, if the first two were read
 pub values_read : (given : List (Option (List ℕ))) (items : List Item) (white black : List ℕ) → given ≡ map (value_of items) match_options
     → Some white ≡ value_at given 0 → Some black ≡ value_at given 1 → given ≡ match_values white black (match_choices given) (value_at given 10)
 values_read given items white black e w b =
     eleven given items e ∙ sym (λ j. match_values_of (w j) (b j) (match_choices given) (value_at given 10))
 
--- what is there at a place of such values
+-- the element at a place of such values
 pub value_read : (o : Option (Bor (List ℕ))) (r : Bor (List ℕ)) (v : Option (List ℕ)) → o ≡ Some r → option_map (λ t. t.now) o ≡ v → Some r.now ≡ v
 value_read o r v e f = sym (ap (option_map (λ t. t.now)) e) ∙ f
 

@@ -9,7 +9,7 @@ abbrev others : List (List ℕ) → List (List ℕ)
 others [] = []
 others (word ∷ words) = words
 
--- a byte in front of the first word makes it one that is not empty
+-- a byte before the first word makes it one that is not empty
 in_front : (b : ℕ) (words : List (List ℕ)) → AreNotEmpty (in_first b words) ↔ AreNotEmpty (others words)
 in_front b [] = (λ h. tt, λ h. (tt, tt))
 in_front b (word ∷ words) = (λ h. h.1, λ h. (tt, h))
@@ -18,7 +18,7 @@ behind_front : (b : ℕ) (words : List (List ℕ)) → AreNotEmpty (others (in_f
 behind_front b [] = (λ h. h, λ h. h)
 behind_front b (word ∷ words) = (λ h. h, λ h. h)
 
--- the test agrees with the rule where a word begins, and where one goes on
+-- the test agrees with the rule at the start of a word, and within one
 abbrev Agree : List ℕ → Type 0
 Agree text = (IsTrue (goes_on true text) ↔ AreNotEmpty (between_spaces text)) × (IsTrue (goes_on false text) ↔ AreNotEmpty (others (between_spaces text)))
 
@@ -48,7 +48,7 @@ in-front-is : (b : ℕ) (words : List (List ℕ)) → in_first b words ≡ onto_
 in-front-is b [] = refl
 in-front-is b (word ∷ words) = refl
 
--- what stands between spaces is what a split at each space gives
+-- the pieces between spaces are those of a split at each space
 pub split-is : (text : List ℕ) → slice_split (λ b. nat_eq b 32) text ≡ between_spaces text
 split-is [] = refl
 split-is (b ∷ bs) = go (nat_eq b 32) (split-is bs)

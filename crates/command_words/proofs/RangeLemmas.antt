@@ -1,4 +1,4 @@
--- What words ask for is in its range.
+-- The numbers that words ask for are in their ranges.
 use Rattle.std.proofs.Common.{◌≡◌, ◌≤◌, ◌%◌, sym, subst, arith, ℕ, List, Option, None, Some, String, Global}
 use Rattle.hive_model.specs.Fields.{IsTimeText}
 use Rattle.match_core.specs.Keeps.{IsLevel, IsSetup}

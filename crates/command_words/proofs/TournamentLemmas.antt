@@ -9,7 +9,7 @@ use Rattle.match_core.specs.declared.setup.Setup.{Setup}
 abbrev pub asked : {words : List (String Global)} → TournamentOptions words → List (Option (List ℕ))
 asked o = tournament_values o.engines o.choices o.rounds o.at_once o.gauntlet o.resume
 
--- the values of the options, where it is not known that the first is given
+-- the values of the options, if it is not known that the first is given
 abbrev values_of : Option (List ℕ) → Choices → Option (List ℕ) → Option (List ℕ) → Option (List ℕ) → Option (List ℕ) → List (Option (List ℕ))
 values_of engines c rounds at_once gauntlet resume =
     engines ∷ (c.game_type ∷ (c.depth ∷ (c.time ∷ (c.margin ∷ (c.plies ∷ (c.repetition ∷ (c.patience ∷ (c.quiet ∷ (rounds ∷ (at_once ∷ (gauntlet ∷ (resume ∷ []))))))))))))
@@ -20,7 +20,7 @@ thirteen : (given : List (Option (List ℕ))) (items : List Item) → given ≡ 
 thirteen given items e =
     subst (λ (g : List (Option (List ℕ))). g ≡ values_of (value_at g 0) (tournament_choices g) (value_at g 9) (value_at g 10) (value_at g 11) (value_at g 12)) (sym e) refl
 
--- so they are these, where the first was read
+-- so they are these, if the first was read
 pub tournament_read : (given : List (Option (List ℕ))) (items : List Item) (engines : List ℕ) → given ≡ map (value_of items) tournament_options → Some engines ≡ value_at given 0
     → given ≡ tournament_values engines (tournament_choices given) (value_at given 9) (value_at given 10) (value_at given 11) (value_at given 12)
 tournament_read given items engines e first =

@@ -1,4 +1,4 @@
--- Words that are one alone.
+-- Lists of exactly one word.
 use Rattle.std.proofs.Common.{◌≡◌, ◌<◌, ◌≤◌, ◌∙◌, ℕ, Bool, true, List, [], ◌∷◌, length, get_or, map, ap, sym, arith, IsTrue, String, Global}
 use Rattle.std.specs.Prelude.{string_bytes}
 
@@ -11,7 +11,7 @@ of_true b t = t
 front : {x y : List ℕ} → x ∷ [] ≡ y ∷ [] → x ≡ y
 front e = cc
 
--- the words are this text alone, where the answer tells whether the first of them is
+-- the words are exactly this text, if the answer is whether the first of them is
 pub one_word : (words : List (String Global)) (word : String Global) (b : Bool) (text : List ℕ) → 1 ≤ length words → length words < 2 → word ≡ get_or words 0 word
     → (b ≡ true → string_bytes word ≡ text) → (string_bytes word ≡ text → b ≡ true) → (IsTrue b → map string_bytes words ≡ text ∷ []) × (map string_bytes words ≡ text ∷ [] → IsTrue b)
 one_word [] word b text l h e f g = absurd (omega arith)

@@ -12,19 +12,18 @@ use Rattle.command_words.specs.declared.audits.AuditTexts.{AuditTexts}
 use Rattle.command_words.specs.declared.care.Care.{Care}
 use Rattle.command_words.specs.Matches.{IsCareOf, IsNumberOr, IsProgram, IsRuleOf, between_spaces}
 
--- a game type, or none where none is given
+-- a game type, or none if none is given
 abbrev pub IsTypeGiven : Option (List ℕ) → Option GameType → Type 0
 IsTypeGiven None game_type = game_type ≡ None
 IsTypeGiven (Some text) game_type =
     (t : GameType) × (text ≡ type_bytes t) × (game_type ≡ Some t)
 
--- No time is set for an answer, as in a match to a depth. So the program is waited for just so long
--- as a patience says, and without end where none is given.
+-- No time is set for an answer, as in a match to a depth. So the wait for the program is limited by
+-- the patience, and without one there is no limit.
 abbrev pub untimed : Level
 untimed = Depth 1
 
--- the texts of the options of an audit: of the three that are required, and of the others where
--- they are given
+-- the texts of the options of an audit: the three required ones, and the others if they are given
 pub record AuditOptions : Type 0 where
   pub engine : List ℕ
   pub games : List ℕ
@@ -62,16 +61,16 @@ audit_values o =
     Some o.engine ∷ (Some o.games ∷ (Some o.seed ∷ (o.plies ∷
     (o.game_type ∷ (o.patience ∷ (o.quiet ∷ (o.stop ∷ (o.first ∷ []))))))))
 
--- the words are `audit` and its options, with these values
+-- The words are `audit` and its options, with these values.
 abbrev pub GiveAudit : List (String Global) → AuditOptions → Type 0
 GiveAudit words options =
     Gives (map string_bytes words) (codes "audit") audit_options (audit_values options)
 
--- The options have values of their form: from 1 to 1,000,000 games, whose moves are drawn from a
--- seed, any number below 2 to the power 64; the number of the first game, from 1 to 1,000,000,000,
--- 1 where none is given; from 1 to 1,000 plies a game, 80 where none are given; one type for all
--- games, or none; and whether the first finding ends the audit, by 1. The audit is patient where
--- the program is waited for just so long.
+-- The options have values of their form. There are from 1 to 1,000,000 games, with moves drawn from
+-- a seed, any number below 2^64. The number of the first game is from 1 to 1,000,000,000, and 1 if
+-- none is given. A game has from 1 to 1,000 plies, and 80 if none are given. There is one type for
+-- all games, or none. The value 1 makes the first finding end the audit. The audit is patient if
+-- there is a limit on the wait for the program.
 pub record ChooseAudit (options : AuditOptions) (audit : AuditAsked) : Type 0 where
   pub program : IsProgram options.engine
   pub games_are : IsNumberText options.games 1 1000000 audit.games
@@ -84,18 +83,18 @@ pub record ChooseAudit (options : AuditOptions) (audit : AuditAsked) : Type 0 wh
   pub care_is : IsCareOf options.patience options.quiet untimed care
   pub patient_is : audit.patient ≡ is_some care.limit
 
--- `audit` and its options, of which the program, the games and the seed are required
+-- The words are `audit` and its options. The program, the games and the seed are required.
 pub record AreAuditWords (words : List (String Global)) (audit : AuditAsked) : Type 0 where
   pub options : AuditOptions
   pub give : GiveAudit words options
   pub choose : ChooseAudit options audit
 
--- the words are `audit` and options, and ask for this care of the program
+-- The words are `audit` and options, and ask for this care of the program.
 abbrev pub AskForAuditCare : List (String Global) → Care → Type 0
 AskForAuditCare words care =
     (o : AuditOptions) × GiveAudit words o × IsCareOf o.patience o.quiet untimed care
 
--- The words ask for an audit of this program: its words, the program's name first, are what stands
+-- The words ask for an audit of this program. Its words, the program's name first, are the pieces
 -- between the spaces of the value of the option `engine`.
 abbrev pub AskForAudited : List (String Global) → List (List ℕ) → Type 0
 AskForAudited words program =

@@ -19,8 +19,8 @@ abbrev pub cup_values : List ℕ → Option (List ℕ) → Option (List ℕ) →
 cup_values engines game_type depth plies patience quiet =
     Some engines ∷ (game_type ∷ (depth ∷ (plies ∷ (patience ∷ (quiet ∷ [])))))
 
--- the options of a match that a cup has, too: it is played to a depth, and without the rule of
--- third repetition
+-- the options of a match that a cup has too; a cup is played to a depth, without the rule of third
+-- repetition
 abbrev pub cup_choices : Option (List ℕ) → Option (List ℕ) → Option (List ℕ)
     → Option (List ℕ) → Option (List ℕ) → Choices
 cup_choices game_type depth plies patience quiet =
@@ -35,7 +35,7 @@ cup_choices game_type depth plies patience quiet =
       quiet = quiet;
     }
 
--- the words are `cup` and its options, of which the programs are required, with these values
+-- The words are `cup` and its options with these values. The programs are required.
 pub record CupOptions (words : List (String Global)) : Type 0 where
   pub engines : List ℕ
   pub game_type : Option (List ℕ)
@@ -46,24 +46,24 @@ pub record CupOptions (words : List (String Global)) : Type 0 where
   pub give : Gives (map string_bytes words) (codes "cup") cup_options
       (cup_values engines game_type depth plies patience quiet)
 
--- what is chosen by these values
+-- what these values choose
 abbrev pub chosen : {words : List (String Global)} → CupOptions words → Choices
 chosen o = cup_choices o.game_type o.depth o.plies o.patience o.quiet
 
--- The words ask for a cup, of 2 to 8 programs. Each game is played by the setup of a match to a
+-- The words ask for a cup of 2 to 8 programs. Each game is played by the setup of a match to a
 -- depth, without the rule of third repetition.
 pub record AreCupWords (words : List (String Global)) (setup : Setup) : Type 0 where
   pub options : CupOptions words
   pub programs : ArePrograms 8 options.engines
   pub setup_is : IsSetupOf (chosen options) setup
 
--- the words ask for a cup by this setup, and for this care of its engines
+-- The words ask for a cup by this setup, and for this care of its engines.
 abbrev pub AskForCupCare : List (String Global) → Setup → Care → Type 0
 AskForCupCare words setup care = (w : AreCupWords words setup)
     × IsCareOf w.options.patience w.options.quiet setup.level care
 
--- The words ask for a cup of these programs, in this order: of the texts between the semicolons of
--- the value of the option `engines`.
+-- The words ask for a cup of these programs, in this order. They are the texts between the
+-- semicolons of the value of the option `engines`.
 pub record AskForEngines (words : List (String Global)) (engines : List Engine) : Type 0 where
   pub options : CupOptions words
   pub engines_are : engines ≡ map engine_of (program_texts options.engines)

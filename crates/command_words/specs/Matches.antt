@@ -13,12 +13,12 @@ use Rattle.command_words.specs.declared.setup.ChoiceTexts.{ChoiceTexts}
 
 -- A program and its words
 
--- a byte in front of the first of these words
+-- a byte before the first of these words
 abbrev pub in_first : ℕ → List (List ℕ) → List (List ℕ)
 in_first b [] = (b ∷ []) ∷ []
 in_first b (word ∷ words) = (b ∷ word) ∷ words
 
--- what stands between the spaces (32) of a text
+-- the pieces between the spaces (32) of a text
 abbrev pub between_spaces : List ℕ → List (List ℕ)
 between_spaces [] = [] ∷ []
 between_spaces (b ∷ bs) =
@@ -36,56 +36,56 @@ AreNotEmpty (word ∷ words) = AreSomeBytes word × AreNotEmpty words
 abbrev pub IsProgram : List ℕ → Type 0
 IsProgram text = AreNotEmpty (between_spaces text)
 
--- Options that have a default
+-- Options with a default
 
--- a number in its range, or the default where none is given
+-- a number in its range, or the default if none is given
 abbrev pub IsNumberOr : Option (List ℕ) → ℕ → ℕ → ℕ → ℕ → Type 0
 IsNumberOr None least most default n = n ≡ default
 IsNumberOr (Some text) least most default n = IsNumberText text least most n
 
--- a game type, or the base game where none is given
+-- a game type, or the base game if none is given
 abbrev pub IsTypeOr : Option (List ℕ) → GameType → Type 0
 IsTypeOr None t = t ≡ record { mosquito = false; ladybug = false; pillbug = false }
 IsTypeOr (Some text) t = text ≡ type_bytes t
 
--- what 1 switches on, as the rule of third repetition; 0 leaves it off, as does no value
+-- 1 turns a switch on, such as the rule of third repetition; with 0 or no value it is off
 abbrev pub IsRuleOf : Option (List ℕ) → Bool → Type 0
 IsRuleOf text r = (n : ℕ) × IsNumberOr text 0 1 0 n × (r ≡ nat_eq n 1)
 
--- The engines are asked to a depth, to 2 where none is given; or in a time, with this margin; and
--- never in both ways.
+-- The engines are asked to a depth, which is 2 if none is given, or in a time with this margin, but
+-- never both.
 abbrev pub IsLevelOf : Option (List ℕ) → Option (List ℕ) → ℕ → Level → Type 0
 IsLevelOf depth None margin level = (n : ℕ) × IsNumberOr depth 1 64 2 n × (level ≡ Depth n)
 IsLevelOf None (Some time) margin level =
     (budget : ℕ) × IsTimeText time budget × (level ≡ Time budget margin)
 IsLevelOf (Some depth) (Some time) margin level = ⊥
 
--- the milliseconds that an engine has for a move, its margin counted; none at a depth
+-- the milliseconds that an engine has for a move, its margin included; 0 at a depth
 abbrev pub time_of : Level → ℕ
 time_of (Depth depth) = 0
 time_of (Time budget margin) = budget + margin
 
--- For how many milliseconds an answer is waited for where no patience is given: ten seconds longer
--- than the time and its margin, and at a depth without end.
+-- The longest wait for an answer, in milliseconds, if no patience is given. It is ten seconds
+-- longer than the time and its margin, and at a depth there is no limit.
 abbrev pub usual_limit : Level → Option ℕ
 usual_limit (Depth depth) = None
 usual_limit (Time budget margin) = Some (budget + margin + 10000)
 
--- for how many milliseconds an answer is waited for: by so much as a patience says, where one is
--- given, longer than the time and its margin
+-- The longest wait for an answer, in milliseconds. If a patience is given, it is longer than the
+-- time and its margin by the patience.
 abbrev pub IsLimitOf : Option (List ℕ) → Level → Option ℕ → Type 0
 IsLimitOf None level limit = limit ≡ usual_limit level
 IsLimitOf (Some text) level limit =
     (patience : ℕ) × IsTimeText text patience × (limit ≡ Some (time_of level + patience))
 
--- The engines are waited for so long, and what they write on standard error is dropped where quiet
--- is 1.
+-- This is the longest wait for the engines. If quiet is 1, what they write on standard error is
+-- dropped.
 pub record IsCareOf (patience quiet : Option (List ℕ)) (level : Level) (care : Care)
     : Type 0 where
   pub limit_is : IsLimitOf patience level care.limit
   pub quiet_is : IsRuleOf quiet care.quiet
 
--- the values of the options that have a default
+-- the values of the options with a default
 pub record Choices : Type 0 where
   pub game_type : Option (List ℕ)
   pub depth : Option (List ℕ)
@@ -109,8 +109,8 @@ choices_of texts = record {
   quiet = option_map (λ t. t.now) texts.quiet;
 }
 
--- A match is played by this setup. The margin, a second where none is given, has its range where no
--- time is given, too. The options on the care for engines have values of their form.
+-- A match is played by this setup. The margin is a second if none is given. Its range holds even if
+-- no time is given. The options on the care for engines have values of their form.
 pub record IsSetupOf (choices : Choices) (setup : Setup) : Type 0 where
   pub kind : IsTypeOr choices.game_type setup.game_type
   pub margin : ℕ
@@ -128,15 +128,15 @@ match_options =
     (codes "time" ∷ (codes "margin" ∷ (codes "plies" ∷ (codes "repetition" ∷
     (codes "patience" ∷ (codes "quiet" ∷ (codes "from" ∷ []))))))))))
 
--- their values: the texts of the two programs, what is chosen of the others, and whether the match
--- begins with a game that is given
+-- their values: the texts of the two programs, the choices for the others, and whether the match
+-- begins with a given game
 abbrev pub match_values : List ℕ → List ℕ → Choices → Option (List ℕ) → List (Option (List ℕ))
 match_values white black choices from =
     Some white ∷ (Some black ∷ (choices.game_type ∷ (choices.depth ∷
     (choices.time ∷ (choices.margin ∷ (choices.plies ∷ (choices.repetition ∷
     (choices.patience ∷ (choices.quiet ∷ (from ∷ []))))))))))
 
--- what is chosen by such values
+-- what such values choose
 abbrev pub match_choices : List (Option (List ℕ)) → Choices
 match_choices values = record {
   game_type = value_at values 2;
@@ -149,15 +149,15 @@ match_choices values = record {
   quiet = value_at values 9;
 }
 
--- What a match is asked for by: its setup, and whether it begins with a game that is given, by 1.
--- Then no type is chosen, since the match is of the type of this game.
+-- What the words of a match choose: its setup, and, by 1, that it begins with a given game. In that
+-- case no type is chosen, since the match is of the type of this game.
 pub record IsMatchOf (choices : Choices) (from_text : Option (List ℕ)) (setup : Setup)
     (from : Bool) : Type 0 where
   pub from_is : IsRuleOf from_text from
   pub untyped : IsTrue from → choices.game_type ≡ None
   pub setup_is : IsSetupOf choices setup
 
--- `match` and its options, of which the programs of white and of black are required
+-- The words are `match` and its options. The programs of white and of black are required.
 pub record AreMatchWords (words : List (String Global)) (setup : Setup) (from : Bool)
     : Type 0 where
   pub white : List ℕ
@@ -170,14 +170,13 @@ pub record AreMatchWords (words : List (String Global)) (setup : Setup) (from : 
   pub black_is : IsProgram black
   pub match_is : IsMatchOf choices from_text setup from
 
--- the words ask for a match by this setup, and for this care of its engines
+-- The words ask for a match by this setup, and for this care of its engines.
 abbrev pub AskForMatchCare : List (String Global) → Setup → Bool → Care → Type 0
 AskForMatchCare words setup from care = (w : AreMatchWords words setup from)
     × IsCareOf w.choices.patience w.choices.quiet setup.level care
 
--- The words ask for a match of these two programs: the words of white's program and of black's, the
--- program's name first, are what stands between the spaces of the values of the options `white` and
--- `black`.
+-- The words ask for a match of these two programs. For each, its words, the program's name first,
+-- are the pieces between the spaces of the value of the option `white` or `black`.
 pub record AskForPrograms (words : List (String Global))
     (white black : List (List ℕ)) : Type 0 where
   pub white_text : List ℕ

@@ -29,12 +29,12 @@ names = Uhp ∷ Replay ∷ Count ∷ Grow ∷ Certify ∷ Check ∷ Solve ∷ Ve
 abbrev pub name_at : List ℕ → Option Name
 name_at = named_by name_text names
 
--- the command that the first word names; `uhp` where there is no word
+-- the command that the first word names, or `uhp` if there is no word
 abbrev pub named : List (List ℕ) → Option Name
 named [] = Some Uhp
 named (word ∷ words) = name_at word
 
--- the command takes an option
+-- The command takes an option.
 abbrev pub takes_option : Name → Bool
 takes_option Uhp = false
 takes_option Replay = true

@@ -1,7 +1,7 @@
 -- A test of the text of a program, byte by byte.
 use Rattle.std.specs.Prelude.{ℕ, Bool, true, false, List, [], ◌∷◌, nat_eq, if◌then◌else◌}
 
--- a word begins here, or one goes on here, and all others behind it are not empty
+-- A word begins here, or one goes on here, and all words after it are not empty.
 abbrev pub goes_on : Bool → List ℕ → Bool
 goes_on true [] = false
 goes_on false [] = true

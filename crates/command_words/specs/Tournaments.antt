@@ -17,8 +17,8 @@ tournament_options =
     (codes "quiet" ∷ (codes "rounds" ∷ (codes "at-once" ∷ (codes "gauntlet" ∷
     (codes "resume" ∷ []))))))))))))
 
--- their values: the text of the programs, what is chosen of the options that a match has, too, and
--- the values of the others
+-- their values: the text of the programs, the choices for the options that a match has too, and the
+-- values of the others
 abbrev pub tournament_values : List ℕ → Choices → Option (List ℕ) → Option (List ℕ)
     → Option (List ℕ) → Option (List ℕ) → List (Option (List ℕ))
 tournament_values engines choices rounds at_once gauntlet resume =
@@ -27,7 +27,7 @@ tournament_values engines choices rounds at_once gauntlet resume =
     (choices.quiet ∷ (rounds ∷ (at_once ∷ (gauntlet ∷
     (resume ∷ []))))))))))))
 
--- what is chosen by such values
+-- what such values choose
 abbrev pub tournament_choices : List (Option (List ℕ)) → Choices
 tournament_choices values = record {
   game_type = value_at values 1;
@@ -40,7 +40,7 @@ tournament_choices values = record {
   quiet = value_at values 8;
 }
 
--- These values, but for that of the programs, choose a tournament, as `AreTournamentWords` says.
+-- These values, without that of the programs, choose a tournament, as `AreTournamentWords` says.
 pub record ChooseTournament (values : List (Option (List ℕ))) (setup : Setup) (rounds : ℕ)
     (gauntlet : Bool) (at_once : ℕ) (resume : Bool) : Type 0 where
   pub setup_is : IsSetupOf (tournament_choices values) setup
@@ -49,7 +49,7 @@ pub record ChooseTournament (values : List (Option (List ℕ))) (setup : Setup) 
   pub gauntlet_is : IsRuleOf (value_at values 11) gauntlet
   pub resume_is : IsRuleOf (value_at values 12) resume
 
--- the words are `tournament` and its options, of which the programs are required, with these values
+-- The words are `tournament` and its options with these values. The programs are required.
 pub record TournamentOptions (words : List (String Global)) : Type 0 where
   pub engines : List ℕ
   pub choices : Choices
@@ -60,10 +60,10 @@ pub record TournamentOptions (words : List (String Global)) : Type 0 where
   pub give : Gives (map string_bytes words) (codes "tournament") tournament_options
       (tournament_values engines choices rounds at_once gauntlet resume)
 
--- The words ask for a tournament, of 2 to 64 programs: how each match is played, from 1 to 10,000
--- rounds, 1 where none are given, and 1 to 64 games at once, 1 where none are given. By 1 the first
--- engine meets all others, in place of each engine each other one, and by 1 games that were played
--- before are handed in.
+-- The words ask for a tournament of 2 to 64 programs. They say how each match is played. There are
+-- from 1 to 10,000 rounds, and 1 to 64 games at once; each of the two is 1 if not given. With 1,
+-- the first engine meets all others, in place of each engine each other one. With 1, games that
+-- were played before are handed in.
 pub record AreTournamentWords (words : List (String Global)) (setup : Setup) (rounds : ℕ)
     (gauntlet : Bool) (at_once : ℕ) (resume : Bool) : Type 0 where
   pub options : TournamentOptions words
@@ -74,14 +74,14 @@ pub record AreTournamentWords (words : List (String Global)) (setup : Setup) (ro
   pub gauntlet_is : IsRuleOf options.gauntlet gauntlet
   pub resume_is : IsRuleOf options.resume resume
 
--- the words ask for a tournament played so, and for this care of its engines
+-- The words ask for a tournament played in this way, and for this care of its engines.
 abbrev pub AskForTournamentCare : List (String Global) → Setup → ℕ → Bool → ℕ → Bool → Care
     → Type 0
 AskForTournamentCare words setup rounds gauntlet at_once resume care =
     (w : AreTournamentWords words setup rounds gauntlet at_once resume)
     × IsCareOf w.options.choices.patience w.options.choices.quiet setup.level care
 
--- The words ask for a tournament of these programs, in this order: of the texts between the
+-- The words ask for a tournament of these programs, in this order. They are the texts between the
 -- semicolons of the value of the option `engines`.
 pub record AskForTournamentEngines (words : List (String Global)) (engines : List Engine)
     : Type 0 where

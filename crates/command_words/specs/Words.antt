@@ -31,12 +31,12 @@ pub record AreNumbered (words : List (String Global)) (command option : List ℕ
   pub give : GiveOne (map string_bytes words) command option value
   pub number : IsNumberText value least most n
 
--- a seed, which is any number below 2 to the power 64, and a number of plies from 1 to 1,000
+-- a seed, which is any number below 2^64, and a number of plies from 1 to 1,000
 pub record AreGrowth (seed_text plies_text : List ℕ) (seed plies : ℕ) : Type 0 where
   pub seed_is : IsNumberText seed_text 0 (2 ^ 64 - 1) seed
   pub plies_is : IsNumberText plies_text 1 1000 plies
 
--- `grow` and the options `seed` and `plies`, both required
+-- The words are `grow` and the options `seed` and `plies`, both required.
 pub record AreGrowWords (words : List (String Global)) (seed plies : ℕ) : Type 0 where
   pub seed_text : List ℕ
   pub plies_text : List ℕ
@@ -44,13 +44,13 @@ pub record AreGrowWords (words : List (String Global)) (seed plies : ℕ) : Type
       (Some seed_text ∷ (Some plies_text ∷ []))
   pub growth : AreGrowth seed_text plies_text seed plies
 
--- `replay`, alone or with the option `repetition`
+-- The words are `replay`, alone or with the option `repetition`.
 pub record AreReplayWords (words : List (String Global)) (repetition : Bool) : Type 0 where
   pub value : Option (List ℕ)
   pub give : Gives (map string_bytes words) (codes "replay") (codes "repetition" ∷ []) (value ∷ [])
   pub rule : IsRuleOf value repetition
 
--- the words ask for this
+-- The words ask for this.
 abbrev pub Words : List (String Global) → Asked → Type 0
 Words words Session = AreUhpWords words
 Words words (Replay repetition) = AreReplayWords words repetition
@@ -68,12 +68,12 @@ Words words (Audit audit) = AreAuditWords words audit
 Words words (Tournament setup rounds gauntlet at_once resume) =
     AreTournamentWords words setup rounds gauntlet at_once resume
 
--- engines are waited for without end, and nothing that they write is dropped
+-- There is no limit on the wait for engines, and nothing that they write is dropped.
 abbrev pub no_care : Care
 no_care = record { limit = None; quiet = false }
 
--- the care for engines that the words of a match, a cup, a tournament or an audit ask for; of other
--- words there is none
+-- the care for engines that the words of a match, a cup, a tournament or an audit ask for; for
+-- other words there is none
 abbrev pub CaresFor : List (String Global) → Asked → Care → Type 0
 CaresFor words Session care = care ≡ no_care
 CaresFor words (Replay repetition) care = care ≡ no_care
@@ -91,7 +91,7 @@ CaresFor words (Audit audit) care = AskForAuditCare words care
 CaresFor words (Tournament setup rounds gauntlet at_once resume) care =
     AskForTournamentCare words setup rounds gauntlet at_once resume care
 
--- the words ask for nothing that the program does
+-- The words ask for nothing that the program does.
 abbrev pub AreOfNoCommand : List (String Global) → Type 0
 AreOfNoCommand words = (asked : Asked) → ¬ Words words asked
 
@@ -112,17 +112,17 @@ name_of Migrate = MigrateName
 name_of (Audit audit) = AuditName
 name_of (Tournament setup rounds gauntlet at_once resume) = TournamentName
 
--- the words ask for what was found, if anything, and for nothing else by this name
+-- The words ask for what was found, if anything, and for nothing else with this name.
 pub record Finds (words : List (String Global)) (name : Name) (found : Option Asked)
     : Type 0 where
   pub asked : IfSome found (λ a. Words words a)
   pub only : (a : Asked) → Words words a → name_of a ≡ name → found ≡ Some a
 
--- the first word names a command that takes an option
+-- The first word names a command that takes an option.
 abbrev pub TakeOption : List (List ℕ) → Type 0
 TakeOption words = (name : Name) × (named words ≡ Some name) × IsTrue (takes_option name)
 
--- the numbers that are asked for are in their ranges
+-- The numbers that are asked for are in their ranges.
 abbrev pub IsInRange : Asked → Type 0
 IsInRange Session = Unit {0}
 IsInRange (Replay repetition) = Unit {0}

@@ -41,44 +41,43 @@ use std::alloc::{AllocError, Global};
 pub enum Asked {
     /// A session of the Universal Hive Protocol.
     Session,
-    /// The written form of each game of the input, where the rule of third repetition is switched
-    /// on or off.
+    /// The written form of each game of the input, with the rule of third repetition on or off.
     Replay {
         repetition: bool,
     },
-    /// How many lists of so many legal moves and fewer there are: 1 to 8.
+    /// The numbers of lists of up to this many legal moves: 1 to 8.
     Count(u32),
-    /// The game that a number makes, of at most so many plies: 1 to 1,000.
+    /// The game that a seed makes, of at most this number of plies: 1 to 1,000.
     Grow {
         seed: u64,
         plies: u32,
     },
-    /// A certificate of the best move, so many plies deep: 1 to 64.
+    /// A certificate of the best move at this depth in plies: 1 to 64.
     Certify(u32),
     /// A check of a certificate.
     Check,
-    /// Whether the side to move can force a win within so many plies, 1 to 16, with a proof.
+    /// Whether the side to move can force a win within this number of plies, 1 to 16, with a proof.
     Solve(u32),
     /// A check of such a proof.
     Verify,
-    /// A match of the two programs that the words name, played so, from the opening or from a game
-    /// that is given. Then it is of the type of this game.
+    /// A match of the two programs that the words name, with this setup, from the opening or from a
+    /// given game. In the latter case the match is of the type of that game.
     Match {
         setup: Setup,
         from: bool,
     },
-    /// A cup of the programs that the words name, each game played so.
+    /// A cup of the programs that the words name, with each game played by this setup.
     Cup(Setup),
     /// The move of a position that was made most often in played games.
     Book,
-    /// A certificate made into one that cites what it showed before.
+    /// A certificate turned into one that cites what it has shown before.
     Migrate,
-    /// An audit of the program that the words name, whose games are made so.
+    /// An audit of the program that the words name, with games made in this way.
     Audit(AuditAsked),
-    /// A tournament of the programs that the words name: how each of its matches is played, how
-    /// many rounds it has (1 to 10,000), whether the first engine meets all others or each engine
-    /// each other one, how many games are played at once (1 to 64), and whether games that were
-    /// played before are handed in.
+    /// A tournament of the programs that the words name. It says how each of its matches is played
+    /// and how many rounds it has (1 to 10,000). It says whether the first engine meets all others
+    /// or each engine each other one. It says how many games are played at once (1 to 64), and
+    /// whether games that were played before are handed in.
     Tournament {
         setup: Setup,
         rounds: u32,
@@ -88,7 +87,7 @@ pub enum Asked {
     },
 }
 
-/// Whether the words are this one alone.
+/// Whether the words are exactly this one.
 fn are_alone(words: &[String], name: &str) -> bool
     ensures { IsTrue result ↔ map string_bytes words.now ≡ name.now ∷ [] }
 {
@@ -109,7 +108,7 @@ fn session(words: &[String]) -> Option<Asked>
     }
 }
 
-/// What is asked for by the name of a command alone, where that command is asked for nothing else.
+/// What the name of a command alone asks for, if that command takes nothing else.
 fn by_name(words: &[String], name: &str, asked: Asked) -> Option<Asked>
     requires means { Words words.now asked ↔ map string_bytes words.now ≡ name.now ∷ [] }
     requires one { (a : Asked) → name_of a ≡ name_of asked → a ≡ asked }
@@ -203,7 +202,7 @@ fn tournament(alloc: Global, words: &[String]) -> Result<Option<Asked>, AllocErr
     }))
 }
 
-/// What the words ask this command for.
+/// What the words ask of this command.
 fn asked_by(alloc: Global, words: &[String], name: Name) -> Result<Option<Asked>, AllocError>
     ensures asked { IfOk result (Finds words.now name) }
     ensures memory { OnErr result (IsTrue (takes_option name)) }
@@ -226,9 +225,9 @@ fn asked_by(alloc: Global, words: &[String], name: Name) -> Result<Option<Asked>
     }
 }
 
-/// What the words ask for, or none where they ask for nothing that the program does. An
-/// `AllocError` where memory runs out before that is known, and only where the first word is that
-/// of a command that takes an option. No list of words has two answers (`words_have_one_answer`).
+/// What the words ask for, or `None` if they ask for nothing that the program does. The only error
+/// is that memory runs out before this is known. It is possible only if the first word names a
+/// command that takes an option. No list of words has two answers (`words_have_one_answer`).
 pub fn asked_of(alloc: Global, words: &[String]) -> Result<Option<Asked>, AllocError>
     ensures asked { IfOk result (λ o. IfSome o (λ a. Words words.now a)) }
     ensures range { IfOk result (λ o. IfSome o (λ a. IsInRange a)) }
@@ -241,7 +240,7 @@ pub fn asked_of(alloc: Global, words: &[String]) -> Result<Option<Asked>, AllocE
     }
 }
 
-/// The care for its engines that is asked for. An `AllocError` where memory runs out.
+/// The care for its engines that is asked for. The only error is running out of memory.
 fn asked_care(alloc: Global, words: &[String], asked: Asked) -> Result<Care, AllocError>
     requires asked { Words words.now asked }
     requires range { IsInRange asked }
@@ -274,9 +273,9 @@ fn asked_care(alloc: Global, words: &[String], asked: Asked) -> Result<Care, All
     }
 }
 
-/// The care for engines that the words ask for. Without end an engine is waited for where they ask
-/// for no match, cup, tournament or audit. An `AllocError` where memory runs out; where the words
-/// ask for nothing, only if the first is that of a command that takes an option.
+/// The care for engines that the words ask for. If they ask for no match, cup, tournament or audit,
+/// there is no limit on the wait for an engine. The only error is running out of memory. If the
+/// words ask for nothing, it is possible only if the first names a command that takes an option.
 pub fn care_of(alloc: Global, words: &[String]) -> Result<Care, AllocError>
     ensures care { IfOk result (λ care. (asked : Asked) → Words words.now asked
         → CaresFor words.now asked care) }

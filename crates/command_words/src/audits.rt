@@ -46,19 +46,19 @@ const UNTIMED: Level = Level::Depth { depth: 1 };
 /// How the games of an audit are made.
 #[derive(Clone, Copy, Debug, PartialEq, Eq)]
 pub struct AuditAsked {
-    /// How many games: 1 to 1,000,000.
+    /// The number of games: 1 to 1,000,000.
     pub games: u64,
     /// The number of the first one: 1 to 1,000,000,000.
     pub first: u64,
-    /// The number that their moves are drawn from.
+    /// The seed from which their moves are drawn.
     pub seed: u64,
     /// The most plies of a game: 1 to 1,000.
     pub plies: u32,
-    /// The type of all games, where one is asked for.
+    /// The type of all games, if one is asked for.
     pub game_type: Option<GameType>,
     /// Whether the first finding ends the audit.
     pub stop: bool,
-    /// Whether the program is waited for just so long as its care says.
+    /// Whether the care sets a limit on the wait for the program.
     pub patient: bool,
 }
 
@@ -76,9 +76,9 @@ pub(crate) struct AuditTexts<'a> {
     pub(crate) first: Option<&'a str>,
 }
 
-/// The texts that the words give the options of an audit: `audit` and its options, of which the
-/// program, the games and the seed are required. None where they do not; an `AllocError` where
-/// memory runs out before that is known.
+/// The texts that the words give the options of an audit: `audit` and its options. The program, the
+/// games and the seed are required. It is `None` if the words do not have this form. The only error
+/// is that memory runs out before this is known.
 fn texts_of<'a>(alloc: Global, words: &'a [String]) -> Result<Option<AuditTexts<'a>>, AllocError>
     ensures found { IfOk result (λ o. IfSome o (λ t. GiveAudit words.now (options_in t))) }
     ensures only { IfOk result (λ o. (given : AuditOptions) → GiveAudit words.now given
@@ -109,7 +109,7 @@ fn texts_of<'a>(alloc: Global, words: &'a [String]) -> Result<Option<AuditTexts<
     }))
 }
 
-/// The game type that is asked for, if any. None where a text is no game type.
+/// The game type that is asked for, if any. It is `None` if the text is not a game type.
 fn type_given(text: Option<&str>) -> Option<Option<GameType>>
     ensures found { IfSome result (λ t. IsTypeGiven (option_map (λ t. t.now) text.entry) t) }
     ensures only { (t : Option AnyType) → IsTypeGiven (option_map (λ t. t.now) text.entry) t
@@ -121,8 +121,8 @@ fn type_given(text: Option<&str>) -> Option<Option<GameType>>
     }
 }
 
-/// How the games are made that these texts choose. None where one of them is none of its option,
-/// those of the program and on the care for it too.
+/// How the games are made, by these texts. It is `None` if one of them is not a value of its
+/// option, including those of the program and of the care for it.
 fn audit_at(texts: AuditTexts<'_>) -> Option<AuditAsked>
     ensures found { IfSome result (λ a. ChooseAudit (options_in texts.entry) a) }
     ensures only { (a : AnyAudit) → ChooseAudit (options_in texts.entry) a → result ≡ Some a }
@@ -148,8 +148,8 @@ fn audit_at(texts: AuditTexts<'_>) -> Option<AuditAsked>
     })
 }
 
-/// How the games of the audit are made that the words ask for. None where they ask for none; an
-/// `AllocError` where memory runs out before that is known.
+/// How the games are made in the audit that the words ask for. It is `None` if they ask for no
+/// audit. The only error is that memory runs out before this is known.
 pub(crate) fn audit_of(alloc: Global, words: &[String]) -> Result<Option<AuditAsked>, AllocError>
     ensures found { IfOk result (λ o. IfSome o (λ a. AreAuditWords words.now a)) }
     ensures only { IfOk result (λ o. (a : AnyAudit) → AreAuditWords words.now a → o ≡ Some a) }
@@ -160,8 +160,8 @@ pub(crate) fn audit_of(alloc: Global, words: &[String]) -> Result<Option<AuditAs
     }
 }
 
-/// The care for its program that the words of an audit ask for. An `AllocError` where memory runs
-/// out.
+/// The care for its program that the words of an audit ask for. The only error is running out of
+/// memory.
 pub(crate) fn audit_care(alloc: Global, words: &[String]) -> Result<Care, AllocError>
     requires { (a : AnyAudit) × AreAuditWords words.now a }
     ensures { IfOk result (λ care. AskForAuditCare words.now care) }
@@ -176,7 +176,7 @@ pub(crate) fn audit_care(alloc: Global, words: &[String]) -> Result<Care, AllocE
 }
 
 /// The program of the audit that the words ask for: the words that its option gives, separated by
-/// single spaces, in order. An `AllocError` where memory runs out.
+/// single spaces, in order. The only error is running out of memory.
 pub fn audited_of(alloc: Global, words: &[String]) -> Result<Vec<String>, AllocError>
     requires { (a : AnyAudit) × AreAuditWords words.now a }
     ensures some { IfOk result (λ program. 0 < length program.items) }

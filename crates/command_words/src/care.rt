@@ -1,4 +1,4 @@
-//! How the engines of a match, a cup, a tournament or an audit are cared for.
+//! How the engines of a match, a cup, a tournament or an audit are treated.
 ghost use Rattle.std.specs.Prelude.{◌≡◌, ◌≤◌, ℕ, None, Option, Some, IfSome, option_map};
 ghost use Rattle.hive_model.specs.Fields.{IsTimeText};
 ghost use Rattle.match_core.specs.Keeps.{IsLevel};
@@ -9,19 +9,19 @@ use crate::setup::rule_of;
 use match_core::Level;
 use move_text::read_time;
 
-/// For how much longer than its time and margin an engine is waited for, in milliseconds.
+/// How much longer than its time and margin the wait for an engine is, in milliseconds.
 const USUAL_PATIENCE: u64 = 10_000;
 
-/// How the engines of a match, a cup, a tournament or an audit are cared for.
+/// How the engines of a match, a cup, a tournament or an audit are treated.
 #[derive(Clone, Copy, Debug, PartialEq, Eq)]
 pub struct Care {
-    /// For how many milliseconds an answer is waited for; without end where there is no limit.
+    /// The longest wait for an answer, in milliseconds, or `None` if there is no limit.
     pub limit: Option<u64>,
     /// Whether what the engines write on standard error is dropped.
     pub quiet: bool,
 }
 
-/// The milliseconds that an engine has for a move, its margin counted; none at a depth.
+/// The milliseconds that an engine has for a move, its margin included; 0 at a depth.
 fn time_of(level: Level) -> u64
     requires { IsLevel level }
     ensures value { result ≡ time_of level }
@@ -33,7 +33,7 @@ fn time_of(level: Level) -> u64
     }
 }
 
-/// For how many milliseconds an answer is waited for where no patience is given.
+/// The longest wait for an answer, in milliseconds, if no patience is given.
 fn usual_limit(level: Level) -> Option<u64>
     requires { IsLevel level }
     ensures { result ≡ usual_limit level }
@@ -53,7 +53,7 @@ fn patience_of(text: &str) -> Option<u64>
     read_time(text.as_bytes())
 }
 
-/// The care with the patience that a text is.
+/// The care with the patience that the text spells.
 fn patient(text: &str, level: Level, quiet: bool) -> Option<Care>
     requires { IsLevel level }
     ensures limit { IfSome result (λ care. IsLimitOf (Some text.now) level care.limit) }
@@ -86,8 +86,8 @@ fn waiting(patience: Option<&str>, level: Level, quiet: bool) -> Option<Care>
     }
 }
 
-/// The care for engines that are asked so, of the texts of a patience and of `quiet`, where these
-/// are given.
+/// The care for engines that are asked at this level, by the texts of a patience and of `quiet`, if
+/// they are given.
 pub(crate) fn care_at(patience: Option<&str>, quiet: Option<&str>, level: Level) -> Option<Care>
     requires { IsLevel level }
     ensures found { IfSome result (λ care. IsCareOf (option_map (λ t. t.now) patience.entry)

@@ -15,12 +15,12 @@ use std::alloc::{AllocError, Global};
 /// The options of a cup, in the order in which their values are asked for.
 const OPTIONS: [&str; 6] = ["engines", "type", "depth", "plies", "patience", "quiet"];
 
-/// How many programs a cup has at most.
+/// The greatest number of programs of a cup.
 const MOST_PROGRAMS: usize = 8;
 
-/// How each game of the cup is played that the words ask for: `cup` and its options, of which the
-/// programs are required. The rule of third repetition is switched off. None where they ask for
-/// none; an `AllocError` where memory runs out before that is known.
+/// How each game is played in the cup that the words ask for: `cup` and its options. The programs
+/// are required. The rule of third repetition is off. It is `None` if the words ask for no cup. The
+/// only error is that memory runs out before this is known.
 pub(crate) fn cup_of(alloc: Global, words: &[String]) -> Result<Option<Setup>, AllocError>
     ensures found { IfOk result (λ o. IfSome o (λ s. AreCupWords words.now s)) }
     ensures only { IfOk result (λ o. (s : AnySetup) → AreCupWords words.now s → o ≡ Some s) }
@@ -46,7 +46,8 @@ pub(crate) fn cup_of(alloc: Global, words: &[String]) -> Result<Option<Setup>, A
     }))
 }
 
-/// The care for its engines that the words of a cup ask for. An `AllocError` where memory runs out.
+/// The care for its engines that the words of a cup ask for. The only error is running out of
+/// memory.
 pub(crate) fn cup_care(alloc: Global, words: &[String], setup: Setup) -> Result<Care, AllocError>
     requires words { AreCupWords words.now setup }
     requires setup { IsSetup setup }
@@ -61,8 +62,8 @@ pub(crate) fn cup_care(alloc: Global, words: &[String], setup: Setup) -> Result<
     Ok(care)
 }
 
-/// The programs of the cup that the words ask for: what stands between the semicolons of the value
-/// of `engines`, in order. An `AllocError` where memory runs out.
+/// The programs of the cup that the words ask for: the texts between the semicolons of the value of
+/// `engines`, in order. The only error is running out of memory.
 pub fn engines_of(alloc: Global, words: &[String]) -> Result<Vec<Program>, AllocError>
     requires { (setup : AnySetup) × AreCupWords words.now setup }
     ensures some { IfOk result (λ e. 2 ≤ length e.items) }

@@ -1,4 +1,4 @@
-//! Programs with semicolons between them, in one text.
+//! Programs separated by semicolons, in one text.
 ghost use Rattle.std.specs.Prelude.{◌≡◌, ◌↔◌, All, map, IfOk, IsTrue};
 ghost use Rattle.command_words.specs.Engines.{AreDistinct, ArePrograms, engine_of, program_texts};
 ghost use Rattle.command_words.specs.Matches.{IsProgram};
@@ -36,8 +36,8 @@ fn are_distinct(alloc: Global, texts: &[&str]) -> Result<bool, AllocError>
     Ok(seen.len() == texts.len())
 }
 
-/// Whether a text is two programs or more, at most so many, no two of them equal. An `AllocError`
-/// where memory runs out before that is known.
+/// Whether a text has two or more programs, at most this number, and no two of them are equal. The
+/// only error is that memory runs out before this is known.
 pub(crate) fn are_programs(alloc: Global, text: &str, most: usize) -> Result<bool, AllocError>
     ensures { IfOk result (λ b. IsTrue b ↔ ArePrograms most text.now) }
 {
@@ -68,7 +68,7 @@ fn programs_of(alloc: Global, texts: &[&str]) -> Result<Vec<Program>, AllocError
     Ok(programs)
 }
 
-/// The programs of a text: what stands between its semicolons, in order.
+/// The programs of a text: the texts between its semicolons, in order.
 pub(crate) fn programs_in(alloc: Global, text: &str) -> Result<Vec<Program>, AllocError>
     ensures { IfOk result (λ programs. programs.items
         ≡ map engine_of (program_texts text.now)) }

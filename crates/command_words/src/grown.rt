@@ -6,7 +6,7 @@ use move_text::read_number;
 use option_words::options_of;
 use std::alloc::{AllocError, Global};
 
-/// The number that makes a game, and its greatest number of plies.
+/// The seed of a game, and its greatest number of plies.
 #[derive(Clone, Copy)]
 pub(crate) struct Growth {
     pub(crate) seed: u64,
@@ -28,7 +28,8 @@ fn growth_at(seed: &str, plies: &str) -> Option<Growth>
 }
 
 /// The seed and the plies that the words give: `grow` and the options `seed` and `plies`, both
-/// required. None where they do not; an `AllocError` where memory runs out before that is known.
+/// required. It is `None` if the words do not have this form. The only error is that memory runs
+/// out before this is known.
 pub(crate) fn growth_of(alloc: Global, words: &[String]) -> Result<Option<Growth>, AllocError>
     ensures found { IfOk result (λ o. IfSome o (λ g. AreGrowWords words.now g.seed g.plies)) }
     ensures only { IfOk result (λ o. (s n : ℕ) → AreGrowWords words.now s n → o

@@ -2,8 +2,8 @@
 
 ghost use Rattle.command_words.specs.Laws.{WordsHaveOneAnswer};
 
-/// What is answered of a list of words is one thing, whenever and with however much memory it is
-/// asked, unless memory runs out.
+/// A list of words has one answer, whenever it is asked for and however much memory there is,
+/// unless memory runs out.
 pub fn words_have_one_answer()
     ensures { WordsHaveOneAnswer }
 {}

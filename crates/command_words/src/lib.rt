@@ -1,4 +1,4 @@
-//! The words of the command line, the program's name left out, and what they ask for.
+//! The words of the command line, without the program's name, and what they ask for.
 #![tactic(auto)]
 
 mod asked;

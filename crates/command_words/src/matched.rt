@@ -71,16 +71,16 @@ fn choices_in<'a>(given: &GivenOptions<'a>) -> ChoiceTexts<'a>
     }
 }
 
-/// How a match is asked for.
+/// The match that the words ask for.
 #[derive(Clone, Copy)]
 pub(crate) struct MatchAsked {
     pub(crate) setup: Setup,
-    /// Whether it begins with a game that is given, in place of the opening.
+    /// Whether it begins with a given game, in place of the opening.
     pub(crate) from: bool,
 }
 
-/// How a match is asked for by the texts of its options that have a default. None where one of them
-/// is none of its option, and where a type is given for a match whose game is given.
+/// The match that the texts of the options with a default ask for. It is `None` if one of them is
+/// not a value of its option, or if a type is given besides a given game.
 fn match_in(texts: ChoiceTexts<'_>, from: Option<&str>) -> Option<MatchAsked>
     ensures found { IfSome result (λ m. IsMatchOf (choices_of texts.entry)
         (option_map (λ t. t.now) from.entry) m.setup m.from) }
@@ -96,9 +96,9 @@ fn match_in(texts: ChoiceTexts<'_>, from: Option<&str>) -> Option<MatchAsked>
     Some(MatchAsked { setup, from })
 }
 
-/// How the match is played that the words ask for: `match` and its options, of which the programs
-/// of white and of black are required. None where they ask for none; an `AllocError` where memory
-/// runs out before that is known.
+/// How the match is played that the words ask for: `match` and its options. The programs of white
+/// and of black are required. It is `None` if the words ask for no match. The only error is that
+/// memory runs out before this is known.
 pub(crate) fn match_of(alloc: Global, words: &[String]) -> Result<Option<MatchAsked>, AllocError>
     ensures found { IfOk result (λ o. IfSome o (λ m. AreMatchWords words.now m.setup m.from)) }
     ensures only { IfOk result (λ o. (s : AnySetup) (f : Bool) → AreMatchWords words.now s f
@@ -122,8 +122,8 @@ pub(crate) fn match_of(alloc: Global, words: &[String]) -> Result<Option<MatchAs
     Ok(match_in(choices_in(&given), given.value(10)))
 }
 
-/// The care for its engines that the words of a match ask for. An `AllocError` where memory runs
-/// out.
+/// The care for its engines that the words of a match ask for. The only error is running out of
+/// memory.
 pub(crate) fn match_care(
     alloc: Global,
     words: &[String],
@@ -144,7 +144,7 @@ pub(crate) fn match_care(
     Ok(care)
 }
 
-/// A program with its words for each side, each of one word at least.
+/// A program with its words for each side, each of at least one word.
 #[derive(Drop)]
 pub struct Programs {
     pub white: Vec<String>,
@@ -161,8 +161,8 @@ fn programs_in(alloc: Global, white: &str, black: &str) -> Result<Programs, Allo
     Ok(Programs { white, black })
 }
 
-/// The programs of the match that the words ask for: for each side the words that its option gives,
-/// separated by single spaces, in order.
+/// The programs of the match that the words ask for. For each side they are the words that its
+/// option gives, separated by single spaces, in order.
 pub fn programs_of(alloc: Global, words: &[String]) -> Result<Programs, AllocError>
     requires { (setup : AnySetup) × (from : Bool) × AreMatchWords words.now setup from }
     ensures white { IfOk result (λ p. 0 < length p.white.items) }

@@ -44,7 +44,7 @@ fn name_at(word: &str) -> Option<Name>
     }
 }
 
-/// The command that the first word names; `uhp` where there is no word.
+/// The command that the first word names, or `uhp` if there is no word.
 pub(crate) fn named(words: &[String]) -> Option<Name>
     ensures { result ≡ named (map string_bytes words.now) }
 {

@@ -16,7 +16,8 @@ fn small_number(text: &[u8], least: u32, most: u32) -> Option<u32>
 }
 
 /// The number from `least` to `most` that the words give the one option of a command, which is
-/// required. None where they do not; an `AllocError` where memory runs out before that is known.
+/// required. It is `None` if the words do not have this form. The only error is that memory runs
+/// out before this is known.
 pub(crate) fn number_of(
     alloc: Global,
     words: &[String],

@@ -5,7 +5,7 @@ ghost use Rattle.command_words.specs.Programs.{begins_word};
 
 use std::alloc::{AllocError, Global};
 
-/// Whether a text is words that are separated by single spaces, none of them empty.
+/// Whether a text consists of words that are separated by single spaces, none of them empty.
 pub(crate) fn begins_words(text: &[u8]) -> bool
     ensures { result ≡ begins_word text.now }
 {
@@ -20,7 +20,7 @@ pub(crate) fn begins_words(text: &[u8]) -> bool
     !begins
 }
 
-/// What stands between the spaces of a text, in order.
+/// The pieces between the spaces of a text, in order.
 fn pieces_of(alloc: Global, text: &str) -> Result<Vec<&str>, AllocError>
     ensures { IfOk result (λ pieces. map (λ piece. piece.now) pieces.items
         ≡ between_spaces text.now) }
@@ -28,7 +28,7 @@ fn pieces_of(alloc: Global, text: &str) -> Result<Vec<&str>, AllocError>
     text.split(' ').collect(alloc)
 }
 
-/// Texts of their own with these bytes, in order.
+/// Owned texts with these bytes, in order.
 fn strings_of(alloc: Global, pieces: &[&str]) -> Result<Vec<String>, AllocError>
     ensures { IfOk result (λ words. map string_bytes words.items
         ≡ map (λ piece. piece.now) pieces.now) }
@@ -40,7 +40,7 @@ fn strings_of(alloc: Global, pieces: &[&str]) -> Result<Vec<String>, AllocError>
     Ok(words)
 }
 
-/// The words of a text: what stands between its spaces, in order.
+/// The words of a text: the pieces between its spaces, in order.
 pub(crate) fn words_of(alloc: Global, text: &str) -> Result<Vec<String>, AllocError>
     ensures some { IfOk result (λ words. 0 < length words.items) }
     ensures words { IfOk result (λ words. map string_bytes words.items ≡ between_spaces text.now) }

@@ -6,9 +6,9 @@ use crate::setup::rule_of;
 use option_words::options_of;
 use std::alloc::{AllocError, Global};
 
-/// Whether the games are replayed with the rule of third repetition switched on: `replay`, alone or
-/// with the option `repetition`. None where the words ask for no replay; an `AllocError` where
-/// memory runs out before that is known.
+/// Whether the games are replayed with the rule of third repetition on: `replay`, alone or with the
+/// option `repetition`. It is `None` if the words ask for no replay. The only error is that memory
+/// runs out before this is known.
 pub(crate) fn replay_of(alloc: Global, words: &[String]) -> Result<Option<bool>, AllocError>
     ensures found { IfOk result (λ o. IfSome o (λ r. AreReplayWords words.now r)) }
     ensures only { IfOk result (λ o. (r : Bool) → AreReplayWords words.now r → o ≡ Some r) }

@@ -1,4 +1,4 @@
-//! How a match is played: the options that have a default.
+//! How a match is played: the options with a default.
 ghost use Rattle.std.specs.Prelude.{◌≡◌, ℕ, Bool, None, Some, IfSome, option_map};
 ghost use Rattle.hive_model.specs.declared.pieces.GameType.{GameType as AnyType};
 ghost use Rattle.match_core.specs.declared.setup.Level.{Level as AnyLevel};
@@ -17,7 +17,7 @@ use hive_model::GameType;
 use match_core::{Level, Setup};
 use move_text::{read_number, read_time, read_type};
 
-/// The number from `least` to `most` that a text is, or the default where there is no text.
+/// The number from `least` to `most` that a text spells, or the default if there is no text.
 pub(crate) fn number_or(text: Option<&str>, least: u64, most: u64, default: u64) -> Option<u64>
     ensures found { IfSome result (λ n. IsNumberOr (option_map (λ t. t.now) text.entry) least most
         default n) }
@@ -30,8 +30,8 @@ pub(crate) fn number_or(text: Option<&str>, least: u64, most: u64, default: u64)
     }
 }
 
-/// Whether something is switched on, as the rule of third repetition: by the text `1`, and neither
-/// by `0` nor where there is no text. None at any other text.
+/// Whether a switch is on, such as the rule of third repetition. The text `1` turns it on. With `0`
+/// or no text it is off, and any other text gives `None`.
 pub(crate) fn rule_of(text: Option<&str>) -> Option<bool>
     ensures found { IfSome result (λ r. IsRuleOf (option_map (λ t. t.now) text.entry) r) }
     ensures only { (r : Bool) → IsRuleOf (option_map (λ t. t.now) text.entry) r → result ≡ Some r }
@@ -40,7 +40,7 @@ pub(crate) fn rule_of(text: Option<&str>) -> Option<bool>
     Some(number == 1)
 }
 
-/// The game type that a text is, or the base game where there is no text.
+/// The game type that a text names, or the base game if there is no text.
 fn type_or(text: Option<&str>) -> Option<GameType>
     ensures found { IfSome result (λ t. IsTypeOr (option_map (λ t. t.now) text.entry) t) }
     ensures only { (t : AnyType) → IsTypeOr (option_map (λ t. t.now) text.entry) t
@@ -56,7 +56,7 @@ fn type_or(text: Option<&str>) -> Option<GameType>
     }
 }
 
-/// That the engines are asked in the time that a text is.
+/// The level at which the engines are asked with the time that a text spells.
 fn timed_level(time: &str, margin: u64) -> Option<Level>
     ensures found { IfSome result (λ l. IsLevelOf None (Some time.now) margin l) }
     ensures only { (l : AnyLevel) → IsLevelOf None (Some time.now) margin l → result ≡ Some l }
@@ -65,7 +65,7 @@ fn timed_level(time: &str, margin: u64) -> Option<Level>
     Some(Level::Time { budget, margin })
 }
 
-/// How the engines are asked, where at most one of depth and time is given.
+/// How the engines are asked, if at most one of depth and time is given.
 fn level_of(depth: Option<&str>, time: Option<&str>, margin: u64) -> Option<Level>
     ensures found { IfSome result (λ l. IsLevelOf (option_map (λ t. t.now) depth.entry)
         (option_map (λ t. t.now) time.entry) margin l) }
@@ -84,7 +84,7 @@ fn level_of(depth: Option<&str>, time: Option<&str>, margin: u64) -> Option<Leve
     }
 }
 
-/// The texts of the options that have a default, where they are given.
+/// The texts of the options with a default, if they are given.
 #[derive(Clone, Copy)]
 pub(crate) struct ChoiceTexts<'a> {
     pub(crate) game_type: Option<&'a str>,
@@ -97,8 +97,8 @@ pub(crate) struct ChoiceTexts<'a> {
     pub(crate) quiet: Option<&'a str>,
 }
 
-/// The setup of a match, of the texts of the options that have a default. None where one of them is
-/// none of its option, those on the care for engines too.
+/// The setup of a match, by the texts of the options with a default. It is `None` if one of them is
+/// not a value of its option, including those on the care for engines.
 pub(crate) fn setup_of(texts: ChoiceTexts<'_>) -> Option<Setup>
     ensures found { IfSome result (λ s. IsSetupOf (choices_of texts.entry) s) }
     ensures only { (s : AnySetup) → IsSetupOf (choices_of texts.entry) s → result ≡ Some s }

@@ -36,10 +36,10 @@ const OPTIONS: [&str; 13] = [
     "resume",
 ];
 
-/// How many programs a tournament has at most.
+/// The greatest number of programs of a tournament.
 const MOST_PROGRAMS: usize = 64;
 
-/// The texts of the options that a match has, too.
+/// The texts of the options that a match has too.
 fn choices_in<'a>(given: &GivenOptions<'a>) -> ChoiceTexts<'a>
     ensures { choices_of result ≡ tournament_choices given.now }
 {
@@ -55,21 +55,21 @@ fn choices_in<'a>(given: &GivenOptions<'a>) -> ChoiceTexts<'a>
     }
 }
 
-/// How a tournament is asked for.
+/// The tournament that the words ask for.
 #[derive(Clone, Copy)]
 pub(crate) struct TournamentAsked {
     pub(crate) setup: Setup,
     pub(crate) rounds: u32,
-    /// Whether the first engine meets all others, in place of each engine each other one.
+    /// Whether only the first engine meets all others, and not each engine each other one.
     pub(crate) gauntlet: bool,
-    /// How many games are played at once.
+    /// The number of games that are played at once.
     pub(crate) at_once: u32,
     /// Whether games that were played before are handed in.
     pub(crate) resume: bool,
 }
 
-/// How a tournament is asked for by the values of its options, but for its programs. None where one
-/// of them is none of its option.
+/// The tournament that the values of the options ask for, without the programs. It is `None` if one
+/// of them is not a value of its option.
 fn tournament_in(given: &GivenOptions<'_>) -> Option<TournamentAsked>
     ensures found { IfSome result (λ t. ChooseTournament given.now t.setup t.rounds t.gauntlet
         t.at_once t.resume) }
@@ -97,9 +97,9 @@ fn tournament_in(given: &GivenOptions<'_>) -> Option<TournamentAsked>
     })
 }
 
-/// How the tournament is played that the words ask for: `tournament` and its options, of which the
-/// programs are required. None where they ask for none; an `AllocError` where memory runs out
-/// before that is known.
+/// How the tournament is played that the words ask for: `tournament` and its options. The programs
+/// are required. It is `None` if the words ask for no tournament. The only error is that memory
+/// runs out before this is known.
 pub(crate) fn tournament_of(
     alloc: Global,
     words: &[String],
@@ -128,8 +128,8 @@ pub(crate) fn tournament_of(
     Ok(tournament_in(&given))
 }
 
-/// The care for its engines that the words of a tournament ask for. An `AllocError` where memory
-/// runs out.
+/// The care for its engines that the words of a tournament ask for. The only error is running out
+/// of memory.
 pub(crate) fn tournament_care(
     alloc: Global,
     words: &[String],
@@ -151,8 +151,8 @@ pub(crate) fn tournament_care(
     Ok(care)
 }
 
-/// The programs of the tournament that the words ask for: what stands between the semicolons of the
-/// value of `engines`, in order. An `AllocError` where memory runs out.
+/// The programs of the tournament that the words ask for: the texts between the semicolons of the
+/// value of `engines`, in order. The only error is running out of memory.
 pub fn tournament_engines_of(alloc: Global, words: &[String]) -> Result<Vec<Program>, AllocError>
     requires { (s : AnySetup) × (r : ℕ) × (g : Bool) × (n : ℕ) × (p : Bool)
         × AreTournamentWords words.now s r g n p }

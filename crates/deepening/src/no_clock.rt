@@ -5,9 +5,9 @@ ghost use Rattle.io_edge.specs.Clocks.{TellsTime};
 
 use io_edge::Clock;
 
-/// No clock. A search without a deadline reads none; if it were read, it would tell 0.
+/// No clock. A search without a deadline reads none. If it were read, it would answer 0.
 ///
-/// Its count of readings stands at its end, that of a u64, and so it need not be kept.
+/// Its count of readings is at its greatest value, that of a u64, so that it need not be kept.
 #[derive(Drop)]
 pub(crate) struct NoClock;
 

@@ -21,24 +21,24 @@ use hive_model::{Best, Game, Move};
 use io_edge::Clock;
 use search_core::{Node, Tried, Window, Workspace, keep_found, reply, root_choice};
 
-/// Less than any move is worth: the bound that a root begins with.
+/// A number below the value of every move: the first bound at a root.
 const FIRST_BOUND: i32 = -1_000_090;
 
-/// More than any move is worth.
+/// A number above the value of every move.
 const HIGHEST: i32 = 1_000_100;
 
-/// What is known before the moves of a root are tried in turn: the place of the move that was tried
-/// first, and what it is worth; or, where none was, a number that is less than any move is worth.
+/// What is known before the moves of a root are tried in turn: the place of the move tried first,
+/// and its value. If none was, the value is a number below the value of every move.
 #[derive(Clone, Copy)]
 struct RootStart {
     hint: Option<u32>,
     worth: i32,
 }
 
-/// The first of the legal moves that is worth most with `depth` plies searched in all, and what it
-/// is worth, or none where the deadline came first. The move that the table names, or that looks
-/// best, is tried before the others. The clock was last read before the deadline. What is found is
-/// kept in the table.
+/// The first of the legal moves of greatest value with `depth` plies searched in all, and its
+/// value, or none if the deadline came first. The move that the table names, or that looks best, is
+/// tried before the others. The last reading of the clock was before the deadline. Results are
+/// stored in the table.
 pub(crate) fn best_reply<G: Game, C: Clock>(
     game: &mut G,
     depth: u32,
@@ -75,7 +75,7 @@ pub(crate) fn best_reply<G: Game, C: Clock>(
     Some(best)
 }
 
-/// The same over the legal moves, which stand on a level. The move at the place `hint` of the list,
+/// The same over the legal moves, which are on a level. The move at the place `hint` of the list,
 /// if there is one, is tried before the others.
 fn try_all<G: Game, C: Clock>(
     game: &mut G,
@@ -112,10 +112,10 @@ fn try_all<G: Game, C: Clock>(
     try_in_turn(game, level, depth, begun, work, clock)
 }
 
-/// The same in the order of the list, after a first move was tried or none. Each other move is
-/// searched in the window from one less than the greatest worth so far, so that a move worth as
-/// much as that is told from one worth more; the greatest worth so far begins one below what is
-/// known, so that an earlier move that is worth as much as the one tried first is found too.
+/// The same in the order of the list, after one move was tried first or none. Each other move is
+/// searched in the window from one less than the greatest value so far. So a move with the same
+/// value can be told apart from a better one. The greatest value so far begins one below what is
+/// known. So an earlier move of the same value as the one tried first is found too.
 fn try_in_turn<G: Game, C: Clock>(
     game: &mut G,
     level: u32,
@@ -163,7 +163,7 @@ fn try_in_turn<G: Game, C: Clock>(
     })
 }
 
-/// What the move at the place `i` is worth, where it was tried first.
+/// The value of the move at the place `i`, if it was tried first.
 fn known_at(begun: RootStart, i: u32) -> Option<i32>
     ensures { result ≡ (if option_eq nat_eq begun.hint (Some i) then Some begun.worth else None) }
 {
@@ -173,7 +173,7 @@ fn known_at(begun: RootStart, i: u32) -> Option<i32>
     None
 }
 
-/// What a move is worth: what is known of it, and else what `reply` tells of it.
+/// The value of a move: the known one, or else the one that `reply` gives.
 fn worth_of<G: Game, C: Clock>(
     game: &mut G,
     m: Move,

@@ -55,7 +55,7 @@ use Rattle.book_command.proofs.StartLaws.{unread}
 use Rattle.command_runs.proofs.OneGameLemmas.{none_read}
 use Rattle.line_services.proofs.Progress.{no_memory}
 
--- what tells that no game was read is no faulty command line
+-- a run that reports that no game was read does not end with `Usage`
 none_usage : (none : NoGame) (status : Status) (w0 w : Told) → TellsNone none status w0 w → status ≡ Usage → ⊥
 none_usage (Bad text) status w0 w told e = ends_so text BadInput Usage status w0 w told (λ d. cc) (λ d. cc) e
 none_usage NoRead status w0 w (is, same) e = cc
@@ -71,7 +71,7 @@ tournament_usage : (engines : List Engine) (format : Format) (status : Status) (
 tournament_usage engines format status before after (inl (i, begun)) e = subst (λ s. TournamentRun (terms_of engines format i.openings) i.ends s (once_read after.sides.rest before) after) e begun.played
 tournament_usage engines format status before after (inr (none, read)) e = none_usage none status before.sides.written after.sides.written read.told e
 
--- a run that is asked for is no faulty command line
+-- a run that is asked for does not end with `Usage`
 pub never_usage : (words : List (String Global)) (asked : Asked) (status : Status) (before after : World) → RunOf words asked status before after → status ≡ Usage → ⊥
 never_usage words Session status before after (run, none) e = subst (λ s. EndsAs session s before after) e run.ends
 never_usage words (Replay r) status before after (run, others) e = subst (λ s. EndsAs (replays r) s before after) e run.ends
@@ -94,7 +94,7 @@ never_usage words (Audit audit) status before after run e =
 never_usage words (Tournament setup rounds gauntlet at_once resume) status before after run e = let (engines, asked, played) = run.played in
     tournament_usage engines (format_of setup rounds gauntlet at_once resume) status before after played e
 
--- no run but a match, a cup, a tournament and an audit starts a program
+-- no run except a match, a cup, a tournament and an audit starts a program
 pub never_spawns : (words : List (String Global)) (asked : Asked) (status : Status) (before after : World) → ¬ UsesSpawner asked → RunOf words asked status before after → status ≡ SpawnFault → ⊥
 never_spawns words Session status before after alone (run, none) e = subst (λ s. EndsAs session s before after) e run.ends
 never_spawns words (Replay r) status before after alone (run, others) e = subst (λ s. EndsAs (replays r) s before after) e run.ends
@@ -141,7 +141,7 @@ asks_programs words setup from h = (
 named : (words : List (String Global)) (white black ws bs : List (List ℕ)) → AskForPrograms words ws bs → white ≡ ws → black ≡ bs → AskForPrograms words white black
 named words white black ws bs asks w b = subst (λ x. AskForPrograms words x black) (sym w) (subst (λ x. AskForPrograms words ws x) (sym b) asks)
 
--- a match that wanted memory before the input was read and before a program was started
+-- a match for which memory ran out before the input was read and before a program was started
 pub starved_plays : (words : List (String Global)) (setup : Setup) (from : Bool) (w : World) → AreMatchWords words setup from → PlaysMatch words setup from Memory w w
 starved_plays words setup false w h = let (white, black, asked) = asks_programs words setup false h in record {
   played = refl;
@@ -155,7 +155,7 @@ starved_plays words setup true w h = let (white, black, asked) = asks_programs w
   inr (NoMemory, record { shown = λ input told. none_read input w.sides.rest told; told = (refl, refl); untimed = no_time w.times; unstarted = refl }),
 )
 
--- a match from the opening does not end by a read that has failed
+-- a match from the opening does not end because a read failed
 pub plain_reads : (setup : FullSetup) (status : Status) (before after : World) (n : ℕ) → MatchRun setup status before after → HasCause (status ≡ ReadFault) n n
 plain_reads setup status before after n run = record {
   later = omega arith;
@@ -191,7 +191,7 @@ level_is_depth (Some text) margin level (n, is, e) = subst IsDepth (sym e) tt
 pub cup_depth : (words : List (String Global)) (setup : Setup) → AreCupWords words setup → IsDepth setup.level
 cup_depth words setup h = level_is_depth h.options.depth h.setup_is.margin setup.level h.setup_is.level
 
--- a match that wanted memory before anything was done
+-- a match for which memory ran out before anything was done
 starved_match : (words : List (String Global)) (setup : Setup) (from : Bool) (w : World) → AreMatchWords words setup from → RunOf words (Match setup from) Memory w w
 starved_match words setup from w asked = record {
   played = starved_plays words setup from w asked;
@@ -199,7 +199,7 @@ starved_match words setup from w asked = record {
   timed = refl;
 }
 
--- a cup that wanted memory before a program was started
+-- a cup for which memory ran out before a program was started
 starved_cup : (words : List (String Global)) (setup : Setup) (w : World) → AreCupWords words setup → RunOf words (Cup setup) Memory w w
 starved_cup words setup w asked = let (engines, asks) = asks_engines words setup asked in record {
   played = (engines, asks, record { written = refl; starts = early-none engines w.engines });
@@ -215,7 +215,7 @@ asks_tournament_engines words setup rounds gauntlet at_once resume h = (
   record { options = h.options; engines_are = refl },
 )
 
--- a tournament that wanted memory before the input was read
+-- a tournament for which memory ran out before the input was read
 pub starved_tournament : (words : List (String Global)) (setup : Setup) (rounds : ℕ) (gauntlet : Bool) (at_once : ℕ) (resume : Bool) (w : World) → AreTournamentWords words setup rounds gauntlet at_once resume
     → PlaysTournament words (format_of setup rounds gauntlet at_once resume) Memory w w
 starved_tournament words setup rounds gauntlet at_once resume w h = let (engines, asks) = asks_tournament_engines words setup rounds gauntlet at_once resume h in (
@@ -224,7 +224,7 @@ starved_tournament words setup rounds gauntlet at_once resume w h = let (engines
   inr (NoMemory, record { shown = λ input told. ([], [], nothing_read, none_were_read input w.sides.rest told, nothing_tells (length engines) (format_of setup rounds gauntlet at_once resume), omega arith); told = (refl, refl); unstarted = refl }),
 )
 
--- a tournament that wanted memory before anything was done
+-- a tournament for which memory ran out before anything was done
 starved_contest : (words : List (String Global)) (setup : Setup) (rounds : ℕ) (gauntlet : Bool) (at_once : ℕ) (resume : Bool) (w : World) → AreTournamentWords words setup rounds gauntlet at_once resume
     → RunOf words (Tournament setup rounds gauntlet at_once resume) Memory w w
 starved_contest words setup rounds gauntlet at_once resume w h = record {
@@ -233,11 +233,11 @@ starved_contest words setup rounds gauntlet at_once resume w h = record {
   untimed = no_time w.times;
 }
 
--- where memory was wanting before the program of an audit was started, it was not
+-- if memory ran out before the program of an audit was started, it was not started
 pub starved_audited : (words : List (String Global)) (audit : AuditAsked) (engines : Engines) → AreAuditWords words audit → StartsAudited words Memory engines engines
 starved_audited words audit engines h = (between_spaces h.options.engine, (h.options, h.give, refl), inr refl)
 
--- an audit that wanted memory before its program was started
+-- an audit for which memory ran out before its program was started
 starved_audit : (words : List (String Global)) (audit : AuditAsked) (w : World) → AreAuditWords words audit → RunOf words (Audit audit) Memory w w
 starved_audit words audit w asked = record {
   audited = refl;
@@ -263,12 +263,12 @@ starved_here words (Cup setup) w h = starved_cup words setup w h
 starved_here words (Audit audit) w h = starved_audit words audit w h
 starved_here words (Tournament setup rounds gauntlet at_once resume) w h = starved_contest words setup rounds gauntlet at_once resume w h
 
--- memory was wanting before anything was done
+-- memory ran out before anything was done
 pub starved : (words : List (String Global)) (asked : Asked) (w : World) (timed : List Timed) → Words words asked → timed ≡ w.times.timed
     → RunOf words asked Memory w (world w.sides (times w.times.last w.times.readings timed) w.engines)
 starved words asked w timed h same = subst (λ (t : List Timed). RunOf words asked Memory w (world w.sides (times w.times.last w.times.readings t) w.engines)) (sym same) (starved_here words asked w h)
 
--- no entry stood in the list when the run began
+-- the list had no entry when the run began
 pub with_none : (words : List (String Global)) (asked : Asked) (status : Status) (s : Sides) (last readings : ℕ) (timed : List Timed) (e : Engines) (after : World) → RunOf words asked status (world s (times last readings timed) e) after → timed ≡ []
     → RunOf words asked status (world s (times last readings []) e) after
 with_none words asked status s last readings timed e after run none = subst (λ (t : List Timed). RunOf words asked status (world s (times last readings t) e) after) none run
@@ -277,7 +277,7 @@ with_none words asked status s last readings timed e after run none = subst (λ 
 pub run_of : (words : List (String Global)) (did asked : Asked) (status : Status) (before after : World) → RunOf words did status before after → Some did ≡ Some asked → RunOf words asked status before after
 run_of words did asked status before after run e = subst (λ a. RunOf words a status before after) (same_Some _ _ e) run
 
--- what is no match, cup, tournament or audit starts no program
+-- what is not a match, cup, tournament or audit starts no program
 pub is_alone : (asked : Asked) → ((setup : Setup) (from : Bool) → asked ≡ Match setup from → ⊥) → ((setup : Setup) → asked ≡ Cup setup → ⊥)
     → ((audit : AuditAsked) → asked ≡ Audit audit → ⊥) → ((setup : Setup) (rounds : ℕ) (gauntlet : Bool) (at_once : ℕ) (resume : Bool) → asked ≡ Tournament setup rounds gauntlet at_once resume → ⊥) → ¬ UsesSpawner asked
 is_alone (Match setup from) no_match no_cup no_audit no_tournament uses = no_match setup from refl

@@ -35,23 +35,24 @@ use Rattle.count_command.specs.Count.{CountRun}
 use Rattle.tournament_command.specs.declared.format.Format.{Format}
 use Rattle.tournament_command.specs.Reads.{ReadTournamentRun}
 
--- nothing but the two sides was changed
+-- Nothing but the two sides was changed.
 abbrev pub LeavesAllElse : World → World → Type 0
 LeavesAllElse before after = LeavesTimes before after × LeavesEngines before after
 
--- a game was made, and the input left alone
+-- A game was made, and the input was not read.
 pub record MadeGame (seed plies : ℕ) (status : Status) (before after : Sides) : Type 0 where
   pub made : GrowRun seed plies status before.written after.written
   pub unread : after.rest ≡ before.rest
 
--- the programs of the match that the words ask for were started, white's and then black's, each by
--- its words
+-- The programs of the match that the words ask for were started, white's and then black's, each
+-- with its words.
 abbrev pub StartsPrograms : List (String Global) → Status → Engines → Engines → Type 0
 StartsPrograms words status before after =
     (white : List (List ℕ)) × (black : List (List ℕ)) × AskForPrograms words white black
     × MatchStarts status white black before after
 
--- A match was played from the opening, told and ended with this status. The input was left alone.
+-- A match was played from the opening, was reported and ended with this status. The input was not
+-- read.
 pub record PlaysPlain (words : List (String Global)) (setup : Setup) (status : Status)
     (before after : World) : Type 0 where
   pub played : MatchRun (setup_plain setup) status before after
@@ -59,31 +60,31 @@ pub record PlaysPlain (words : List (String Global)) (setup : Setup) (status : S
   pub unread : LeavesInput before after
 
 -- A match of the programs that the words ask for was played from the game of the input, or there
--- was none, and it ended with this status.
+-- was none. It ended with this status.
 abbrev pub PlaysRead : List (String Global) → Setup → Status → World → World → Type 0
 PlaysRead words setup status before after =
     (white : List (List ℕ)) × (black : List (List ℕ)) × AskForPrograms words white black
     × ReadMatchRun setup white black status before after
 
--- the match that the words ask for, by whether it begins with a game that is given
+-- the match that the words ask for, by whether it begins with a given game
 abbrev pub PlaysMatch : List (String Global) → Setup → Bool → Status → World → World → Type 0
 PlaysMatch words setup false status before after = PlaysPlain words setup status before after
 PlaysMatch words setup true status before after = PlaysRead words setup status before after
 
--- A match was played, told and ended with this status. No search was answered.
+-- A match was played, was reported and ended with this status. No search was answered.
 pub record PlayedMatch (words : List (String Global)) (setup : Setup) (from : Bool)
     (status : Status) (before after : World) : Type 0 where
   pub played : PlaysMatch words setup from status before after
   pub closed : NoneIsOpen before.engines after.engines
   pub timed : after.times.timed ≡ before.times.timed
 
--- a cup of the engines that the words ask for was played, told and ended with this status
+-- A cup of the engines that the words ask for was played, was reported and ended with this status.
 abbrev pub PlaysEngines : List (String Global) → Setup → Status → World → World → Type 0
 PlaysEngines words setup status before after =
     (engines : List Engine) × AskForEngines words engines
     × CupRun engines setup status before after
 
--- The cup that the words ask for was played. The input was left alone, and no search was answered.
+-- The cup that the words ask for was played. The input was not read, and no search was answered.
 pub record PlayedCup (words : List (String Global)) (setup : Setup) (status : Status)
     (before after : World) : Type 0 where
   pub played : PlaysEngines words setup status before after
@@ -91,7 +92,7 @@ pub record PlayedCup (words : List (String Global)) (setup : Setup) (status : St
   pub unread : LeavesInput before after
   pub untimed : LeavesTimes before after
 
--- how a tournament is asked for
+-- the format of the tournament that is asked for
 abbrev pub format_of : Setup → ℕ → Bool → ℕ → Bool → Format
 format_of setup rounds gauntlet at_once resume = record {
   setup = setup;
@@ -101,22 +102,22 @@ format_of setup rounds gauntlet at_once resume = record {
   resume = resume;
 }
 
--- a tournament of the engines that the words ask for was read and played, or there was none, and it
--- ended with this status
+-- A tournament of the engines that the words ask for was read and played, or there was none. It
+-- ended with this status.
 abbrev pub PlaysTournament : List (String Global) → Format → Status → World → World → Type 0
 PlaysTournament words format status before after =
     (engines : List Engine) × AskForTournamentEngines words engines
     × ReadTournamentRun engines format status before after
 
 -- The tournament that the words ask for was played. No search was answered, and the clock of the
--- run was left alone: each game has one of its own.
+-- run was not read: each game has its own.
 pub record PlayedTournament (words : List (String Global)) (format : Format) (status : Status)
     (before after : World) : Type 0 where
   pub played : PlaysTournament words format status before after
   pub closed : NoneIsOpen before.engines after.engines
   pub untimed : LeavesTimes before after
 
--- what an audit is made by
+-- the plan of the audit that is asked for
 abbrev pub plan_of : AuditAsked → Plan
 plan_of audit = record {
   games = audit.games;
@@ -128,14 +129,14 @@ plan_of audit = record {
   patient = audit.patient;
 }
 
--- the program of the audit that the words ask for was started, by its words
+-- The program of the audit that the words ask for was started, with its words.
 abbrev pub StartsAudited : List (String Global) → Status → Engines → Engines → Type 0
 StartsAudited words status before after =
     (program : List (List ℕ)) × AskForAudited words program
     × AuditStarts status program before after
 
--- The program that the words name was audited, and the audit was told and ended with this status.
--- The input was left alone, and no search was answered.
+-- The program that the words name was audited. The audit was reported and ended with this status.
+-- The input was not read, and no search was answered.
 pub record MadeAudit (words : List (String Global)) (plan : Plan) (status : Status)
     (before after : World) : Type 0 where
   pub audited : AuditRun plan status before after
@@ -144,7 +145,7 @@ pub record MadeAudit (words : List (String Global)) (plan : Plan) (status : Stat
   pub unread : LeavesInput before after
   pub untimed : LeavesTimes before after
 
--- what a run whose words ask for this does where it ends with this status
+-- what a run does if its words ask for this and it ends with this status
 abbrev pub RunOf : List (String Global) → Asked → Status → World → World → Type 0
 RunOf words Session status before after =
     SessionRun status before after × LeavesEngines before after
@@ -173,13 +174,13 @@ RunOf words (Audit audit) status before after = MadeAudit words (plan_of audit) 
 RunOf words (Tournament setup rounds gauntlet at_once resume) status before after =
     PlayedTournament words (format_of setup rounds gauntlet at_once resume) status before after
 
--- a run that is asked for this may read the clock: that of a session, for its searches, and a match
+-- A run that is asked for this may read the clock: a session, for its searches, and a match.
 abbrev pub UsesClock : Asked → Type 0
 UsesClock Session = Unit {0}
 UsesClock (Match setup from) = Unit {0}
 UsesClock _ = ⊥
 
--- a run that is asked for this may start programs: a match does, a cup, a tournament, and an audit
+-- A run that is asked for this may start programs: a match, a cup, a tournament, and an audit.
 abbrev pub UsesSpawner : Asked → Type 0
 UsesSpawner (Match setup from) = Unit {0}
 UsesSpawner (Cup setup) = Unit {0}
@@ -187,12 +188,12 @@ UsesSpawner (Audit audit) = Unit {0}
 UsesSpawner (Tournament setup rounds gauntlet at_once resume) = Unit {0}
 UsesSpawner _ = ⊥
 
--- a run that is asked for this goes on where a program cannot be started: a tournament, in which
--- that program forfeits its game
+-- A run that is asked for this goes on if a program cannot be started. It is a tournament, in which
+-- that program forfeits its game.
 abbrev pub GoesOnUnstarted : Asked → Type 0
 GoesOnUnstarted (Tournament setup rounds gauntlet at_once resume) = Unit {0}
 GoesOnUnstarted _ = ⊥
 
--- whatever the words ask for, this is not so
+-- Whatever the words ask for, this does not hold of it.
 abbrev pub Never : List (String Global) → (Asked → Type 0) → Type 0
 Never words Uses = (asked : Asked) → Words words asked → ¬ Uses asked

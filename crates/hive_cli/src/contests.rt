@@ -1,4 +1,4 @@
-//! What starts programs: a match, a cup, a tournament and an audit.
+//! The commands that start programs: a match, a cup, a tournament and an audit.
 ghost use Rattle.std.specs.Prelude.{◌≡◌, List};
 ghost use Rattle.io_edge.specs.Outside.{HasCause, Told};
 ghost use Rattle.hive_model.specs.declared.best.Timed.{Timed};
@@ -72,7 +72,7 @@ pub(crate) fn matched<S: Source, K: Sink, C: Clock, P: Spawner, G: Game + Drop>(
     }
 }
 
-/// Plays the cup that the words ask for, each game by this setup.
+/// Plays the cup that the words ask for, with each game by this setup.
 pub(crate) fn cupped<R: Threads + Sync, K: Sink, P: Spawner, G: Game + Send + Drop>(
     rt: &R,
     alloc: Global,
@@ -141,7 +141,7 @@ pub(crate) fn contested<
     )
 }
 
-/// What the audit is made by that is asked for so.
+/// The plan of the audit that is asked for.
 fn plan_of(audit: AuditAsked) -> Plan
     ensures { result ≡ plan_of audit }
 {
@@ -156,7 +156,7 @@ fn plan_of(audit: AuditAsked) -> Plan
     }
 }
 
-/// Audits the program that the words name, as they ask for it.
+/// Audits the program that the words name, as they ask.
 pub(crate) fn audited<K: Sink, P: Spawner, G: Game + Drop>(
     alloc: Global,
     words: &[String],

@@ -1,5 +1,5 @@
-//! The program over any source, sink, clock and starter of programs: what the words of its command
-//! line ask for.
+//! The program, over any source, sink, clock and starter of programs. It does what the words of its
+//! command line ask for.
 #![tactic(auto)]
 
 ghost use Rattle.std.specs.Prelude.{◌≡◌, ◌⊎◌, [], map, string_bytes};
@@ -32,53 +32,53 @@ use tournament_command::Format;
 use tournament_edge::{Clocks, Progress};
 use win_commands::{solve, verify};
 
-/// The game that the program plays on.
+/// The game type that the program runs on.
 type ProgramGame = FastGame;
 
-/// Does what the words of the command line ask for; the program's name is left out of them.
+/// Does what the words of the command line ask for. They do not include the program's name.
 ///
-/// No word, or the word `uhp`, asks for a session of the Universal Hive Protocol: the greeting is
-/// written, and then the reply to each line of the input before the next line is read, until a line
-/// ends the run or the input ends. It is `Done` then. The first read or write that fails ends it
-/// with `ReadFault` or `WriteFault`, an input of 1,099,511,627,776 bytes or more with `InputFull`,
-/// and want of memory with `Memory`; what was written until then stays.
+/// No word, or the word `uhp`, asks for a session of the Universal Hive Protocol. The greeting is
+/// written, and then the reply to each line of the input before the next line is read. It is `Done`
+/// once a line ends the run or the input ends. The first read or write that fails ends it with
+/// `ReadFault` or `WriteFault`. An input of 1,099,511,627,776 bytes or more ends it with
+/// `InputFull`, and running out of memory with `Memory`. What was written until then stays.
 ///
 /// A line of a session may ask for the best move in a time. It is answered at the last depth, from
-/// 1 to 64, that its search has completed, and one entry of `timed` tells of it: the line's budget,
-/// that depth, and the first and the last reading of the clock. The entries stand in the order of
-/// these lines, and the searches do not overlap. Fewer than 64 plies are searched only where the
-/// budget was over at the last reading. The clock is read for nothing else. Where memory was
-/// wanting, the search of the last line has no entry.
+/// 1 to 64, that its search has completed. One entry of `timed` describes the search: the line's
+/// budget, that depth, and the first and the last reading of the clock. The entries are in the
+/// order of these lines, and the searches do not overlap. Fewer than 64 plies are searched only if
+/// the budget was over at the last reading. The clock is read for nothing else. If memory ran out,
+/// the search of the last line has no entry.
 ///
 /// The word `replay` asks for a replay: each line of the input is answered by one line before the
-/// next line is read. Where it is a game string, of a finished game too, the answer is the written
-/// form of its game, and else `refused` and why. With `--repetition 1` a position that stands for
-/// the third time ends its game with a draw. The run goes on after a refusal. At the end of the
-/// input it is `Refused` where a line was refused, and else `Done`; faults, a full input and want
-/// of memory end it as they end a session.
+/// next line is read. If it is a game string, of a finished game too, the answer is the written
+/// form of its game. Otherwise it is `refused` and the reason. With `--repetition 1` a position
+/// that occurs for the third time ends its game with a draw. The run goes on after a refusal. At
+/// the end of the input it is `Refused` if a line was refused, and otherwise `Done`. Failures, a
+/// full input and running out of memory end it as they end a session.
 ///
-/// The words `count` and `--plies N`, or `--plies=N`, with N from 1 to 8, ask for counts: the input
-/// is to be one line, a game string of a game that is not over. Once it was read to its end, a line
-/// is written for each n from 1 to N, as soon as it is known: n, a space, and the number of lists
-/// of n legal moves that the game can go on with. It is `Done` then. Where the input is something
-/// else, it is `BadInput`, and one line that begins with `bad` says why. That line is written as
-/// soon as the fault is seen, and nothing further is read. A read that fails, a full input and want
-/// of memory end it with nothing written.
+/// The words `count` and `--plies N`, or `--plies=N`, with N from 1 to 8, ask for counts. The input
+/// must be one line, a game string of a game that is not over. Once it was read to its end, a line
+/// is written for each n from 1 to N, as soon as it is known. It has n, a space, and the number of
+/// lists of n legal moves that the game can go on with. It is then `Done`.
 ///
-/// The word `book` asks for the move of a position that was made most often: the first line of the
-/// input is to be a game string of a game that is not over, and each further line a game string. It
-/// is `Done` once one line was written, and else `BadInput`, as `count` is.
+/// If the input is something else, it is `BadInput`, and one line that begins with `bad` says why.
+/// That line is written as soon as the fault is seen, and nothing further is read. If a read fails,
+/// the input is full or memory runs out, the run ends with nothing written.
+///
+/// The word `book` asks for the move of a position that was made most often. The first line of the
+/// input must be a game string of a game that is not over, and each further line a game string. It
+/// is `Done` once one line was written, and otherwise `BadInput`, like `count`.
 ///
 /// The other commands are those of `grow_command`, `strategy_commands`, `win_commands`,
-/// `match_command`, `cup_command`, `tournament_command` and `audit_command`, and do what is said
-/// there. With `--from 1` a match reads the game that it begins with, as `count` reads its game,
-/// before it starts a program; without it a match leaves the input alone. Where the starter tells
-/// what was started, the programs of a match, of a cup, of a tournament and of an audit are those
-/// that its words name. A tournament shows how far it is in its hall, which also has a clock for
-/// each of its games.
+/// `match_command`, `cup_command`, `tournament_command` and `audit_command`, which describe them.
+/// With `--from 1` a match reads the game that it begins with, as `count` reads its game, before it
+/// starts a program. Without it a match does not read the input. If the starter's starts are
+/// observable, the programs of a match, cup, tournament or audit are those that its words name. A
+/// tournament shows its progress in its hall, which also has a clock for each of its games.
 ///
-/// Every other list of words is `Usage`; nothing is read or written. Where its first word is that
-/// of a command that takes an option, it is `Memory` where memory runs out before that is known.
+/// Every other list of words is `Usage`, and nothing is read or written. If its first word names a
+/// command that takes an option, it is `Memory` if memory runs out before this is known.
 pub fn run<
     R: Threads + Sync,
     S: Source,
@@ -214,7 +214,7 @@ fn run_command<
     }
 }
 
-/// Does what is asked for, if it is no match, cup, tournament or audit.
+/// Does what is asked for, if it is not a match, cup, tournament or audit.
 fn run_alone<R: Threads + Sync, S: Source, K: Sink, C: Clock, G: Game + Send + Drop>(
     rt: &R,
     alloc: Global,

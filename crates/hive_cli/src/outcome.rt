@@ -1,4 +1,4 @@
-//! What a run answers.
+//! The result of a run.
 
 use command_runs::Status;
 use hive_model::TimedList;

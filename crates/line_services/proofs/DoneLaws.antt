@@ -1,4 +1,4 @@
--- Where nothing fails, a run is done.
+-- If nothing fails, a run is done.
 use Rattle.std.proofs.Common.{◌≡◌, ◌⊎◌, ℕ, Bool, true, false, ◌||◌, List, [], ◌∷◌, map, refl, ap, sym, ◌∙◌, inl, inr}
 use Rattle.std.specs.List.{list_any}
 use Rattle.io_edge.specs.Lines.{Line, lines}
@@ -56,7 +56,7 @@ or_or : (a b c : Bool) → ((a || b) || c) ≡ (a || (b || c))
 or_or true b c = refl
 or_or false b c = refl
 
--- a line was refused before, or is among these
+-- a line was refused before, or is refused among these
 replay_last : (r b : Bool) (left : List ℕ) (ls : List Line) → last_of (replays r) b left ls ≡ (b || list_any (refuses r) ls)
 replay_last r b left [] = or_false b
 replay_last r b left (line ∷ ls) = replay_last r (b || refuses r line) left ls ∙ or_or b (refuses r line) (list_any (refuses r) ls)

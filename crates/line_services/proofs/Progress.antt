@@ -23,15 +23,15 @@ use Rattle.command_runs.proofs.WrittenLemmas.{behind_none, on_written}
 use Rattle.line_services.proofs.TimeLemmas.{Took, depths-append, no_time_later, tells_later, tells_none, tells_on, told_until, took}
 use Rattle.line_services.proofs.ReplyLemmas.{Next, Replied, joined-append, replied_asks, replied_begin, replied_exit, replied_exit_all, replied_exit_asks, replied_exit_last, replied_last, replied_on, replied_open, replied_texts}
 
--- Since the run began, these bytes were read, which gave these lines, and the preface and these replies to the lines were written.
--- The lines asked for these searches, and these entries tell of them.
+-- Since the run began, these bytes were read, which gave these lines. The preface and these replies
+-- to the lines were written. The lines asked for these searches, and these entries describe them.
 pub record Runs {S : Type 0} (v : Service S) (before : World) (now : ServiceState S) (bytes : List ℕ) (given : List Line) (written : List (List ℕ)) (entries : List Timed) (asked : List Search) : Type 0 where
   pub fed : Fed before.sides.rest now.sides.rest now.reader bytes given
   pub replied : Replied v v.begins now.state given written (depths entries) asked
   pub wrote : now.sides.written ≡ behind before.sides.written (joined (v.preface ∷ written))
   pub tells : TellsOf asked entries before.times now.times
 
--- the world as a service leaves it, which starts no program
+-- the world after a service, which starts no program
 abbrev pub left_in : {S : Type 0} → World → ServiceState S → World
 left_in before now = world now.sides now.times before.engines
 
@@ -39,7 +39,7 @@ abbrev pub Run : {S : Type 0} → Service S → World → ServiceState S → Typ
 Run v before now =
     (bytes : List ℕ) × (given : List Line) × (written : List (List ℕ)) × (entries : List Timed) × (asked : List Search) × Runs v before now bytes given written entries asked
 
--- the preface was written, and nothing read
+-- the preface was written, and nothing was read
 pub run_begin : {S : Type 0} (v : Service S) (before : World) (now : ServiceState S) (text : List ℕ) → now.sides.rest ≡ before.sides.rest → now.reader ≡ new_reading → now.state ≡ v.begins → text ≡ v.preface
     → now.sides.written ≡ behind before.sides.written text → TakesNoTime before.times now.times → Run v before now
 run_begin v before now text rest reader state is wrote time = (
@@ -94,11 +94,11 @@ run_on {S} {v} {before} {old} {new} (bytes, given, written, entries, asked, run)
 
 -- The end
 
--- the entries of the lines so far tell of the searches of lines that are the same
+-- entries that describe the searches of some lines describe those of equal lines
 tells_lines : {S : Type 0} (v : Service S) (ls : List Line) (entries : List Timed) (asked : List Search) (before after : World) → searches v v.begins (depths entries) ls ≡ asked → TellsOf asked entries before.times after.times → TellsOfLines v ls entries before after
 tells_lines v ls entries asked before after same tells = subst (λ ss. TellsOf ss entries before.times after.times) (sym same) tells
 
--- no line more was answered
+-- no further line was answered
 tells_rest : {asked : List Search} {entries : List Timed} {first old new : Times} → TellsOf asked entries first old → TakesNoTime old new → TellsOf asked entries first new
 tells_rest {asked} {entries} {first} {old} {new} tells time =
     subst (λ es. TellsOf asked es first new) (append-nil entries) (subst (λ ss. TellsOf ss (entries ++ []) first new) (append-nil asked) (tells_on tells (tells_none time)))
@@ -238,7 +238,7 @@ over_ends : {S : Type 0} {v : Service S} {before after : World} (refused : Bool)
 over_ends true run = run
 over_ends false run = run
 
--- the run ends as its last round
+-- the run ends like its last round
 ends_as : {S : Type 0} {v : Service S} {before : World} {old new : ServiceState S} (stop : Stop) → Run v before old → Rounds v (Some stop) old new → EndsAs v (status_of (v.has_refused new.state) stop) before (left_in before new)
 ends_as {S} {v} {before} {old} {new} Over run round = over_ends (v.has_refused new.state) (new.state, refl, λ input e. exits_at run round input e)
 ends_as ReadFailed run round = λ input e. ends_read_fault run round input e
@@ -251,7 +251,7 @@ answer_later : {S : Type 0} {v : Service S} {line : Line} {answer : Option (List
 answer_later {S} {v} {line} {answer} {old} {new} {before} {after} answers =
     let (mine, own, depth, t) = took (v.asks old line) (v.reply old line) answer before after answers.answered in tells_later t.tells
 
--- nor in the last round
+-- it does not fall in the last round either
 ends_later : {S : Type 0} {v : Service S} {old new : ServiceState S} (stop : Stop) → Rounds v (Some stop) old new → old.times.last ≤ new.times.last
 ends_later Over (b1, round) = elim round.does [ inl (line, gives, (answers, same)) ↦ answer_later answers | inr rests ↦ no_time_later rests.time ]
 ends_later ReadFailed (b1, round) = elim round.does [ inl (line, gives, never) ↦ absurd never | inr rests ↦ no_time_later rests.time ]
@@ -268,13 +268,13 @@ ends {S} {v} {before} {old} {new} stop (bytes, given, written, entries, asked, r
   later = later_on before.times.last old.times.last new.times.last (tells_later run.tells) (ends_later stop round);
 }
 
--- and so with its status
+-- and so the run ends with its status
 pub run_ends : {S : Type 0} {v : Service S} {before : World} {old new : ServiceState S} (stop : Stop) (refused : Bool) (status : Status) → Run v before old → Rounds v (Some stop) old new → refused ≡ v.has_refused new.state → status ≡ status_of refused stop
     → ServiceRun v status before (left_in before new)
 run_ends {S} {v} {before} {old} {new} stop refused status run round is same =
     subst (λ s. ServiceRun v s before (left_in before new)) (sym (same ∙ ap (λ b. status_of b stop) is)) (ends stop run round)
 
--- there was no memory for the reader
+-- memory ran out for the reader
 pub no_memory : {S : Type 0} (v : Service S) (before after : World) → after.sides ≡ before.sides → TakesNoTime before.times after.times → ServiceRun v Memory before after
 no_memory v before after same time = record {
   ends = λ input e. (
@@ -292,7 +292,7 @@ no_memory v before after same time = record {
   later = no_time_later time;
 }
 
--- the preface was cut
+-- the preface was not written whole
 pub preface_cut : {S : Type 0} (v : Service S) (before after : World) (text : List ℕ) → after.sides.rest ≡ before.sides.rest → text ≡ v.preface → (n : ℕ) × (n < length text) × (after.sides.written ≡ behind before.sides.written (take n text))
     → TakesNoTime before.times after.times → ServiceRun v WriteFault before after
 preface_cut v before after text rest is (n, short, wrote) time = record {

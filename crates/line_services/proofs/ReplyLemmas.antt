@@ -15,8 +15,8 @@ joined-append (x ∷ xs) ys = ap (λ z. x ++ z) (joined-append xs ys) ∙ sym (a
 
 -- Lines
 
--- These texts are the replies to these lines at these depths, none of which ends the run, these are the searches that they ask for,
--- and the service goes on from here.
+-- These texts are the replies to these lines at these depths, and none of the lines ends the run.
+-- These are the searches that they ask for, and the service goes on from here.
 pub record Replied {S : Type 0} (v : Service S) (start now : S) (given : List Line) (written : List (List ℕ)) (told : List ℕ) (asked : List Search) : Type 0 where
   pub goes_on : (later : List ℕ) (more : List Line) → replies v start (told ++ later) (given ++ more) ≡ written ++ replies v now later more
   pub exits : (later : List ℕ) (more : List Line) → HasExit v start (told ++ later) (given ++ more) ↔ HasExit v now later more
@@ -34,12 +34,12 @@ replied_begin v s = record {
 
 -- One line
 
--- the line is the next that is given, it takes this depth, and this is the reply at it
+-- the line is the next one given, it takes this depth, and this is the reply at that depth
 pub record Next {S : Type 0} (v : Service S) (now : S) (line : Line) (answer : Option (List ℕ)) (mine : List Search) (own : List ℕ) (depth : ℕ) : Type 0 where
   pub uses : Uses (v.asks now line) mine own depth
   pub is : v.reply now line depth ≡ answer
 
--- that is its reply, whatever depths are left
+-- this is its reply, whatever depths are left
 reply_is : {S : Type 0} {v : Service S} {now : S} {line : Line} {answer : Option (List ℕ)} {mine : List Search} {own : List ℕ} {depth : ℕ} → Next v now line answer mine own depth → (later : List ℕ)
     → reply_at v now (own ++ later) line ≡ answer
 reply_is {S} {v} {now} {line} n later = ap (v.reply now line) (n.uses.takes later) ∙ n.is
@@ -72,9 +72,9 @@ exit_at {S} {v} {now} {line} {answer} {mine} {own} n later more = (
       (subst (λ left. ends_or answer (HasExit v (v.next now line) left more)) (sym (n.uses.leaves later)) h),
 )
 
--- After a line more
+-- After one more line
 
--- a line more was answered
+-- one more line was answered
 pub replied_on : {S : Type 0} (v : Service S) (start now : S) (given : List Line) (written : List (List ℕ)) (told : List ℕ) (asked : List Search) (line : Line) (text : List ℕ) (mine : List Search) (own : List ℕ) (depth : ℕ)
     → Replied v start now given written told asked → Next v now line (Some text) mine own depth → Replied v start (v.next now line) (given ++ line ∷ []) (written ++ text ∷ []) (told ++ own) (asked ++ mine)
 replied_on v start now given written told asked line text mine own depth r n = record {
@@ -98,7 +98,7 @@ replied_on v start now given written told asked line text mine own depth r n = r
 
 -- The lines so far
 
--- with no depths and no lines more
+-- with no further depths or lines
 no_more : {A : Type 0} (f : List ℕ → List Line → A) (told : List ℕ) (given : List Line) → f told given ≡ f (told ++ []) (given ++ [])
 no_more f told given = ap (λ ds. f ds given) (sym (append-nil told)) ∙ ap (f (told ++ [])) (sym (append-nil given))
 
@@ -111,7 +111,7 @@ pub replied_open : {S : Type 0} {v : Service S} {start now : S} {given : List Li
 replied_open {S} {v} {start} {now} {given} {written} {told} r =
     λ h. (r.exits [] []).0 (subst (λ ls. HasExit v start (told ++ []) ls) (sym (append-nil given)) (subst (λ ds. HasExit v start ds given) (sym (append-nil told)) h))
 
--- the service stands here after the lines so far
+-- this is the state of the service after the lines so far
 pub replied_last : {S : Type 0} {v : Service S} {start now : S} {given : List Line} {written : List (List ℕ)} {told : List ℕ} {asked : List Search} → Replied v start now given written told asked → last_of v start told given ≡ now
 replied_last {S} {v} {start} {now} {given} {written} {told} r = no_more (last_of v start) told given ∙ r.stands [] []
 
@@ -121,7 +121,7 @@ replied_asks {S} {v} {start} {now} {given} {written} {told} {asked} r = no_more 
 
 -- The line that ends the run
 
--- with no depths more than its own
+-- with no depths besides its own
 its_own : {A : Type 0} (f : List ℕ → A) (told own : List ℕ) → f (told ++ own) ≡ f (told ++ (own ++ []))
 its_own f told own = ap (λ ds. f (told ++ ds)) (sym (append-nil own))
 
@@ -138,7 +138,7 @@ replied_exit_all {S} {v} {start} {now} {given} {written} {told} {asked} line oth
     its_own (λ ds. replies v start ds (given ++ (line ∷ others))) told own
     ∙ (r.goes_on (own ++ []) (line ∷ others) ∙ (ap (λ ts. written ++ ts) (with_next n [] others) ∙ append-nil written))
 
--- the service stands so where that line was answered
+-- this is the state of the service when that line was answered
 pub replied_exit_last : {S : Type 0} {v : Service S} {start now : S} {given : List Line} {written : List (List ℕ)} {told : List ℕ} {asked : List Search} (line : Line) (others : List Line) {mine : List Search} {own : List ℕ} {depth : ℕ}
     → Replied v start now given written told asked → Next v now line None mine own depth → last_of v start (told ++ own) (given ++ (line ∷ others)) ≡ v.next now line
 replied_exit_last {S} {v} {start} {now} {given} {written} {told} {asked} line others {mine} {own} r n =

@@ -1,4 +1,4 @@
--- Searches that were answered one after another, and what a line takes of the depths.
+-- Searches that were answered one after another, and the depths that a line takes.
 use Rattle.std.proofs.Common.{◌≡◌, ◌≤◌, ◌+◌, ℕ, List, [], ◌∷◌, ◌++◌, refl, ap, sym, ◌∙◌, append_assoc, arith, None, Some}
 use Rattle.std.specs.declared.option.Option.{Option}
 use Rattle.std.proofs.lemmas.List.{append-nil, map-append}
@@ -14,7 +14,7 @@ use Rattle.line_services.specs.Service.{depth_for, depths_after, with_search}
 pub depths-append : (xs ys : List Timed) → depths (xs ++ ys) ≡ depths xs ++ depths ys
 depths-append xs ys = map-append (λ entry. entry.depth) xs ys
 
--- searches that lie after a reading lie after one before it
+-- searches that lie after a reading also lie after any earlier reading
 told_from : (searches : List Search) (entries : List Timed) (low from to : ℕ) → low ≤ from → AreTold searches from entries to → AreTold searches low entries to
 told_from [] [] low from to less told = omega (arith, less, told)
 told_from [] (entry ∷ entries) low from to less told = absurd told
@@ -29,14 +29,14 @@ told_append (asked ∷ others) mine [] own from mid to told later = absurd told
 told_append (asked ∷ others) mine (entry ∷ entries) own from mid to (told, began, rest) later =
     (told, began, told_append others mine entries own entry.stopped mid to rest later)
 
--- searches that lie before a reading lie before a later one
+-- searches that lie before a reading also lie before any later one
 pub told_until : (searches : List Search) (entries : List Timed) (from mid to : ℕ) → AreTold searches from entries mid → mid ≤ to → AreTold searches from entries to
 told_until [] [] from mid to told less = omega (arith, less, told)
 told_until [] (entry ∷ entries) from mid to told less = absurd told
 told_until (asked ∷ others) [] from mid to told less = absurd told
 told_until (asked ∷ others) (entry ∷ entries) from mid to (told, began, rest) less = (told, began, told_until others entries entry.stopped mid to rest less)
 
--- the clock does not fall in searches
+-- the clock does not fall during searches
 pub told_later : (searches : List Search) (entries : List Timed) (from to : ℕ) → AreTold searches from entries to → from ≤ to
 told_later [] [] from to told = told
 told_later [] (entry ∷ entries) from to told = absurd told
@@ -45,7 +45,7 @@ told_later (asked ∷ others) (entry ∷ entries) from to (told, began, rest) =
     let order = told.order in
     let later = told_later others entries entry.stopped to rest in omega (arith, began, order, later)
 
--- the readings of some searches, and of others after them
+-- the readings of some searches and of others after them
 reads-append : (searches mine : List Search) (entries own : List Timed) (from to : ℕ) → AreTold searches from entries to → reads_of (searches ++ mine) (entries ++ own) ≡ reads_of searches entries + reads_of mine own
 reads-append [] mine [] own from to told = sum_of_none (reads_of mine own)
   where
@@ -59,7 +59,7 @@ reads-append (asked ∷ others) mine (entry ∷ entries) own from to (told, bega
     sum_of_three : (a b c n : ℕ) → n ≡ b + c → a + n ≡ (a + b) + c
     sum_of_three a b c n e = omega (arith, e)
 
--- What is told
+-- What the entries describe
 
 pub tells_none : {before after : Times} → TakesNoTime before after → TellsOf [] [] before after
 tells_none {before} {after} time = record {
@@ -98,7 +98,7 @@ tells_on {searches} {mine} {entries} {own} {first} {mid} {last} a b = record {
     sum_up : (x y z n m s : ℕ) → s ≡ n + m → y ≤ x + n → z ≤ y + m → z ≤ x + s
     sum_up x y z n m s e f g = omega (arith, e, f, g)
 
--- the clock does not fall where a line is answered, or is not
+-- the clock does not fall, whether a line is answered or not
 pub tells_later : {searches : List Search} {entries : List Timed} {before after : Times} → TellsOf searches entries before after → before.last ≤ after.last
 tells_later {searches} {entries} {before} {after} h = told_later searches entries before.last after.last h.told
 
@@ -107,13 +107,14 @@ no_time_later h = tells_later (tells_none h)
 
 -- Lines
 
--- A line that asks for a search, or for none, asks for these, and takes these of the depths: its own depth is this.
+-- A line may ask for a search or for none. These are the searches that it asks for, the depths that
+-- it takes, and its own depth.
 pub record Uses (o : Option Search) (mine : List Search) (own : List ℕ) (depth : ℕ) : Type 0 where
   pub takes : (left : List ℕ) → depth_for o (own ++ left) ≡ depth
   pub leaves : (left : List ℕ) → depths_after o (own ++ left) ≡ left
   pub asks : (others : List Search) → with_search o others ≡ mine ++ others
 
--- what an answered line took
+-- what an answered line has used
 pub record Took (o : Option Search) (reply : ℕ → Option (List ℕ)) (answer : Option (List ℕ)) (before after : Times) (mine : List Search) (entries : List Timed) (depth : ℕ) : Type 0 where
   pub uses : Uses o mine (depths entries) depth
   pub is : reply depth ≡ answer

@@ -9,15 +9,15 @@ use Rattle.command_runs.specs.World.{World}
 use Rattle.command_runs.specs.declared.status.Status.{Status}
 use Rattle.command_runs.specs.declared.status.Status.TheVariants.{Done, Memory}
 
--- where the streams served the run, a session is done, unless memory is wanting
+-- If the streams served the run, a session ends with `Done`, or because memory ran out.
 abbrev pub SessionsAreDone : Type 0
 SessionsAreDone =
     (status : Status) → (before : World) → (after : World) → SessionRun status before after
     → (input : List ℕ) → Served status before.sides input
     → (status ≡ Done) ⊎ (status ≡ Memory)
 
--- Where the streams served the run, the replay of an input whose every line is a game is done,
--- unless memory is wanting. The lines are games under the rule of the replay.
+-- Let each line of the input be a game under the rule of the replay. If the streams served the run,
+-- the replay ends with `Done`, or because memory ran out.
 abbrev pub ReplaysAreDone : Type 0
 ReplaysAreDone =
     (r : Bool) → (status : Status) → (before : World) → (after : World)
@@ -25,9 +25,8 @@ ReplaysAreDone =
     → (input : List ℕ) → Served status before.sides input → some_refused r (lines input) ≡ false
     → (status ≡ Done) ⊎ (status ≡ Memory)
 
--- what a replay makes of lines: it answers each of them, one after another, it has refused a line
--- just where one of them is refused, none of them ends it, and none asks for a search, so that it
--- has no use for depths
+-- How a replay treats lines. It answers each of them, one after another, and none ends it. It has
+-- refused a line exactly if one of them is refused. None asks for a search, so no depth is used.
 pub record Replays (r : Bool) (left : List ℕ) (ls : List Line) : Type 0 where
   pub writes : output (replays r) left ls ≡ answers r ls
   pub refuses : last_of (replays r) false left ls ≡ some_refused r ls

@@ -1,5 +1,5 @@
--- A replay as a service: each line, a game string, is answered by the written form of its game, or
--- refused, where the rule of third repetition is switched on or off. And its run.
+-- A replay as a service, and its run. The answer to each line is the written form of its game, or a
+-- refusal, with the rule of third repetition on or off.
 use Rattle.std.specs.Prelude.{ℕ, Bool, true, false, ◌||◌, List, [], ◌∷◌, ◌++◌, map, codes, Result, Ok, Err, Some, None}
 use Rattle.std.specs.List.{list_any}
 use Rattle.io_edge.specs.Lines.{Line, Text, TooLong as LongLine}
@@ -19,8 +19,8 @@ use Rattle.command_runs.specs.declared.status.Status.{Status}
 abbrev pub refusal : List ℕ → List ℕ
 refusal why = codes "refused " ++ (why ++ 10 ∷ [])
 
--- a game is answered by its written form, whether it is over or not, and any other text by the
--- reason of its refusal
+-- A game is answered by its written form, whether it is over or not. Any other text is answered by
+-- the reason for its refusal.
 abbrev pub game_answer : Bool → Result Parsed GameFault → List ℕ
 game_answer r (Ok game) = string_under r game.game_type game.moves ++ 10 ∷ []
 game_answer r (Err fault) = refusal (reason fault)
@@ -43,14 +43,14 @@ refuses r LongLine = true
 abbrev pub answers : Bool → List Line → List ℕ
 answers r ls = joined (map (replay_answer r) ls)
 
--- some of the lines is refused
+-- one of the lines is refused
 abbrev pub some_refused : Bool → List Line → Bool
 some_refused r ls = list_any (refuses r) ls
 
 -- The run
 
--- Nothing before the first line, and the answer to each; it counts whether a line was refused. No
--- line ends the run, and none asks for a search.
+-- Nothing is written before the first line, and then the answer to each. The state is whether a
+-- line was refused. No line ends the run, and none asks for a search.
 abbrev pub replays : Bool → Service Bool
 replays r = record {
   begins = false;
@@ -61,6 +61,6 @@ replays r = record {
   has_refused = λ refused. refused;
 }
 
--- what was written and read where a replay ends with this status
+-- what was written and read if a replay ends with this status
 abbrev pub ReplayRun : Bool → Status → World → World → Type 0
 ReplayRun r status before after = ServiceRun (replays r) status before after

@@ -4,10 +4,10 @@ use Rattle.std.specs.Prelude.{ℕ, Bool, List, [], ◌∷◌, ◌++◌, Option, 
 use Rattle.io_edge.specs.Lines.{Line}
 use Rattle.uhp_session.specs.Searches.{Search}
 
--- How a service begins, what it writes before the first line is read, the search for a time that a
--- line asks for, if it asks for one, its reply to a line at the depth which that search has
--- completed (none where the run ends there), how it stands after a line, and whether it has refused
--- a line until then. A line that asks for no search has no use for the depth.
+-- A service has a first state and the text that it writes before the first line is read. For a line
+-- it has the timed search that the line asks for, if any. It has the reply at the depth that this
+-- search has completed, or none if the run ends there. It has the state after the line, and whether
+-- a line was refused so far. A line that asks for no search does not use the depth.
 pub record Service (S : Type 0) : Type 0 where
   pub begins : S
   pub preface : List ℕ
@@ -18,8 +18,8 @@ pub record Service (S : Type 0) : Type 0 where
 
 -- Depths
 
--- The depth for a line: a line that asks for a search takes the first of those that are left, and 0
--- where none is. Any other line is given 0.
+-- The depth for a line. A line that asks for a search takes the first of the depths that are left,
+-- or 0 if none is. Any other line gets 0.
 abbrev pub depth_for : Option Search → List ℕ → ℕ
 depth_for None left = 0
 depth_for (Some asked) [] = 0
@@ -31,11 +31,11 @@ depths_after None left = left
 depths_after (Some asked) [] = []
 depths_after (Some asked) (depth ∷ left) = left
 
--- the depths that are left after a line, where a service stands so
+-- the depths that are left after a line, for a service in this state
 abbrev pub left_after : {S : Type 0} → Service S → S → List ℕ → Line → List ℕ
 left_after v s left line = depths_after (v.asks s line) left
 
--- the reply to a line, where these depths are left
+-- the reply to a line if these depths are left
 abbrev pub reply_at : {S : Type 0} → Service S → S → List ℕ → Line → Option (List ℕ)
 reply_at v s left line = v.reply s line (depth_for (v.asks s line) left)
 
@@ -46,12 +46,12 @@ abbrev pub joined : List (List ℕ) → List ℕ
 joined [] = []
 joined (text ∷ texts) = text ++ joined texts
 
--- a reply, and then the others; where the run ends, no other
+-- a reply, and then the others; no others if the run ends
 abbrev pub with_reply : Option (List ℕ) → List (List ℕ) → List (List ℕ)
 with_reply None others = []
 with_reply (Some text) others = text ∷ others
 
--- the replies to lines in order, up to the line that ends the run, where these depths are left
+-- the replies to lines in order, up to the line that ends the run, if these depths are left
 abbrev pub replies : {S : Type 0} → Service S → S → List ℕ → List Line → List (List ℕ)
 replies v s left [] = []
 replies v s left (line ∷ ls) =
@@ -67,23 +67,23 @@ output v left ls = joined (texts v left ls)
 
 -- The end
 
--- the run ends here, or else later
+-- The run ends here, or else it ends later.
 abbrev pub ends_or : Option (List ℕ) → Type 0 → Type 0
 ends_or None later = Unit {0}
 ends_or (Some text) later = later
 
--- some line of these ends the run
+-- One of these lines ends the run.
 abbrev pub HasExit : {S : Type 0} → Service S → S → List ℕ → List Line → Type 0
 HasExit v s left [] = ⊥
 HasExit v s left (line ∷ ls) =
     ends_or (reply_at v s left line) (HasExit v (v.next s line) (left_after v s left line) ls)
 
--- what holds here where the run ends, and else what holds later
+-- the first value if the run ends here, otherwise the one for later
 abbrev pub ends_at : {A : Type 0} → Option (List ℕ) → A → A → A
 ends_at None here later = here
 ends_at (Some text) here later = later
 
--- how the service stands after these lines, or after the first of them that ends the run
+-- the state of the service after these lines, or after the first of them that ends the run
 abbrev pub last_of : {S : Type 0} → Service S → S → List ℕ → List Line → S
 last_of v s left [] = s
 last_of v s left (line ∷ ls) =

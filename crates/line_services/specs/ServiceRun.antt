@@ -13,19 +13,19 @@ use Rattle.line_services.specs.Times.{AreTold, TellsOf, depths}
 use Rattle.command_runs.specs.declared.status.Status.{Status}
 use Rattle.command_runs.specs.declared.status.Status.TheVariants.{Done, Refused, Usage, ReadFault, WriteFault, SpawnFault, BadInput, Memory, InputFull}
 
--- The searches that these lines ask for were answered, and these entries tell of them.
+-- The searches that these lines ask for were answered, and these entries describe them.
 abbrev pub TellsOfLines : {S : Type 0} → Service S → List Line → List Timed → World → World → Type 0
 TellsOfLines v ls entries before after =
     TellsOf (searches v v.begins (depths entries) ls) entries before.times after.times
 
--- some line that was read ends the run
+-- One of the lines read ends the run.
 abbrev pub ExitWasRead : {S : Type 0} → Service S → List ℕ → List ℕ → Told → Type 0
 ExitWasRead v left input rest =
     (read : List Line) × WereRead input rest read × HasExit v v.begins left read
 
--- All of the output for the lines of the input was written, at the depths of these entries, which
--- tell of the searches of these lines. The input was read to its end, or to the line that ends the
--- run. The service stands so then.
+-- All of the output for the lines of the input was written, at the depths of these entries. The
+-- entries describe the searches of these lines. The input was read to its end, or to the line that
+-- ends the run. This is then the state of the service.
 pub record WroteAll {S : Type 0} (v : Service S) (input : List ℕ) (entries : List Timed)
     (before after : World) (last : S) : Type 0 where
   pub wrote : after.sides.written ≡ behind before.sides.written
@@ -35,8 +35,8 @@ pub record WroteAll {S : Type 0} (v : Service S) (input : List ℕ) (entries : L
   pub over : IsAllRead input after.sides.rest
       ⊎ ExitWasRead v (depths entries) input after.sides.rest
 
--- The bytes that have left the source are these. None of their lines that end in LF ends the run,
--- the output for these lines was written, and the entries tell of their searches.
+-- These bytes have left the source. None of their lines that end in LF ends the run. The output for
+-- these lines was written, and the entries describe their searches.
 pub record WroteWhole {S : Type 0} (v : Service S) (input : List ℕ) (entries : List Timed)
     (before after : World) (bytes left : List ℕ) : Type 0 where
   pub was_read : WasRead input after.sides.rest bytes left
@@ -46,10 +46,9 @@ pub record WroteWhole {S : Type 0} (v : Service S) (input : List ℕ) (entries :
       (output v (depths entries) (whole_lines bytes))
   pub tells : TellsOfLines v (whole_lines bytes) entries before after
 
--- The output for lines that were read, none of which ends the run, is what comes before the first
--- of them and a reply to each. Of these texts all but the last were written whole, and of the last
--- its first n bytes, and not all. All these lines were answered, and the entries tell of their
--- searches.
+-- None of the lines that were read ends the run. The output for them is the preface and a reply to
+-- each. Of these texts all but the last were written whole. Of the last, the first n bytes were
+-- written, but not all. All these lines were answered, and the entries describe their searches.
 pub record WroteFront {S : Type 0} (v : Service S) (input : List ℕ) (entries : List Timed)
     (before after : World) (read : List Line) (whole : List (List ℕ)) (last : List ℕ)
     (n : ℕ) : Type 0 where
@@ -60,9 +59,9 @@ pub record WroteFront {S : Type 0} (v : Service S) (input : List ℕ) (entries :
   pub wrote : after.sides.written ≡ behind before.sides.written (joined whole ++ take n last)
   pub tells : TellsOfLines v read entries before after
 
--- Of the lines that were read the first were answered. Whole texts were written, the first n of
--- those for these lines, and the entries tell of their searches. The clock may have been read for a
--- search that has no entry.
+-- Of the lines that were read, the first were answered. Whole texts were written, the first n of
+-- those for the answered lines. The entries describe the searches of these lines. The clock may
+-- have been read for a search that has no entry.
 pub record WroteTexts {S : Type 0} (v : Service S) (input : List ℕ) (entries : List Timed)
     (before after : World) (answered others : List Line) (n : ℕ) : Type 0 where
   pub were_read : WereRead input after.sides.rest (answered ++ others)
@@ -76,21 +75,21 @@ pub record WroteTexts {S : Type 0} (v : Service S) (input : List ℕ) (entries :
 
 -- The ends of a run
 
--- the run came to its end, where the service has refused a line, or none
+-- The run came to its end, and this says whether the service has refused a line.
 abbrev pub RunsToEnd : {S : Type 0} → Service S → Bool → World → World → Type 0
 RunsToEnd {S} v refused before after =
     (last : S) × (v.has_refused last ≡ refused)
     × WhereTold before.sides.rest
     (λ input. (entries : List Timed) × WroteAll v input entries before after last)
 
--- a read has failed, or the limit was reached: the bytes that were read are so many
+-- A read failed, or the limit was reached. The condition is on the number of bytes that were read.
 abbrev pub RunsWhile : {S : Type 0} → Service S → (ℕ → Type 0) → World → World → Type 0
 RunsWhile v many before after =
     WhereTold before.sides.rest (λ input.
     (entries : List Timed) × (bytes : List ℕ) × (left : List ℕ) × many (length bytes)
     × WroteWhole v input entries before after bytes left)
 
--- a write has failed
+-- A write failed.
 abbrev pub RunsToCut : {S : Type 0} → Service S → World → World → Type 0
 RunsToCut v before after =
     WhereTold before.sides.rest (λ input.
@@ -98,15 +97,15 @@ RunsToCut v before after =
     × (n : ℕ)
     × WroteFront v input entries before after read whole last n)
 
--- memory was wanting
+-- Memory ran out.
 abbrev pub RunsToWant : {S : Type 0} → Service S → World → World → Type 0
 RunsToWant v before after =
     WhereTold before.sides.rest (λ input.
     (entries : List Timed) × (answered : List Line) × (others : List Line) × (n : ℕ)
     × WroteTexts v input entries before after answered others n)
 
--- What was written and read, and which searches were answered, where the run of a service ends with
--- this status. Three statuses are not a service's.
+-- What was written and read, and which searches were answered, if the run of a service ends with
+-- this status. A service never ends with one of the last three.
 abbrev pub EndsAs : {S : Type 0} → Service S → Status → World → World → Type 0
 EndsAs v Done before after = RunsToEnd v false before after
 EndsAs v Refused before after = RunsToEnd v true before after

@@ -11,8 +11,8 @@ use Rattle.command_runs.specs.declared.status.Status.{Status}
 abbrev pub greeting : List ℕ
 greeting = codes "id HiveReferee 1.0\nMosquito;Ladybug;Pillbug\nok\n"
 
--- The greeting, and the reply to each line, until `exit`. A session goes on after a refusal, and is
--- done whatever it has refused.
+-- The greeting, and the reply to each line, until `exit`. A session goes on after a refusal, and
+-- counts as done even if it has refused lines.
 abbrev pub session : Service SessionState
 session = record {
   begins = fresh;
@@ -23,7 +23,7 @@ session = record {
   has_refused = λ s. false;
 }
 
--- what was written and read, and which searches were answered, where the run of a session ends with
+-- what was written and read, and which searches were answered, if the run of a session ends with
 -- this status
 abbrev pub SessionRun : Status → World → World → Type 0
 SessionRun status before after = ServiceRun session status before after

@@ -1,4 +1,4 @@
--- What a run tells of the searches for a time that it answered.
+-- What a run records of the timed searches that it answered.
 use Rattle.std.specs.Prelude.{◌≡◌, ℕ, ◌+◌, ◌≤◌, List, [], ◌∷◌, ◌++◌, map}
 use Rattle.hive_model.specs.declared.best.Timed.{Timed}
 use Rattle.hive_model.specs.Minimax.{reads}
@@ -9,8 +9,8 @@ use Rattle.uhp_session.specs.Searches.{IsToldOf, Search}
 abbrev pub depths : List Timed → List ℕ
 depths entries = map (λ entry. entry.depth) entries
 
--- These entries tell of these searches, one of each, in order. They were answered one after
--- another: each began when the one before had stopped, and all lie between these two readings of
+-- These entries describe these searches, one for each, in order. The searches were answered one
+-- after another: each began when the one before had stopped. All lie between these two readings of
 -- the clock.
 abbrev pub AreTold : List Search → ℕ → List Timed → ℕ → Type 0
 AreTold [] from [] to = from ≤ to
@@ -26,13 +26,13 @@ reads_of (asked ∷ others) [] = 0
 reads_of (asked ∷ others) (entry ∷ entries) =
     reads asked.position entry.depth + reads_of others entries
 
--- where this holds, the clock was left as it was, and no entry was appended
+-- If this holds, the clock was left as it was, and no entry was appended.
 pub record IsStill {C : Type 0} (holds : Type 0) (was is : C)
     (before after : List Timed) : Type 0 where
   pub clock : holds → is ≡ was
   pub timed : holds → after ≡ before
 
--- these searches were answered, and nothing else was done that takes time
+-- These searches were answered, and nothing else that takes time was done.
 pub record TellsOf (searches : List Search) (entries : List Timed)
     (before after : Times) : Type 0 where
   pub appended : after.timed ≡ before.timed ++ entries

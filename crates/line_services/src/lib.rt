@@ -1,5 +1,5 @@
-//! A session and a replay: each answers the lines of its input, one after another, and writes the
-//! reply to each before the next line is read.
+//! A session and a replay. Each answers the lines of its input, one after another, and writes the
+//! reply to each before it reads the next line.
 #![tactic(auto)]
 
 mod laws;

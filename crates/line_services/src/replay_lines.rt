@@ -1,4 +1,4 @@
-//! The line that a replay writes for a line.
+//! The line with which a replay answers a line.
 ghost use Rattle.std.specs.Prelude.{◌≡◌, ◌≢◌, ◌≤◌, [], ◌∷◌, ◌++◌, length, true, false, IfOk, OnOk};
 ghost use Rattle.hive_model.specs.Games.{IsGame};
 ghost use Rattle.hive_model.specs.Strings.{string_under};
@@ -15,7 +15,7 @@ use hive_model::{Game, GameType, Move, ReplyText};
 use std::alloc::{AllocError, Global};
 use uhp_session::LineIn;
 
-/// The line that answers a line, its LF included, and whether it refuses that line.
+/// The line that answers a line, its LF included, and whether that line is refused.
 #[derive(Drop)]
 pub(crate) struct Answer {
     pub(crate) text: ReplyText,
@@ -29,8 +29,8 @@ fn refuse_for(alloc: Global, why: &[u8]) -> Result<ReplyText, AllocError>
     line_for(alloc, b"refused ", why)
 }
 
-/// The line that refuses a text that is no game. Want of memory is no fault of the text, and is
-/// passed on.
+/// The line that refuses a text that is not a game. Running out of memory is not a fault of the
+/// text, and is passed on.
 fn refuse(alloc: Global, fault: GameFault) -> Result<ReplyText, AllocError>
     ensures refusal { IfOk result (λ t. t ≡ refusal (reason fault)) }
     ensures memory { OnOk result (fault ≢ GameFault.Memory) }
@@ -57,7 +57,7 @@ fn written<G: Game + Drop>(
     Ok(text)
 }
 
-/// The answer to a text: the written form of the game that it is, or the reason why it is none.
+/// The answer to a text: the written form of the game, or the reason why the text is not one.
 fn answer_text<G: Game + Drop>(
     alloc: Global,
     repetition: bool,
@@ -86,8 +86,8 @@ fn answer_text<G: Game + Drop>(
     }
 }
 
-/// The answer to a line, where the rule of third repetition is switched on or off. A line that is
-/// too long is refused.
+/// The answer to a line, with the rule of third repetition on or off. A line that is too long is
+/// refused.
 #[tactic(auto, unfolding(crate::specs::Replay::replay_answer, crate::specs::Replay::refuses))]
 pub(crate) fn answer_line<G: Game + Drop>(
     alloc: Global,

@@ -1,4 +1,4 @@
-//! A replay as a service: each line is answered by the written form of its game, or refused.
+//! A replay as a service: the answer to each line is the written form of its game, or a refusal.
 ghost use Rattle.std.specs.Prelude.{◌≡◌, Bool, true, false};
 ghost use Rattle.io_edge.specs.Outside.{HasCause};
 ghost use Rattle.io_edge.specs.Starts.{Engines};
@@ -15,12 +15,12 @@ use std::marker::{Model, PhantomData};
 use std::thread::Threads;
 use uhp_session::{LineIn, Reply};
 
-/// A type that tells whether the rule of third repetition is switched on.
+/// A type that says whether the rule of third repetition is on.
 trait Rule {
-    /// Whether it is switched on.
+    /// Whether the rule is on.
     ghost is_on: { Bool };
 
-    /// The answer, for code.
+    /// The same answer, for code.
     fn is_on() -> bool
         ensures { result ≡ is_on };
 }
@@ -49,8 +49,8 @@ impl Rule for SwitchedOff {
     }
 }
 
-/// A replay, seen as whether a line was refused, over games of this kind and by this rule of third
-/// repetition.
+/// A replay over games of this kind and by this rule of third repetition. Its view is whether a
+/// line was refused.
 #[derive(Drop)]
 struct Replay<G: Game, L: Rule> {
     refused: bool,
@@ -67,7 +67,7 @@ impl<G: Game, L: Rule> Model for Replay<G, L> {
 }
 
 impl<G: Game, L: Rule> Replay<G, L> {
-    /// No line was refused yet.
+    /// A replay that has refused no line yet.
     fn new() -> Self
         ensures { result ≡ false }
     {
@@ -106,7 +106,7 @@ impl<G: Game + Drop, L: Rule + Drop> LineService for Replay<G, L> {
     }
 }
 
-/// Runs a replay over games of this kind, by the rule of third repetition or without it.
+/// Runs a replay over games of this kind, with or without the rule of third repetition.
 pub fn serve_replay<R: Threads + Sync, S: Source, K: Sink, C: Clock, G: Game + Drop>(
     rt: &R,
     alloc: Global,

@@ -1,5 +1,5 @@
-//! A service over a source and a sink: the reply to each line is written before the next line is
-//! read.
+//! A service over a source and a sink. It writes the reply to each line before it reads the next
+//! line.
 ghost use Rattle.std.specs.Prelude.{◌≡◌, Bool, false, Some};
 ghost use Rattle.std.specs.Thread.{IsSync};
 ghost use Rattle.io_edge.specs.Outside.{HasCause};
@@ -22,7 +22,7 @@ use uhp_session::{LineIn, Reply};
 
 /// A command that answers the lines of its input, one after another.
 pub(crate) trait LineService {
-    /// What it answers, and what it becomes.
+    /// What the service answers, and its next state.
     ghost service: { Service Self };
 
     /// Whether it may read the clock and append entries.
@@ -34,9 +34,9 @@ pub(crate) trait LineService {
 
     /// Answers a line. `Exit` ends the run.
     ///
-    /// Where the line asks for a search for a time, one entry that tells of it is appended, and the
-    /// reply is that at the entry's depth. Where it asks for none, the clock is not read. After
-    /// want of memory the state is as before, and no entry is appended.
+    /// If the line asks for a timed search, one entry that describes it is appended, and the reply
+    /// is the one for the entry's depth. If it asks for none, the clock is not read. If memory runs
+    /// out, the state is as before and no entry is appended.
     fn answer<R: Threads + Sync, C: Clock>(
         &mut self,
         rt: &R,
@@ -54,7 +54,7 @@ pub(crate) trait LineService {
             (times (C.last clock.new) (C.readings clock.new) timed.new) }
         ensures still { IsStill (takes_time ≡ false) clock.old clock.new timed.old timed.new };
 
-    /// Whether a line was refused until now, so that the run ends as `Refused`.
+    /// Whether a line was refused so far, so that the run ends as `Refused`.
     fn has_refused(&self) -> bool
         ensures { result ≡ service.has_refused self.now };
 }
@@ -64,18 +64,18 @@ pub(crate) trait LineService {
 pub(crate) enum Stop {
     /// The input has ended, or a line has ended the run.
     Over,
-    /// A read of the input has failed.
+    /// A read of the input failed.
     ReadFailed,
     /// The input has 1,099,511,627,776 bytes or more before its end.
     Full,
-    /// A write of the output has failed.
+    /// A write of the output failed.
     WriteFailed,
     /// There was not enough memory.
     NoMemory,
 }
 
 impl Stop {
-    /// The status of a run that stops so, where a line was refused, or none.
+    /// The status of a run that stops for this reason, by whether a line was refused.
     pub(crate) fn status(self, refused: bool) -> Status
         ensures { result ≡ status_of refused self }
     {
@@ -95,7 +95,7 @@ impl Stop {
     }
 }
 
-/// Answers a line, and writes the reply; or says why the run stops.
+/// Answers a line and writes the reply, or says why the run stops.
 fn write_reply<R: Threads + Sync, K: Sink, C: Clock, V: LineService>(
     rt: &R,
     alloc: Global,
@@ -127,7 +127,7 @@ fn write_reply<R: Threads + Sync, K: Sink, C: Clock, V: LineService>(
     }
 }
 
-/// Reads a line, answers it, and writes the reply; or says why the run stops.
+/// Reads a line, answers it and writes the reply, or says why the run stops.
 fn serve_line<R: Threads + Sync, S: Source, K: Sink, C: Clock, V: LineService>(
     rt: &R,
     alloc: Global,
@@ -159,8 +159,8 @@ fn serve_line<R: Threads + Sync, S: Source, K: Sink, C: Clock, V: LineService>(
     write_reply(rt, alloc, service, line, output, clock, timed)
 }
 
-/// Runs a service: writes its preface, and then the reply to each line before the next line is
-/// read, until a line ends the run or the input ends.
+/// Runs a service. It writes its preface, and then the reply to each line before it reads the next
+/// one. The run ends at a line that ends it, or at the end of the input.
 pub(crate) fn serve<R: Threads + Sync, S: Source, K: Sink, C: Clock, V: LineService>(
     rt: &R,
     alloc: Global,

@@ -1,4 +1,4 @@
-//! Audits of a program that stands in memory, of which a call fails.
+//! Audits of a program in memory, in which a call fails.
 ghost use Rattle.audit_core.specs.Keeps.{IsPlan};
 
 use crate::engines::BASE;
@@ -15,28 +15,28 @@ use std::test::Fail;
 /// The engine greets, begins, lists the queen at the first turn, and then says no more.
 const SAID: &[u8] = b"id A\nok\nBase;NotStarted;White[1]\nok\nwA1;wB1;wG1;wQ;wS1\nok\n";
 
-/// What it is sent until then: behind what was found wrong in the first game the second begins.
+/// What it is sent until then. After the fault found in the first game the second begins.
 const SENT: &[u8] = b"newgame Base\nvalidmoves\nnewgame Base\n";
 
-/// The same where the line that begins the second game is not sent.
+/// The same if the line that begins the second game is not sent.
 const SENT_BEFORE: &[u8] = b"newgame Base\nvalidmoves\n";
 
-/// What is told where it breaks off then.
+/// The report if it breaks off then.
 const BROKE: &[u8] = b"game 1 ply 0 Base;NotStarted;White[1] extra wQ\n\
     game 2 ply 0 Base;NotStarted;White[1] broke asked newgame Base\n\
     audited 2 games 0 positions 0 moves, 2 findings\n";
 
-/// The same where an answer is waited for no longer than some limit.
+/// The same if there is a limit on the wait for an answer.
 const LATE: &[u8] = b"game 1 ply 0 Base;NotStarted;White[1] extra wQ\n\
     game 2 ply 0 Base;NotStarted;White[1] late asked newgame Base\n\
     audited 2 games 0 positions 0 moves, 2 findings\n";
 
-/// The same where its output ends.
+/// The same if its output ends.
 const ENDED: &[u8] = b"game 1 ply 0 Base;NotStarted;White[1] extra wQ\n\
     game 2 ply 0 Base;NotStarted;White[1] ended asked newgame Base\n\
     audited 2 games 0 positions 0 moves, 2 findings\n";
 
-/// What is told where not even the greeting is whole.
+/// The report if not even the greeting is whole.
 const UNGREETED: &[u8] = b"game 1 ply 0 Base;NotStarted;White[1] ended\n\
     audited 1 games 0 positions 0 moves, 1 findings\n";
 
@@ -51,7 +51,7 @@ const THREE_GAMES: Plan = Plan {
     patient: false,
 };
 
-/// The same where an answer is waited for no longer than some limit.
+/// The same with a limit on the wait for an answer.
 const PATIENTLY: Plan = Plan {
     games: 3,
     first: 1,
@@ -62,7 +62,7 @@ const PATIENTLY: Plan = Plan {
     patient: true,
 };
 
-/// Two games from the fourth on, of whatever types.
+/// Two games from the fourth on, of any types.
 const FROM_THE_FOURTH: Plan = Plan {
     games: 2,
     first: 4,
@@ -80,12 +80,12 @@ const SAID_OF_ALL: &[u8] =
 /// What it is sent from the fourth game on.
 const SENT_FROM_THE_FOURTH: &[u8] = b"newgame Base+ML\nvalidmoves\nnewgame Base+P\n";
 
-/// What is told of it then.
+/// The report on it then.
 const TOLD_FROM_THE_FOURTH: &[u8] = b"game 4 ply 0 Base+ML;NotStarted;White[1] extra wQ\n\
     game 5 ply 0 Base+P;NotStarted;White[1] ended asked newgame Base+P\n\
     audited 2 games 0 positions 0 moves, 2 findings\n";
 
-/// Audits the program that is set up so.
+/// Audits the program with this setting.
 fn audit(alloc: Global, engine: MemSetting<'_>, plan: Plan) -> Result<Played<Status>, AllocError>
     requires { IsPlan plan }
 {

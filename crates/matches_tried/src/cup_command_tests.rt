@@ -1,4 +1,4 @@
-//! Cups of programs that stand in memory.
+//! Cups of programs in memory.
 ghost use Rattle.std.specs.Prelude.{◌≤◌, length};
 
 use crate::engines::program_of;
@@ -38,7 +38,7 @@ const TO_WHITE: &[u8] = b"newgame Base\nbestmove depth 1\nplay wS1\n";
 /// What black is sent in it.
 const TO_BLACK: &[u8] = b"newgame Base\nplay wS1\n";
 
-/// Plays a cup of these programs over these links; the start of the second number fails, and the
+/// Plays a cup of these programs over these links. The start of the second number fails, and the
 /// write of the output of the third one (0: none fails).
 fn play_over<R: Threads + Sync>(
     rt: &R,
@@ -70,7 +70,7 @@ fn play_over<R: Threads + Sync>(
     })
 }
 
-/// Plays a cup of the programs `a` and `b`, in whose second game white ends at once.
+/// Plays a cup of the programs `a` and `b`. In its second game white ends at once.
 fn play_two<R: Threads + Sync>(
     rt: &R,
     alloc: Global,
@@ -117,8 +117,8 @@ fn a_write_of_the_output_fails(rt: HostRuntime) -> Result<(), Fail> {
     Ok(())
 }
 
-/// The text of a cup of three engines that play one ply in each game, and of which the second one
-/// breaks in the first game.
+/// The text of a cup of three engines that play one ply in each game. The second engine breaks in
+/// the first game.
 const BROKEN: &[u8] = b"game 1 2 Base;NotStarted;White[1]\nverdict 1 2 forfeit black broke\n\
     game 1 3 Base;InProgress;Black[1];wS1\nverdict 1 3 limit 1\n\
     game 2 1 Base;InProgress;Black[1];wS1\nverdict 2 1 limit 1\n\

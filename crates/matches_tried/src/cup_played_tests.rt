@@ -1,4 +1,4 @@
-//! Of `cup`: games of two engines over links in memory.
+//! Tests of `cup`: games of two engines over links in memory.
 
 mod meeting;
 
@@ -27,7 +27,7 @@ const ONE_PLY: Setup = Setup {
     repetition: false,
 };
 
-/// The cup of two engines: in its first game white plays a move, in its second one white ends.
+/// The cup of two engines. In its first game white plays a move, and in its second one white ends.
 fn cup_of_two(alloc: Global) -> Result<Vec<CupJob<MemLink, PlainGame>>, AllocError>
     ensures { IfOk result (λ jobs. map pairing jobs.items ≡ pairings 2) }
 {
@@ -79,8 +79,8 @@ fn two_engines_play_two_games(rt: HostRuntime) -> Result<(), Fail> {
     Ok(())
 }
 
-/// The links to white and to black of a game of one ply, at this place. White's move comes once
-/// the other game has come to it too.
+/// The links to white and to black of a game of one ply, at this place. White's move comes once the
+/// other game has reached it too.
 fn links_that_meet<'a>(
     alloc: Global,
     game: usize,

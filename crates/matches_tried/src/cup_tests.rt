@@ -1,4 +1,4 @@
-//! A cup of three engines, and what verdicts are worth.
+//! A cup of three engines, and the points of verdicts.
 
 use cup::{Pairing, Standing, pairings, points_of, standings};
 use hive_model::{Colour, State};

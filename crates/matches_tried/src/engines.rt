@@ -1,4 +1,4 @@
-//! Engines that stand in memory.
+//! Engines in memory.
 ghost use Rattle.std.specs.Prelude.{◌≡◌, IfOk, length};
 
 use cup::Program;
@@ -13,7 +13,7 @@ pub(crate) const BASE: GameType = GameType {
     pillbug: false,
 };
 
-/// The links of so many games, in each of which white and black say these texts.
+/// The links of this number of games. In each of them white and black say these texts.
 pub(crate) fn links_of(
     alloc: Global,
     white: &[u8],
@@ -24,7 +24,7 @@ pub(crate) fn links_of(
     links_saying(alloc, texts.as_slice())
 }
 
-/// The program of this name and no other words.
+/// The program with this name and no other words.
 pub(crate) fn program_of(alloc: Global, name: &str) -> Result<Program, AllocError> {
     let words = owned_words(alloc, &[name])?;
     Ok(Program::new(String::from_str(alloc, name)?, words))

@@ -1,4 +1,4 @@
-//! Matches, cups, tournaments and audits, tried: the public calls of their crates over texts,
+//! Tests of matches, cups, tournaments and audits: the public calls of their crates over texts,
 //! links, clocks and programs in memory.
 #![tactic(auto)]
 

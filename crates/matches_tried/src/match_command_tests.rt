@@ -1,4 +1,4 @@
-//! Matches of two programs that stand in memory.
+//! Matches of two programs in memory.
 ghost use Rattle.match_core.specs.Keeps.{IsSetup};
 
 mod causes;
@@ -39,10 +39,10 @@ const IN_A_SECOND: Setup = Setup {
     repetition: false,
 };
 
-/// White greets, begins, plays `wS1` and hears of it.
+/// White greets, begins, plays `wS1` and is told of it.
 const WHITE: &[u8] = b"id A\nok\nx\nok\nwS1\nok\nx\nok\n";
 
-/// Black greets, begins, hears of white's move and answers with a move that is not legal.
+/// Black greets, begins, is told of white's move and answers with a move that is not legal.
 const BLACK: &[u8] = b"id B\nok\nx\nok\nx\nok\nbQ -wS1\nok\n";
 
 const TO_WHITE: &[u8] = b"newgame Base\nbestmove depth 1\nplay wS1\n";
@@ -51,13 +51,13 @@ const TO_BLACK: &[u8] = b"newgame Base\nplay wS1\nbestmove depth 1\n";
 
 const ILLEGAL: &[u8] = b"Base;InProgress;Black[1];wS1\nforfeit black illegal bQ -wS1\n";
 
-/// What a link says, in pieces of seven bytes; no call of it fails.
+/// A link that says this text in pieces of seven bytes; no call of it fails.
 pub(crate) fn in_sevens(text: &[u8]) -> MemSetting<'_> {
     MemSetting::of(text).cut(&[7])
 }
 
-/// Plays a match over the links of a starter; the write of the output of this number fails (0: none
-/// fails).
+/// Plays a match over the links of a starter. The write of the output with this number fails (0:
+/// none fails).
 fn play_with<C: Clock>(
     alloc: Global,
     mut spawner: MemSpawner,
@@ -96,7 +96,7 @@ fn play_deep(
     play_with(alloc, spawner, DEPTH_ONE, &mut StepClock::new(0, 1), 0)
 }
 
-/// Plays a match of one ply in a second by these readings of a clock.
+/// Plays a match of one ply, with a second for it, by these readings of a clock.
 fn play_timed(alloc: Global, readings: &[u64]) -> Result<Played<Status>, AllocError> {
     let links = links_of(alloc, &[in_sevens(WHITE), in_sevens(BLACK)])?;
     let spawner = spawner_of(alloc, links, 0)?;
@@ -151,7 +151,7 @@ const WON: [&[u8]; 13] = [
     b"wA1 wB1-",
 ];
 
-/// What a side says in a game: it makes the moves of this parity, and hears of all.
+/// What a side says in a game: it makes the moves of this parity, and is told of all.
 fn said_by(alloc: Global, game: &[&[u8]], parity: usize) -> Result<Vec<u8>, AllocError> {
     let mut text = Vec::from_slice(alloc, b"ok\nok\n".as_slice())?;
     for (number, line) in game.iter().enumerate() {

@@ -1,4 +1,4 @@
-//! Matches of two programs that stand in memory, from a given game.
+//! Matches of two programs in memory, from a given game.
 
 use crate::match_command_tests::in_sevens;
 use crate::seen::{expect_seen, expect_sent};
@@ -64,10 +64,10 @@ fn play_from(
     }))
 }
 
-/// White greets, begins, plays beside its spider and hears of it.
+/// White greets, begins, plays beside its spider and is told of it.
 const WHITE: &[u8] = b"id A\nok\nx\nok\nwQ /wS1\nok\nx\nok\n";
 
-/// Black greets, begins, hears of white's move and answers with a move that is not legal.
+/// Black greets, begins, is told of white's move and answers with a move that is not legal.
 const BLACK: &[u8] = b"id B\nok\nx\nok\nx\nok\nbQ -wS1\nok\n";
 
 const TO_WHITE: &[u8] = b"newgame Base;InProgress;White[2];wS1;bS1 wS1-\n\
@@ -105,15 +105,15 @@ const WON: &str = "Base;WhiteWins;Black[7];wS1;bS1 wS1-;wQ /wS1;bQ bS1-;wQ /bS1;
 const DRAWN: &str = "Base;Draw;White[7];wA1;bA1 wA1-;wQ -wA1;bQ bA1-;wQ \\wA1;bQ bA1/;wQ -wA1;\
                      bQ bA1-;wQ \\wA1;bQ bA1/;wQ -wA1;bQ bA1-";
 
-/// The same game as the engines are told it, who do not hear of the rule of third repetition.
+/// The same game as the engines are told it. They are not told of the rule of third repetition.
 const GOING: &str = "Base;InProgress;White[7];wA1;bA1 wA1-;wQ -wA1;bQ bA1-;wQ \\wA1;bQ bA1/;\
                      wQ -wA1;bQ bA1-;wQ \\wA1;bQ bA1/;wQ -wA1;bQ bA1-";
 
-/// A game that has as many plies as it may have.
+/// A game with as many plies as it may have.
 const TWO: &str = "Base;InProgress;White[2];wS1;bS1 wS1-";
 
-/// The line of a game that goes on no more, as the engines are told it and as it is told at the
-/// end, and how a match from it ends.
+/// A game that does not go on: its line as the engines are told it, its line as written at the end,
+/// and how a match from it ends.
 struct Row {
     told: &'static str,
     line: &'static str,

@@ -1,4 +1,4 @@
-//! What is seen of a match, a cup or a tournament at its end.
+//! What is observed of a match, a cup or a tournament at its end.
 
 use command_runs::Status;
 use memory_sides::Played;
@@ -28,8 +28,8 @@ pub(crate) fn expect_sent<R: Abort>(rt: &R, seen: &Played<Status>, texts: &[&[u8
     }
 }
 
-/// Compares a run whose output failed behind so many bytes of its text, and how many links were
-/// closed.
+/// Compares a run with an output that failed after this number of bytes of its text, and how many
+/// links were closed.
 pub(crate) fn expect_cut<R: Abort>(
     rt: &R,
     seen: &Played<Status>,

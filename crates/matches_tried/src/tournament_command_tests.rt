@@ -1,4 +1,4 @@
-//! Tournaments of programs that stand in memory, whose openings and earlier games are read.
+//! Tournaments of programs in memory, with openings and earlier games that are read.
 ghost use Rattle.tournament_command.specs.Formats.{IsFormat};
 
 use crate::engines::{BASE, links_of, two_programs};
@@ -46,7 +46,7 @@ const BLACK: &[u8] = b"id B\nok\nok\nok\n";
 const OPENINGS: &[u8] = b"Base;InProgress;White[2];wS1;bS1 wS1-\n\
     Base;InProgress;White[2];wS1;bS1 wS1/\n";
 
-/// The second opening has a piece that there is not.
+/// The second opening has a piece that does not exist.
 const ILLEGAL: &[u8] = b"Base;InProgress;White[2];wS1;bS1 wS1-\n\
     Base;InProgress;White[2];wS1;bA4 wS1/\n";
 
@@ -75,14 +75,14 @@ const TEXT: &[u8] = b"game 1 1 2 Base;InProgress;Black[2];wS1;bS1 wS1-;wQ /wS1\n
     a points 8 games 8 wins 0 draws 8 losses 0 forfeits 0\n\
     b points 8 games 8 wins 0 draws 8 losses 0 forfeits 0\n";
 
-/// The text of one round behind its second game.
+/// The text of one round after its second game.
 const BEHIND_TWO: &[u8] = b"game 3 1 2 Base;InProgress;Black[2];wS1;bS1 wS1/;wQ /wS1\n\
     verdict 3 1 2 limit 3\n\
     game 4 2 1 Base;InProgress;Black[2];wS1;bS1 wS1/;wQ /wS1\nverdict 4 2 1 limit 3\n\
     a points 4 games 4 wins 0 draws 4 losses 0 forfeits 0\n\
     b points 4 games 4 wins 0 draws 4 losses 0 forfeits 0\n";
 
-/// The text of one round behind its first game.
+/// The text of one round after its first game.
 const BEHIND_ONE: &[u8] = b"game 2 2 1 Base;InProgress;Black[2];wS1;bS1 wS1-;wQ /wS1\n\
     verdict 2 2 1 limit 3\n\
     game 3 1 2 Base;InProgress;Black[2];wS1;bS1 wS1/;wQ /wS1\nverdict 3 1 2 limit 3\n\
@@ -90,8 +90,8 @@ const BEHIND_ONE: &[u8] = b"game 2 2 1 Base;InProgress;Black[2];wS1;bS1 wS1-;wQ 
     a points 4 games 4 wins 0 draws 4 losses 0 forfeits 0\n\
     b points 4 games 4 wins 0 draws 4 losses 0 forfeits 0\n";
 
-/// Plays the tournament of the programs `a` and `b` that this input tells, over the links of so
-/// many games.
+/// Plays the tournament of the programs `a` and `b` with this input, over the links of this number
+/// of games.
 fn play_over<R: Threads + Sync>(
     rt: &R,
     alloc: Global,

@@ -95,7 +95,7 @@ fn the_largest_tournament_is_not_listed(rt: HostRuntime) -> Result<(), Fail> {
     Ok(())
 }
 
-/// Notes a game of an opening that is of no account here.
+/// Notes a game. Its opening does not matter here.
 fn note(rt: &impl Abort, tally: &mut Tally, white: u32, black: u32, ended: GameEnd) {
     let engines = tally.engines();
     assert!(rt; 1 <= white && white <= engines);

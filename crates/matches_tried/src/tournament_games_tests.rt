@@ -1,4 +1,4 @@
-//! Tournaments of programs that stand in memory: two engines, two rounds, two openings.
+//! Tournaments of programs in memory: two engines, two rounds, two openings.
 ghost use Rattle.std.specs.Prelude.{◌≤◌, length};
 ghost use Rattle.tournament_core.specs.Schedules.{schedule};
 
@@ -49,7 +49,7 @@ const TEXT: &[u8] = b"game 1 1 2 Base;InProgress;Black[1];wS1\nverdict 1 1 2 lim
     a points 8 games 8 wins 0 draws 8 losses 0 forfeits 0\n\
     b points 8 games 8 wins 0 draws 8 losses 0 forfeits 0\n";
 
-/// The text where white's program of the third game does not start.
+/// The text if white's program of the third game does not start.
 const ABSENT: &[u8] = b"game 1 1 2 Base;InProgress;Black[1];wS1\nverdict 1 1 2 limit 1\n\
     game 2 2 1 Base;InProgress;Black[1];wS1\nverdict 2 2 1 limit 1\n\
     game 3 1 2 Base;NotStarted;White[1]\nverdict 3 1 2 forfeit white nostart\n\
@@ -61,13 +61,13 @@ const ABSENT: &[u8] = b"game 1 1 2 Base;InProgress;Black[1];wS1\nverdict 1 1 2 l
     b points 9 games 8 wins 1 draws 7 losses 0 forfeits 0\n\
     a points 7 games 8 wins 0 draws 7 losses 1 forfeits 1\n";
 
-/// The text of the last two games, where six were drawn before.
+/// The text of the last two games, if six were drawn before.
 const RESUMED: &[u8] = b"game 7 1 2 Base;InProgress;Black[1];wS1\nverdict 7 1 2 limit 1\n\
     game 8 2 1 Base;InProgress;Black[1];wS1\nverdict 8 2 1 limit 1\n\
     a points 8 games 8 wins 0 draws 8 losses 0 forfeits 0\n\
     b points 8 games 8 wins 0 draws 8 losses 0 forfeits 0\n";
 
-/// A tournament of the programs `a` and `b`, three games at once.
+/// A tournament of the programs `a` and `b`, with three games at once.
 fn tournament_of(alloc: Global) -> Result<Tournament, AllocError> {
     let programs = two_programs(alloc)?;
     let mut openings = Vec::new(alloc);
@@ -76,7 +76,7 @@ fn tournament_of(alloc: Global) -> Result<Tournament, AllocError> {
     Ok(Tournament::new(programs, TWO_ROUNDS, ONE_PLY, openings, 3))
 }
 
-/// Plays a tournament over these links; the start of the first number fails, and the write of the
+/// Plays a tournament over these links. The start of the first number fails, and the write of the
 /// output of the second one (0: none fails).
 fn play_over<R: Threads + Sync>(
     rt: &R,

@@ -1,4 +1,4 @@
--- What the words of an item are to the lexer of `clap`, and back.
+-- How the lexer of `clap` reads the words of an item, and back.
 use Rattle.std.proofs.Common.{◌≡◌, ◌≢◌, ◌∙◌, ◌⊎◌, ◌<◌, ◌++◌, inl, inr, ℕ, zero, suc, Bool, true, false, refl, sym, ap, ap₂, subst, arith, [], ◌∷◌, Option, Some, None, codes, length, if◌then◌else◌, nat_eq}
 use Rattle.std.specs.Prelude.{option_and_then}
 use Rattle.std.specs.Str.{bytes_eq}

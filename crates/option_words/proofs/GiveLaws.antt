@@ -54,7 +54,7 @@ item_gives (first ∷ items) item once (inr later) =
     ap (λ b. option_map (λ (i : Item). i.value) (cond b (Some first) (find (λ (i : Item). bytes_eq i.name item.name) items)))
     (differ_bytes first.name item.name (λ same. once.0 item later (sym same))) ∙ item_gives items item once.1 later
 
--- a value that items give is that of one of them
+-- a value that items give belongs to one of them
 value_from : (items : List Item) (name v : Text) → value_of items name ≡ Some v → (item : Item) × IsOn items item × (item.value ≡ v)
 value_from [] name v none = cc
 value_from (item ∷ items) name v is = go (bytes_eq item.name name) (value_from items name v) is
@@ -87,11 +87,11 @@ on_long (n ∷ names) name all (inr later) = on_long names name (both _ _ all).1
 
 -- ---- both ways
 
--- each value that is there is of its form
+-- each value that is present is of its form
 abbrev pub AreValues : List (Option Text) → Type 0
 AreValues values = (v : Text) → IsOn values (Some v) → IsValue v
 
--- The values that a parse finds are given, where they are of their form.
+-- The values that a parse finds are given, if they are of their form.
 pub parsed_gives : (command : Text) (names words rest : List Text) (values : List (Option Text)) → words ≡ command ∷ rest → HasNoDashes rest
     → parsed command names rest ≡ Some values → AreValues values → Gives words command names values
 parsed_gives command names words rest values begin no_dashes finds are = go (outcome command names (after []) rest) refl (sym (parsed_is command names rest) ∙ finds)
@@ -118,7 +118,7 @@ parsed_gives command names words rest values begin no_dashes finds are = go (out
     go None is none = cc
     go (Some rows) is some = let same : Some (values_in names rows) ≡ Some values = some in gives rows (cc) (walk_reads command names rest [] rows no_dashes is)
 
--- the same of values as the program holds them
+-- the same for values as the program holds them
 pub all_values : (xs : List (Option (Bor Text))) → All (λ x. IfSome x (λ t. IsValue t.now)) xs → AreValues (values_of xs)
 all_values [] all v none = absurd none
 all_values (None ∷ xs) all v (inl is) = let none : None ≡ Some v = is in cc
@@ -141,12 +141,12 @@ same_command first command same = equal_texts first command (go (bytes_eq first 
     go true e = refl
     go false e = cc
 
--- the values that are found after the command, where they are of their form and no word is `--`
+-- the values that are found after the command, if they are of their form and no word is `--`
 pub found_gives : (command first : Text) (names words rest : List Text) (values : List (Option Text)) → words ≡ first ∷ rest → false ≡ not (bytes_eq first command)
     → HasNoDashes rest → parsed command names rest ≡ Some values → AreValues values → Gives words command names values
 found_gives command first names words rest values begin same = parsed_gives command names words rest values (begin ∙ ap (λ f. f ∷ rest) (same_command first command same))
 
--- What words that give values come to.
+-- The answer for words that give values.
 pub record IsFound (command first : Text) (names rest : List Text) (values : List (Option Text)) : Type 0 where
   pub command_is : first ≡ command
   pub no_dashes : HasNoDashes rest

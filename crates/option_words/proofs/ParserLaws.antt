@@ -52,7 +52,7 @@ parse_finds command names words a m got is matches faults values =
     ap Some (values ∙ values_read (found_of m) (matches_of app words) names rows)
     ∙ sym (ap (λ kinds. option_map (values_in names) (unless_fault kinds (matches_of app words))) none)
 
--- where it fails, and not for want of memory, no values are parsed
+-- if it fails, and memory did not run out, no values are parsed
 pub parse_fails : (command : Text) (names : List Text) (words : List Text) (a : App) (e : Error) → a ≡ option_app command names
     → (is_simple_and_free a ≡ true → HasKind (fault_of a words) e) → kind_of e ≢ OutOfMemory → None ≡ parsed command names words
 unfolding parsed

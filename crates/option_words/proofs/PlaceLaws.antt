@@ -1,4 +1,5 @@
--- The walk of `clap` over the words: it takes item after item, each whose name is known and was not used before.
+-- The walk of `clap` over the words. It takes item after item, and the name of each is known and
+-- was not used before.
 use Rattle.std.proofs.Common.{◌≡◌, ◌∙◌, ◌&&◌, ◌||◌, ◌⊎◌, inl, inr, cond, Bool, true, false, refl, sym, ap, ap₂, List, [], ◌∷◌, ◌++◌, Option, Some, None, codes, fold, if◌then◌else◌, nat_lt, append-nil}
 use Rattle.std.specs.List.{list_any}
 use Rattle.std.specs.Option.{option_map_or}
@@ -42,7 +43,7 @@ or_else-none : (a : Kinds) → or_else a [] ≡ a
 or_else-none [] = refl
 or_else-none (k ∷ ks) = refl
 
--- what is found, where there is no fault before it
+-- what is found, if there is no fault before it
 abbrev pub unless : Kinds → Option (List Row) → Option (List Row)
 unless [] found = found
 unless (k ∷ ks) found = None
@@ -61,7 +62,7 @@ unless_both (k ∷ ks) b found = refl
 
 -- ---- one use of an option
 
--- what an option has whose value was given
+-- the row of an option that was given this value
 abbrev pub row : Text → Text → Row
 row name v = record { id = name; values = v ∷ []; count = None; source = Some CommandLine; reading = reading_by (rule name) }
 
@@ -96,7 +97,7 @@ module _ (command : Text) (names : List Text) where
   abbrev pub found : Walk → List Text → List Row
   found w words = finished (rules names) (fold (walked (rules names) []) w words).held
 
-  -- what a walk from a place on comes to
+  -- the result of a walk from a place on
   abbrev pub outcome : Walk → List Text → Option (List Row)
   outcome w words = unless_fault (left w words) (found w words)
 
@@ -128,7 +129,7 @@ module _ (command : Text) (names : List Text) where
   left_step w w' word rest faults fault walk =
       or_else-assoc (turn_fault (shape command names) [] w word) _ _ ∙ ap₂ (λ f a. or_else f (left a rest)) fault walk
 
-  -- a word, by the faults that it has and by what it is met as
+  -- a word, by its faults and by how it is matched
   steps : (rows : List Row) (pending : Option (Text × List Text)) (waiting : Waiting) (word : Text) (rest : List Text) (faults : Kinds) (m : Held × Step)
       → other_fault (shape command names) None word (holding rows pending) ≡ faults
       → subcommand_or_other (rules names) None waiting 1 word (holding rows pending) ≡ m
@@ -143,7 +144,7 @@ module _ (command : Text) (names : List Text) where
       → outcome (at rows pending waiting) (word ∷ rest) ≡ None
   refused_fails rows pending waiting word rest is = steps rows pending waiting word rest _ _ (is rows pending) refl
 
-  -- where nothing waits for a value, a word that is no flag has no place
+  -- if nothing waits for a value, a word that is not a flag has no place
   pub stray_fails : (rows : List Row) (pending : Option (Text × List Text)) (word : Text) (rest : List Text) → IsStray command names word
       → outcome (at rows pending idle) (word ∷ rest) ≡ None
   stray_fails rows pending word rest is = steps rows pending idle word rest _ _ (is.passes rows pending) (is.met rows pending idle)
@@ -246,7 +247,7 @@ module _ (command : Text) (names : List Text) where
   no_value : (rows : List Row) (name : Text) → is_known names name ≡ true → settle_fault (rules names) false (holding rows (Some (name, []))) ≡ InvalidValue ∷ []
   no_value rows name known = ap (λ a. option_map_or (λ r. use_fault false r [] rows) a []) (id_known names name known)
 
-  -- and so is a flag behind the name
+  -- and so is a flag after the name
   pub second_kind : (rows : List Row) (name v : Text) (rest : List Text) → is_known names name ≡ true → bytes_eq v (codes "--") ≡ false
       → IsStray command names v ⊎ (outcome (at rows (Some (name, [])) (option name)) (v ∷ rest) ≡ None)
   second_kind rows name v rest known whole = go (word_kind command names v whole)

@@ -1,4 +1,5 @@
--- What the walk of `clap` finds in words is what the items give whose words they are, and the other way round.
+-- What the walk of `clap` finds in the words of items is what the items give, and the other way
+-- round.
 use Rattle.std.proofs.Common.{◌≡◌, ◌≢◌, ◌∙◌, ◌⊎◌, inl, inr, ◌<◌, ◌++◌, ◌||◌, suc, arith, Bool, true, false, refl, sym, ap, ap₂, subst, List, [], ◌∷◌, Some, None, codes, length, map, append-nil, append_assoc}
 use Rattle.std.specs.Str.{bytes_eq}
 use Rattle.std.proofs.lemmas.Grind.{common_steps}
@@ -29,7 +30,7 @@ differ_bytes a b differ = go (bytes_eq a b) refl
 bytes_differ : (a b : Text) → bytes_eq a b ≡ false → a ≢ b
 bytes_differ a b apart same = let both : true ≡ false = sym ((bytes_eq-Decides a b).1 same) ∙ apart in cc
 
--- a name was not used before, and is not the last that was
+-- a name was not used before, and is not the last one used
 not_used : (name : Text) (held : List Row) (item : Item) → has_row name (held ++ row_of item ∷ []) ≡ false → (has_row name held ≡ false) × (item.name ≢ name)
 not_used name held item none =
     let parts = neither _ _ (sym (list_any-append (λ (r : Row). bytes_eq r.id name) held (row_of item ∷ [])) ∙ none) in
@@ -41,7 +42,7 @@ still_new name held item none differ =
 
 -- ---- the words of an item
 
--- no `=` in the words of the items, and in those of the lexer
+-- there is no `=` in the names of the items, nor in those of the lexer
 no_equals_lacks : (name : Text) → HasNoEquals name → Lacks 61 name
 no_equals_lacks [] h = λ i lt. absurd (omega (arith, lt))
 no_equals_lacks (b ∷ bs) h = lacks_more b bs h.0 (no_equals_lacks bs h.1)
@@ -53,7 +54,7 @@ lacks_no_equals (b ∷ bs) h = (h 0 (grind (arith, common_steps)), lacks_no_equa
 abbrev pub item_of : Text → Text → Item
 item_of name v = record { name = name; value = v }
 
--- words begin with the item, where its value is of its form
+-- words begin with the item, if its value is of its form
 abbrev StartsItem : List Text → Item → List Text → Type 0
 StartsItem words item others = IsValue item.value → BeginWith words item others × IsItem item
 
@@ -71,7 +72,8 @@ in_two word name v rest long value =
 
 -- ---- from what is found to the items
 
--- The words are items with known names, each new and once, and what is found is what was held and then the items.
+-- The words are items with known names, each new and used once. What is found is what was held
+-- before, and then the items.
 pub record Reads (names : List Text) (held : List Row) (words : List Text) (found : List Row) : Type 0 where
   pub items : List Item
   pub are_items : ((item : Item) → IsOn items item → IsValue item.value) → AreItems words items
@@ -94,11 +96,11 @@ reads_more names held item words others found begins known new r = record {
 }
 
 module _ (command : Text) (names : List Text) where
-  -- of words at a place where nothing is pending
+  -- for words at a place where nothing is pending
   abbrev AfterReads : List Text → Type 0
   AfterReads words = (held found : List Row) → HasNoDashes words → outcome command names (after held) words ≡ Some found → Reads names held words found
 
-  -- of words behind an option's name
+  -- for words after an option's name
   abbrev NameReads : List Text → Type 0
   NameReads words = (held found : List Row) (name first : Text) → is_known names name ≡ true → long_of first ≡ Some (name, None) → HasNoDashes words
       → outcome command names (at held (Some (name, [])) (option name)) words ≡ Some found → Reads names held (first ∷ words) found
@@ -173,7 +175,7 @@ module _ (command : Text) (names : List Text) where
       subst (λ w. HasNoDashes w × (outcome command names (after held) w ≡ Some all)) (sym two)
       (ap₂ (λ a b. a || b) whole (ap₂ (λ a b. a || b) (value_whole item.value is.value) h), finds)
 
-  -- What a walk over the words of items finds, whose names are known, new and once.
+  -- What a walk finds in the words of items, if their names are known, new and used once.
   pub items_found : (items : List Item) (held : List Row) (words : List Text) → AreItems words items
       → ((item : Item) → IsOn items item → is_known names item.name ≡ true) → ((item : Item) → IsOn items item → 0 < length item.name)
       → AreDifferent items → ((item : Item) → IsOn items item → has_row item.name held ≡ false)

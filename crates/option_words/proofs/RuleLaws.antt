@@ -1,4 +1,5 @@
--- The options of a command as `clap` holds them: which are found by a name, and that none has a default, a number or a rule on another.
+-- The options of a command as `clap` holds them: which are found by a name. None has a default, a
+-- number or a rule about another option.
 use Rattle.std.proofs.Common.{◌≡◌, ◌∙◌, ◌&&◌, ◌||◌, eqb, not, ℕ, Bool, cond, true, false, refl, sym, ap, ap₂, List, [], ◌∷◌, Option, Some, None, map, fold, is_some}
 use Rattle.std.specs.List.{find, list_all, list_any}
 use Rattle.std.specs.Option.{option_map_or}
@@ -39,7 +40,7 @@ same_bytes text = (bytes_eq-Decides text text).1 refl
 pub equal_texts : (x y : Text) → bytes_eq x y ≡ true → x ≡ y
 equal_texts x y same = (bytes_eq-Decides x y).0 same
 
--- the name is one of the options'
+-- the name is one of the names of the options
 abbrev pub is_known : List Text → Text → Bool
 is_known names name = list_any (λ n. bytes_eq n name) names
 
@@ -116,7 +117,7 @@ pub no_check_fault : (command : Text) (names : List Text) (rows : List Row) → 
 no_check_fault command names rows =
     ap (λ b. check_kinds false false b) (none_of (λ a. a.required && not (is_given a.id rows)) (λ n. refl) names)
 
--- ---- the command is one of which the definitions of `clap` give the matches and the faults
+-- ---- the definitions of `clap` give the matches and the faults of this command
 
 in_order : (names : List Text) (k : ℕ) → list_any (is_early_multiple k) (rules names) ≡ false
 in_order names k = none_of (is_early_multiple k) (λ n. refl) names

@@ -1,4 +1,5 @@
--- One word in the walk of `clap`, at the command with its options: what it is refused for, and what it does.
+-- One word in the walk of `clap`, at the command with its options: why it is refused, and what it
+-- does.
 use Rattle.std.proofs.Common.{◌≡◌, ◌∙◌, ℕ, Bool, true, false, refl, ap, ap₂, List, [], ◌∷◌, Option, Some, None, codes, drop, if◌then◌else◌}
 use Rattle.std.specs.Option.{option_map_or}
 use Rattle.std.specs.Str.{bytes_eq, chars}
@@ -50,11 +51,11 @@ module _ (command : Text) (names : List Text) where
 
   -- ---- the kinds of words
 
-  -- the word is one that no option is
+  -- the word is refused as an unknown argument
   abbrev pub IsRefused : Text → Type 0
   IsRefused word = (rows : List Row) (pending : Option (Text × List Text)) → other_fault (shape command names) None word (holding rows pending) ≡ UnknownArgument ∷ []
 
-  -- the word is no flag
+  -- the word is not a flag
   pub record IsStray (word : Text) : Type 0 where
     pub passes : (rows : List Row) (pending : Option (Text × List Text)) → other_fault (shape command names) None word (holding rows pending) ≡ []
     pub met : (rows : List Row) (pending : Option (Text × List Text)) (waiting : Waiting) → subcommand_or_other (rules names) None waiting 1 word (holding rows pending)
@@ -74,7 +75,8 @@ module _ (command : Text) (names : List Text) where
         ∙ ap (λ s. short_or_plain (rules names) waiting word s (holding rows pending)) none;
   }
 
-  -- a word that is no long flag is refused where it is of short flags, and else stray
+  -- a word that is not a long flag is refused: as short flags if it has their form, otherwise as
+  -- stray
   short_kind : (word : Text) → bytes_eq word (codes "--") ≡ false → long_of word ≡ None → (s : Option Text) → short_of word ≡ s → WordKind word
   unfolding bundle_met flags_fault
   short_kind word whole long None none = stray (plain_stray word whole long none)
@@ -111,7 +113,7 @@ module _ (command : Text) (names : List Text) where
   long_kind word name (Some v) whole long true known = valued name v known long
   long_kind word name None whole long true known = named name known long
 
-  -- each word but `--` is of one of the kinds
+  -- each word except `--` is of one of the kinds
   pub word_kind : (word : Text) → bytes_eq word (codes "--") ≡ false → WordKind word
   word_kind word whole = go (long_of word) refl
     where

@@ -18,7 +18,7 @@ in_one_word item = codes "--" ++ (item.name ++ 61 ∷ item.value)
 abbrev pub name_word : Item → List ℕ
 name_word item = codes "--" ++ item.name
 
--- Words begin with this item, in one word or in two, and then come the others.
+-- The words begin with this item, in one word or in two, and the others follow.
 abbrev pub BeginWith : List (List ℕ) → Item → List (List ℕ) → Type 0
 BeginWith words item others =
     (words ≡ in_one_word item ∷ others) ⊎ (words ≡ name_word item ∷ (item.value ∷ others))
@@ -28,12 +28,12 @@ abbrev pub HasNoEquals : List ℕ → Type 0
 HasNoEquals [] = Unit {0}
 HasNoEquals (b ∷ bs) = (b ≢ 61) × HasNoEquals bs
 
--- it is not empty and does not begin with `-` (45)
+-- The text is not empty and does not begin with `-` (45).
 abbrev pub IsValue : List ℕ → Type 0
 IsValue [] = ⊥
 IsValue (b ∷ bs) = b ≢ 45
 
--- a name and a value of their form: so a word is split at its first `=`
+-- A name and a value of their form. With this form, a word is split at its first `=`.
 pub record IsItem (item : Item) : Type 0 where
   pub name : HasNoEquals item.name
   pub value : IsValue item.value
@@ -44,14 +44,14 @@ AreItems words [] = words ≡ []
 AreItems words (item ∷ items) =
     (others : List (List ℕ)) × BeginWith words item others × IsItem item × AreItems others items
 
--- no two items have the same name
+-- No two items have the same name.
 abbrev pub AreDifferent : List Item → Type 0
 AreDifferent [] = Unit {0}
 AreDifferent (item ∷ items) =
     ((other : Item) → IsOn items other → other.name ≢ item.name) × AreDifferent items
 
--- The words are a command and items, whose names are among the command's options, in any order,
--- each at most once.
+-- The words are a command and items in any order. The name of each is one of the command's options,
+-- and each name occurs at most once.
 pub record AskFor (words : List (List ℕ)) (command : List ℕ) (options : List (List ℕ))
     (items : List Item) : Type 0 where
   pub rest : List (List ℕ)
@@ -60,24 +60,24 @@ pub record AskFor (words : List (List ℕ)) (command : List ℕ) (options : List
   pub known : (item : Item) → IsOn items item → IsOn options item.name
   pub once : AreDifferent items
 
--- the value that items give the option of this name, None where none of them has the name
+-- the value that items give the option of this name, None if none of them has the name
 abbrev pub value_of : List Item → List ℕ → Option (List ℕ)
 value_of items name =
     option_map (λ item. item.value) (find (λ item. bytes_eq item.name name) items)
 
--- The words are a command with items, and these are the values of its options, in the order of the
--- options: None is the value of an option that is not among the items.
+-- The words are a command with items. These are the values of its options, in the order of the
+-- options, with None for an option that is not among the items.
 pub record Gives (words : List (List ℕ)) (command : List ℕ) (options : List (List ℕ))
     (values : List (Option (List ℕ))) : Type 0 where
   pub items : List Item
   pub ask : AskFor words command options items
   pub values_are : values ≡ map (value_of items) options
 
--- the words are a command whose one option is required, and give that option this value
+-- The words are a command with one option, which is required, and give it this value.
 abbrev pub GiveOne : List (List ℕ) → List ℕ → List ℕ → List ℕ → Type 0
 GiveOne words command option value = Gives words command (option ∷ []) (Some value ∷ [])
 
--- no name is empty
+-- No name is empty.
 abbrev pub are_names : List (List ℕ) → Bool
 are_names = list_all (λ name. nat_lt 0 (length name))
 

@@ -6,11 +6,12 @@ use Rattle.clap.specs.Simple.{App, matches_of, new_rule, new_shape}
 use Rattle.clap.specs.Walk.{Row, Rule, first_of}
 use Rattle.clap.specs.declared.builder.action.ArgAction.TheVariants.{Set}
 
--- an option, by its long name alone
+-- an option, with its long name only
 abbrev pub option_rule : List ℕ → Rule
 option_rule option = record (new_rule option) { long = Some option; action = Some Set }
 
--- the command with these options and no flag for help or the version; it is not among the words
+-- the command with these options and no flag for help or the version; its name is not among the
+-- words
 abbrev pub option_app : List ℕ → List (List ℕ) → App
 option_app command options = record {
   top = record (new_shape command) {
@@ -22,7 +23,7 @@ option_app command options = record {
   subs = [];
 }
 
--- what was found, where there is no fault
+-- what was found, if there is no fault
 abbrev pub unless_fault : Kinds → List Row → Option (List Row)
 unless_fault [] found = Some found
 unless_fault (kind ∷ kinds) found = None
@@ -31,7 +32,7 @@ unless_fault (kind ∷ kinds) found = None
 abbrev pub values_in : List (List ℕ) → List Row → List (Option (List ℕ))
 values_in options found = map (λ option. first_of option found) options
 
--- the values that a parse of the words after the command finds, None where it refuses them
+-- the values that a parse of the words after the command finds, None if it refuses them
 unfoldable pub parsed : List ℕ → List (List ℕ) → List (List ℕ) → Option (List (Option (List ℕ)))
 parsed command options words =
     let app = option_app command options in

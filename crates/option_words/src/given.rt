@@ -4,8 +4,8 @@ ghost use Rattle.option_words.specs.Options.{value_at, values_of};
 
 use std::marker::Model;
 
-/// The value of each option of a command, in the order of the options: None where an option is
-/// not given.
+/// The value of each option of a command, in the order of the options. An option that is not given
+/// has `None`.
 #[derive(Drop)]
 pub struct GivenOptions<'a> {
     values: Vec<Option<&'a str>>,
@@ -24,7 +24,7 @@ impl<'a> GivenOptions<'a> {
         GivenOptions { values }
     }
 
-    /// The value of the option at this place. None where the option is not given, and past the
+    /// The value of the option at this place. It is `None` if the option is not given, and past the
     /// last option.
     pub fn value(&self, index: usize) -> Option<&'a str>
         ensures { option_map (λ text. text.now) result ≡ value_at self.now index }

@@ -25,7 +25,7 @@ use crate::given::GivenOptions;
 use crate::parse::parsed_values;
 use std::alloc::{AllocError, Global};
 
-/// Whether the word is a value: not empty, and it does not begin with `-`.
+/// Whether the word is a value: it is not empty and does not begin with `-`.
 fn is_value(word: &str) -> bool
     ensures { IsTrue result ↔ IsValue word.now }
 {
@@ -35,26 +35,28 @@ fn is_value(word: &str) -> bool
     }
 }
 
-/// Whether each word that is there is a value.
+/// Whether each word that is present is a value.
 fn are_values(words: &[Option<&str>]) -> bool
     ensures { IsTrue result ↔ All (λ word. IfSome word (λ text. IsValue text.now)) words.now }
 {
     words.iter().all(|word| word.is_none_or(is_value))
 }
 
-/// Whether one of the words is `--`, alone.
+/// Whether one of the words is exactly `--`.
 fn has_dashes(words: &[String]) -> bool
     ensures { result ≡ list_any (λ word. bytes_eq (string_bytes word) (codes "--")) words.now }
 {
     words.iter().any(|word| word.as_str() == "--")
 }
 
-/// The value of each of a command's options, in the order of `options`, where the words are of
-/// this form: the command, and then in any order, for each option that is given, `--option=value`
-/// or `--option value`. A value is not empty and does not begin with `-`. The options' names are
-/// not empty. None where the words are not of this form: at another command, another or an
-/// abbreviated option, a second use of one, a name with no value, or any further word. An
-/// `AllocError` where memory runs out.
+/// The value of each of a command's options, in the order of `options`, if the words have this
+/// form. The first word is the command. For each option that is given, `--option=value` or
+/// `--option value` follows, in any order. A value is not empty and does not begin with `-`. The
+/// names of the options are not empty.
+///
+/// It is `None` if the words do not have this form: at another command, another or an abbreviated
+/// option, a second use of one, a name without a value, or any further word. The only error is
+/// running out of memory.
 pub fn options_of<'a>(
     alloc: Global,
     words: &'a [String],
@@ -71,23 +73,23 @@ pub fn options_of<'a>(
     let Some((first, rest)) = words.split_first() else {
         return Ok(None);
     };
-    // `clap` passes over a last `--`, which is no item
+    // `clap` ignores a last `--`, which is not an item
     if first.as_str() != command || has_dashes(rest) {
         return Ok(None);
     }
     let Some(values) = parsed_values(alloc, rest, command, options)? else {
         return Ok(None);
     };
-    // it also takes a value that is empty or, in one word with the name, begins with `-`
+    // it also accepts a value that is empty or, in one word with the name, begins with `-`
     if !are_values(values.as_slice()) {
         return Ok(None);
     }
     Ok(Some(GivenOptions::new(values)))
 }
 
-/// The value of the one option of a command, which is required, where the words are of the form
-/// that `options_of` reads. None where they are not, and where they do not give the option. An
-/// `AllocError` where memory runs out.
+/// The value of the one option of a command, which is required, if the words have the form that
+/// `options_of` reads. It is `None` if they do not have it or do not give the option. The only
+/// error is running out of memory.
 pub fn one_option<'a>(
     alloc: Global,
     words: &'a [String],

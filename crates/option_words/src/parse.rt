@@ -10,7 +10,7 @@ use clap::error::ErrorKind;
 use clap::{Arg, ArgAction, ArgMatches, Command};
 use std::alloc::{AllocError, Global};
 
-/// The option, by its long name alone.
+/// The option, with its long name only.
 fn option_arg<'a>(alloc: Global, option: &'a str) -> Arg<'a>
     ensures rule { rule_of result ≡ option_rule option.now }
     ensures local { result.global ≡ false }
@@ -53,8 +53,8 @@ fn found_values<'a>(
     Ok(values)
 }
 
-/// What `clap` finds as the value of each option in the words after the command. None where it
-/// refuses the words; an `AllocError` where memory runs out.
+/// The value that `clap` finds for each option in the words after the command. It is `None` if
+/// `clap` refuses the words. The only error is running out of memory.
 pub(crate) fn parsed_values<'a>(
     alloc: Global,
     words: &'a [String],

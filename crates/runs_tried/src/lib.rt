@@ -1,5 +1,5 @@
-//! The program's one top call, tried: commands, matches, cups and tournaments over sources, sinks,
-//! clocks and programs in memory, and sessions with their searches.
+//! Tests of the program's one top call. There are commands, matches, cups and tournaments over
+//! sources, sinks, clocks and programs in memory, and sessions with their searches.
 #![tactic(auto)]
 
 #[cfg(test)]

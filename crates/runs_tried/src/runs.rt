@@ -16,7 +16,7 @@ use std::process::Abort;
 use std::thread::Threads;
 use tournament_edge::StepClocks;
 
-/// Runs these words over the sides that are set up so, by this clock and over these programs.
+/// Runs these words over the sides with this setting, by this clock and over these programs.
 fn play<R: Threads + Sync, C: Clock>(
     rt: &R,
     alloc: Global,
@@ -45,8 +45,8 @@ fn play<R: Threads + Sync, C: Clock>(
     })
 }
 
-/// Runs in memory, with no program and by a clock that goes on by a millisecond at each reading,
-/// and compares the status and all that was written.
+/// Runs in memory, with no program and a clock that advances by a millisecond at each reading. It
+/// compares the status and all that was written.
 fn expect_run<R: Threads + Sync + Abort>(
     rt: &R,
     alloc: Global,

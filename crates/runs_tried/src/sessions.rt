@@ -22,7 +22,7 @@ use turns::{CountedSink, TurnSource};
 
 const GREETING: &str = "id HiveReferee 1.0\nMosquito;Ladybug;Pillbug\nok\n";
 
-/// Runs these words over these two sides. The clock goes on by a millisecond at each reading.
+/// Runs these words over these two sides. The clock advances by a millisecond at each reading.
 fn outcome_of<R: Threads + Sync, S: Source, K: Sink>(
     rt: &R,
     alloc: Global,
@@ -73,7 +73,7 @@ fn expect_run<R: Threads + Sync + Abort>(
     Ok(())
 }
 
-/// The same of the words that ask for a session.
+/// The same for the words that ask for a session.
 fn expect_uhp<R: Threads + Sync + Abort>(
     rt: &R,
     alloc: Global,
@@ -84,7 +84,7 @@ fn expect_uhp<R: Threads + Sync + Abort>(
     expect_run(rt, alloc, &["uhp"], setting, status, written)
 }
 
-/// Gives the lines, which these texts make, in pieces of one byte, of seven, and without bound, and
+/// Gives the lines, which these texts make, in pieces of one byte, of seven, and of any size. It
 /// compares all that is written with the greeting and these replies.
 fn expect_session<R: Threads + Sync + Abort>(
     rt: &R,

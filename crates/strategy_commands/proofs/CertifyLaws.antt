@@ -1,4 +1,4 @@
--- What a game that was read keeps, and what is written of it.
+-- What a game that was read keeps, and what is written for it.
 use Rattle.std.proofs.Common.{◌≡◌, ◌≤◌, ℕ, ap, sym, ◌∙◌, Some}
 use Rattle.hive_model.specs.declared.places.Move.{Move}
 use Rattle.hive_model.specs.Courses.{Course, position}

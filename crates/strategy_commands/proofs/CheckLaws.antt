@@ -66,7 +66,7 @@ lines-true version p d m v rest reached inner h = at (nat_eq version 1) h
     at true e = walk-true p d m v (map index_in rest) (checked p d m v (map index_in rest)) inner refl e
     at false e = cited-true p d m v (map token_in rest) (cited_checked p d m v (map token_in rest)) reached inner refl e
 
--- the text of the claimed move denotes one, which is the best one, and is worth what is claimed
+-- the text of the claimed move denotes one, which is the best one and has the claimed value
 abbrev Claims : Head → Type 0
 Claims head = (m : Move) × (claimed_move head ≡ Ok m) × (best (end_of head) head.depth ≡ Some m) × (value (end_of head) head.depth ≡ head.value)
 
@@ -93,7 +93,7 @@ accepted-true = λ ls h. go ls (head_of 2 ls) refl (sym (verdict-is 5 (head_of 2
 
 -- ---- what holds is accepted
 
--- of lines with a claim those behind the head are judged
+-- of lines with a claim, those after the head are judged
 claim-judged : (ls : List Line) (version : ℕ) (head : Head) (m : Move) → ClaimsIn ls version head m
     → verdict ls ≡ of_lines version (end_of head) head.depth m head.value (drop 5 ls)
 claim-judged ls version head m h =

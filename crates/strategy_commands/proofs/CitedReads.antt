@@ -1,4 +1,4 @@
--- What was read of an input where a check of tokens ends.
+-- What was read of an input when a check of tokens ends.
 use Rattle.std.proofs.Common.{◌≡◌, ◌≤◌, ℕ, ◌+◌, true, List, arith}
 use Rattle.std.specs.Prelude.{Ok}
 use Rattle.io_edge.specs.Outside.{Told}
@@ -13,7 +13,7 @@ use Rattle.strategy_verdicts.specs.Reading.{WasReadAs}
 use Rattle.strategy_verdicts.proofs.JudgeLaws.{most-read, refused-read}
 use Rattle.strategy_commands.specs.Verdicts.{of_why}
 
--- what was read where this is the first fault of the tokens
+-- what was read if this is the first fault of the tokens
 pub fault-read-as : (head place lines : ℕ) (why : WhyCited) (text : List ℕ) (rest : Told) (reader : Reading) → lines ≤ place + cited_looked_at why → HasRead text rest reader (head + lines) → OnShortCited why (reader.finished ≡ true)
     → WasReadAs head (Ok (of_why place why)) text rest
 fault-read-as head place lines CitedNoMove text rest reader few r stops = refused-read head place lines NoSuchMove text rest reader few r stops

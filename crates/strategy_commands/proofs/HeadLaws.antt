@@ -18,7 +18,7 @@ use Rattle.strategy_text.specs.declared.head.Head.{Head}
 use Rattle.strategy_text.specs.Text.{HeadRead, and_then, depth_at, field_in, game_in, head_of, move_at, or_bad, or_bad_game, then_at, value_at, version_at}
 use Rattle.strategy_text.proofs.TextLaws.{after_depth, after_game, after_text, after_version, head-begins, head_is}
 
--- a line of a head has its field, and the head is what is made of it
+-- a line of a head has its field, and the head is made of it
 record HasField {A : Type 0} (at : List ℕ → Option A) (next : A → HeadRead) (head : Head) : Type 0 where
   field : A
   line : List ℕ
@@ -34,7 +34,7 @@ has-field {A} n at (Text line ∷ rest) next head e = go (at line) refl e
     go None is h = cc
     go (Some a) is h = record { field = a; line = line; found = is; goes_on = h }
 
--- the same of the line of the game
+-- the same for the line of the game
 record HasGame (next : Parsed → HeadRead) (head : Head) : Type 0 where
   game : Parsed
   line : List ℕ

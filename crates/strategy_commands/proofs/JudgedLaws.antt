@@ -1,4 +1,4 @@
--- What is judged of lines that are worth the same.
+-- The judgements of lines that have the same verdict.
 use Rattle.std.proofs.Common.{◌≡◌, ℕ, Bool, true, false, List, refl, sym, ap, subst, ◌∙◌}
 use Rattle.std.specs.Prelude.{Result, if◌then◌else◌}
 use Rattle.io_edge.specs.Outside.{Aside}
@@ -34,7 +34,7 @@ pub if-later : (b : Bool) (v w : TextVerdict) → b ≡ false → w ≡ (if b th
 if-later true v w e = cc
 if-later false v w e = refl
 
--- the claim of a head, as one of the game under way
+-- the claim of a head, as one of the game in progress
 pub claim-lines : (head : Head) (c : Course) (claim : Claim) → Claims head c claim → (left : List Line) → of_lines head.version (position c) claim.depth claim.best claim.value left ≡ of_claim head left
 claim-lines head c claim is left =
     let goes : is_over (end_of head) ≡ false = sym (ap is_over (ends-there head c is.kind is.made)) ∙ is.may_be.inner.open_ in

@@ -30,12 +30,12 @@ use Rattle.strategy_lemmas.proofs.ShortLaws.{written-ends}
 use Rattle.strategy_lemmas.proofs.OutcomeLaws.{ends-as}
 use Rattle.strategy_text.specs.Text.{index_in}
 
--- a token that stands on a line
+-- a token that is on a line
 abbrev pub IsLow : Token → Type 0
 IsLow (Index i) = i ≤ 5487
 IsLow (Cite n) = n ≤ 65535
 
--- an item that is no index, or one that stands on a line
+-- an item that is not an index, or one that is on a line
 abbrev IsLowItem : Option ℕ → Type 0
 IsLowItem None = ⊤
 IsLowItem (Some i) = i ≤ 5487
@@ -142,7 +142,7 @@ indices-left (Left t) s h = (t, refl)
 indices-left (Fault why n) s h = cc
 indices-left (Halt n) s h = cc
 
--- ---- of the lines of a text
+-- ---- for the lines of a text
 
 line-low : (l : Line) (o : Option ℕ) → index_in l ≡ o → IsLowItem o
 line-low l None e = tt

@@ -59,19 +59,19 @@ module _ (p : Position) (d : ℕ) (m : Move) (v : ℤ) (items : List (Option ℕ
 
 -- ---- a head
 
--- the verdict on a claim of the first version whose move is read
+-- the verdict on a claim of the first version, with its move read
 pub claim-items : (head : Head) (rest : List Line) (m : Move) → head.version ≡ 1 → is_over (end_of head) ≡ false → claimed_move head ≡ Ok m → of_claim head rest ≡ of_items (end_of head) head.depth m head.value (map index_in rest)
 claim-items head rest m first goes denotes =
     if-open (is_over (end_of head)) (of_move head.version (end_of head) head.depth (claimed_move head) head.value rest) goes
     ∙ ap (λ r. of_move head.version (end_of head) head.depth r head.value rest) denotes
     ∙ ap (λ n. of_lines n (end_of head) head.depth m head.value rest) first
 
--- the same of the game under way
+-- the same for the game in progress
 pub course-items : (head : Head) (rest : List Line) (c : Course) (claim : Claim) → head.version ≡ 1 → Claims head c claim → of_items (position c) claim.depth claim.best claim.value (map index_in rest) ≡ of_claim head rest
 course-items head rest c claim first is =
     ap (λ n. of_lines n (position c) claim.depth claim.best claim.value rest) (sym first) ∙ claim-lines head c claim is rest
 
--- what is made of a claim of a game of this type and these moves
+-- the result for a claim about a game of this type and these moves
 abbrev MigratesFrom : List Line → Move → Taken → AnyTold → AnyTold → GameType → List Move → ℕ → ℤ → Type 0
 MigratesFrom rest m r a b t ms d v =
     Writes (of_items (replay (opening t) ms) d m v (map index_in rest)) (OfItems (replay (opening t) ms) d m v (map index_in rest) (head_text 2 t ms d m v)) r a b
@@ -90,7 +90,7 @@ head-writes head rest m r a b first goes denotes h =
       text_is = is.2 ∙ ap (λ (s : List ℕ). head_text 2 head.game_type head.moves head.depth m head.value ++ s) is.1.lines_are;
     }) h
 
--- of a game under way that is the head's, and its claim
+-- for a game in progress that is the head's, and its claim
 pub course-writes : (head : Head) (rest : List Line) (c : Course) (claim : Claim) (r : Taken) (a b : AnyTold) → head.version ≡ 1 → Claims head c claim → MigratesFrom rest claim.best r a b c.game_type c.made claim.depth claim.value →
     Writes (of_claim head rest) (MigratesHead head rest) r a b
 course-writes head rest c claim r a b first is h =
@@ -105,7 +105,7 @@ pub all-writes : (ls : List Line) (head : Head) (r : Taken) (a b : AnyTold) → 
 all-writes ls head r a b e h =
     writes-as (of_claim head (drop 5 ls)) (first_verdict ls) (MigratesHead head (drop 5 ls)) (MigratesTo ls) r a b (sym (verdict-is 5 (head_of 1) of_claim ls (Ok head) e)) (λ text is. record { head = head; has_head = e; migrates = is }) h
 
--- where the move is not legal
+-- if the move is not legal
 no-place : (m : Move) (ms : List Move) (b : Bool) → (IsTrue b ↔ IsOn ms m) → b ≡ false → (o : Option ℕ) → place_of m ms ≡ o → None ≡ o
 no-place m ms b legal no_ None e = refl
 no-place m ms b legal no_ (Some k) e = let yes_ : b ≡ true = legal.1 (on-at ms k m (place-here m ms k e)) in cc
@@ -115,7 +115,7 @@ illegal-judged p d m v items b legal no_ =
     let none : None ≡ place_of m (moves p) = no-place m (moves p) b legal no_ (place_of m (moves p)) refl in
     ap (of_walk 5) (certificate-none index_rules index_sight p d m v (steps items 0) none)
 
--- where the text was judged before anything was written
+-- if the text was judged before anything was written
 pub judged-writes : (v : TextVerdict) (Is : List ℕ → Type 0) (judged : Result TextVerdict Unread) (r : Taken) (a b : AnyTold) → r ≡ taken_as judged → Judges judged v → Writes v Is r a b
 judged-writes v Is judged r a b taken h = subst (λ (t : Taken). Writes v Is t a b) (sym taken) (by judged h)
   where
@@ -153,7 +153,7 @@ read-causes (Halted Failed) before now full h = record { later = h.later; rose =
 read-causes (Halted Full) before now full h = record { later = h.later; rose = λ e. cc; same = λ no. h.same (λ f. cc); closed = λ e. h.closed refl }
 read-causes Memory before now full h = record { later = h.later; rose = λ e. cc; same = λ no. h.same (λ f. f); closed = λ e. cc }
 
--- what follows of the value, if there is one
+-- what follows from the value, if there is one
 pub if-some : {X : Type 0} (o : Option X) (P Q : X → Type 0) → IfSome o P → ((x : X) → P x → Q x) → IfSome o Q
 if-some None P Q h f = tt
 if-some (Some x) P Q h f = f x h

@@ -14,7 +14,7 @@ use Rattle.strategy_commands.specs.declared.migrating.Taken.{Taken}
 use Rattle.strategy_commands.specs.declared.migrating.Taken.TheVariants.{Written, Cut, Missed}
 use Rattle.strategy_commands.specs.Migrating.{MigrateRun, MigratesTo, Writes, first_verdict, judged_of}
 
--- what is told of the input where a text was taken so
+-- what is known of the input for a text with this result
 abbrev pub IsTaken : Taken → Sides → Told → Type 0
 IsTaken taken before now =
     WhereTold before.rest (λ input. Writes (first_verdict (lines input)) (MigratesTo (lines input)) taken before.written now)
@@ -32,7 +32,7 @@ cut-run before after taken read = λ input told.
     let h = taken input told in
     inl (record { text = h.0; is_text = h.1; n = h.2; cut = h.3; wrote = h.4; was_read = read input told })
 
--- where a read has failed the lines that were read do not decide
+-- if a read failed, the lines that were read do not decide
 abbrev pub IsBroken : Taken → Sides → Told → Type 0
 IsBroken taken before rest = WhereTold before.rest (λ input. taken ≡ Missed UnreadFault → IsUndecided 5 (first_verdict (lines input)) input rest)
 

@@ -1,4 +1,4 @@
--- Certificates of the first version that hold become ones that cite.
+-- Certificates of the first version that hold are made into ones that cite.
 use Rattle.std.proofs.Common.{◌≡◌, ◌⊎◌, ℕ, List, drop, refl, ap, ◌∙◌, inl, inr}
 use Rattle.std.specs.Prelude.{Ok}
 use Rattle.io_edge.specs.Outside.{behind}

@@ -1,4 +1,4 @@
--- Items whose walk as a citing certificate comes to its end are tokens.
+-- If the walk of items as a citing certificate comes to its end, the items are tokens.
 use Rattle.std.proofs.Common.{◌≡◌, ℕ, suc, ◌+◌, ◌-◌, true, List, [], ◌∷◌, ◌++◌, map, take, drop, refl, sym, ap, subst, ◌∙◌, ℤ, pos, neg_ℤ, ◌-ℤ◌, Option, Some, None}
 use Rattle.std.specs.Prelude.{Bool, cond, false, slice_get}
 use Rattle.hive_model.specs.declared.places.Move.{Move}
@@ -21,7 +21,7 @@ use Rattle.strategy_lemmas.specs.declared.tokens.WhyCited.TheVariants.{BadCite, 
 use Rattle.strategy_lemmas.specs.Cited.{CitedSteps, cited_steps, cites, take_token, cite_rules, cited_checked, HoldsCited}
 use Rattle.strategy_lemmas.proofs.CitedLaws.{cites-below, ends-is}
 
--- these tokens stand in front of what is left
+-- these tokens come before what is left
 pub record TakesFrom (s t : CitedSteps) : Type 0 where
   pub tokens : List Token
   pub front : s.left ≡ map (λ t. Some t) tokens ++ t.left
@@ -69,7 +69,7 @@ takes-one s t (token, e) = record { tokens = token ∷ []; front = e }
 abbrev Taken : Position → ℕ → Limit → CitedSteps → CitedSteps → Type 0
 Taken p e c s t = TakesFrom s t
 
--- what is kept beside changes nothing of what is left
+-- what is stored besides does not change what is left
 kept-left : (s t : CitedSteps) (p : Position) (e : ℕ) (x : ℤ) → cite_rules.keep p e x s ≡ t → TakesFrom s t
 kept-left s t p e x kept = record { tokens = []; front = ap (λ (u : CitedSteps). u.left) kept }
 

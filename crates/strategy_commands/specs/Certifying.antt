@@ -1,4 +1,4 @@
--- What is written of a game as its certificate.
+-- What is written as the certificate of a game.
 use Rattle.std.specs.Prelude.{◌≡◌, ℕ, List, Some}
 use Rattle.hive_model.specs.declared.places.Move.{Move}
 use Rattle.hive_model.specs.Minimax.{best, value}
@@ -9,17 +9,17 @@ use Rattle.command_runs.specs.OneGame.{last_position}
 use Rattle.command_runs.specs.GameRun.{Answers, GameRun}
 use Rattle.command_runs.specs.declared.status.Status.{Status}
 
--- the text is the certificate that this is the game's best move at a depth, and of what that is
--- worth
+-- The text is the certificate that this is the game's best move at a depth, with the value of that
+-- move.
 pub record Certifies (depth : ℕ) (game : Parsed) (text : List ℕ) (m : Move) : Type 0 where
   pub is_best : best (last_position game) depth ≡ Some m
   pub is_text :
       text ≡ certificate game.game_type game.moves depth m (value (last_position game) depth)
 
--- a game is answered by the certificate of its best move
+-- A game is answered by the certificate of its best move.
 abbrev pub certificates_of : ℕ → Answers
 certificates_of depth game text = (m : Move) × Certifies depth game text m
 
--- what was written and read where `certify` of this depth ends with this status
+-- what was written and read if `certify` with this depth ends with this status
 abbrev pub CertifyRun : ℕ → Status → Sides → Sides → Type 0
 CertifyRun depth = GameRun (certificates_of depth)

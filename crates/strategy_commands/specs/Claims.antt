@@ -1,4 +1,4 @@
--- The claim that a head makes, and what is judged of a text whose head makes none.
+-- The claim of a head, and what is judged of a text if its head has none.
 use Rattle.std.specs.Prelude.{◌≡◌, ◌≢◌, ℕ, List, Result, Ok, Err}
 use Rattle.io_edge.specs.Outside.{Told}
 use Rattle.hive_model.specs.Courses.{Course}
@@ -15,8 +15,8 @@ use Rattle.strategy_verdicts.specs.Reading.{Judges, WasReadAs}
 use Rattle.strategy_walks.specs.Claims.{IsClaimOf}
 use Rattle.strategy_commands.specs.Verdicts.{claimed_move, of_claim}
 
--- The game under way is that of the head, and goes on. The claim can be judged of it; it has the
--- depth and the value of the head, and the move that the text of the head denotes.
+-- The game in progress is that of the head, and is not over. The claim can be judged of it. It has
+-- the depth and the value of the head, and the move that the text of the head denotes.
 pub record Claims (head : Head) (course : Course) (claim : Claim) : Type 0 where
   pub kind : course.game_type ≡ head.game_type
   pub made : course.made ≡ head.moves
@@ -25,8 +25,8 @@ pub record Claims (head : Head) (course : Course) (claim : Claim) : Type 0 where
   pub value : claim.value ≡ head.value
   pub denotes : claimed_move head ≡ Ok claim.best
 
--- This is judged of a text by its head alone, whatever lines are behind it. It is not accepted, no
--- read has failed, and no line was read behind the head.
+-- This is judged of a text by its head alone, whatever lines are after it. It is not acceptance, no
+-- read failed, and no line was read after the head.
 pub record NoClaim (head : Head) (judged : Result TextVerdict Unread) : Type 0 where
   pub judges : (rest : List Line) → Judges judged (of_claim head rest)
   pub refuses : judged ≢ Ok Accepted

@@ -1,4 +1,4 @@
--- What is written where a certificate is made into one that cites.
+-- What is written if a certificate is made into one that cites.
 use Rattle.std.specs.Prelude.{◌≡◌, ◌⊎◌, ℕ, ◌<◌, false, ⊤, List, map, drop, ◌++◌, length, take, ℤ, Option, Some, Result, Ok, Err}
 use Rattle.io_edge.specs.Outside.{Aside, HasCause, Told, behind}
 use Rattle.hive_model.specs.declared.places.Move.{Move}
@@ -28,13 +28,14 @@ use Rattle.strategy_commands.specs.declared.migrating.Taken.{Taken}
 use Rattle.strategy_commands.specs.declared.migrating.Taken.TheVariants.{Written, Cut, Judged, Missed}
 use Rattle.strategy_commands.specs.Verdicts.{claimed_move, end_of, of_claim}
 
--- the verdict on the lines of a text whose version is the first
+-- the verdict on the lines of a text of the first version
 abbrev pub first_verdict : List Line → TextVerdict
 first_verdict = text_verdict 5 (head_of 1) of_claim
 
--- What is written of a head and the lines behind it, where the game is not over and the lines are
--- indices that hold of the claim: the head of the second version, with the game and the move in
--- their written forms, and the tokens that cite wherever something that was shown serves.
+-- What is written for a head and the lines after it. The game must not be over, and the lines must
+-- be indices that hold for the claim. The text is the head of the second version, with the game and
+-- the move in their written forms. Then come the tokens, which cite wherever something shown before
+-- serves.
 pub record MigratesHead (head : Head) (rest : List Line) (text : List ℕ) : Type 0 where
   pub best : Move
   pub indices : List ℕ
@@ -46,14 +47,15 @@ pub record MigratesHead (head : Head) (rest : List Line) (text : List ℕ) : Typ
       text ≡ head_text 2 head.game_type head.moves head.depth best head.value
       ++ token_lines (short (end_of head) head.depth best head.value indices)
 
--- the same of the lines of a text
+-- The same for the lines of a text.
 pub record MigratesTo (ls : List Line) (text : List ℕ) : Type 0 where
   pub head : Head
   pub has_head : head_of 1 ls ≡ Ok head
   pub migrates : MigratesHead head (drop 5 ls) text
 
--- What was written, and how it ended: such a text, or its first n bytes and not all where a write
--- failed; or nothing, where this is the verdict, or the input could not be read.
+-- What was written, and how it ended. Such a text was written, or, if a write failed, its first n
+-- bytes and not all. Otherwise nothing was written: this is the verdict, or the input could not be
+-- read.
 abbrev pub Writes : TextVerdict → (List ℕ → Type 0) → Taken → Told → Told → Type 0
 Writes verdict Is Written before after =
     (text : List ℕ) × Is text × (after ≡ behind before text)
@@ -63,7 +65,8 @@ Writes verdict Is Cut before after =
 Writes verdict Is (Judged v) before after = verdict ≡ v
 Writes verdict Is (Missed unread) before after = ⊤
 
--- nothing was written where it is neither written nor cut off, and what was judged was not accepted
+-- If the result is neither written nor cut off, nothing was written. What was judged was not
+-- accepted.
 abbrev pub WritesLate : Taken → Told → Told → Type 0
 WritesLate Written before after = ⊤
 WritesLate Cut before after = ⊤
@@ -75,27 +78,28 @@ WritesLate (Judged (BadGame fault)) before after = after ≡ before
 WritesLate (Judged GameOver) before after = after ≡ before
 WritesLate (Missed unread) before after = after ≡ before
 
--- how a text is taken of which this is judged before anything is written
+-- the result for a text with this judgement before anything is written
 abbrev pub taken_as : Result TextVerdict Unread → Taken
 taken_as (Ok v) = Judged v
 taken_as (Err unread) = Missed unread
 
--- the text of a head and of the tokens of these items
+-- The text is that of a head and of the tokens of these items.
 abbrev pub OfItems : Position → ℕ → Move → ℤ → List (Option ℕ) → List ℕ → List ℕ → Type 0
 OfItems p d m v items head text =
     (rest : List ℕ) × Shortens p d m v items rest × (text ≡ head ++ rest)
 
--- what was judged of a text: what is written was accepted
+-- what was judged of a text: if it was written, it was accepted
 abbrev pub judged_of : Taken → Result TextVerdict Unread
 judged_of Written = Ok Accepted
 judged_of Cut = Ok Accepted
 judged_of (Judged v) = Ok v
 judged_of (Missed unread) = Err unread
 
--- How the lines to come were taken where so many lines were read at most: what was written of them,
--- where they are told, by their worth and the texts that they make; and that nothing was written
--- else. Why the input could not be read or the text not be written, and what was then read of the
--- input; where a read has failed the lines that were read do not decide.
+-- The result for the lines to come, if at most this number of lines was read. If the lines are
+-- known, it says what was written, by the verdict on them and the texts that they make. In all
+-- other cases nothing was written. It says why the input could not be read or the text not be
+-- written, and what was then read of the input. If a read failed, the lines that were read do not
+-- decide.
 pub record MigratesAhead (worth : Judgement) (texts : List Line → List ℕ → Type 0) (most : ℕ)
     (taken : Taken) (reader : Reading) (source sink source' sink' : Aside) : Type 0 where
   pub told : (left : List Line) → ahead_of reader source.bytes ≡ Some left
@@ -109,14 +113,14 @@ pub record MigratesAhead (worth : Judgement) (texts : List Line → List ℕ →
       → HasRead text source.bytes reader most → taken ≡ Missed UnreadFault
       → IsUndecided 5 (worth left) text source'.bytes
 
--- the text that the lines of the input make was written, and the input was read to its end
+-- The text that the lines of the input make was written, and the input was read to its end.
 pub record WroteMigration (input : List ℕ) (before after : Sides) : Type 0 where
   pub text : List ℕ
   pub is_text : MigratesTo (lines input) text
   pub wrote : after.written ≡ behind before.written text
   pub was_read : IsAllRead input after.rest
 
--- of this text the first n bytes were written, and not all
+-- The first n bytes of this text were written, and not all.
 pub record CutMigration (input : List ℕ) (before after : Sides) : Type 0 where
   pub text : List ℕ
   pub is_text : MigratesTo (lines input) text
@@ -125,10 +129,10 @@ pub record CutMigration (input : List ℕ) (before after : Sides) : Type 0 where
   pub wrote : after.written ≡ behind before.written (take n text)
   pub was_read : IsAllRead input after.rest
 
--- What was written and read where `migrate` ends with this status: the text that the lines of the
--- input make, or what a check of the first version writes of them. Where a read has failed, the
--- limit is reached or memory is wanting, nothing was written; a read has failed only before the
--- lines that decide were read.
+-- What was written and read if `migrate` ends with this status. It is the text that the lines of
+-- the input make, or what a check of the first version writes for them. If a read failed, the limit
+-- is reached or memory ran out, nothing was written. A read failed only before the lines that
+-- decide were read.
 abbrev pub MigrateRun : Status → Sides → Sides → Type 0
 MigrateRun Done before after = WhereTold before.rest (λ input. WroteMigration input before after)
 MigrateRun WriteFault before after =

@@ -1,4 +1,4 @@
--- Laws of certificates that become ones that cite.
+-- Laws of certificates that are made into ones that cite.
 use Rattle.std.specs.Prelude.{ℕ, List}
 use Rattle.hive_model.specs.declared.places.Move.{Move}
 use Rattle.io_edge.specs.Lines.{lines}
@@ -11,15 +11,15 @@ use Rattle.strategy_commands.specs.Laws.{HoldsOf}
 use Rattle.strategy_commands.specs.Verdicts.{verdict}
 use Rattle.strategy_commands.specs.Migrating.{MigrateRun}
 
--- Where the streams served the run, and the input is a certificate of the first version, and holds,
--- it is done, unless memory is wanting.
+-- Let the input be a certificate of the first version that holds. If the streams served the run, it
+-- ends with `Done`, or because memory ran out.
 abbrev pub MigrationsAreDone : Type 0
 MigrationsAreDone =
     RunsAreDone MigrateRun
     (λ input. (head : Head) × (m : Move) × (indices : List ℕ)
     × HoldsOf (lines input) head m indices)
 
--- what is written where a run is done is accepted
+-- If a run is done, what it writes is accepted.
 abbrev pub MigratedIsAccepted : Type 0
 MigratedIsAccepted =
     (before : Sides) → (after : Sides) → MigrateRun Done before after

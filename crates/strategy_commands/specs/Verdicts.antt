@@ -1,4 +1,4 @@
--- What the lines of a text are worth as a certificate.
+-- The verdict on the lines of a text as a certificate.
 use Rattle.std.proofs.Common.{arith}
 use Rattle.std.specs.Prelude.{ℕ, ◌+◌, ◌<◌, nat_eq, Bool, true, false, List, map, ℤ, Option, Result, Ok, Err, if◌then◌else◌}
 use Rattle.hive_model.specs.declared.places.Move.{Move}
@@ -36,12 +36,12 @@ end_of head = replay (opening head.game_type) head.moves
 abbrev pub claimed_move : Head → Result Move MoveFault
 claimed_move head = move_of head.game_type (end_of head).board head.claim_text
 
--- what indices behind the head make of the claim that a move of a position is the best one, and is
--- worth so much
+-- the verdict on indices after the head, for the claim that a move of a position is the best one
+-- and has this value
 abbrev pub of_items : Position → ℕ → Move → ℤ → List (Option ℕ) → TextVerdict
 of_items p depth m v items = of_walk 5 (checked p depth m v items)
 
--- the verdict that a fault of tokens is
+-- the verdict for a fault of tokens
 abbrev pub of_why : ℕ → WhyCited → TextVerdict
 of_why place CitedNoMove = Refused place NoSuchMove
 of_why place CitedBadIndex = Refused place BadIndex
@@ -50,27 +50,28 @@ of_why place CitedLeafFails = Refused place LeafFails
 of_why place CitedTooShort = Refused place TooShort
 of_why place CitedRest = Refused place Rest
 
--- the walk of tokens
+-- the verdict on the walk of tokens
 abbrev pub of_cited : ℕ → WalkEnd CitedSteps WhyCited → TextVerdict
 of_cited = walk_verdict of_why
 
--- what tokens behind the head make of such a claim
+-- the verdict on tokens after the head, for such a claim
 abbrev pub of_tokens : Position → ℕ → Move → ℤ → List (Option Token) → TextVerdict
 of_tokens p depth m v items = of_cited 5 (cited_checked p depth m v items)
 
--- what the lines behind a head of this version make of it: they are indices in the first version,
--- and tokens in the second
+-- the verdict on the lines after a head of this version: indices in the first version, and tokens
+-- in the second
 abbrev pub of_lines : ℕ → Position → ℕ → Move → ℤ → List Line → TextVerdict
 of_lines version p depth m v rest =
     if nat_eq version 1 then of_items p depth m v (map index_in rest)
     else of_tokens p depth m v (map token_in rest)
 
--- the same of a text of a move; one that denotes no move is refused like a move that is not legal
+-- The same for the text of a move. One that denotes no move is refused like a move that is not
+-- legal.
 abbrev pub of_move : ℕ → Position → ℕ → Result Move MoveFault → ℤ → List Line → TextVerdict
 of_move version p depth (Ok m) v rest = of_lines version p depth m v rest
 of_move version p depth (Err fault) v rest = Refused 0 NoSuchMove
 
--- the same of a head and the lines behind it; no claim is about a game that is over
+-- The same for a head and the lines after it. A game that is over has no claim.
 abbrev pub of_claim : Head → List Line → TextVerdict
 of_claim head rest =
     if is_over (end_of head) then GameOver
@@ -80,11 +81,11 @@ of_claim head rest =
 abbrev pub verdict : List Line → TextVerdict
 verdict = text_verdict 5 (head_of 2) of_claim
 
--- what was written and read where `check` ends with this status
+-- what was written and read if `check` ends with this status
 abbrev pub CheckRun : Status → Sides → Sides → Type 0
 CheckRun = VerdictRun 5 verdict
 
--- where fewer lines were read than were looked for before a fault of tokens, they do not decide
+-- if fewer lines were read than were looked for before a fault of tokens, they do not decide
 pub why-decides : (head lines place : ℕ) (why : WhyCited)
     → lines < head + place + cited_looked_for why → IsDecidedBehind head (of_why place why) lines
 why-decides head lines place CitedNoMove few = few
@@ -94,7 +95,7 @@ why-decides head lines place CitedLeafFails few = few
 why-decides head lines place CitedTooShort few = few
 why-decides head lines place CitedRest few = few
 
--- what a claim is worth is never decided by lines of the head alone
+-- the lines of the head alone never decide the verdict on a claim
 
 why-later : (n place : ℕ) (why : WhyCited) → n < 5 → IsDecidedBehind 5 (of_why place why) n
 why-later n place why less = why-decides 5 n place why (omega (arith, less))

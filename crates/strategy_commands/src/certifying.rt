@@ -17,7 +17,7 @@ use io_edge::{Sink, Source};
 use std::alloc::Global;
 use strategy_make::{MakeFault, make};
 
-/// How many positions the table of a search keeps.
+/// The number of positions in the table of a search.
 const TABLE_ENTRIES: u32 = 65_536;
 
 /// Writes the certificate of a game.
@@ -48,11 +48,13 @@ fn tell_certificate<K: Sink, G: Game + Drop>(
 }
 
 /// Reads the one game of the input, and writes the certificate of its best move at a depth, from 1
-/// to 64: the lines `hive-certificate 1`, the game in its written form, `depth N`, `move` and the
-/// move's text, `value` and what it is worth, and the least indices that show both, each on a line
-/// of its own. It is `Done` then. Where the input is not one game that is not over, one line that
-/// begins with `bad` says why, and it is `BadInput`. A read that fails, a full input and want of
-/// memory end the run with nothing written.
+/// to 64. Its lines are `hive-certificate 1`, the game in its written form, `depth N`, `move` and
+/// the move's text, and `value` and the move's value. Then come the least indices that show both,
+/// each on a line of its own.
+///
+/// It is then `Done`. If the input is not one game that is not over, one line that begins with
+/// `bad` says why, and it is `BadInput`. If a read fails, the input is full or memory runs out, the
+/// run ends with nothing written.
 pub fn certify<S: Source, K: Sink, G: Game + Drop>(
     alloc: Global,
     depth: u32,

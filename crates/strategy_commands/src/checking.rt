@@ -30,7 +30,7 @@ use strategy_verdicts::{IndexReasons, TextForm, TextVerdict, Unread, check_text,
 /// The greatest version of a certificate that is known.
 const NEWEST: u32 = 2;
 
-/// How many lines a head has.
+/// The number of lines of a head.
 pub(crate) const HEAD_LINES: u32 = 5;
 
 /// The verdict on the lines to come as the indices of a claim about the game's position.
@@ -53,7 +53,7 @@ fn judge_indices<S: Source, G: Game>(
     verdict_of::<IndexReasons>(checked, HEAD_LINES, lines)
 }
 
-/// The verdict on the lines to come, behind a head of this version, as those of the claim that this
+/// The verdict on the lines to come, after a head of this version, as those of the claim that this
 /// move is the best one.
 fn judge_move<S: Source, G: Game>(
     alloc: Global,
@@ -80,7 +80,7 @@ fn judge_move<S: Source, G: Game>(
     judge_tokens(reader, input, game, claim, &mut lemmas, &mut stack)
 }
 
-/// The verdict on the lines to come behind a head.
+/// The verdict on the lines to come after a head.
 fn judge_claim<S: Source, G: Game + Drop>(
     alloc: Global,
     head: &Head,
@@ -140,20 +140,22 @@ impl TextForm for Certificates {
     }
 }
 
-/// Checks the input, which is to be a certificate: the lines `hive-certificate 1` or
-/// `hive-certificate 2`, a game string, `depth N` with N from 1 to 64, `move ` and a move text,
-/// `value V` with V from -1,000,064 to 1,000,064, and indices from 0 to 5487, each on a line of its
-/// own; in the second version `@` and a number from 0 to 65535, which cites what was shown before,
-/// may stand for an index.
+/// Checks the input, which must be a certificate. Its first line is `hive-certificate 1` or
+/// `hive-certificate 2`, and its second a game string. Then come `depth N` with N from 1 to 64,
+/// `move ` and a move text, and `value V` with V from -1,000,064 to 1,000,064. Then come indices
+/// from 0 to 5487, each on a line of its own. In the second version `@` and a number from 0 to
+/// 65535, which cites what was shown before, may replace an index.
 ///
-/// It writes `accepted` and is `Done` where they show that the move is the best one at that depth
-/// and is worth V, and none is left over. Else it writes `refused`, one of `move`, `index`, `cite`,
-/// `leaf`, `short` and `rest`, and how many were taken, and is `Refused`; `refused move 0` where
-/// the text denotes no legal move. Where the text is none of this form, a line that begins with
-/// `bad` says so, and it is `BadInput`: the first of the first five lines that is missing, too long
-/// or not of its form, what is wrong with the game, that the game is over, or the first line that
-/// is no index where one is taken. A read that fails, a full input and want of memory end the run
-/// with nothing written.
+/// The indices must show that the move is the best one at that depth and has the value V, and none
+/// may be left over. If so, it writes `accepted` and is `Done`. Otherwise it writes `refused`, one
+/// of `move`, `index`, `cite`, `leaf`, `short` and `rest`, and how many were taken, and is
+/// `Refused`. If the text denotes no legal move, it writes `refused move 0`.
+///
+/// If the text does not have this form, a line that begins with `bad` says so, and it is
+/// `BadInput`. The line names the first of the first five lines that is missing, too long or not of
+/// its form, or what is wrong with the game. It may also say that the game is over, or name the
+/// first line that is taken as an index and is not one. If a read fails, the input is full or
+/// memory runs out, the run ends with nothing written.
 pub fn check<S: Source, K: Sink, G: Game + Drop>(
     alloc: Global,
     input: &mut S,

@@ -20,7 +20,7 @@ use strategy_citing::LineTokens;
 use strategy_lemmas::{Lemmas, WhyCited, check_cited};
 use strategy_verdicts::{IndexReasons, Reasons, TextVerdict, Unread, verdict_of};
 
-/// The verdict that a fault of tokens is.
+/// The verdict for a fault of tokens.
 fn fault_of(place: u64, why: WhyCited) -> TextVerdict
     ensures { result ≡ of_why place why }
 {

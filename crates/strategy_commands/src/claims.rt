@@ -13,19 +13,19 @@ use strategy_check::{Claim, Why};
 use strategy_text::Head;
 use strategy_verdicts::{TextVerdict, Unread};
 
-/// A game that goes on, and what is claimed of its position.
+/// A game that is not over, and the claim about its position.
 #[derive(Drop)]
 pub(crate) struct ClaimedGame<G> {
     pub(crate) game: G,
     pub(crate) claim: Claim,
 }
 
-/// The game of a head, and what the head claims of it.
+/// The game of a head, and the claim of the head about it.
 ///
 /// # Errors
 ///
 /// What is judged of the text by its head alone: that its game is over, or that the text of its
-/// move denotes none. Want of memory.
+/// move denotes none. Or memory runs out.
 pub(crate) fn claimed<G: Game + Drop>(
     alloc: Global,
     head: &Head,

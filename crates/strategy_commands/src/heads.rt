@@ -14,8 +14,8 @@ use strategy_text::write_head;
 /// The version of certificates that cite.
 const CITING: u32 = 2;
 
-/// The head of the certificate of the second version that claims a legal move of the game to be the
-/// best one.
+/// The head of the certificate of the second version for the claim that a legal move of the game is
+/// the best one.
 pub(crate) fn citing_head<G: Game + Drop>(
     alloc: Global,
     game: &G,

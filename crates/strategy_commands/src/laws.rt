@@ -13,30 +13,30 @@ ghost use Rattle.strategy_commands.specs.Laws.{
 };
 ghost use Rattle.strategy_commands.specs.MigrationLaws.{MigratedIsAccepted, MigrationsAreDone};
 
-/// The claim of a text that is accepted is true: its move is the best one at its depth, and is
-/// worth its value.
+/// The claim of a text that is accepted is true: its move is the best one at its depth, and has its
+/// value.
 pub fn accepted_claims_are_true()
     ensures { AcceptedIsTrue }
 {}
 
-/// Where a check of a text is done, the claim of the text is true.
+/// If a check of a text is done, the claim of the text is true.
 pub fn checked_claims_are_true()
     ensures { CheckedIsTrue }
 {}
 
-/// A text is accepted whose indices hold of its claim.
+/// A text is accepted if its indices hold for its claim.
 pub fn held_claims_are_accepted()
     ensures { HeldIsAccepted }
 {}
 
-/// A text of the second version is accepted whose tokens hold of its claim.
+/// A text of the second version is accepted if its tokens hold for its claim.
 pub fn held_tokens_are_accepted()
     ensures { HeldCitedIsAccepted }
 {}
 
-/// A text is accepted exactly where it has a head, whose game is not over and whose text of a move
-/// denotes one, and behind it just items that hold of its claim: indices where it is of the first
-/// version, and tokens where it is of the second.
+/// The texts that are accepted are exactly the following. They have a head, its game is not over,
+/// and its move text denotes a move. After the head there are only items that hold for its claim:
+/// indices in the first version, and tokens in the second.
 pub fn certificates_alone_are_accepted()
     ensures { CertificatesAlone }
 {}
@@ -51,26 +51,28 @@ pub fn certified_moves_are_accepted()
     ensures { CertifiedIsAccepted }
 {}
 
-/// The answer to an input that is exactly one line, a game string of a game that is not over, ends
-/// with `Done`, or for want of memory, where neither the source nor the sink counted a fault.
+/// The law covers an input that is exactly one line, a game string of a game that is not over. If
+/// neither the source nor the sink counted a failure, the answer ends with `Done`, or because
+/// memory ran out.
 pub fn certifies_are_done()
     ensures { CertifiesAreDone }
 {}
 
-/// A check of a text of fewer than 1,099,511,627,776 bytes that is accepted ends with `Done`, or
-/// for want of memory, where neither the source nor the sink counted a fault.
+/// The law covers a check of a text of fewer than 1,099,511,627,776 bytes that is accepted. If
+/// neither the source nor the sink counted a failure, it ends with `Done`, or because memory ran
+/// out.
 pub fn checks_are_done()
     ensures { ChecksAreDone }
 {}
 
-/// The making of a text of fewer than 1,099,511,627,776 bytes, which is a certificate of the first
-/// version that holds, into one that cites ends with `Done`, or for want of memory, where neither
-/// the source nor the sink counted a fault.
+/// The law covers a text of fewer than 1,099,511,627,776 bytes that is a certificate of the first
+/// version and holds. It is made into one that cites. If neither the source nor the sink counted a
+/// failure, this ends with `Done`, or because memory ran out.
 pub fn migrations_are_done()
     ensures { MigrationsAreDone }
 {}
 
-/// What is written where the making of a text into one that cites is done is accepted by a check.
+/// If a text was made into one that cites, a check accepts what was written.
 pub fn migrated_texts_are_accepted()
     ensures { MigratedIsAccepted }
 {}

@@ -1,4 +1,4 @@
-//! The commands that write certificates of best moves, check them, and make them into certificates
+//! The commands that write certificates of best moves, check them, and turn them into certificates
 //! that cite.
 #![tactic(auto)]
 

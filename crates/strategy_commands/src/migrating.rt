@@ -1,4 +1,4 @@
-//! Certificates become certificates that cite.
+//! Turns certificates into certificates that cite.
 
 ghost use Rattle.std.specs.Prelude.{
   ◌≡◌,
@@ -60,14 +60,14 @@ use strategy_citing::{Migrated, migrate as migrate_indices};
 use strategy_text::{Head, LineIndices, read_head};
 use strategy_verdicts::{TextVerdict, Unread, fault_verdict, tell_judged};
 
-/// How a text was taken that was to be made into one that cites.
+/// The result for a text that was to be made into one that cites.
 #[derive(Clone, Copy, Debug, PartialEq, Eq)]
 pub enum Taken {
     /// All was written.
     Written,
     /// A write failed.
     Cut,
-    /// What it is worth, which is not accepted. Nothing was written.
+    /// The verdict on it, which is not acceptance. Nothing was written.
     Judged(TextVerdict),
     /// It could not be read. Nothing was written.
     Missed(Unread),
@@ -76,7 +76,7 @@ pub enum Taken {
 /// The version of a certificate that is made into one that cites.
 const FIRST: u32 = 1;
 
-/// What the answer of the call means, where so many lines were taken behind a head of so many.
+/// The result for this answer of the call, if this number of lines was taken after the head.
 fn taken_of(migrated: Migrated, lines: u64) -> Taken
     ensures told { (p : Position) (d : ℕ) (m : AnyMove) (v : ℤ) (items : List (Option ℕ))
         (head : List ℕ) (before after : AnyTold)
@@ -116,7 +116,7 @@ fn taken_of(migrated: Migrated, lines: u64) -> Taken
     }
 }
 
-/// How a text was taken of which this was judged before anything was written.
+/// The result for a text that was judged before anything was written.
 fn taken_as(judged: Result<TextVerdict, Unread>) -> Taken
     ensures is { result ≡ taken_as judged }
     ensures judged { judged_of result ≡ judged }
@@ -129,7 +129,7 @@ fn taken_as(judged: Result<TextVerdict, Unread>) -> Taken
     }
 }
 
-/// Writes a head, and behind it the tokens that are made of the lines to come.
+/// Writes a head, and then the tokens that are made of the lines to come.
 fn migrate_lines<S: Source, G: Game, K: Sink>(
     alloc: Global,
     claim: &Claim,
@@ -156,7 +156,7 @@ fn migrate_lines<S: Source, G: Game, K: Sink>(
     taken_of(migrated, indices.lines())
 }
 
-/// The same where the move that the head claims is read; the head is written anew.
+/// The same, with the text of the claimed move read and the head written anew.
 fn migrate_move<S: Source, G: Game + Drop, K: Sink>(
     alloc: Global,
     claim: &Claim,
@@ -201,7 +201,7 @@ fn migrate_move<S: Source, G: Game + Drop, K: Sink>(
     )
 }
 
-/// The same behind a head.
+/// The same for the lines after a head.
 fn migrate_claim<S: Source, G: Game + Drop, K: Sink>(
     alloc: Global,
     head: &Head,
@@ -265,13 +265,15 @@ fn migrate_input<S: Source, G: Game + Drop, K: Sink>(
     migrate_all::<S, G, K>(alloc, &mut reader, input, output)
 }
 
-/// Makes the input, which is to be a certificate of the first version that holds, into one of the
-/// second version: the line `hive-certificate 2`, the game and the move in their written forms, the
-/// same depth and value, and the tokens that cite wherever something that was shown serves, each on
-/// a line of its own. It is `Done` then. All of the input is read before the first write. Of any
-/// other input the line is written that a check of the first version writes, with its status. A
-/// read that fails, before the lines that decide were read, a full input and want of memory end the
-/// run with nothing written.
+/// Turns the input, which must be a certificate of the first version that holds, into one of the
+/// second version. It writes the line `hive-certificate 2`, the game and the move in their written
+/// forms, and the same depth and value. Then come the tokens, each on a line of its own, which cite
+/// wherever something shown before serves.
+///
+/// It is then `Done`. All of the input is read before the first write. For any other input it
+/// writes the line that a check of the first version writes, with its status. If the input is full,
+/// memory runs out, or a read fails before the deciding lines were read, the run ends with nothing
+/// written.
 pub fn migrate<S: Source, K: Sink, G: Game + Drop>(
     alloc: Global,
     input: &mut S,

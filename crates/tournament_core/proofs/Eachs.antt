@@ -1,4 +1,4 @@
--- A fact of each element of a list.
+-- A fact about each element of a list.
 use Rattle.std.proofs.Common.{ℕ, zero, suc, ◌+◌, ◌<◌, ◌≤◌, List, [], ◌∷◌, ◌++◌, arith}
 use Rattle.std.specs.List.{All}
 use Rattle.std.proofs.lemmas.List.Elements.{All-head, All-tail}
@@ -22,7 +22,7 @@ pub each-every : {A : Type 0} (P : A → Type 0) (xs : List A) → ((x : A) → 
 each-every P [] f = tt
 each-every P (x ∷ xs) f = (f x, each-every P xs f)
 
--- numbers from one on, so many of them
+-- this many numbers, from a first one on
 pub record IsFrom (a k j : ℕ) : Type 0 where
   pub low : a ≤ j
   pub high : j < a + k

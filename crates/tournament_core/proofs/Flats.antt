@@ -1,4 +1,4 @@
--- What stands at a place of a list that is made of lists.
+-- The element at a place of a list that is made of lists.
 use Rattle.std.proofs.Common.{◌≡◌, ℕ, zero, suc, ◌+◌, ◌*◌, Bool, List, [], ◌∷◌, ◌++◌, length, Some, None, refl, sym, ap, arith, ◌∙◌, zero-add}
 use Rattle.std.specs.Prelude.{slice_get}
 use Rattle.std.specs.List.{flat_map, count_by, sum_by}
@@ -8,14 +8,14 @@ use Rattle.hive_model.proofs.GetLemmas.{get_in_front}
 use Rattle.tournament_core.proofs.Eachs.{each-every}
 use Rattle.tournament_core.proofs.SumLaws.{sum-same}
 
--- behind the first list
+-- after the first list
 pub get-behind : {A : Type 0} (xs ys : List A) (m : ℕ) → slice_get (xs ++ ys) (length xs + m) ≡ slice_get ys m
 get-behind [] ys m = ap (slice_get ys) (zero-add m)
 get-behind (x ∷ xs) ys m =
     let e : suc (length xs) + m ≡ suc (length xs + m) = omega arith in
     ap (slice_get (x ∷ (xs ++ ys))) e ∙ get-behind xs ys m
 
--- lists of one length
+-- lists of the same length
 pub length-flat : {A B : Type 0} (f : A → List B) (k : ℕ) → ((x : A) → length (f x) ≡ k) → (xs : List A) → length (flat_map f xs) ≡ length xs * k
 length-flat f k same xs = length-flat_map f xs ∙ sum-same (λ x. length (f x)) k xs (each-every (λ x. length (f x) ≡ k) xs same)
 

@@ -24,7 +24,7 @@ length-schedule p =
     length-flat (λ round. round_of p) (p.openings * (length (pairs p) * 2)) (λ round. length-round p) (count_from 1 p.rounds)
     ∙ ap (λ k. k * (p.openings * (length (pairs p) * 2))) (length-count_from p.rounds 1)
 
--- so many rounds, openings, pairs and games before it
+-- this number of rounds, openings, pairs and games come before it
 schedule-at : (p : Plan) (r o q c : ℕ) (pair : Pair) (f : Fixture) → r < p.rounds → o < p.openings →
     slice_get (pairs p) q ≡ Some pair → slice_get (two_games o pair) c ≡ Some f →
     slice_get (schedule p) (r * (p.openings * (length (pairs p) * 2)) + (o * (length (pairs p) * 2) + (q * 2 + c))) ≡ Some f
@@ -60,7 +60,7 @@ round-below n rounds openings many some_openings some within =
     div_below (n / 2 / many) openings rounds some_openings
     (div_below (n / 2) many (rounds * openings) some (div_below n 2 (rounds * openings * many) two all))
 
--- the game that is played when n were played before it
+-- the game that is played after n games
 pub schedule-nth : (p : Plan) (n many : ℕ) (pair : Pair) (f : Fixture) → many ≡ length (pairs p) → 0 < many → 0 < p.openings → n < length (schedule p) →
     n / 2 / many % p.openings < p.openings →
     slice_get (pairs p) (n / 2 % many) ≡ Some pair → slice_get (two_games (n / 2 / many % p.openings) pair) (n % 2) ≡ Some f →

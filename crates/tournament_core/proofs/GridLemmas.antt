@@ -42,7 +42,7 @@ counted-at counts width row column low_row low_column whole i j low_i low_j =
           ∙ sym (ap (λ t. get_or counts (i * width + j) 0 + cond t 1 0) not_ ∙ omega arith)
     ]
 
--- what stands at a place does not depend on what stands for none
+-- the element at a place does not depend on the default value
 pub read-at : (counts : List ℕ) (width row column v : ℕ) → row < width → column < width → length counts ≡ width * width →
     v ≡ get_or counts (row * width + column) v → v ≡ get_or counts (row * width + column) 0
 read-at counts width row column v low_row low_column whole is =

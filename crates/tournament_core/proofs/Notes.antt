@@ -1,4 +1,4 @@
--- A game more in a tally.
+-- One more game in a tally.
 use Rattle.std.proofs.Common.{◌≡◌, ◌≢◌, ℕ, ◌+◌, Bool, true, false, cond, List, [], ◌∷◌, ◌++◌, refl, sym, ap, subst, arith, ◌∙◌, Some, None}
 use Rattle.std.specs.Prelude.{nat_eq, ◌&&◌, ◌||◌}
 use Rattle.std.specs.List.{All}
@@ -14,7 +14,7 @@ use Rattle.tournament_core.specs.Ends.{PlayedFixture, player}
 use Rattle.tournament_core.specs.Counts.{Cells, Counts, Counting, count_at, one_at, has_beaten, have_drawn, has_forfeited, IsTallyOf}
 use Rattle.tournament_core.proofs.Results.{one-of-two}
 
--- counts to which a game adds what it is to be counted for
+-- a game adds to counts what it must count for
 counting-more : (n : ℕ) (games : List PlayedFixture) (g : PlayedFixture) (old new : Cells) (test : ℕ → ℕ → PlayedFixture → Bool) → Counting n games old test →
     ((i j : ℕ) → IsEngine n i → IsEngine n j → count_at new i j ≡ count_at old i j + cond (test i j g) 1 0) → Counting n (games ++ g ∷ []) new test
 counting-more n games g old new test was more i j row column =

@@ -71,7 +71,7 @@ outside f w (suc k) a past =
 pub below : (f : ℕ → ℕ) (w k a : ℕ) → w < a → sum_by (λ e. cond (nat_eq w e) (f e) 0) (count_from a k) ≡ 0
 below f w k a low = none-of f w k a low
 
--- of all engines one counts, where a test passes
+-- one of all engines counts, if a test passes
 pub pick : (f : ℕ → ℕ) (t : Bool) (n w : ℕ) → IsEngine n w → sum_by (λ e. cond (t && nat_eq w e) (f e) 0) (numbers n) ≡ cond t (f w) 0
 pick f true n w is = one-of f w n 1 (record { low = is.low; high = omega (arith, is.high) })
 pick f false n w is = sum-zero (numbers n)
@@ -84,7 +84,7 @@ and-false : (t : Bool) → false ≡ (t && false)
 and-false true = refl
 and-false false = refl
 
--- the same with the tests turned round
+-- the same with the tests swapped
 pub pick-back : (f : ℕ → ℕ) (t : Bool) (n w : ℕ) → IsEngine n w → sum_by (λ e. cond (nat_eq w e && t) (f e) 0) (numbers n) ≡ cond t (f w) 0
 pick-back f true n w is = sym (λ i. sum_by (λ e. cond (and-true (nat_eq w e) i) (f e) 0) (numbers n)) ∙ pick f true n w is
 pick-back f false n w is = sym (λ i. sum_by (λ e. cond (and-false (nat_eq w e) i) (f e) 0) (numbers n)) ∙ sum-zero (numbers n)

@@ -21,7 +21,7 @@ get-pairs_of n i k low =
     slice_get-map (λ j. record { first = i; second = j }) (count_from (i + 1) (n - i)) k
     ∙ ap (option_map (λ (j : ℕ). record { first = i; second = j })) (get-count_from (n - i) (i + 1) k low)
 
--- the pairs whose first engine is one of the last k
+-- the pairs with one of the last k engines as the first engine
 pairs-double : (n k i : ℕ) → i + k ≡ n + 1 → 2 * length (flat_map (pairs_of n) (count_from i k)) + k ≡ k * k
 pairs-double n zero i all = refl
 pairs-double n (suc k) i all =
@@ -44,7 +44,7 @@ length-all_pairs n = half-of n (length (all_pairs n)) (pairs-double n n 1 (omega
 
 -- ---- the loop that looks for a place
 
--- the pairs whose first engine has this number or a higher one
+-- the pairs with a first engine of this number or a higher one
 abbrev pub pairs_left : ℕ → ℕ → List Pair
 pairs_left n b = flat_map (pairs_of n) (count_from b (n + 1 - b))
 

@@ -27,7 +27,7 @@ or-false : (t : Bool) → (t || false) ≡ t
 or-false true = refl
 or-false false = refl
 
--- two tests of which one passes at most
+-- two tests that do not both pass
 pub one-of-two : (t u : Bool) → (t ≡ true → u ≡ true → ⊥) → cond (t || u) 1 0 ≡ cond t 1 0 + cond u 1 0
 one-of-two true true apart = absurd (apart refl refl)
 one-of-two true false apart = refl
@@ -65,7 +65,7 @@ beaten-one games n e fixture None is = sum-zero (numbers n)
 beaten-one games n e fixture (Some White) is = pick (points games) (nat_eq fixture.white e) n fixture.black is.black
 beaten-one games n e fixture (Some Black) is = pick (points games) (nat_eq fixture.black e) n fixture.white is.white
 
--- who plays in a game won it, drew it or lost it
+-- an engine that plays in a game won it, drew it or lost it
 pub plays-one : (n e : ℕ) (fixture : Fixture) (o : Option Colour) → IsFixture n fixture →
     cond (nat_eq fixture.white e || nat_eq fixture.black e) 1 0
     ≡ cond (won_by fixture o e) 1 0 + cond (is_none o && (nat_eq fixture.white e || nat_eq fixture.black e)) 1 0 + cond (lost_by fixture o e) 1 0
@@ -80,7 +80,7 @@ twice false = refl
 all-of : (k n w : ℕ) → IsEngine n w → sum_by (λ e. cond (nat_eq w e) k 0) (numbers n) ≡ k
 all-of k n w is = pick (λ e. k) true n w is
 
--- all engines together get 2 points of a game
+-- all engines together get 2 points for a game
 pub total-one : (n : ℕ) (fixture : Fixture) (o : Option Colour) → IsFixture n fixture →
     sum_by (λ e. 2 * cond (won_by fixture o e) 1 0 + cond (is_none o && (nat_eq fixture.white e || nat_eq fixture.black e)) 1 0) (numbers n) ≡ 2
 total-one n fixture None is =

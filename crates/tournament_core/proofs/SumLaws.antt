@@ -54,7 +54,7 @@ cond-times : (t : Bool) (k : ℕ) → cond t 1 0 * k ≡ cond t k 0
 cond-times true k = omega arith
 cond-times false k = omega arith
 
--- so many times a number is the sum of that number for each
+-- a number times a count is the sum of that number for each
 pub count-times : {A : Type 0} (p : A → Bool) (k : ℕ) (xs : List A) → count_by p xs * k ≡ sum_by (λ x. cond (p x) k 0) xs
 count-times p k [] = omega arith
 count-times p k (x ∷ xs) =

@@ -1,4 +1,4 @@
--- What an engine comes to, by a tally and by the games.
+-- The results of an engine, by a tally and by the games.
 use Rattle.std.proofs.Common.{◌≡◌, ℕ, ◌+◌, ◌*◌, Bool, cond, List, sym, ap, arith, ◌∙◌}
 use Rattle.std.specs.List.{All, count_by, sum_by}
 use Rattle.tournament_core.specs.Schedules.{IsEngine, IsFixture, numbers}
@@ -12,7 +12,7 @@ use Rattle.tournament_core.proofs.Results.{won-one, lost-one, drew-one, forfeit-
 games-each : (n : ℕ) (P : PlayedFixture → Type 0) (games : List PlayedFixture) → All (λ g. IsFixture n g.fixture) games → ((g : PlayedFixture) → IsFixture n g.fixture → P g) → Each P games
 games-each n P games all f = each-turned (λ g. IsFixture n g.fixture) P games f (each-all (λ g. IsFixture n g.fixture) games all)
 
--- counts for each other engine come to a count for one engine
+-- counts for each other engine add up to a count for one engine
 count-all : (n : ℕ) (games : List PlayedFixture) (count : ℕ → ℕ) (test : ℕ → PlayedFixture → Bool) (one : PlayedFixture → Bool) →
     ((j : ℕ) → IsEngine n j → count j ≡ count_by (test j) games) →
     ((g : PlayedFixture) → IsFixture n g.fixture → sum_by (λ j. cond (test j g) 1 0) (numbers n) ≡ cond (one g) 1 0) →

@@ -4,7 +4,7 @@ use Rattle.std.specs.List.{All, count_by}
 use Rattle.tournament_core.specs.Schedules.{IsEngine, IsFixture}
 use Rattle.tournament_core.specs.Ends.{PlayedFixture, won, lost, forfeited}
 
--- a count for each two numbers below a width, row by row
+-- a count for each pair of numbers below a width, row by row
 pub record Cells : Type 0 where
   pub width : ℕ
   pub counts : List ℕ
@@ -13,37 +13,37 @@ pub record Cells : Type 0 where
 unfoldable pub count_at : Cells → ℕ → ℕ → ℕ
 count_at grid row column = slice_index grid.counts (row * grid.width + column)
 
--- how the counts are kept
+-- how the counts are stored
 pub record IsGrid (width : ℕ) (counts : List ℕ) : Type 0 where
   pub narrow : width ≤ 65
   pub whole : length counts ≡ width * width
 
--- all counts are 0
+-- All counts are 0.
 pub record IsBlank (width : ℕ) (grid : Cells) : Type 0 where
   pub wide : grid.width ≡ width
   pub blank : (i j : ℕ) → i < width → j < width → count_at grid i j ≡ 0
 
--- no count is above this
+-- No count is above this.
 abbrev pub IsAtMost : ℕ → Cells → Type 0
 IsAtMost most grid = (i j : ℕ) → i < grid.width → j < grid.width → count_at grid i j ≤ most
 
--- one engine beat another one
+-- One engine beat another one.
 abbrev pub has_beaten : ℕ → ℕ → PlayedFixture → Bool
 has_beaten i j g = won i g && lost j g
 
--- two engines drew
+-- Two engines drew.
 abbrev pub have_drawn : ℕ → ℕ → PlayedFixture → Bool
 have_drawn i j g =
     is_none g.ended.winner
     && (nat_eq g.fixture.white i && nat_eq g.fixture.black j
     || nat_eq g.fixture.black i && nat_eq g.fixture.white j)
 
--- one engine lost to another one by forfeit
+-- One engine lost to another one by forfeit.
 abbrev pub has_forfeited : ℕ → ℕ → PlayedFixture → Bool
 has_forfeited i j g = forfeited i g && won j g
 
--- what a tally shows: the number of its engines and of the games, and for each two engines how
--- often the first one beat the second one, drew with it and lost to it by forfeit
+-- What a tally shows: the numbers of its engines and of the games. For each two engines it shows
+-- how often the first beat the second, drew with it, and lost to it by forfeit.
 pub record Counts : Type 0 where
   pub engines : ℕ
   pub games : ℕ
@@ -51,12 +51,12 @@ pub record Counts : Type 0 where
   pub draws : Cells
   pub forfeits : Cells
 
--- for each two of n engines it counts the games that pass a test
+-- For each two of n engines it counts the games that pass a test.
 abbrev pub Counting : ℕ → List PlayedFixture → Cells → (ℕ → ℕ → PlayedFixture → Bool) → Type 0
 Counting n games grid test =
     (i j : ℕ) → IsEngine n i → IsEngine n j → count_at grid i j ≡ count_by (test i j) games
 
--- these are the games that were noted, each of two of the engines
+-- These are the games that were noted, each between two of the engines.
 pub record IsTallyOf (games : List PlayedFixture) (t : Counts) : Type 0 where
   pub many : t.games ≡ length games
   pub fixtures : All (λ g. IsFixture t.engines g.fixture) games
@@ -68,7 +68,7 @@ pub record IsTallyOf (games : List PlayedFixture) (t : Counts) : Type 0 where
 abbrev pub one_at : ℕ → ℕ → ℕ → ℕ → ℕ
 one_at row column i j = if nat_eq row i && nat_eq column j then 1 else 0
 
--- the counts of so many engines, none above the number of games
+-- the counts of this number of engines, none above the number of games
 pub record IsTable (engines games : ℕ) (grid : Cells) : Type 0 where
   pub wide : grid.width ≡ engines + 1
   pub most : IsAtMost games grid

@@ -1,4 +1,4 @@
--- What games that were played come to: points, and where each engine stands.
+-- The results of games that were played: points, and the standing of each engine.
 use Rattle.std.specs.Prelude.{ℕ, ◌+◌, ◌*◌, Bool, false, ◌&&◌, ◌||◌, nat_eq, nat_lt, is_none, List, [], ◌∷◌, map, Option, Some, None, IsTrue, if◌then◌else◌}
 use Rattle.std.specs.List.{count_by, sum_by}
 use Rattle.std.specs.List.Sorted.{IsPermutation}
@@ -20,11 +20,11 @@ abbrev pub player : Fixture → Colour → ℕ
 player f White = f.white
 player f Black = f.black
 
--- an engine plays in a game
+-- An engine plays in a game.
 abbrev pub plays : ℕ → PlayedFixture → Bool
 plays e g = nat_eq g.fixture.white e || nat_eq g.fixture.black e
 
--- an engine won a game: it played the side that won
+-- An engine won a game: it played the side that won.
 abbrev pub won_by : Fixture → Option Colour → ℕ → Bool
 won_by f None e = false
 won_by f (Some side) e = nat_eq (player f side) e
@@ -32,7 +32,7 @@ won_by f (Some side) e = nat_eq (player f side) e
 abbrev pub won : ℕ → PlayedFixture → Bool
 won e g = won_by g.fixture g.ended.winner e
 
--- it lost a game: it played the other side
+-- It lost a game: it played the other side.
 abbrev pub lost_by : Fixture → Option Colour → ℕ → Bool
 lost_by f None e = false
 lost_by f (Some side) e = nat_eq (player f (other_side side)) e
@@ -40,11 +40,11 @@ lost_by f (Some side) e = nat_eq (player f (other_side side)) e
 abbrev pub lost : ℕ → PlayedFixture → Bool
 lost e g = lost_by g.fixture g.ended.winner e
 
--- it drew a game: it played, and neither side won
+-- It drew a game: it played, and neither side won.
 abbrev pub drew : ℕ → PlayedFixture → Bool
 drew e g = is_none g.ended.winner && plays e g
 
--- it lost a game by forfeit
+-- It lost a game by forfeit.
 abbrev pub forfeited : ℕ → PlayedFixture → Bool
 forfeited e g = g.ended.forfeited && lost e g
 
@@ -52,7 +52,7 @@ forfeited e g = g.ended.forfeited && lost e g
 abbrev pub points : List PlayedFixture → ℕ → ℕ
 points games e = 2 * count_by (won e) games + count_by (drew e) games
 
--- what a game counts for an engine that beat another one: the points that the other one has in all
+-- the value of a game for an engine that beat another one: the points that the other one has in all
 abbrev pub worth_by : List PlayedFixture → Fixture → Option Colour → ℕ → ℕ
 worth_by games f None e = 0
 worth_by games f (Some side) e =
@@ -61,7 +61,7 @@ worth_by games f (Some side) e =
 abbrev pub beaten : List PlayedFixture → ℕ → ℕ
 beaten games e = sum_by (λ g. worth_by games g.fixture g.ended.winner e) games
 
--- where an engine stands after games
+-- the standing of an engine after games
 abbrev pub standing : List PlayedFixture → ℕ → Standing
 standing games e = record {
   engine = e;
@@ -74,8 +74,8 @@ standing games e = record {
   beaten = beaten games e;
 }
 
--- more points, or as many and more of those that were beaten, or as many of both and the lower
--- number
+-- It has more points, or equal points and more of those that were beaten, or is equal in both and
+-- has the lower number.
 abbrev pub is_ahead : Standing → Standing → Bool
 is_ahead a b =
     nat_lt b.points a.points
@@ -87,7 +87,7 @@ abbrev pub Each : {A : Type 0} → (A → Type 0) → List A → Type 0
 Each P [] = Unit {0}
 Each P (x ∷ xs) = P x × Each P xs
 
--- each is ahead of all behind it
+-- Each is ahead of all after it.
 abbrev pub IsInOrder : List Standing → Type 0
 IsInOrder [] = Unit {0}
 IsInOrder (s ∷ ss) = Each (λ t. IsTrue (is_ahead s t)) ss × IsInOrder ss

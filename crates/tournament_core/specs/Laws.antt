@@ -15,27 +15,27 @@ is_same f g = nat_eq f.opening g.opening && nat_eq f.white g.white && nat_eq f.b
 abbrev pub is_engine : ℕ → ℕ → Bool
 is_engine n i = nat_le 1 i && nat_le i n
 
--- two engines meet: they are two, and in a gauntlet one of them is engine 1
+-- Two engines meet: they are different, and in a gauntlet one of them is engine 1.
 abbrev pub do_meet : Plan → ℕ → ℕ → Bool
 do_meet p i j =
     is_engine p.engines i && is_engine p.engines j && not (nat_eq i j)
     && (not p.gauntlet || nat_eq i 1 || nat_eq j 1)
 
--- from each opening each two engines that meet play with these colours once a round, and so with
--- the other colours, and no other game is played
+-- From each opening, each two engines that meet play once a round with these colours, and so also
+-- with the other colours. No other game is played.
 abbrev pub EquallyOften : Type 0
 EquallyOften =
     (p : Plan) (f : Fixture)
     → count_by (is_same f) (schedule p)
     ≡ (if nat_lt f.opening p.openings && do_meet p f.white f.black then p.rounds else 0)
 
--- the points of all engines add up to twice the number of games
+-- The points of all engines add up to twice the number of games.
 abbrev pub PointsAddUp : Type 0
 PointsAddUp =
     (n : ℕ) (games : List PlayedFixture) → All (λ g. IsFixture n g.fixture) games
     → sum_by (points games) (numbers n) ≡ 2 * length games
 
--- the order of the games is of no account
+-- The order of the games does not matter.
 abbrev pub OrderIsFree : Type 0
 OrderIsFree =
     (games others : List PlayedFixture) → IsPermutation games others

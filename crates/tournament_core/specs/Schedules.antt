@@ -6,7 +6,7 @@ use Rattle.tournament_core.specs.declared.fixtures.Fixture.{Fixture}
 use Rattle.tournament_core.specs.declared.pairs.Pair.{Pair}
 use Rattle.tournament_core.specs.declared.plan.Plan.{Plan}
 
--- a plan has 2 to 64 engines, 1 to 10,000 rounds and 1 to 100,000 openings
+-- A plan has 2 to 64 engines, 1 to 10,000 rounds and 1 to 100,000 openings.
 pub record IsPlan (p : Plan) : Type 0 where
   pub two_engines : 2 ≤ p.engines
   pub few_engines : p.engines ≤ 64
@@ -15,7 +15,7 @@ pub record IsPlan (p : Plan) : Type 0 where
   pub some_openings : 1 ≤ p.openings
   pub few_openings : p.openings ≤ 100000
 
--- the numbers of n engines, from 1 on
+-- the numbers of n engines, counted from 1
 abbrev pub numbers : ℕ → List ℕ
 numbers n = count_from 1 n
 
@@ -27,25 +27,26 @@ pairs_of n i = map (λ j. record { first = i; second = j }) (count_from (i + 1) 
 abbrev pub all_pairs : ℕ → List Pair
 all_pairs n = flat_map (pairs_of n) (numbers n)
 
--- the pairs that meet: in a gauntlet those of engine 1 alone
+-- the pairs that meet: in a gauntlet only those of engine 1
 abbrev pub pairs : Plan → List Pair
 pairs p = if p.gauntlet then pairs_of p.engines 1 else all_pairs p.engines
 
--- a pair plays two games: in the first its first engine has white, in the second its second one
+-- A pair plays two games. Its first engine has white in the first, and its second engine in the
+-- second.
 abbrev pub two_games : ℕ → Pair → List Fixture
 two_games o p =
     record { opening = o; white = p.first; black = p.second }
     ∷ record { opening = o; white = p.second; black = p.first } ∷ []
 
--- from an opening each pair plays its two games
+-- From an opening each pair plays its two games.
 abbrev pub games_from : Plan → ℕ → List Fixture
 games_from p o = flat_map (two_games o) (pairs p)
 
--- in a round the openings, whose numbers begin with 0, come one after the other
+-- In a round the openings, numbered from 0, come one after another.
 abbrev pub round_of : Plan → List Fixture
 round_of p = flat_map (games_from p) (count_from 0 p.openings)
 
--- all games: one round after the other
+-- all games: one round after another
 unfoldable pub schedule : Plan → List Fixture
 schedule p = flat_map (λ round. round_of p) (count_from 1 p.rounds)
 

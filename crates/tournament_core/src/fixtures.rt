@@ -5,8 +5,8 @@ ghost use Rattle.tournament_core.specs.Ends.{player};
 
 use hive_model::Colour;
 
-/// A game of a tournament: its opening, by its number from 0 on, and the engines that play white
-/// and black, by their numbers from 1 on.
+/// A game of a tournament: the number of its opening, counted from 0, and the numbers of the
+/// engines that play white and black, counted from 1.
 #[derive(Clone, Copy, Debug, PartialEq, Eq)]
 pub struct Fixture {
     pub opening: u32,
@@ -15,7 +15,7 @@ pub struct Fixture {
 }
 
 impl Fixture {
-    /// The engine that plays a side.
+    /// The number of the engine that plays a side.
     pub fn player(&self, side: Colour) -> u32
         ensures { result ≡ player self.now side }
     {
@@ -26,8 +26,8 @@ impl Fixture {
     }
 }
 
-/// How a game ended: the side that won, if one did, and whether the other side forfeited. A
-/// forfeit has a winner, the side that did not forfeit.
+/// How a game ended: the side that won, if one did, and whether the other side forfeited. A forfeit
+/// has a winner, the side that did not forfeit.
 #[derive(Clone, Copy, Debug, PartialEq, Eq)]
 pub struct GameEnd {
     pub winner: Option<Colour>,

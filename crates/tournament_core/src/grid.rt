@@ -1,4 +1,4 @@
-//! Counts for two engines each.
+//! Counts for pairs of engines.
 
 ghost use Rattle.std.specs.Prelude.{◌≡◌, ◌+◌, ◌<◌, ◌≤◌, ◌^◌, ℕ, IfOk};
 ghost use Rattle.tournament_core.specs.Counts.{IsBlank, count_at, one_at};
@@ -6,7 +6,7 @@ ghost use Rattle.tournament_core.specs.Counts.{IsBlank, count_at, one_at};
 use std::alloc::{AllocError, Global};
 use std::marker::Model;
 
-/// A count for each two numbers below a width, row by row.
+/// A count for each pair of numbers below a width, row by row.
 #[derive(Drop)]
 pub(crate) struct Grid {
     width: usize,
@@ -45,7 +45,7 @@ impl Grid {
         self.cells[row as usize * self.width + column as usize]
     }
 
-    /// Counts one more for two numbers.
+    /// Increases the count for two numbers by one.
     pub(crate) fn add(&mut self, row: u32, column: u32)
         requires row { row < self.old.width }
         requires column { column < self.old.width }

@@ -1,9 +1,9 @@
-//! Laws of tournaments, as the contracts of functions that do nothing.
+//! Laws of tournaments, as contracts of functions that do nothing.
 
 ghost use Rattle.tournament_core.specs.Laws.{EquallyOften, PointsAddUp, OrderIsFree};
 
-/// From each opening each two engines that meet play with either colours once in each round, and
-/// no other game is played.
+/// From each opening, each two engines that meet play once with either colour in each round. No
+/// other game is played.
 pub fn equally_often()
     ensures { EquallyOften }
 {}
@@ -13,7 +13,7 @@ pub fn points_add_up()
     ensures { PointsAddUp }
 {}
 
-/// Where an engine stands does not depend on the order in which the games are noted.
+/// The standing of an engine does not depend on the order in which the games are noted.
 pub fn order_is_free()
     ensures { OrderIsFree }
 {}

@@ -1,4 +1,4 @@
-//! A tournament: who plays whom, in which opening and with which colours, and the standings.
+//! A tournament: its pairings, with their openings and colours, and the standings.
 #![tactic(auto)]
 
 mod fixtures;

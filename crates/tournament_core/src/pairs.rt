@@ -3,14 +3,14 @@
 ghost use Rattle.std.specs.Prelude.{◌≡◌, ◌<◌, ◌≤◌, length, slice_get, Some};
 ghost use Rattle.tournament_core.specs.Schedules.{all_pairs};
 
-/// Two engines, by their numbers from 1 on.
+/// Two engines, by their numbers, counted from 1.
 #[derive(Clone, Copy)]
 pub(crate) struct Pair {
     pub first: u32,
     pub second: u32,
 }
 
-/// The pair at a place in the list of all pairs, from 0 on.
+/// The pair at a place in the list of all pairs, counted from 0.
 pub(crate) fn pair_at(engines: u32, place: u32) -> Pair
     requires few { engines ≤ 64 }
     requires within { place < length (all_pairs engines) }

@@ -1,4 +1,4 @@
-//! What a tournament asks for, and its games, none of which is ever listed.
+//! The plan of a tournament, and its games, which are never listed.
 
 ghost use Rattle.std.specs.Prelude.{◌≡◌, ◌<◌, ◌≤◌, ◌^◌, length, slice_get, Some};
 ghost use Rattle.tournament_core.specs.Schedules.{IsPlan, IsFixture, pairs, schedule};
@@ -6,8 +6,8 @@ ghost use Rattle.tournament_core.specs.Schedules.{IsPlan, IsFixture, pairs, sche
 use crate::fixtures::Fixture;
 use crate::pairs::{Pair, pair_at};
 
-/// How many engines play, how many rounds, and from how many openings. In a gauntlet the first
-/// engine meets each other one, and else every engine meets every other one.
+/// The numbers of engines, rounds and openings. In a gauntlet the first engine meets each other
+/// one. Otherwise every engine meets every other one.
 #[derive(Clone, Copy, Debug, PartialEq, Eq)]
 pub struct Plan {
     pub engines: u32,
@@ -17,7 +17,7 @@ pub struct Plan {
 }
 
 impl Plan {
-    /// How many pairs of engines meet.
+    /// The number of pairs of engines that meet.
     fn pairs(&self) -> u64
         requires valid { IsPlan self.now }
         ensures all { result ≡ length (pairs self.now) }
@@ -32,7 +32,7 @@ impl Plan {
         }
     }
 
-    /// How many games the tournament has.
+    /// The number of games of the tournament.
     pub fn games(&self) -> u64
         requires valid { IsPlan self.now }
         ensures all { result ≡ length (schedule self.now) }
@@ -41,7 +41,7 @@ impl Plan {
         u64::from(self.rounds) * u64::from(self.openings) * self.pairs() * 2
     }
 
-    /// The pair at a place, from 0 on.
+    /// The pair at a place, counted from 0.
     fn pair(&self, place: u32) -> Pair
         requires valid { IsPlan self.now }
         requires within { place < length (pairs self.now) }
@@ -60,7 +60,7 @@ impl Plan {
         }
     }
 
-    /// The game that is played when so many were played before it.
+    /// The game that is played after this number of games.
     pub fn fixture(&self, before: u64) -> Fixture
         requires valid { IsPlan self.now }
         requires within { before < length (schedule self.now) }

@@ -1,4 +1,4 @@
-//! What an engine comes to, by a tally.
+//! The results of an engine, by a tally.
 
 ghost use Rattle.std.specs.Prelude.{◌≡◌, ◌*◌, ◌≤◌, ◌^◌, List};
 ghost use Rattle.std.specs.List.{count_by, sum_by};
@@ -8,7 +8,7 @@ ghost use Rattle.tournament_core.specs.Counts.{IsTallyOf, count_at};
 
 use crate::tally::Tally;
 
-/// How many games an engine won.
+/// The number of games that an engine won.
 pub(crate) fn wins_of(tally: &Tally, engine: u32) -> u64
     requires engine { IsEngine tally.now.engines engine }
     ensures sum { result
@@ -22,7 +22,7 @@ pub(crate) fn wins_of(tally: &Tally, engine: u32) -> u64
     sum
 }
 
-/// How many games an engine lost.
+/// The number of games that an engine lost.
 pub(crate) fn losses_of(tally: &Tally, engine: u32) -> u64
     requires engine { IsEngine tally.now.engines engine }
     ensures sum { result
@@ -36,7 +36,7 @@ pub(crate) fn losses_of(tally: &Tally, engine: u32) -> u64
     sum
 }
 
-/// How many games an engine drew.
+/// The number of games that an engine drew.
 pub(crate) fn draws_of(tally: &Tally, engine: u32) -> u64
     requires engine { IsEngine tally.now.engines engine }
     ensures sum { result
@@ -50,7 +50,7 @@ pub(crate) fn draws_of(tally: &Tally, engine: u32) -> u64
     sum
 }
 
-/// How many games an engine lost by forfeit.
+/// The number of games that an engine lost by forfeit.
 pub(crate) fn forfeits_of(tally: &Tally, engine: u32) -> u64
     requires engine { IsEngine tally.now.engines engine }
     ensures sum { result
@@ -74,7 +74,7 @@ pub(crate) fn points_of(tally: &Tally, engine: u32) -> u64
     2 * wins_of(tally, engine) + draws_of(tally, engine)
 }
 
-/// The points that the losers of the games that an engine won have in all, for each such game.
+/// The sum, over the games that an engine won, of the points that the loser has in all.
 pub(crate) fn beaten_of(tally: &Tally, engine: u32) -> u128
     requires engine { IsEngine tally.now.engines engine }
     ensures { (games : List PlayedFixture) → IsTallyOf games tally.now

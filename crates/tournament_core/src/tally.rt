@@ -10,7 +10,7 @@ use crate::grid::Grid;
 use std::alloc::{AllocError, Global};
 use std::marker::Model;
 
-/// How often each engine beat each other one, drew with it and lost to it by forfeit.
+/// How often each engine beat each other one, drew with it, and lost to it by forfeit.
 #[derive(Drop)]
 pub struct Tally {
     engines: u32,
@@ -37,7 +37,7 @@ impl Model for Tally {
 }
 
 impl Tally {
-    /// A tally of no games, with room for all counts. The only error is want of memory.
+    /// A tally of no games, with room for all counts. The only error is running out of memory.
     pub fn new(alloc: Global, engines: u32) -> Result<Tally, AllocError>
         requires some { 2 ≤ engines }
         requires few { engines ≤ 64 }
@@ -66,7 +66,7 @@ impl Tally {
         self.engines
     }
 
-    /// How many games were noted.
+    /// The number of games that were noted.
     pub fn games(&self) -> u64
         ensures value { result ≡ self.now.games }
         ensures few { result ≤ 2 ^ 42 }
@@ -123,7 +123,7 @@ impl Tally {
         self.games += 1;
     }
 
-    /// Notes a game that one engine won, perhaps since the other one forfeited.
+    /// Notes a game that one engine won, perhaps because the other one forfeited.
     fn note_win(&mut self, winner: u32, loser: u32, forfeited: bool)
         requires winner { IsEngine self.old.engines winner }
         requires loser { IsEngine self.old.engines loser }

@@ -21,6 +21,6 @@ best_named g depth goes_on some =
     let found = best-exists (reached g) depth inner in
     (found.0, best-is (reached g) depth found.0 found.1, ap (text_of_best (reached g).board) found.1)
 
--- the same of a course with the game's type and moves
+-- the same for a course with the game's type and moves
 pub best_on_course : (c : Course) (g : CurrentGame) (depth : ℕ) (m : Move) → position c ≡ reached g → best (position c) depth ≡ Some m → IsOn (moves (reached g)) m
 best_on_course c g depth m same e = subst (λ p. IsOn (moves p) m) same (best_on (position c) depth m e)

@@ -1,4 +1,4 @@
--- The depth of a search for a time shows in the reply to its own line alone.
+-- The depth of a timed search shows only in the reply to its own line.
 use Rattle.std.proofs.Common.{◌≡◌, ℕ, Bool, true, false, List, Result, Ok, Err, refl, sym, ◌∙◌, if◌then◌else◌}
 use Rattle.std.specs.Prelude.{Option, Some, None, codes}
 use Rattle.std.proofs.lemmas.Option.{none-some}

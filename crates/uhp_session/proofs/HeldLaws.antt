@@ -1,4 +1,5 @@
--- The game of a session has legal moves after every line, no more than 5,000, and none behind its end.
+-- The game of a session has legal moves after every line, no more than 5,000, and none after its
+-- end.
 use Rattle.std.proofs.Common.{◌≡◌, ℕ, suc, ◌-◌, ◌<◌, Bool, true, false, List, [], ◌∷◌, ◌++◌, length, take, Result, Ok, Err, refl, ap, subst, arith, if◌then◌else◌}
 use Rattle.std.specs.Prelude.{Option, Some, None, codes, nat_le, nat_lt}
 use Rattle.std.proofs.lemmas.Bool.{leb-false}

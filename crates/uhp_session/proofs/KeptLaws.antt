@@ -1,4 +1,5 @@
--- The written texts of a game and the keys of its positions, one move on and one move back; and its positions.
+-- The positions of a game, the keys of these and the written texts of its moves, when a move is
+-- made or taken back.
 use Rattle.std.proofs.Common.{◌≡◌, ℕ, zero, suc, ◌-◌, ◌<◌, ◌≤◌, Bool, true, false, List, [], ◌∷◌, ◌++◌, length, take, map, refl, sym, ◌∙◌, ap, subst, arith, length-append}
 use Rattle.std.specs.Prelude.{if◌then◌else◌}
 use Rattle.hive_model.specs.declared.pieces.GameType.{GameType}
@@ -21,7 +22,7 @@ use Rattle.move_text.proofs.LegalSpell.{listed_within}
 use Rattle.search_laws.proofs.CourseLaws.{take-all_but_last}
 use Rattle.uhp_session.specs.Answers.{CurrentGame, reached}
 
--- The position of a course that has the game's type and moves
+-- The position of a course with the game's type and moves
 
 pub same_place : (c : Course) (g : CurrentGame) → c.game_type ≡ g.game_type → c.made ≡ g.made → position c ≡ reached g
 same_place c g kind made = λ j. replay (opening (kind j)) (made j)
@@ -96,7 +97,7 @@ sees_back r s ks less c d some h back same popped = subst (λ z. less ≡ keys_k
         ∙ ap (λ (z : Course). keys z.game_type z.made) (sym back)
     go false e f = f ∙ e
 
--- How many moves
+-- The number of moves
 
 pub few_more : (c d e : Course) (m : Move) → d.made ≡ c.made → e ≡ with_move d m → length c.made < 5000 → length e.made ≤ 5000
 few_more c d e m made moved less =

@@ -15,7 +15,7 @@ on_more p q (x ∷ ps) = ap (λ (r : List ℕ). p ++ 59 ∷ r) (on_more x q ps) 
 not_first : {X : Type 0} (n : ℕ) (x y : X) → (if nat_eq (suc n) 0 then x else y) ≡ y
 not_first {X} n x y = ap (λ b. if b then x else y) (false_from_ne_true (nat_eq (suc n) 0) (λ e. let wrong = eqb-true (suc n) 0 e in omega (arith, wrong)))
 
--- one part more, behind a semicolon if it is not the first
+-- one more part, after a semicolon if it is not the first
 joined_more : (ps : List (List ℕ)) (q : List ℕ) → joined (ps ++ q ∷ []) ≡ (if nat_eq (length ps) 0 then joined ps ++ q else joined ps ++ 59 ∷ q)
 joined_more [] q = refl
 joined_more (p ∷ ps) q = on_more p q ps ∙ sym (not_first (length ps) (joined_on p ps ++ q) (joined_on p ps ++ 59 ∷ q))

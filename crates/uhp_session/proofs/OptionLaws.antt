@@ -1,4 +1,4 @@
--- What the options are plays no part in the answers to other lines.
+-- The answers to other lines do not depend on the values of the options.
 use Rattle.std.proofs.Common.{◌≡◌, ℕ, ◌-◌, Bool, true, false, List, [], ◌∷◌, ◌++◌, length, take, Result, Ok, Err, refl, ap, subst, if◌then◌else◌}
 use Rattle.std.specs.Prelude.{Option, Some, None, codes, nat_le, nat_lt}
 use Rattle.hive_model.specs.declared.places.Move.{Move}

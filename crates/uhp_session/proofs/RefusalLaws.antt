@@ -1,4 +1,4 @@
--- A refusal leaves the session as it was.
+-- A refusal does not change the session.
 use Rattle.std.proofs.Common.{◌≡◌, ℕ, ◌-◌, ◌≤◌, Bool, true, false, List, [], ◌∷◌, ◌++◌, length, take, Result, Ok, Err, ◌⊎◌, inl, inr, refl, sym, ◌∙◌, ap, arith, if◌then◌else◌}
 use Rattle.std.specs.Prelude.{Option, Some, None, codes, nat_le, nat_lt}
 use Rattle.hive_model.specs.declared.places.Move.{Move}
@@ -27,7 +27,7 @@ use Rattle.uhp_session.proofs.ReplyLaws.{get_keeps, list_keeps, best_keeps}
 abbrev Keeps : SessionState → Answer → Type 0
 Keeps s a = IsRefusal a → after_of s a ≡ s
 
--- Lines that are no refusal
+-- Lines that are not refusals
 
 first : List ℕ → ℕ
 first [] = 0

@@ -1,4 +1,4 @@
--- The games of lines, and the commands that only tell.
+-- The games of lines, and the commands that only answer.
 use Rattle.std.proofs.Common.{◌≡◌, ◌≤◌, ℕ, Bool, true, false, List, length, Result, Ok, Err, inl, inr, refl, sym, subst, arith, if◌then◌else◌}
 use Rattle.std.specs.Prelude.{Option, Some, None, codes}
 use Rattle.hive_model.specs.declared.pieces.GameType.{GameType}
@@ -23,7 +23,7 @@ pub line_stands : (r : Bool) (line : List ℕ) (t : GameType) (ms : List Move) �
 line_stands r line t ms (inl alone) = subst (StandsUnder r t) (sym alone.1) (stands_none r t)
 line_stands r line t ms (inr full) = full.1
 
--- What only tells leaves the session as it is
+-- A command that only answers does not change the session.
 
 tell_keeps : (s : SessionState) (r : Result Setting SettingFault) → s ≡ after_of s (tell s r)
 tell_keeps s (Ok setting) = refl

@@ -1,4 +1,5 @@
--- Games under the rule of third repetition: their outcome by the keys that are kept, and which of their fronts stand.
+-- Games under the rule of third repetition: their outcome by the kept keys, and which of their
+-- initial parts stand.
 use Rattle.std.proofs.Common.{◌≡◌, ℕ, Bool, true, false, List, [], ◌∷◌, ◌++◌, take, drop, refl, sym, ◌∙◌, ap, append_assoc, take-append-drop}
 use Rattle.hive_model.specs.declared.pieces.GameType.{GameType}
 use Rattle.hive_model.specs.declared.places.Move.{Move}
@@ -18,11 +19,11 @@ ends_later true WhiteWins e = e
 ends_later true BlackWins e = e
 ends_later false s e = e
 
--- while the game goes on its position is not over
+-- while the game goes on, its position is not over
 pub goes_on : (g : CurrentGame) → is_ended g ≡ false → is_over (reached g) ≡ false
 goes_on g e = ends_later _ (state (reached g)) e
 
--- Fronts that stand
+-- Initial parts that stand
 
 pub stands_none : (r : Bool) (t : GameType) → StandsUnder r t []
 stands_none r t [] m rest e = absurd (cc)

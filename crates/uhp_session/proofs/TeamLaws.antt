@@ -17,7 +17,7 @@ all-pushed xs ys x e P all here = rw e (All-push P xs x all here)
 pub length-pushed : {A : Type 0} (xs ys : List A) (x : A) → ys ≡ xs ++ x ∷ [] → (n : ℕ) → length xs ≡ n → length ys ≡ n + 1
 length-pushed xs ys x e n long = let more = length-append xs (x ∷ []) in rw e (omega (arith, more, long))
 
--- workers whose games have this type and these moves are at the root that these lead to
+-- workers that have games of this type and these moves are at the root that these lead to
 pub root-is : {A : Type 0} (t : GameType) (ms : List Move) (room : ℕ) (ws : List A) (game : A → Course) → 1 ≤ length ws → All (λ w. IsGameOf t ms room (game w)) ws
     → root_of (map game ws) ≡ replay (opening t) ms
 root-is t ms room [] game some all = absurd (omega (arith, some))
@@ -29,7 +29,7 @@ root-is t ms room (w ∷ ws) game some all =
 pub all-unmapped : {A B : Type 0} (f : A → B) (P : B → Type 0) (xs : List A) → All P (map f xs) → All (λ x. P (f x)) xs
 all-unmapped f P xs all k d h = let long = length-map xs f in subst P (get_or-map f xs k d (f d) h) (all k (f d) (omega (arith, h, long)))
 
--- what is left of a list when its last element was taken, and that element
+-- the rest of a list after its last element was taken, and that element
 pub all-popped : {A : Type 0} (xs ys : List A) (x : A) → xs ≡ ys ++ x ∷ [] → (P : A → Type 0) → All P xs → All P ys × P x
 all-popped xs ys x e P all = All-pop P xs ys (Some x) e all
 
@@ -37,8 +37,8 @@ all-popped xs ys x e P all = All-pop P xs ys (Some x) e all
 pub all-deep : {A : Type 0} (xs : List A) (f : A → ℕ) (depth : ℕ) → depth ≤ 64 → All (λ x. f x ≡ 64) xs → All (λ x. depth ≤ f x) xs
 all-deep xs f depth deep all k d h = let here : f (get_or xs k d) ≡ 64 = all k d h in omega (arith, here, deep)
 
--- the searchers of workers are prepared where they are as they were before, also as the list of the
--- workers that were lent for the time between
+-- the searchers of workers are prepared if they are as before, also as the list of workers lent in
+-- between
 pub back-prepared : {A : Type 0} (before now rest : List A) (f : A → ℕ) (n : ℕ) → map f now ≡ map f before → length before ≡ n → All (λ x. f x ≡ 64) before
     → All (λ x. f x ≡ 64) (take n (now ++ rest))
 back-prepared before now rest f n same long all =
@@ -46,7 +46,7 @@ back-prepared before now rest f n same long all =
     let images = All-same (λ m. m ≡ 64) (map f now) (map f before) same (All-map (λ m. m ≡ 64) f before all) in
     All-same (λ x. f x ≡ 64) (take n (now ++ rest)) now (take_at now rest n many) (all-unmapped f (λ m. m ≡ 64) now images)
 
--- and as many as they were
+-- and their number is the same
 pub back-many : {A : Type 0} (before now rest : List A) (f : A → ℕ) (n many : ℕ) → map f now ≡ map f before → length before ≡ n → length before ≡ many → length (take n (now ++ rest)) ≡ many
 back-many before now rest f n many same long all =
     let here : length now ≡ n = sym (length-map now f) ∙ ap length same ∙ length-map before f ∙ long in

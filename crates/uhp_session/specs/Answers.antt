@@ -1,4 +1,4 @@
--- What a session answers to a line, and what it is afterwards: the table of answers and refusals.
+-- What a session answers to a line, and its state afterwards: the table of answers and refusals.
 use Rattle.std.specs.Prelude.{◌≡◌, ℕ, ◌-◌, ◌≤◌, nat_eq, nat_lt, nat_le, Bool, true, false, List, [], ◌∷◌, ◌++◌, length, map, take, codes, decimal, Option, Some, None, Result, Ok, Err, IfOk, OnOk, OnErr, if◌then◌else◌}
 use Rattle.std.specs.Str.{bytes_eq}
 use Rattle.std.specs.declared.alloc.AllocError.{AllocError}
@@ -41,22 +41,21 @@ use Rattle.uhp_session.specs.declared.lines.Reply.TheVariants.{Text as ReplyText
 
 -- Sessions
 
--- a game that was begun: its type, its moves, and whether the rule of third repetition is switched
--- on in it
+-- a game that was begun: its type, its moves, and whether the rule of third repetition is on in it
 pub record CurrentGame : Type 0 where
   pub game_type : GameType
   pub made : List Move
   pub repetition : Bool
 
--- a session: no game or a game, and the values of the options Table, Workers and Repetition, of
--- which the last is 1 where it is true
+-- A session: a game or none, and the values of the options Table, Workers and Repetition. The value
+-- true of the last is written 1.
 pub record SessionState : Type 0 where
   pub game : Option CurrentGame
   pub table : ℕ
   pub workers : ℕ
   pub repetition : Bool
 
--- no game was begun, and the options have their defaults
+-- No game was begun, and the options have their defaults.
 abbrev pub fresh : SessionState
 fresh = record { game = None; table = 65536; workers = 1; repetition = false }
 
@@ -64,8 +63,8 @@ fresh = record { game = None; table = 65536; workers = 1; repetition = false }
 abbrev pub reached : CurrentGame → Position
 reached g = replay (opening g.game_type) g.made
 
--- the game is won or drawn: by its position, or where the rule is switched on because that stands
--- for the third time
+-- The game is won or drawn, by its position, or because the rule is on and the position occurs for
+-- the third time.
 abbrev pub is_ended : CurrentGame → Bool
 is_ended g = is_over_state (outcome_under g.repetition g.game_type g.made)
 
@@ -87,17 +86,17 @@ with_setting s (Table entries) = record s { table = entries }
 with_setting s (Workers workers) = record s { workers = workers }
 with_setting s (Repetition on) = record s { repetition = on }
 
--- the lines of a reply but for the last, which is `ok`, and the session afterwards; or the session
+-- the lines of a reply, except the last, which is `ok`, and the session afterwards; or the session
 -- is left, with no reply
 pub data Answer : Type 0 where
   Says : (lines : List (List ℕ)) → (after : SessionState) → Answer
   Leaves : Answer
 
--- one line, and nothing changes: so is every refusal
+-- The answer is one line, and nothing changes. Every refusal is like this.
 abbrev pub refuse : SessionState → List ℕ → Answer
 refuse s line = Says (line ∷ []) s
 
--- the game is now this one, and its written form is answered
+-- The game is now this one, and its written form is answered.
 abbrev pub go_on : SessionState → CurrentGame → Answer
 go_on s g = Says (written g ∷ []) (with_game s g)
 
@@ -113,13 +112,13 @@ while_on s f =
 
 -- A new game
 
--- no text means the base game
+-- No text means the base game.
 abbrev pub or_base : List ℕ → List ℕ
 or_base [] = codes "Base"
 or_base (b ∷ bs) = b ∷ bs
 
--- what stands before the reason why a text is no game: `err` and the number of the refusal. (Want
--- of memory is no fault of the text.)
+-- what comes before the reason why a text is not a game: `err` and the number of the refusal
+-- (running out of memory is not a fault of the text)
 abbrev pub before_reason : GameFault → List ℕ
 before_reason (Malformed part) = codes "err 4 "
 before_reason TooManyPlies = codes "err 11 "
@@ -129,11 +128,11 @@ before_reason OtherState = codes "err 5 "
 before_reason OtherTurn = codes "err 5 "
 before_reason Memory = []
 
--- the refusal of a text that is no game
+-- the refusal of a text that is not a game
 abbrev pub game_fault : GameFault → List ℕ
 game_fault fault = before_reason fault ++ reason fault
 
--- the value that the option Repetition has now is the game's rule from now on
+-- The current value of the option Repetition is the game's rule from now on.
 abbrev pub begin : SessionState → Result Parsed GameFault → Answer
 begin s (Ok g) =
     go_on s (record { game_type = g.game_type; made = g.moves; repetition = s.repetition })
@@ -152,7 +151,7 @@ make s g (Ok m) =
     if is_listed (reached g) m then go_on s (with_moves g (g.made ++ m ∷ []))
     else refuse s (codes "invalidmove 3 not legal")
 
--- a game of a session has at most so many plies
+-- the most plies of a game of a session
 abbrev pub longest_game : ℕ
 longest_game = 5000
 
@@ -175,18 +174,18 @@ list s g = Says (joined (map (text (reached g).board) (moves (reached g))) ∷ [
 
 -- The best move
 
--- A move, written on a board. (None, here an empty text, does not come: in a game that is not over
--- there is a best move at every depth from 1 on.)
+-- A move, written on a board. The case None, here an empty text, does not occur. In a game that is
+-- not over there is a best move at every depth from 1 on.
 abbrev pub text_of_best : Stacks → Option Move → List ℕ
 text_of_best b None = []
 text_of_best b (Some m) = text b m
 
--- the first legal move of the greatest minimax value, so many plies deep, written; the options play
--- no part in it
+-- the first legal move of the greatest minimax value at this depth in plies, written; it does not
+-- depend on the options
 abbrev pub best_text : CurrentGame → ℕ → List ℕ
 best_text g depth = text_of_best (reached g).board (best (reached g) depth)
 
--- the line that names it; nothing changes
+-- The answer is the line that names it, and nothing changes.
 abbrev pub best_line : SessionState → ℕ → CurrentGame → Answer
 best_line s depth g = Says (best_text g depth ∷ []) s
 
@@ -200,7 +199,7 @@ undo s plies g =
 
 -- Options
 
--- switched on is 1, and off is 0
+-- On is 1, and off is 0.
 abbrev pub switch : Bool → ℕ
 switch true = 1
 switch false = 0
@@ -211,7 +210,7 @@ option_line (Table entries) = codes "Table;int;" ++ (decimal entries ++ codes ";
 option_line (Workers workers) = codes "Workers;int;" ++ (decimal workers ++ codes ";1;1;16")
 option_line (Repetition on) = codes "Repetition;int;" ++ (decimal (switch on) ++ codes ";0;0;1")
 
--- the value is one that its option can have
+-- The value is one that its option can have.
 abbrev pub IsSetting : Setting → Type 0
 IsSetting (Table entries) = (1 ≤ entries) × (entries ≤ 1048576)
 IsSetting (Workers workers) = (1 ≤ workers) × (workers ≤ 16)
@@ -221,7 +220,7 @@ abbrev pub setting_fault : SettingFault → List ℕ
 setting_fault NoSuchOption = codes "err 9 no such option"
 setting_fault OutOfRange = codes "err 9 value out of range"
 
--- the option of a name, with the value that it has
+-- the option with a name, with its current value
 abbrev pub option_of : SessionState → List ℕ → Result Setting SettingFault
 option_of s name =
     if bytes_eq name (codes "Table") then Ok (Table s.table) else
@@ -241,7 +240,7 @@ abbrev pub given : (ℕ → Setting) → Result ℕ SettingFault → Result Sett
 given setting (Ok value) = Ok (setting value)
 given setting (Err fault) = Err fault
 
--- the option of a name, with the value that a text gives it
+-- the option with a name, with the value that a text gives it
 abbrev pub setting_of : List ℕ → List ℕ → Result Setting SettingFault
 setting_of name value =
     if bytes_eq name (codes "Table") then given Table (number_in value 1 1048576) else
@@ -266,8 +265,8 @@ set s name value = change s (setting_of name value)
 
 -- The table
 
--- The answer to a command; the parts that it names are those of the line. The depth is that which a
--- search for a time has completed, and serves `bestmove time` alone.
+-- The answer to a command. The parts that it refers to are those of the line. The depth is the one
+-- that a timed search has completed, and only `bestmove time` uses it.
 abbrev pub command_answer : SessionState → List ℕ → ℕ → Command → Answer
 command_answer s line depth Info =
     Says (codes "id HiveReferee 1.0" ∷ (codes "Mosquito;Ladybug;Pillbug" ∷ [])) s
@@ -291,8 +290,8 @@ words_answer s line depth (Ok command) = command_answer s line depth command
 words_answer s line depth (Err Unknown) = refuse s (codes "err 1 unknown command")
 words_answer s line depth (Err Arguments) = refuse s (codes "err 2 wrong arguments")
 
--- the answer of a session to a line, at the depth that its search for a time, if it asks for one,
--- has completed
+-- the answer of a session to a line, at the depth that its timed search, if it asks for one, has
+-- completed
 abbrev pub answer : SessionState → Line → ℕ → Answer
 answer s (TextLine bytes) depth = words_answer s bytes depth (command_of bytes)
 answer s LongLine depth = refuse s (codes "err 10 line too long")
@@ -304,7 +303,7 @@ abbrev pub ended : List (List ℕ) → List ℕ
 ended [] = []
 ended (line ∷ lines) = line ++ 10 ∷ ended lines
 
--- the lines of the answer, and then `ok`; or none, where the session is left
+-- the lines of the answer, and then `ok`; none if the session is left
 abbrev pub reply_of : Answer → Option (List ℕ)
 reply_of (Says lines after) = Some (ended (lines ++ codes "ok" ∷ []))
 reply_of Leaves = None
@@ -313,11 +312,11 @@ abbrev pub after_of : SessionState → Answer → SessionState
 after_of s (Says lines after) = after
 after_of s Leaves = s
 
--- the reply to a line, or none where the run ends
+-- the reply to a line, or none if the run ends
 unfoldable pub reply : SessionState → Line → ℕ → Option (List ℕ)
 reply s line depth = reply_of (answer s line depth)
 
--- the session after a line; a search leaves it as it is, whatever its depth
+-- the session after a line; a search does not change it, whatever its depth
 unfoldable pub next : SessionState → Line → SessionState
 next s line = after_of s (answer s line 1)
 
@@ -328,20 +327,20 @@ abbrev pub line_in : LineIn → Line
 line_in (Text bytes) = TextLine bytes.now
 line_in TooLong = LongLine
 
--- a reply's text, or none where the session is left
+-- a reply's text, or none if the session is left
 abbrev pub text_of : Reply → Option (List ℕ)
 text_of (ReplyText text) = Some text
 text_of ReplyExit = None
 
--- A session in a state gave this answer: what the reply tells, and the state after it. After want
--- of memory the state is as before.
+-- A session in a state gave this answer: the text of the reply, and the state after it. If memory
+-- ran out, the state is as before.
 pub record Gave (told : Answer) (result : Result Reply AllocError) (old new : SessionState)
     : Type 0 where
   pub reply : IfOk result (λ r. text_of r ≡ reply_of told)
   pub next : OnOk result (new ≡ after_of old told)
   pub err : OnErr result (new ≡ old)
 
--- a line that is handed on has at most 65,536 bytes
+-- A line that is handed on has at most 65,536 bytes.
 abbrev pub IsShort : Line → Type 0
 IsShort (TextLine bytes) = length bytes ≤ greatest_line
 IsShort LongLine = Unit {0}

@@ -1,5 +1,5 @@
--- Searches for a time: what a line asks for, what an entry tells of the search that answered it,
--- and what the answer took.
+-- Timed searches: what a line asks for, what the entry of a search records, and what the answer
+-- took.
 use Rattle.std.specs.Prelude.{◌≡◌, ℕ, ◌+◌, ◌<◌, ◌≤◌, List, [], ◌∷◌, ◌++◌, Option, Some, None, Result, Ok, IfOk, OnOk, OnErr, codes, if◌then◌else◌}
 use Rattle.std.specs.declared.alloc.AllocError.{AllocError}
 use Rattle.hive_model.specs.declared.best.Timed.{Timed}
@@ -16,12 +16,12 @@ use Rattle.uhp_session.specs.Answers.{CurrentGame, SessionState, reached, is_end
 
 -- What a line asks for
 
--- a search for a time: its budget in milliseconds, and the position that is asked about
+-- a timed search: its budget in milliseconds, and the position that is asked about
 pub record Search : Type 0 where
   pub budget : ℕ
   pub position : Position
 
--- a search with this budget, where a game was begun that is not over
+-- a search with this budget, if a game was begun that is not over
 abbrev pub search_in : Option CurrentGame → ℕ → Option Search
 search_in None budget = None
 search_in (Some g) budget =
@@ -31,20 +31,20 @@ abbrev pub command_search : SessionState → Result Command CommandFault → Opt
 command_search s (Ok (BestTime budget)) = search_in s.game budget
 command_search s _ = None
 
--- the command is no search for a time
+-- The command is not a timed search.
 abbrev pub IsUntimed : Command → Type 0
 IsUntimed (BestTime budget) = ⊥
 IsUntimed _ = Unit {0}
 
--- the search for a time that a line asks for, if it asks for one that is not refused
+-- the timed search that a line asks for, if it asks for one that is not refused
 unfoldable pub asks : SessionState → Line → Option Search
 asks s (TextLine bytes) = command_search s (command_of bytes)
 asks s LongLine = None
 
--- What its answer tells
+-- What its answer records
 
--- The entry tells of this search: it has its budget, and a depth from 1 to 64, which is below 64
--- only where the time was over.
+-- The entry describes this search. It has its budget, and a depth from 1 to 64, which is below 64
+-- only if the time was over.
 pub record IsToldOf (asked : Search) (entry : Timed) : Type 0 where
   pub budget : entry.budget ≡ asked.budget
   pub low : 1 ≤ entry.depth
@@ -52,7 +52,7 @@ pub record IsToldOf (asked : Search) (entry : Timed) : Type 0 where
   pub late : entry.depth < 64 → entry.started + entry.budget ≤ entry.stopped
   pub order : entry.started ≤ entry.stopped
 
--- a search was answered, and an entry that tells of it was appended
+-- A search was answered, and an entry that describes it was appended.
 pub record Searched (asked : Search) (entry : Timed) (before after : Times) : Type 0 where
   pub appended : after.timed ≡ before.timed ++ entry ∷ []
   pub told : IsToldOf asked entry
@@ -60,7 +60,7 @@ pub record Searched (asked : Search) (entry : Timed) (before after : Times) : Ty
   pub stopped : entry.stopped ≡ after.last
   pub few : after.readings ≤ before.readings + reads asked.position entry.depth
 
--- A line that asks for this search, or for none, was answered so: at the depth of the search's
+-- A line that asks for this search, or for none, got this answer: at the depth of the search's
 -- entry, or without taking time.
 abbrev pub IsAnswered : Option Search → (ℕ → Option (List ℕ)) → Option (List ℕ) → Times → Times
     → Type 0
@@ -68,9 +68,9 @@ IsAnswered None reply answer before after = (answer ≡ reply 0) × TakesNoTime 
 IsAnswered (Some asked) reply answer before after =
     (entry : Timed) × (answer ≡ reply entry.depth) × Searched asked entry before after
 
--- A line that asks for this search, or for none, was answered so by what was in one state before,
--- and is to be in this state next. After want of memory the state is as before, and no entry was
--- appended. The clock's last reading never falls.
+-- A line that asks for this search, or for none, got this answer. The state was the first one
+-- before, and must be the given one next. If memory ran out, the state is as before, and no entry
+-- was appended. The clock's last reading never falls.
 pub record Answered {S : Type 0} (asked : Option Search) (told : ℕ → Option (List ℕ)) (follow : S)
     (result : Result Reply AllocError)
     (old new : S) (before after : Times) : Type 0 where
@@ -80,7 +80,8 @@ pub record Answered {S : Type 0} (asked : Option Search) (told : ℕ → Option 
   pub memory : OnErr result (after.timed ≡ before.timed)
   pub later : before.last ≤ after.last
 
--- the best move of this game at the depth of an entry was told, and the entry tells of this search
+-- The best move of this game at the depth of an entry was answered, and the entry describes this
+-- search.
 abbrev pub HasTold : Search → CurrentGame → Option (List ℕ) → Times → Times → Type 0
 HasTold asked g answer before after =
     (entry : Timed) × (answer ≡ Some (ended (best_text g entry.depth ∷ (codes "ok" ∷ []))))

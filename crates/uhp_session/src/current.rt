@@ -59,8 +59,8 @@ use std::alloc::{AllocError, Global};
 use std::marker::Model;
 use std::thread::Threads;
 
-/// A game that was begun, seen as its type, its moves and its rule, with the written texts of the
-/// moves, and where the rule of third repetition is switched on with the keys of the positions.
+/// A game that was begun. Its view is its type, its moves and its rule. It keeps the written texts
+/// of the moves and, if the rule of third repetition is on, the keys of the positions.
 #[derive(Drop)]
 pub(crate) struct Current<G: Game> {
     game: G,
@@ -88,7 +88,7 @@ impl<G: Game> Model for Current<G> {
         × Sees c.seen (G.course c.game) };
 }
 
-/// The first moves of the game, so many.
+/// This number of first moves of the game.
 fn first_moves<G: Game>(alloc: Global, game: &G, count: u32) -> Result<MoveList, AllocError>
     requires { count ≤ length (G.course game.now).made }
     ensures { IfOk result (λ ms. ms ≡ take count (G.course game.now).made) }
@@ -101,8 +101,7 @@ fn first_moves<G: Game>(alloc: Global, game: &G, count: u32) -> Result<MoveList,
 }
 
 impl<G: Game + Drop> Current<G> {
-    /// The game of this type and these moves, in which the rule of third repetition is switched on
-    /// or off.
+    /// The game of this type and these moves, with the rule of third repetition on or off.
     pub(crate) fn begin(
         alloc: Global,
         game_type: GameType,
@@ -131,7 +130,7 @@ impl<G: Game + Drop> Current<G> {
         self.seen.outcome(&self.game)
     }
 
-    /// Whether the game is over: won or drawn. While it is not, its position is not over either.
+    /// Whether the game is over: won or drawn. If it is not, its position is not over either.
     #[tactic(auto, using(crate::proofs::StandLaws::goes_on))]
     pub(crate) fn is_over(&self) -> bool
         ensures value { result ≡ is_ended self.now }
@@ -165,7 +164,7 @@ impl<G: Game + Drop> Current<G> {
         self.game.is_legal(m)
     }
 
-    /// Plays a legal move. After want of memory the game is as before.
+    /// Plays a legal move. If memory runs out, the game is as before.
     pub(crate) fn play(&mut self, m: Move) -> Result<(), AllocError>
         requires legal { IsOn (moves (reached self.old)) m }
         requires few { length self.old.made < 5000 }
@@ -194,7 +193,7 @@ impl<G: Game + Drop> Current<G> {
         self.seen.forget();
     }
 
-    /// The game without its last plies, so many.
+    /// The game without this number of last plies.
     pub(crate) fn earlier(&self, alloc: Global, plies: u32) -> Result<Current<G>, AllocError>
         requires { plies ≤ length self.now.made }
         ensures { IfOk result (λ c. c ≡ with_moves self.now
@@ -207,7 +206,7 @@ impl<G: Game + Drop> Current<G> {
         Current::begin(alloc, self.game.game_type(), moves.items(), repetition)
     }
 
-    /// Appends the game string. After want of memory nothing was appended.
+    /// Appends the game string. If memory runs out, nothing was appended.
     pub(crate) fn write(&self, out: &mut ReplyText) -> Result<(), AllocError>
         ensures written { OnOk result (out.new ≡ out.old ++ written self.now) }
         ensures refused { OnErr result (out.new ≡ out.old) }
@@ -232,7 +231,7 @@ impl<G: Game + Drop> Current<G> {
         close(text)
     }
 
-    /// Plays a legal move, and tells the game string after it. After want of memory the game is as
+    /// Plays a legal move, and answers the game string after it. If memory runs out, the game is as
     /// before.
     #[tactic(auto, using(crate::proofs::KeptLaws::taken_back))]
     pub(crate) fn advance(&mut self, alloc: Global, m: Move) -> Result<Reply, AllocError>
@@ -254,7 +253,7 @@ impl<G: Game + Drop> Current<G> {
         }
     }
 
-    /// The legal moves, and `ok`. The game is as before.
+    /// The legal moves, and `ok`. The game does not change.
     pub(crate) fn tell_moves(&mut self, alloc: Global) -> Result<Reply, AllocError>
         ensures reply { IfOk result (λ r. text_of r
             ≡ Some (ended (joined (map (text (reached self.old).board) (moves (reached self.old)))
@@ -267,8 +266,8 @@ impl<G: Game + Drop> Current<G> {
         close(joined_moves(alloc, &self.game, &stack)?)
     }
 
-    /// The first legal move that is worth most, so many plies deep. The game and the searcher are
-    /// as before, after want of memory too.
+    /// The first legal move of greatest value, searched to this depth in plies. The game and the
+    /// searcher do not change, not even if memory runs out.
     fn best(&mut self, searcher: &mut Searcher, depth: u32) -> Result<Move, AllocError>
         requires goes_on { is_over (reached self.old) ≡ false }
         requires prepared { 64 ≤ searcher.old }
@@ -283,7 +282,8 @@ impl<G: Game + Drop> Current<G> {
         Ok(found.best)
     }
 
-    /// The best move, and `ok`. The game and the searcher are as before, after want of memory too.
+    /// The best move, and `ok`. The game and the searcher do not change, not even if memory runs
+    /// out.
     pub(crate) fn tell_best(
         &mut self,
         alloc: Global,
@@ -304,8 +304,8 @@ impl<G: Game + Drop> Current<G> {
     }
 
     /// The best move of the last depth that a search completes within the budget, in milliseconds,
-    /// and `ok`; an entry that tells of the search is appended to the list. The game and the
-    /// searcher are as before, and after want of memory the list too.
+    /// and `ok`. An entry that describes the search is appended to the list. The game and the
+    /// searcher do not change. If memory runs out, the list does not change either.
     pub(crate) fn tell_best_in<C: Clock>(
         &mut self,
         alloc: Global,
@@ -357,8 +357,8 @@ impl<G: Game + Drop> Current<G> {
 }
 
 impl<G: Game + Send + Drop> Current<G> {
-    /// The best move, found by a team, with its searchers that are kept or with new ones, and `ok`.
-    /// They are kept afterwards; after want of memory none may be.
+    /// The best move, found by a team, and `ok`. The team uses its kept searchers or new ones. They
+    /// are kept afterwards; if memory runs out, perhaps none is.
     pub(crate) fn tell_best_by<R: Threads + Sync, T: Gate + Sync>(
         &self,
         rt: &R,

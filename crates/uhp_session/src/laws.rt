@@ -1,5 +1,4 @@
-//! The laws of sessions. They have no code: a function here has its law as its contract, and an
-//! empty body.
+//! Laws of sessions, as contracts of functions that do nothing.
 
 ghost use Rattle.uhp_session.specs.Laws.{
   RefusalsChangeNothing,
@@ -9,35 +8,35 @@ ghost use Rattle.uhp_session.specs.Laws.{
   DepthsServeSearches,
 };
 
-/// Where the first line of the answer begins with `err ` or `invalidmove `, the session is
-/// afterwards as it was before.
+/// If the first line of the answer begins with `err ` or `invalidmove `, the session does not
+/// change.
 pub fn refusals_change_nothing()
     ensures { RefusalsChangeNothing }
 {}
 
-/// A session whose game has at most 5,000 moves, each legal in the position before it and none of
-/// them behind the end of the game under its own rule, or that has no game, is such a session after
-/// every line. A new session has no game.
+/// Let a session have no game, or one of at most 5,000 moves, each legal in the position before it.
+/// Let none of them follow the end of the game under its own rule. Then the same holds after every
+/// line. A new session has no game.
 pub fn sessions_hold_games()
     ensures { SessionsHoldGames }
 {}
 
-/// In a position that is not over `bestmove` names a legal move, at every depth from 1 on: the
-/// first of those that are worth most at that depth. A search is of the position alone.
+/// In a position that is not over, `bestmove` names a legal move at every depth from 1 on. It is
+/// the first of the moves of greatest value at that depth. A search depends on the position alone.
 pub fn best_moves_are_named()
     ensures { BestMovesAreNamed }
 {}
 
-/// The values of the options show in no reply but those to `options`, except that of Repetition in
-/// what `newgame` begins: to every other line two sessions of the same game give the same reply,
-/// and they are of the same game afterwards; to `newgame` they do where their values of Repetition
-/// are the same.
+/// The values of the options show only in replies to `options`, except that Repetition shows in
+/// what `newgame` begins. To every other line, two sessions with the same game give the same reply,
+/// and they have the same game afterwards. To `newgame` they do so if their values of Repetition
+/// are equal.
 pub fn options_change_no_answer()
     ensures { OptionsChangeNoAnswer }
 {}
 
-/// The depth that a search for a time completed shows in the reply to the line that asks for it and
-/// in no other, and in no session after a line.
+/// The depth that a timed search completed shows only in the reply to the line that asks for it. It
+/// shows in no session after a line.
 pub fn depths_serve_searches()
     ensures { DepthsServeSearches }
 {}

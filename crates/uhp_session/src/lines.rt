@@ -13,14 +13,14 @@ pub enum LineIn<'a> {
     TooLong,
 }
 
-/// The text of a reply, its last line `ok` included, or none where the run ends.
+/// The text of a reply, including its last line `ok`, or none if the run ends.
 #[derive(Drop)]
 pub enum Reply {
     Text(ReplyText),
     Exit,
 }
 
-/// The text of a new game: no text stands for the base game.
+/// The text of a new game. An empty text stands for the base game.
 pub(crate) fn or_base(text: &[u8]) -> &[u8]
     requires { length text.now ≤ greatest_line }
     ensures value { result.now ≡ or_base text.now }

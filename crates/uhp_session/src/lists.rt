@@ -1,4 +1,4 @@
-//! Lists of legal moves, written.
+//! Written lists of legal moves.
 
 ghost use Rattle.std.specs.Prelude.{◌≡◌, ◌<◌, ◌∷◌, ◌++◌, length, map, IfOk, OnOk, if◌then◌else◌};
 ghost use Rattle.hive_model.specs.Boards.{IsBoard};
@@ -13,8 +13,8 @@ use hive_model::{Board, MoveStack, ReplyText};
 use move_text::write_move;
 use std::alloc::{AllocError, Global};
 
-/// Appends a part, behind a semicolon if it is not the first. After want of memory a part of these
-/// was appended.
+/// Appends a part, after a semicolon if it is not the first. If memory runs out, an initial part of
+/// these was appended.
 fn push_part(text: &mut ReplyText, is_first: bool, part: &[u8]) -> Result<(), AllocError>
     ensures { OnOk result (text.new ≡ (if is_first then text.old ++ part.now else text.old ++ 59
         ∷ part.now)) }
@@ -30,7 +30,7 @@ fn push_part(text: &mut ReplyText, is_first: bool, part: &[u8]) -> Result<(), Al
 ///
 /// # Errors
 ///
-/// Want of memory.
+/// Memory runs out.
 pub fn joined_moves<B: Board>(
     alloc: Global,
     board: &B,

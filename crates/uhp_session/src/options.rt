@@ -1,4 +1,4 @@
-//! The options of a session: their lines, and the values that they are given.
+//! The options of a session: their lines and their values.
 
 ghost use Rattle.std.specs.Prelude.{◌≡◌, ◌≤◌, [], ◌∷◌, ◌++◌, Some, codes, decimal, IfOk, OnOk};
 ghost use Rattle.uhp_session.specs.Answers.{
@@ -27,15 +27,15 @@ pub enum Setting {
     Repetition(bool),
 }
 
-/// Why an option is not told or set.
+/// Why an option is not shown or set.
 #[derive(Clone, Copy, Debug, PartialEq, Eq)]
 pub enum SettingFault {
     NoSuchOption,
     OutOfRange,
 }
 
-/// Appends the line of an option: what stands before its value, the value, and what stands behind
-/// it. After want of memory a part of these was appended.
+/// Appends the line of an option: what comes before its value, the value, and what comes after it.
+/// If memory runs out, an initial part of these was appended.
 fn push_option(
     text: &mut ReplyText,
     start: &[u8],
@@ -78,7 +78,7 @@ pub(crate) fn tell_setting(alloc: Global, setting: Setting) -> Result<Reply, All
     close(text)
 }
 
-/// Why an option is not told or set, and `ok`.
+/// Why an option is not shown or set, and `ok`.
 pub(crate) fn refuse_setting(alloc: Global, fault: SettingFault) -> Result<Reply, AllocError>
     ensures { IfOk result (λ r. text_of r
         ≡ Some (ended (setting_fault fault ∷ (codes "ok" ∷ [])))) }
@@ -100,7 +100,7 @@ fn number_in(text: &[u8], least: u32, most: u32) -> Result<u32, SettingFault>
     }
 }
 
-/// The option of this name, with the value that the text gives it.
+/// The option with this name, with the value that the text gives it.
 pub(crate) fn setting_of(name: &[u8], value: &[u8]) -> Result<Setting, SettingFault>
     ensures setting { result ≡ setting_of name.now value.now }
     ensures range { IfOk result IsSetting }

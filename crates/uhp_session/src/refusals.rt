@@ -11,7 +11,7 @@ use hive_model::ReplyText;
 use move_text::{MoveFault, piece_name};
 use std::alloc::{AllocError, Global};
 
-/// What stands before the reason why a text is no game: `err` and the number of the refusal.
+/// What comes before the reason why a text is not a game: `err` and the number of the refusal.
 fn before_reason(fault: &GameFault) -> &'static [u8]
     ensures { result.now ≡ before_reason fault.now }
 {
@@ -24,7 +24,8 @@ fn before_reason(fault: &GameFault) -> &'static [u8]
     }
 }
 
-/// The refusal of a text that is no game. Want of memory is no fault of the text, and is passed on.
+/// The refusal of a text that is not a game. Running out of memory is not a fault of the text, and
+/// is passed on.
 pub(crate) fn refuse_game(alloc: Global, fault: GameFault) -> Result<Reply, AllocError>
     ensures reply { IfOk result (λ r. text_of r
         ≡ Some (ended (game_fault fault ∷ (codes "ok" ∷ [])))) }
@@ -38,7 +39,7 @@ pub(crate) fn refuse_game(alloc: Global, fault: GameFault) -> Result<Reply, Allo
     close(text)
 }
 
-/// The fault of a text that is no move on the board.
+/// The refusal of a text that is not a move on the board.
 pub(crate) fn refuse_move(alloc: Global, fault: MoveFault) -> Result<Reply, AllocError>
     ensures { IfOk result (λ r. text_of r ≡ Some (ended (move_fault fault ∷ (codes "ok" ∷ [])))) }
 {

@@ -1,4 +1,4 @@
-//! Replies of a line and the line `ok`.
+//! Replies that consist of a line and the line `ok`.
 
 ghost use Rattle.std.specs.Prelude.{◌≡◌, [], ◌∷◌, ◌++◌, Some, codes, IfOk};
 ghost use Rattle.uhp_session.specs.Answers.{text_of, ended};

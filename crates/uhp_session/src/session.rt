@@ -30,7 +30,8 @@ use std::marker::Model;
 use std::thread::Threads;
 use uhp_words::{Command, CommandFault, part, read_command};
 
-/// A session, seen as no game or a type, a list of moves and a rule, and its option values.
+/// A session. Its view is a game or none, with its type, moves and rule, and the values of the
+/// options.
 #[derive(Drop)]
 pub struct Session<G: Game> {
     game: Option<Current<G>>,
@@ -61,7 +62,7 @@ impl<G: Game> Model for Session<G> {
 }
 
 impl<G: Game + Send + Drop> Session<G> {
-    /// No game, and the options at their defaults.
+    /// A session with no game, and the options at their defaults.
     pub fn new() -> Session<G>
         ensures { result ≡ fresh }
     {
@@ -75,25 +76,30 @@ impl<G: Game + Send + Drop> Session<G> {
         }
     }
 
-    /// Answers a line. The reply is some lines, each ended by LF, of which the last is `ok`; `exit`
-    /// has no reply.
+    /// Answers a line. The reply has one or more lines, each ended by an LF, and the last is `ok`.
+    /// `exit` has no reply.
     ///
-    /// `info` tells who the engine is. `newgame` begins the game of a game string, or of no text
-    /// the base game; `play` and `pass` play a move, and `undo` takes moves back: each is answered
-    /// by the game string after it. `validmoves` lists the legal moves. `bestmove depth` names the
-    /// first legal move of the greatest minimax value, so many plies deep; `bestmove time` the same
-    /// at the last depth that it completes within the time, 1 at least, and an entry that tells of
-    /// this search is appended to the list. The option Workers says how many threads `bestmove
-    /// depth` may use; each calls the gate before each move of the root. `options` tells the
-    /// options, gets one or sets one, and they outlive a new game. The value of Repetition at
-    /// `newgame` is the rule of the game that it begins: where it is 1 a position that stands for
-    /// the third time ends that game with a draw. No other answer depends on the options.
+    /// `info` names the engine. `newgame` begins the game of a game string, or the base game if
+    /// there is no text. `play` and `pass` play a move, and `undo` takes moves back. Each of these
+    /// is answered by the game string after it. `validmoves` lists the legal moves.
     ///
-    /// A line that is too long, no command or of wrong arguments is refused. So is a command with
-    /// no game, with a game that is over or has 5,000 plies, with a text that is no game, a move
-    /// that is unreadable or not legal, more plies to take back than were played, no such option
-    /// and a value out of range. A refusal is a line that begins with `err ` or `invalidmove `, and
-    /// changes nothing. After want of memory the session is as before.
+    /// `bestmove depth` names the first legal move of the greatest minimax value, searched to this
+    /// depth in plies. `bestmove time` names it for the last depth that it completes within the
+    /// time, at least 1. An entry that describes this search is appended to the list. The option
+    /// Workers gives the number of threads that `bestmove depth` may use. Each calls the gate
+    /// before each move of the root.
+    ///
+    /// `options` shows the options, gets one or sets one, and they outlive a new game. The value of
+    /// Repetition at `newgame` is the rule of the game that it begins. If it is 1, a position that
+    /// occurs for the third time ends that game with a draw. No other answer depends on the
+    /// options.
+    ///
+    /// A line is refused if it is too long, is not a command or has wrong arguments. So is a
+    /// command without a game, or with a game that is over or has 5,000 plies. So is a text that is
+    /// not a game, and a move that is unreadable or not legal. So are more plies to take back than
+    /// were played, an unknown option, and a value out of range. A refusal is a line that begins
+    /// with `err ` or `invalidmove `, and changes nothing. If memory runs out, the session is as
+    /// before.
     #[tactic(auto, unfolding(crate::specs::Answers::reply, crate::specs::Answers::next, crate::specs::Searches::asks))]
     pub fn command<R: Threads + Sync, C: Clock, T: Gate + Sync>(
         &mut self,
@@ -142,7 +148,7 @@ impl<G: Game + Send + Drop> Session<G> {
         }
     }
 
-    /// Answers a command, which names parts of its line.
+    /// Answers a command, which refers to parts of its line.
     fn perform<R: Threads + Sync, C: Clock, T: Gate + Sync>(
         &mut self,
         rt: &R,
@@ -169,7 +175,7 @@ impl<G: Game + Send + Drop> Session<G> {
         }
     }
 
-    /// Answers a command that asks for no search for a time.
+    /// Answers a command that asks for no timed search.
     #[tactic(auto, using(crate::proofs::ReplyLaws::get_keeps, crate::proofs::ReplyLaws::list_keeps, crate::proofs::ReplyLaws::best_keeps))]
     fn perform_at_once<R: Threads + Sync, T: Gate + Sync>(
         &mut self,
@@ -209,7 +215,7 @@ impl<G: Game + Send + Drop> Session<G> {
         }
     }
 
-    /// The game is now this one, and its string is told.
+    /// Makes this the current game, and answers its string.
     fn go_on(&mut self, alloc: Global, game: Current<G>) -> Result<Reply, AllocError>
         ensures { Gave (go_on self.old game) result self.old self.new }
     {
@@ -275,11 +281,11 @@ impl<G: Game + Send + Drop> Session<G> {
         game.tell_moves(alloc)
     }
 
-    /// The best move, so many plies deep. Several workers search it beside each other, and go on
-    /// with the searchers of the session's team, each of which has its share of the option Table,
-    /// at least one entry. One worker goes on with the searcher of the session, which has the whole
-    /// of it. Where one of the two begins, what is kept of the other is dropped before, so that no
-    /// more than these entries are kept at a time.
+    /// The best move, searched to this depth in plies. Several workers search it in parallel with
+    /// the searchers of the session's team. Each of these has its share of the option Table, at
+    /// least one entry. One worker searches with the session's own searcher, which has the whole of
+    /// it. Before one of the two kinds begins, what is kept of the other is dropped. So no more
+    /// than these entries are kept at a time.
     fn best<R: Threads + Sync, T: Gate + Sync>(
         &mut self,
         rt: &R,
@@ -314,9 +320,9 @@ impl<G: Game + Send + Drop> Session<G> {
         reply
     }
 
-    /// The best move of the last depth that is completed within the budget, in milliseconds. It is
-    /// one worker's, with the searcher of the session, which has the whole of the option Table; the
-    /// searchers of a team are dropped before.
+    /// The best move of the last depth that is completed within the budget, in milliseconds. One
+    /// worker searches it with the session's own searcher, which has the whole of the option Table.
+    /// The searchers of a team are dropped before.
     fn best_in<C: Clock>(
         &mut self,
         alloc: Global,
@@ -345,7 +351,7 @@ impl<G: Game + Send + Drop> Session<G> {
         reply
     }
 
-    /// Takes the last plies back, so many.
+    /// Takes this number of last plies back.
     fn undo(&mut self, alloc: Global, plies: u32) -> Result<Reply, AllocError>
         ensures { Gave (in_game self.old self.old.game (undo self.old plies))
             result self.old self.new }

@@ -1,5 +1,5 @@
-//! What searches for a session: the searcher of one worker, or those of a team, whose workers have
-//! a game of their own each. The session keeps either between its commands.
+//! The searchers of a session: that of one worker, or those of a team, in which each worker has its
+//! own game. The session keeps either between its commands.
 
 ghost use Rattle.std.specs.Prelude.{◌≡◌, ◌≤◌, false, [], length, None, Some, IfOk, IfSome};
 ghost use Rattle.std.specs.Prelude.{OnOk};
@@ -18,7 +18,7 @@ use root_share::{Gate, Worker, best_shared};
 use std::alloc::{AllocError, Global};
 use std::thread::Threads;
 
-/// How many workers search, 1 to 16, and how many entries the table of each has.
+/// How many workers search, 1 to 16, and how many entries each worker's table has.
 #[derive(Clone, Copy)]
 pub(crate) struct Team {
     pub(crate) workers: u32,
@@ -37,7 +37,7 @@ fn searchers_of(alloc: Global, team: Team) -> Result<Vec<Searcher>, AllocError>
     Ok(searchers)
 }
 
-/// The searchers of this team that are kept, or new ones. None are kept afterwards.
+/// The kept searchers of this team, or new ones. None are kept afterwards.
 fn team_taken(
     kept: &mut Option<Vec<Searcher>>,
     alloc: Global,
@@ -95,9 +95,9 @@ fn give_back<G: Game + Drop>(
     Ok(())
 }
 
-/// The first legal move of the game of this type and these moves that is worth most, so many plies
-/// deep, found by a team, with its searchers that are kept or with new ones. They are kept
-/// afterwards; after want of memory none may be.
+/// The first legal move of greatest value in the game of this type and these moves, searched to
+/// this depth in plies by a team. The team uses its kept searchers or new ones. They are kept
+/// afterwards; if memory runs out, perhaps none is.
 pub(crate) fn best_by<R: Threads + Sync, G: Game + Send + Drop, T: Gate + Sync>(
     rt: &R,
     alloc: Global,
@@ -127,8 +127,7 @@ pub(crate) fn best_by<R: Threads + Sync, G: Game + Send + Drop, T: Gate + Sync>(
     Ok(found.best)
 }
 
-/// The searcher that is kept, or a new one with a table of so many entries. None is kept
-/// afterwards.
+/// The kept searcher, or a new one with a table of this number of entries. None is kept afterwards.
 pub(crate) fn taken(
     kept: &mut Option<Searcher>,
     alloc: Global,

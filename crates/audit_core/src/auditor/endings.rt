@@ -1,4 +1,4 @@
-//! What comes of the replies at the end of a game.
+//! How the replies at the end of a game are handled.
 ghost use Rattle.std.specs.Prelude.{◌≡◌, ◌≤◌, length, IfOk, IfSome, OnOk};
 ghost use Rattle.hive_model.specs.Legal.{moves};
 ghost use Rattle.io_edge.specs.Lines.{greatest_line};
@@ -35,7 +35,7 @@ use hive_model::{Game, Move};
 use std::alloc::AllocError;
 
 impl<G: Game + Drop> Auditor<G> {
-    /// Takes so many plies back.
+    /// Takes this number of plies back.
     fn take_back(&mut self, plies: u32) -> Result<(), AllocError>
         requires { self.old.stage ≡ Stage.Undoing plies }
         ensures { OnOk result (self.new ≡ without_plies self.old plies) }
@@ -47,7 +47,7 @@ impl<G: Game + Drop> Auditor<G> {
         Ok(())
     }
 
-    /// The reply is to be the game string behind an undo, and then the list is asked for.
+    /// Checks the reply to an undo, which must be the game string. Then the list is asked for.
     fn check_undone(&mut self, reply: &[u8]) -> Result<(), AllocError>
         requires { length reply.now ≤ greatest_line }
         ensures { OnOk result (self.new ≡ check_undone self.old reply.now) }
@@ -62,7 +62,7 @@ impl<G: Game + Drop> Auditor<G> {
         }
     }
 
-    /// The plies were taken back, and the reply is to be the game string.
+    /// Takes the plies back, and checks the reply, which must be the game string.
     pub(super) fn check_undo(&mut self, plies: u32, reply: &[u8]) -> Result<(), AllocError>
         requires short { length reply.now ≤ greatest_line }
         requires stage { self.old.stage ≡ Stage.Undoing plies }
@@ -84,7 +84,7 @@ impl<G: Game + Drop> Auditor<G> {
         draw_tried(self.alloc, &self.game, legal, &mut self.generator)
     }
 
-    /// The move that was drawn is to be tried; where there is none, the whole game is loaded.
+    /// Sets the drawn move to be tried. If there is none, the whole game is loaded.
     fn try_drawn(&mut self, drawn: Option<Move>)
         requires { IfSome drawn (λ m. IsMoveWithin m) }
         ensures { self.new ≡ try_drawn self.old drawn }
@@ -96,7 +96,7 @@ impl<G: Game + Drop> Auditor<G> {
         self.sending = true;
     }
 
-    /// A list was right: it is counted, and a move is drawn that is to be tried.
+    /// Counts a list that was right, and draws a move to be tried.
     fn try_from(&mut self, legal: &[Move]) -> Result<(), AllocError>
         requires { legal.now ≡ moves (position_now self.old) }
         ensures { OnOk result (self.new ≡ try_drawn (next_word (count self.old))
@@ -108,7 +108,7 @@ impl<G: Game + Drop> Auditor<G> {
         Ok(())
     }
 
-    /// The reply is to be the list of the legal moves behind an undo.
+    /// Checks the reply after an undo, which must be the list of the legal moves.
     pub(super) fn check_review(&mut self, reply: &[u8]) -> Result<(), AllocError>
         requires { length reply.now ≤ greatest_line }
         ensures { OnOk result (self.new ≡ check_review self.old reply.now) }
@@ -120,7 +120,7 @@ impl<G: Game + Drop> Auditor<G> {
         }
     }
 
-    /// The list is asked for again.
+    /// Asks for the list again.
     fn relist(&mut self)
         ensures { self.new ≡ go self.old Stage.Relisting }
     {
@@ -128,7 +128,7 @@ impl<G: Game + Drop> Auditor<G> {
         self.sending = true;
     }
 
-    /// The reply to a move that is not legal is to be a refusal.
+    /// Checks the reply to a move that is not legal, which must be a refusal.
     pub(super) fn check_tried(&mut self, m: Move, reply: &[u8]) -> Result<(), AllocError>
         requires { self.old.stage ≡ Stage.Trying m }
         ensures { OnOk result (self.new ≡ check_tried self.old m reply.now) }
@@ -142,7 +142,7 @@ impl<G: Game + Drop> Auditor<G> {
         self.found(&Finding { fault, text })
     }
 
-    /// A list was right: it is counted, and the whole game is to be loaded.
+    /// Counts a list that was right, and sets the whole game to be loaded.
     fn load_from(&mut self, legal: &[Move]) -> Result<(), AllocError>
         requires { legal.now ≡ moves (position_now self.old) }
         ensures { OnOk result (self.new ≡ go (count self.old) Stage.Loading) }
@@ -153,7 +153,7 @@ impl<G: Game + Drop> Auditor<G> {
         Ok(())
     }
 
-    /// The reply is to be the list as before.
+    /// Checks the reply, which must be the list as before.
     pub(super) fn check_relisted(&mut self, reply: &[u8]) -> Result<(), AllocError>
         requires { length reply.now ≤ greatest_line }
         ensures { OnOk result (self.new ≡ check_relisted self.old reply.now) }
@@ -165,7 +165,7 @@ impl<G: Game + Drop> Auditor<G> {
         }
     }
 
-    /// The whole game stands again.
+    /// Restores the whole game.
     fn restore(&mut self)
         ensures { self.new ≡ loaded self.old }
     {
@@ -173,7 +173,7 @@ impl<G: Game + Drop> Auditor<G> {
         self.stage = Stage::Beginning;
     }
 
-    /// The list is asked for where the game goes on, and else it has ended.
+    /// Asks for the list if the game goes on. Otherwise the game has ended.
     fn list_loaded(&mut self) -> Result<(), AllocError>
         ensures { OnOk result (self.new ≡ list_loaded self.old) }
     {
@@ -185,7 +185,7 @@ impl<G: Game + Drop> Auditor<G> {
         Ok(())
     }
 
-    /// The reply is to be the game string of the whole game.
+    /// Checks the reply, which must be the game string of the whole game.
     fn check_loaded(&mut self, reply: &[u8]) -> Result<(), AllocError>
         requires { length reply.now ≤ greatest_line }
         ensures { OnOk result (self.new ≡ check_loaded self.old reply.now) }
@@ -196,7 +196,7 @@ impl<G: Game + Drop> Auditor<G> {
         }
     }
 
-    /// The whole game was loaded, and the reply is to be its game string.
+    /// Restores the whole game, and checks the reply, which must be its game string.
     pub(super) fn check_load(&mut self, reply: &[u8]) -> Result<(), AllocError>
         requires { length reply.now ≤ greatest_line }
         ensures { OnOk result (self.new ≡ check_loaded (loaded self.old) reply.now) }
@@ -205,7 +205,7 @@ impl<G: Game + Drop> Auditor<G> {
         self.check_loaded(reply)
     }
 
-    /// A list was right: it is counted, and the game has ended.
+    /// Counts a list that was right, and ends the game.
     fn end_listed(&mut self, legal: &[Move]) -> Result<(), AllocError>
         requires { legal.now ≡ moves (position_now self.old) }
         ensures { OnOk result (self.new ≡ next_game (end_game (count self.old))) }
@@ -214,7 +214,7 @@ impl<G: Game + Drop> Auditor<G> {
         self.end_game()
     }
 
-    /// The reply is to be the list of the legal moves of the whole game.
+    /// Checks the reply, which must be the list of the legal moves of the whole game.
     pub(super) fn check_finish(&mut self, reply: &[u8]) -> Result<(), AllocError>
         requires { length reply.now ≤ greatest_line }
         ensures { OnOk result (self.new ≡ check_finish self.old reply.now) }

@@ -21,7 +21,7 @@ use crate::texts::{asked_text, write_finding, write_last};
 use hive_model::Game;
 use std::alloc::AllocError;
 
-/// A count with so many more.
+/// A count increased by this number.
 pub(super) fn raised(count: u64, more: u64) -> Result<u64, AllocError>
     ensures { IfOk result (λ n. n ≡ count + more) }
 {
@@ -32,14 +32,14 @@ pub(super) fn raised(count: u64, more: u64) -> Result<u64, AllocError>
 }
 
 impl<G: Game + Drop> Auditor<G> {
-    /// How many games of the seed come before the game at hand.
+    /// How many games of the seed come before the current game.
     pub(super) fn games_before(&self) -> Result<u64, AllocError>
         ensures { IfOk result (λ n. n ≡ games_before self.now) }
     {
         raised(self.plan.first - 1, self.ended)
     }
 
-    /// The audit is over, and its last line is written.
+    /// Ends the audit, and writes its last line.
     fn conclude(&mut self) -> Result<(), AllocError>
         ensures { OnOk result (self.new ≡ conclude self.old) }
     {
@@ -54,7 +54,7 @@ impl<G: Game + Drop> Auditor<G> {
         )
     }
 
-    /// The next game begins.
+    /// Begins the next game.
     fn begin(&mut self) -> Result<(), AllocError>
         ensures { OnOk result (self.new ≡ begin self.old) }
     {
@@ -70,7 +70,7 @@ impl<G: Game + Drop> Auditor<G> {
         Ok(())
     }
 
-    /// The next game begins where there is one, and else the audit is over.
+    /// Begins the next game if there is one. Otherwise the audit is over.
     pub(super) fn next_game(&mut self) -> Result<(), AllocError>
         ensures { OnOk result (self.new ≡ next_game self.old) }
     {
@@ -81,7 +81,7 @@ impl<G: Game + Drop> Auditor<G> {
         }
     }
 
-    /// A game has ended, and the next begins.
+    /// Ends a game, and begins the next one.
     pub(super) fn end_game(&mut self) -> Result<(), AllocError>
         ensures { OnOk result (self.new ≡ next_game (end_game self.old)) }
     {
@@ -89,7 +89,7 @@ impl<G: Game + Drop> Auditor<G> {
         self.next_game()
     }
 
-    /// A finding is counted, and its line is written.
+    /// Counts a finding, and writes its line.
     fn note(&mut self, finding: &Finding) -> Result<(), AllocError>
         ensures { OnOk result (self.new ≡ note self.old finding.now) }
     {
@@ -98,7 +98,7 @@ impl<G: Game + Drop> Auditor<G> {
         write_finding(self.alloc, &mut self.text, number, &self.game, finding)
     }
 
-    /// A game has ended, and the audit with it.
+    /// Ends a game, and the audit with it.
     fn end_audit(&mut self) -> Result<(), AllocError>
         ensures { OnOk result (self.new ≡ conclude (end_game self.old)) }
     {
@@ -106,7 +106,7 @@ impl<G: Game + Drop> Auditor<G> {
         self.conclude()
     }
 
-    /// A finding ends its game, and the audit too where that stops at one.
+    /// Notes a finding. It ends its game, and also the audit if the audit stops at one.
     pub(super) fn found(&mut self, finding: &Finding) -> Result<(), AllocError>
         ensures { OnOk result (self.new ≡ found self.old finding.now) }
     {
@@ -118,12 +118,12 @@ impl<G: Game + Drop> Auditor<G> {
         }
     }
 
-    /// A reply is missing, and that ends the audit. The finding names the line to which it was to
-    /// come, where there is one.
+    /// Ends the audit because a reply is missing. The finding names the line that was to be
+    /// answered, if there is one.
     ///
     /// # Errors
     ///
-    /// Want of memory.
+    /// Memory runs out.
     pub fn break_off(&mut self, fault: Fault) -> Result<(), AllocError>
         ensures { OnOk result (self.new ≡ break_off self.old fault) }
     {
@@ -134,7 +134,7 @@ impl<G: Game + Drop> Auditor<G> {
         self.end_audit()
     }
 
-    /// The game has come to its end: some of its plies are to be taken back, where it has any.
+    /// Begins to take back some plies at the end of a game, if it has any.
     fn close_game(&mut self) -> Result<(), AllocError>
         ensures { OnOk result (self.new ≡ close_game self.old) }
     {
@@ -148,7 +148,7 @@ impl<G: Game + Drop> Auditor<G> {
         Ok(())
     }
 
-    /// The list of legal moves is asked for, where the game goes on and may have more plies.
+    /// Asks for the list of legal moves, if the game is not over and may have more plies.
     pub(super) fn list_or_end(&mut self) -> Result<(), AllocError>
         ensures { OnOk result (self.new ≡ list_or_end self.old) }
     {

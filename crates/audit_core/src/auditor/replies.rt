@@ -1,4 +1,4 @@
-//! What comes of the engine's replies.
+//! How the engine's replies are handled.
 ghost use Rattle.std.specs.Prelude.{◌≡◌, ◌<◌, ◌≤◌, [], length, IfOk, IfSome, OnOk};
 ghost use Rattle.hive_model.specs.Legal.{moves};
 ghost use Rattle.hive_model.specs.Lists.{IsOn};
@@ -54,7 +54,7 @@ impl<G: Game + Drop> Auditor<G> {
         take_text(self.alloc, &mut self.reply)
     }
 
-    /// The reply is to be the game string of the game.
+    /// Checks the reply, which must be the game string of the game.
     fn check_string(&mut self, reply: &[u8]) -> Result<(), AllocError>
         requires { length reply.now ≤ greatest_line }
         ensures { OnOk result (self.new ≡ check_string self.old reply.now) }
@@ -87,7 +87,7 @@ impl<G: Game + Drop> Auditor<G> {
         wrong_list(self.alloc, &self.game, legal, reply)
     }
 
-    /// A list was right.
+    /// Counts a list that was right.
     pub(super) fn count(&mut self, legal: &[Move]) -> Result<(), AllocError>
         requires { legal.now ≡ moves (position_now self.old) }
         ensures { OnOk result (self.new ≡ count self.old) }
@@ -107,7 +107,7 @@ impl<G: Game + Drop> Auditor<G> {
         draw(self.alloc, &self.game, siege, legal, &mut self.generator)
     }
 
-    /// The move that was drawn is to be played.
+    /// Sets the drawn move to be played.
     fn play_drawn(&mut self, drawn: Option<Move>) -> Result<(), AllocError>
         requires more { length self.old.moves < self.old.plan.plies }
         requires legal { IfSome drawn (λ m. IsOn (moves (position_now self.old)) m) }
@@ -123,7 +123,7 @@ impl<G: Game + Drop> Auditor<G> {
         }
     }
 
-    /// A list was right: it is counted, and one of the legal moves is drawn, which is to be played.
+    /// Counts a list that was right, and draws one of the legal moves, which is to be played.
     fn draw_from(&mut self, legal: &[Move]) -> Result<(), AllocError>
         requires legal { legal.now ≡ moves (position_now self.old) }
         requires more { length self.old.moves < self.old.plan.plies }
@@ -135,7 +135,7 @@ impl<G: Game + Drop> Auditor<G> {
         self.play_drawn(drawn)
     }
 
-    /// The reply is to be the list of the legal moves.
+    /// Checks the reply, which must be the list of the legal moves.
     fn check_list(&mut self, reply: &[u8]) -> Result<(), AllocError>
         requires short { length reply.now ≤ greatest_line }
         requires more { length self.old.moves < self.old.plan.plies }
@@ -157,7 +157,7 @@ impl<G: Game + Drop> Auditor<G> {
         self.stage = Stage::Beginning;
     }
 
-    /// The move was played, and the reply is to be the game string.
+    /// Plays the move, and checks the reply, which must be the game string.
     fn check_move(&mut self, m: Move, reply: &[u8]) -> Result<(), AllocError>
         requires short { length reply.now ≤ greatest_line }
         requires stage { self.old.stage ≡ Stage.Playing m }
@@ -167,7 +167,7 @@ impl<G: Game + Drop> Auditor<G> {
         self.check_string(reply)
     }
 
-    /// The greeting names the expansions that the engine plays.
+    /// Reads the expansions that the engine plays from its greeting.
     fn greet(&mut self, reply: &[u8]) -> Result<(), AllocError>
         ensures { OnOk result (self.new ≡ greet self.old reply.now) }
     {
@@ -175,7 +175,7 @@ impl<G: Game + Drop> Auditor<G> {
         self.next_game()
     }
 
-    /// A reply has ended.
+    /// Handles the end of a reply.
     pub(super) fn reply_ends(&mut self, reply: &[u8]) -> Result<(), AllocError>
         requires { length reply.now ≤ greatest_line }
         ensures { OnOk result (self.new ≡ reply_ends self.old self.old.stage reply.now) }
@@ -195,7 +195,7 @@ impl<G: Game + Drop> Auditor<G> {
         }
     }
 
-    /// Whether the greeting is read.
+    /// Whether the greeting is being read.
     fn is_greeting(&self) -> bool
         ensures { result ≡ is_greeting self.now.stage }
     {
@@ -214,7 +214,7 @@ impl<G: Game + Drop> Auditor<G> {
         }
     }
 
-    /// The reply with one line more: of the greeting the last line is kept.
+    /// The reply with one more line. Of the greeting only the last line is kept.
     fn reply_with(&self, line: &[u8]) -> Result<LineText, AllocError>
         ensures { IfOk result (λ t. t ≡ reply_with self.now self.now.stage line.now) }
     {
@@ -222,7 +222,7 @@ impl<G: Game + Drop> Auditor<G> {
         text_with(self.alloc, joins, self.reply.items(), line)
     }
 
-    /// A line of a reply is kept, unless the reply becomes too long.
+    /// Keeps a line of a reply, unless the reply becomes too long.
     pub(super) fn keep(&mut self, line: &[u8]) -> Result<(), AllocError>
         ensures { OnOk result (self.new
             ≡ keep self.old (reply_with self.old self.old.stage line.now)) }

@@ -1,4 +1,5 @@
--- What is done is what the words ask for: a match, a cup, a tournament, an audit, or what starts no program.
+-- The run does what the words ask for: a match, a cup, a tournament, an audit, or a command that
+-- starts no program.
 use Rattle.std.proofs.Common.{[], arith, refl}
 use Rattle.command_runs.specs.World.{sides, times as these_times, world}
 use Rattle.hive_cli.proofs.RunLemmas.{cups_read_nothing, is_alone, never_spawns}

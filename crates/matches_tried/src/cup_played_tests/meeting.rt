@@ -1,5 +1,5 @@
-//! Where two games meet: before they begin, or in a read of the one that waits until the other game
-//! reads too.
+//! How two games meet: before they begin, or in a read of the waiting game, which lasts until the
+//! other game reads too.
 ghost use Rattle.std.specs.Prelude.{None, refl};
 
 use cup::CupGate;
@@ -9,7 +9,7 @@ use std::sync::atomic::{AtomicBool, Ordering};
 /// How often a game that waits for another looks at its flag.
 const LOOKS: u32 = 1_000_000_000;
 
-/// Which of two games have come here, and which of them saw the other one.
+/// Which of two games have arrived, and which of them saw the other one.
 #[derive(Drop)]
 pub struct Meeting {
     here: [AtomicBool; 2],
@@ -24,7 +24,7 @@ impl Meeting {
         }
     }
 
-    /// Tells that this game is here, and looks whether the other one is.
+    /// Notes that this game has arrived, and looks whether the other one has.
     fn meet(&self, game: usize) {
         if game >= 2 {
             return;
@@ -50,8 +50,8 @@ impl CupGate for Meeting {
     }
 }
 
-/// A link in memory. Where it is to meet the other game, one of its reads waits for it. It does not
-/// tell its bytes.
+/// A link in memory. If it must meet the other game, one of its reads waits for it. Its bytes are
+/// not observable.
 #[derive(Drop)]
 pub struct MeetingLink<'a> {
     link: MemLink,
@@ -61,8 +61,8 @@ pub struct MeetingLink<'a> {
 }
 
 impl<'a> MeetingLink<'a> {
-    /// A link of the game at this place, 0 or 1, that meets the other game in the read after so
-    /// many.
+    /// A link of the game at this place, 0 or 1, that meets the other game in the read after this
+    /// number of reads.
     pub fn meeting(link: MemLink, game: usize, reads: usize, meeting: &'a Meeting) -> Self {
         MeetingLink {
             link,

@@ -1,4 +1,4 @@
-//! What black says, and the forfeit that comes of it.
+//! What black says, and the forfeit that results.
 
 use super::{TO_BLACK, TO_WHITE, WHITE, play_deep};
 use crate::seen::{expect_seen, expect_sent};
@@ -8,7 +8,7 @@ use std::alloc::{AllocError, Global};
 use std::process::Abort;
 use std::test::Fail;
 
-/// Black greets, begins and hears of white's move.
+/// Black greets, begins and is told of white's move.
 const HEARD: &[u8] = b"id B\nok\nx\nok\nx\nok\n";
 
 /// Black greets and begins.
@@ -16,7 +16,7 @@ const BEGUN: &[u8] = b"id B\nok\nx\nok\n";
 
 const GAME: &[u8] = b"Base;InProgress;Black[1];wS1\n";
 
-/// Plays the match in which black says this, and compares the verdict.
+/// Plays the match with this text of black, and compares the verdict.
 fn expect_verdict<R: Abort>(
     rt: &R,
     alloc: Global,
@@ -30,7 +30,7 @@ fn expect_verdict<R: Abort>(
     Ok(())
 }
 
-/// What black says after it has heard of white's move, and the verdict.
+/// What black says after it is told of white's move, and the verdict.
 const CAUSES: [(&[u8], &[u8]); 8] = [
     (b"", b"forfeit black ended\n"),
     (b"x\n", b"forfeit black ended\n"),
@@ -79,7 +79,7 @@ fn a_line_is_not_too_long(rt: HostRuntime) -> Result<(), Fail> {
     Ok(())
 }
 
-/// Black's reply to `play`, of so many lines, and then its illegal move.
+/// Black's reply to `play`, of this number of lines, and then its illegal move.
 fn told(alloc: Global, line: &[u8], times: usize) -> Result<Vec<u8>, AllocError> {
     let lines = line.repeat(alloc, times)?;
     [BEGUN, lines.as_slice(), b"ok\nbQ -wS1\nok\n"].concat(alloc)

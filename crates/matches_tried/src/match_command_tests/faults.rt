@@ -12,8 +12,7 @@ use std::alloc::{AllocError, Global};
 use std::process::Abort;
 use std::test::Fail;
 
-/// Plays the match in which the start of this number fails, or the write of the output of this
-/// number.
+/// Plays the match with a start of this number that fails, or a write of the output of this number.
 fn play_failing(alloc: Global, start: u64, write: u64) -> Result<Played<Status>, AllocError> {
     let links = links_of(alloc, &[in_sevens(WHITE), in_sevens(BLACK)])?;
     let spawner = spawner_of(alloc, links, start)?;
@@ -39,7 +38,7 @@ fn a_write_of_the_output_fails(rt: HostRuntime) -> Result<(), Fail> {
     Ok(())
 }
 
-/// Whether a text tells the game of no move or of white's one, and that this side broke.
+/// Whether a text has the game of no move or of white's one, and says that this side broke.
 fn tells_broke(text: &[u8], side: &[u8]) -> bool {
     let rest = if text.starts_with(b"Base;NotStarted;White[1]\n".as_slice()) {
         text.strip_prefix(b"Base;NotStarted;White[1]\n".as_slice())
@@ -52,8 +51,8 @@ fn tells_broke(text: &[u8], side: &[u8]) -> bool {
     }
 }
 
-/// Plays the match in which this call of a side's link fails: the side breaks, and both sides are
-/// sent a front of what they would be sent.
+/// Plays the match with a failure of this call of a side's link. The side breaks, and both sides
+/// are sent an initial part of what they would be sent.
 fn expect_broke<R: Abort>(
     rt: &R,
     alloc: Global,
@@ -86,13 +85,13 @@ fn expect_broke<R: Abort>(
     Ok(())
 }
 
-/// White says its 25 bytes in seven pieces of four bytes at most.
+/// White says its 25 bytes in seven pieces of at most four bytes.
 const WHITE_READS: u64 = 7;
 
-/// Black says its 29 bytes in eight.
+/// Black says its 29 bytes in eight pieces.
 const BLACK_READS: u64 = 8;
 
-/// Each side is told lines of 13, 17 and 9 bytes, in such pieces by four writes, five and three.
+/// Each side is sent lines of 13, 17 and 9 bytes, in such pieces by four, five and three writes.
 const WRITES: u64 = 12;
 
 /// Each of the reads of a side's link fails in turn.

@@ -1,4 +1,4 @@
-//! A match whose last position stands for the third time.
+//! A match in which the last position occurs for the third time.
 ghost use Rattle.match_core.specs.Keeps.{IsSetup};
 
 use super::{BASE, in_sevens, play_with, said_by};
@@ -26,7 +26,7 @@ const BACK_TWICE: [&[u8]; 12] = [
     b"bQ bA1-",
 ];
 
-/// The rule is switched on, and many more plies could be played.
+/// The rule is on, and many more plies could be played.
 const WITH_RULE: Setup = Setup {
     game_type: BASE,
     level: Level::Depth { depth: 1 },
@@ -34,7 +34,7 @@ const WITH_RULE: Setup = Setup {
     repetition: true,
 };
 
-/// The rule is switched off, and no more plies than these.
+/// The rule is off, and no more plies than these are played.
 const WITHOUT_RULE: Setup = Setup {
     game_type: BASE,
     level: Level::Depth { depth: 1 },

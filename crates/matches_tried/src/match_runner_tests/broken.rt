@@ -1,4 +1,4 @@
-//! Matches of which a read or a write fails.
+//! Matches in which a read or a write fails.
 
 use super::{BLACK, Ending, TO_BLACK, TO_WHITE, WHITE, ends_so, is_ending, played, said};
 use hive_model::Colour;
@@ -28,8 +28,8 @@ fn a_read_that_fails_breaks_its_side(rt: HostRuntime) -> Result<(), Fail> {
     Ok(())
 }
 
-/// Whether the match that an illegal move ends, where the read and the write of these numbers fail
-/// of white's link, and of black's, ends so, fronts of the lines being sent.
+/// Whether the match with an illegal move at its end ends in this way. The read and the write with
+/// these numbers fail at white's link, and at black's. Initial parts of the lines are sent.
 fn fails_so(
     alloc: Global,
     white: (u64, u64),

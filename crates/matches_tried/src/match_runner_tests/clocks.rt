@@ -20,7 +20,7 @@ const IN_A_SECOND: Setup = Setup {
     repetition: false,
 };
 
-/// Runs a match of one ply in a second by these readings of a clock.
+/// Runs a match of one ply, with a second for it, by these readings of a clock.
 fn timed(alloc: Global, readings: &[u64]) -> Result<Referee<PlainGame>, AllocError> {
     let mut white = MemSetting::of(WHITE).cut(&[7]).link(alloc)?;
     let mut black = MemSetting::of(BLACK).cut(&[7]).link(alloc)?;
@@ -28,7 +28,7 @@ fn timed(alloc: Global, readings: &[u64]) -> Result<Referee<PlainGame>, AllocErr
     run_match(alloc, &mut white, &mut black, &mut clock, IN_A_SECOND)
 }
 
-/// Whether white was late, asked and answered at these two readings.
+/// Whether white was late: asked at the first of these readings, and answered at the second.
 fn is_late(verdict: Option<&Verdict>, first: u64, second: u64) -> bool {
     match verdict {
         Some(

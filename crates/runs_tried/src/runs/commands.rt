@@ -5,7 +5,7 @@ use hive_cli::Status::{self, BadInput, Done, SpawnFault, Usage};
 use memory_sides::MemSetting;
 use std::test::Fail;
 
-/// A certificate of the opening's best move, two plies deep.
+/// A certificate of the opening's best move at depth 2.
 pub(crate) const CERTIFICATE: &str =
     "hive-certificate 1\nBase;NotStarted;White[1]\ndepth 2\nmove wA1\nvalue 10\n0\n0\n0\n0\n";
 
@@ -13,16 +13,16 @@ pub(crate) const CERTIFICATE: &str =
 const CITING: &str =
     "hive-certificate 2\nBase;NotStarted;White[1]\ndepth 2\nmove wA1\nvalue 10\n0\n0\n0\n0\n";
 
-/// A proof that the opening is no win in two plies.
+/// A proof that the opening is not a win in two plies.
 const SOLUTION: &str =
     "hive-solution 1\nBase;NotStarted;White[1]\nplies 2\nanswer no\n0\n0\n0\n0\n";
 
-/// A game of one move that the number 0 makes.
+/// A game of one move that the seed 0 makes.
 const GROWN: &str =
     "seed 0\ntype Base+MLP\nplies 1\nstate InProgress\nmoves 7\nundone 1\nbest bS1 -wG1\n\
                      game Base+MLP;InProgress;Black[1];wG1\n";
 
-/// Words, an input, the status with which the run of them ends, and what it writes.
+/// Words, an input, the status with which their run ends, and what it writes.
 const COMMANDS: [(&[&str], &str, Status, &str); 18] = [
     (&["certify", "--depth", "2"], "Base\n", Done, CERTIFICATE),
     (&["certify", "--depth=2"], "", BadInput, "bad no line\n"),

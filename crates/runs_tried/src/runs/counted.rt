@@ -1,4 +1,5 @@
-//! Counts of lists of legal moves, input that is no game to count, and words that ask for no count.
+//! Counts of lists of legal moves, input that is not a game to count, and words that do not ask for
+//! a count.
 
 use crate::runs::expect_run;
 use hive_cli::Status::{self, BadInput, Done, ReadFault, Usage, WriteFault};
@@ -17,10 +18,10 @@ const DRAW: &str = concat!(
     "bG1 bS1-;wB1 wG1\\;bB1 bQ-;wA1 -wB1;bA1 bQ\\;wA1 wQ\\\n",
 );
 
-/// What asks for the counts of up to two plies.
+/// The words that ask for the counts of up to two plies.
 const TWO_PLIES: [&str; 3] = ["count", "--plies", "2"];
 
-/// A run, in which no call fails, that asks for counts of up to two plies.
+/// A run without failed calls that asks for counts of up to two plies.
 fn expect_counts<R: Threads + Sync + Abort>(
     rt: &R,
     alloc: Global,
@@ -48,7 +49,7 @@ fn lists_of_four_plies_are_counted(rt: HostRuntime) -> Result<(), Fail> {
     Ok(())
 }
 
-/// Games, and the counts of up to two plies behind each.
+/// Games, and the counts of up to two plies after each.
 const BEGUN: [(&str, &str); 3] = [
     ("Base", "1 4\n2 96\n"),
     ("Base;InProgress;Black[1];wS1\r\n", "1 24\n2 360\n"),
@@ -63,7 +64,7 @@ fn counts_begin_after_the_moves_of_the_game(rt: HostRuntime) -> Result<(), Fail>
     Ok(())
 }
 
-/// Inputs that are no game to count, and how that is said.
+/// Inputs that are not a game to count, and the line that says so.
 const BAD_INPUTS: [(&str, &str); 8] = [
     ("", "bad no line\n"),
     ("\n", "bad malformed part 1\n"),
@@ -110,7 +111,7 @@ fn an_option_is_written_in_one_word_or_in_two(rt: HostRuntime) -> Result<(), Fai
     Ok(())
 }
 
-/// Words that begin like those of a count, and are none.
+/// Words that begin like those of a count, but do not ask for one.
 const OTHER_WORDS: [&[&str]; 13] = [
     &["count"],
     &["count", "2"],

@@ -1,4 +1,4 @@
-//! Each front of a certificate, checked.
+//! Each initial part of a certificate, checked.
 
 use crate::runs::commands::CERTIFICATE;
 use crate::runs::expect_run;
@@ -6,7 +6,7 @@ use hive_cli::Status::{self, BadInput, Done, Refused};
 use memory_sides::{CUTS, MemSetting};
 use std::test::Fail;
 
-/// The fronts of the certificate, by how many bytes they have at least and at most, and what a
+/// The initial parts of the certificate, by their least and greatest number of bytes, and what a
 /// check of each of them answers.
 const FRONTS: [(usize, usize, Status, &str); 14] = [
     // no line, or a part of the first one
@@ -29,7 +29,7 @@ const FRONTS: [(usize, usize, Status, &str); 14] = [
     (58, 67, BadInput, "bad line 5\n"),
     // `value 1` and `value 10`, with or without its LF
     (68, 70, Refused, "refused short 0\n"),
-    // so many indices, the last with or without its LF
+    // this number of indices, the last with or without its LF
     (71, 72, Refused, "refused short 1\n"),
     (73, 74, Refused, "refused short 2\n"),
     (75, 76, Refused, "refused short 3\n"),

@@ -8,14 +8,14 @@ use std::process::Abort;
 use std::test::Fail;
 use std::thread::Threads;
 
-/// White greets, begins, plays `wS1`, and hears of it and of black's move.
+/// White greets, begins, plays `wS1`, and is told of it and of black's move.
 const WHITE: &[u8] = b"id A\nok\nok\nwS1\nok\nok\nok\nwQ /wS1\nok\nok\n";
 
-/// Black greets, begins, hears of white's move, and answers with its own.
+/// Black greets, begins, is told of white's move, and answers with its own.
 const BLACK: &[u8] = b"id B\nok\nok\nok\nbS1 wS1-\nok\nok\nok\n";
 
-/// The readings of a clock, how many plies are played at most, and what comes of it: what is
-/// written, and what was sent to white and to black.
+/// The readings of a clock, the limit of plies, and the result: what is written, and what was sent
+/// to white and to black.
 struct Case<'a> {
     readings: &'a [u64],
     plies: &'a str,
@@ -63,8 +63,8 @@ const CASES: [Case<'static>; 5] = [
     },
 ];
 
-/// Plays the match of a case, in which both are asked with a second and a margin of 50
-/// milliseconds, and compares all that comes of it.
+/// Plays the match of a case, with a second and a margin of 50 milliseconds for both sides, and
+/// compares the whole result.
 fn expect_case<R: Threads + Sync + Abort>(
     rt: &R,
     alloc: Global,

@@ -1,11 +1,11 @@
-//! Matches that begin with the game of the input, over programs that stand in memory.
+//! Matches that begin with the game of the input, over programs in memory.
 
 use crate::runs::programs::run_over;
 use hive_cli::Status;
 use io_edge::StepClock;
 use std::test::Fail;
 
-/// The words of a match from the game of the input, to the depth 1 and of six plies at most.
+/// The words of a match from the game of the input, to depth 1 and of at most six plies.
 const WORDS: [&str; 11] = [
     "match", "--white", "w", "--black", "b", "--from", "1", "--depth", "1", "--plies", "6",
 ];
@@ -13,11 +13,11 @@ const WORDS: [&str; 11] = [
 /// A game of four plies.
 const GIVEN: &str = "Base+MLP;InProgress;White[3];wS1;bS1 wS1-;wQ /wS1;bQ bS1-\n";
 
-/// What white says: it greets, begins, plays beside its queen, and hears of both moves.
+/// What white says: it greets, begins, plays beside its queen, and is told of both moves.
 const WHITE: &[u8] = b"id A\nok\nx\nok\nwA1 /wQ\nok\nx\nok\nx\nok\n";
 
-/// What black says: it greets, begins, hears of white's move, plays beside its queen, and hears of
-/// its own.
+/// What black says: it greets, begins, is told of white's move, plays beside its queen, and is told
+/// of its own move.
 const BLACK: &[u8] = b"id B\nok\nx\nok\nx\nok\nbA1 bQ-\nok\nx\nok\n";
 
 const TOLD: &[u8] = b"Base+MLP;InProgress;White[4];wS1;bS1 wS1-;wQ /wS1;bQ bS1-;wA1 /wQ;bA1 bQ-\n\
@@ -45,7 +45,7 @@ fn a_match_begins_with_the_game_of_the_input(rt: HostRuntime) -> Result<(), Fail
 const WON: &str = "Base;WhiteWins;Black[7];wS1;bS1 wS1-;wQ /wS1;bQ bS1-;wQ /bS1;bQ wQ-;wG1 -wS1;\
                    bG1 bS1-;wB1 /wQ;bB1 bQ-;wA1 -wB1;bA1 /bB1;wA1 wB1-\n";
 
-/// Inputs from which no match begins, and how that is said.
+/// Inputs from which no match begins, and the line that says so.
 const REFUSED: [(&str, &str); 5] = [
     (WON, "bad game over\n"),
     ("", "bad no line\n"),

@@ -1,4 +1,4 @@
-//! Matches and cups by the words that ask for them, over programs that stand in memory.
+//! Matches and cups by the words that ask for them, over programs in memory.
 
 use crate::runs::play;
 use hive_cli::Status;
@@ -9,7 +9,7 @@ use std::test::Fail;
 use std::thread::Threads;
 
 /// Runs these words by this clock, with this input, over programs that say this, in the order of
-/// their starts; the start of this number fails (0: none fails).
+/// their starts. The start with this number fails (0: none fails).
 pub(super) fn run_over<R: Threads + Sync, C: Clock>(
     rt: &R,
     alloc: Global,
@@ -24,7 +24,7 @@ pub(super) fn run_over<R: Threads + Sync, C: Clock>(
     play(rt, alloc, words, setting, clock, spawner)
 }
 
-/// What the programs of a cup of two engines say, in the order of their starts: in the second game
+/// What the programs of a cup of two engines say, in the order of their starts. In the second game
 /// white ends at once.
 const SAID: [&[u8]; 4] = [
     b"id A\nok\nok\nwS1\nok\nok\n",
@@ -33,7 +33,7 @@ const SAID: [&[u8]; 4] = [
     b"id A\nok\n",
 ];
 
-/// The text of that cup, each game of one ply.
+/// The text of that cup, with one ply in each game.
 const TOLD: &[u8] = b"game 1 2 Base;InProgress;Black[1];wS1\nverdict 1 2 limit 1\n\
     game 2 1 Base;NotStarted;White[1]\nverdict 2 1 forfeit white ended\n\
     a points 3 games 2\nb points 1 games 2\n";
@@ -72,8 +72,8 @@ const BACK_TWICE: [&str; 12] = [
     "wQ \\wA1", "bQ bA1/", "wQ -wA1", "bQ bA1-",
 ];
 
-/// What a side says that plays its moves of that game: those with even numbers from 0 on, or those
-/// with odd ones.
+/// What a side says that plays its moves of that game: those with even numbers, counted from 0, or
+/// those with odd ones.
 fn said_by(alloc: Global, first: usize) -> Result<Vec<u8>, AllocError> {
     let mut said = Vec::from_slice(alloc, b"id x\nok\nok\n".as_slice())?;
     for ply in 0..BACK_TWICE.len() {
@@ -86,7 +86,7 @@ fn said_by(alloc: Global, first: usize) -> Result<Vec<u8>, AllocError> {
     Ok(said)
 }
 
-/// The text of a match that ends where its position stands for the third time.
+/// The text of a match that ends because its position occurs for the third time.
 const DRAWN: &[u8] = b"Base;Draw;White[7];wA1;bA1 wA1-;wQ -wA1;bQ bA1-;wQ \\wA1;bQ bA1/;\
     wQ -wA1;bQ bA1-;wQ \\wA1;bQ bA1/;wQ -wA1;bQ bA1-\nresult Draw\n";
 
@@ -110,8 +110,8 @@ fn a_match_knows_the_rule_that_its_words_ask_for(rt: HostRuntime) -> Result<(), 
     Ok(())
 }
 
-/// What white says that plays `wS1` and hears of it, and black that answers with a move that is not
-/// legal.
+/// What is said by white, which plays `wS1` and is told of it, and by black, which answers with a
+/// move that is not legal.
 const ILL_PLAYED: [&[u8]; 2] = [
     b"id A\nok\nx\nok\nwS1\nok\nx\nok\n",
     b"id B\nok\nx\nok\nx\nok\nbQ -wS1\nok\n",

@@ -5,7 +5,7 @@ use hive_cli::Status;
 use memory_sides::MemSetting;
 use std::test::Fail;
 
-/// A finished game, and a line that declares another state than that of its game.
+/// A finished game, and a line that declares a state other than that of its game.
 const LINES: &str = concat!(
     "Base;Draw;Black[7];wS1;bS1 wS1-;wQ /wS1;bQ bS1-;wQ wS1\\;bQ bS1\\;wG1 -wQ;bG1 bS1-;",
     "wB1 wG1\\;bB1 bQ-;wA1 -wB1;bA1 bQ\\;wA1 wQ\\\n",
@@ -46,7 +46,7 @@ fn replays_write_an_answer_to_each_line(rt: HostRuntime) -> Result<(), Fail> {
     Ok(())
 }
 
-/// A game whose last position stands for the third time.
+/// A game in which the last position occurs for the third time.
 const DRAWN: &str = "Base;Draw;White[7];wA1;bA1 wA1-;wQ -wA1;bQ bA1-;wQ \\wA1;bQ bA1/;\
                      wQ -wA1;bQ bA1-;wQ \\wA1;bQ bA1/;wQ -wA1;bQ bA1-\n";
 

@@ -111,8 +111,8 @@ fn what_is_no_question_is_refused(rt: HostRuntime) -> Result<(), Fail> {
     Ok(())
 }
 
-/// The entries of a session of these lines, whose clock goes on by a millisecond at each reading,
-/// and what it wrote.
+/// The entries of a session of these lines, and what it wrote. Its clock advances by a millisecond
+/// at each reading.
 fn timed_session<R: Threads + Sync>(
     rt: &R,
     alloc: Global,

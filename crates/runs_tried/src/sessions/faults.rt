@@ -1,4 +1,4 @@
-//! Reads and writes that fail in the midst of a session.
+//! Reads and writes that fail in the middle of a session.
 
 use crate::sessions::{GREETING, expect_session, expect_uhp, greeted};
 use hive_cli::Status;
@@ -27,7 +27,7 @@ const TALK: [(&str, &str); 14] = [
     ("help", "err 1 unknown command\nok\n"),
 ];
 
-/// The lines, each ended by LF.
+/// The lines, each ended by an LF.
 fn talk_lines(alloc: Global) -> Result<Vec<u8>, AllocError> {
     let mut lines = Vec::new(alloc);
     for (line, _) in TALK {
@@ -37,8 +37,8 @@ fn talk_lines(alloc: Global) -> Result<Vec<u8>, AllocError> {
     Ok(lines)
 }
 
-/// What is written where so many bytes of the lines were read: the greeting, and the reply to each
-/// line whose LF is among them.
+/// What is written if this number of bytes of the lines was read: the greeting, and the reply to
+/// each line with its LF among them.
 fn written_for(alloc: Global, read: usize) -> Result<Vec<u8>, AllocError> {
     let mut written = Vec::from_slice(alloc, GREETING.as_bytes())?;
     let mut end: usize = 0;
@@ -51,8 +51,8 @@ fn written_for(alloc: Global, read: usize) -> Result<Vec<u8>, AllocError> {
     Ok(written)
 }
 
-/// The sizes of all writes, where each takes at most so many bytes: the greeting and each reply
-/// begin a write of their own.
+/// The sizes of all writes, if each takes at most this number of bytes. The greeting and each reply
+/// begin a new write.
 fn write_sizes(alloc: Global, piece: usize) -> Result<Vec<usize>, AllocError> {
     let mut sizes = Vec::new(alloc);
     add_sizes(&mut sizes, GREETING.len(), piece)?;

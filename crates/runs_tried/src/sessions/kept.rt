@@ -1,4 +1,4 @@
-//! Lines that are refused leave no trace: what is asked after them is answered as in a session that
+//! Lines that are refused leave no trace. What is asked after them is answered as in a session that
 //! never got them.
 
 use crate::sessions::{expect_uhp, greeted, run_in_memory};
@@ -22,7 +22,7 @@ const SECONDS: &str = "bS1 -wS1;bS1 /wS1;bS1 \\wS1;bS1 wS1\\;bS1 wS1/;bS1 wS1-;\
                        bG1 -wS1;bG1 /wS1;bG1 \\wS1;bG1 wS1\\;bG1 wS1/;bG1 wS1-;\
                        bA1 -wS1;bA1 /wS1;bA1 \\wS1;bA1 wS1\\;bA1 wS1/;bA1 wS1-\nok\n";
 
-/// What is asked of most sessions at their end.
+/// The last lines of most sessions.
 const ALL: &str = "options\nvalidmoves\n";
 
 /// Lines, further lines that are refused after them with the reply to each, and lines that are
@@ -35,7 +35,7 @@ struct Talk<'a> {
     told: &'a [&'a str],
 }
 
-/// What a session writes for these lines in which no call fails.
+/// What a session without failed calls writes for these lines.
 fn written_for<R: Threads + Sync>(
     rt: &R,
     alloc: Global,
@@ -47,8 +47,8 @@ fn written_for<R: Threads + Sync>(
     Vec::from_slice(alloc, sink.bytes())
 }
 
-/// Gives lines, so many of those that are refused, from this one on, and what is asked at the end,
-/// in pieces of one byte, of seven, and without bound.
+/// Gives lines, the given ones of those that are refused, and what is asked at the end, in pieces
+/// of one byte, of seven, and of any size.
 fn expect_no_trace<R: Threads + Sync + Abort>(
     rt: &R,
     alloc: Global,
@@ -180,13 +180,13 @@ fn a_line_that_is_too_long_leaves_no_trace(rt: HostRuntime) -> Result<(), Fail> 
     Ok(())
 }
 
-/// A game that ends in a draw, but for its last move.
+/// A game that ends in a draw, without its last move.
 const BEFORE_A_DRAW: &str = concat!(
     "wS1;bS1 wS1-;wQ /wS1;bQ bS1-;wQ /bS1;bQ wQ-;wG1 -wQ;bG1 bS1-;wB1 /wQ;bB1 bQ-;",
     "wA1 -wB1;bA1 /bB1",
 );
 
-/// A game in which black has no move but to pass.
+/// A game in which black can only pass.
 const PASSING: &str =
     "wB1;bS1 wB1-;wQ \\wB1;bQ bS1-;wQ wB1/;bQ bS1\\;wB1 bS1;bQ wB1-;wB2 /wB1;bQ wB2-;wB2 bQ";
 

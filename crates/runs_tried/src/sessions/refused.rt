@@ -1,4 +1,4 @@
-//! Lines that are refused, each with its answer; what was there before is still there afterwards.
+//! Lines that are refused, each with its answer. What was there before is still there afterwards.
 
 use crate::sessions::expect_session;
 use std::test::Fail;
@@ -11,7 +11,7 @@ fn without_a_game_there_is_nothing_to_play(rt: HostRuntime) -> Result<(), Fail> 
     Ok(())
 }
 
-/// Lines that are no command, and the answer to each.
+/// Lines that are not commands, and the answer to each.
 const NO_COMMANDS: [(&str, &str); 7] = [
     ("\n", "err 1 unknown command"),
     ("help\n", "err 1 unknown command"),

@@ -1,4 +1,4 @@
-//! Games that a third repetition ends, where the option Repetition was 1 when they began.
+//! Games that a third repetition ends, if the option Repetition was 1 when they began.
 
 use crate::sessions::expect_session;
 use std::test::Fail;
@@ -9,10 +9,10 @@ const HOME: &str = "wA1;bA1 wA1-;wQ -wA1;bQ bA1-";
 /// Both queens go and come back.
 const ROUND: &str = ";wQ \\wA1;bQ bA1/;wQ -wA1;bQ bA1-";
 
-/// The same but for the last move.
+/// The same without the last move.
 const ROUND_BUT_ONE: &str = ";wQ \\wA1;bQ bA1/;wQ -wA1";
 
-/// Switches the rule on for the games that begin from now on.
+/// Turns the rule on for the games that begin from now on.
 const ON: &str = "options set Repetition 1\n";
 
 /// The reply to it.
@@ -177,7 +177,7 @@ fn passes_are_positions_too(rt: HostRuntime) -> Result<(), Fail> {
 fn other_resting_pieces_or_movers_are_no_repetition(rt: HostRuntime) -> Result<(), Fail> {
     let front = "wA1;bA1 wA1-;wQ -wA1;bQ bA1-;wA2 /wA1;bA2 /bQ";
     for (turn, moves, last, next_turn) in [
-        // the pieces stand so three times, with bA2, bQ and bA2 at rest
+        // the pieces are in these places three times, with bA2, bQ and bA2 at rest
         (
             "Black[7];",
             ";wQ \\wA1;bQ bA1/;wQ -wA1;bQ bA1-;wQ \\wA1;bA2 bQ-;wQ -wA1",

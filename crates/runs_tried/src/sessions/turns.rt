@@ -1,12 +1,12 @@
-//! A source and a sink that take turns: a line is given only once all that was to be written before
-//! it was taken.
+//! A source and a sink that take turns. A line is given only once everything was taken that had to
+//! be written before it.
 ghost use Rattle.std.specs.Prelude.{None};
 ghost use Rattle.io_edge.specs.Outside.{no_side};
 
 use io_edge::{ReadAnswer, Sink, Source, WriteAnswer};
 use std::sync::atomic::{AtomicU64, Ordering};
 
-/// Gives lines, each ended by an LF and a byte at a read, and fails where one is wanted before the
+/// Gives lines, each ended by an LF, one byte at a read. It fails if a line is wanted before the
 /// replies to those before it were taken.
 #[derive(Drop)]
 pub struct TurnSource<'a> {

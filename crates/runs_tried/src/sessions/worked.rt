@@ -13,8 +13,8 @@ const SECONDS: &str = "bS1 -wS1;bS1 /wS1;bS1 \\wS1;bS1 wS1\\;bS1 wS1/;bS1 wS1-;\
                        bG1 -wS1;bG1 /wS1;bG1 \\wS1;bG1 wS1\\;bG1 wS1/;bG1 wS1-;\
                        bA1 -wS1;bA1 /wS1;bA1 \\wS1;bA1 wS1\\;bA1 wS1/;bA1 wS1-";
 
-/// A game in which four places that the ant `wA1` can walk to are also places that the pillbug can
-/// throw it to.
+/// A game in which there are four places to which the ant `wA1` can walk and to which the pillbug
+/// can also throw it.
 const WALKED_OR_THROWN: &str =
     "Base+P;InProgress;White[5];wS1;bS1 wS1-;wQ -wS1;bQ bS1-;wP -wQ;bG1 bQ-;wA1 -wP;bA1 bG1-";
 
@@ -167,7 +167,7 @@ fn a_draw_is_written_in_one_way(rt: HostRuntime) -> Result<(), Fail> {
     Ok(())
 }
 
-/// How often the text stands in the bytes.
+/// How often the text occurs in the bytes.
 fn occurrences(bytes: &[u8], text: &[u8]) -> usize {
     let mut count: usize = 0;
     for start in 0..bytes.len() {

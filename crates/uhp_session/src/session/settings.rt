@@ -1,4 +1,4 @@
-//! The options of a session: telling one and setting one.
+//! The options of a session: showing one and setting one.
 ghost use Rattle.std.specs.Prelude.{◌≡◌, IfOk};
 ghost use Rattle.uhp_session.specs.Answers.{Gave, IsSetting, get, option_of, reply_of, set};
 ghost use Rattle.uhp_session.specs.Answers.{text_of, with_setting};
@@ -10,7 +10,7 @@ use hive_model::Game;
 use std::alloc::{AllocError, Global};
 
 impl<G: Game + Send + Drop> Session<G> {
-    /// The option of this name, with the value that it has.
+    /// The option with this name and its current value.
     fn option_of(&self, name: &[u8]) -> Result<Setting, SettingFault>
         ensures { result ≡ option_of self.now name.now }
     {
@@ -25,7 +25,7 @@ impl<G: Game + Send + Drop> Session<G> {
         }
     }
 
-    /// The line of the option of this name.
+    /// The line of the option with this name.
     pub(super) fn tell_option(&self, alloc: Global, name: &[u8]) -> Result<Reply, AllocError>
         ensures { IfOk result (λ r. text_of r ≡ reply_of (get self.now name.now)) }
     {
@@ -35,7 +35,8 @@ impl<G: Game + Send + Drop> Session<G> {
         }
     }
 
-    /// The option has this value from now on. Searchers serve the values they were made for.
+    /// Sets the option to this value. Searchers are kept only for the values that they were made
+    /// for.
     fn keep(&mut self, setting: Setting)
         requires { IsSetting setting }
         ensures { self.new ≡ with_setting self.old setting }
@@ -55,7 +56,7 @@ impl<G: Game + Send + Drop> Session<G> {
         }
     }
 
-    /// Gives the option of this name this value.
+    /// Gives the option with this name this value.
     pub(super) fn set_option(
         &mut self,
         alloc: Global,

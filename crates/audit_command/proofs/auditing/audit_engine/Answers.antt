@@ -1,4 +1,4 @@
--- What is written tells the audit that was run.
+-- What is written reports the audit that was run.
 use Rattle.std.proofs.Common.{◌∙◌}
 use Rattle.command_runs.specs.World.{sides, world}
 use Rattle.audit_command.proofs.Closing.{none_failed, none_open, played_from, started_as, told_as}

@@ -1,4 +1,4 @@
--- What is asked for is that alone, and a type beside a given game asks for nothing.
+-- The match asked for is the only one, and a type besides a given game asks for nothing.
 use Rattle.std.proofs.Common.{◌∙◌, sym, Some}
 use Rattle.std.proofs.lemmas.Option.{none-some, same_Some}
 use Rattle.command_words.proofs.GivenLemmas.{not_none}

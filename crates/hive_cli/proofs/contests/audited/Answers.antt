@@ -1,4 +1,4 @@
--- An audit that wants memory before it begins starts no program.
+-- An audit starts no program if memory runs out before it begins.
 use Rattle.hive_cli.proofs.RunLemmas.{starved_audited}
 use Rattle.hive_cli.proofs.contests.audited.Goals as goal
 

@@ -1,4 +1,4 @@
--- A tournament that wants memory before it begins reads nothing and starts no program.
+-- A tournament reads nothing and starts no program if memory runs out before it begins.
 use Rattle.command_runs.specs.World.{sides, world}
 use Rattle.hive_cli.proofs.RunLemmas.{starved_tournament}
 use Rattle.hive_cli.proofs.contests.contested.Goals as goal

@@ -1,4 +1,4 @@
--- A cup that wants memory before it begins, and that it is played to a depth.
+-- A cup for which memory runs out before it begins, and that a cup is played to a depth.
 use Rattle.std.proofs.Common.{refl}
 use Rattle.cup_command.proofs.Early.{early-none}
 use Rattle.hive_cli.proofs.RunLemmas.{asks_engines, cup_depth}

@@ -1,4 +1,5 @@
--- A match that wants memory before it begins, one from the game of the input, and one from the opening.
+-- A match for which memory runs out before it begins, one from the game of the input, and one from
+-- the opening.
 use Rattle.std.proofs.Common.{List, [], String, Global, ap, map, refl}
 use Rattle.std.specs.Prelude.{string_bytes}
 use Rattle.command_runs.specs.World.{sides, times, world}

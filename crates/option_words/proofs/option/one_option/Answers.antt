@@ -2,7 +2,7 @@ use Rattle.std.proofs.Common.{◌≡◌, ◌∙◌, ap, subst, ℕ, List, [], �
 use Rattle.option_words.specs.Options.{value_at}
 use Rattle.option_words.proofs.option.one_option.Goals as goal
 
--- what is found is the value that is given
+-- the value that is found is the one given
 is_given : (o : Option (Bor (List ℕ))) (v : List ℕ) → option_map (λ r. r.now) o ≡ Some v → MatchOption o ⊥ (λ r. r.now ≡ v)
 is_given None v is = cc
 is_given (Some r) v is = let same : Some r.now ≡ Some v = is in cc

@@ -11,7 +11,7 @@ returns-in-Ok c =
     parse_finds c.args.command.now (names_of c.args.options.now) _ _ c.in-Ok.matches _ c.in_ok-parser.ensures c.in-Ok.ensures.matches c.in-Ok.ensures.kinds
     c.in_ok-found_values-in-Ok.ensures
 
--- the error is not for want of memory: so the list of faults is not empty
+-- memory did not run out, so the list of faults is not empty
 pub returns : goal.returns
 returns c =
     parse_fails c.args.command.now (names_of c.args.options.now) _ _ c.in-Err.error c.in_ok-parser.ensures c.in-Err.ensures.kinds

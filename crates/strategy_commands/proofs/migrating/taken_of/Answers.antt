@@ -19,7 +19,7 @@ use Rattle.strategy_commands.proofs.migrating.taken_of.Goals as goal
 abbrev HasFew : ℕ → Migrated → Type 0
 HasFew lines migrated = IfSome (answered migrated) (λ answer. CountsRefused index_faults answer lines)
 
--- the reading stands where the indices ended the call
+-- the reading when the indices ended the call
 abbrev IsEnded : Reading → Migrated → Type 0
 IsEnded reader migrated = IfSome (answered migrated) (λ answer. Ended index_faults (λ stop. StopsAt index_in stop reader) answer)
 

@@ -10,14 +10,14 @@ use Rattle.uhp_session.specs.Answers.{CurrentGame, reached}
 use Rattle.uhp_session.proofs.BestLaws.{best_on}
 use Rattle.uhp_session.proofs.current.Current.tell_best_by.Goals as goal
 
--- the moves that were listed are all of the game's
+-- the moves that were listed are all the moves of the game
 listed_all : (items listed whole : List Move) (n : ℕ) → items ≡ listed → listed ≡ take n whole → n ≡ length whole → items ≡ whole
 listed_all items listed whole n same taken all = same ∙ taken ∙ ap (λ k. take k whole) all ∙ take-length whole
 
 game_same : (t u : GameType) (ms ns : List Move) → t ≡ u → ms ≡ ns → IsGame u ns → IsGame t ms
 game_same t u ms ns kind made is = subst (λ z. IsGame z ms) (sym kind) (subst (IsGame u) (sym made) is)
 
--- of two games with one type and the same moves
+-- for two games of one type with the same moves
 reached_same : (b a : CurrentGame) → b.game_type ≡ a.game_type → b.made ≡ a.made → reached b ≡ reached a
 reached_same b a kind made = λ j. replay (opening (kind j)) (made j)
 
