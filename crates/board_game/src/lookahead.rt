@@ -10,9 +10,9 @@ ghost use Rattle.hive_model.specs.Minimax.{value};
 ghost use Rattle.hive_model.specs.Pieces.{other_side};
 ghost use Rattle.hive_model.specs.Positions.{Position};
 ghost use Rattle.leaf_worth.specs.Bases.{IsFound};
-ghost use Rattle.board_game.specs.Asked.{IsKnown, MayAsk};
+ghost use Rattle.board_game.specs.Asked.{IsKnown, MayAsk, MayLift};
 ghost use Rattle.board_game.specs.Reaches.{IsPlacing, IsReach};
-ghost use Rattle.board_game.specs.Replayed.{CanBeTaken, CanMake};
+ghost use Rattle.board_game.specs.Replayed.{CanMake};
 
 use crate::reach::{Placing, Reach, placing_by, reach_by};
 use crate::told_values::{find_base, find_whole, least_by, value_by};
@@ -69,9 +69,7 @@ impl Lookahead {
     fn find<B: Board>(&mut self, board: &B, keeper: &CutKeeper, piece: Piece, side: Colour)
         requires known { IsKnown (B.stacks board.now) side self.old }
         requires may { MayAsk (B.stacks board.now) keeper.now }
-        requires loose { CanBeTaken (B.stacks board.now) piece }
-        requires one_hive { OneHive (B.stacks board.now) }
-        requires left { OneHive (without (B.stacks board.now) piece) }
+        requires lift { MayLift (B.stacks board.now) piece }
         ensures known { IsSomeAnd self.new.whole (IsFound (B.stacks board.now) side) }
         ensures asked { IsSomeAnd self.new.asked (λ a. (a.0 ≡ piece)
             × IsFound (without (B.stacks board.now) piece) side a.1) }
@@ -165,9 +163,7 @@ impl Lookahead {
     ) -> Reach
         requires known { IsKnown (B.stacks board.now) side self.old }
         requires may { MayAsk (B.stacks board.now) keeper.now }
-        requires loose { CanBeTaken (B.stacks board.now) piece }
-        requires one_hive { OneHive (B.stacks board.now) }
-        requires left { OneHive (without (B.stacks board.now) piece) }
+        requires lift { MayLift (B.stacks board.now) piece }
         ensures known { IsKnown (B.stacks board.now) side self.new }
         ensures piece { result.piece ≡ piece }
         ensures reach { IsReach (B.stacks board.now) side result }
@@ -216,9 +212,7 @@ impl Lookahead {
     ) -> Reach
         requires known { IsKnown (B.stacks board.now) side self.old }
         requires may { MayAsk (B.stacks board.now) keeper.now }
-        requires loose { CanBeTaken (B.stacks board.now) piece }
-        requires one_hive { OneHive (B.stacks board.now) }
-        requires left { OneHive (without (B.stacks board.now) piece) }
+        requires lift { MayLift (B.stacks board.now) piece }
         ensures known { IsKnown (B.stacks board.now) side self.new }
         ensures piece { result.piece ≡ piece }
         ensures reach { IsReach (B.stacks board.now) side result }

@@ -18,20 +18,11 @@ reach_of-reach-requires-clause-may g c =
     let i = c.self.inside in
     may_ask i.game_type (g.B.Board.stacks i.board) i.made.items i.from.items i.spare i.count c.args.self.now c.args.m.now c.self.invariant.0 c.self.view_is c.requires i.keeper c.self.invariant.5
 
-pub reach_of-reach-requires-clause-loose : goal.reach_of-reach-requires-clause-loose
-reach_of-reach-requires-clause-loose g c =
+pub reach_of-reach-requires-clause-lift : goal.reach_of-reach-requires-clause-lift
+reach_of-reach-requires-clause-lift g c =
     let i = c.self.inside in
-    (may_go i.game_type (g.B.Board.stacks i.board) i.made.items i.from.items i.spare i.count c.args.self.now c.args.m.now c.self.invariant.0 c.self.view_is c.requires c.in-To.piece c.in-To.place c.in-To.is).2
-
-pub reach_of-reach-requires-clause-one_hive : goal.reach_of-reach-requires-clause-one_hive
-reach_of-reach-requires-clause-one_hive g c =
-    let i = c.self.inside in
-    (may_go i.game_type (g.B.Board.stacks i.board) i.made.items i.from.items i.spare i.count c.args.self.now c.args.m.now c.self.invariant.0 c.self.view_is c.requires c.in-To.piece c.in-To.place c.in-To.is).6
-
-pub reach_of-reach-requires-clause-left : goal.reach_of-reach-requires-clause-left
-reach_of-reach-requires-clause-left g c =
-    let i = c.self.inside in
-    (may_go i.game_type (g.B.Board.stacks i.board) i.made.items i.from.items i.spare i.count c.args.self.now c.args.m.now c.self.invariant.0 c.self.view_is c.requires c.in-To.piece c.in-To.place c.in-To.is).7
+    let may = may_go i.game_type (g.B.Board.stacks i.board) i.made.items i.from.items i.spare i.count c.args.self.now c.args.m.now c.self.invariant.0 c.self.view_is c.requires c.in-To.piece c.in-To.place c.in-To.is in
+    record { loose = may.2; one_hive = may.6; left = may.7 }
 
 pub is_out_of_reach-requires-clause-loose : goal.is_out_of_reach-requires-clause-loose
 is_out_of_reach-requires-clause-loose g c =

@@ -1,14 +1,8 @@
 use Rattle.board_game.proofs.AskLaws.{found_known}
 use Rattle.board_game.proofs.lookahead.Lookahead.told_least.Goals as goal
 
-pub find-requires-clause-loose : goal.find-requires-clause-loose
-find-requires-clause-loose g c = c.requires.can.2
-
-pub find-requires-clause-one_hive : goal.find-requires-clause-one_hive
-find-requires-clause-one_hive g c = c.requires.can.6
-
-pub find-requires-clause-left : goal.find-requires-clause-left
-find-requires-clause-left g c = c.requires.can.7
+pub find-requires-clause-lift : goal.find-requires-clause-lift
+find-requires-clause-lift g c = record { loose = c.requires.can.2; one_hive = c.requires.can.6; left = c.requires.can.7 }
 
 pub least_by-requires-clause-loose : goal.least_by-requires-clause-loose
 least_by-requires-clause-loose g c = c.requires.can.2
