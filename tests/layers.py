@@ -1,18 +1,22 @@
 #!/usr/bin/env python3
 """Draws the layers of the crates, docs/layers.svg, from crates.txt: a band for each heading there,
 a box for each crate, and a line from a crate to each that it stands on, but for those that it
-reaches through others.
+reaches through others. Makes the table of crates of docs/ARCHITECTURE.md too: a row for each crate,
+with the first sentence of its lib.rt.
 
-Usage: layers.py, which ends with status 0 where no crate stands on one of a later heading and the
-drawing is that of crates.txt; layers.py --write draws it anew.
+Usage: layers.py, which ends with status 0 if no crate stands on one of a later heading, and the
+drawing and the table are those of the crates; layers.py --write makes both anew.
 """
 import html
 import pathlib
+import re
 import sys
 from collections.abc import Iterator
 
 TOP = pathlib.Path(__file__).resolve().parent.parent
 DRAWING = TOP / "docs" / "layers.svg"
+PAGE = TOP / "docs" / "ARCHITECTURE.md"
+TABLE = re.compile(r"\| Crate \| What it holds \|\n(?:\|.*\n)*")
 WIDTH, LEFT, ROW, BOX, GAP, LETTER = 1180, 150, 38, 22, 14, 7.2
 
 Layers = list[tuple[str, list[str]]]  # headings and their crates
@@ -175,12 +179,38 @@ def draw() -> str:
     return "\n".join(out + ["</svg>", ""])
 
 
+def first_sentence(name: str) -> str:
+    """What the head of a crate says first, without its stop."""
+    sources = TOP / "crates" / name / "src"
+    root = next(file for file in ("lib.rt", "main.rt") if (sources / file).is_file())
+    text = (sources / root).read_text(encoding="utf-8")
+    head = " ".join(line[3:].strip() for line in text.split("\n") if line.startswith("//!"))
+    return re.split(r"\.(?:\s|$)", head)[0]
+
+
+def table() -> str:
+    rows = ["| Crate | What it holds |", "|---|---|"]
+    for heading, names in read_crates()[0]:
+        rows.append(f"| | **{heading}** |")
+        rows += [f"| `{name}` | {first_sentence(name)} |" for name in names]
+    return "\n".join(rows + [""])
+
+
+def with_table(page: str) -> str:
+    return TABLE.sub(lambda _: table(), page, count=1)
+
+
 def main(words: list[str]) -> None:
+    page = PAGE.read_text(encoding="utf-8")
     if words == ["--write"]:
         DRAWING.write_text(draw(), encoding="utf-8")
+        page = with_table(page)
+        PAGE.write_text(page, encoding="utf-8")
     wrong = upward(*read_crates())
     if not DRAWING.is_file() or DRAWING.read_text(encoding="utf-8") != draw():
         wrong.append("docs/layers.svg is not that of crates.txt: layers.py --write draws it anew")
+    if with_table(page) != page:
+        wrong.append("the table of crates is not that of their heads: layers.py --write makes it")
     if wrong:
         raise SystemExit("\n".join(wrong))
 

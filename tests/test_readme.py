@@ -168,3 +168,5 @@ class Pages(support.Case):
         self.assertEqual(layers.upward(bands, below), [])
         is_drawn = read(layers.DRAWING) == layers.draw()
         self.assertTrue(is_drawn, "docs/layers.svg is that of crates.txt")
+        page = read(layers.PAGE)
+        self.assertEqual(layers.with_table(page), page, "each row is the first sentence of a crate")
