@@ -14,7 +14,7 @@ use Rattle.hive_model.specs.Strings.{string}
 use Rattle.hive_model.specs.Minimax.{IsInner, best}
 use Rattle.search_laws.proofs.BestLaws.{best-exists, best-is}
 use Rattle.search_laws.proofs.LoopLaws.{on-at}
-use Rattle.strategy_text.specs.Text.{written_line}
+use Rattle.certificate_text.specs.Text.{written_line}
 use Rattle.grow_game.specs.Growing.{full_type, start, grown_moves, choices, IsBestHere, TellsBest}
 use Rattle.grow_command.specs.Laws.{BestMovesAreTold}
 use Rattle.grow_command.specs.Text.{best_field, move_field, grow_text, lines_about, lines_text}

@@ -10,7 +10,7 @@ use Rattle.hive_model.specs.Minimax.{best}
 use Rattle.hive_model.specs.Denotes.{text}
 use Rattle.hive_model.specs.Fields.{state_bytes, type_bytes}
 use Rattle.hive_model.specs.Strings.{string}
-use Rattle.strategy_text.specs.Text.{written_line}
+use Rattle.certificate_text.specs.Text.{written_line}
 use Rattle.grow_game.specs.Growing.{full_type, start, grown_moves, choices}
 
 -- lines, each ended by LF

@@ -4,15 +4,15 @@ ghost use Rattle.std.specs.Prelude.{◌≡◌, ◌++◌, codes, OnOk, IfOk};
 ghost use Rattle.hive_model.specs.Courses.{position};
 ghost use Rattle.hive_model.specs.Strings.{string};
 ghost use Rattle.grow_game.specs.Growing.{TellsBest};
-ghost use Rattle.strategy_text.specs.Text.{written_line};
+ghost use Rattle.certificate_text.specs.Text.{written_line};
 ghost use Rattle.grow_command.specs.Text.{best_field, lines_text, lines_about};
 
+use certificate_text::{push_line, push_move, push_number};
 use game_text::write_game;
 use grow_game::Grown;
 use hive_model::{Best, Game, ReplyText};
 use move_text::{state_text, type_text};
 use std::alloc::{AllocError, Global};
-use strategy_text::{push_line, push_move, push_number};
 
 /// Appends the line of the best move, which says `none` if there is none.
 fn push_best<G: Game>(text: &mut ReplyText, game: &G, best: Option<Best>) -> Result<(), AllocError>

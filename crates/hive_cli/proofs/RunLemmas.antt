@@ -39,9 +39,9 @@ use Rattle.command_words.specs.declared.asked.Asked.TheVariants.{Session, Replay
 use Rattle.audit_command.specs.Audit.{AuditRun}
 use Rattle.audit_command.proofs.Closing.{none_taken}
 use Rattle.book_command.specs.Runs.{BookRun}
-use Rattle.strategy_commands.specs.Certifying.{CertifyRun}
-use Rattle.strategy_commands.specs.Verdicts.{CheckRun}
-use Rattle.strategy_commands.specs.Migrating.{MigrateRun}
+use Rattle.certificate_commands.specs.Certifying.{CertifyRun}
+use Rattle.certificate_commands.specs.Verdicts.{CheckRun}
+use Rattle.certificate_commands.specs.Migrating.{MigrateRun}
 use Rattle.grow_command.specs.Runs.{GrowRun}
 use Rattle.win_commands.specs.Runs.{SolveRun, VerifyRun}
 use Rattle.tournament_command.specs.declared.format.Format.{Format}

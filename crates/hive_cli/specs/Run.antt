@@ -6,9 +6,9 @@ use Rattle.std.specs.declared.alloc.Global.{Global}
 use Rattle.audit_core.specs.declared.plan.Plan.{Plan}
 use Rattle.audit_command.specs.Audit.{AuditRun, AuditStarts, NoneIsOpen as NoProgramIsOpen}
 use Rattle.book_command.specs.Runs.{BookRun}
-use Rattle.strategy_commands.specs.Certifying.{CertifyRun}
-use Rattle.strategy_commands.specs.Verdicts.{CheckRun}
-use Rattle.strategy_commands.specs.Migrating.{MigrateRun}
+use Rattle.certificate_commands.specs.Certifying.{CertifyRun}
+use Rattle.certificate_commands.specs.Verdicts.{CheckRun}
+use Rattle.certificate_commands.specs.Migrating.{MigrateRun}
 use Rattle.command_runs.specs.Input.{Sides}
 use Rattle.command_runs.specs.World.{LeavesEngines, LeavesInput, LeavesTimes, World}
 use Rattle.command_runs.specs.declared.status.Status.{Status}

@@ -15,6 +15,7 @@ mod outcome;
 
 use crate::contests::{audited, contested, cupped, matched};
 use book_command::book;
+use certificate_commands::{certify, check, migrate};
 pub use command_runs::Status;
 pub use command_words::Asked;
 use command_words::asked_of;
@@ -27,7 +28,6 @@ use line_services::{serve_replay, serve_session};
 pub use outcome::Outcome;
 use std::alloc::Global;
 use std::thread::Threads;
-use strategy_commands::{certify, check, migrate};
 use tournament_command::Format;
 use tournament_edge::{Clocks, Progress};
 use win_commands::{solve, verify};
@@ -70,7 +70,7 @@ type ProgramGame = FastGame;
 /// input must be a game string of a game that is not over, and each further line a game string. It
 /// is `Done` once one line was written, and otherwise `BadInput`, like `count`.
 ///
-/// The other commands are those of `grow_command`, `strategy_commands`, `win_commands`,
+/// The other commands are those of `grow_command`, `certificate_commands`, `win_commands`,
 /// `match_command`, `cup_command`, `tournament_command` and `audit_command`, which describe them.
 /// With `--from 1` a match reads the game that it begins with, as `count` reads its game, before it
 /// starts a program. Without it a match does not read the input. If the starter's starts are

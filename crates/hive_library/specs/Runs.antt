@@ -7,8 +7,8 @@ use Rattle.command_runs.specs.GameRun.{Answers as GameAnswers}
 use Rattle.command_runs.specs.Statuses.{number}
 use Rattle.command_runs.specs.declared.status.Status.{Status}
 use Rattle.command_runs.specs.declared.status.Status.TheVariants.{Done, Refused, Usage, ReadFault, WriteFault, SpawnFault, BadInput, Memory, InputFull}
-use Rattle.strategy_verdicts.specs.declared.verdict.TextVerdict.{TextVerdict}
-use Rattle.strategy_verdicts.specs.Verdicts.{status_of, verdict_line}
+use Rattle.certificate_verdicts.specs.declared.verdict.TextVerdict.{TextVerdict}
+use Rattle.certificate_verdicts.specs.Verdicts.{status_of, verdict_line}
 use Rattle.hive_library.specs.Rooms.{Ends, PutsAs}
 
 -- what a call may leave: its status, the room before and after, and the length that it stored

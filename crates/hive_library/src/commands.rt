@@ -3,11 +3,11 @@
 ghost use Rattle.std.specs.Prelude.{◌≡◌, ◌≢◌, ℕ, List};
 ghost use Rattle.io_edge.specs.Lines.{lines};
 ghost use Rattle.hive_model.specs.declared.places.Move.{Move};
-ghost use Rattle.strategy_text.specs.declared.head.Head.{Head};
+ghost use Rattle.certificate_text.specs.declared.head.Head.{Head};
 ghost use Rattle.command_runs.specs.OneGame.{asked};
-ghost use Rattle.strategy_commands.specs.Certifying.{certificates_of};
-ghost use Rattle.strategy_commands.specs.Laws.{IsHeld, IsTrueClaim};
-ghost use Rattle.strategy_commands.specs.Verdicts.{verdict};
+ghost use Rattle.certificate_commands.specs.Certifying.{certificates_of};
+ghost use Rattle.certificate_commands.specs.Laws.{IsHeld, IsTrueClaim};
+ghost use Rattle.certificate_commands.specs.Verdicts.{verdict};
 ghost use Rattle.count_command.specs.Count.{counts_of};
 ghost use Rattle.win_commands.specs.Laws.{HoldsSolution, IsTrueText};
 ghost use Rattle.win_commands.specs.Text.{solution_of};
@@ -19,11 +19,11 @@ use crate::faults::Fault;
 use crate::rooms::give;
 use crate::runs::{give_run, is_too_long, new_sink};
 use crate::sources::TextSource;
+use certificate_commands::{certify, check};
 use count_command::count;
 use fast_game::FastGame;
 use io_edge::MemSink;
 use std::alloc::Global;
-use strategy_commands::{certify, check};
 use win_commands::{solve, verify};
 
 /// For each number of plies n from 1 to `plies`, at most 8: how many lists of n legal moves the one

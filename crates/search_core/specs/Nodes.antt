@@ -18,7 +18,7 @@ pub record IsOpenNode (node : Node) (level : ℕ) (game : Course) (stack : Level
   pub window : IsOpen node.window
   pub listed : IsNode node.depth level game stack
 
--- the node's window is open, the move is legal, and there is room for it and for the plies behind it
+-- the node's window is open, the move is legal, and there is room for it and for the plies after it
 pub record MayReply (m : Move) (node : Node) (game : Course) (stack : Levels) : Type 0 where
   pub window : IsOpen node.window
   pub can : CanReply m node.depth game stack

@@ -1,10 +1,10 @@
 -- What contracts know of indices at one moment of a walk.
 use Rattle.std.proofs.Common.{◌≡◌, ◌<◌, ◌≤◌, ◌+◌, ℕ, List, [], ◌∷◌, Option, None, Some, ap, arith, subst}
-use Rattle.strategy_walks.specs.Items.{Supply}
-use Rattle.strategy_walks.specs.Taking.{Moment, moment_of}
-use Rattle.strategy_walks.specs.Answers.{looked}
-use Rattle.strategy_walks.specs.Follows.{CarriesOn}
-use Rattle.strategy_walks.specs.Walks.{WalkEnd, Fault, Halt, Step, Below, Ends}
+use Rattle.certificate_walks.specs.Items.{Supply}
+use Rattle.certificate_walks.specs.Taking.{Moment, moment_of}
+use Rattle.certificate_walks.specs.Answers.{looked}
+use Rattle.certificate_walks.specs.Follows.{CarriesOn}
+use Rattle.certificate_walks.specs.Walks.{WalkEnd, Fault, Halt, Step, Below, Ends}
 use Rattle.strategy_check.specs.declared.why.Why.{Why}
 use Rattle.strategy_check.specs.declared.why.Why.TheVariants.{TooShort}
 use Rattle.strategy_check.specs.declared.walk.IndexWalk.{IndexWalk}

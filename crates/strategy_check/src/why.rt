@@ -4,7 +4,7 @@ ghost use Rattle.std.specs.Prelude.{refl};
 ghost use Rattle.strategy_check.specs.Checks.{index_faults};
 ghost use Rattle.strategy_check.specs.declared.why.Why.TheVariants.{Rest as LeftOver};
 
-use strategy_walks::WalkFault;
+use certificate_walks::WalkFault;
 
 /// The first fault of a certificate.
 #[derive(Clone, Copy, Debug, PartialEq, Eq)]

@@ -8,12 +8,12 @@ use Rattle.hive_model.specs.Games.{after}
 use Rattle.hive_model.specs.Keys.{key}
 use Rattle.hive_model.specs.Minimax.{value}
 use Rattle.search_laws.specs.Leaves.{IsLeaf}
-use Rattle.strategy_walks.specs.declared.limit.Limit.{Limit}
-use Rattle.strategy_walks.specs.declared.limit.Limit.TheVariants.{AtMost, AtLeast}
-use Rattle.strategy_walks.specs.Items.{is_none_left}
-use Rattle.strategy_walks.specs.Limits.{is_kept}
-use Rattle.strategy_walks.specs.Walks.{WalkEnd, Left, Fault, Halt, Step, Below, Ends, go_on, walk_all, walk_at, walk_step, leaf_outcome, walk, walk_moves, walk_root, place_of, certificate}
-use Rattle.strategy_walks.proofs.WalkLaws.{walk-leaf, walk-suc, walk-ends}
+use Rattle.certificate_walks.specs.declared.limit.Limit.{Limit}
+use Rattle.certificate_walks.specs.declared.limit.Limit.TheVariants.{AtMost, AtLeast}
+use Rattle.certificate_walks.specs.Items.{is_none_left}
+use Rattle.certificate_walks.specs.Limits.{is_kept}
+use Rattle.certificate_walks.specs.Walks.{WalkEnd, Left, Fault, Halt, Step, Below, Ends, go_on, walk_all, walk_at, walk_step, leaf_outcome, walk, walk_moves, walk_root, place_of, certificate}
+use Rattle.certificate_walks.proofs.WalkLaws.{walk-leaf, walk-suc, walk-ends}
 use Rattle.strategy_check.specs.declared.why.Why.{Why}
 use Rattle.strategy_check.specs.declared.why.Why.TheVariants.{BadIndex, Rest}
 use Rattle.strategy_check.specs.Trace.{Steps, steps, take_index, index_rules, trace, checked}

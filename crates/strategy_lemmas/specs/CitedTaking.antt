@@ -2,11 +2,11 @@
 use Rattle.std.proofs.Common.{◌≡◌, ◌<◌, ◌≤◌, ◌+◌, ℕ, ℤ, Bool, true, false, cond, List, [], ◌∷◌, Option, None, Some, ap, arith, subst}
 use Rattle.std.specs.List.{slice_get}
 use Rattle.hive_model.specs.Keys.{KeyParts, key}
-use Rattle.strategy_walks.specs.Items.{Supply}
-use Rattle.strategy_walks.specs.Taking.{Moment, moment_of}
-use Rattle.strategy_walks.specs.Answers.{looked}
-use Rattle.strategy_walks.specs.Follows.{CarriesOn}
-use Rattle.strategy_walks.specs.Walks.{WalkEnd, Left, Fault, Halt, Step, Below, Ends}
+use Rattle.certificate_walks.specs.Items.{Supply}
+use Rattle.certificate_walks.specs.Taking.{Moment, moment_of}
+use Rattle.certificate_walks.specs.Answers.{looked}
+use Rattle.certificate_walks.specs.Follows.{CarriesOn}
+use Rattle.certificate_walks.specs.Walks.{WalkEnd, Left, Fault, Halt, Step, Below, Ends}
 use Rattle.strategy_lemmas.specs.declared.lemmas.Lemma.{Lemma}
 use Rattle.strategy_lemmas.specs.Lemmas.{serves}
 use Rattle.strategy_lemmas.specs.declared.tokens.Token.{Token}

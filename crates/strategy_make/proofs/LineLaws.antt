@@ -5,7 +5,7 @@ use Rattle.std.proofs.lemmas.List.{append_assoc}
 use Rattle.io_edge.specs.Lines.{Text, line_of, lines}
 use Rattle.line_feed.specs.Feed.{NoLf}
 use Rattle.line_feed.proofs.PartLemmas.{lines-lf, line_of_short}
-use Rattle.strategy_text.specs.Text.{written_line}
+use Rattle.certificate_text.specs.Text.{written_line}
 use Rattle.strategy_make.proofs.PlainLaws.{is_plain, IsPlain, plain-cons}
 
 no-lf : (xs : List ℕ) → is_plain xs ≡ true → NoLf xs

@@ -14,14 +14,14 @@ use Rattle.rule_laws.proofs.Games.{listed_keep}
 use Rattle.line_feed.proofs.PartLemmas.{line_parts-nil}
 use Rattle.move_text.specs.Readers.{number_at}
 use Rattle.move_text.proofs.NumberLaws.{number_again}
-use Rattle.strategy_walks.specs.declared.limit.Limit.{Limit}
-use Rattle.strategy_walks.specs.declared.limit.Limit.TheVariants.{AtMost, AtLeast}
-use Rattle.strategy_walks.specs.Limits.{Each, is_kept}
-use Rattle.strategy_walks.specs.Walks.{place_of}
-use Rattle.strategy_walks.proofs.PlaceLaws.{Each-append, on-before, on-behind}
+use Rattle.certificate_walks.specs.declared.limit.Limit.{Limit}
+use Rattle.certificate_walks.specs.declared.limit.Limit.TheVariants.{AtMost, AtLeast}
+use Rattle.certificate_walks.specs.Limits.{Each, is_kept}
+use Rattle.certificate_walks.specs.Walks.{place_of}
+use Rattle.certificate_walks.proofs.PlaceLaws.{Each-append, on-before, on-behind}
 use Rattle.strategy_check.specs.Least.{least, least_from, least_inner, least_moves}
-use Rattle.strategy_text.specs.Text.{index_in}
-use Rattle.strategy_indices.specs.Writing.{index_lines}
+use Rattle.certificate_text.specs.Text.{index_in}
+use Rattle.certificate_indices.specs.Writing.{index_lines}
 use Rattle.strategy_make.specs.Making.{least_at, least_indices}
 use Rattle.strategy_make.proofs.PlainLaws.{decimal-plain, wider-plain}
 use Rattle.strategy_make.proofs.LineLaws.{lines-begin}

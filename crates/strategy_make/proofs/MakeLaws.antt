@@ -16,16 +16,16 @@ use Rattle.hive_model.specs.Minimax.{best, value}
 use Rattle.hive_model.specs.Stack.{Levels, level_of, with_level}
 use Rattle.search_laws.proofs.LoopLaws.{on-at, level_of-with_level}
 use Rattle.search_laws.proofs.BestLaws.{best-is}
-use Rattle.strategy_walks.specs.declared.limit.Limit.{Limit}
-use Rattle.strategy_walks.specs.declared.limit.Limit.TheVariants.{AtMost, AtLeast}
-use Rattle.strategy_walks.specs.Follows.{range_of}
-use Rattle.strategy_walks.proofs.FollowLaws.{range-before, range-behind}
+use Rattle.certificate_walks.specs.declared.limit.Limit.{Limit}
+use Rattle.certificate_walks.specs.declared.limit.Limit.TheVariants.{AtMost, AtLeast}
+use Rattle.certificate_walks.specs.Follows.{range_of}
+use Rattle.certificate_walks.proofs.FollowLaws.{range-before, range-behind}
 use Rattle.strategy_check.specs.Least.{least, least_moves}
-use Rattle.strategy_walks.specs.Walks.{place_of}
-use Rattle.strategy_walks.proofs.PlaceLaws.{place-here, place-first}
-use Rattle.strategy_text.specs.Text.{index_line, head_text}
-use Rattle.strategy_indices.specs.Writing.{Wrote, index_lines, lines_below}
-use Rattle.strategy_indices.proofs.WriteLaws.{wrote-as, wrote-then, wrote-stop, wrote-is, index-written}
+use Rattle.certificate_walks.specs.Walks.{place_of}
+use Rattle.certificate_walks.proofs.PlaceLaws.{place-here, place-first}
+use Rattle.certificate_text.specs.Text.{index_line, head_text}
+use Rattle.certificate_indices.specs.Writing.{Wrote, index_lines, lines_below}
+use Rattle.certificate_indices.proofs.WriteLaws.{wrote-as, wrote-then, wrote-stop, wrote-is, index-written}
 use Rattle.strategy_make.specs.Making.{least_indices, certificate, certificate_of}
 
 -- ---- the parts of the least indices of a root

@@ -31,9 +31,9 @@ use Rattle.move_text.proofs.NumberLaws.{number_again}
 use Rattle.search_laws.specs.Laws.{IsSmall}
 use Rattle.strategy_check.specs.Trace.{Holds}
 use Rattle.strategy_check.proofs.LeastLaws.{least-holds}
-use Rattle.strategy_text.specs.Text.{and_then, head_of, index_in, head_text, written_line, or_bad, or_bad_game, then_at, version_at, depth_at, move_at, value_at, int_at, signed, not_empty}
-use Rattle.strategy_text.proofs.TextLaws.{some-behind, head-begins, after_version, after_game, after_depth, after_text, head_is}
-use Rattle.strategy_indices.specs.Writing.{index_lines}
+use Rattle.certificate_text.specs.Text.{and_then, head_of, index_in, head_text, written_line, or_bad, or_bad_game, then_at, version_at, depth_at, move_at, value_at, int_at, signed, not_empty}
+use Rattle.certificate_text.proofs.TextLaws.{some-behind, head-begins, after_version, after_game, after_depth, after_text, head_is}
+use Rattle.certificate_indices.specs.Writing.{index_lines}
 use Rattle.strategy_make.specs.Making.{least_at, least_indices, certificate}
 use Rattle.strategy_make.specs.Laws.{LeastIndicesHold, MayClaim, HeadsAreRead, IndicesAreRead}
 use Rattle.strategy_make.proofs.PlainLaws.{IsPlain, joined, wider-plain, decimal-plain, signed-plain, denotes-plain, string-plain}

@@ -13,8 +13,8 @@ use Rattle.hive_model.specs.Denotes.{text}
 use Rattle.io_edge.specs.Lines.{lines}
 use Rattle.search_laws.specs.Laws.{IsSmall}
 use Rattle.strategy_check.specs.Trace.{Holds}
-use Rattle.strategy_text.specs.declared.head.Head.{Head}
-use Rattle.strategy_text.specs.Text.{head_of, index_in}
+use Rattle.certificate_text.specs.declared.head.Head.{Head}
+use Rattle.certificate_text.specs.Text.{head_of, index_in}
 use Rattle.strategy_make.specs.Making.{least_indices, certificate}
 
 -- the least indices show that the best move is best, and its value

@@ -9,10 +9,10 @@ use Rattle.hive_model.specs.Legal.{is_over, moves}
 use Rattle.hive_model.specs.Games.{replay}
 use Rattle.hive_model.specs.Courses.{Course, position}
 use Rattle.hive_model.specs.Minimax.{value, best}
-use Rattle.strategy_walks.specs.Walks.{place_of}
+use Rattle.certificate_walks.specs.Walks.{place_of}
 use Rattle.strategy_check.specs.Least.{least_moves}
-use Rattle.strategy_text.specs.Text.{head_text}
-use Rattle.strategy_indices.specs.Writing.{index_lines}
+use Rattle.certificate_text.specs.Text.{head_text}
+use Rattle.certificate_indices.specs.Writing.{index_lines}
 use Rattle.strategy_make.specs.declared.fault.MakeFault.{MakeFault}
 use Rattle.strategy_make.specs.declared.fault.MakeFault.TheVariants.{WriteFault, Memory}
 

@@ -5,12 +5,12 @@ ghost use Rattle.hive_model.specs.Lists.{IsOn};
 ghost use Rattle.hive_model.specs.Legal.{moves};
 ghost use Rattle.hive_model.specs.Games.{IsGame};
 ghost use Rattle.hive_model.specs.Courses.{position};
-ghost use Rattle.strategy_text.specs.Text.{head_text};
+ghost use Rattle.certificate_text.specs.Text.{head_text};
 
+use certificate_text::write_head;
+use certificate_walks::Claim;
 use hive_model::{Best, Game, ReplyText};
 use std::alloc::{AllocError, Global};
-use strategy_text::write_head;
-use strategy_walks::Claim;
 
 /// The version of the certificates that are made.
 const VERSION: u32 = 1;

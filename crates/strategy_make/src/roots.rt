@@ -9,15 +9,15 @@ ghost use Rattle.hive_model.specs.Courses.{position};
 ghost use Rattle.search_laws.specs.Laws.{IsSmall};
 ghost use Rattle.search_laws.specs.Nodes.{HasRoom, AreAsBefore};
 ghost use Rattle.strategy_check.specs.Least.{least_moves};
-ghost use Rattle.strategy_walks.specs.Claims.{HasReplies};
-ghost use Rattle.strategy_indices.specs.Writing.{Wrote, index_lines};
+ghost use Rattle.certificate_walks.specs.Claims.{HasReplies};
+ghost use Rattle.certificate_indices.specs.Writing.{Wrote, index_lines};
 ghost use Rattle.strategy_make.specs.Making.{least_indices};
 
+use certificate_indices::{Judge, write_child, write_moves};
+use certificate_walks::Limit;
 use hive_model::{Best, Game, MoveStack};
 use io_edge::Sink;
 use strategy_check::find_move;
-use strategy_indices::{Judge, write_child, write_moves};
-use strategy_walks::Limit;
 
 /// Writes the least indices that show that the move at `place` is best, and its value, with `depth`
 /// plies left after it.

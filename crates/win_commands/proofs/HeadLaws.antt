@@ -7,10 +7,10 @@ use Rattle.hive_model.specs.declared.places.Move.{Move}
 use Rattle.io_edge.specs.Lines.{Line, ToldLines}
 use Rattle.hive_model.specs.Strings.{string}
 use Rattle.game_text.specs.declared.parsed.Parsed.{Parsed}
-use Rattle.strategy_text.specs.declared.head.HeadFault.{HeadFault}
-use Rattle.strategy_text.specs.Heads.{IsBehind}
-use Rattle.strategy_text.specs.Text.{and_then, field_in, game_in, written_line}
-use Rattle.strategy_text.proofs.TextLaws.{GoesOn, behind-field, behind-game}
+use Rattle.certificate_text.specs.declared.head.HeadFault.{HeadFault}
+use Rattle.certificate_text.specs.Heads.{IsBehind}
+use Rattle.certificate_text.specs.Text.{and_then, field_in, game_in, written_line}
+use Rattle.certificate_text.proofs.TextLaws.{GoesOn, behind-field, behind-game}
 use Rattle.win_commands.specs.declared.head.Head.{Head}
 use Rattle.win_commands.specs.Text.{answer_at, answer_word, head_text, plies_at, version_at}
 use Rattle.win_commands.specs.Verdicts.{head_of}

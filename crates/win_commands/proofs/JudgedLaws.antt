@@ -8,14 +8,14 @@ use Rattle.io_edge.specs.Lines.{Line}
 use Rattle.hive_model.specs.Games.{replay}
 use Rattle.hive_model.specs.Positions.{opening}
 use Rattle.line_feed.specs.Feed.{Reading}
-use Rattle.strategy_text.specs.Text.{index_in}
+use Rattle.certificate_text.specs.Text.{index_in}
 use Rattle.command_runs.specs.OneGame.{last_position}
-use Rattle.strategy_verdicts.specs.declared.verdict.TextVerdict.{TextVerdict}
-use Rattle.strategy_verdicts.specs.declared.verdict.Unread.{Unread}
-use Rattle.strategy_verdicts.specs.Judging.{JudgesAhead}
-use Rattle.strategy_verdicts.specs.Reading.{Judges}
-use Rattle.strategy_verdicts.specs.Runs.{IsUndecided, Judgement}
-use Rattle.strategy_verdicts.proofs.TextLaws.{if-open}
+use Rattle.certificate_verdicts.specs.declared.verdict.TextVerdict.{TextVerdict}
+use Rattle.certificate_verdicts.specs.declared.verdict.Unread.{Unread}
+use Rattle.certificate_verdicts.specs.Judging.{JudgesAhead}
+use Rattle.certificate_verdicts.specs.Reading.{Judges}
+use Rattle.certificate_verdicts.specs.Runs.{IsUndecided, Judgement}
+use Rattle.certificate_verdicts.proofs.TextLaws.{if-open}
 use Rattle.win_commands.specs.declared.head.Head.{Head}
 use Rattle.win_commands.specs.Verdicts.{of_claim, of_items}
 

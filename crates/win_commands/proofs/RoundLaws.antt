@@ -19,17 +19,17 @@ use Rattle.game_text.specs.declared.parsed.Parsed.{Parsed}
 use Rattle.game_text.proofs.GameLaws.{strings}
 use Rattle.game_text.proofs.LineLaws.{game_again}
 use Rattle.io_edge.specs.Outside.{behind}
-use Rattle.strategy_text.specs.Text.{and_then, index_in, or_bad, or_bad_game, then_at, written_line}
-use Rattle.strategy_text.proofs.TextLaws.{some-behind}
-use Rattle.strategy_indices.specs.Writing.{index_lines}
+use Rattle.certificate_text.specs.Text.{and_then, index_in, or_bad, or_bad_game, then_at, written_line}
+use Rattle.certificate_text.proofs.TextLaws.{some-behind}
+use Rattle.certificate_indices.specs.Writing.{index_lines}
 use Rattle.strategy_make.proofs.PlainLaws.{IsPlain, decimal-plain, joined, string-plain}
 use Rattle.strategy_make.proofs.LineLaws.{lines-begin}
 use Rattle.strategy_make.proofs.LowLaws.{AreLow, indices-read, least-low}
 use Rattle.win_solver.specs.Solution.{least_solution, limit_of}
 use Rattle.win_solver.proofs.SolutionLaws.{least-is, least-solves}
-use Rattle.strategy_verdicts.specs.Verdicts.{of_walk}
-use Rattle.strategy_verdicts.proofs.AskedLaws.{asked-open}
-use Rattle.strategy_verdicts.proofs.TextLaws.{if-open, verdict-is}
+use Rattle.certificate_verdicts.specs.Verdicts.{of_walk}
+use Rattle.certificate_verdicts.proofs.AskedLaws.{asked-open}
+use Rattle.certificate_verdicts.proofs.TextLaws.{if-open, verdict-is}
 use Rattle.win_commands.specs.declared.head.Head.{Head}
 use Rattle.win_commands.specs.Text.{answer_at, answer_of, answer_word, head_text, is_forced, plies_at, version_at}
 use Rattle.win_commands.specs.Verdicts.{head_of, of_claim, of_items, verdict}

@@ -4,19 +4,19 @@ use Rattle.std.specs.Prelude.{Result, Ok, Err}
 use Rattle.hive_model.specs.Positions.{Position}
 use Rattle.hive_model.specs.Legal.{is_over}
 use Rattle.io_edge.specs.Lines.{Line}
-use Rattle.strategy_walks.specs.Walks.{WalkEnd, Left, Fault, Halt}
+use Rattle.certificate_walks.specs.Walks.{WalkEnd, Left, Fault, Halt}
 use Rattle.strategy_check.specs.declared.why.Why.{Why}
 use Rattle.strategy_check.specs.Trace.{Steps}
-use Rattle.strategy_text.specs.declared.head.HeadFault.{HeadFault}
-use Rattle.strategy_text.specs.Text.{index_in}
+use Rattle.certificate_text.specs.declared.head.HeadFault.{HeadFault}
+use Rattle.certificate_text.specs.Text.{index_in}
 use Rattle.win_solver.specs.Solution.{solved}
 use Rattle.win_solver.specs.Solution.{Solves}
 use Rattle.win_solver.proofs.SolutionLaws.{solved-indices, solved-sound}
 use Rattle.command_runs.specs.OneGame.{last_position}
 use Rattle.win_commands.specs.declared.head.Head.{Head}
-use Rattle.strategy_verdicts.specs.declared.verdict.TextVerdict.TheVariants.{Accepted, GameOver}
-use Rattle.strategy_verdicts.specs.Verdicts.{of_walk}
-use Rattle.strategy_verdicts.proofs.TextLaws.{if-open, never-fault, verdict-is}
+use Rattle.certificate_verdicts.specs.declared.verdict.TextVerdict.TheVariants.{Accepted, GameOver}
+use Rattle.certificate_verdicts.specs.Verdicts.{of_walk}
+use Rattle.certificate_verdicts.proofs.TextLaws.{if-open, never-fault, verdict-is}
 use Rattle.win_commands.specs.Text.{is_forced}
 use Rattle.win_commands.specs.Verdicts.{head_of, of_claim, of_items, verdict}
 use Rattle.win_commands.specs.Laws.{AcceptedIsTrue, HoldsSolution, IsTrueText}

@@ -10,11 +10,11 @@ use Rattle.command_runs.specs.Input.{Sides, WhereTold}
 use Rattle.command_runs.specs.OneGame.{AsksOne, last_position}
 use Rattle.command_runs.specs.Served.{RunsAreDone}
 use Rattle.command_runs.specs.declared.status.Status.TheVariants.{Done}
-use Rattle.strategy_text.specs.Text.{index_in}
+use Rattle.certificate_text.specs.Text.{index_in}
 use Rattle.win_solver.specs.Solution.{Solves}
 use Rattle.win_commands.specs.declared.head.Head.{Head}
-use Rattle.strategy_verdicts.specs.declared.verdict.TextVerdict.TheVariants.{Accepted}
-use Rattle.strategy_verdicts.specs.Laws.{WritesAccepted}
+use Rattle.certificate_verdicts.specs.declared.verdict.TextVerdict.TheVariants.{Accepted}
+use Rattle.certificate_verdicts.specs.Laws.{WritesAccepted}
 use Rattle.win_commands.specs.Text.{is_forced, solution_text}
 use Rattle.win_commands.specs.Verdicts.{head_of, verdict}
 use Rattle.win_commands.specs.Runs.{SolveRun, VerifyRun}

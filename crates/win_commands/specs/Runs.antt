@@ -3,7 +3,7 @@ use Rattle.std.specs.Prelude.{ℕ}
 use Rattle.command_runs.specs.Input.{Sides}
 use Rattle.command_runs.specs.GameRun.{GameRun}
 use Rattle.command_runs.specs.declared.status.Status.{Status}
-use Rattle.strategy_verdicts.specs.Runs.{VerdictRun}
+use Rattle.certificate_verdicts.specs.Runs.{VerdictRun}
 use Rattle.win_commands.specs.Text.{solution_of}
 use Rattle.win_commands.specs.Verdicts.{verdict}
 

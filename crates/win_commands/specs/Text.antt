@@ -8,8 +8,8 @@ use Rattle.hive_model.specs.Positions.{Position, opening}
 use Rattle.hive_model.specs.Games.{replay}
 use Rattle.hive_model.specs.Strings.{string}
 use Rattle.game_text.specs.Turns.{behind_word}
-use Rattle.strategy_text.specs.Text.{number_behind, then_at, written_line}
-use Rattle.strategy_indices.specs.Writing.{index_lines}
+use Rattle.certificate_text.specs.Text.{number_behind, then_at, written_line}
+use Rattle.certificate_indices.specs.Writing.{index_lines}
 use Rattle.win_solver.specs.Force.{force}
 use Rattle.win_solver.specs.Solution.{least_solution}
 use Rattle.command_runs.specs.GameRun.{Answers}

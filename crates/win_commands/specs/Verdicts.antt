@@ -5,19 +5,19 @@ use Rattle.hive_model.specs.Positions.{Position}
 use Rattle.hive_model.specs.Legal.{is_over}
 use Rattle.hive_model.specs.Games.{IsGame}
 use Rattle.io_edge.specs.Lines.{Line}
-use Rattle.strategy_text.specs.declared.head.HeadFault.{HeadFault}
-use Rattle.strategy_text.specs.Text.{and_then, field_in, game_in, index_in}
-use Rattle.strategy_walks.specs.Walks.{WalkEnd}
+use Rattle.certificate_text.specs.declared.head.HeadFault.{HeadFault}
+use Rattle.certificate_text.specs.Text.{and_then, field_in, game_in, index_in}
+use Rattle.certificate_walks.specs.Walks.{WalkEnd}
 use Rattle.strategy_check.specs.Trace.{Steps}
 use Rattle.strategy_check.specs.declared.why.Why.{Why}
 use Rattle.win_solver.specs.Solution.{solved}
 use Rattle.command_runs.specs.OneGame.{last_position}
 use Rattle.win_commands.specs.declared.head.Head.{Head}
-use Rattle.strategy_verdicts.specs.declared.verdict.TextVerdict.{TextVerdict}
-use Rattle.strategy_verdicts.specs.declared.verdict.TextVerdict.TheVariants.{GameOver}
-use Rattle.strategy_verdicts.specs.Judging.{text_verdict}
-use Rattle.strategy_verdicts.specs.Runs.{IsDecidedBehind, not-yet}
-use Rattle.strategy_verdicts.specs.Verdicts.{index_refusal, of_walk}
+use Rattle.certificate_verdicts.specs.declared.verdict.TextVerdict.{TextVerdict}
+use Rattle.certificate_verdicts.specs.declared.verdict.TextVerdict.TheVariants.{GameOver}
+use Rattle.certificate_verdicts.specs.Judging.{text_verdict}
+use Rattle.certificate_verdicts.specs.Runs.{IsDecidedBehind, not-yet}
+use Rattle.certificate_verdicts.specs.Verdicts.{index_refusal, of_walk}
 use Rattle.win_commands.specs.Text.{version_at, plies_at, answer_at}
 
 -- The head

@@ -3,8 +3,8 @@
 ghost use Rattle.std.specs.Prelude.{◌≡◌, ⊤};
 ghost use Rattle.win_commands.specs.Text.{answer_at, answer_of};
 
+use certificate_text::{Field, behind};
 use std::alloc::AllocError;
-use strategy_text::{Field, behind};
 
 /// Whether the word is `yes`, or `None` if it is neither `yes` nor `no`.
 fn answer_of(word: &[u8]) -> Option<bool>

@@ -3,17 +3,17 @@
 ghost use Rattle.std.specs.Prelude.{◌≡◌, ℕ, List, Some, Err, IfOk};
 ghost use Rattle.line_feed.specs.Ahead.{ahead_of};
 ghost use Rattle.io_edge.specs.Lines.{Line as AnyLine};
-ghost use Rattle.strategy_text.specs.Heads.{BreaksOff, Reads, TakesLines};
-ghost use Rattle.strategy_text.specs.Taken.{HasRead};
+ghost use Rattle.certificate_text.specs.Heads.{BreaksOff, Reads, TakesLines};
+ghost use Rattle.certificate_text.specs.Taken.{HasRead};
 ghost use Rattle.win_commands.specs.Verdicts.{IsHead, head_of};
 
 use crate::fields::AnswerField;
+use certificate_text::{HeadFault, NumberField, read_field, read_game_line};
 use game_text::Parsed;
 use hive_model::Game;
 use io_edge::Source;
 use line_feed::LineReader;
 use std::alloc::Global;
-use strategy_text::{HeadFault, NumberField, read_field, read_game_line};
 
 /// The content of a solution's head: the game, the number of plies, from 1 to 16, and whether the
 /// side to move can force a win within them.

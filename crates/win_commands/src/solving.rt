@@ -5,7 +5,7 @@ ghost use Rattle.io_edge.specs.Outside.{HasCause};
 ghost use Rattle.hive_model.specs.Courses.{position};
 ghost use Rattle.command_runs.specs.Answered.{WritesAnswer};
 ghost use Rattle.command_runs.specs.Runs.{RunsAs, side_of};
-ghost use Rattle.strategy_indices.specs.Writing.{Wrote};
+ghost use Rattle.certificate_indices.specs.Writing.{Wrote};
 ghost use Rattle.win_commands.specs.Text.{solution_lines, solution_text};
 ghost use Rattle.win_commands.specs.Runs.{SolveRun};
 

@@ -1,13 +1,13 @@
 //! Writes the head of a solution.
 
 ghost use Rattle.std.specs.Prelude.{◌≡◌, ◌++◌, codes, OnOk, IfOk};
-ghost use Rattle.strategy_text.specs.Text.{written_line};
+ghost use Rattle.certificate_text.specs.Text.{written_line};
 ghost use Rattle.win_commands.specs.Text.{answer_word, head_text};
 
+use certificate_text::{push_line, push_number};
 use game_text::write_game;
 use hive_model::{Game, ReplyText};
 use std::alloc::{AllocError, Global};
-use strategy_text::{push_line, push_number};
 
 /// Appends the line of the answer.
 fn push_answer(text: &mut ReplyText, answer: bool) -> Result<(), AllocError>

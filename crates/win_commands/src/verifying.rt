@@ -3,21 +3,21 @@
 ghost use Rattle.std.specs.Prelude.{◌≤◌, map};
 ghost use Rattle.hive_model.specs.Minimax.{IsInner};
 ghost use Rattle.hive_model.specs.Courses.{position};
-ghost use Rattle.strategy_text.specs.Text.{index_in};
+ghost use Rattle.certificate_text.specs.Text.{index_in};
 ghost use Rattle.command_runs.specs.Runs.{RunsAs, side_of};
-ghost use Rattle.strategy_verdicts.specs.Judging.{JudgesAhead};
+ghost use Rattle.certificate_verdicts.specs.Judging.{JudgesAhead};
 ghost use Rattle.win_commands.specs.Verdicts.{IsHead, claim-not-yet, head_of, of_claim, of_items};
 ghost use Rattle.win_commands.specs.Runs.{VerifyRun};
 
 use crate::head::{Head, read_head};
+use certificate_text::{HeadFault, LineIndices};
+use certificate_verdicts::{IndexReasons, TextForm, TextVerdict, Unread, check_text, verdict_of};
 use command_runs::{Status, is_over};
 use game_text::played;
 use hive_model::{Game, MoveStack};
 use io_edge::{Sink, Source};
 use line_feed::LineReader;
 use std::alloc::Global;
-use strategy_text::{HeadFault, LineIndices};
-use strategy_verdicts::{IndexReasons, TextForm, TextVerdict, Unread, check_text, verdict_of};
 use win_solver::check_solution;
 
 /// How many lines a head has.

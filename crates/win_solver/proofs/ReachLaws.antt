@@ -16,8 +16,8 @@ use Rattle.search_laws.proofs.LoopLaws.{on-at, drop-at}
 use Rattle.search_laws.proofs.BestLaws.{greatest-met}
 use Rattle.search_laws.proofs.HintLaws.{reply-low}
 use Rattle.search_laws.proofs.MinimaxLaws.{moves-not_over, value-greatest}
-use Rattle.strategy_walks.specs.declared.limit.Limit.TheVariants.{AtLeast}
-use Rattle.strategy_walks.proofs.SoundLaws.{keeps-true, true-keeps}
+use Rattle.certificate_walks.specs.declared.limit.Limit.TheVariants.{AtLeast}
+use Rattle.certificate_walks.proofs.SoundLaws.{keeps-true, true-keeps}
 use Rattle.value_table.specs.Entries.{KnownParts}
 use Rattle.value_table.specs.Truth.{stands, IsTrueOf}
 use Rattle.search_core.proofs.EntryLaws.{known-stands}

@@ -3,18 +3,18 @@
 ghost use Rattle.std.specs.Prelude.{◌≡◌, ◌≤◌, IfOk, false};
 ghost use Rattle.io_edge.specs.Outside.{HasCause};
 ghost use Rattle.hive_model.specs.Courses.{position};
-ghost use Rattle.strategy_indices.specs.Writing.{Wrote, index_lines};
+ghost use Rattle.certificate_indices.specs.Writing.{Wrote, index_lines};
 ghost use Rattle.win_solver.specs.Force.{force};
 ghost use Rattle.win_solver.specs.Solution.{least_solution};
 
 use crate::reaching::{Workspace, deepen, reaches};
 use crate::solutions::answer_limit;
+use certificate_indices::{Judge, write_indices};
+use certificate_walks::Limit;
 use hive_model::{Game, MoveStack};
 use io_edge::Sink;
 use std::alloc::{AllocError, Global};
 use std::marker::Model;
-use strategy_indices::{Judge, write_indices};
-use strategy_walks::Limit;
 use value_table::ValueTable;
 
 /// Decides whether a position keeps to a limit. Contracts see the number of plies that it is

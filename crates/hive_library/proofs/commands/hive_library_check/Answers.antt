@@ -1,10 +1,10 @@
 -- What follows from a check that ends with 0: the text is accepted.
 use Rattle.std.proofs.Common.{rules, ◌≡◌}
 use Rattle.io_edge.specs.Lines.{lines}
-use Rattle.strategy_verdicts.specs.declared.verdict.TextVerdict.TheVariants.{Accepted}
-use Rattle.strategy_commands.specs.Verdicts.{verdict}
-use Rattle.strategy_commands.proofs.CheckLaws.{accepted-true}
-use Rattle.strategy_commands.proofs.HeldLaws.{accepted-held}
+use Rattle.certificate_verdicts.specs.declared.verdict.TextVerdict.TheVariants.{Accepted}
+use Rattle.certificate_commands.specs.Verdicts.{verdict}
+use Rattle.certificate_commands.proofs.CheckLaws.{accepted-true}
+use Rattle.certificate_commands.proofs.HeldLaws.{accepted-held}
 use Rattle.hive_library.proofs.commands.hive_library_check.Goals as goal
 
 pub returns-clause-claim : goal.returns-clause-claim

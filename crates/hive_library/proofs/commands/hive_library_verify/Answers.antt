@@ -1,7 +1,7 @@
 -- What follows from a check that ends with 0: the text is accepted.
 use Rattle.std.proofs.Common.{rules, ◌≡◌}
 use Rattle.io_edge.specs.Lines.{lines}
-use Rattle.strategy_verdicts.specs.declared.verdict.TextVerdict.TheVariants.{Accepted}
+use Rattle.certificate_verdicts.specs.declared.verdict.TextVerdict.TheVariants.{Accepted}
 use Rattle.win_commands.specs.Verdicts.{verdict}
 use Rattle.win_commands.proofs.VerdictLaws.{accepted-holds, accepted-true}
 use Rattle.hive_library.proofs.commands.hive_library_verify.Goals as goal

@@ -1,8 +1,8 @@
 use Rattle.std.proofs.Common.{subst, rules, refl}
 use Rattle.hive_model.specs.Courses.{position}
-use Rattle.strategy_walks.proofs.ItemLaws.{taking-is}
-use Rattle.strategy_walks.specs.Ends.{EndsItems}
-use Rattle.strategy_walks.proofs.EndLaws.{certificate-answers, certificate-counts, certificate-unread, checks-items, ends-unread}
+use Rattle.certificate_walks.proofs.ItemLaws.{taking-is}
+use Rattle.certificate_walks.specs.Ends.{EndsItems}
+use Rattle.certificate_walks.proofs.EndLaws.{certificate-answers, certificate-counts, certificate-unread, checks-items, ends-unread}
 use Rattle.strategy_check.specs.declared.why.Why.TheVariants.{LeafFails, BadIndex, Rest}
 use Rattle.strategy_check.specs.Trace.{checked, index_rules, steps}
 use Rattle.strategy_check.specs.Checks.{index_faults, index_sight, seen}

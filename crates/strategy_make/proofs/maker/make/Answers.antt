@@ -4,7 +4,7 @@ use Rattle.hive_model.specs.Legal.{moves}
 use Rattle.hive_model.specs.Games.{IsGame}
 use Rattle.hive_model.specs.Courses.{position, Course}
 use Rattle.search_laws.proofs.MinimaxLaws.{value-fits}
-use Rattle.strategy_indices.specs.Writing.{Wrote}
+use Rattle.certificate_indices.specs.Writing.{Wrote}
 use Rattle.strategy_make.proofs.MakeLaws.{best-on, both-written, head-part, part-of, whole}
 use Rattle.strategy_make.proofs.maker.make.Goals as goal
 

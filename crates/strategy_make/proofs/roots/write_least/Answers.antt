@@ -3,8 +3,8 @@ use Rattle.std.specs.Prelude.{Some, slice_get}
 use Rattle.hive_model.specs.Legal.{moves}
 use Rattle.hive_model.specs.Courses.{position, Course}
 use Rattle.search_laws.proofs.NodeLaws.{node-listed}
-use Rattle.strategy_walks.proofs.LevelLaws.{node-replies}
-use Rattle.strategy_walks.specs.Walks.{place_of}
+use Rattle.certificate_walks.proofs.LevelLaws.{node-replies}
+use Rattle.certificate_walks.specs.Walks.{place_of}
 use Rattle.strategy_make.proofs.MakeLaws.{level-place, place-some, place-at}
 use Rattle.strategy_make.proofs.roots.write_least.Goals as goal
 

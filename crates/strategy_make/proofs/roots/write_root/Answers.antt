@@ -5,8 +5,8 @@ use Rattle.search_laws.specs.Laws.{IsSmall}
 use Rattle.search_laws.proofs.Signs.{neg-is}
 use Rattle.search_laws.proofs.MinimaxLaws.{wider}
 use Rattle.search_laws.proofs.NodeLaws.{before-then}
-use Rattle.strategy_walks.proofs.LevelLaws.{can-again, place-reply, replies-again}
-use Rattle.strategy_walks.proofs.FollowLaws.{one-less, place-low}
+use Rattle.certificate_walks.proofs.LevelLaws.{can-again, place-reply, replies-again}
+use Rattle.certificate_walks.proofs.FollowLaws.{one-less, place-low}
 use Rattle.strategy_make.proofs.MakeLaws.{before-written, most-written, least-written, behind-written, before-cut, most-cut, least-cut, root-written}
 use Rattle.strategy_make.proofs.roots.write_root.Goals as goal
 

@@ -1,11 +1,11 @@
 use Rattle.std.proofs.Common.{rules, arith, subst, ◌≡◌, sym, ◌∙◌}
 use Rattle.std.specs.Prelude.{Result, Err}
 use Rattle.line_feed.specs.Ahead.{ahead_of}
-use Rattle.strategy_text.specs.declared.head.HeadFault.{HeadFault}
-use Rattle.strategy_text.specs.declared.head.HeadFault.TheVariants.{ReadFault}
-use Rattle.strategy_text.specs.Heads.{Reads}
-use Rattle.strategy_text.specs.Text.{field_in, game_in}
-use Rattle.strategy_text.proofs.TextLaws.{goes-on, ends-here, breaks-off}
+use Rattle.certificate_text.specs.declared.head.HeadFault.{HeadFault}
+use Rattle.certificate_text.specs.declared.head.HeadFault.TheVariants.{ReadFault}
+use Rattle.certificate_text.specs.Heads.{Reads}
+use Rattle.certificate_text.specs.Text.{field_in, game_in}
+use Rattle.certificate_text.proofs.TextLaws.{goes-on, ends-here, breaks-off}
 use Rattle.win_commands.specs.declared.head.Head.{Head}
 use Rattle.win_commands.specs.Text.{answer_at, plies_at, version_at}
 use Rattle.win_commands.specs.Verdicts.{head_of}

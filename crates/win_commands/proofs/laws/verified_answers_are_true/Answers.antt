@@ -1,5 +1,5 @@
 use Rattle.io_edge.specs.Lines.{lines}
-use Rattle.strategy_verdicts.proofs.JudgeLaws.{done-accepted}
+use Rattle.certificate_verdicts.proofs.JudgeLaws.{done-accepted}
 use Rattle.win_commands.proofs.VerdictLaws.{accepted-true}
 use Rattle.win_commands.proofs.laws.verified_answers_are_true.Goals as goal
 

@@ -1,4 +1,4 @@
-use Rattle.strategy_verdicts.proofs.JudgeLaws.{accepted-done}
+use Rattle.certificate_verdicts.proofs.JudgeLaws.{accepted-done}
 use Rattle.win_commands.specs.Verdicts.{verdict}
 use Rattle.win_commands.proofs.laws.verifies_are_done.Goals as goal
 

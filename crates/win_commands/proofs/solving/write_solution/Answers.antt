@@ -1,5 +1,5 @@
 use Rattle.std.proofs.Common.{rules}
-use Rattle.strategy_indices.proofs.WriteLaws.{wrote-then}
+use Rattle.certificate_indices.proofs.WriteLaws.{wrote-then}
 use Rattle.win_commands.proofs.solving.write_solution.Goals as goal
 
 pub returns-clause-wrote : goal.returns-clause-wrote

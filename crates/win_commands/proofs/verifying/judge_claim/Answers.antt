@@ -1,5 +1,5 @@
 use Rattle.std.proofs.Common.{rules, sym, ◌∙◌}
-use Rattle.strategy_verdicts.proofs.JudgeLaws.{most-read}
+use Rattle.certificate_verdicts.proofs.JudgeLaws.{most-read}
 use Rattle.win_commands.proofs.JudgedLaws.{claim-lines, judges-as}
 use Rattle.win_commands.proofs.verifying.judge_claim.Goals as goal
 

@@ -1,14 +1,14 @@
 use Rattle.std.proofs.Common.{ℕ, ◌+◌, ap, map, rules, subst, sym}
 use Rattle.hive_model.specs.Courses.{position}
-use Rattle.strategy_walks.specs.Answers.{CountsRefused, StopsUnread}
-use Rattle.strategy_text.specs.Text.{index_in}
+use Rattle.certificate_walks.specs.Answers.{CountsRefused, StopsUnread}
+use Rattle.certificate_text.specs.Text.{index_in}
 use Rattle.win_solver.specs.Solution.{solved}
-use Rattle.strategy_verdicts.specs.Runs.{IsUndecided}
-use Rattle.strategy_verdicts.specs.Verdicts.{of_walk}
+use Rattle.certificate_verdicts.specs.Runs.{IsUndecided}
+use Rattle.certificate_verdicts.specs.Verdicts.{of_walk}
 use Rattle.strategy_check.specs.Checks.{index_faults}
-use Rattle.strategy_text.specs.Taken.{HasRead}
-use Rattle.strategy_verdicts.specs.Reading.{WasReadAs}
-use Rattle.strategy_verdicts.proofs.TextLaws.{read-begins}
+use Rattle.certificate_text.specs.Taken.{HasRead}
+use Rattle.certificate_verdicts.specs.Reading.{WasReadAs}
+use Rattle.certificate_verdicts.proofs.TextLaws.{read-begins}
 use Rattle.win_commands.proofs.verifying.judge_indices.Goals as goal
 
 pub returns : goal.returns

@@ -5,8 +5,8 @@ use Rattle.hive_model.specs.Keys.{key}
 use Rattle.strategy_lemmas.specs.Lemmas.{serves_at}
 use Rattle.strategy_lemmas.specs.declared.tokens.Token.{Token}
 use Rattle.strategy_lemmas.specs.declared.tokens.Token.TheVariants.{Index}
-use Rattle.strategy_walks.specs.declared.items.ItemAnswer.TheVariants.{Item}
-use Rattle.strategy_walks.specs.Items.{Takes}
+use Rattle.certificate_walks.specs.declared.items.ItemAnswer.TheVariants.{Item}
+use Rattle.certificate_walks.specs.Items.{Takes}
 use Rattle.strategy_lemmas.proofs.CitedLaws.{serves-true}
 use Rattle.strategy_lemmas.proofs.CiteWalks.{index-took, unread-took, test-is, cite-ends, same-bound}
 use Rattle.strategy_lemmas.proofs.cited_walk.CiteWalkWalker.take.Goals as goal

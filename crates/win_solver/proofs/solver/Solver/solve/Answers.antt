@@ -1,6 +1,6 @@
 use Rattle.std.proofs.Common.{refl, pos}
 use Rattle.hive_model.specs.Courses.{position}
-use Rattle.strategy_walks.specs.declared.limit.Limit.TheVariants.{AtLeast}
+use Rattle.certificate_walks.specs.declared.limit.Limit.TheVariants.{AtLeast}
 use Rattle.win_solver.proofs.SolutionLaws.{force-of}
 use Rattle.win_solver.proofs.solver.Solver.solve.Goals as goal
 

@@ -1,7 +1,7 @@
 use Rattle.std.proofs.Common.{List, ap, subst, ◌∙◌, ℕ}
 use Rattle.hive_model.specs.Courses.{position}
 use Rattle.strategy_check.specs.Least.{least}
-use Rattle.strategy_indices.specs.Writing.{Wrote, index_lines}
+use Rattle.certificate_indices.specs.Writing.{Wrote, index_lines}
 use Rattle.win_solver.proofs.SolutionLaws.{least-of}
 use Rattle.win_solver.proofs.solver.Solver.write_indices.Goals as goal
 

@@ -1,4 +1,0 @@
-use Rattle.rules_tried.proofs.hives.is_cut.Given as goal
-
-abbrev pub ghosts-is_cut_by : goal.ghosts-is_cut_by
-ghosts-is_cut_by a = record { name = a.blank.name; parts = a.blank.parts }

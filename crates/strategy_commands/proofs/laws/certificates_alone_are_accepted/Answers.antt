@@ -1,5 +1,0 @@
-use Rattle.strategy_commands.proofs.HeldLaws.{accepted-held, is-held-accepted}
-use Rattle.strategy_commands.proofs.laws.certificates_alone_are_accepted.Goals as goal
-
-pub returns : goal.returns
-returns c = λ ls. (accepted-held ls, is-held-accepted ls)

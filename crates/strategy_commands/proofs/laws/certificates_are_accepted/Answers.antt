@@ -1,5 +1,0 @@
-use Rattle.strategy_commands.proofs.CheckLaws.{certificate-accepted}
-use Rattle.strategy_commands.proofs.laws.certificates_are_accepted.Goals as goal
-
-pub returns : goal.returns
-returns c = certificate-accepted

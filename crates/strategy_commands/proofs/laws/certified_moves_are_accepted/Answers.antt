@@ -1,5 +1,0 @@
-use Rattle.strategy_commands.proofs.CheckLaws.{certified-accepted}
-use Rattle.strategy_commands.proofs.laws.certified_moves_are_accepted.Goals as goal
-
-pub returns : goal.returns
-returns c = certified-accepted

@@ -1,7 +1,0 @@
-use Rattle.io_edge.specs.Lines.{lines}
-use Rattle.strategy_verdicts.proofs.JudgeLaws.{done-accepted}
-use Rattle.strategy_commands.proofs.CheckLaws.{accepted-true}
-use Rattle.strategy_commands.proofs.laws.checked_claims_are_true.Goals as goal
-
-pub returns : goal.returns
-returns c = λ before after run input told. accepted-true (lines input) (done-accepted _ (run input told).status_is)

@@ -1,6 +1,0 @@
-use Rattle.strategy_verdicts.proofs.JudgeLaws.{accepted-done}
-use Rattle.strategy_commands.specs.Verdicts.{verdict}
-use Rattle.strategy_commands.proofs.laws.checks_are_done.Goals as goal
-
-pub returns : goal.returns
-returns c = accepted-done 5 verdict

@@ -1,5 +1,0 @@
-use Rattle.strategy_commands.proofs.CheckLaws.{held-cited}
-use Rattle.strategy_commands.proofs.laws.held_tokens_are_accepted.Goals as goal
-
-pub returns : goal.returns
-returns c = held-cited

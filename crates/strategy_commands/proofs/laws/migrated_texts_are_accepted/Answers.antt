@@ -1,5 +1,0 @@
-use Rattle.strategy_commands.proofs.MigrationLaws.{migrated-are-accepted}
-use Rattle.strategy_commands.proofs.laws.migrated_texts_are_accepted.Goals as goal
-
-pub returns : goal.returns
-returns c = migrated-are-accepted

@@ -1,5 +1,0 @@
-use Rattle.strategy_commands.proofs.MigrationLaws.{migrations-done}
-use Rattle.strategy_commands.proofs.laws.migrations_are_done.Goals as goal
-
-pub returns : goal.returns
-returns c = migrations-done
