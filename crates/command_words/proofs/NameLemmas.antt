@@ -10,7 +10,7 @@ pub named_first : (words : List (String Global)) (asked : Asked) → Words words
 named_first words Session (inl e) = ap named e
 named_first words Session (inr e) = ap named e
 named_first words (Replay repetition) w = ap named w.give.ask.begin
-named_first words (Count plies) w = ap named w.give.ask.begin
+named_first words (Count plies workers split) w = ap named w.give.ask.begin
 named_first words (Grow seed plies) w = ap named w.give.ask.begin
 named_first words (Certify depth) w = ap named w.give.ask.begin
 named_first words Check e = ap named e

@@ -35,7 +35,9 @@ setup_in choices setup is =
 pub in_range : (words : List (String Global)) (asked : Asked) → Words words asked → IsInRange asked
 in_range words Session w = tt
 in_range words (Replay repetition) w = tt
-in_range words (Count plies) w = (w.number.low, w.number.high)
+in_range words (Count plies workers split) w =
+    let many = number_in w.workers_text 1 16 1 workers (omega arith) (omega arith) w.counts.workers_are in
+    (w.counts.plies_are.low, w.counts.plies_are.high, many.0, many.1)
 in_range words (Grow seed plies) w = (w.growth.plies_is.low, w.growth.plies_is.high)
 in_range words (Certify depth) w = (w.number.low, w.number.high)
 in_range words Check w = tt

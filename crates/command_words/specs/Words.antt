@@ -12,7 +12,7 @@ use Rattle.command_words.specs.declared.name.Name.{Name}
 use Rattle.command_words.specs.declared.name.Name.TheVariants.{Uhp, Replay as ReplayName, Count as CountName, Grow as GrowName, Certify as CertifyName, Check as CheckName, Solve as SolveName, Verify as VerifyName, Match as MatchName, Cup as CupName, Book as BookName, Migrate as MigrateName, Audit as AuditName, Tournament as TournamentName}
 use Rattle.command_words.specs.Audits.{AreAuditWords, AskForAuditCare}
 use Rattle.command_words.specs.Cups.{AreCupWords, AskForCupCare}
-use Rattle.command_words.specs.Matches.{AreMatchWords, AskForMatchCare, IsRuleOf}
+use Rattle.command_words.specs.Matches.{AreMatchWords, AskForMatchCare, IsNumberOr, IsRuleOf}
 use Rattle.command_words.specs.Names.{name_text, named, takes_option}
 use Rattle.command_words.specs.Tournaments.{AreTournamentWords, AskForTournamentCare}
 
@@ -30,6 +30,25 @@ pub record AreNumbered (words : List (String Global)) (command option : List ℕ
   pub value : List ℕ
   pub give : GiveOne (map string_bytes words) command option value
   pub number : IsNumberText value least most n
+
+-- A number of plies from 1 to 8, and of workers from 1 to 16, 1 where none is given. By 1 the parts
+-- of the count are asked for in place of it.
+pub record AreCounts (plies_text : List ℕ) (workers_text split_text : Option (List ℕ))
+    (plies workers : ℕ) (split : Bool) : Type 0 where
+  pub plies_are : IsNumberText plies_text 1 8 plies
+  pub workers_are : IsNumberOr workers_text 1 16 1 workers
+  pub split_is : IsRuleOf split_text split
+
+-- `count` and the options `plies`, which is required, `workers` and `split`
+pub record AreCountWords (words : List (String Global)) (plies workers : ℕ) (split : Bool)
+    : Type 0 where
+  pub plies_text : List ℕ
+  pub workers_text : Option (List ℕ)
+  pub split_text : Option (List ℕ)
+  pub give : Gives (map string_bytes words) (codes "count")
+      (codes "plies" ∷ (codes "workers" ∷ (codes "split" ∷ [])))
+      (Some plies_text ∷ (workers_text ∷ (split_text ∷ [])))
+  pub counts : AreCounts plies_text workers_text split_text plies workers split
 
 -- a seed, which is any number below 2^64, and a number of plies from 1 to 1,000
 pub record AreGrowth (seed_text plies_text : List ℕ) (seed plies : ℕ) : Type 0 where
@@ -54,7 +73,7 @@ pub record AreReplayWords (words : List (String Global)) (repetition : Bool) : T
 abbrev pub Words : List (String Global) → Asked → Type 0
 Words words Session = AreUhpWords words
 Words words (Replay repetition) = AreReplayWords words repetition
-Words words (Count plies) = AreNumbered words (codes "count") (codes "plies") 1 8 plies
+Words words (Count plies workers split) = AreCountWords words plies workers split
 Words words (Grow seed plies) = AreGrowWords words seed plies
 Words words (Certify depth) = AreNumbered words (codes "certify") (codes "depth") 1 64 depth
 Words words Check = AreAlone words CheckName
@@ -77,7 +96,7 @@ no_care = record { limit = None; quiet = false }
 abbrev pub CaresFor : List (String Global) → Asked → Care → Type 0
 CaresFor words Session care = care ≡ no_care
 CaresFor words (Replay repetition) care = care ≡ no_care
-CaresFor words (Count plies) care = care ≡ no_care
+CaresFor words (Count plies workers split) care = care ≡ no_care
 CaresFor words (Grow seed plies) care = care ≡ no_care
 CaresFor words (Certify depth) care = care ≡ no_care
 CaresFor words Check care = care ≡ no_care
@@ -99,7 +118,7 @@ AreOfNoCommand words = (asked : Asked) → ¬ Words words asked
 abbrev pub name_of : Asked → Name
 name_of Session = Uhp
 name_of (Replay repetition) = ReplayName
-name_of (Count plies) = CountName
+name_of (Count plies workers split) = CountName
 name_of (Grow seed plies) = GrowName
 name_of (Certify depth) = CertifyName
 name_of Check = CheckName
@@ -126,7 +145,8 @@ TakeOption words = (name : Name) × (named words ≡ Some name) × IsTrue (takes
 abbrev pub IsInRange : Asked → Type 0
 IsInRange Session = Unit {0}
 IsInRange (Replay repetition) = Unit {0}
-IsInRange (Count plies) = (1 ≤ plies) × (plies ≤ 8)
+IsInRange (Count plies workers split) =
+    (1 ≤ plies) × (plies ≤ 8) × (1 ≤ workers) × (workers ≤ 16)
 IsInRange (Grow seed plies) = (1 ≤ plies) × (plies ≤ 1000)
 IsInRange (Certify depth) = (1 ≤ depth) × (depth ≤ 64)
 IsInRange Check = Unit {0}

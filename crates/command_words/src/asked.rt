@@ -26,6 +26,7 @@ ghost use Rattle.command_words.specs.Words.{
 
 use crate::audits::{AuditAsked, audit_care, audit_of};
 use crate::care::Care;
+use crate::counted::count_of;
 use crate::cups::{cup_care, cup_of};
 use crate::grown::growth_of;
 use crate::matched::{match_care, match_of};
@@ -45,8 +46,13 @@ pub enum Asked {
     Replay {
         repetition: bool,
     },
-    /// The numbers of lists of up to this many legal moves: 1 to 8.
-    Count(u32),
+    /// The numbers of lists of up to this many legal moves, 1 to 8, counted by 1 to 16 workers. Or
+    /// the parts of these counts in their place.
+    Count {
+        plies: u32,
+        workers: u32,
+        split: bool,
+    },
     /// The game that a seed makes, of at most this number of plies: 1 to 1,000.
     Grow {
         seed: u64,
@@ -132,10 +138,12 @@ fn replay(alloc: Global, words: &[String]) -> Result<Option<Asked>, AllocError>
 fn count(alloc: Global, words: &[String]) -> Result<Option<Asked>, AllocError>
     ensures { IfOk result (Finds words.now Name.Count) }
 {
-    match number_of(alloc, words, "count", "plies", 1, 8)? {
-        Some(plies) => Ok(Some(Asked::Count(plies))),
-        None => Ok(None),
-    }
+    let found = count_of(alloc, words)?;
+    Ok(found.map(|one| Asked::Count {
+        plies: one.plies,
+        workers: one.workers,
+        split: one.split,
+    }))
 }
 
 /// A certificate is asked for with a depth.

@@ -4,6 +4,7 @@
 mod asked;
 mod audits;
 mod care;
+mod counted;
 mod cups;
 mod engines;
 mod grown;

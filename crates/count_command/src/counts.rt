@@ -9,6 +9,7 @@ ghost use Rattle.count_command.specs.Count.{CountRun, count_line_of, count_text}
 
 use arrayvec::ArrayString;
 use command_runs::{Status, read_one_game, tell_none};
+use count_share::room_for;
 use hive_model::{Game, MoveStack};
 use io_edge::{Sink, Source, write_all};
 use itoa::Buffer;
@@ -16,7 +17,7 @@ use plain_search::{MoveCounts, count_lines};
 use std::alloc::Global;
 
 /// The line for a number of plies and a number of lists, with its LF.
-fn count_line(plies: u32, lists: u128) -> ArrayString<96>
+pub(crate) fn count_line(plies: u32, lists: u128) -> ArrayString<96>
     ensures { result.bytes ≡ count_line_of plies lists }
 {
     let mut line = ArrayString::new();
@@ -26,16 +27,6 @@ fn count_line(plies: u32, lists: u128) -> ArrayString<96>
     line.push_str(buffer.format(lists));
     line.push_str("\n");
     line
-}
-
-/// How many positions keep the count of their moves. In a young game, or for few plies, keeping
-/// them costs more than it saves.
-fn room_for<G: Game>(game: &G, plies: u32) -> u32 {
-    if plies >= 4 && game.plies() >= 12 {
-        131_072
-    } else {
-        0
-    }
 }
 
 /// Writes the line for each number of plies from 1 on as soon as it is known. The answer is whether

@@ -3,6 +3,10 @@
 
 mod counts;
 mod laws;
+mod parts;
+mod shared;
 
 pub use counts::count;
 pub use laws::counts_are_done;
+pub use parts::split;
+pub use shared::count_shared;

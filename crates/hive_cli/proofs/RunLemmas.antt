@@ -9,6 +9,7 @@ use Rattle.line_services.specs.ServiceRun.{EndsAs}
 use Rattle.line_services.specs.Session.{session}
 use Rattle.line_services.specs.Replay.{replays}
 use Rattle.count_command.specs.Count.{CountRun}
+use Rattle.count_command.specs.Parts.{PartRun}
 use Rattle.hive_cli.specs.Run.{LeavesAllElse, RunOf, PlaysMatch, PlaysTournament, StartsAudited, UsesSpawner, format_of, plan_of}
 use Rattle.command_words.specs.Audits.{AreAuditWords}
 use Rattle.command_words.specs.Cups.{AreCupWords, AskForEngines, engine_of, program_texts}
@@ -75,7 +76,8 @@ tournament_usage engines format status before after (inr (none, read)) e = none_
 pub never_usage : (words : List (String Global)) (asked : Asked) (status : Status) (before after : World) → RunOf words asked status before after → status ≡ Usage → ⊥
 never_usage words Session status before after (run, none) e = subst (λ s. EndsAs session s before after) e run.ends
 never_usage words (Replay r) status before after (run, others) e = subst (λ s. EndsAs (replays r) s before after) e run.ends
-never_usage words (Count plies) status before after (run, others) e = subst (λ s. CountRun plies s before.sides after.sides) e run
+never_usage words (Count plies workers false) status before after (run, others) e = subst (λ s. CountRun plies s before.sides after.sides) e run
+never_usage words (Count plies workers true) status before after (run, others) e = subst (λ s. PartRun s before.sides after.sides) e run
 never_usage words (Grow seed plies) status before after (run, others) e = subst (λ s. GrowRun seed plies s before.sides.written after.sides.written) e run.made
 never_usage words (Certify depth) status before after (run, others) e = subst (λ s. CertifyRun depth s before.sides after.sides) e run
 never_usage words Check status before after (run, others) e = subst (λ s. CheckRun s before.sides after.sides) e run
@@ -98,7 +100,8 @@ never_usage words (Tournament setup rounds gauntlet at_once resume) status befor
 pub never_spawns : (words : List (String Global)) (asked : Asked) (status : Status) (before after : World) → ¬ UsesSpawner asked → RunOf words asked status before after → status ≡ SpawnFault → ⊥
 never_spawns words Session status before after alone (run, none) e = subst (λ s. EndsAs session s before after) e run.ends
 never_spawns words (Replay r) status before after alone (run, others) e = subst (λ s. EndsAs (replays r) s before after) e run.ends
-never_spawns words (Count plies) status before after alone (run, others) e = subst (λ s. CountRun plies s before.sides after.sides) e run
+never_spawns words (Count plies workers false) status before after alone (run, others) e = subst (λ s. CountRun plies s before.sides after.sides) e run
+never_spawns words (Count plies workers true) status before after alone (run, others) e = subst (λ s. PartRun s before.sides after.sides) e run
 never_spawns words (Grow seed plies) status before after alone (run, others) e = subst (λ s. GrowRun seed plies s before.sides.written after.sides.written) e run.made
 never_spawns words (Certify depth) status before after alone (run, others) e = subst (λ s. CertifyRun depth s before.sides after.sides) e run
 never_spawns words Check status before after alone (run, others) e = subst (λ s. CheckRun s before.sides after.sides) e run
@@ -250,7 +253,8 @@ starved_audit words audit w asked = record {
 starved_here : (words : List (String Global)) (asked : Asked) (w : World) → Words words asked → RunOf words asked Memory w w
 starved_here words Session w h = (no_memory session w w refl (no_time w.times), refl)
 starved_here words (Replay r) w h = (no_memory (replays r) w w refl (no_time w.times), no_more w)
-starved_here words (Count plies) w h = ((refl, λ input told. none_read input w.sides.rest told), no_more w)
+starved_here words (Count plies workers false) w h = ((refl, λ input told. none_read input w.sides.rest told), no_more w)
+starved_here words (Count plies workers true) w h = ((refl, λ input told. none_read input w.sides.rest told), no_more w)
 starved_here words (Grow seed plies) w h = (record { made = refl; unread = refl }, no_more w)
 starved_here words (Certify depth) w h = ((refl, λ input told. none_read input w.sides.rest told), no_more w)
 starved_here words Check w h = (refl, no_more w)
@@ -284,7 +288,7 @@ is_alone (Match setup from) no_match no_cup no_audit no_tournament uses = no_mat
 is_alone (Cup setup) no_match no_cup no_audit no_tournament uses = no_cup setup refl
 is_alone Session no_match no_cup no_audit no_tournament uses = uses
 is_alone (Replay r) no_match no_cup no_audit no_tournament uses = uses
-is_alone (Count plies) no_match no_cup no_audit no_tournament uses = uses
+is_alone (Count plies workers split) no_match no_cup no_audit no_tournament uses = uses
 is_alone (Grow seed plies) no_match no_cup no_audit no_tournament uses = uses
 is_alone (Certify depth) no_match no_cup no_audit no_tournament uses = uses
 is_alone Check no_match no_cup no_audit no_tournament uses = uses

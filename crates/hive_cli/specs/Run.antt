@@ -32,6 +32,7 @@ use Rattle.match_core.specs.Setups.{setup_plain}
 use Rattle.line_services.specs.Session.{SessionRun}
 use Rattle.line_services.specs.Replay.{ReplayRun}
 use Rattle.count_command.specs.Count.{CountRun}
+use Rattle.count_command.specs.Parts.{PartRun}
 use Rattle.tournament_command.specs.declared.format.Format.{Format}
 use Rattle.tournament_command.specs.Reads.{ReadTournamentRun}
 
@@ -145,14 +146,19 @@ pub record MadeAudit (words : List (String Global)) (plan : Plan) (status : Stat
   pub unread : LeavesInput before after
   pub untimed : LeavesTimes before after
 
+-- a game was counted, or its parts were written
+abbrev pub CountsOrSplits : Bool → ℕ → Status → Sides → Sides → Type 0
+CountsOrSplits false plies status before after = CountRun plies status before after
+CountsOrSplits true plies status before after = PartRun status before after
+
 -- what a run does if its words ask for this and it ends with this status
 abbrev pub RunOf : List (String Global) → Asked → Status → World → World → Type 0
 RunOf words Session status before after =
     SessionRun status before after × LeavesEngines before after
 RunOf words (Replay repetition) status before after =
     ReplayRun repetition status before after × LeavesAllElse before after
-RunOf words (Count plies) status before after =
-    CountRun plies status before.sides after.sides × LeavesAllElse before after
+RunOf words (Count plies workers split) status before after =
+    CountsOrSplits split plies status before.sides after.sides × LeavesAllElse before after
 RunOf words (Grow seed plies) status before after =
     MadeGame seed plies status before.sides after.sides × LeavesAllElse before after
 RunOf words (Certify depth) status before after =

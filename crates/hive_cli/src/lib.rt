@@ -19,7 +19,7 @@ use certificate_commands::{certify, check, migrate};
 pub use command_runs::Status;
 pub use command_words::Asked;
 use command_words::asked_of;
-use count_command::count;
+use count_command::{count_shared, split};
 use fast_game::FastGame;
 use grow_command::grow;
 use hive_model::{Game, TimedList};
@@ -65,6 +65,11 @@ type ProgramGame = FastGame;
 /// If the input is something else, it is `BadInput`, and one line that begins with `bad` says why.
 /// That line is written as soon as the fault is seen, and nothing further is read. If a read fails,
 /// the input is full or memory runs out, the run ends with nothing written.
+///
+/// With `--workers W` the moves are counted by 1 to 16 workers at once, if threads can be had. The
+/// text is the same, whatever W is. With `--split 1` the parts of the counts are written in their
+/// place: games with one more move, each with a number. The counts of the parts, each times its
+/// number, add up to those of the game.
 ///
 /// The word `book` asks for the move of a position that was made most often. The first line of the
 /// input must be a game string of a game that is not over, and each further line a game string. It
@@ -243,7 +248,17 @@ fn run_alone<R: Threads + Sync, S: Source, K: Sink, C: Clock, G: Game + Send + D
         Asked::Replay { repetition } => {
             serve_replay::<R, S, K, C, G>(rt, alloc, repetition, input, output, clock, &mut timed)
         }
-        Asked::Count(plies) => count::<S, K, G>(alloc, plies, input, output),
+        Asked::Count {
+            plies,
+            workers,
+            split: is_split,
+        } => {
+            if is_split {
+                split::<S, K, G>(alloc, input, output)
+            } else {
+                count_shared::<R, S, K, G>(rt, alloc, plies, workers, input, output)
+            }
+        }
         Asked::Grow { seed, plies } => grow::<K, G>(alloc, seed, plies, output),
         Asked::Certify(depth) => certify::<S, K, G>(alloc, depth, input, output),
         Asked::Check => check::<S, K, G>(alloc, input, output),

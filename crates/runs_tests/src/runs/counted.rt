@@ -49,6 +49,35 @@ fn lists_of_four_plies_are_counted(rt: HostRuntime) -> Result<(), Fail> {
     Ok(())
 }
 
+#[test]
+fn workers_count_what_one_counts(rt: HostRuntime) -> Result<(), Fail> {
+    for workers in ["1", "3", "16"] {
+        let words = ["count", "--plies", "4", "--workers", workers];
+        let setting = MemSetting::of(b"Base\n");
+        expect_run(&rt, rt.alloc(), &words, setting, Done, COUNTS)?;
+    }
+    Ok(())
+}
+
+/// The parts of the counts behind a lone piece.
+const PARTS: &str = concat!(
+    "6 Base;InProgress;White[2];wS1;bS1 -wS1\n6 Base;InProgress;White[2];wS1;bB1 -wS1\n",
+    "6 Base;InProgress;White[2];wS1;bG1 -wS1\n6 Base;InProgress;White[2];wS1;bA1 -wS1\n",
+);
+
+#[test]
+fn a_game_is_split_into_its_parts(rt: HostRuntime) -> Result<(), Fail> {
+    let words = ["count", "--plies=2", "--split=1"];
+    for (input, status, written) in [
+        ("Base;InProgress;Black[1];wS1\n", Done, PARTS),
+        ("Base\nBase\n", BadInput, "bad more lines\n"),
+    ] {
+        let setting = MemSetting::of(input.as_bytes());
+        expect_run(&rt, rt.alloc(), &words, setting, status, written)?;
+    }
+    Ok(())
+}
+
 /// Games, and the counts of up to two plies after each.
 const BEGUN: [(&str, &str); 3] = [
     ("Base", "1 4\n2 96\n"),

@@ -9,7 +9,7 @@ struct Row {
     asked: Asked,
 }
 
-const ROWS: [Row; 16] = [
+const ROWS: [Row; 18] = [
     Row {
         words: "",
         asked: Asked::Session,
@@ -32,11 +32,35 @@ const ROWS: [Row; 16] = [
     },
     Row {
         words: "count|--plies|8",
-        asked: Asked::Count(8),
+        asked: Asked::Count {
+            plies: 8,
+            workers: 1,
+            split: false,
+        },
     },
     Row {
         words: "count|--plies=1",
-        asked: Asked::Count(1),
+        asked: Asked::Count {
+            plies: 1,
+            workers: 1,
+            split: false,
+        },
+    },
+    Row {
+        words: "count|--workers|16|--plies=8",
+        asked: Asked::Count {
+            plies: 8,
+            workers: 16,
+            split: false,
+        },
+    },
+    Row {
+        words: "count|--split|1|--plies|3",
+        asked: Asked::Count {
+            plies: 3,
+            workers: 1,
+            split: true,
+        },
     },
     Row {
         words: "certify|--depth=1",
@@ -83,7 +107,7 @@ const ROWS: [Row; 16] = [
 ];
 
 /// Words, separated by `|`, that ask for nothing.
-const NOTHING: [&str; 26] = [
+const NOTHING: [&str; 30] = [
     "uhp|x",
     "x",
     "replay|--repetition|2",
@@ -96,6 +120,10 @@ const NOTHING: [&str; 26] = [
     "count|--plies|9",
     "count|--plies|0",
     "count",
+    "count|--workers|2",
+    "count|--plies|1|--workers|0",
+    "count|--plies|1|--workers|17",
+    "count|--plies|1|--split|2",
     "certify",
     "certify|--depth|65",
     "certify|--depth|1|--depth|1",
